@@ -1,0 +1,5 @@
+pub mod Errno
+pub mod Form
+pub mod Memory
+pub mod Outside
+pub mod Spare

@@ -1,0 +1,17 @@
+//! Types that every layer of Weldozig speaks of: numbers, sets, lists, requests, answers, events, the records of the
+//! written state, and the outside.
+#![tactic(auto)]
+
+pub mod answer;
+pub mod built;
+pub mod error;
+pub mod event;
+pub mod list;
+pub mod memory;
+pub mod number;
+pub mod object;
+pub mod outside;
+pub mod record;
+pub mod request;
+pub mod set;
+pub mod standard;

@@ -1,0 +1,323 @@
+ghost use Rattle.std.specs.Prelude.{◌≡◌, IfOk};
+
+use crate::error::NoMemory;
+use crate::list::{Bytes, FdList, PassList};
+use crate::number::{Fd, PathId, Pid, Tid};
+use crate::set::{Attrs, PollSet};
+use std::alloc::Global;
+
+/// A door's parameters (door_getparam(3C), door_setparam(3C)).
+#[derive(Clone, Copy, Debug, PartialEq, Eq)]
+pub enum Param {
+    DataMax,
+    DataMin,
+    DescMax,
+}
+
+/// The modes of port_alert(3C).
+#[derive(Clone, Copy, Debug, PartialEq, Eq)]
+pub enum AlertMode {
+    Set,
+    Update,
+    Nothing,
+}
+
+/// What a task computes of its input.
+#[derive(Clone, Copy, Debug, PartialEq, Eq)]
+pub enum Op {
+    Upper,
+    Reverse,
+    Sum,
+    Digest,
+}
+
+/// A kernel entry with its operands.
+#[derive(Debug, Drop)]
+pub enum Request {
+    Create {
+        entry: u32,
+        cookie: u64,
+        attrs: Attrs,
+    },
+    Call {
+        door: Fd,
+        bytes: Bytes,
+        pass: PassList,
+        rsize: u64,
+    },
+    Return {
+        bytes: Bytes,
+        pass: PassList,
+    },
+    Revoke {
+        fd: Fd,
+    },
+    Bind {
+        fd: Fd,
+    },
+    Unbind,
+    Info {
+        fd: Fd,
+    },
+    InfoQuery,
+    GetParam {
+        fd: Fd,
+        param: Param,
+    },
+    SetParam {
+        fd: Fd,
+        param: Param,
+        value: u64,
+    },
+    Cred,
+    TestCancel,
+    Close {
+        fd: Fd,
+    },
+    Dup {
+        fd: Fd,
+    },
+    Attach {
+        fd: Fd,
+        path: PathId,
+    },
+    Detach {
+        path: PathId,
+    },
+    Open {
+        path: PathId,
+    },
+    Await {
+        path: PathId,
+    },
+    Pipe,
+    Write {
+        fd: Fd,
+        bytes: Bytes,
+    },
+    Read {
+        fd: Fd,
+        max: u32,
+    },
+    PortCreate,
+    Associate {
+        port: Fd,
+        object: Fd,
+        events: PollSet,
+        user: u64,
+    },
+    Dissociate {
+        port: Fd,
+        object: Fd,
+    },
+    Get {
+        port: Fd,
+        wait: bool,
+    },
+    GetN {
+        port: Fd,
+        max: u32,
+        nget: u32,
+        wait: bool,
+    },
+    Send {
+        port: Fd,
+        events: u32,
+        user: u64,
+    },
+    SendN {
+        ports: FdList,
+        events: u32,
+        user: u64,
+    },
+    Alert {
+        port: Fd,
+        mode: AlertMode,
+        events: u32,
+        user: u64,
+    },
+    Interrupt {
+        thread: Tid,
+    },
+    Kill {
+        process: Pid,
+    },
+    Exit,
+    Work {
+        op: Op,
+        bytes: Bytes,
+    },
+}
+
+impl Request {
+    pub fn copy(&self, alloc: Global) -> Result<Self, NoMemory>
+        ensures { IfOk result (λ copy. copy ≡ self.now) }
+    {
+        Ok(match self {
+            Request::Create {
+                entry,
+                cookie,
+                attrs,
+            } => Request::Create {
+                entry: *entry,
+                cookie: *cookie,
+                attrs: *attrs,
+            },
+            Request::Call {
+                door,
+                bytes,
+                pass,
+                rsize,
+            } => Request::Call {
+                door: *door,
+                bytes: bytes.copy(alloc)?,
+                pass: pass.copy(alloc)?,
+                rsize: *rsize,
+            },
+            Request::Return { bytes, pass } => Request::Return {
+                bytes: bytes.copy(alloc)?,
+                pass: pass.copy(alloc)?,
+            },
+            Request::Revoke { fd } => Request::Revoke { fd: *fd },
+            Request::Bind { fd } => Request::Bind { fd: *fd },
+            Request::Unbind => Request::Unbind,
+            Request::Info { fd } => Request::Info { fd: *fd },
+            Request::InfoQuery => Request::InfoQuery,
+            Request::GetParam { fd, param } => Request::GetParam {
+                fd: *fd,
+                param: *param,
+            },
+            Request::SetParam { fd, param, value } => Request::SetParam {
+                fd: *fd,
+                param: *param,
+                value: *value,
+            },
+            Request::Cred => Request::Cred,
+            Request::TestCancel => Request::TestCancel,
+            Request::Close { fd } => Request::Close { fd: *fd },
+            Request::Dup { fd } => Request::Dup { fd: *fd },
+            Request::Attach { fd, path } => Request::Attach {
+                fd: *fd,
+                path: *path,
+            },
+            Request::Detach { path } => Request::Detach { path: *path },
+            Request::Open { path } => Request::Open { path: *path },
+            Request::Await { path } => Request::Await { path: *path },
+            Request::Pipe => Request::Pipe,
+            Request::Write { fd, bytes } => Request::Write {
+                fd: *fd,
+                bytes: bytes.copy(alloc)?,
+            },
+            Request::Read { fd, max } => Request::Read { fd: *fd, max: *max },
+            Request::PortCreate => Request::PortCreate,
+            Request::Associate {
+                port,
+                object,
+                events,
+                user,
+            } => Request::Associate {
+                port: *port,
+                object: *object,
+                events: *events,
+                user: *user,
+            },
+            Request::Dissociate { port, object } => Request::Dissociate {
+                port: *port,
+                object: *object,
+            },
+            Request::Get { port, wait } => Request::Get {
+                port: *port,
+                wait: *wait,
+            },
+            Request::GetN {
+                port,
+                max,
+                nget,
+                wait,
+            } => Request::GetN {
+                port: *port,
+                max: *max,
+                nget: *nget,
+                wait: *wait,
+            },
+            Request::Send { port, events, user } => Request::Send {
+                port: *port,
+                events: *events,
+                user: *user,
+            },
+            Request::SendN {
+                ports,
+                events,
+                user,
+            } => Request::SendN {
+                ports: ports.copy(alloc)?,
+                events: *events,
+                user: *user,
+            },
+            Request::Alert {
+                port,
+                mode,
+                events,
+                user,
+            } => Request::Alert {
+                port: *port,
+                mode: *mode,
+                events: *events,
+                user: *user,
+            },
+            Request::Interrupt { thread } => Request::Interrupt { thread: *thread },
+            Request::Kill { process } => Request::Kill { process: *process },
+            Request::Exit => Request::Exit,
+            Request::Work { op, bytes } => Request::Work {
+                op: *op,
+                bytes: bytes.copy(alloc)?,
+            },
+        })
+    }
+}
+
+#[cfg(test)]
+mod tests {
+    use super::*;
+    use crate::answer::Answer;
+    use crate::record::ThreadState;
+    use std::test::Fail;
+
+    #[test]
+    fn a_request_is_copied(rt: HostRuntime) -> Result<(), Fail> {
+        let alloc = rt.alloc();
+        let bytes = Bytes::from_slice(alloc, b"hi")?;
+        let request = Request::Return {
+            bytes,
+            pass: PassList::new(alloc),
+        };
+        match request.copy(alloc)? {
+            Request::Return { bytes, .. } => assert_eq!(rt; bytes.slice(), b"hi".as_slice()),
+            _ => assert!(rt; false),
+        }
+        Ok(())
+    }
+
+    #[test]
+    fn an_answer_is_copied(rt: HostRuntime) -> Result<(), Fail> {
+        let alloc = rt.alloc();
+        let bytes = Bytes::from_slice(alloc, b"hi")?;
+        match (Answer::Data { bytes }).copy(alloc)? {
+            Answer::Data { bytes } => assert_eq!(rt; bytes.slice(), b"hi".as_slice()),
+            _ => assert!(rt; false),
+        }
+        Ok(())
+    }
+
+    #[test]
+    fn a_state_is_copied(rt: HostRuntime) -> Result<(), Fail> {
+        let alloc = rt.alloc();
+        let input = Bytes::from_slice(alloc, b"hi")?;
+        let op = Op::Upper;
+        match (ThreadState::Working { op, input }).copy(alloc)? {
+            ThreadState::Working { input, .. } => assert_eq!(rt; input.slice(), b"hi".as_slice()),
+            _ => assert!(rt; false),
+        }
+        Ok(())
+    }
+}

@@ -1,0 +1,10 @@
+use Rattle.std.proofs.Common.{arith}
+use Rattle.doors_top.proofs.Fronts.{Appends-front}
+use Rattle.doors_top.proofs.writing.write_all.Goals as goal
+
+pub loop-at-preserved : goal.loop-at-preserved
+loop-at-preserved g c = (
+  omega (arith, c.in_ok-at.ensures.bound),
+  omega (arith, c.in_ok-at.ensures.steady),
+  Appends-front _ (g.O.Sink.held c.loop-at.sink) _ c.args.text.now c.loop-at.at c.in_ok-at.field-0 c.loop-at.invariant.2 c.in_ok-at.ensures.bytes,
+)

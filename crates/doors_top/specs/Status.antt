@@ -1,0 +1,23 @@
+-- Exit statuses.
+use Rattle.std.specs.Prelude.{ℕ}
+use Rattle.doors_top.specs.declared.status.Status.{Status}
+use Rattle.doors_top.specs.declared.status.Status.TheVariants.{Complete, Stalled, Script, Usage, Budget, Memory, ReadFault, WriteFault, Turn, Illegal}
+use Rattle.written_script.specs.declared.ending.Ending.{Ending}
+use Rattle.written_script.specs.declared.ending.Ending.TheVariants as ending
+
+abbrev pub status_code : Status → ℕ
+status_code Complete = 0
+status_code Stalled = 1
+status_code Script = 2
+status_code Usage = 3
+status_code Budget = 4
+status_code Memory = 5
+status_code ReadFault = 6
+status_code WriteFault = 7
+status_code Turn = 8
+status_code Illegal = 9
+
+abbrev pub status_of_ending : Ending → Status
+status_of_ending ending.Complete = Complete
+status_of_ending ending.Stalled = Stalled
+status_of_ending ending.Budget = Budget

@@ -1,0 +1,50 @@
+ghost use Rattle.std.specs.Prelude.{◌≡◌};
+ghost use Rattle.written_script.specs.WhatWord.{what_word};
+
+use dk_base::event::What;
+
+/// The word by which a trace shows what an event is.
+pub fn word_of(what: What) -> &'static str
+    ensures { result.now ≡ what_word what }
+{
+    match what {
+        What::Create => "create",
+        What::Call => "call",
+        What::Return => "return",
+        What::Revoke => "revoke",
+        What::Bind => "bind",
+        What::Unbind => "unbind",
+        What::Info => "info",
+        What::GetParam => "getparam",
+        What::SetParam => "setparam",
+        What::Cred => "cred",
+        What::TestCancel => "testcancel",
+        What::Close => "close",
+        What::Dup => "dup",
+        What::Attach => "attach",
+        What::Detach => "detach",
+        What::Open => "open",
+        What::Await => "await",
+        What::Pipe => "pipe",
+        What::Write => "write",
+        What::Read => "read",
+        What::PortCreate => "pcreate",
+        What::Associate => "associate",
+        What::Dissociate => "dissociate",
+        What::Get => "get",
+        What::GetN => "getn",
+        What::Send => "send",
+        What::SendN => "sendn",
+        What::Alert => "alert",
+        What::Interrupt => "interrupt",
+        What::Kill => "kill",
+        What::Exit => "exit",
+        What::Work => "work",
+        What::Accept => "accept",
+        What::Collect => "collect",
+        What::Got => "got",
+        What::Found => "found",
+        What::Done => "done",
+        What::Woken => "woken",
+    }
+}

@@ -1,0 +1,144 @@
+//! The top call.
+ghost use Rattle.std.specs.Prelude.{◌≡◌, ◌≢◌, true, false};
+ghost use Rattle.std.specs.Io.KnownBytes.{Appends};
+ghost use Rattle.dk_base.specs.Outside.{Rose};
+ghost use Rattle.doors_top.specs.Outcomes.{texts, is_play, is_run, usage};
+ghost use Rattle.doors_top.specs.Top.{IsAnswer, Plays, PlaysFront};
+ghost use Rattle.doors_top.specs.Writing.{AppendsFront};
+
+use crate::play::{Reply, fixed, play};
+use crate::reading::{ReadingFault, read_all};
+use crate::status::Status;
+use crate::writing::write_all;
+use dk_base::outside::{Gate, Sink, Source};
+use std::alloc::Global;
+use std::sync::Wait;
+use std::thread::Threads;
+
+const SCRIPT_LIMIT: usize = 2048;
+
+const USAGE: &[u8] = b"usage: doors play|run|show|check|load N\n";
+
+fn is_word(words: &[&str], word: &str) -> bool
+    ensures { result ≡ Rattle.doors_top.specs.Outcomes.is_only word.now (texts words.now) }
+{
+    match words {
+        [only] => *only == word,
+        _ => false,
+    }
+}
+
+fn is_play_word(words: &[&str]) -> bool
+    ensures { result ≡ is_play (texts words.now) }
+{
+    is_word(words, "play")
+}
+
+fn is_run_word(words: &[&str]) -> bool
+    ensures { result ≡ is_run (texts words.now) }
+{
+    is_word(words, "run")
+}
+
+/// Writes a reply's text. The status is the reply's, or WriteFault where a write failed.
+fn write_reply<O: Sink>(out: &mut O, reply: &Reply) -> Status
+    requires { IsAnswer reply.now.status }
+    ensures answer { IsAnswer result → (result ≡ reply.now.status) × Appends (O.held out.old) (O.held out.new) reply.now.text.items }
+    ensures front { result ≡ Status.WriteFault → AppendsFront (O.held out.old) (O.held out.new) reply.now.text.items }
+    ensures cause { result ≡ Status.WriteFault → Rose (O.faults out.old) (O.faults out.new) }
+    ensures no_read_fault { result ≢ Status.ReadFault }
+    ensures no_want { result ≢ Status.Memory }
+{
+    match write_all(out, reply.text.as_slice()) {
+        Ok(()) => reply.status,
+        Err(_) => Status::WriteFault,
+    }
+}
+
+fn write_usage<O: Sink>(alloc: Global, out: &mut O) -> Status
+    ensures usage { IsAnswer result → (result ≡ Status.Usage) × Appends (O.held out.old) (O.held out.new) usage.text }
+    ensures front { result ≡ Status.WriteFault → AppendsFront (O.held out.old) (O.held out.new) usage.text }
+    ensures cause { result ≡ Status.WriteFault → Rose (O.faults out.old) (O.faults out.new) }
+    ensures no_read_fault { result ≢ Status.ReadFault }
+    ensures want { result ≡ Status.Memory → out.new ≡ out.old }
+{
+    match fixed(alloc, Status::Usage, USAGE) {
+        Ok(reply) => write_reply(out, &reply),
+        Err(_) => Status::Memory,
+    }
+}
+
+fn play_input<S: Source, O: Sink>(alloc: Global, src: &mut S, out: &mut O) -> Status
+    ensures play { IsAnswer result → Plays (S.left src.old) (S.left src.new) (O.held out.old) (O.held out.new) result }
+    ensures front { result ≡ Status.WriteFault → PlaysFront (S.left src.old) (S.left src.new) (O.held out.old) (O.held out.new) }
+    ensures read_fault { result ≡ Status.ReadFault → Rose (S.faults src.old) (S.faults src.new) }
+    ensures read_fault_writes_nothing { result ≡ Status.ReadFault → out.new ≡ out.old }
+    ensures write_fault { result ≡ Status.WriteFault → Rose (O.faults out.old) (O.faults out.new) }
+    ensures want_writes_nothing { result ≡ Status.Memory → out.new ≡ out.old }
+{
+    match read_all(alloc, src, SCRIPT_LIMIT) {
+        Ok(read) => match play(alloc, &read) {
+            Ok(reply) => write_reply(out, &reply),
+            Err(_) => Status::Memory,
+        },
+        Err(ReadingFault::Memory) => Status::Memory,
+        Err(ReadingFault::Failed) => Status::ReadFault,
+    }
+}
+
+/// The commands that wait for nobody. `play` reads a script to the end of the input and writes the trace of the run that
+/// its turns make; other words are answered with the usage line, and nothing is read. The text is made whole before the
+/// first write, so want of memory leaves the output as it was.
+pub fn plain_main<S: Source, O: Sink>(
+    alloc: Global,
+    words: &[&str],
+    src: &mut S,
+    out: &mut O,
+) -> Status
+    requires { is_run (texts words.now) ≡ false }
+    ensures play { is_play (texts words.now) ≡ true → IsAnswer result → Plays (S.left src.old) (S.left src.new) (O.held out.old) (O.held out.new) result }
+    ensures play_front { is_play (texts words.now) ≡ true → result ≡ Status.WriteFault → PlaysFront (S.left src.old) (S.left src.new) (O.held out.old) (O.held out.new) }
+    ensures usage { is_play (texts words.now) ≡ false → IsAnswer result → (result ≡ Status.Usage) × Appends (O.held out.old) (O.held out.new) usage.text }
+    ensures usage_front { is_play (texts words.now) ≡ false → result ≡ Status.WriteFault → AppendsFront (O.held out.old) (O.held out.new) usage.text }
+    ensures nothing_read { is_play (texts words.now) ≡ false → src.new ≡ src.old }
+    ensures read_fault { result ≡ Status.ReadFault → Rose (S.faults src.old) (S.faults src.new) }
+    ensures read_fault_writes_nothing { result ≡ Status.ReadFault → out.new ≡ out.old }
+    ensures write_fault { result ≡ Status.WriteFault → Rose (O.faults out.old) (O.faults out.new) }
+    ensures want_writes_nothing { result ≡ Status.Memory → out.new ≡ out.old }
+{
+    if is_play_word(words) {
+        play_input(alloc, src, out)
+    } else {
+        write_usage(alloc, out)
+    }
+}
+
+/// The top call: what the program does, from its words to its exit status. `run` is not built yet and is answered as
+/// words that are no command; all other words are those of `plain_main`. It waits for nobody until `run` is there.
+pub fn doors_main<R: Threads + Wait + Sync, S: Source, O: Sink, G: Gate + Sync>(
+    _rt: &R,
+    alloc: Global,
+    words: &[&str],
+    src: &mut S,
+    out: &mut O,
+    _gate: &G,
+) -> Status
+    ensures play { is_play (texts words.now) ≡ true → IsAnswer result → Plays (S.left src.old) (S.left src.new) (O.held out.old) (O.held out.new) result }
+    ensures play_front { is_play (texts words.now) ≡ true → result ≡ Status.WriteFault → PlaysFront (S.left src.old) (S.left src.new) (O.held out.old) (O.held out.new) }
+    ensures usage { is_play (texts words.now) ≡ false → IsAnswer result → (result ≡ Status.Usage) × Appends (O.held out.old) (O.held out.new) usage.text }
+    ensures usage_front { is_play (texts words.now) ≡ false → result ≡ Status.WriteFault → AppendsFront (O.held out.old) (O.held out.new) usage.text }
+    ensures nothing_read { is_play (texts words.now) ≡ false → src.new ≡ src.old }
+    ensures read_fault { result ≡ Status.ReadFault → Rose (S.faults src.old) (S.faults src.new) }
+    ensures read_fault_writes_nothing { result ≡ Status.ReadFault → out.new ≡ out.old }
+    ensures write_fault { result ≡ Status.WriteFault → Rose (O.faults out.old) (O.faults out.new) }
+    ensures want_writes_nothing { result ≡ Status.Memory → out.new ≡ out.old }
+{
+    if is_run_word(words) {
+        write_usage(alloc, out)
+    } else {
+        plain_main(alloc, words, src, out)
+    }
+}
+
+#[cfg(test)]
+mod tests;

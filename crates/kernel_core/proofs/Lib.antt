@@ -1,0 +1,4 @@
+pub mod Places
+pub mod Grows
+pub mod Steps
+pub mod Readers

@@ -1,0 +1,16 @@
+//! The kernel: doors, calls, descriptors and names over plain lists. Each of its calls is proved to be a step of the
+//! written kernel.
+#![tactic(auto)]
+
+mod acts;
+mod descriptors;
+mod doors;
+mod event;
+pub mod kernel;
+mod leaving;
+mod parts;
+mod pools;
+mod settle;
+mod stage;
+mod table;
+mod turns;

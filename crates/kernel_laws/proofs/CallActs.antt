@@ -1,0 +1,402 @@
+-- The acts that change a call: door_call, accept, door_return and collect.
+use Rattle.std.specs.Prelude.{ℕ, ◌≡◌, ◌+◌, List, [], ◌∷◌, ◌++◌, Option, Bool, true, false, ◌==◌, if◌then◌else◌, Some, None, length, nat_lt}
+use Rattle.std.proofs.Common.{refl, sym, ap, subst, ◌∙◌}
+use native.Mathlib.Omega.{arith}
+use Rattle.std.proofs.Common.{length-append}
+use Rattle.std.proofs.lemmas.Bool.Decides.{nat_tests}
+use Rattle.dk_base.specs.declared.number.Fd.{Fd}
+use Rattle.dk_base.specs.declared.error.Errno.{Errno}
+use Rattle.dk_base.specs.declared.error.Errno.TheVariants.{E2BIG}
+use Rattle.written_kernel.specs.Acts.{refused}
+use Rattle.dk_base.specs.declared.object.Pass.{Pass}
+use Rattle.dk_base.specs.declared.object.Obj.{Obj}
+use Rattle.dk_base.specs.declared.object.Obj.TheVariants as obj
+use Rattle.dk_base.specs.declared.object.Inv.{Inv}
+use Rattle.dk_base.specs.declared.object.Item.{Item}
+use Rattle.dk_base.specs.declared.object.Item.TheVariants as item
+use Rattle.dk_base.specs.declared.request.Request.{Request}
+use Rattle.dk_base.specs.declared.request.Request.TheVariants as request
+use Rattle.dk_base.specs.declared.record.ThreadState.TheVariants as is
+use Rattle.dk_base.specs.declared.record.Call.{Call}
+use Rattle.dk_base.specs.declared.record.CallStage.{CallStage}
+use Rattle.dk_base.specs.declared.record.CallStage.TheVariants as stage
+use Rattle.written_kernel.specs.State.{State, tid, now, state_of, process_of, invocation_of, object_at, call_of, is_valid, moved_on, with_call, with_state, with_invocation}
+use Rattle.written_kernel.specs.Turns.{is_to_collect}
+use Rattle.written_kernel.specs.Doors.{call_refusal, new_call, with_new_call, called, call_unless, call_object, call, client_call, client_item, client_in, client, parked, returned_to, return_for, return, invocation, entered, accept_call, accept, answered, collect_at, collect_call, collect}
+use Rattle.kernel_laws.specs.Once.{record_of, item_in}
+use Rattle.kernel_laws.specs.Core.{Core, core, abandoned_in}
+use Rattle.kernel_laws.specs.Invariant.{InOrder, Coherent, Consistent}
+use Rattle.kernel_laws.specs.Arrows.{ByAct}
+use Rattle.kernel_laws.specs.Arrows.ByAct.{stays, made, returned as returns, answered as collects, entered as enters}
+use Rattle.kernel_laws.proofs.Calls.{find_call, find_call-number, find_call_live, find-past, InOrder-push, InOrder-replaced, length-replaced}
+use Rattle.kernel_laws.proofs.Cores.{upd, There, set_role, set_serves, set_call, set_new_call, with_state-core, with_invocation-core, with_call-core, with_new_call-core}
+use Rattle.kernel_laws.proofs.CallMoves.{call_keeps, Parks, entered_core, enter_keeps, returned_core, return_keeps, park_keeps, answered_core, collect_keeps}
+use Rattle.kernel_laws.proofs.Acts.{Does, does_nothing, does_no_call, there, same_rest_then, consistent_from, SameCalls, with_state_calls, with_invocation_calls, same_calls_then}
+
+-- the arrow of one call, where the others stay
+pub arrow_at :
+    (m : State) (t : ℕ) (q : Option Request) (n : State) (i : ℕ) (x : Call) (f g : ℕ → Option Call) →
+    ((c : ℕ) → g c ≡ upd f i (Some x) c) → ByAct m t q n (f i) (Some x) → (c : ℕ) → ByAct m t q n (f c) (g c)
+arrow_at m t q n i x f g e a c = go (c == i) refl
+  where
+    go : (b : Bool) → (c == i) ≡ b → ByAct m t q n (f c) (g c)
+    go true h =
+        let same : c ≡ i = grind (arith, nat_tests) in
+        let is : g c ≡ Some x = grind (arith, e c) in
+        subst (λ o. ByAct m t q n (f c) o) (sym is) (subst (λ j. ByAct m t q n (f j) (Some x)) (sym same) a)
+    go false h =
+        let is : g c ≡ f c = grind (arith, e c) in
+        subst (λ o. ByAct m t q n (f c) o) (sym is) stays
+
+-- the record of a live call
+pub record_of_call : (m : State) (c : ℕ) (r : Call) → Consistent m → call_of m c ≡ Some r → record_of m c ≡ Some r
+record_of_call m c r h e = find_call-number m.calls 0 c r h.in_order e
+
+pub number_of_call : (m : State) (c : ℕ) (r : Call) → call_of m c ≡ Some r → r.number ≡ c
+number_of_call m c r e = (find_call m.calls c r e).0
+
+-- an act that changes one call
+does_one_call :
+    (m : State) (t : ℕ) (q : Option Request) (n : State) (r x : Call) → Consistent m → call_of m r.number ≡ Some r →
+    x.number ≡ r.number → SameCalls (with_call m r.number x) n → (k : Core) → core n ≡ set_call k r.number x →
+    ((c : ℕ) → k.call c ≡ record_of m c) → Coherent (core n) → ByAct m t q n (Some r) (Some x) → Does m t q n
+does_one_call m t q n r x h f e g k l s i a =
+    record {
+      consistent =
+          consistent_from m n h
+          (same_rest_then m (with_call m r.number x) n (record { tables = refl; processes = refl; notices = refl; bound = refl }) g.rest)
+          (subst (λ rs. InOrder 0 rs) (sym g.calls) (InOrder-replaced m.calls 0 r.number x h.in_order e))
+          (ap length g.calls ∙ length-replaced m.calls r.number x ∙ h.counted ∙ sym g.made)
+          i;
+      arrows =
+          arrow_at m t q n r.number x (λ c. record_of m c) (λ c. record_of n c)
+          (λ c. ap (λ (j : Core). j.call c) l ∙ ap (λ o. if c == r.number then Some x else o) (s c))
+          (subst (λ o. ByAct m t q n o (Some x)) (sym (record_of_call m r.number r h f)) a);
+    }
+
+-- door_call
+
+call_valid : (m : State) (d : ℕ) (bytes : List ℕ) → call_refusal m d bytes ≡ None → is_valid m d ≡ true
+call_valid m d bytes e = grind arith
+
+called_does :
+    (m : State) (t d rsize : ℕ) (fd : Fd) (bytes : List ℕ) (pass : List Pass) → Consistent m → state_of m t ≡ is.Running →
+    object_at m (process_of m t) fd ≡ Some (obj.Door d) → is_valid m d ≡ true →
+    Does m t (Some (request.Call fd bytes pass rsize)) (called m t (new_call m t d bytes rsize)).state
+called_does m t d rsize fd bytes pass h e o v =
+    record {
+      consistent =
+          consistent_from m n h
+          (same_rest_then m n1 n (record { tables = refl; processes = refl; notices = refl; bound = refl }) same.rest)
+          (subst (λ rs. InOrder 0 rs) (sym same.calls) (InOrder-push m.calls 0 r h.in_order (grind (arith, h.counted))))
+          (ap length same.calls ∙ counted ∙ sym same.made)
+          (subst Coherent (sym l) (call_keeps (core m) t r h.coherent
+          (record { running = e; number = refl; caller = refl; kept = refl; queued = refl; valid = v })));
+      arrows =
+          arrow_at m t q n (m.calls_made + 1) r (λ c. record_of m c) (λ c. record_of n c) (λ c. ap (λ (j : Core). j.call c) l)
+          (subst (λ p. ByAct m t q n p (Some r)) (sym new) (made d rsize fd bytes pass refl o v));
+    }
+  where
+    q : Option Request
+    q = Some (request.Call fd bytes pass rsize)
+
+    r : Call
+    r = new_call m t d bytes rsize
+
+    n1 : State
+    n1 = with_new_call m r
+
+    n : State
+    n = with_state n1 t (is.Calling (m.calls_made + 1))
+
+    same : SameCalls n1 n
+    same = with_state_calls n1 t (is.Calling (m.calls_made + 1))
+
+    l : core n ≡ set_role (set_new_call (core m) r) t (is.Calling (m.calls_made + 1))
+    l = with_state-core n1 t (is.Calling (m.calls_made + 1)) (set_new_call (core m) r)
+        (with_new_call-core m r (core m) h.in_order (grind (arith, h.counted)) refl)
+        (there m t (λ z. grind arith))
+
+    counted : length (m.calls ++ r ∷ []) ≡ m.calls_made + 1
+    counted = grind (arith, length-append m.calls (r ∷ []), h.counted)
+
+    new : record_of m (m.calls_made + 1) ≡ None
+    new = find-past m.calls 0 (m.calls_made + 1) h.in_order (grind (arith, h.counted))
+
+pub call_does :
+    (m : State) (t rsize : ℕ) (fd : Fd) (bytes : List ℕ) (pass : List Pass) → Consistent m → state_of m t ≡ is.Running →
+    Does m t (Some (request.Call fd bytes pass rsize)) (call m t (process_of m t) fd bytes rsize).state
+call_does m t rsize fd bytes pass h e = go (object_at m (process_of m t) fd) refl
+  where
+    unless :
+        (d : ℕ) → object_at m (process_of m t) fd ≡ Some (obj.Door d) → (o : Option Errno) → call_refusal m d bytes ≡ o →
+        Does m t (Some (request.Call fd bytes pass rsize)) (call_unless m t (new_call m t d bytes rsize) o).state
+    unless d f (Some x) g = does_nothing m t _ h
+    unless d f None g = called_does m t d rsize fd bytes pass h e f (call_valid m d bytes g)
+
+    go :
+        (o : Option Obj) → object_at m (process_of m t) fd ≡ o →
+        Does m t (Some (request.Call fd bytes pass rsize)) (call_object m t bytes rsize o).state
+    go None f = does_nothing m t _ h
+    go (Some (obj.Door d)) f = unless d f (call_refusal m d bytes) refl
+    go (Some _) f = does_nothing m t _ h
+
+-- accept
+
+entered-core :
+    (m : State) (t : ℕ) (r : Call) → Consistent m → call_of m r.number ≡ Some r →
+    state_of m t ≡ is.Given (item.Call r.number) → core (entered m t r) ≡ entered_core (core m) t r
+entered-core m t r h f e =
+    with_state-core n2 t is.Running (set_serves (set_call (core m) r.number x) t v)
+    (with_invocation-core n1 t v (set_call (core m) r.number x) (with_call-core m r.number r x (core m) h.in_order f refl refl) th)
+    th
+  where
+    x : Call
+    x = moved_on r (stage.Entered (tid t))
+
+    v : Option Inv
+    v = Some (invocation (item.Call r.number))
+
+    n1 : State
+    n1 = with_call m r.number x
+
+    n2 : State
+    n2 = with_invocation n1 t v
+
+    th : There (core m) t
+    th = there m t (λ z. grind arith)
+
+entered_does :
+    (m : State) (t : ℕ) (r : Call) → Consistent m → call_of m r.number ≡ Some r →
+    state_of m t ≡ is.Given (item.Call r.number) → Does m t None (entered m t r)
+entered_does m t r h f e =
+    does_one_call m t None n r x h f refl
+    (same_calls_then n1 n2 n (with_invocation_calls n1 t v) (with_state_calls n2 t is.Running))
+    (set_role (set_serves (core m) t v) t is.Running) l (λ c. refl)
+    (subst Coherent (sym l) (enter_keeps (core m) t r h.coherent (record_of_call m r.number r h f) e))
+    (enters r refl e given)
+  where
+    x : Call
+    x = moved_on r (stage.Entered (tid t))
+
+    v : Option Inv
+    v = Some (invocation (item.Call r.number))
+
+    n1 : State
+    n1 = with_call m r.number x
+
+    n2 : State
+    n2 = with_invocation n1 t v
+
+    n : State
+    n = with_state n2 t is.Running
+
+    l : core n ≡ entered_core (core m) t r
+    l = entered-core m t r h f e
+
+    given : r.stage ≡ stage.Given (tid t)
+    given = grind (arith, h.coherent.given_back r.number t e, record_of_call m r.number r h f)
+
+pub accept_does :
+    (m : State) (t : ℕ) (i : Item) → Consistent m → state_of m t ≡ is.Given i → Does m t None (accept m t i).state
+accept_does m t (item.Notice n) h e = does_nothing m t None h
+accept_does m t (item.Call c) h e = go (call_of m c) refl
+  where
+    go : (o : Option Call) → call_of m c ≡ o → Does m t None (accept_call m t o).state
+    go None f = does_nothing m t None h
+    go (Some r) f =
+        let n : r.number ≡ c = number_of_call m c r f in
+        entered_does m t r h (subst (λ (d : ℕ). call_of m d ≡ Some r) (sym n) f)
+        (subst (λ (d : ℕ). state_of m t ≡ is.Given (item.Call d)) (sym n) e)
+
+-- collect
+
+answered-core :
+    (m : State) (t : ℕ) (r : Call) → Consistent m → call_of m r.number ≡ Some r → state_of m t ≡ is.Calling r.number →
+    core (answered m t r) ≡ answered_core (core m) t r (now m)
+answered-core m t r h f e =
+    with_state-core (with_call m r.number x) t is.Running (set_call (core m) r.number x)
+    (with_call-core m r.number r x (core m) h.in_order f refl refl)
+    (there m t (λ z. grind arith))
+  where
+    x : Call
+    x = moved_on r (stage.Answered (now m))
+
+answered_does :
+    (m : State) (t : ℕ) (r : Call) → Consistent m → call_of m r.number ≡ Some r → state_of m t ≡ is.Calling r.number →
+    is_to_collect r.stage ≡ true → Does m t None (answered m t r)
+answered_does m t r h f e z =
+    does_one_call m t None n r x h f refl (with_state_calls n1 t is.Running) (set_role (core m) t is.Running) l (λ c. refl)
+    (subst Coherent (sym l) (collect_keeps (core m) t r (now m) h.coherent (record_of_call m r.number r h f) e z))
+    (collects r refl e caller z)
+  where
+    x : Call
+    x = moved_on r (stage.Answered (now m))
+
+    n1 : State
+    n1 = with_call m r.number x
+
+    n : State
+    n = with_state n1 t is.Running
+
+    l : core n ≡ answered_core (core m) t r (now m)
+    l = answered-core m t r h f e
+
+    caller : r.caller.0 ≡ t
+    caller = grind (arith, h.coherent.caller r.number t e, record_of_call m r.number r h f)
+
+pub collect_does :
+    (m : State) (t c : ℕ) → Consistent m → state_of m t ≡ is.Calling c → Does m t None (collect m t c).state
+collect_does m t c h e = go (call_of m c) refl
+  where
+    at :
+        (r : Call) → call_of m r.number ≡ Some r → state_of m t ≡ is.Calling r.number → (s : CallStage) → r.stage ≡ s →
+        Does m t None (collect_at m t r s).state
+    at r f g (stage.Returned bytes objects) z = answered_does m t r h f g (grind arith)
+    at r f g (stage.Ended x) z = answered_does m t r h f g (grind arith)
+    at r f g _ z = does_nothing m t None h
+
+    go : (o : Option Call) → call_of m c ≡ o → Does m t None (collect_call m t o).state
+    go None f = does_nothing m t None h
+    go (Some r) f =
+        let n : r.number ≡ c = number_of_call m c r f in
+        at r (subst (λ (d : ℕ). call_of m d ≡ Some r) (sym n) f)
+        (subst (λ (d : ℕ). state_of m t ≡ is.Calling d) (sym n) e)
+        r.stage refl
+
+-- door_return
+
+parks : (m : State) (t : ℕ) → Consistent m → state_of m t ≡ is.Running → Parks (core m) t
+parks m t h e = record { running = e; valid = λ d f. grind (arith, h.unbuilt.unbound t) }
+
+-- the client of a thread is its call, where that is not abandoned
+pub record IsClient (m : State) (t : ℕ) (r : Call) : Type 0 where
+  pub served : item_in (invocation_of m t) ≡ Some (item.Call r.number)
+  pub found : call_of m r.number ≡ Some r
+  pub kept : r.abandoned ≡ false
+
+client_is : (m : State) (t : ℕ) (r : Call) → client m t ≡ Some r → IsClient m t r
+client_is m t r = go (invocation_of m t) refl
+  where
+    call_is : (c : ℕ) (o : Option Call) → call_of m c ≡ o → item_in (invocation_of m t) ≡ Some (item.Call c) → client_call o ≡ Some r → IsClient m t r
+    call_is c None f g e = grind arith
+    call_is c (Some x) f g e =
+        let n : x.number ≡ c = number_of_call m c x f in
+        record { served = grind arith; found = grind arith; kept = grind arith }
+
+    item_is : (i : Item) → item_in (invocation_of m t) ≡ Some i → client_item m i ≡ Some r → IsClient m t r
+    item_is (item.Call c) g e = call_is c (call_of m c) refl g e
+    item_is (item.Notice n) g e = grind arith
+
+    go : (o : Option Inv) → invocation_of m t ≡ o → client_in m o ≡ Some r → IsClient m t r
+    go None f e = grind arith
+    go (Some v) f e = item_is v.item (ap item_in f) e
+
+no_client :
+    (m : State) (t c : ℕ) → Consistent m → client m t ≡ None → item_in (invocation_of m t) ≡ Some (item.Call c) →
+    abandoned_in (record_of m c) ≡ true
+no_client m t c h e f = go (record_of m c) refl
+  where
+    client_of : client m t ≡ client_call (call_of m c)
+    client_of = grind arith
+
+    go : (o : Option Call) → record_of m c ≡ o → abandoned_in o ≡ true
+    go None g = grind (arith, h.coherent.entered_back c t f)
+    go (Some r) g = grind (arith, h.coherent.entered_back c t f, find_call_live m.calls c r g)
+
+returned_does :
+    (m : State) (t : ℕ) (bytes : List ℕ) (pass : List Pass) (r : Call) → Consistent m → state_of m t ≡ is.Running →
+    IsClient m t r → Does m t (Some (request.Return bytes pass)) (returned_to m t bytes r).state
+returned_does m t bytes pass r h e s =
+    does_one_call m t q n r x h s.found refl
+    (same_calls_then n1 n2 n (with_invocation_calls n1 t None) (with_state_calls n2 t (is.Idle (now m))))
+    (set_role (set_serves (core m) t None) t (is.Idle (now m))) l (λ c. refl)
+    (subst Coherent (sym l)
+    (return_keeps (core m) t r bytes (now m) h.coherent (parks m t h e) (record_of_call m r.number r h s.found) s.served s.kept))
+    (returns r bytes pass refl entered_by s.kept)
+  where
+    q : Option Request
+    q = Some (request.Return bytes pass)
+
+    x : Call
+    x = moved_on r (stage.Returned bytes [])
+
+    n1 : State
+    n1 = with_call m r.number x
+
+    n2 : State
+    n2 = with_invocation n1 t None
+
+    n : State
+    n = with_state n2 t (is.Idle (now m))
+
+    th : There (core m) t
+    th = there m t (λ z. grind arith)
+
+    l : core n ≡ returned_core (core m) t r bytes (now m)
+    l = with_state-core n2 t (is.Idle (now m)) (set_serves (set_call (core m) r.number x) t None)
+        (with_invocation-core n1 t None (set_call (core m) r.number x) (with_call-core m r.number r x (core m) h.in_order s.found refl refl) th)
+        th
+
+    entered_by : r.stage ≡ stage.Entered (tid t)
+    entered_by = grind (arith, h.coherent.entered_back r.number t s.served, record_of_call m r.number r h s.found, s.kept)
+
+parked_does :
+    (m : State) (t : ℕ) (q : Option Request) → Consistent m → state_of m t ≡ is.Running → client m t ≡ None →
+    Does m t q (parked m t)
+parked_does m t q h e f =
+    does_no_call m t q n h
+    (same_calls_then m n1 n (with_invocation_calls m t None) (with_state_calls n1 t (is.Idle (now m))))
+    (subst Coherent (sym l)
+    (park_keeps (core m) t (now m) h.coherent (parks m t h e) (λ c g. no_client m t c h f g)
+    (λ i g. grind (arith, h.coherent.notice_entered_back i t g, h.unbuilt.no_notices))))
+  where
+    n1 : State
+    n1 = with_invocation m t None
+
+    n : State
+    n = with_state n1 t (is.Idle (now m))
+
+    th : There (core m) t
+    th = there m t (λ z. grind arith)
+
+    l : core n ≡ set_role (set_serves (core m) t None) t (is.Idle (now m))
+    l = with_state-core n1 t (is.Idle (now m)) (set_serves (core m) t None) (with_invocation-core m t None (core m) refl th) th
+
+pub return_does :
+    (m : State) (t : ℕ) (bytes : List ℕ) (pass : List Pass) → Consistent m → state_of m t ≡ is.Running →
+    Does m t (Some (request.Return bytes pass)) (return m t bytes).state
+return_does m t bytes pass h e = go (client m t) refl
+  where
+    sized :
+        (r : Call) → IsClient m t r → (b : Bool) →
+        Does m t (Some (request.Return bytes pass)) (if b then refused m E2BIG else returned_to m t bytes r).state
+    sized r s true = does_nothing m t _ h
+    sized r s false = returned_does m t bytes pass r h e s
+
+    go : (o : Option Call) → client m t ≡ o → Does m t (Some (request.Return bytes pass)) (return_for m t bytes o).state
+    go (Some r) f = sized r (client_is m t r f) (nat_lt 4096 (length bytes))
+    go None f = parked_does m t _ h e f
+
+-- what the accept of a call leaves of it and of its thread
+
+pub record AfterAccept (m : State) (t : ℕ) (r : Call) : Type 0 where
+  pub record_after : record_of (entered m t r) r.number ≡ Some (moved_on r (stage.Entered (tid t)))
+  pub serves_after : invocation_of (entered m t r) t ≡ Some (invocation (item.Call r.number))
+  pub others : (u : ℕ) → (u == t) ≡ false → invocation_of (entered m t r) u ≡ invocation_of m u
+
+pub after_accept :
+    (m : State) (t : ℕ) (r : Call) → Consistent m → call_of m r.number ≡ Some r →
+    state_of m t ≡ is.Given (item.Call r.number) → AfterAccept m t r
+after_accept m t r h f e =
+    record {
+      record_after = ap (λ (k : Core). k.call r.number) (entered-core m t r h f e) ∙ grind (arith, nat_tests);
+      serves_after = ap (λ (k : Core). k.serves t) (entered-core m t r h f e) ∙ grind (arith, nat_tests);
+      others = λ u g. ap (λ (k : Core). k.serves u) (entered-core m t r h f e) ∙ grind (arith, nat_tests);
+    }
+
+-- what the collect of a call leaves of it
+pub record_after_collect :
+    (m : State) (t : ℕ) (r : Call) → Consistent m → call_of m r.number ≡ Some r → state_of m t ≡ is.Calling r.number →
+    record_of (answered m t r) r.number ≡ Some (moved_on r (stage.Answered (now m)))
+record_after_collect m t r h f e = ap (λ (k : Core). k.call r.number) (answered-core m t r h f e) ∙ grind (arith, nat_tests)

@@ -1,0 +1,109 @@
+-- The pick of a pool is an idle thread of the process that made the pool's door.
+use Rattle.std.specs.Prelude.{ℕ, ◌≡◌, Option, Bool, true, false, if◌then◌else◌, Some, None, zero, suc, length, nat_le}
+use Rattle.std.proofs.Common.{refl, sym, ap, subst, ◌∙◌}
+use native.Mathlib.Omega.{arith}
+use Rattle.std.proofs.lemmas.Bool.Decides.{nat_tests}
+use Rattle.dk_base.specs.declared.record.Thread.{Thread}
+use Rattle.dk_base.specs.declared.record.ThreadState.{ThreadState}
+use Rattle.dk_base.specs.declared.record.ThreadState.TheVariants as is
+use Rattle.dk_base.specs.declared.record.Door.{Door}
+use Rattle.written_kernel.specs.State.{State, state_of, process_of, thread_of, bound_of, door_of}
+use Rattle.written_kernel.specs.Pools.{Pool, is_pool, pool_of_door, pool_in, pool_of, Parked, pool_of_thread, parked_in, parked_thread, parked_at, later, better, pick_among, pick}
+use Rattle.written_kernel.specs.Pools.Pool.{Common, Private}
+use Rattle.kernel_laws.specs.Once.{owner_in}
+use Rattle.kernel_laws.specs.Core.{Core, core, valid_in}
+use Rattle.kernel_laws.specs.Invariant.{Coherent}
+
+abbrev pub pool_by : ℕ → Option ℕ → Pool
+pool_by p None = Common p
+pool_by p (Some d) = Private d
+
+pub record IsParked (m : State) (t : ℕ) (y : Parked) : Type 0 where
+  pub thread : y.thread ≡ t
+  pub idle : state_of m t ≡ is.Idle y.since
+  pub pool : y.pool ≡ pool_by (process_of m t) (bound_of m t)
+
+pool_of_thread_by : (x : Thread) (b : Option ℕ) → pool_of_thread x b ≡ pool_by x.process.0 b
+pool_of_thread_by x None = refl
+pool_of_thread_by x (Some d) = refl
+
+parked_in_is :
+    (t : ℕ) (pool : Pool) (s : ThreadState) (y : Parked) → parked_in t pool s ≡ Some y →
+    (y.thread ≡ t) × (y.pool ≡ pool) × (s ≡ is.Idle y.since)
+parked_in_is t pool (is.Idle since) y e = (grind arith, grind arith, grind arith)
+parked_in_is t pool _ y e = (grind arith, grind arith, grind arith)
+
+pub parked_is : (m : State) (t : ℕ) (y : Parked) → parked_at m t ≡ Some y → IsParked m t y
+parked_is m t y = go (thread_of m t) refl
+  where
+    go : (o : Option Thread) → thread_of m t ≡ o → parked_thread m t o ≡ Some y → IsParked m t y
+    go None f e = grind arith
+    go (Some x) f e =
+        let p = parked_in_is t (pool_of_thread x (bound_of m t)) x.state y e in
+        record { thread = p.0; idle = grind arith; pool = p.1 ∙ pool_of_thread_by x (bound_of m t) ∙ grind arith }
+
+pub record IsPick (m : State) (pool : Pool) (y : Parked) : Type 0 where
+  pub parked : parked_at m y.thread ≡ Some y
+  pub of_pool : is_pool pool y.pool ≡ true
+
+better_is :
+    (m : State) (pool : Pool) (t : ℕ) (best : Option Parked) (y : Parked) → ((x : Parked) → best ≡ Some x → IsPick m pool x) →
+    better pool best (parked_at m t) ≡ Some y → IsPick m pool y
+better_is m pool t best y h = go (parked_at m t) refl
+  where
+    here : (x : Parked) → parked_at m t ≡ Some x → is_pool pool x.pool ≡ true → IsPick m pool x
+    here x e f =
+        let same : x.thread ≡ t = (parked_is m t x e).thread in
+        record { parked = subst (λ (u : ℕ). parked_at m u ≡ Some x) (sym same) e; of_pool = f }
+
+    later_is :
+        (b : Option Parked) (x : Parked) → best ≡ b → parked_at m t ≡ Some x → is_pool pool x.pool ≡ true → later b x ≡ Some y →
+        IsPick m pool y
+    later_is None x e f g l = subst (λ z. IsPick m pool z) (grind arith) (here x f g)
+    later_is (Some z) x e f g l = newer (nat_le z.since x.since) l
+      where
+        newer : (c : Bool) → (if c then Some x else Some z) ≡ Some y → IsPick m pool y
+        newer true l = subst (λ w. IsPick m pool w) (grind arith) (here x f g)
+        newer false l = h y (grind arith)
+
+    in_pool :
+        (x : Parked) (c : Bool) → parked_at m t ≡ Some x → is_pool pool x.pool ≡ c → (if c then later best x else best) ≡ Some y →
+        IsPick m pool y
+    in_pool x true f g l = later_is best x refl f g l
+    in_pool x false f g l = h y l
+
+    go : (o : Option Parked) → parked_at m t ≡ o → better pool best o ≡ Some y → IsPick m pool y
+    go None f l = h y l
+    go (Some x) f l = in_pool x (is_pool pool x.pool) f refl l
+
+pick_among_is : (m : State) (pool : Pool) (n : ℕ) (y : Parked) → pick_among m pool n ≡ Some y → IsPick m pool y
+pick_among_is m pool zero y e = grind arith
+pick_among_is m pool (suc n) y e = better_is m pool (suc n) (pick_among m pool n) y (λ x f. pick_among_is m pool n x f) e
+
+pub pick_is : (m : State) (pool : Pool) (y : Parked) → pick m pool ≡ Some y → IsPick m pool y
+pick_is m pool y e = pick_among_is m pool (length m.threads) y e
+
+owner_of_pick :
+    (k : Core) (d t : ℕ) (x : Door) (b : Option ℕ) → Coherent k → k.door d ≡ Some x → k.bound t ≡ b →
+    is_pool (pool_of_door x) (pool_by (k.process t) b) ≡ true → owner_in (k.door d) ≡ Some (k.process t)
+owner_of_pick k d t x None h e f g = grind (arith, nat_tests)
+owner_of_pick k d t x (Some c) h e f g = grind (arith, nat_tests, h.bound_own t c, h.door_number d x)
+
+-- a thread of the pool of a valid door is of the process that made the door
+pub pick_owner :
+    (m : State) (d : ℕ) (y : Parked) → Coherent (core m) → valid_in (core m) (door_of m d) ≡ true → pick m (pool_of m d) ≡ Some y →
+    owner_in (door_of m d) ≡ Some (process_of m y.thread)
+pick_owner m d y h v e = go (door_of m d) refl v
+  where
+    p : IsPick m (pool_of m d) y
+    p = pick_is m (pool_of m d) y e
+
+    i : IsParked m y.thread y
+    i = parked_is m y.thread y p.parked
+
+    go : (o : Option Door) → door_of m d ≡ o → valid_in (core m) o ≡ true → owner_in (door_of m d) ≡ Some (process_of m y.thread)
+    go None f w = grind arith
+    go (Some x) f w =
+        let of_pool : is_pool (pool_in (Some x)) y.pool ≡ true = ap (λ o. is_pool (pool_in o) y.pool) (sym f) ∙ p.of_pool in
+        owner_of_pick (core m) d y.thread x (bound_of m y.thread) h f refl
+        (ap (λ z. is_pool (pool_of_door x) z) (sym i.pool) ∙ of_pool)

@@ -1,0 +1,241 @@
+-- A thread's invocation stays as it is over an event, begins at an accept of its own, or ends at a Return of its own.
+use Rattle.std.specs.Prelude.{ℕ, ◌≡◌, List, [], Option, Bool, true, false, ◌==◌, if◌then◌else◌, Some, None, length, nat_lt}
+use Rattle.std.proofs.Common.{refl, sym, ap, ◌∙◌}
+use native.Mathlib.Omega.{arith}
+use Rattle.std.proofs.lemmas.Bool.Decides.{nat_tests}
+use Rattle.dk_base.specs.declared.number.Fd.{Fd}
+use Rattle.dk_base.specs.declared.number.PathId.{PathId}
+use Rattle.dk_base.specs.declared.set.Attrs.{Attrs}
+use Rattle.dk_base.specs.declared.error.Errno.{Errno}
+use Rattle.dk_base.specs.declared.error.Errno.TheVariants.{E2BIG}
+use Rattle.dk_base.specs.declared.object.Pass.{Pass}
+use Rattle.dk_base.specs.declared.object.Obj.{Obj}
+use Rattle.dk_base.specs.declared.object.Obj.TheVariants as obj
+use Rattle.dk_base.specs.declared.object.Item.{Item}
+use Rattle.dk_base.specs.declared.object.Item.TheVariants as item
+use Rattle.dk_base.specs.declared.request.Request.{Request}
+use Rattle.dk_base.specs.declared.request.Request.TheVariants as request
+use Rattle.dk_base.specs.declared.answer.Answer.{Answer}
+use Rattle.dk_base.specs.declared.answer.Answer.TheVariants as answer
+use Rattle.dk_base.specs.declared.record.Name.{Name}
+use Rattle.dk_base.specs.declared.record.ThreadState.{ThreadState}
+use Rattle.dk_base.specs.declared.record.ThreadState.TheVariants as is
+use Rattle.dk_base.specs.declared.record.Call.{Call}
+use Rattle.dk_base.specs.declared.record.CallStage.{CallStage}
+use Rattle.dk_base.specs.declared.record.CallStage.TheVariants as stage
+use Rattle.written_kernel.specs.State.{State, now, state_of, process_of, invocation_of, table_of, object_at, name_of, door_of, call_of, moved_on, with_call, with_state, with_invocation}
+use Rattle.written_kernel.specs.Acts.{Acted, refused, lowest_free}
+use Rattle.written_kernel.specs.Doors.{new_door, created, create, call_refusal, new_call, with_new_call, call_unless, call_object, call, client, returned_to, return_for, return, entry_of, cookie_of, entered, accept_call, accept, answered, collect_at, collect_call, collect}
+use Rattle.written_kernel.specs.Descriptors.{new_name, attach_unless, attach_object, attach, open_at, open_name, open_path, await_name, await}
+use Rattle.written_kernel.specs.Leaving.{is_last, end_thread, end_process, exit}
+use Rattle.written_kernel.specs.Step.{enter, go_on, act, step}
+use Rattle.written_kernel.specs.Legal.{MayInside, MayTurn}
+use Rattle.written_kernel.proofs.Invocations.{invocation_of-with_state, invocation_of-with_invocation, invocation_of-settle}
+use Rattle.kernel_laws.specs.Once.{item_in, item_of}
+use Rattle.kernel_laws.specs.Core.{Core, core, is_outside}
+use Rattle.kernel_laws.specs.Invariant.{Consistent, Invariant}
+use Rattle.kernel_laws.proofs.ThreadMoves.{Leaves}
+use Rattle.kernel_laws.proofs.CallActs.{number_of_call, AfterAccept, after_accept}
+use Rattle.kernel_laws.proofs.Exits.{end_process-core, last_leaves}
+use Rattle.kernel_laws.proofs.Events.{running_is, no_exit_inside}
+
+-- the invocation of thread u, over an act or an event of thread t that leaves state n and answers a
+pub data Moves (m : State) (t : ℕ) (q : Option Request) (n : State) (a : Answer) (u : ℕ) : Type 0 where
+  stays : invocation_of n u ≡ invocation_of m u → Moves m t q n a u
+  begins :
+      (c entry cookie : ℕ) (bytes : List ℕ) (fds : List Fd) → u ≡ t → a ≡ answer.Entered c entry cookie bytes fds →
+      invocation_of m u ≡ None → item_of n u ≡ Some (item.Call c) → Moves m t q n a u
+  ends :
+      (bytes : List ℕ) (pass : List Pass) → u ≡ t → q ≡ Some (request.Return bytes pass) → a ≡ answer.Wait →
+      invocation_of n u ≡ None → Moves m t q n a u
+
+abbrev Acts : State → ℕ → Option Request → Acted → ℕ → Type 0
+Acts m t q a u = Moves m t q a.state a.answer u
+
+-- acts that leave every invocation as it is
+
+create_stays :
+    (m : State) (p entry cookie : ℕ) (attrs : Attrs) (u : ℕ) →
+    invocation_of (create m p entry cookie attrs).state u ≡ invocation_of m u
+create_stays m p entry cookie attrs u = go (lowest_free (table_of m p))
+  where
+    go : (o : Option ℕ) → invocation_of (created m p (new_door m p entry cookie attrs) o).state u ≡ invocation_of m u
+    go None = refl
+    go (Some place) = refl
+
+call_stays :
+    (m : State) (t p : ℕ) (fd : Fd) (bytes : List ℕ) (rsize u : ℕ) →
+    invocation_of (call m t p fd bytes rsize).state u ≡ invocation_of m u
+call_stays m t p fd bytes rsize u = go (object_at m p fd)
+  where
+    unless : (r : Call) (o : Option Errno) → invocation_of (call_unless m t r o).state u ≡ invocation_of m u
+    unless r (Some e) = refl
+    unless r None = invocation_of-with_state (with_new_call m r) t u (is.Calling r.number)
+
+    go : (o : Option Obj) → invocation_of (call_object m t bytes rsize o).state u ≡ invocation_of m u
+    go None = refl
+    go (Some (obj.Door d)) = unless (new_call m t d bytes rsize) (call_refusal m d bytes)
+    go (Some _) = refl
+
+attach_stays : (m : State) (p : ℕ) (fd : Fd) (path : PathId) (u : ℕ) → invocation_of (attach m p fd path).state u ≡ invocation_of m u
+attach_stays m p fd path u = go (object_at m p fd)
+  where
+    unless : (n : Name) (o : Option Name) → invocation_of (attach_unless m n o).state u ≡ invocation_of m u
+    unless n None = refl
+    unless n (Some other) = refl
+
+    go : (o : Option Obj) → invocation_of (attach_object m path o).state u ≡ invocation_of m u
+    go None = refl
+    go (Some (obj.Door d)) = unless (new_name m path d) (name_of m path)
+    go (Some _) = refl
+
+open_stays : (m : State) (p : ℕ) (path : PathId) (u : ℕ) → invocation_of (open_path m p path).state u ≡ invocation_of m u
+open_stays m p path u = go (name_of m path)
+  where
+    at : (n : Name) (o : Option ℕ) → invocation_of (open_at m p n o).state u ≡ invocation_of m u
+    at n None = refl
+    at n (Some place) = refl
+
+    go : (o : Option Name) → invocation_of (open_name m p o).state u ≡ invocation_of m u
+    go None = refl
+    go (Some n) = at n (lowest_free (table_of m p))
+
+await_stays : (m : State) (t : ℕ) (path : PathId) (u : ℕ) → invocation_of (await m t path).state u ≡ invocation_of m u
+await_stays m t path u = go (name_of m path)
+  where
+    go : (o : Option Name) → invocation_of (await_name m t path o).state u ≡ invocation_of m u
+    go None = invocation_of-with_state m t u (is.Awaiting path)
+    go (Some n) = refl
+
+collect_stays : (m : State) (t c u : ℕ) → invocation_of (collect m t c).state u ≡ invocation_of m u
+collect_stays m t c u = go (call_of m c)
+  where
+    done : (r : Call) → invocation_of (answered m t r) u ≡ invocation_of m u
+    done r = invocation_of-with_state (with_call m r.number (moved_on r (stage.Answered (now m)))) t u is.Running
+
+    at : (r : Call) (s : CallStage) → invocation_of (collect_at m t r s).state u ≡ invocation_of m u
+    at r (stage.Returned bytes objects) = done r
+    at r (stage.Ended e) = done r
+    at r s = refl
+
+    go : (o : Option Call) → invocation_of (collect_call m t o).state u ≡ invocation_of m u
+    go None = refl
+    go (Some r) = at r r.stage
+
+-- a thread that is left without an invocation, and then in this state
+left :
+    (m : State) (t u : ℕ) (s : ThreadState) → state_of m t ≡ is.Running →
+    invocation_of (with_state (with_invocation m t None) t s) u ≡ (if u == t then None else invocation_of m u)
+left m t u s e =
+    invocation_of-with_state (with_invocation m t None) t u s
+    ∙ invocation_of-with_invocation m t u None
+    ∙ grind arith
+
+-- a thread that exits has no invocation, and no other thread of a process that ends has one
+exit_stays :
+    (m : State) (t u : ℕ) → Consistent m → state_of m t ≡ is.Running → invocation_of m t ≡ None →
+    invocation_of (exit m t (process_of m t)).state u ≡ invocation_of m u
+exit_stays m t u h e f = go (is_last m t (process_of m t)) refl
+  where
+    go :
+        (b : Bool) → is_last m t (process_of m t) ≡ b →
+        invocation_of (if b then end_process m (process_of m t) else end_thread m t) u ≡ invocation_of m u
+    go true g =
+        let l : Leaves (core m) (process_of m t) = last_leaves m t h e f g in
+        ap (λ (k : Core). k.serves u) (end_process-core m (process_of m t) h) ∙ grind (arith, nat_tests, l.outside u)
+    go false g = left m t u is.Done e ∙ grind (arith, nat_tests)
+
+-- a Return ends an invocation, unless it is refused
+
+parked_ends :
+    (m : State) (t : ℕ) (bytes : List ℕ) (pass : List Pass) (u : ℕ) (n : State) → state_of m t ≡ is.Running →
+    (invocation_of n u ≡ (if u == t then None else invocation_of m u)) →
+    Moves m t (Some (request.Return bytes pass)) n answer.Wait u
+parked_ends m t bytes pass u n e f = go (u == t) refl
+  where
+    go : (b : Bool) → (u == t) ≡ b → Moves m t (Some (request.Return bytes pass)) n answer.Wait u
+    go true g = ends bytes pass (grind (arith, nat_tests)) refl refl (grind arith)
+    go false g = stays (grind arith)
+
+return_moves :
+    (m : State) (t : ℕ) (bytes : List ℕ) (pass : List Pass) (u : ℕ) → state_of m t ≡ is.Running →
+    Acts m t (Some (request.Return bytes pass)) (return m t bytes) u
+return_moves m t bytes pass u e = go (client m t)
+  where
+    sized : (r : Call) (b : Bool) → Acts m t (Some (request.Return bytes pass)) (if b then refused m E2BIG else returned_to m t bytes r) u
+    sized r true = stays refl
+    sized r false =
+        parked_ends m t bytes pass u _ e
+        (left (with_call m r.number (moved_on r (stage.Returned bytes []))) t u (is.Idle (now m)) e)
+
+    go : (o : Option Call) → Acts m t (Some (request.Return bytes pass)) (return_for m t bytes o) u
+    go None = parked_ends m t bytes pass u _ e (left m t u (is.Idle (now m)) e)
+    go (Some r) = sized r (nat_lt 4096 (length bytes))
+
+-- the accept of a call begins one
+
+entered_begins :
+    (m : State) (t u : ℕ) (r : Call) → Consistent m → state_of m t ≡ is.Given (item.Call r.number) →
+    call_of m r.number ≡ Some r → Acts m t None (accept_call m t (Some r)) u
+entered_begins m t u r h e f = go (u == t) refl
+  where
+    after : AfterAccept m t r
+    after = after_accept m t r h f e
+
+    go : (b : Bool) → (u == t) ≡ b → Acts m t None (accept_call m t (Some r)) u
+    go true g =
+        let same : u ≡ t = grind (arith, nat_tests) in
+        begins r.number (entry_of (door_of m r.door)) (cookie_of (door_of m r.door)) r.bytes [] same refl
+        (ap (λ (v : ℕ). invocation_of m v) same ∙ h.coherent.outside t (ap is_outside e))
+        (ap (λ (v : ℕ). item_of (entered m t r) v) same ∙ ap item_in after.serves_after)
+    go false g = stays (after.others u g)
+
+accept_moves : (m : State) (t : ℕ) (i : Item) (u : ℕ) → Consistent m → state_of m t ≡ is.Given i → Acts m t None (accept m t i) u
+accept_moves m t (item.Notice n) u h e = stays refl
+accept_moves m t (item.Call c) u h e = go (call_of m c) refl
+  where
+    go : (o : Option Call) → call_of m c ≡ o → Acts m t None (accept_call m t o) u
+    go None f = stays refl
+    go (Some r) f =
+        let n : r.number ≡ c = number_of_call m c r f in
+        entered_begins m t u r h (e ∙ ap (λ (x : ℕ). is.Given (item.Call x)) (sym n)) (ap (λ (x : ℕ). call_of m x) n ∙ f)
+
+-- acts
+
+enter_moves :
+    (m : State) (t : ℕ) (r : Request) (u : ℕ) → Consistent m → state_of m t ≡ is.Running → MayInside (invocation_of m t) r →
+    Acts m t (Some r) (enter m t (process_of m t) r) u
+enter_moves m t (request.Create entry cookie attrs) u h e i = stays (create_stays m (process_of m t) entry cookie attrs u)
+enter_moves m t (request.Call fd bytes pass rsize) u h e i = stays (call_stays m t (process_of m t) fd bytes rsize u)
+enter_moves m t (request.Return bytes pass) u h e i = return_moves m t bytes pass u e
+enter_moves m t (request.Attach fd path) u h e i = stays (attach_stays m (process_of m t) fd path u)
+enter_moves m t (request.Open path) u h e i = stays (open_stays m (process_of m t) path u)
+enter_moves m t (request.Await path) u h e i = stays (await_stays m t path u)
+enter_moves m t request.Exit u h e i = stays (exit_stays m t u h e (no_exit_inside (invocation_of m t) i))
+enter_moves m t r u h e i = stays refl
+
+go_on_moves : (m : State) (t : ℕ) (s : ThreadState) (u : ℕ) → Consistent m → state_of m t ≡ s → Acts m t None (go_on m t s) u
+go_on_moves m t (is.Given i) u h e = accept_moves m t i u h e
+go_on_moves m t (is.Calling c) u h e = stays (collect_stays m t c u)
+go_on_moves m t (is.Awaiting path) u h e = stays (invocation_of-with_state m t u is.Running)
+go_on_moves m t s u h e = stays refl
+
+act_moves : (m : State) (t : ℕ) (q : Option Request) (u : ℕ) → Consistent m → MayTurn m t q → Acts m t q (act m t q) u
+act_moves m t (Some r) u h may = enter_moves m t r u h (running_is m t may.running) may.inside
+act_moves m t None u h may = go_on_moves m t (state_of m t) u h refl
+
+-- what the kernel does after an act leaves every invocation as it is
+moves_later :
+    (m : State) (t : ℕ) (q : Option Request) (n o : State) (a : Answer) (u : ℕ) → invocation_of o u ≡ invocation_of n u →
+    Moves m t q n a u → Moves m t q o a u
+moves_later m t q n o a u e (stays f) = stays (e ∙ f)
+moves_later m t q n o a u e (begins c entry cookie bytes fds f g k l) =
+    begins c entry cookie bytes fds f g k (ap item_in e ∙ l)
+moves_later m t q n o a u e (ends bytes pass f g k l) = ends bytes pass f g k (e ∙ l)
+
+pub step_moves :
+    (m : State) (t : ℕ) (q : Option Request) (u : ℕ) → Invariant m → MayTurn m t q →
+    Moves m t q (step m t q).state (step m t q).answer u
+unfolding step
+step_moves m t q u h may =
+    moves_later m t q (act m t q).state _ _ u (invocation_of-settle (act m t q).state u) (act_moves m t q u h.consistent may)

@@ -1,0 +1,250 @@
+-- What the kernel does after an act: calls that wait are given to idle threads, until no pool has both.
+use Rattle.std.specs.Prelude.{ℕ, ◌≡◌, ◌+◌, ◌<◌, ◌≤◌, List, [], ◌∷◌, Option, Bool, true, false, ◌==◌, Some, None, length, map, filter, find, cond, All}
+use Rattle.std.proofs.Common.{refl, sym, ap, subst, ◌∙◌, inl, inr}
+use native.Mathlib.Omega.{arith}
+use Rattle.std.proofs.lemmas.Bool.Decides.{nat_tests}
+use Rattle.dk_base.specs.declared.object.Item.TheVariants as item
+use Rattle.dk_base.specs.declared.record.Thread.{Thread}
+use Rattle.dk_base.specs.declared.record.ThreadState.{ThreadState}
+use Rattle.dk_base.specs.declared.record.ThreadState.TheVariants as is
+use Rattle.dk_base.specs.declared.record.Call.{Call}
+use Rattle.dk_base.specs.declared.record.CallStage.TheVariants as stage
+use Rattle.written_kernel.specs.State.{State, tid, thread_of, door_of, call_of, is_queued, at_stage, with_call, with_state, with_state_in}
+use Rattle.written_kernel.specs.Pools.{Parked, pick, pool_of, is_queued_call, waiting_call, waiting_notice, is_waiting_notice, waits, with_notices}
+use Rattle.written_kernel.specs.Settle.{give_call, give_one, give_to, give_each, settle}
+use Rattle.kernel_laws.specs.Once.{has_number, record_of}
+use Rattle.kernel_laws.specs.Core.{Core, core, door_in, valid_in}
+use Rattle.kernel_laws.specs.Invariant.{InOrder, Coherent, Consistent}
+use Rattle.kernel_laws.specs.Arrows.{ByGiving}
+use Rattle.kernel_laws.specs.Arrows.ByGiving.{stays, given}
+use Rattle.kernel_laws.proofs.Calls.{find_call_live, InOrder-replaced, length-replaced}
+use Rattle.kernel_laws.proofs.Cores.{upd, set_call, with_state-core, with_call-core}
+use Rattle.kernel_laws.proofs.ThreadMoves.{given_core, Gives, give_keeps}
+use Rattle.kernel_laws.proofs.Acts.{there, same_rest_then, consistent_from, SameCalls, with_state_calls}
+use Rattle.kernel_laws.proofs.Picks.{IsParked, pick_is, parked_is, pick_owner}
+use Rattle.written_kernel.proofs.Giving.{IsIn, IsApart, no_idle_for}
+use Rattle.std.proofs.lemmas.List.Elements.{All-nil, All-cons, All-map}
+
+pub giving_then : (o p q : Option Call) → ByGiving o p → ByGiving p q → ByGiving o q
+giving_then o p q stays b = b
+giving_then o p q (given r u e) b = go _ _ b refl
+  where
+    go : (x y : Option Call) → ByGiving x y → x ≡ Some (at_stage r (stage.Given (tid u))) → ByGiving (Some r) y
+    go x y stays f = subst (λ z. ByGiving (Some r) z) (sym f) (given r u e)
+    go x y (given s v g) f = grind arith
+
+-- what giving keeps, and the arrows that calls take by it
+pub record Gave (m n : State) : Type 0 where
+  pub consistent : Consistent n
+  pub arrows : (c : ℕ) → ByGiving (record_of m c) (record_of n c)
+  pub serves : (t : ℕ) → (core n).serves t ≡ (core m).serves t
+  pub doors : n.doors ≡ m.doors
+  pub processes : n.processes ≡ m.processes
+
+pub gave_nothing : (m : State) → Consistent m → Gave m m
+gave_nothing m h =
+    record { consistent = h; arrows = λ c. stays; serves = λ t. refl; doors = refl; processes = refl }
+
+gave_then : (m n o : State) → Gave m n → Gave n o → Gave m o
+gave_then m n o g h =
+    record {
+      consistent = h.consistent;
+      arrows = λ c. giving_then (record_of m c) (record_of n c) (record_of o c) (g.arrows c) (h.arrows c);
+      serves = λ t. h.serves t ∙ g.serves t;
+      doors = h.doors ∙ g.doors;
+      processes = h.processes ∙ g.processes;
+    }
+
+-- the arrow of one call, where the others stay
+giving_at :
+    (i : ℕ) (x : Call) (f g : ℕ → Option Call) → ((c : ℕ) → g c ≡ upd f i (Some x) c) → ByGiving (f i) (Some x) →
+    (c : ℕ) → ByGiving (f c) (g c)
+giving_at i x f g e a c = go (c == i) refl
+  where
+    go : (b : Bool) → (c == i) ≡ b → ByGiving (f c) (g c)
+    go true h =
+        let same : c ≡ i = grind (arith, nat_tests) in
+        let is : g c ≡ Some x = grind (arith, e c) in
+        subst (λ o. ByGiving (f c) o) (sym is) (subst (λ j. ByGiving (f j) (Some x)) (sym same) a)
+    go false h =
+        let is : g c ≡ f c = grind (arith, e c) in
+        subst (λ o. ByGiving (f c) o) (sym is) stays
+
+-- what a change of a thread's state leaves alone, besides calls
+record SameDoors (m n : State) : Type 0 where
+  doors : n.doors ≡ m.doors
+  processes : n.processes ≡ m.processes
+
+with_state_doors : (m : State) (t : ℕ) (s : ThreadState) → SameDoors m (with_state m t s)
+with_state_doors m t s = go (thread_of m t)
+  where
+    go : (o : Option Thread) → SameDoors m (with_state_in m t s o)
+    go None = record { doors = refl; processes = refl }
+    go (Some x) = record { doors = refl; processes = refl }
+
+-- a waiting call, to the pick of its pool if there is one
+
+record GaveOne (m n : State) (r : Call) : Type 0 where
+  gave : Gave m n
+  others : (c : ℕ) → (c == r.number) ≡ false → record_of n c ≡ record_of m c
+
+given_does :
+    (m : State) (r : Call) (u : ℕ) → Consistent m → Gives (core m) r u → call_of m r.number ≡ Some r →
+    GaveOne m (with_state (with_call m r.number (at_stage r (stage.Given (tid u)))) u (is.Given (item.Call r.number))) r
+given_does m r u h g f =
+    record {
+      gave =
+          record {
+            consistent =
+                consistent_from m n h
+                (same_rest_then m n1 n (record { tables = refl; processes = refl; notices = refl; bound = refl }) same.rest)
+                (subst (λ rs. InOrder 0 rs) (sym same.calls) (InOrder-replaced m.calls 0 r.number x h.in_order refl))
+                (ap length same.calls ∙ length-replaced m.calls r.number x ∙ h.counted ∙ sym same.made)
+                (subst Coherent (sym l) (give_keeps (core m) r u h.coherent g));
+            arrows =
+                giving_at r.number x (λ c. record_of m c) (λ c. record_of n c) (λ c. ap (λ (k : Core). k.call c) l)
+                (subst (λ o. ByGiving o (Some x)) (sym g.found) (given r u g.queued));
+            serves = λ t. ap (λ (k : Core). k.serves t) l;
+            doors = (with_state_doors n1 u (is.Given (item.Call r.number))).doors;
+            processes = (with_state_doors n1 u (is.Given (item.Call r.number))).processes;
+          };
+      others = λ c e. grind (arith, ap (λ (k : Core). k.call c) l);
+    }
+  where
+    x : Call
+    x = at_stage r (stage.Given (tid u))
+
+    n1 : State
+    n1 = with_call m r.number x
+
+    n : State
+    n = with_state n1 u (is.Given (item.Call r.number))
+
+    same : SameCalls n1 n
+    same = with_state_calls n1 u (is.Given (item.Call r.number))
+
+    l : core n ≡ given_core (core m) r u
+    l = with_state-core n1 u (is.Given (item.Call r.number)) (set_call (core m) r.number x)
+        (with_call-core m r.number r x (core m) h.in_order f refl refl)
+        (there m u (λ z. grind (arith, g.idle)))
+
+give_one_does :
+    (m : State) (r : Call) (u : ℕ) → Consistent m → Gives (core m) r u → GaveOne m (give_one m (item.Call r.number) u) r
+give_one_does m r u h g =
+    subst (λ o. GaveOne m (with_state (give_call m u o) u (is.Given (item.Call r.number))) r) (sym found) (given_does m r u h g found)
+  where
+    found : call_of m r.number ≡ Some r
+    found = find_call_live m.calls r.number r g.found (grind (arith, g.queued))
+
+give_to_does :
+    (m : State) (r : Call) → Consistent m → record_of m r.number ≡ Some r → r.stage ≡ stage.Queued →
+    GaveOne m (give_to m (waiting_call r) (pick m (pool_of m r.door))) r
+give_to_does m r h e q = go (pick m (pool_of m r.door)) refl
+  where
+    valid : valid_in (core m) (door_of m r.door) ≡ true
+    valid =
+        ap (λ o. valid_in (core m) (door_of m (door_in o))) (sym e)
+        ∙ h.coherent.waiting_valid r.number (grind arith)
+
+    go : (o : Option Parked) → pick m (pool_of m r.door) ≡ o → GaveOne m (give_to m (waiting_call r) o) r
+    go None f = record { gave = gave_nothing m h; others = λ c z. refl }
+    go (Some y) f =
+        let p : IsParked m y.thread y = parked_is m y.thread y (pick_is m (pool_of m r.door) y f).parked in
+        give_one_does m r y.thread h
+        (record { since = y.since; idle = p.idle; found = e; queued = q; owner = pick_owner m r.door y h.coherent valid f })
+
+-- calls whose records are these, each waiting, with numbers that go up from above this one
+
+abbrev Pending : State → ℕ → List Call → Type 0
+Pending m low [] = Unit {0}
+Pending m low (r ∷ rs) = (low < r.number) × (record_of m r.number ≡ Some r) × (r.stage ≡ stage.Queued) × Pending m r.number rs
+
+pending_moves :
+    (m n : State) (low i : ℕ) (rs : List Call) → ((c : ℕ) → (c == i) ≡ false → record_of n c ≡ record_of m c) → i ≤ low →
+    Pending m low rs → Pending n low rs
+pending_moves m n low i [] h l p = tt
+pending_moves m n low i (r ∷ rs) h l p =
+    let later : i ≤ r.number = grind (arith, p.0) in
+    (p.0, h r.number (grind (arith, nat_tests, p.0)) ∙ p.1, p.2, pending_moves m n r.number i rs h later p.3)
+
+give_each_does :
+    (rs : List Call) (low : ℕ) (m : State) → Consistent m → Pending m low rs → Gave m (give_each m (map waiting_call rs))
+give_each_does [] low m h p = gave_nothing m h
+give_each_does (r ∷ rs) low m h p =
+    let one : GaveOne m (give_to m (waiting_call r) (pick m (pool_of m r.door))) r = give_to_does m r h p.1 p.2 in
+    gave_then _ _ _ one.gave
+    (give_each_does rs r.number (give_to m (waiting_call r) (pick m (pool_of m r.door))) one.gave.consistent
+    (pending_moves m (give_to m (waiting_call r) (pick m (pool_of m r.door))) r.number r.number rs one.others (grind arith) p.3))
+
+-- the waiting calls of a state
+
+pending_all :
+    (m : State) (rs : List Call) (n low : ℕ) → InOrder n rs → low ≤ n →
+    ((c : ℕ) → n < c → record_of m c ≡ find (has_number c) rs) → Pending m low (filter is_queued_call rs)
+pending_all m [] n low h l f = tt
+pending_all m (r ∷ rs) n low h l f =
+    go (is_queued_call r) refl (pending_all m rs (n + 1) low h.1 (grind arith) rest)
+    (pending_all m rs (n + 1) r.number h.1 (grind (arith, h.0)) rest)
+  where
+    rest : (c : ℕ) → n + 1 < c → record_of m c ≡ find (has_number c) rs
+    rest c g = grind (arith, nat_tests, f c, h.0)
+
+    here : record_of m r.number ≡ Some r
+    here = grind (arith, nat_tests, f r.number, h.0)
+
+    go :
+        (b : Bool) → is_queued_call r ≡ b → Pending m low (filter is_queued_call rs) → Pending m r.number (filter is_queued_call rs) →
+        Pending m low (cond b (r ∷ filter is_queued_call rs) (filter is_queued_call rs))
+    go false e p q = p
+    go true e p q = (grind (arith, h.0), here, grind arith, q)
+
+waits_of : (m : State) → m.notices ≡ [] → waits m ≡ map waiting_call (filter is_queued_call m.calls)
+waits_of m e =
+    ap (λ ns. with_notices (map waiting_call (filter is_queued_call m.calls)) (map waiting_notice (filter is_waiting_notice ns))) e
+
+settle_gave : (m : State) → Consistent m → Gave m (settle m)
+settle_gave m h =
+    subst (λ ws. Gave m (give_each m ws)) (sym (waits_of m h.unbuilt.no_notices))
+    (give_each_does (filter is_queued_call m.calls) 0 m h
+    (pending_all m m.calls 0 0 h.in_order (grind arith) (λ c l. refl)))
+
+-- no pool is left with a waiting call and an idle thread
+
+in_after : (rs : List Call) (n : ℕ) (r : Call) → InOrder n rs → IsIn r rs → n < r.number
+in_after [] n r h i = absurd i
+in_after (q ∷ qs) n r h (inl e) = grind (arith, h.0)
+in_after (q ∷ qs) n r h (inr i) = grind (arith, in_after qs (n + 1) r h.1 i)
+
+apart : (rs : List Call) (n : ℕ) → InOrder n rs → IsApart rs
+apart [] n h = tt
+apart (q ∷ qs) n h = (λ r l k. grind (arith, h.0, in_after qs (n + 1) r h.1 k.is_in, k.number), apart qs (n + 1) h.1)
+
+queued_all :
+    (P : Call → Type 0) (rs : List Call) → ((r : Call) → is_queued r.stage ≡ true → IsIn r rs → P r) →
+    All P (filter is_queued_call rs)
+queued_all P [] h = All-nil P
+queued_all P (q ∷ qs) h = go (is_queued_call q) refl (queued_all P qs (λ r e i. h r e (inr i)))
+  where
+    go : (b : Bool) → is_queued_call q ≡ b → All P (filter is_queued_call qs) → All P (cond b (q ∷ filter is_queued_call qs) (filter is_queued_call qs))
+    go false e a = a
+    go true e a = All-cons P q (filter is_queued_call qs) (h q e (inl refl)) a
+
+all_given_out :
+    (m n : State) → n ≡ settle m → Consistent m → Consistent n → All (λ w. pick n (pool_of n w.door) ≡ None) (waits n)
+all_given_out m n e h g =
+    subst (λ ws. All (λ w. pick n (pool_of n w.door) ≡ None) ws) (sym (waits_of n g.unbuilt.no_notices))
+    (All-map (λ w. pick n (pool_of n w.door) ≡ None) waiting_call (filter is_queued_call n.calls)
+    (queued_all (λ r. pick n (pool_of n r.door) ≡ None) n.calls each))
+  where
+    each : (r : Call) → is_queued r.stage ≡ true → IsIn r n.calls → pick n (pool_of n r.door) ≡ None
+    each r q i =
+        subst (λ k. IsIn r k.calls → pick k (pool_of k r.door) ≡ None) (sym e) (no_idle_for m (apart m.calls 0 h.in_order) r q) i
+
+pub record Settles (m n : State) : Type 0 where
+  pub gave : Gave m n
+  pub given_out : All (λ w. pick n (pool_of n w.door) ≡ None) (waits n)
+
+pub settle_does : (m : State) → Consistent m → Settles m (settle m)
+settle_does m h =
+    let g : Gave m (settle m) = settle_gave m h in
+    record { gave = g; given_out = all_given_out m (settle m) refl h g.consistent }

@@ -1,0 +1,123 @@
+-- What the invariant and the laws see of a state: functions of the numbers of threads, doors, processes and calls.
+use Rattle.std.specs.Prelude.{ℕ, Option, Bool, true, false, Some, None, not, ◌&&◌}
+use Rattle.dk_base.specs.declared.object.Inv.{Inv}
+use Rattle.dk_base.specs.declared.record.Process.{Process}
+use Rattle.dk_base.specs.declared.record.ProcessStage.{ProcessStage}
+use Rattle.dk_base.specs.declared.record.ProcessStage.TheVariants.{Live, Ended}
+use Rattle.dk_base.specs.declared.record.Thread.{Thread}
+use Rattle.dk_base.specs.declared.record.ThreadState.{ThreadState}
+use Rattle.dk_base.specs.declared.record.ThreadState.TheVariants as is
+use Rattle.dk_base.specs.declared.record.Door.{Door}
+use Rattle.dk_base.specs.declared.record.Call.{Call}
+use Rattle.dk_base.specs.declared.record.CallStage.{CallStage}
+use Rattle.dk_base.specs.declared.record.CallStage.TheVariants as stage
+use Rattle.dk_base.specs.declared.record.Notice.{Notice}
+use Rattle.dk_base.specs.declared.record.NoticeStage.{NoticeStage}
+use Rattle.written_kernel.specs.Numbered.{numbered}
+use Rattle.written_kernel.specs.State.{State, is_live, lives_in, process_of, state_of, invocation_of, thread_of, bound_of, door_of}
+use Rattle.written_kernel.specs.Pools.{is_private}
+use Rattle.kernel_laws.specs.Once.{record_of, owner_in}
+
+pub record Core : Type 0 where
+  -- of a thread: its state, its invocation, its process, the number in its record, and the door that it is bound to
+  pub role : ℕ → ThreadState
+  pub serves : ℕ → Option Inv
+  pub process : ℕ → ℕ
+  pub number : ℕ → Option ℕ
+  pub bound : ℕ → Option ℕ
+  pub door : ℕ → Option Door
+  pub proc : ℕ → Option Process
+  pub call : ℕ → Option Call
+  -- how many calls were made
+  pub made : ℕ
+  pub notice : ℕ → Option NoticeStage
+
+abbrev pub number_in : Option Thread → Option ℕ
+number_in None = None
+number_in (Some x) = Some x.number
+
+abbrev pub notice_in : Option Notice → Option NoticeStage
+notice_in None = None
+notice_in (Some n) = Some n.stage
+
+abbrev pub core : State → Core
+core m =
+    record {
+      role = λ t. state_of m t;
+      serves = λ t. invocation_of m t;
+      process = λ t. process_of m t;
+      number = λ t. number_in (thread_of m t);
+      bound = λ t. bound_of m t;
+      door = λ d. door_of m d;
+      proc = λ p. numbered m.processes p;
+      call = λ c. record_of m c;
+      made = m.calls_made;
+      notice = λ n. notice_in (numbered m.notices n);
+    }
+
+-- of a call's record, if there is one
+
+abbrev pub caller_in : Option Call → ℕ
+caller_in None = 0
+caller_in (Some r) = r.caller.0
+
+abbrev pub door_in : Option Call → ℕ
+door_in None = 0
+door_in (Some r) = r.door
+
+abbrev pub abandoned_in : Option Call → Bool
+abandoned_in None = false
+abandoned_in (Some r) = r.abandoned
+
+-- neither answered nor left by a caller that ended
+abbrev pub live_in : Option Call → Bool
+live_in None = false
+live_in (Some r) = is_live r.stage
+
+-- the stages before a call is returned or ends
+abbrev pub is_underway : CallStage → Bool
+is_underway stage.Queued = true
+is_underway (stage.Given u) = true
+is_underway (stage.Entered u) = true
+is_underway _ = false
+
+abbrev pub underway_in : Option Call → Bool
+underway_in None = false
+underway_in (Some r) = is_underway r.stage
+
+-- the stages in which a call has its arguments
+abbrev pub has_arguments : CallStage → Bool
+has_arguments stage.Queued = true
+has_arguments (stage.Given u) = true
+has_arguments _ = false
+
+-- the states of a thread that has no invocation
+abbrev pub is_outside : ThreadState → Bool
+is_outside is.Dormant = true
+is_outside (is.Idle since) = true
+is_outside (is.Given item) = true
+is_outside is.FailedReturn = true
+is_outside is.Done = true
+is_outside _ = false
+
+-- of a process
+abbrev pub is_ended_stage : ProcessStage → Bool
+is_ended_stage Live = false
+is_ended_stage Ended = true
+
+abbrev pub ended_in : Option Process → Bool
+ended_in None = false
+ended_in (Some p) = is_ended_stage p.stage
+
+-- of a door
+abbrev pub private_in : Option Door → Bool
+private_in None = false
+private_in (Some d) = is_private d.attrs
+
+abbrev pub valid_in : Core → Option Door → Bool
+valid_in k None = false
+valid_in k (Some d) = not d.revoked && lives_in (k.proc d.owner.0)
+
+-- the process that made the door of a call
+abbrev pub owner_at : Core → ℕ → Option ℕ
+owner_at k c = owner_in (k.door (door_in (k.call c)))

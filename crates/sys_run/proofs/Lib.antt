@@ -1,0 +1,10 @@
+pub mod Commands
+pub mod Places
+pub mod Standing
+pub mod Journals
+pub mod Finishing
+pub mod Turning
+pub mod Machines
+pub mod Turns
+pub mod Systems
+pub mod Looks

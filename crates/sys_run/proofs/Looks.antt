@@ -1,0 +1,96 @@
+-- What the kernel's threads say of the run.
+use Rattle.std.proofs.Common.{◌≡◌, ℕ, ◌≤◌, ◌<◌, List, [], ◌∷◌, length, Option, Some, None, Bool, true, false, refl, ap, sym, ◌∙◌}
+use Rattle.std.specs.Prelude.{nat_lt, nat_le, is_none, option_map, not, ◌||◌, if◌then◌else◌}
+use Rattle.std.proofs.lemmas.Bool.{lt-ltb, le-ltb}
+use Rattle.dk_base.specs.declared.number.Tid.{Tid}
+use Rattle.written_kernel.specs.State.{State}
+use Rattle.written_kernel.specs.Kept.{StandsFor}
+use Rattle.written_kernel.specs.Turns.{least_runnable, waiting_threads}
+use Rattle.written_script.specs.declared.ending.Ending.TheVariants.{Complete, Stalled, Budget}
+use Rattle.written_script.specs.Endings.{ending_of, ending_with, ending_waiting}
+use Rattle.written_script.specs.ScriptRuns.{opening_of, turns_of, threads_of, is_over}
+use Rattle.written_script.proofs.Histories.{IsOpening-opening_of}
+use Rattle.kernel_laws.specs.Laws.{Laws}
+use Rattle.written_kernel.specs.Opening.{IsOpening}
+use Rattle.written_kernel.specs.Runs.{Turn, IsRun}
+use Rattle.sys_run.specs.Sys.{Played, history, state_of_run, next_turn, LawsOf, IsJournal}
+use Rattle.sys_run.specs.Threads.{is_any, number_of}
+use Rattle.sys_run.proofs.Journals.{length-history, le-not_lt}
+use Rattle.sys_run.proofs.Systems.{least_runnable-kept, waiting_threads-kept}
+
+pub ending-budget :
+    (kept m : State) (t : ℕ) → StandsFor kept m → Some t ≡ least_runnable kept → Budget ≡ ending_of m
+ending-budget kept m t stands e =
+    let least : least_runnable m ≡ Some t = sym (e ∙ least_runnable-kept kept m stands)
+    in sym (ap (λ o. ending_with o (waiting_threads m)) least)
+
+waiting-some : (ts : List Tid) → true ≡ is_any ts → Stalled ≡ ending_waiting ts
+waiting-some [] h = cc
+waiting-some (t ∷ ts) h = refl
+
+waiting-none : (ts : List Tid) → false ≡ is_any ts → Complete ≡ ending_waiting ts
+waiting-none [] h = refl
+waiting-none (t ∷ ts) h = cc
+
+none-runnable : (kept m : State) → StandsFor kept m → None ≡ least_runnable kept → ending_of m ≡ ending_waiting (waiting_threads m)
+none-runnable kept m stands e =
+    let least : least_runnable m ≡ None = sym (e ∙ least_runnable-kept kept m stands)
+    in ap (λ o. ending_with o (waiting_threads m)) least
+
+pub ending-stalled :
+    (kept m : State) → StandsFor kept m → None ≡ least_runnable kept → true ≡ is_any (waiting_threads kept) → Stalled ≡ ending_of m
+ending-stalled kept m stands e any =
+    waiting-some (waiting_threads m) (any ∙ ap is_any (waiting_threads-kept kept m stands))
+    ∙ sym (none-runnable kept m stands e)
+
+pub ending-complete :
+    (kept m : State) → StandsFor kept m → None ≡ least_runnable kept → false ≡ is_any (waiting_threads kept) → Complete ≡ ending_of m
+ending-complete kept m stands e any =
+    waiting-none (waiting_threads m) (any ∙ ap is_any (waiting_threads-kept kept m stands))
+    ∙ sym (none-runnable kept m stands e)
+
+-- the thread of the next turn
+pub next_turn-kept :
+    (p : Played) (kept : State) (o : Option ℕ) → StandsFor kept (state_of_run p) → length p.journal < p.script.budget →
+    o ≡ least_runnable kept → o ≡ next_turn p
+next_turn-kept p kept o stands left e =
+    let test : nat_lt (length p.journal) p.script.budget ≡ true = lt-ltb (length p.journal) p.script.budget left
+    in rw test (e ∙ least_runnable-kept kept (state_of_run p) stands)
+
+pub next_turn-used : (p : Played) → p.script.budget ≤ length p.journal → None ≡ next_turn p
+next_turn-used p used =
+    let test : nat_lt (length p.journal) p.script.budget ≡ false = le-ltb (length p.journal) p.script.budget used in rw test refl
+
+-- the laws of every run, as they are told
+abbrev pub EveryRun : Type 0
+EveryRun = (m : State) (xs : List Turn) → IsOpening m → IsRun m xs → Laws m xs
+
+-- the laws hold of the journal's run
+pub laws-journal : (p : Played) → EveryRun → IsJournal p → LawsOf p
+laws-journal p every is =
+    every (opening_of p.script) (turns_of p.script (threads_of p.journal)) (IsOpening-opening_of p.script) is.run
+
+if_over : (a b : Bool) (o : Option ℕ) → b ≡ not a → is_none (if a then o else None) ≡ (is_none o || b)
+if_over true b None h = refl
+if_over true b (Some t) h = sym h
+if_over false b None h = refl
+if_over false b (Some t) h = sym h
+
+-- the run is over where no thread takes the next turn
+pub over-next : (p : Played) → is_none (next_turn p) ≡ is_over p.script (history p)
+over-next p =
+    let count : length (history p).events ≡ length p.journal = length-history p
+    in let tests : nat_le p.script.budget (length (history p).events) ≡ not (nat_lt (length p.journal) p.script.budget) =
+    rw count (le-not_lt p.script.budget (length p.journal))
+    in if_over
+    (nat_lt (length p.journal) p.script.budget)
+    (nat_le p.script.budget (length (history p).events))
+    (least_runnable (state_of_run p))
+    tests
+
+is_none-map : (o : Option Tid) → is_none o ≡ is_none (option_map number_of o)
+is_none-map None = refl
+is_none-map (Some t) = refl
+
+pub is_none-next : (p : Played) (o : Option Tid) → option_map number_of o ≡ next_turn p → is_none o ≡ is_over p.script (history p)
+is_none-next p o h = is_none-map o ∙ ap is_none h ∙ over-next p

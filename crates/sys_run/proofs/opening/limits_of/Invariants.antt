@@ -1,0 +1,7 @@
+use Rattle.std.proofs.Common.{◌≡◌, take}
+use Rattle.std.specs.Prelude.{map}
+use Rattle.written_script.specs.ScriptRuns.{limit_of}
+use Rattle.sys_run.proofs.opening.limits_of.Given as goal
+
+abbrev pub invariant-loop-process : goal.invariant-loop-process
+invariant-loop-process l = l.limits ≡ map limit_of (take l.process-index l.processes)

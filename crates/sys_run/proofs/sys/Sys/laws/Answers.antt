@@ -1,0 +1,8 @@
+use Rattle.sys_run.proofs.Looks.{laws-journal}
+use Rattle.sys_run.proofs.sys.Sys.laws.Goals as goal
+
+pub returns-clause-laws : goal.returns-clause-laws
+returns-clause-laws c = rw (← c.self.view_is) (laws-journal _ c.every_run.ensures c.self.invariant.journal_is_run)
+
+pub returns-clause-small : goal.returns-clause-small
+returns-clause-small c = rw (← c.self.view_is) c.self.invariant.journal_is_run.script.small_budget

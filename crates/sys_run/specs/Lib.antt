@@ -1,0 +1,4 @@
+pub mod Machine
+pub mod Held
+pub mod Sys
+pub mod Threads

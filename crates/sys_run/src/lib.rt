@@ -1,0 +1,9 @@
+//! A script, the kernel and the journal of its events.
+#![tactic(auto)]
+
+pub mod machine;
+mod opening;
+pub mod sys;
+mod threads;
+mod turn;
+mod what;

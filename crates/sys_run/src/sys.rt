@@ -1,0 +1,190 @@
+ghost use Rattle.std.specs.Prelude.{◌≡◌, ℕ, ◌+◌, ◌<◌, ◌≤◌, ◌∷◌, ◌++◌, [], length, slice_get, Some, IfOk, option_map, OnOk, OnErr, take, true};
+ghost use Rattle.written_kernel.specs.Turns.{runnable, waiting_threads};
+ghost use Rattle.written_script.specs.IsScript.{IsScript};
+ghost use Rattle.written_script.specs.ScriptRuns.{is_over};
+ghost use Rattle.written_script.specs.Endings.{ending_of};
+ghost use Rattle.sys_run.specs.Sys.{played, history, state_of_run, with_turn, with_turns, turns_left, next_turn, woken_by, LawsOf, IsJournal};
+ghost use Rattle.sys_run.specs.Threads.{number_of};
+
+use crate::machine::Machine;
+use crate::opening::{first_machines, open};
+use crate::threads::{all_waiting, first_runnable, is_any_waiting};
+use crate::turn::take_turn;
+use dk_base::error::NoMemory;
+use dk_base::event::Event;
+use dk_base::list::TidList;
+use dk_base::number::Tid;
+use kernel_core::kernel::Kernel;
+use kernel_laws::every_run;
+use std::alloc::Global;
+use std::marker::Model;
+use written_script::ending::Ending;
+use written_script::script::Script;
+
+/// A script, the kernel, and the journal of the events so far. The journal is a run of the script from its opening
+/// state, in which its threads took turns, and kernel and machines stand after it.
+#[derive(Drop)]
+pub struct Sys {
+    alloc: Global,
+    script: Script,
+    kernel: Kernel,
+    machines: Vec<Machine>,
+    journal: Vec<Event>,
+}
+
+impl Model for Sys {
+    ghost use Rattle.sys_run.specs.Sys.{Played, IsSys};
+
+    ghost Value = { Played };
+
+    ghost view = { λ s. record { script = s.script; journal = s.journal.items } };
+
+    ghost invariant = { λ s. IsSys s.script s.journal.items s.kernel s.machines.items };
+}
+
+impl Sys {
+    /// No event yet.
+    pub fn new(alloc: Global, script: Script) -> Result<Self, NoMemory>
+        requires { IsScript script }
+        ensures { IfOk result (λ sys. sys ≡ played script []) }
+    {
+        let kernel = open(alloc, &script)?;
+        let machines = first_machines(alloc, script.threads.len())?;
+        Ok(Sys {
+            alloc,
+            script,
+            kernel,
+            machines,
+            journal: Vec::new(alloc),
+        })
+    }
+
+    /// One turn of a thread: exactly its event is appended. Answers, in order, the threads that were not runnable before
+    /// and are now. Want of memory leaves all as it was.
+    pub fn step(&mut self, t: Tid) -> Result<TidList, NoMemory>
+        requires can { runnable (state_of_run self.old) t.0 ≡ true }
+        requires left { length self.old.journal < self.old.script.budget }
+        ensures event { OnOk result (self.new ≡ with_turn self.old t.0) }
+        ensures woken { IfOk result (λ woken. woken ≡ woken_by self.old t.0) }
+        ensures laws { OnOk result (LawsOf self.new) }
+        ensures err { OnErr result (self.new ≡ self.old) }
+    {
+        let machine = &mut self.machines[t.0 as usize - 1];
+        let woken = take_turn(
+            self.alloc,
+            &self.script,
+            &mut self.kernel,
+            machine,
+            &mut self.journal,
+            t,
+        )?;
+        every_run();
+        Ok(woken)
+    }
+
+    /// The least runnable thread takes a turn, again and again, until the run is over. Answers how many turns were taken.
+    /// After want of memory the turns so far stand.
+    pub fn finish(&mut self) -> Result<u64, NoMemory>
+        ensures turns { OnOk result (self.new ≡ with_turns self.old (turns_left self.old)) }
+        ensures count { IfOk result (λ n. n ≡ length (turns_left self.old)) }
+        ensures laws { LawsOf self.new }
+        ensures err { OnErr result ((k : ℕ) × (self.new ≡ with_turns self.old (take k (turns_left self.old)))) }
+    {
+        self.laws();
+        let mut turns = 0;
+        while let Some(t) = self.next_thread() {
+            self.laws();
+            self.step(t)?;
+            turns += 1;
+        }
+        self.laws();
+        Ok(turns)
+    }
+
+    // The laws hold of the journal's run.
+    fn laws(&self)
+        ensures laws { LawsOf self.now }
+        ensures small { self.now.script.budget ≤ 100000 }
+    {
+        let _journal = &self.journal;
+        every_run();
+    }
+
+    // The thread that `finish` lets take the next turn.
+    fn next_thread(&self) -> Option<Tid>
+        ensures { option_map number_of result ≡ next_turn self.now }
+    {
+        if self.journal.len() < self.script.budget as usize {
+            first_runnable(&self.kernel)
+        } else {
+            None
+        }
+    }
+
+    /// Whether a thread can take a turn; false for a thread that the script does not declare.
+    pub fn runnable(&self, t: Tid) -> bool
+        ensures { result ≡ runnable (state_of_run self.now) t.0 }
+    {
+        self.kernel.runnable(t)
+    }
+
+    /// No thread is runnable, or the budget is used up.
+    pub fn over(&self) -> bool
+        ensures { result ≡ is_over self.now.script (history self.now) }
+    {
+        match self.next_thread() {
+            Some(_) => false,
+            None => true,
+        }
+    }
+
+    /// How the run stands, by its last state.
+    pub fn ending(&self) -> Ending
+        ensures { result ≡ ending_of (state_of_run self.now) }
+    {
+        match first_runnable(&self.kernel) {
+            Some(_) => Ending::Budget,
+            None if is_any_waiting(&self.kernel) => Ending::Stalled,
+            None => Ending::Complete,
+        }
+    }
+
+    pub fn script(&self) -> &Script
+        ensures { result.now ≡ self.now.script }
+    {
+        &self.script
+    }
+
+    /// How many events there were.
+    pub fn events(&self) -> u32
+        ensures count { result ≡ length self.now.journal }
+        ensures run { IsJournal self.now }
+    {
+        self.journal.len() as u32
+    }
+
+    /// The event of a place, counted from 0.
+    pub fn event(&self, i: u32) -> &Event
+        requires { i < length self.now.journal }
+        ensures { slice_get self.now.journal i ≡ Some result.now }
+    {
+        &self.journal[i as usize]
+    }
+
+    /// All events, in order.
+    pub fn journal(&self) -> &[Event]
+        ensures events { result.now ≡ self.now.journal }
+        ensures run { result.now ≡ (history self.now).events }
+        ensures laws { LawsOf self.now }
+    {
+        every_run();
+        self.journal.as_slice()
+    }
+
+    /// The threads that are Calling, Getting or Awaiting, in order.
+    pub fn waiting(&self) -> Result<TidList, NoMemory>
+        ensures { IfOk result (λ waiting. waiting ≡ waiting_threads (state_of_run self.now)) }
+    {
+        all_waiting(self.alloc, &self.kernel)
+    }
+}

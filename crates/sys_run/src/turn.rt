@@ -1,0 +1,154 @@
+//! One turn of a thread: its request or the end of its wait, the kernel's step, and the event.
+ghost use Rattle.std.specs.Prelude.{◌≡◌, ◌+◌, ◌<◌, ◌≤◌, ◌∷◌, ◌++◌, [], length, IfOk, OnOk, OnErr, true, vec_len, vec_capacity};
+ghost use Rattle.written_kernel.specs.Kept.{StandsFor};
+ghost use Rattle.written_kernel.specs.Legal.{MayTurn};
+ghost use Rattle.written_kernel.specs.Turns.{runnable};
+ghost use Rattle.written_kernel.specs.State.{State};
+ghost use Rattle.written_kernel.specs.Kept.{IsStep};
+ghost use Rattle.written_kernel.specs.Step.{step, what_of, event_of};
+ghost use Rattle.written_script.specs.ScriptRuns.{asked};
+ghost use Rattle.sys_run.specs.Machine.{Stands};
+ghost use Rattle.sys_run.specs.Sys.{played, history, state_of_run, with_turn, woken_by, IsJournal};
+
+use crate::machine::Machine;
+use crate::what;
+use dk_base::error::NoMemory;
+use dk_base::event::{Event, Stepped, What};
+use dk_base::list::TidList;
+use dk_base::number::Tid;
+use dk_base::request::Request;
+use kernel_core::kernel::Kernel;
+use std::alloc::Global;
+use written_script::script::Script;
+
+/// What a thread asks for at its turn: its next request where it runs, and nothing where its wait ends.
+fn ask(
+    alloc: Global,
+    script: &Script,
+    kernel: &Kernel,
+    machine: &Machine,
+    journal: &[Event],
+    t: Tid,
+) -> Result<Option<Request>, NoMemory>
+    requires kernel { StandsFor kernel.now (state_of_run (played script.now journal.now)) }
+    requires events { journal.now ≡ (history (played script.now journal.now)).events }
+    requires machine { Stands script.now t.0 journal.now machine.now.began machine.now.ended.items }
+    ensures { IfOk result (λ r. r ≡ asked script.now (history (played script.now journal.now)) t.0) }
+{
+    if kernel.is_running(t) {
+        let request = machine.next(alloc, script, t, journal)?;
+        Ok(Some(request))
+    } else {
+        Ok(None)
+    }
+}
+
+/// The entry or the end of a wait that a turn is.
+fn what_of(kernel: &Kernel, t: Tid, request: &Option<Request>) -> What
+    ensures { (m : State) → StandsFor kernel.now m → result ≡ what_of m t.0 request.now }
+{
+    match request {
+        Some(request) => what::entered(request),
+        None => what::ended(kernel.state(t)),
+    }
+}
+
+/// The kernel's step for a turn. Want of memory leaves the kernel as it was.
+fn step(kernel: &mut Kernel, t: Tid, request: Option<Request>) -> Result<Stepped, NoMemory>
+    requires { (m : State) × StandsFor kernel.old m × MayTurn m t.0 request }
+    ensures step { IfOk result (λ s. (m : State) → StandsFor kernel.old m → IsStep (step m t.0 request) kernel.new s) }
+    ensures err { OnErr result (kernel.new ≡ kernel.old) }
+{
+    match request {
+        Some(request) => kernel.enter(t, request),
+        None => kernel.go_on(t),
+    }
+}
+
+// One turn of a thread, where there is room for its event.
+fn turn(
+    alloc: Global,
+    script: &Script,
+    kernel: &mut Kernel,
+    machine: &mut Machine,
+    journal: &mut Vec<Event>,
+    t: Tid,
+) -> Result<TidList, NoMemory>
+    requires room { vec_len journal.old < vec_capacity journal.old }
+    requires machine_room { 0 < machine.old.ended.spare }
+    requires run { IsJournal (played script.now journal.old.items) }
+    requires kernel { StandsFor kernel.old (state_of_run (played script.now journal.old.items)) }
+    requires machine { Stands script.now t.0 journal.old.items machine.old.began machine.old.ended.items }
+    requires can { runnable (state_of_run (played script.now journal.old.items)) t.0 ≡ true }
+    requires left { length journal.old.items < script.now.budget }
+    ensures journal { OnOk result (played script.now journal.new.items ≡ with_turn (played script.now journal.old.items) t.0) }
+    ensures kernel { OnOk result (StandsFor kernel.new (state_of_run (with_turn (played script.now journal.old.items) t.0))) }
+    ensures machine { OnOk result (Stands script.now t.0 journal.new.items machine.new.began machine.new.ended.items) }
+    ensures woken { IfOk result (λ woken. woken ≡ woken_by (played script.now journal.old.items) t.0) }
+    ensures journal_err { OnErr result (journal.new.items ≡ journal.old.items) }
+    ensures kernel_err { OnErr result (kernel.new ≡ kernel.old) }
+    ensures machine_err { OnErr result (machine.new ≡ machine.old) }
+{
+    let request = ask(alloc, script, kernel, machine, journal.as_slice(), t)?;
+    let what = what_of(kernel, t, &request);
+    let root = kernel.root(t);
+    let stepped = step(kernel, t, request)?;
+    machine.take(script, t, journal.as_slice(), &stepped.answer);
+    Ok(appended(journal, t, root, what, stepped))
+}
+
+// Appends the event of a step, and answers the threads that it woke.
+fn appended(journal: &mut Vec<Event>, t: Tid, root: Tid, what: What, stepped: Stepped) -> TidList
+    requires room { vec_len journal.old < vec_capacity journal.old }
+    requires few { length journal.old.items < 1000000 }
+    ensures journal { journal.new.items ≡ journal.old.items ++ record { number = length journal.old.items + 1; thread = t; root = root; what = what; answer = stepped.answer } ∷ [] }
+    ensures woken { result ≡ stepped.woken }
+{
+    let Stepped { answer, woken } = stepped;
+    let _ = journal.push(Event {
+        number: journal.len() as u32 + 1,
+        thread: t,
+        root,
+        what,
+        answer,
+    });
+    woken
+}
+
+/// One turn of a thread. Exactly its event is appended; answers the threads that it wakes. Want of memory leaves the
+/// kernel and the journal as they were, and the machine where it stood.
+pub(crate) fn take_turn(
+    alloc: Global,
+    script: &Script,
+    kernel: &mut Kernel,
+    machine: &mut Machine,
+    journal: &mut Vec<Event>,
+    t: Tid,
+) -> Result<TidList, NoMemory>
+    requires run { IsJournal (played script.now journal.old.items) }
+    requires kernel { StandsFor kernel.old (state_of_run (played script.now journal.old.items)) }
+    requires machine { Stands script.now t.0 journal.old.items machine.old.began machine.old.ended.items }
+    requires can { runnable (state_of_run (played script.now journal.old.items)) t.0 ≡ true }
+    requires left { length journal.old.items < script.now.budget }
+    ensures journal { OnOk result (played script.now journal.new.items ≡ with_turn (played script.now journal.old.items) t.0) }
+    ensures kernel { OnOk result (StandsFor kernel.new (state_of_run (with_turn (played script.now journal.old.items) t.0))) }
+    ensures machine { OnOk result (Stands script.now t.0 journal.new.items machine.new.began machine.new.ended.items) }
+    ensures woken { IfOk result (λ woken. woken ≡ woken_by (played script.now journal.old.items) t.0) }
+    ensures journal_err { OnErr result (journal.new.items ≡ journal.old.items) }
+    ensures kernel_err { OnErr result (kernel.new ≡ kernel.old) }
+    ensures machine_err { OnErr result ((machine.new.began ≡ machine.old.began) × (machine.new.ended.items ≡ machine.old.ended.items)) }
+{
+    machine.make_room()?;
+    make_room(journal)?;
+    turn(alloc, script, kernel, machine, journal, t)
+}
+
+fn make_room(journal: &mut Vec<Event>) -> Result<(), NoMemory>
+    ensures items { journal.new.items ≡ journal.old.items }
+    ensures room { OnOk result (vec_len journal.new < vec_capacity journal.new) }
+{
+    match journal.reserve(1) {
+        Ok(()) => Ok(()),
+        Err(_) => Err(NoMemory),
+    }
+}

@@ -1,0 +1,59 @@
+//! Which entry, or which end of a wait, an event is.
+ghost use Rattle.std.specs.Prelude.{◌≡◌};
+ghost use Rattle.written_kernel.specs.Step.{what_entered, what_ended};
+
+use dk_base::event::What;
+use dk_base::record::ThreadState;
+use dk_base::request::Request;
+
+pub(crate) fn entered(request: &Request) -> What
+    ensures { result ≡ what_entered request.now }
+{
+    match request {
+        Request::Create { .. } => What::Create,
+        Request::Call { .. } => What::Call,
+        Request::Return { .. } => What::Return,
+        Request::Revoke { .. } => What::Revoke,
+        Request::Bind { .. } => What::Bind,
+        Request::Unbind => What::Unbind,
+        Request::Info { .. } | Request::InfoQuery => What::Info,
+        Request::GetParam { .. } => What::GetParam,
+        Request::SetParam { .. } => What::SetParam,
+        Request::Cred => What::Cred,
+        Request::TestCancel => What::TestCancel,
+        Request::Close { .. } => What::Close,
+        Request::Dup { .. } => What::Dup,
+        Request::Attach { .. } => What::Attach,
+        Request::Detach { .. } => What::Detach,
+        Request::Open { .. } => What::Open,
+        Request::Await { .. } => What::Await,
+        Request::Pipe => What::Pipe,
+        Request::Write { .. } => What::Write,
+        Request::Read { .. } => What::Read,
+        Request::PortCreate => What::PortCreate,
+        Request::Associate { .. } => What::Associate,
+        Request::Dissociate { .. } => What::Dissociate,
+        Request::Get { .. } => What::Get,
+        Request::GetN { .. } => What::GetN,
+        Request::Send { .. } => What::Send,
+        Request::SendN { .. } => What::SendN,
+        Request::Alert { .. } => What::Alert,
+        Request::Interrupt { .. } => What::Interrupt,
+        Request::Kill { .. } => What::Kill,
+        Request::Exit => What::Exit,
+        Request::Work { .. } => What::Work,
+    }
+}
+
+pub(crate) fn ended(state: &ThreadState) -> What
+    ensures { result ≡ what_ended state.now }
+{
+    match state {
+        ThreadState::Given { .. } => What::Accept,
+        ThreadState::Calling { .. } => What::Collect,
+        ThreadState::Getting { .. } => What::Got,
+        ThreadState::Awaiting { .. } => What::Found,
+        ThreadState::Working { .. } => What::Done,
+        _ => What::Woken,
+    }
+}

@@ -1,0 +1,17 @@
+pub mod Numbered
+pub mod State
+pub mod References
+pub mod Pools
+pub mod Walks
+pub mod Turns
+pub mod Acts
+pub mod Answers
+pub mod Doors
+pub mod Descriptors
+pub mod Leaving
+pub mod Settle
+pub mod Step
+pub mod Kept
+pub mod Opening
+pub mod Legal
+pub mod Runs

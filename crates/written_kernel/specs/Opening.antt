@@ -1,0 +1,64 @@
+-- The opening state: processes, and threads that run or are dormant.
+use Rattle.std.specs.Prelude.{ℕ, ◌+◌, ◌++◌, List, [], ◌∷◌, Option, Bool, if◌then◌else◌, None, length, replicate}
+use Rattle.dk_base.specs.declared.object.Obj.{Obj}
+use Rattle.dk_base.specs.declared.record.Process.{Process}
+use Rattle.dk_base.specs.declared.record.ProcessStage.TheVariants.{Live}
+use Rattle.dk_base.specs.declared.record.Thread.{Thread}
+use Rattle.dk_base.specs.declared.record.ThreadState.{ThreadState}
+use Rattle.dk_base.specs.declared.record.ThreadState.TheVariants as is
+use Rattle.written_kernel.specs.State.{State, pid}
+
+abbrev pub new_process : ℕ → ℕ → Process
+new_process n limit = record { number = n; made = 0; limit = limit; stage = Live }
+
+-- a table with a place for each descriptor that the process may have
+abbrev pub empty_table : ℕ → List (Option Obj)
+empty_table limit = replicate limit None
+
+abbrev pub no_process : State
+no_process =
+    record {
+      processes = [];
+      threads = [];
+      bound = [];
+      tables = [];
+      names = [];
+      doors = [];
+      calls_made = 0;
+      calls = [];
+      notices_made = 0;
+      notices = [];
+      events = 0;
+    }
+
+abbrev pub with_new_process : State → ℕ → State
+with_new_process m limit =
+    record m {
+      processes = m.processes ++ new_process (length m.processes + 1) limit ∷ [];
+      tables = m.tables ++ empty_table limit ∷ [];
+    }
+
+abbrev pub with_processes : State → List ℕ → State
+with_processes m [] = m
+with_processes m (limit ∷ limits) = with_processes (with_new_process m limit) limits
+
+-- processes with these limits, and nothing else
+abbrev pub opening : List ℕ → State
+opening limits = with_processes no_process limits
+
+abbrev pub opening_state : Bool → ThreadState
+opening_state spare = if spare then is.Dormant else is.Running
+
+abbrev pub new_thread : ℕ → ℕ → Bool → Thread
+new_thread n p spare =
+    record { number = n; made = 0; process = pid p; invocation = None; state = opening_state spare }
+
+-- one thread more
+abbrev pub with_new_thread : State → ℕ → Bool → State
+with_new_thread m p spare =
+    record m { threads = m.threads ++ new_thread (length m.threads + 1) p spare ∷ []; bound = m.bound ++ None ∷ [] }
+
+-- the states in which a run may begin
+pub data IsOpening : State → Type 0 where
+  processes : (limits : List ℕ) → IsOpening (opening limits)
+  thread : {m : State} (p : ℕ) (spare : Bool) → IsOpening m → IsOpening (with_new_thread m p spare)

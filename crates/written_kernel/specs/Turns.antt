@@ -1,0 +1,79 @@
+-- Which threads can take a turn.
+use Rattle.std.specs.Prelude.{ℕ, List, [], ◌∷◌, ◌++◌, Option, Bool, true, false, ◌&&◌, not, is_some, if◌then◌else◌, Some, None, zero, suc, length}
+use Rattle.dk_base.specs.declared.number.Tid.{Tid}
+use Rattle.dk_base.specs.declared.record.ThreadState.{ThreadState}
+use Rattle.dk_base.specs.declared.record.ThreadState.TheVariants as is
+use Rattle.dk_base.specs.declared.record.Call.{Call}
+use Rattle.dk_base.specs.declared.record.CallStage.{CallStage}
+use Rattle.dk_base.specs.declared.record.CallStage.TheVariants as stage
+use Rattle.written_kernel.specs.State.{State, tid, state_of, call_of, name_of}
+
+abbrev pub is_to_collect : CallStage → Bool
+is_to_collect (stage.Returned bytes objects) = true
+is_to_collect (stage.Ended e) = true
+is_to_collect _ = false
+
+abbrev pub has_answer : Option Call → Bool
+has_answer None = false
+has_answer (Some r) = is_to_collect r.stage
+
+-- a thread that waits is runnable where its wait can end. What a port has comes with the ports.
+abbrev pub can_go_on : State → ThreadState → Bool
+can_go_on m is.Dormant = false
+can_go_on m is.Running = true
+can_go_on m (is.Idle since) = false
+can_go_on m (is.Given item) = true
+can_go_on m (is.Calling c) = has_answer (call_of m c)
+can_go_on m (is.Getting port max nget one interrupted) = interrupted
+can_go_on m (is.Awaiting path) = is_some (name_of m path)
+can_go_on m (is.Working op input) = true
+can_go_on m is.FailedReturn = true
+can_go_on m is.Done = false
+
+abbrev pub runnable : State → ℕ → Bool
+runnable m t = can_go_on m (state_of m t)
+
+abbrev pub is_running_state : ThreadState → Bool
+is_running_state is.Running = true
+is_running_state _ = false
+
+abbrev pub is_running : State → ℕ → Bool
+is_running m t = is_running_state (state_of m t)
+
+-- the earlier answer, or else this thread if it can take a turn
+abbrev pub least_or : Option ℕ → Bool → ℕ → Option ℕ
+least_or (Some t) here n = Some t
+least_or None true n = Some n
+least_or None false n = None
+
+-- the least runnable of the threads 1 to n
+abbrev pub least_among : State → ℕ → Option ℕ
+least_among m zero = None
+least_among m (suc n) = least_or (least_among m n) (runnable m (suc n)) (suc n)
+
+abbrev pub least_runnable : State → Option ℕ
+least_runnable m = least_among m (length m.threads)
+
+-- the threads 1 to n that were not runnable and are, in order
+abbrev pub woken_among : State → State → ℕ → List Tid
+woken_among before after zero = []
+woken_among before after (suc n) =
+    woken_among before after n ++ (if not (runnable before (suc n)) && runnable after (suc n) then tid (suc n) ∷ [] else [])
+
+abbrev pub woken : State → State → List Tid
+woken before after = woken_among before after (length after.threads)
+
+-- Calling, Getting or Awaiting: what a stalled run tells of
+abbrev pub is_waiting_state : ThreadState → Bool
+is_waiting_state (is.Calling c) = true
+is_waiting_state (is.Getting port max nget one interrupted) = true
+is_waiting_state (is.Awaiting path) = true
+is_waiting_state _ = false
+
+abbrev pub waiting_among : State → ℕ → List Tid
+waiting_among m zero = []
+waiting_among m (suc n) = waiting_among m n ++ (if is_waiting_state (state_of m (suc n)) then tid (suc n) ∷ [] else [])
+
+-- the threads that are Calling, Getting or Awaiting, in order
+abbrev pub waiting_threads : State → List Tid
+waiting_threads m = waiting_among m (length m.threads)

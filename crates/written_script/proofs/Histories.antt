@@ -1,0 +1,106 @@
+-- Runs of a script, one turn more at the end.
+use Rattle.std.proofs.Common.{◌≡◌, ℕ, ◌+◌, List, [], ◌∷◌, ◌++◌, length, true, false, arith, refl, ap, suc}
+use Rattle.std.specs.Prelude.{map}
+use Rattle.dk_base.specs.declared.event.Event.{Event}
+use Rattle.written_kernel.specs.State.{State}
+use Rattle.written_kernel.specs.Turns.{runnable}
+use Rattle.written_kernel.specs.Opening.{IsOpening}
+use Rattle.written_kernel.specs.Opening.IsOpening.{processes, thread}
+use Rattle.written_kernel.proofs.Steps.{events-step}
+use Rattle.written_kernel.proofs.Opening.{opened}
+use Rattle.written_kernel.specs.Runs.{Turn, state_after}
+use Rattle.written_script.specs.declared.script.ScriptThread.{ScriptThread}
+use Rattle.written_script.specs.declared.script.Script.{Script}
+use Rattle.written_script.specs.Requests.{Frame, frame_from, frame_after, frame_of, first_frame}
+use Rattle.written_script.specs.ScriptRuns.{History, beginning, asked, turn, run, run_from, AreRunnableFrom, turns_from, turns_of, threads_of, opening_of, with_script_threads, limit_of, thread_number}
+
+pub run_from-append :
+    (script : Script) (ts : List ℕ) (h : History) (t : ℕ) →
+    run_from script h (ts ++ t ∷ []) ≡ turn script (run_from script h ts) t
+run_from-append script [] h t = refl
+run_from-append script (u ∷ us) h t = run_from-append script us (turn script h u) t
+
+pub run-append : (script : Script) (ts : List ℕ) (t : ℕ) → run script (ts ++ t ∷ []) ≡ turn script (run script ts) t
+unfolding run
+run-append script ts t = run_from-append script ts (beginning script) t
+
+abbrev pub turn_at : Script → History → ℕ → Turn
+turn_at script h t = record { thread = t; request = asked script h t }
+
+pub turns_from-append :
+    (script : Script) (ts : List ℕ) (h : History) (t : ℕ) →
+    turns_from script h (ts ++ t ∷ []) ≡ turns_from script h ts ++ turn_at script (run_from script h ts) t ∷ []
+turns_from-append script [] h t = refl
+turns_from-append script (u ∷ us) h t = ap (λ xs. turn_at script h u ∷ xs) (turns_from-append script us (turn script h u) t)
+
+pub turns_of-append :
+    (script : Script) (ts : List ℕ) (t : ℕ) →
+    turns_of script (ts ++ t ∷ []) ≡ turns_of script ts ++ turn_at script (run script ts) t ∷ []
+unfolding run
+turns_of-append script ts t = turns_from-append script ts (beginning script) t
+
+pub state_after-turns_from :
+    (script : Script) (ts : List ℕ) (h : History) →
+    state_after h.state (turns_from script h ts) ≡ (run_from script h ts).state
+state_after-turns_from script [] h = refl
+state_after-turns_from script (u ∷ us) h = state_after-turns_from script us (turn script h u)
+
+pub state_after-turns_of :
+    (script : Script) (ts : List ℕ) → state_after (opening_of script) (turns_of script ts) ≡ (run script ts).state
+unfolding run
+state_after-turns_of script ts = state_after-turns_from script ts (beginning script)
+
+pub AreRunnableFrom-append :
+    (script : Script) (ts : List ℕ) (h : History) (t : ℕ) →
+    AreRunnableFrom script h ts → runnable (run_from script h ts).state t ≡ true → AreRunnableFrom script h (ts ++ t ∷ [])
+AreRunnableFrom-append script [] h t all here = (here, tt)
+AreRunnableFrom-append script (u ∷ us) h t all here =
+    (all.0, AreRunnableFrom-append script us (turn script h u) t all.1 here)
+
+IsOpening-with_script_threads :
+    (xs : List ScriptThread) (m : State) → IsOpening m → IsOpening (with_script_threads m xs)
+IsOpening-with_script_threads [] m h = h
+IsOpening-with_script_threads (x ∷ xs) m h = IsOpening-with_script_threads xs _ (thread x.process.0 false h)
+
+-- a script begins in an opening state
+pub IsOpening-opening_of : (script : Script) → IsOpening (opening_of script)
+IsOpening-opening_of script =
+    IsOpening-with_script_threads script.threads _ (processes (map limit_of script.processes))
+
+pub threads_of-append : (es fs : List Event) → threads_of (es ++ fs) ≡ threads_of es ++ threads_of fs
+threads_of-append [] fs = refl
+threads_of-append (e ∷ es) fs = ap (λ ts. thread_number e ∷ ts) (threads_of-append es fs)
+
+pub length-threads_of : (es : List Event) → length (threads_of es) ≡ length es
+length-threads_of [] = refl
+length-threads_of (e ∷ es) = ap suc (length-threads_of es)
+
+frame_from-append :
+    (script : Script) (u : ℕ) (es : List Event) (f : Frame) (e : Event) →
+    frame_from script u f (es ++ e ∷ []) ≡ frame_after script u (frame_from script u f es) e
+frame_from-append script u [] f e = refl
+frame_from-append script u (x ∷ es) f e = frame_from-append script u es (frame_after script u f x) e
+
+-- a thread's frame after one event more
+pub frame_of-append :
+    (script : Script) (u : ℕ) (es : List Event) (e : Event) →
+    frame_of script u (es ++ e ∷ []) ≡ frame_after script u (frame_of script u es) e
+frame_of-append script u es e = frame_from-append script u es (first_frame script u) e
+
+events-run_from :
+    (script : Script) (ts : List ℕ) (h : History) → (run_from script h ts).state.events ≡ h.state.events + length ts
+events-run_from script [] h = omega arith
+events-run_from script (u ∷ us) h =
+    let one : (turn script h u).state.events ≡ h.state.events + 1 = events-step h.state u (asked script h u)
+    in let rest : (run_from script (turn script h u) us).state.events ≡ (turn script h u).state.events + length us =
+    events-run_from script us (turn script h u)
+    in omega arith
+
+-- a run counts its turns
+pub events-run : (script : Script) (ts : List ℕ) → (run script ts).state.events ≡ length ts
+unfolding run
+events-run script ts =
+    let none : (opening_of script).events ≡ 0 = (opened (IsOpening-opening_of script)).events
+    in let rest : (run_from script (beginning script) ts).state.events ≡ (opening_of script).events + length ts =
+    events-run_from script ts (beginning script)
+    in omega arith
