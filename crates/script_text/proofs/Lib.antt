@@ -1,0 +1,13 @@
+pub mod Places
+pub mod FirstLine
+pub mod WordEnd
+pub mod Digits
+pub mod PrintableWords
+pub mod PartWords
+pub mod StringsFound
+pub mod StringWords
+pub mod DecimalWords
+pub mod JoinedWords
+pub mod TextLines
+pub mod Behind
+pub mod PartsAt
