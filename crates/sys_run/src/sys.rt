@@ -188,3 +188,6 @@ impl Sys {
         all_waiting(self.alloc, &self.kernel)
     }
 }
+
+#[cfg(test)]
+mod tests;
