@@ -4,8 +4,10 @@
 
 pub mod answer;
 pub mod built;
+pub mod duplicate;
 pub mod error;
 pub mod event;
+pub mod exact;
 pub mod list;
 pub mod memory;
 pub mod number;

@@ -18,6 +18,18 @@ impl<T> Model for Sequence<T> {
     ghost view = { λ s. s.items.items };
 }
 
+impl<T: PartialEq> PartialEq for Sequence<T> {
+    ghost use Rattle.std.specs.Cmp.Lexicographic.{pointwise, lists_per};
+
+    ghost eq = { pointwise T.eq };
+
+    ghost laws = { lists_per T.laws };
+
+    fn eq(&self, other: &Self) -> bool {
+        self.items == other.items
+    }
+}
+
 pub type Bytes = Sequence<u8>;
 
 pub type FdList = Sequence<Fd>;

@@ -1,11 +1,17 @@
 -- What each command answers and writes, as a function of its words and of what was read.
-use Rattle.std.specs.Prelude.{ℕ, List, [], ◌∷◌, Option, Some, None, Bool, false, bytes_eq, codes, map}
+use Rattle.std.specs.Prelude.{ℕ, List, [], ◌∷◌, ◌||◌, Option, Some, None, Result, Ok, Err, Bool, false, bytes_eq, codes, map}
 use Rattle.std.specs.Borrow.{Bor}
 use Rattle.doors_top.specs.declared.status.Status.{Status}
 use Rattle.doors_top.specs.declared.status.Status.TheVariants as status
 use Rattle.doors_top.specs.declared.reading.ReadText.{ReadText}
 use Rattle.doors_top.specs.declared.reading.ReadText.TheVariants.{Whole, TooLong}
 use Rattle.doors_top.specs.Status.{status_of_ending}
+use Rattle.script_line.specs.declared.reason.Reason.TheVariants.{Size}
+use Rattle.script_lang.specs.declared.bad.Bad.{Bad}
+use Rattle.script_lang.specs.BadText.{bad_text}
+use Rattle.script_lang.specs.Canonical.{canonical}
+use Rattle.script_lang.specs.Reading.{reading, bad_line}
+use Rattle.script_lang.specs.Value.{ScriptValue}
 use Rattle.written_kernel.specs.Turns.{waiting_threads}
 use Rattle.written_script.specs.declared.script.Script.{Script}
 use Rattle.written_script.specs.SmallScript.{small_script}
@@ -30,8 +36,15 @@ is_only word (first ∷ second ∷ others) = false
 abbrev pub is_play : List (List ℕ) → Bool
 is_play words = is_only (codes "play") words
 
+abbrev pub is_show : List (List ℕ) → Bool
+is_show words = is_only (codes "show") words
+
 abbrev pub is_run : List (List ℕ) → Bool
 is_run words = is_only (codes "run") words
+
+-- the words are a command that is built
+abbrev pub is_command : List (List ℕ) → Bool
+is_command words = is_play words || is_show words
 
 -- an answer with the text that was written
 pub record Outcome : Type 0 where
@@ -63,3 +76,19 @@ outcome_of_script (Some script) =
 abbrev pub outcome_of_play : ReadText → Outcome
 outcome_of_play (Whole bytes) = outcome_of_script (small_script bytes)
 outcome_of_play TooLong = no_script
+
+abbrev pub outcome_of_bad : Bad → Outcome
+outcome_of_bad bad = record { status = status.Script; text = bad_text bad }
+
+-- more bytes were read than a script has
+abbrev pub too_long : Outcome
+too_long = outcome_of_bad (bad_line 0 Size)
+
+abbrev pub outcome_of_reading : Result ScriptValue Bad → Outcome
+outcome_of_reading (Ok script) = record { status = status.Complete; text = canonical script }
+outcome_of_reading (Err bad) = outcome_of_bad bad
+
+-- what `show` makes of what was read: the canonical text of the script that it spells, or its first bad line
+abbrev pub outcome_of_show : ReadText → Outcome
+outcome_of_show (Whole bytes) = outcome_of_reading (reading bytes)
+outcome_of_show TooLong = too_long

@@ -5,17 +5,23 @@ use Rattle.doors_top.specs.declared.status.Status.{Status}
 use Rattle.doors_top.specs.declared.status.Status.TheVariants as status
 use Rattle.doors_top.specs.declared.reading.ReadText.{ReadText}
 use Rattle.doors_top.specs.declared.reading.ReadText.TheVariants.{Whole, TooLong}
-use Rattle.doors_top.specs.Outcomes.{outcome_of_play}
+use Rattle.doors_top.specs.Outcomes.{outcome_of_play, outcome_of_show}
 use Rattle.doors_top.specs.Reading.{text_of, IsWithin, LeavesNone}
 use Rattle.doors_top.specs.Writing.{AppendsFront}
 use Rattle.kernel_laws.specs.Laws.{Laws}
+use Rattle.script_lang.specs.Decided.{IsDecided}
+use Rattle.script_lang.specs.Reading.{reading}
 use Rattle.written_script.specs.declared.script.Script.{Script}
 use Rattle.written_script.specs.SmallScript.{small_script}
 use Rattle.written_script.specs.ScriptRuns.{opening_of, turns_of, played}
 
 -- the most bytes of a small script
+abbrev pub small_limit : ℕ
+small_limit = 2048
+
+-- the most bytes of a script
 abbrev pub script_limit : ℕ
-script_limit = 2048
+script_limit = 1048576
 
 -- a status that says what was asked, and not that memory, a read or a write failed
 abbrev pub IsAnswer : Status → Type 0
@@ -24,10 +30,10 @@ IsAnswer status.ReadFault = ⊥
 IsAnswer status.WriteFault = ⊥
 IsAnswer _ = ⊤
 
--- what was read is all that the source had, where it tells, or more than a small script has
-pub record IsRead (old new : Option (List ℕ)) (read : ReadText) : Type 0 where
-  pub told : IfSome old (λ bytes. read ≡ text_of bytes script_limit)
-  pub within : IsWithin script_limit read
+-- what was read is all that the source had, where it tells, or more than the limit
+pub record IsRead (limit : ℕ) (old new : Option (List ℕ)) (read : ReadText) : Type 0 where
+  pub told : IfSome old (λ bytes. read ≡ text_of bytes limit)
+  pub within : IsWithin limit read
   pub ended : IfSome old (λ _. LeavesNone read new)
 
 -- the laws hold of the run that `play` makes of a script
@@ -41,7 +47,7 @@ LawsOfPlay TooLong = ⊤
 -- `play` answered what its outcome is for what was read, and wrote exactly its text
 pub record Plays (left_old left_new held_old held_new : Option (List ℕ)) (answer : Status) : Type 0 where
   pub read : ReadText
-  pub is_read : IsRead left_old left_new read
+  pub is_read : IsRead small_limit left_old left_new read
   pub status : answer ≡ (outcome_of_play read).status
   pub text : Appends held_old held_new (outcome_of_play read).text
   pub laws : LawsOfPlay read
@@ -49,5 +55,24 @@ pub record Plays (left_old left_new held_old held_new : Option (List ℕ)) (answ
 -- `play` wrote a front of its outcome's text
 pub record PlaysFront (left_old left_new held_old held_new : Option (List ℕ)) : Type 0 where
   pub read : ReadText
-  pub is_read : IsRead left_old left_new read
+  pub is_read : IsRead small_limit left_old left_new read
   pub text : AppendsFront held_old held_new (outcome_of_play read).text
+
+-- the bytes spell just the script that is shown, or none, and then the line is their first bad one
+abbrev pub SpelledOf : ReadText → Type 0
+SpelledOf (Whole bytes) = IsDecided bytes (reading bytes)
+SpelledOf TooLong = ⊤
+
+-- `show` answered what its outcome is for what was read, and wrote exactly its text
+pub record Shows (left_old left_new held_old held_new : Option (List ℕ)) (answer : Status) : Type 0 where
+  pub read : ReadText
+  pub is_read : IsRead script_limit left_old left_new read
+  pub status : answer ≡ (outcome_of_show read).status
+  pub text : Appends held_old held_new (outcome_of_show read).text
+  pub spelled : SpelledOf read
+
+-- `show` wrote a front of its outcome's text
+pub record ShowsFront (left_old left_new held_old held_new : Option (List ℕ)) : Type 0 where
+  pub read : ReadText
+  pub is_read : IsRead script_limit left_old left_new read
+  pub text : AppendsFront held_old held_new (outcome_of_show read).text

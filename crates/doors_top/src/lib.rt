@@ -3,6 +3,8 @@
 
 pub mod play;
 pub mod reading;
+pub mod reply;
+pub mod show;
 pub mod small;
 pub mod status;
 pub mod text;

@@ -6,6 +6,7 @@ ghost use Rattle.doors_top.specs.Status.{status_of_ending};
 ghost use Rattle.doors_top.specs.Top.{IsAnswer, LawsOfPlay, LawsOfScript};
 
 use crate::reading::ReadText;
+use crate::reply::{Reply, fixed};
 use crate::small::read_small;
 use crate::status::Status;
 use crate::text::text_of_run;
@@ -14,13 +15,6 @@ use std::alloc::Global;
 use sys_run::sys::Sys;
 use written_script::ending::Ending;
 use written_script::script::Script;
-
-/// A status with the text that goes with it.
-#[derive(Drop)]
-pub struct Reply {
-    pub status: Status,
-    pub text: Vec<u8>,
-}
 
 fn status_of(ending: Ending) -> Status
     ensures value { result ≡ status_of_ending ending }
@@ -33,21 +27,10 @@ fn status_of(ending: Ending) -> Status
     }
 }
 
-/// A reply of a line that is given.
-pub fn fixed(alloc: Global, status: Status, line: &[u8]) -> Result<Reply, NoMemory>
-    ensures status { IfOk result (λ reply. reply.status ≡ status) }
-    ensures text { IfOk result (λ reply. reply.text.items ≡ line.now) }
-{
-    match Vec::from_slice(alloc, line) {
-        Ok(text) => Ok(Reply { status, text }),
-        Err(_) => Err(NoMemory),
-    }
-}
-
 fn play_script(alloc: Global, script: Script) -> Result<Reply, NoMemory>
     requires { IsScript script }
     ensures status { IfOk result (λ reply. reply.status ≡ (outcome_of_script (Some script)).status) }
-    ensures text { IfOk result (λ reply. reply.text.items ≡ (outcome_of_script (Some script)).text) }
+    ensures text { IfOk result (λ reply. reply.text ≡ (outcome_of_script (Some script)).text) }
     ensures answer { IfOk result (λ reply. IsAnswer reply.status) }
     ensures laws { IfOk result (λ _. LawsOfScript script) }
 {
@@ -56,16 +39,14 @@ fn play_script(alloc: Global, script: Script) -> Result<Reply, NoMemory>
     let ending = sys.ending();
     let waiting = sys.waiting()?;
     let text = text_of_run(alloc, sys.script(), sys.journal(), ending, &waiting)?;
-    Ok(Reply {
-        status: status_of(ending),
-        text,
-    })
+    let reply = fixed(alloc, status_of(ending), text.as_slice())?;
+    Ok(reply)
 }
 
 /// What `play` answers and writes.
 pub fn play(alloc: Global, read: &ReadText) -> Result<Reply, NoMemory>
     ensures status { IfOk result (λ reply. reply.status ≡ (outcome_of_play read.now).status) }
-    ensures text { IfOk result (λ reply. reply.text.items ≡ (outcome_of_play read.now).text) }
+    ensures text { IfOk result (λ reply. reply.text ≡ (outcome_of_play read.now).text) }
     ensures answer { IfOk result (λ reply. IsAnswer reply.status) }
     ensures laws { IfOk result (λ _. LawsOfPlay read.now) }
 {

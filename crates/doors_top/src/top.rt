@@ -2,12 +2,14 @@
 ghost use Rattle.std.specs.Prelude.{◌≡◌, ◌≢◌, true, false};
 ghost use Rattle.std.specs.Io.KnownBytes.{Appends};
 ghost use Rattle.dk_base.specs.Outside.{Rose};
-ghost use Rattle.doors_top.specs.Outcomes.{texts, is_play, is_run, usage};
-ghost use Rattle.doors_top.specs.Top.{IsAnswer, Plays, PlaysFront};
+ghost use Rattle.doors_top.specs.Outcomes.{texts, is_play, is_show, is_command, is_run, usage};
+ghost use Rattle.doors_top.specs.Top.{IsAnswer, Plays, PlaysFront, Shows, ShowsFront};
 ghost use Rattle.doors_top.specs.Writing.{AppendsFront};
 
-use crate::play::{Reply, fixed, play};
+use crate::play::play;
 use crate::reading::{ReadingFault, read_all};
+use crate::reply::{Reply, fixed};
+use crate::show::show;
 use crate::status::Status;
 use crate::writing::write_all;
 use dk_base::outside::{Gate, Sink, Source};
@@ -15,7 +17,11 @@ use std::alloc::Global;
 use std::sync::Wait;
 use std::thread::Threads;
 
-const SCRIPT_LIMIT: usize = 2048;
+/// The most bytes of a small script.
+const SMALL_LIMIT: usize = 2048;
+
+/// The most bytes of a script.
+const SCRIPT_LIMIT: usize = 1_048_576;
 
 const USAGE: &[u8] = b"usage: doors play|run|show|check|load N\n";
 
@@ -34,6 +40,12 @@ fn is_play_word(words: &[&str]) -> bool
     is_word(words, "play")
 }
 
+fn is_show_word(words: &[&str]) -> bool
+    ensures { result ≡ is_show (texts words.now) }
+{
+    is_word(words, "show")
+}
+
 fn is_run_word(words: &[&str]) -> bool
     ensures { result ≡ is_run (texts words.now) }
 {
@@ -43,13 +55,13 @@ fn is_run_word(words: &[&str]) -> bool
 /// Writes a reply's text. The status is the reply's, or WriteFault where a write failed.
 fn write_reply<O: Sink>(out: &mut O, reply: &Reply) -> Status
     requires { IsAnswer reply.now.status }
-    ensures answer { IsAnswer result → (result ≡ reply.now.status) × Appends (O.held out.old) (O.held out.new) reply.now.text.items }
-    ensures front { result ≡ Status.WriteFault → AppendsFront (O.held out.old) (O.held out.new) reply.now.text.items }
+    ensures answer { IsAnswer result → (result ≡ reply.now.status) × Appends (O.held out.old) (O.held out.new) reply.now.text }
+    ensures front { result ≡ Status.WriteFault → AppendsFront (O.held out.old) (O.held out.new) reply.now.text }
     ensures cause { result ≡ Status.WriteFault → Rose (O.faults out.old) (O.faults out.new) }
     ensures no_read_fault { result ≢ Status.ReadFault }
     ensures no_want { result ≢ Status.Memory }
 {
-    match write_all(out, reply.text.as_slice()) {
+    match write_all(out, reply.text.slice()) {
         Ok(()) => reply.status,
         Err(_) => Status::WriteFault,
     }
@@ -76,7 +88,7 @@ fn play_input<S: Source, O: Sink>(alloc: Global, src: &mut S, out: &mut O) -> St
     ensures write_fault { result ≡ Status.WriteFault → Rose (O.faults out.old) (O.faults out.new) }
     ensures want_writes_nothing { result ≡ Status.Memory → out.new ≡ out.old }
 {
-    match read_all(alloc, src, SCRIPT_LIMIT) {
+    match read_all(alloc, src, SMALL_LIMIT) {
         Ok(read) => match play(alloc, &read) {
             Ok(reply) => write_reply(out, &reply),
             Err(_) => Status::Memory,
@@ -86,9 +98,27 @@ fn play_input<S: Source, O: Sink>(alloc: Global, src: &mut S, out: &mut O) -> St
     }
 }
 
+fn show_input<S: Source, O: Sink>(alloc: Global, src: &mut S, out: &mut O) -> Status
+    ensures show { IsAnswer result → Shows (S.left src.old) (S.left src.new) (O.held out.old) (O.held out.new) result }
+    ensures front { result ≡ Status.WriteFault → ShowsFront (S.left src.old) (S.left src.new) (O.held out.old) (O.held out.new) }
+    ensures read_fault { result ≡ Status.ReadFault → Rose (S.faults src.old) (S.faults src.new) }
+    ensures read_fault_writes_nothing { result ≡ Status.ReadFault → out.new ≡ out.old }
+    ensures write_fault { result ≡ Status.WriteFault → Rose (O.faults out.old) (O.faults out.new) }
+    ensures want_writes_nothing { result ≡ Status.Memory → out.new ≡ out.old }
+{
+    match read_all(alloc, src, SCRIPT_LIMIT) {
+        Ok(read) => match show(alloc, &read) {
+            Ok(reply) => write_reply(out, &reply),
+            Err(_) => Status::Memory,
+        },
+        Err(ReadingFault::Memory) => Status::Memory,
+        Err(ReadingFault::Failed) => Status::ReadFault,
+    }
+}
+
 /// The commands that wait for nobody. `play` reads a script to the end of the input and writes the trace of the run that
-/// its turns make; other words are answered with the usage line, and nothing is read. The text is made whole before the
-/// first write, so want of memory leaves the output as it was.
+/// its turns make; `show` writes the canonical text of a script. Other words are answered with the usage line, and nothing
+/// is read. The text is made whole before the first write, so want of memory leaves the output as it was.
 pub fn plain_main<S: Source, O: Sink>(
     alloc: Global,
     words: &[&str],
@@ -98,9 +128,11 @@ pub fn plain_main<S: Source, O: Sink>(
     requires { is_run (texts words.now) ≡ false }
     ensures play { is_play (texts words.now) ≡ true → IsAnswer result → Plays (S.left src.old) (S.left src.new) (O.held out.old) (O.held out.new) result }
     ensures play_front { is_play (texts words.now) ≡ true → result ≡ Status.WriteFault → PlaysFront (S.left src.old) (S.left src.new) (O.held out.old) (O.held out.new) }
-    ensures usage { is_play (texts words.now) ≡ false → IsAnswer result → (result ≡ Status.Usage) × Appends (O.held out.old) (O.held out.new) usage.text }
-    ensures usage_front { is_play (texts words.now) ≡ false → result ≡ Status.WriteFault → AppendsFront (O.held out.old) (O.held out.new) usage.text }
-    ensures nothing_read { is_play (texts words.now) ≡ false → src.new ≡ src.old }
+    ensures show { is_show (texts words.now) ≡ true → IsAnswer result → Shows (S.left src.old) (S.left src.new) (O.held out.old) (O.held out.new) result }
+    ensures show_front { is_show (texts words.now) ≡ true → result ≡ Status.WriteFault → ShowsFront (S.left src.old) (S.left src.new) (O.held out.old) (O.held out.new) }
+    ensures usage { is_command (texts words.now) ≡ false → IsAnswer result → (result ≡ Status.Usage) × Appends (O.held out.old) (O.held out.new) usage.text }
+    ensures usage_front { is_command (texts words.now) ≡ false → result ≡ Status.WriteFault → AppendsFront (O.held out.old) (O.held out.new) usage.text }
+    ensures nothing_read { is_command (texts words.now) ≡ false → src.new ≡ src.old }
     ensures read_fault { result ≡ Status.ReadFault → Rose (S.faults src.old) (S.faults src.new) }
     ensures read_fault_writes_nothing { result ≡ Status.ReadFault → out.new ≡ out.old }
     ensures write_fault { result ≡ Status.WriteFault → Rose (O.faults out.old) (O.faults out.new) }
@@ -108,6 +140,8 @@ pub fn plain_main<S: Source, O: Sink>(
 {
     if is_play_word(words) {
         play_input(alloc, src, out)
+    } else if is_show_word(words) {
+        show_input(alloc, src, out)
     } else {
         write_usage(alloc, out)
     }
@@ -125,9 +159,11 @@ pub fn doors_main<R: Threads + Wait + Sync, S: Source, O: Sink, G: Gate + Sync>(
 ) -> Status
     ensures play { is_play (texts words.now) ≡ true → IsAnswer result → Plays (S.left src.old) (S.left src.new) (O.held out.old) (O.held out.new) result }
     ensures play_front { is_play (texts words.now) ≡ true → result ≡ Status.WriteFault → PlaysFront (S.left src.old) (S.left src.new) (O.held out.old) (O.held out.new) }
-    ensures usage { is_play (texts words.now) ≡ false → IsAnswer result → (result ≡ Status.Usage) × Appends (O.held out.old) (O.held out.new) usage.text }
-    ensures usage_front { is_play (texts words.now) ≡ false → result ≡ Status.WriteFault → AppendsFront (O.held out.old) (O.held out.new) usage.text }
-    ensures nothing_read { is_play (texts words.now) ≡ false → src.new ≡ src.old }
+    ensures show { is_show (texts words.now) ≡ true → IsAnswer result → Shows (S.left src.old) (S.left src.new) (O.held out.old) (O.held out.new) result }
+    ensures show_front { is_show (texts words.now) ≡ true → result ≡ Status.WriteFault → ShowsFront (S.left src.old) (S.left src.new) (O.held out.old) (O.held out.new) }
+    ensures usage { is_command (texts words.now) ≡ false → IsAnswer result → (result ≡ Status.Usage) × Appends (O.held out.old) (O.held out.new) usage.text }
+    ensures usage_front { is_command (texts words.now) ≡ false → result ≡ Status.WriteFault → AppendsFront (O.held out.old) (O.held out.new) usage.text }
+    ensures nothing_read { is_command (texts words.now) ≡ false → src.new ≡ src.old }
     ensures read_fault { result ≡ Status.ReadFault → Rose (S.faults src.old) (S.faults src.new) }
     ensures read_fault_writes_nothing { result ≡ Status.ReadFault → out.new ≡ out.old }
     ensures write_fault { result ≡ Status.WriteFault → Rose (O.faults out.old) (O.faults out.new) }

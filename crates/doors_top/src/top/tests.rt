@@ -39,7 +39,7 @@ fn ends_with<R: Abort + Threads + Wait + Sync>(
 {
     let bytes = Bytes::from_slice(alloc, input.as_bytes())?;
     let mut source = MemSource::in_pieces(bytes, piece, CallList::new(alloc));
-    let mut sink = MemSink::new(alloc, 4096, piece, CallList::new(alloc))?;
+    let mut sink = MemSink::new(alloc, 8192, piece, CallList::new(alloc))?;
     let answer = doors_main(rt, alloc, words, &mut source, &mut sink, &NoGate);
     assert_eq!(rt; sink.held(), output.as_bytes());
     assert_eq!(rt; answer, status);
@@ -194,5 +194,100 @@ fn the_third_write_fails(rt: HostRuntime) -> Result<(), Fail> {
         Status::WriteFault
     );
     assert_eq!(rt; sink.held(), b"1 s s crea".as_slice());
+    Ok(())
+}
+
+/// Texts that spell no script, with the line that answers them.
+const BAD_SCRIPTS: [(&str, &str); 6] = [
+    ("", "bad line 1 header\n"),
+    (
+        "doors script 1\nprocess a\nthread t\nrepeat 2\nend\nend\n",
+        "bad line 5 body\n",
+    ),
+    (
+        "doors script 1\nprocess a\nthread t\ncreate d nope 0\nend\n",
+        "bad line 4 unknown\n",
+    ),
+    ("doors script 1\nprocess a\nthread t\n", "bad line 4 open\n"),
+    (
+        "doors script 1\nprocess a\nprocess a\n",
+        "bad line 3 twice\n",
+    ),
+    ("doors script 1\nbudget 0\n", "bad line 2 range\n"),
+];
+
+#[test]
+fn bad_scripts_are_answered_with_their_line(rt: HostRuntime) -> Result<(), Fail> {
+    for (text, line) in BAD_SCRIPTS {
+        ends_with(&rt, rt.alloc(), &["show"], text, 64, line, Status::Script)?;
+    }
+    Ok(())
+}
+
+const SPACED: &str =
+    "doors script 1\n\nprocess  a\nthread t\n send 3 1 2\n return \"\\x41\\x0a\" + $v desc $d.0!\nend\n";
+
+const CANONICAL: &str =
+    "doors script 1\nbudget 100000\nprocess a limit 256\nthread t\nsend 3 1 2\nreturn \"A\\x0a\" + $v desc $d!\nend\n";
+
+#[test]
+fn show(rt: HostRuntime) -> Result<(), Fail> {
+    for text in [SPACED, CANONICAL] {
+        ends_with(
+            &rt,
+            rt.alloc(),
+            &["show"],
+            text,
+            64,
+            CANONICAL,
+            Status::Complete,
+        )?;
+    }
+    Ok(())
+}
+
+/// A header, and empty lines up to so many bytes.
+fn empty_lines(alloc: Global, bytes: usize) -> Result<Bytes, Fail> {
+    let mut text = Bytes::from_slice(alloc, b"doors script 1\n")?;
+    while text.len() < bytes {
+        text.push(b'\n')?;
+    }
+    Ok(text)
+}
+
+#[test]
+fn the_longest_script_and_one_byte_more(rt: HostRuntime) -> Result<(), Fail> {
+    let alloc = rt.alloc();
+    let shown = ("doors script 1\nbudget 100000\n", Status::Complete);
+    let size = ("bad line 0 size\n", Status::Script);
+    for (bytes, (line, status)) in [(1_048_576, shown), (1_048_577, size)] {
+        let mut source = MemSource::new(empty_lines(alloc, bytes)?, CallList::new(alloc));
+        let mut sink = MemSink::new(alloc, 64, 64, CallList::new(alloc))?;
+        let answer = plain_main(alloc, &["show"], &mut source, &mut sink);
+        assert_eq!(rt; sink.held(), line.as_bytes());
+        assert_eq!(rt; answer, status);
+    }
+    Ok(())
+}
+
+#[test]
+fn show_over_faults(rt: HostRuntime) -> Result<(), Fail> {
+    let alloc = rt.alloc();
+    let bytes = Bytes::from_slice(alloc, ECHO.as_bytes())?;
+    let mut source = MemSource::new(bytes, CallList::from_slice(alloc, &[1])?);
+    let mut sink = MemSink::new(alloc, 4096, 4096, CallList::new(alloc))?;
+    assert_eq!(rt;
+        plain_main(alloc, &["show"], &mut source, &mut sink),
+        Status::ReadFault
+    );
+    assert_eq!(rt; sink.held().len(), 0);
+    let bytes = Bytes::from_slice(alloc, ECHO.as_bytes())?;
+    let mut source = MemSource::new(bytes, CallList::new(alloc));
+    let mut sink = MemSink::new(alloc, 4096, 5, CallList::from_slice(alloc, &[3])?)?;
+    assert_eq!(rt;
+        plain_main(alloc, &["show"], &mut source, &mut sink),
+        Status::WriteFault
+    );
+    assert_eq!(rt; sink.held(), b"doors scri".as_slice());
     Ok(())
 }

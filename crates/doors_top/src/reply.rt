@@ -1,0 +1,23 @@
+//! What a command answers and writes.
+ghost use Rattle.std.specs.Prelude.{◌≡◌, IfOk};
+
+use crate::status::Status;
+use dk_base::error::NoMemory;
+use dk_base::list::Bytes;
+use std::alloc::Global;
+
+/// A status with the text that goes with it.
+#[derive(Drop)]
+pub struct Reply {
+    pub status: Status,
+    pub text: Bytes,
+}
+
+/// A reply of a line that is given.
+pub fn fixed(alloc: Global, status: Status, line: &[u8]) -> Result<Reply, NoMemory>
+    ensures status { IfOk result (λ reply. reply.status ≡ status) }
+    ensures text { IfOk result (λ reply. reply.text ≡ line.now) }
+{
+    let text = Bytes::from_slice(alloc, line)?;
+    Ok(Reply { status, text })
+}

@@ -1,0 +1,59 @@
+-- The canonical text of a script spells it.
+use Rattle.std.proofs.Common.{◌≡◌, ℕ, true, List, [], ◌∷◌, map, refl, sym, ap, ◌∙◌, subst}
+use Rattle.std.specs.List.{list_all, flat_map}
+use Rattle.std.proofs.lemmas.Bool.{and_parts, and_from}
+use Rattle.script_text.specs.Lines.{lines_of, is_one_line}
+use Rattle.script_text.proofs.PrintableWords.{are_printable, is_one_line-printable}
+use Rattle.script_text.proofs.TextLines.{lines_of-text_of}
+use Rattle.script_lang.specs.Before.{nothing_before}
+use Rattle.script_lang.specs.Canonical.{header, item_line, canonical}
+use Rattle.script_lang.specs.Scripts.{items_of, script_of, tables_of}
+use Rattle.script_lang.specs.Spelled.{SpellsScript, SpellsLines, path_uses, paths_behind, spells}
+use Rattle.script_lang.specs.Value.{ScriptValue}
+use Rattle.script_lang.proofs.Stand.{Stand, spelled_stand}
+use Rattle.script_lang.proofs.CanonicalScript.{written, rows_of, uses_same, written_script, script_written}
+use Rattle.script_lang.proofs.CanonicalStands.{written_stand}
+use Rattle.script_lang.proofs.CanonicalLines.{stand_spelled}
+
+are_lines : (lines : List (List ℕ)) → list_all are_printable lines ≡ true → list_all is_one_line lines ≡ true
+are_lines [] h = refl
+are_lines (line ∷ lines) h =
+    let parts = and_parts (are_printable line) (list_all are_printable lines) h in
+    and_from _ _ (is_one_line-printable line parts.0) (are_lines lines parts.1)
+
+abbrev canonical_lines : ScriptValue → List (List ℕ)
+canonical_lines script = map (item_line (tables_of script)) (items_of script)
+
+-- the canonical lines behind the first
+record IsCanonical (script : ScriptValue) : Type 0 where
+  pub spelled : SpellsScript (canonical_lines script) script
+  pub printable : list_all are_printable (canonical_lines script) ≡ true
+
+script_again : (lines : List (List ℕ)) (script : ScriptValue) → SpellsScript lines script → IsCanonical script
+script_again lines script h =
+    let tables = tables_of script in
+    let stand = spelled_stand tables nothing_before lines h.items h.spells in
+    let same : items_of script ≡ written h.items (rows_of h.items) = ap items_of (sym h.is_script) ∙ script_written tables script.paths h.items stand in
+    let stands : Stand tables nothing_before (items_of script) = subst (Stand tables nothing_before) (sym same) (written_stand tables h.items stand) in
+    let spelled = stand_spelled tables nothing_before (items_of script) stands in
+    record {
+      spelled = record {
+        items = items_of script;
+        spells = spelled.spelled;
+        different_paths = h.different_paths;
+        numbered_paths = ap (λ items. paths_behind 0 (flat_map path_uses items)) same ∙ ap (paths_behind 0) (uses_same h.items (rows_of h.items)) ∙ h.numbered_paths;
+        is_script = ap (script_of script.paths) same ∙ written_script tables script.paths h.items stand ∙ h.is_script;
+      };
+      printable = spelled.printable;
+    }
+
+lines_again : (lines : List (List ℕ)) (script : ScriptValue) → SpellsLines lines script → IsCanonical script
+lines_again [] script h = absurd h
+lines_again (line ∷ lines) script h = script_again lines script h.1
+
+pub canonical_spelled : (text : List ℕ) (script : ScriptValue) → spells text script → spells (canonical script) script
+unfolding spells canonical
+canonical_spelled text script h =
+    let again = lines_again (lines_of text) script h in
+    let lines = lines_of-text_of (header ∷ canonical_lines script) (are_lines (header ∷ canonical_lines script) (and_from _ _ refl again.printable)) in
+    subst (λ ls. SpellsLines ls script) (sym lines) (refl, again.spelled)

@@ -1,0 +1,41 @@
+-- A reader at the end of a text.
+use Rattle.std.proofs.Common.{◌≡◌, ℕ, true, false, List, [], Some, None, Ok, Err, refl, sym}
+use Rattle.std.proofs.lemmas.List.{append-nil}
+use Rattle.std.proofs.lemmas.Bool.{false≢true}
+use Rattle.script_line.specs.declared.reason.Reason.TheVariants.{Open, Unknown}
+use Rattle.script_lang.specs.declared.draft.Draft.{Draft}
+use Rattle.script_lang.specs.declared.draft.Owner.{Owner}
+use Rattle.script_lang.specs.declared.draft.Owner.TheVariants.{Nobody, Thread as OfThread, Procedure as OfProcedure}
+use Rattle.script_lang.specs.declared.item.Place.{Place}
+use Rattle.script_lang.specs.declared.item.Place.TheVariants.{Start, Processes, Members, Body, Schedule}
+use Rattle.script_lang.specs.declared.text_reader.TextReader.{TextReader}
+use Rattle.script_lang.specs.Before.{is_closed, is_closed_place}
+use Rattle.script_lang.specs.Drafts.{script_with, script_of_draft}
+use Rattle.script_lang.specs.Reading.{bad_line}
+use Rattle.script_lang.specs.Remaining.{IsSound, remaining, has_owner, is_body}
+
+no_owner : (owner : Owner) (place : Place) → is_closed_place place ≡ true → has_owner owner ≡ is_body place → owner ≡ Nobody
+no_owner Nobody place closed h = refl
+no_owner (OfThread name) Start closed h = absurd (false≢true (sym h))
+no_owner (OfThread name) Processes closed h = absurd (false≢true (sym h))
+no_owner (OfThread name) Members closed h = absurd (false≢true (sym h))
+no_owner (OfThread name) Schedule closed h = absurd (false≢true (sym h))
+no_owner (OfThread name) Body closed h = absurd (false≢true closed)
+no_owner (OfProcedure name) Start closed h = absurd (false≢true (sym h))
+no_owner (OfProcedure name) Processes closed h = absurd (false≢true (sym h))
+no_owner (OfProcedure name) Members closed h = absurd (false≢true (sym h))
+no_owner (OfProcedure name) Schedule closed h = absurd (false≢true (sym h))
+no_owner (OfProcedure name) Body closed h = absurd (false≢true closed)
+
+script_at_end : (paths : List (List ℕ)) (draft : Draft) (depth : ℕ) → draft.owner ≡ Nobody → script_with paths draft depth [] ≡ script_of_draft paths draft
+script_at_end paths draft depth e = rw e (simp append-nil)
+
+pub closed_end : (reader : TextReader) → IsSound reader → is_closed reader.standing ≡ true → reader.unknown ≡ None → remaining reader [] ≡ Ok (script_of_draft reader.lines.tables.paths reader.draft)
+closed_end reader sound closed known =
+    rw (closed, known, script_at_end reader.lines.tables.paths reader.draft reader.standing.depth (no_owner reader.draft.owner reader.standing.place closed sound.in_body)) refl
+
+pub unknown_end : (reader : TextReader) (n : ℕ) → is_closed reader.standing ≡ true → reader.unknown ≡ Some n → remaining reader [] ≡ Err (bad_line n Unknown)
+unknown_end reader n closed known = rw (closed, known) refl
+
+pub open_end : (reader : TextReader) → is_closed reader.standing ≡ false → remaining reader [] ≡ Err (bad_line reader.number Open)
+open_end reader closed = rw closed refl

@@ -1,0 +1,29 @@
+-- Every text either spells one script, or has a first bad line with a reason.
+use Rattle.std.specs.Prelude.{ℕ, ◌≡◌, ⊤, List, Some, None, Result, Ok, Err}
+use Rattle.script_lang.specs.declared.bad.Bad.{Bad}
+use Rattle.script_lang.specs.declared.bad.ParseFault.{ParseFault}
+use Rattle.script_lang.specs.declared.bad.ParseFault.TheVariants.{Bad as BadLine, Memory as NoRoom}
+use Rattle.script_lang.specs.Reading.{bad}
+use Rattle.script_lang.specs.Spelled.{spells}
+use Rattle.script_lang.specs.Value.{ScriptValue}
+
+-- the text spells this script and no other
+pub record SpellsOnly (text : List ℕ) (script : ScriptValue) : Type 0 where
+  pub spelled : spells text script
+  pub only : (other : ScriptValue) → spells text other → other ≡ script
+  pub good : bad text ≡ None
+
+-- the text spells no script, and this is its first bad line
+pub record SpellsNone (text : List ℕ) (fault : Bad) : Type 0 where
+  pub none : (script : ScriptValue) → spells text script → ⊥
+  pub bad : bad text ≡ Some fault
+
+abbrev pub IsDecided : List ℕ → Result ScriptValue Bad → Type 0
+IsDecided text (Ok script) = SpellsOnly text script
+IsDecided text (Err fault) = SpellsNone text fault
+
+-- a text's script was given, or its first bad line, or memory was wanting
+abbrev pub IsParsed : List ℕ → Result ScriptValue ParseFault → Type 0
+IsParsed text (Ok script) = SpellsOnly text script
+IsParsed text (Err (BadLine fault)) = SpellsNone text fault
+IsParsed text (Err NoRoom) = ⊤

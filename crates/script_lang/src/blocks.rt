@@ -1,0 +1,28 @@
+ghost use Rattle.std.specs.Prelude.{◌≡◌, ◌<◌, ◌+◌, ◌^◌};
+ghost use Rattle.script_line.specs.Kinds.{kind_of as kind_of_line, depth_after as depth_behind};
+
+use script_line::line::{Kind, Line};
+
+/// What a line does to the blocks of its body.
+pub fn kind_of(line: &Line) -> Kind
+    ensures { result ≡ kind_of_line line.now }
+{
+    match line {
+        Line::Repeat { .. } => Kind::Loop,
+        Line::If { .. } => Kind::Test,
+        Line::End => Kind::Close,
+        _ => Kind::Act,
+    }
+}
+
+/// How many blocks are open behind a line, where so many are before it; none where the body ends.
+pub fn depth_after(depth: u32, kind: Kind) -> Option<u32>
+    requires { depth + 1 < 2 ^ 32 }
+    ensures { result ≡ depth_behind depth kind }
+{
+    match kind {
+        Kind::Act => Some(depth),
+        Kind::Loop | Kind::Test => Some(depth + 1),
+        Kind::Close => depth.checked_sub(1),
+    }
+}

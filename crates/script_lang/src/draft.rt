@@ -1,0 +1,191 @@
+ghost use Rattle.std.specs.Prelude.{◌≡◌, ◌≤◌, ◌∷◌, ◌++◌, [], true, length, OnOk};
+ghost use Rattle.script_line.specs.Kinds.{kind_of as kind_of_line, depth_after as depth_behind};
+ghost use Rattle.script_lang.specs.Scripts.{script_process};
+ghost use Rattle.script_lang.specs.IsScript.{IsScript};
+ghost use Rattle.script_lang.specs.Drafts.{empty_draft, opened, closed, drafted, with_part, with_thread, with_procedure, with_draft_line, script_of_draft};
+
+use crate::blocks::{depth_after, kind_of};
+use crate::item::Item;
+use crate::script::{Part, Procedure, Script, ScriptProcess, ScriptThread};
+use dk_base::error::NoMemory;
+use dk_base::list::{Bytes, Sequence, TidList};
+use dk_base::number::{Pid, Tid};
+use script_line::line::{Body, Line};
+use script_line::tables::Tables;
+use std::alloc::Global;
+use std::mem;
+
+/// Whose body the lines are in.
+#[derive(Debug, Drop)]
+pub enum Owner {
+    Nobody,
+    Thread(Bytes),
+    Procedure(Bytes),
+}
+
+/// The parts of a script that the lines so far declare, and the body that they have begun.
+#[derive(Debug, Drop)]
+pub struct Draft {
+    pub budget: u32,
+    pub processes: Sequence<ScriptProcess>,
+    pub threads: Sequence<ScriptThread>,
+    pub procedures: Sequence<Procedure>,
+    pub order: Sequence<Part>,
+    pub schedule: TidList,
+    pub owner: Owner,
+    pub body: Body,
+}
+
+impl Draft {
+    /// The draft of no lines.
+    pub fn new(alloc: Global) -> Self
+        ensures { result ≡ empty_draft }
+    {
+        Draft {
+            budget: 100_000,
+            processes: Sequence::new(alloc),
+            threads: Sequence::new(alloc),
+            procedures: Sequence::new(alloc),
+            order: Sequence::new(alloc),
+            schedule: Sequence::new(alloc),
+            owner: Owner::Nobody,
+            body: Sequence::new(alloc),
+        }
+    }
+
+    /// A body begins, of a thread or a procedure.
+    fn open(&mut self, alloc: Global, part: Part, owner: Owner) -> Result<(), NoMemory>
+        ensures { OnOk result (self.new ≡ opened self.old part owner) }
+    {
+        self.order.push(part)?;
+        self.owner = owner;
+        self.body = Sequence::new(alloc);
+        Ok(())
+    }
+
+    fn add_thread(
+        &mut self,
+        process: Pid,
+        name: Bytes,
+        spare: bool,
+        body: Body,
+    ) -> Result<(), NoMemory>
+        requires { process.0 ≡ length self.old.processes }
+        ensures { OnOk result (self.new ≡ with_thread self.old name spare body) }
+    {
+        self.threads.push(ScriptThread {
+            name,
+            process,
+            spare,
+            body,
+        })
+    }
+
+    fn add_procedure(&mut self, process: Pid, name: Bytes, body: Body) -> Result<(), NoMemory>
+        requires { process.0 ≡ length self.old.processes }
+        ensures { OnOk result (self.new ≡ with_procedure self.old name body) }
+    {
+        self.procedures.push(Procedure {
+            name,
+            process,
+            body,
+        })
+    }
+
+    /// The body ends.
+    fn close(&mut self, alloc: Global, process: Pid) -> Result<(), NoMemory>
+        requires { process.0 ≡ length self.old.processes }
+        ensures { OnOk result (self.new ≡ closed self.old) }
+    {
+        let body = mem::replace(&mut self.body, Sequence::new(alloc));
+        match mem::replace(&mut self.owner, Owner::Nobody) {
+            Owner::Nobody => Ok(()),
+            Owner::Thread(name) => self.add_thread(process, name, false, body),
+            Owner::Procedure(name) => self.add_procedure(process, name, body),
+        }
+    }
+
+    /// A line of the body, or its end, where so many blocks are open before it.
+    fn add_line(
+        &mut self,
+        alloc: Global,
+        process: Pid,
+        depth: u32,
+        line: Line,
+    ) -> Result<(), NoMemory>
+        requires process { process.0 ≡ length self.old.processes }
+        requires depth { depth ≤ 8 }
+        ensures { OnOk result (self.new ≡ with_draft_line self.old line (depth_behind depth (kind_of_line line))) }
+    {
+        match depth_after(depth, kind_of(&line)) {
+            Some(_) => self.body.push(line),
+            None => self.close(alloc, process),
+        }
+    }
+
+    fn add_process(&mut self, name: Bytes, limit: u32) -> Result<(), NoMemory>
+        ensures { OnOk result (self.new ≡ with_part (record self.old { processes = self.old.processes ++ script_process name limit ∷ [] }) Part.Process) }
+    {
+        self.processes.push(ScriptProcess { name, limit })?;
+        self.order.push(Part::Process)
+    }
+
+    fn add_spare(&mut self, alloc: Global, process: Pid, name: Bytes) -> Result<(), NoMemory>
+        requires { process.0 ≡ length self.old.processes }
+        ensures { OnOk result (self.new ≡ with_part (with_thread self.old name true []) Part.Thread) }
+    {
+        self.add_thread(process, name, true, Sequence::new(alloc))?;
+        self.order.push(Part::Thread)
+    }
+
+    fn add_turns(&mut self, threads: &[Tid]) -> Result<(), NoMemory>
+        ensures { OnOk result (self.new ≡ record self.old { schedule = self.old.schedule ++ threads.now }) }
+    {
+        for thread in threads {
+            self.schedule.push(*thread)?;
+        }
+        Ok(())
+    }
+
+    /// The item that stands behind these lines, where this is the last process, and so many blocks are open before it.
+    pub fn add(
+        &mut self,
+        alloc: Global,
+        process: Pid,
+        depth: u32,
+        item: Item,
+    ) -> Result<(), NoMemory>
+        requires process { process.0 ≡ length self.old.processes }
+        requires depth { depth ≤ 8 }
+        ensures { OnOk result (self.new ≡ drafted self.old depth item) }
+    {
+        match item {
+            Item::Budget { events } => self.budget = events,
+            Item::Process { name, limit } => self.add_process(name, limit)?,
+            Item::Spare { name } => self.add_spare(alloc, process, name)?,
+            Item::Thread { name } => self.open(alloc, Part::Thread, Owner::Thread(name))?,
+            Item::Procedure { name } => {
+                self.open(alloc, Part::Procedure, Owner::Procedure(name))?;
+            }
+            Item::Do { line } => self.add_line(alloc, process, depth, line)?,
+            Item::Schedule { threads } => self.add_turns(threads.slice())?,
+        }
+        Ok(())
+    }
+
+    /// The script of these parts, with these names.
+    pub fn into_script(self, tables: Tables) -> Script
+        requires { IsScript tables (script_of_draft tables.paths self) }
+        ensures { result ≡ script_of_draft tables.paths self }
+    {
+        Script {
+            budget: self.budget,
+            processes: self.processes,
+            threads: self.threads,
+            procedures: self.procedures,
+            order: self.order,
+            schedule: self.schedule,
+            tables,
+        }
+    }
+}

@@ -1,0 +1,43 @@
+use dk_base::list::{Bytes, TidList};
+use script_line::line::Line;
+
+/// A line of a script behind the first, with numbers in place of names.
+#[derive(Debug, Drop)]
+pub enum Item {
+    /// `budget N`
+    Budget { events: u32 },
+    /// `process NAME`, `process NAME limit N`
+    Process { name: Bytes, limit: u32 },
+    /// `spare NAME`
+    Spare { name: Bytes },
+    /// `thread NAME`
+    Thread { name: Bytes },
+    /// `proc NAME`
+    Procedure { name: Bytes },
+    /// A line of a body, or the `end` of one.
+    Do { line: Line },
+    /// `schedule NAME ..`
+    Schedule { threads: TidList },
+}
+
+/// A line as it was read, and whether each procedure, thread and process that it names is declared.
+#[derive(Debug, Drop)]
+pub struct ItemRead {
+    pub item: Item,
+    pub known: bool,
+}
+
+/// Where a line stands.
+#[derive(Clone, Copy, Debug, PartialEq, Eq)]
+pub enum Place {
+    /// Behind the first line.
+    Start,
+    /// Behind the budget.
+    Processes,
+    /// In a process, between its members.
+    Members,
+    /// In a thread or a procedure.
+    Body,
+    /// Behind a schedule.
+    Schedule,
+}

@@ -1,0 +1,23 @@
+//! Scripts: which text spells which script, the first bad line of a text that spells none, and the canonical text.
+#![tactic(auto)]
+
+pub mod bad;
+pub mod bad_text;
+mod blocks;
+mod copy;
+mod draft;
+pub mod item;
+mod items;
+pub mod laws;
+mod line_reader;
+mod names;
+pub mod parse;
+pub mod print;
+mod same;
+pub mod script;
+mod standing;
+#[cfg(test)]
+mod tests;
+mod text_reader;
+mod variables;
+pub mod worked;

@@ -1,0 +1,170 @@
+use crate::laws::texts_found;
+use dk_base::list::{Bytes, Sequence, TidList};
+use dk_base::number::{Pid, Tid};
+use script_line::line::Body;
+use script_line::tables::Tables;
+use std::marker::Model;
+
+/// A process of a script. Processes are numbered from 1 in order.
+#[derive(Debug, Drop, PartialEq)]
+pub struct ScriptProcess {
+    pub name: Bytes,
+    /// How many descriptors it may have, at most 256.
+    pub limit: u32,
+}
+
+/// A thread of a script, or a spare, whose body is empty. They are numbered together from 1 in order.
+#[derive(Debug, Drop, PartialEq)]
+pub struct ScriptThread {
+    pub name: Bytes,
+    pub process: Pid,
+    pub spare: bool,
+    pub body: Body,
+}
+
+/// A server procedure. Procedures are numbered from 0 over the whole script; the number is the `entry` of its doors.
+#[derive(Debug, Drop, PartialEq)]
+pub struct Procedure {
+    pub name: Bytes,
+    pub process: Pid,
+    pub body: Body,
+}
+
+/// What a line declares.
+#[derive(Clone, Copy, Debug, PartialEq, Eq)]
+pub enum Part {
+    Process,
+    /// A thread or a spare.
+    Thread,
+    Procedure,
+}
+
+/// A script.
+#[derive(Drop)]
+pub struct Script {
+    pub(crate) budget: u32,
+    pub(crate) processes: Sequence<ScriptProcess>,
+    pub(crate) threads: Sequence<ScriptThread>,
+    pub(crate) procedures: Sequence<Procedure>,
+    pub(crate) order: Sequence<Part>,
+    pub(crate) schedule: TidList,
+    /// The names with their numbers, those of paths among them.
+    pub(crate) tables: Tables,
+}
+
+impl Model for Script {
+    ghost use Rattle.script_lang.specs.Value.{ScriptValue};
+
+    ghost Value = { ScriptValue };
+
+    ghost use Rattle.script_lang.specs.IsScript.{IsScript};
+
+    ghost view = { λ s. record { budget = s.budget; processes = s.processes; threads = s.threads; procedures = s.procedures; order = s.order; paths = s.tables.paths; schedule = s.schedule } };
+
+    ghost invariant = { λ s. IsScript s.tables (record { budget = s.budget; processes = s.processes; threads = s.threads; procedures = s.procedures; order = s.order; paths = s.tables.paths; schedule = s.schedule }) };
+}
+
+impl Script {
+    ghost use Rattle.std.specs.Prelude.{◌≡◌, ◌<◌, ◌≤◌, length, Some, Ok, option_map, slice_get};
+    ghost use Rattle.script_line.specs.Tables.{numbered};
+    ghost use Rattle.script_lang.specs.Canonical.{canonical};
+    ghost use Rattle.script_lang.specs.Reading.{reading};
+    ghost use Rattle.script_lang.specs.Spelled.{spells};
+
+    /// The canonical text of every script spells it, and is read as it. It does nothing: callers have the law by it.
+    pub fn is_spelled(&self)
+        ensures spelled { spells (canonical self.now) self.now }
+        ensures again { reading (canonical self.now) ≡ Ok self.now }
+    {
+        let _tables = &self.tables;
+        texts_found();
+    }
+
+    /// At most this many events are made.
+    pub fn budget(&self) -> u32
+        ensures { result ≡ self.now.budget }
+    {
+        self.budget
+    }
+
+    /// The threads and spares whose turns come first, in order.
+    pub fn schedule(&self) -> &TidList
+        ensures { result.now ≡ self.now.schedule }
+    {
+        &self.schedule
+    }
+
+    /// How many processes there are.
+    pub fn processes(&self) -> u32
+        ensures { result ≡ length self.now.processes }
+    {
+        self.tables.process_count()
+    }
+
+    /// How many threads and spares there are.
+    pub fn threads(&self) -> u32
+        ensures { result ≡ length self.now.threads }
+    {
+        self.tables.thread_count()
+    }
+
+    /// How many descriptors a process may have.
+    pub fn limit(&self, process: Pid) -> u32
+        requires first { 1 ≤ process.0 }
+        requires declared { process.0 ≤ length self.now.processes }
+        ensures { option_map (λ of. of.limit) (numbered self.now.processes process.0) ≡ Some result }
+    {
+        self.processes.slice()[process.0 as usize - 1].limit
+    }
+
+    /// The process of a thread or a spare.
+    pub fn process_of(&self, thread: Tid) -> Pid
+        requires first { 1 ≤ thread.0 }
+        requires declared { thread.0 ≤ length self.now.threads }
+        ensures { option_map (λ of. of.process) (numbered self.now.threads thread.0) ≡ Some result }
+    {
+        self.threads.slice()[thread.0 as usize - 1].process
+    }
+
+    /// Whether it is a spare.
+    pub fn is_spare(&self, thread: Tid) -> bool
+        requires first { 1 ≤ thread.0 }
+        requires declared { thread.0 ≤ length self.now.threads }
+        ensures { option_map (λ of. of.spare) (numbered self.now.threads thread.0) ≡ Some result }
+    {
+        self.threads.slice()[thread.0 as usize - 1].spare
+    }
+
+    pub fn thread_name(&self, thread: Tid) -> &Bytes
+        requires first { 1 ≤ thread.0 }
+        requires declared { thread.0 ≤ length self.now.threads }
+        ensures { option_map (λ of. of.name) (numbered self.now.threads thread.0) ≡ Some result.now }
+    {
+        &self.threads.slice()[thread.0 as usize - 1].name
+    }
+
+    /// The lines of a thread; a spare has none.
+    pub fn thread_body(&self, thread: Tid) -> &Body
+        requires first { 1 ≤ thread.0 }
+        requires declared { thread.0 ≤ length self.now.threads }
+        ensures { option_map (λ of. of.body) (numbered self.now.threads thread.0) ≡ Some result.now }
+    {
+        &self.threads.slice()[thread.0 as usize - 1].body
+    }
+
+    /// The name of a server procedure.
+    pub fn entry_name(&self, entry: u32) -> &Bytes
+        requires { entry < length self.now.procedures }
+        ensures { option_map (λ of. of.name) (slice_get self.now.procedures entry) ≡ Some result.now }
+    {
+        &self.procedures.slice()[entry as usize].name
+    }
+
+    /// The lines of a server procedure.
+    pub fn proc_body(&self, entry: u32) -> &Body
+        requires { entry < length self.now.procedures }
+        ensures { option_map (λ of. of.body) (slice_get self.now.procedures entry) ≡ Some result.now }
+    {
+        &self.procedures.slice()[entry as usize].body
+    }
+}

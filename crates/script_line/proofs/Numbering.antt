@@ -1,0 +1,154 @@
+-- Names and their numbers.
+use Rattle.std.proofs.Common.{◌≡◌, ℕ, zero, suc, ◌+◌, ◌-◌, ◌<◌, Bool, true, false, cond, ◌==◌, ◌&&◌, not, List, [], ◌∷◌, length, Option, Some, None, refl, ap, sym, ◌∙◌, subst, arith}
+use Rattle.std.specs.Prelude.{slice_get, position, nat_lt, bytes_eq}
+use Rattle.std.specs.List.{position_or_len, list_any}
+use Rattle.std.proofs.lemmas.Bool.{false≢true, and_parts, or_parts}
+use Rattle.std.proofs.lemmas.Bool.Decides.{nat_tests}
+use Rattle.std.proofs.lemmas.Slice.Eq.{bytes_eq-Decides}
+use Rattle.script_text.specs.Names.{are_distinct}
+use Rattle.script_line.specs.Tables.{Tables, ProcedureName, is_same, is_procedure, from_one, entry_number, path_number, numbered}
+use Rattle.script_line.specs.DistinctTables.{same_procedure}
+use Rattle.script_line.specs.Spelled.{procedure_name}
+
+abbrev some_or : {A : Type 0} → A → Option A → A
+some_or x None = x
+some_or x (Some y) = y
+
+pub same_some : {A : Type 0} {x y : A} → ◌≡◌ {A = Option A} (Some x) (Some y) → x ≡ y
+same_some {x = x} e = ap (some_or x) e
+
+abbrev is_there : {A : Type 0} → Option A → Bool
+is_there None = false
+is_there (Some x) = true
+
+pub no_value : {A : Type 0} {x : A} → ◌≡◌ {A = Option A} None (Some x) → ⊥
+no_value e = false≢true (ap is_there e)
+
+-- what a name's number names
+
+record Passes {A : Type 0} (test : A → Bool) (xs : List A) (i : ℕ) : Type 0 where
+  item : A
+  at : slice_get xs i ≡ Some item
+  passes : test item ≡ true
+
+passes_behind : {A : Type 0} (test : A → Bool) (x : A) (xs : List A) (i j : ℕ) → j ≡ 1 + i → Passes test xs i → Passes test (x ∷ xs) j
+passes_behind test x xs i zero e found = absurd (omega arith)
+passes_behind test x xs i (suc j) e found = let same : i ≡ j = omega arith in record { item = found.item; at = ap (slice_get xs) (sym same) ∙ found.at; passes = found.passes }
+
+first_if : {A : Type 0} (test : A → Bool) (x : A) (xs : List A) (here : Bool) → test x ≡ here → (position_or_len test xs < length xs → Passes test xs (position_or_len test xs))
+    → cond (not here) (1 + position_or_len test xs) 0 < length (x ∷ xs) → Passes test (x ∷ xs) (cond (not here) (1 + position_or_len test xs) 0)
+first_if test x xs true is later within = record { item = x; at = refl; passes = is }
+first_if test x xs false is later within = passes_behind test x xs (position_or_len test xs) (1 + position_or_len test xs) refl (later (omega arith))
+
+first_passes : {A : Type 0} (test : A → Bool) (xs : List A) → position_or_len test xs < length xs → Passes test xs (position_or_len test xs)
+first_passes test [] within = absurd (omega arith)
+first_passes test (x ∷ xs) within = first_if test x xs (test x) refl (first_passes test xs) within
+
+place_if : (within : Bool) (n i : ℕ) → cond within (Some n) None ≡ Some i → (within ≡ true) × (n ≡ i)
+place_if true n i e = (refl, same_some e)
+place_if false n i e = absurd (no_value e)
+
+below_if : (m n : ℕ) → nat_lt m n ≡ true → m < n
+below_if m n e = grind (arith, nat_tests)
+
+place_passes : {A : Type 0} (test : A → Bool) (xs : List A) (i : ℕ) → position test xs ≡ Some i → Passes test xs i
+place_passes test xs i e =
+    let place = place_if (nat_lt (position_or_len test xs) (length xs)) (position_or_len test xs) i e in
+    subst (Passes test xs) place.1 (first_passes test xs (below_if (position_or_len test xs) (length xs) place.0))
+
+same_name : (name other : List ℕ) → is_same name other ≡ true → other ≡ name
+same_name name other e = (bytes_eq-Decides other name).0 e
+
+pub name_at_place : (names : List (List ℕ)) (name : List ℕ) (i : ℕ) → position (is_same name) names ≡ Some i → slice_get names i ≡ Some name
+name_at_place names name i e = let found = place_passes (is_same name) names i e in found.at ∙ ap Some (same_name name found.item found.passes)
+
+numbered_from_one : (names : List (List ℕ)) (i : ℕ) → numbered names (i + 1) ≡ slice_get names i
+numbered_from_one names i = rw (no_zero i) (ap (slice_get names) (omega arith))
+  where
+    no_zero : (i : ℕ) → (i + 1 == 0) ≡ false
+    no_zero i = grind (arith, nat_tests)
+
+from_one_at : (names : List (List ℕ)) (name : List ℕ) (place : Option ℕ) (n : ℕ) → position (is_same name) names ≡ place → from_one place ≡ Some n → numbered names n ≡ Some name
+from_one_at names name None n is e = absurd (no_value e)
+from_one_at names name (Some i) n is e = ap (numbered names) (sym (same_some e)) ∙ numbered_from_one names i ∙ name_at_place names name i is
+
+-- a name that has this number
+pub name_of_number : (names : List (List ℕ)) (name : List ℕ) (n : ℕ) → from_one (position (is_same name) names) ≡ Some n → numbered names n ≡ Some name
+name_of_number names name n e = from_one_at names name (position (is_same name) names) n refl e
+
+same_process : (process : ℕ) (name : List ℕ) (other : ProcedureName) → is_procedure process name other ≡ true → other ≡ procedure_name process name
+same_process process name other e =
+    let parts = and_parts (other.process == process) (bytes_eq other.name name) e in
+    let of : other.process ≡ process = grind (arith, nat_tests) in
+    let is : other.name ≡ name = (bytes_eq-Decides other.name name).0 parts.1 in
+    ap (λ n. procedure_name n other.name) of ∙ ap (procedure_name process) is
+
+pub procedure_of_number : (tables : Tables) (process : ℕ) (name : List ℕ) (n : ℕ) → entry_number tables process name ≡ Some n → slice_get tables.procedures n ≡ Some (procedure_name process name)
+procedure_of_number tables process name n e =
+    let found = place_passes (is_procedure process name) tables.procedures n e in
+    found.at ∙ ap Some (same_process process name found.item found.passes)
+
+pub path_of_number : (tables : Tables) (name : List ℕ) → path_number tables name < length tables.paths → slice_get tables.paths (path_number tables name) ≡ Some name
+path_of_number tables name within = let found = first_passes (is_same name) tables.paths within in found.at ∙ ap Some (same_name name found.item found.passes)
+
+-- the number of what is at a place, where nothing stands twice
+
+within_length : {A : Type 0} (xs : List A) (i : ℕ) (y : A) → slice_get xs i ≡ Some y → i < length xs
+within_length [] i y e = absurd (no_value e)
+within_length (x ∷ xs) zero y e = omega arith
+within_length (x ∷ xs) (suc i) y e = let later = within_length xs i y e in omega arith
+
+none_passes : {A : Type 0} (test : A → Bool) (xs : List A) (i : ℕ) (y : A) → list_any test xs ≡ false → slice_get xs i ≡ Some y → test y ≡ false
+none_passes test [] i y none at = absurd (no_value at)
+none_passes test (x ∷ xs) zero y none at = ap test (sym (same_some at)) ∙ (or_parts (test x) (list_any test xs) none).0
+none_passes test (x ∷ xs) (suc i) y none at = none_passes test xs i y (or_parts (test x) (list_any test xs) none).1 at
+
+not_true : (b : Bool) → not b ≡ true → b ≡ false
+not_true true e = absurd (false≢true e)
+not_true false e = refl
+
+first_at : {A : Type 0} (same : A → A → Bool) (xs : List A) (i : ℕ) (y : A) → same y y ≡ true → are_distinct same xs ≡ true → slice_get xs i ≡ Some y → position_or_len (λ x. same x y) xs ≡ i
+first_at same [] i y own distinct at = absurd (no_value at)
+first_at same (x ∷ xs) zero y own distinct at = ap (λ test. cond (not test) (1 + position_or_len (λ x. same x y) xs) 0) (ap (λ z. same z y) (same_some at) ∙ own)
+first_at same (x ∷ xs) (suc i) y own distinct at =
+    let parts = and_parts (not (list_any (same x) xs)) (are_distinct same xs) distinct in
+    let other : same x y ≡ false = none_passes (same x) xs i y (not_true (list_any (same x) xs) parts.0) at in
+    let later : position_or_len (λ x. same x y) xs ≡ i = first_at same xs i y own parts.1 at in
+    ap (λ test. cond (not test) (1 + position_or_len (λ x. same x y) xs) 0) other ∙ omega arith
+
+place_at : {A : Type 0} (test : A → Bool) (xs : List A) (i : ℕ) → position_or_len test xs ≡ i → i < length xs → position test xs ≡ Some i
+place_at test xs i e within = ap (λ n. cond (nat_lt n (length xs)) (Some n) None) e ∙ within_is i (length xs) within
+  where
+    within_is : (m n : ℕ) → m < n → cond (nat_lt m n) (Some m) None ≡ Some m
+    within_is m n h = grind (arith, nat_tests)
+
+own_name : (name : List ℕ) → bytes_eq name name ≡ true
+own_name name = (bytes_eq-Decides name name).1 refl
+
+pub place_of_name : (names : List (List ℕ)) (i : ℕ) (name : List ℕ) → are_distinct bytes_eq names ≡ true → slice_get names i ≡ Some name → position (is_same name) names ≡ Some i
+place_of_name names i name distinct at = place_at (is_same name) names i (first_at bytes_eq names i name (own_name name) distinct at) (within_length names i name at)
+
+number_if : (none : Bool) (names : List (List ℕ)) (n : ℕ) (name : List ℕ) → (n == 0) ≡ none → are_distinct bytes_eq names ≡ true → cond none None (slice_get names (n - 1)) ≡ Some name → from_one (position (is_same name) names) ≡ Some n
+number_if true names n name is distinct at = absurd (no_value at)
+number_if false names n name is distinct at =
+    let positive : 0 < n = above n is in
+    ap from_one (place_of_name names (n - 1) name distinct at) ∙ ap Some (omega arith)
+  where
+    above : (n : ℕ) → (n == 0) ≡ false → 0 < n
+    above n h = grind (arith, nat_tests)
+
+pub number_of_name : (names : List (List ℕ)) (n : ℕ) (name : List ℕ) → are_distinct bytes_eq names ≡ true → numbered names n ≡ Some name → from_one (position (is_same name) names) ≡ Some n
+number_of_name names n name distinct at = number_if (n == 0) names n name refl distinct at
+
+own_procedure : (process : ℕ) (name : List ℕ) → is_procedure process name (procedure_name process name) ≡ true
+own_procedure process name = rw own_name (own process)
+  where
+    own : (n : ℕ) → ((n == n) && true) ≡ true
+    own n = grind (arith, nat_tests)
+
+pub number_of_procedure : (tables : Tables) (process n : ℕ) (name : List ℕ) → are_distinct same_procedure tables.procedures ≡ true → slice_get tables.procedures n ≡ Some (procedure_name process name) → entry_number tables process name ≡ Some n
+number_of_procedure tables process n name distinct at =
+    place_at (is_procedure process name) tables.procedures n (first_at same_procedure tables.procedures n (procedure_name process name) (own_procedure process name) distinct at) (within_length tables.procedures n (procedure_name process name) at)
+
+pub number_of_path : (tables : Tables) (n : ℕ) (name : List ℕ) → are_distinct bytes_eq tables.paths ≡ true → slice_get tables.paths n ≡ Some name → path_number tables name ≡ n
+number_of_path tables n name distinct at = first_at bytes_eq tables.paths n name (own_name name) distinct at

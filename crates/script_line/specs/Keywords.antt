@@ -1,0 +1,72 @@
+-- The first words of a body's lines.
+use Rattle.std.specs.Prelude.{ℕ, List, [], ◌∷◌, Option, codes}
+use Rattle.std.specs.Option.{option_or}
+use Rattle.script_line.specs.declared.keyword.Keyword.{Keyword}
+use Rattle.script_line.specs.declared.keyword.Keyword.TheVariants.{Create, Call, Return, Serve, Revoke, Bind, Unbind, Info, GetParam, SetParam, Cred, TestCancel, Exit, Close, Dup, Attach, Detach, Open, Await, Pipe, Write, Read, PortCreate, Associate, Dissociate, Get, GetN, Send, SendN, Alert, Interrupt, Kill, Work, Repeat, If, End}
+use Rattle.script_line.specs.Enumerated.{value_of_word}
+
+abbrev pub keyword_word : Keyword → List ℕ
+keyword_word Create = codes "create"
+keyword_word Call = codes "call"
+keyword_word Return = codes "return"
+keyword_word Serve = codes "serve"
+keyword_word Revoke = codes "revoke"
+keyword_word Bind = codes "bind"
+keyword_word Unbind = codes "unbind"
+keyword_word Info = codes "info"
+keyword_word GetParam = codes "getparam"
+keyword_word SetParam = codes "setparam"
+keyword_word Cred = codes "cred"
+keyword_word TestCancel = codes "testcancel"
+keyword_word Exit = codes "exit"
+keyword_word Close = codes "close"
+keyword_word Dup = codes "dup"
+keyword_word Attach = codes "attach"
+keyword_word Detach = codes "detach"
+keyword_word Open = codes "open"
+keyword_word Await = codes "await"
+keyword_word Pipe = codes "pipe"
+keyword_word Write = codes "write"
+keyword_word Read = codes "read"
+keyword_word PortCreate = codes "pcreate"
+keyword_word Associate = codes "associate"
+keyword_word Dissociate = codes "dissociate"
+keyword_word Get = codes "get"
+keyword_word GetN = codes "getn"
+keyword_word Send = codes "send"
+keyword_word SendN = codes "sendn"
+keyword_word Alert = codes "alert"
+keyword_word Interrupt = codes "interrupt"
+keyword_word Kill = codes "kill"
+keyword_word Work = codes "work"
+keyword_word Repeat = codes "repeat"
+keyword_word If = codes "if"
+keyword_word End = codes "end"
+
+abbrev pub door_keywords : List Keyword
+door_keywords = Create ∷ Call ∷ Return ∷ Serve ∷ Revoke ∷ Bind ∷ Unbind ∷ Info ∷ []
+
+abbrev pub descriptor_keywords : List Keyword
+descriptor_keywords = GetParam ∷ SetParam ∷ Cred ∷ TestCancel ∷ Exit ∷ Close ∷ Dup ∷ Attach ∷ Detach ∷ []
+
+abbrev pub port_keywords : List Keyword
+port_keywords = Open ∷ Await ∷ Pipe ∷ Write ∷ Read ∷ PortCreate ∷ Associate ∷ Dissociate ∷ Get ∷ []
+
+abbrev pub other_keywords : List Keyword
+other_keywords = GetN ∷ Send ∷ SendN ∷ Alert ∷ Interrupt ∷ Kill ∷ Work ∷ Repeat ∷ If ∷ End ∷ []
+
+unfoldable pub door_keyword : List ℕ → Option Keyword
+door_keyword word = value_of_word keyword_word door_keywords word
+
+unfoldable pub descriptor_keyword : List ℕ → Option Keyword
+descriptor_keyword word = value_of_word keyword_word descriptor_keywords word
+
+unfoldable pub port_keyword : List ℕ → Option Keyword
+port_keyword word = value_of_word keyword_word port_keywords word
+
+unfoldable pub other_keyword : List ℕ → Option Keyword
+other_keyword word = value_of_word keyword_word other_keywords word
+
+-- the keyword that a word is. Which words are keywords may depend on the text's version: version 1 has these.
+abbrev pub keyword_of : ℕ → List ℕ → Option Keyword
+keyword_of version word = option_or (door_keyword word) (option_or (descriptor_keyword word) (option_or (port_keyword word) (other_keyword word)))

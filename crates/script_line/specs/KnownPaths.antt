@@ -1,0 +1,13 @@
+-- Lines whose paths have names in the tables.
+use Rattle.std.specs.Prelude.{List, [], ◌∷◌, ◌<◌, length}
+use Rattle.dk_base.specs.declared.number.PathId.{PathId}
+use Rattle.script_line.specs.declared.line.Line.{Line}
+use Rattle.script_line.specs.Tables.{Tables}
+use Rattle.script_line.specs.Uses.{paths_of}
+
+abbrev pub ArePaths : Tables → List PathId → Type 0
+ArePaths tables [] = Unit {0}
+ArePaths tables (path ∷ paths) = (path.0 < length tables.paths) × ArePaths tables paths
+
+abbrev pub HasPaths : Tables → Line → Type 0
+HasPaths tables line = ArePaths tables (paths_of line)

@@ -1,0 +1,189 @@
+-- Which words spell a line: from the line's values to words, one row for each command, with no reader.
+use Rattle.std.specs.Prelude.{ℕ, ◌≡◌, ◌≤◌, ◌⊎◌, Bool, true, false, List, [], ◌∷◌, ◌++◌, Some, length, slice_get, codes, decimal}
+use Rattle.dk_base.specs.declared.number.PathId.{PathId}
+use Rattle.dk_base.specs.declared.number.Pid.{Pid}
+use Rattle.dk_base.specs.declared.number.Tid.{Tid}
+use Rattle.dk_base.specs.declared.request.AlertMode.{AlertMode}
+use Rattle.dk_base.specs.declared.request.Op.{Op}
+use Rattle.dk_base.specs.declared.request.Param.{Param}
+use Rattle.dk_base.specs.declared.set.Attrs.{Attrs}
+use Rattle.dk_base.specs.declared.set.PollSet.{PollSet}
+use Rattle.script_text.specs.Names.{is_name}
+use Rattle.script_text.specs.Spelled.{SpellsName, SpellsNumber, SpellsString}
+use Rattle.script_line.specs.declared.line.Cond.{Cond}
+use Rattle.script_line.specs.declared.line.FdArg.{FdArg}
+use Rattle.script_line.specs.declared.line.FdArg.TheVariants.{Number, Of as OfFd}
+use Rattle.script_line.specs.declared.line.PassArg.{PassArg}
+use Rattle.script_line.specs.declared.line.Piece.{Piece}
+use Rattle.script_line.specs.declared.line.Piece.TheVariants.{Text, Of, Fill}
+use Rattle.script_line.specs.declared.line.Line.{Line}
+use Rattle.script_line.specs.declared.line.Line.TheVariants.{Create, Call, Return, Serve, Revoke, Bind, Unbind, Info, InfoQuery, GetParam, SetParam, Cred, TestCancel, Exit, Close, Dup, Attach, Detach, Open, Await, Pipe, Write, Read, PortCreate, Associate, Dissociate, Get, GetN, Send, SendN, Alert, Interrupt, Kill, Work, Repeat, If, End}
+use Rattle.script_line.specs.Tables.{Tables, ProcedureName, numbered}
+use Rattle.script_line.specs.Sets.{attributes_of, bits_of_word, polls}
+use Rattle.script_line.specs.Enumerated.{param_word, mode_word, op_word, cond_word}
+use Rattle.script_line.specs.Operands.{greatest_32, greatest_64}
+use Rattle.script_line.specs.Words.{release_mark}
+
+-- words
+
+-- what is said of the words of a line from some place on
+abbrev pub Spelling : Type 1
+Spelling = List (List ℕ) → Type 0
+
+-- no word is left
+abbrev pub Ends : Spelling
+Ends words = words ≡ []
+
+-- one word, then others
+abbrev pub First : (List ℕ → Type 0) → Spelling → Spelling
+First P Next [] = ⊥
+First P Next (word ∷ words) = P word × Next words
+
+-- this word, then others
+abbrev pub Then : List ℕ → Spelling → Spelling
+Then keyword Next = First (λ word. word ≡ keyword) Next
+
+-- a word for each of these, then others
+abbrev pub Each : {A : Type 0} → (A → List ℕ → Type 0) → List A → Spelling → Spelling
+Each Spells [] Next = Next
+Each Spells (x ∷ xs) Next = First (Spells x) (Each Spells xs Next)
+
+-- operands
+
+abbrev pub SpellsProcess : Tables → Pid → List ℕ → Type 0
+SpellsProcess tables process word = (is_name word ≡ true) × (numbered tables.processes process.0 ≡ Some word)
+
+abbrev pub SpellsThread : Tables → Tid → List ℕ → Type 0
+SpellsThread tables thread word = (is_name word ≡ true) × (numbered tables.threads thread.0 ≡ Some word)
+
+abbrev pub procedure_name : ℕ → List ℕ → ProcedureName
+procedure_name process name = record { process = process; name = name }
+
+-- a procedure of this process
+abbrev pub SpellsProcedure : Tables → ℕ → ℕ → List ℕ → Type 0
+SpellsProcedure tables process entry word = (is_name word ≡ true) × (slice_get tables.procedures entry ≡ Some (procedure_name process word))
+
+abbrev pub SpellsPath : Tables → PathId → List ℕ → Type 0
+SpellsPath tables path word = (is_name word ≡ true) × (slice_get tables.paths path.0 ≡ Some word)
+
+-- $VAR
+abbrev pub SpellsVariable : List ℕ → List ℕ → Type 0
+SpellsVariable variable word = (is_name variable ≡ true) × (word ≡ 36 ∷ variable)
+
+-- $VAR.K with K from 0 to 15
+abbrev pub SpellsIndexed : List ℕ → ℕ → List ℕ → Type 0
+SpellsIndexed variable k word = (is_name variable ≡ true) × (k ≤ 15) × (word ≡ 36 ∷ variable ++ 46 ∷ decimal k)
+
+-- FD: a number from 0 to 255, $VAR for $VAR.0, or $VAR.K
+abbrev pub SpellsFd : FdArg → List ℕ → Type 0
+SpellsFd (Number n) word = SpellsNumber 0 255 n word
+SpellsFd (OfFd variable k) word = ((k ≡ 0) × SpellsVariable variable word) ⊎ SpellsIndexed variable k word
+
+-- PASS: an FD, with `!` at once behind it for a release
+pub record SpellsPass (pass : PassArg) (word : List ℕ) : Type 0 where
+  pub front : List ℕ
+  pub spells_fd : SpellsFd pass.fd front
+  pub marked : word ≡ front ++ release_mark pass.release
+
+-- a piece of DATA: a string, $VAR, or fill:N with N from 0 to 8192
+abbrev pub SpellsPiece : Piece → List ℕ → Type 0
+SpellsPiece (Text text) word = SpellsString text word
+SpellsPiece (Of variable) word = SpellsVariable variable word
+SpellsPiece (Fill n) word = (n ≤ 8192) × (word ≡ codes "fill:" ++ decimal n)
+
+abbrev pub MorePieces : List Piece → Spelling → Spelling
+MorePieces [] Next = Next
+MorePieces (piece ∷ pieces) Next = Then (codes "+") (First (SpellsPiece piece) (MorePieces pieces Next))
+
+-- DATA: one or more pieces, joined by the word `+`
+abbrev pub Pieces : List Piece → Spelling → Spelling
+Pieces [] Next words = ⊥
+Pieces (piece ∷ pieces) Next words = First (SpellsPiece piece) (MorePieces pieces Next) words
+
+-- nothing, or `desc PASS ..` (1 to 32)
+abbrev pub Passes : List PassArg → Spelling → Spelling
+Passes [] Next words = Next words
+Passes (pass ∷ passes) Next words = (length (pass ∷ passes) ≤ 32) × Then (codes "desc") (Each SpellsPass (pass ∷ passes) Next) words
+
+-- nothing for 4096, or `rsize N`
+abbrev pub Rsize : ℕ → Spelling → Spelling
+Rsize rsize Next words = ((rsize ≡ 4096) × Next words) ⊎ Then (codes "rsize") (First (SpellsNumber 0 greatest_64 rsize) Next) words
+
+-- FD .. (1 to 16) to the line's end
+abbrev pub Ports : List FdArg → Spelling
+Ports fds words = (1 ≤ length fds) × (length fds ≤ 16) × Each SpellsFd fds Ends words
+
+-- ATTR .. to the line's end: each names an attribute, each at most once, and together they are the set
+abbrev pub Attributes : Attrs → Spelling
+Attributes set words = attributes_of words ≡ Some set
+
+-- POLL
+abbrev pub SpellsPoll : PollSet → List ℕ → Type 0
+SpellsPoll set word = bits_of_word polls word ≡ Some set.0
+
+-- PARAM
+abbrev pub SpellsParam : Param → List ℕ → Type 0
+SpellsParam param word = word ≡ param_word param
+
+-- MODE
+abbrev pub SpellsMode : AlertMode → List ℕ → Type 0
+SpellsMode mode word = word ≡ mode_word mode
+
+-- OP
+abbrev pub SpellsOp : Op → List ℕ → Type 0
+SpellsOp op word = word ≡ op_word op
+
+-- COND
+abbrev pub SpellsCond : Cond → List ℕ → Type 0
+SpellsCond cond word = word ≡ cond_word cond
+
+-- the N of `setparam`: a number, or `max` for the greatest
+abbrev pub SpellsValue : ℕ → List ℕ → Type 0
+SpellsValue value word = ((value ≡ greatest_64) × (word ≡ codes "max")) ⊎ SpellsNumber 0 greatest_64 value word
+
+-- nothing, or `nowait`
+abbrev pub Waits : Bool → Spelling
+Waits true = Ends
+Waits false = Then (codes "nowait") Ends
+
+-- lines
+
+-- these words spell the line, in a body of this process
+abbrev pub SpellsLine : Tables → ℕ → Line → Spelling
+SpellsLine tables of (Create var entry cookie attrs) = Then (codes "create") (First (SpellsName var) (First (SpellsProcedure tables of entry) (First (SpellsNumber 0 greatest_64 cookie) (Attributes attrs))))
+SpellsLine tables of (Call var fd bytes pass rsize) = Then (codes "call") (First (SpellsName var) (First (SpellsFd fd) (Pieces bytes (Passes pass (Rsize rsize Ends)))))
+SpellsLine tables of (Return bytes pass) = Then (codes "return") (Pieces bytes (Passes pass Ends))
+SpellsLine tables of Serve = Then (codes "serve") Ends
+SpellsLine tables of (Revoke fd) = Then (codes "revoke") (First (SpellsFd fd) Ends)
+SpellsLine tables of (Bind fd) = Then (codes "bind") (First (SpellsFd fd) Ends)
+SpellsLine tables of Unbind = Then (codes "unbind") Ends
+SpellsLine tables of (Info fd) = Then (codes "info") (First (SpellsFd fd) Ends)
+SpellsLine tables of InfoQuery = Then (codes "info") (Then (codes "query") Ends)
+SpellsLine tables of (GetParam fd param) = Then (codes "getparam") (First (SpellsFd fd) (First (SpellsParam param) Ends))
+SpellsLine tables of (SetParam fd param value) = Then (codes "setparam") (First (SpellsFd fd) (First (SpellsParam param) (First (SpellsValue value) Ends)))
+SpellsLine tables of Cred = Then (codes "cred") Ends
+SpellsLine tables of TestCancel = Then (codes "testcancel") Ends
+SpellsLine tables of Exit = Then (codes "exit") Ends
+SpellsLine tables of (Close fd) = Then (codes "close") (First (SpellsFd fd) Ends)
+SpellsLine tables of (Dup var fd) = Then (codes "dup") (First (SpellsName var) (First (SpellsFd fd) Ends))
+SpellsLine tables of (Attach fd path) = Then (codes "attach") (First (SpellsFd fd) (First (SpellsPath tables path) Ends))
+SpellsLine tables of (Detach path) = Then (codes "detach") (First (SpellsPath tables path) Ends)
+SpellsLine tables of (Open var path) = Then (codes "open") (First (SpellsName var) (First (SpellsPath tables path) Ends))
+SpellsLine tables of (Await path) = Then (codes "await") (First (SpellsPath tables path) Ends)
+SpellsLine tables of (Pipe reading writing) = Then (codes "pipe") (First (SpellsName reading) (First (SpellsName writing) Ends))
+SpellsLine tables of (Write fd bytes) = Then (codes "write") (First (SpellsFd fd) (Pieces bytes Ends))
+SpellsLine tables of (Read var fd most) = Then (codes "read") (First (SpellsName var) (First (SpellsFd fd) (First (SpellsNumber 1 4096 most) Ends)))
+SpellsLine tables of (PortCreate var) = Then (codes "pcreate") (First (SpellsName var) Ends)
+SpellsLine tables of (Associate port object events user) = Then (codes "associate") (First (SpellsFd port) (First (SpellsFd object) (First (SpellsPoll events) (First (SpellsNumber 0 greatest_64 user) Ends))))
+SpellsLine tables of (Dissociate port object) = Then (codes "dissociate") (First (SpellsFd port) (First (SpellsFd object) Ends))
+SpellsLine tables of (Get port wait) = Then (codes "get") (First (SpellsFd port) (Waits wait))
+SpellsLine tables of (GetN port most least wait) = Then (codes "getn") (First (SpellsFd port) (First (SpellsNumber 0 64 most) (First (SpellsNumber 0 64 least) (Waits wait))))
+SpellsLine tables of (Send port events user) = Then (codes "send") (First (SpellsFd port) (First (SpellsNumber 0 greatest_32 events) (First (SpellsNumber 0 greatest_64 user) Ends)))
+SpellsLine tables of (SendN events user ports) = Then (codes "sendn") (First (SpellsNumber 0 greatest_32 events) (First (SpellsNumber 0 greatest_64 user) (Ports ports)))
+SpellsLine tables of (Alert port mode events user) = Then (codes "alert") (First (SpellsFd port) (First (SpellsMode mode) (First (SpellsNumber 0 greatest_32 events) (First (SpellsNumber 0 greatest_64 user) Ends))))
+SpellsLine tables of (Interrupt thread) = Then (codes "interrupt") (First (SpellsThread tables thread) Ends)
+SpellsLine tables of (Kill process) = Then (codes "kill") (First (SpellsProcess tables process) Ends)
+SpellsLine tables of (Work var op bytes) = Then (codes "work") (First (SpellsName var) (First (SpellsOp op) (Pieces bytes Ends)))
+SpellsLine tables of (Repeat times) = Then (codes "repeat") (First (SpellsNumber 1 1000000 times) Ends)
+SpellsLine tables of (If cond) = Then (codes "if") (First (SpellsCond cond) Ends)
+SpellsLine tables of End = Then (codes "end") Ends

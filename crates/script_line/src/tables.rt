@@ -1,0 +1,188 @@
+use crate::paths::PathTable;
+use crate::search::{ProcedureName, name_at, place_of, place_of_procedure, procedure_at};
+use dk_base::duplicate::Duplicate;
+use dk_base::error::NoMemory;
+use dk_base::list::{Bytes, Sequence};
+use dk_base::number::{PathId, Pid, Tid};
+use std::alloc::Global;
+use std::marker::Model;
+
+/// The names of a script with their numbers. Processes, and threads with spares, are numbered from 1 in the order of
+/// their lines, procedures from 0 over the whole script in the order of their lines, and paths from 0 in the order of
+/// their first uses.
+#[derive(Drop)]
+pub struct Tables {
+    processes: Sequence<Bytes>,
+    threads: Sequence<Bytes>,
+    procedures: Sequence<ProcedureName>,
+    paths: PathTable,
+}
+
+impl Model for Tables {
+    ghost use Rattle.script_line.specs.Tables.{Tables as Names};
+
+    ghost Value = { Names };
+
+    ghost use Rattle.script_line.specs.Numbered.{HasNumbers};
+
+    ghost view = { λ tables. record { processes = tables.processes; threads = tables.threads; procedures = tables.procedures; paths = tables.paths } };
+
+    ghost invariant = { λ tables. HasNumbers tables.processes tables.threads tables.procedures };
+}
+
+impl Tables {
+    ghost use Rattle.std.specs.Prelude.{◌≡◌, ◌<◌, ◌↔◌, ◌∷◌, ◌++◌, [], length, IfOk, IsTrue, OnOk, OnErr};
+    ghost use Rattle.script_text.specs.Names.{with_name};
+    ghost use Rattle.script_line.specs.Tables.{process_number as process_numbered, thread_number as thread_numbered, entry_number as entry_numbered, path_number as path_numbered};
+    ghost use Rattle.script_line.specs.Words.{process_word, thread_word, procedure_word, path_word};
+    ghost use Rattle.script_line.specs.TableChanges.{no_names, with_process, with_thread, with_procedure, with_path};
+
+    /// No name.
+    pub fn new(alloc: Global) -> Self
+        ensures { result ≡ no_names }
+    {
+        Tables {
+            processes: Sequence::new(alloc),
+            threads: Sequence::new(alloc),
+            procedures: Sequence::new(alloc),
+            paths: PathTable::new(alloc),
+        }
+    }
+
+    /// Gives a process the next number. Want of memory leaves all as it was.
+    pub fn add_process(&mut self, alloc: Global, name: &[u8]) -> Result<(), NoMemory>
+        requires { length self.old.processes < 4294967294 }
+        ensures ok { OnOk result (self.new ≡ with_process self.old name.now) }
+        ensures err { OnErr result (self.new ≡ self.old) }
+    {
+        self.processes.push(Sequence::from_slice(alloc, name)?)
+    }
+
+    /// Gives a thread or a spare the next number. Want of memory leaves all as it was.
+    pub fn add_thread(&mut self, alloc: Global, name: &[u8]) -> Result<(), NoMemory>
+        requires { length self.old.threads < 4294967294 }
+        ensures ok { OnOk result (self.new ≡ with_thread self.old name.now) }
+        ensures err { OnErr result (self.new ≡ self.old) }
+    {
+        self.threads.push(Sequence::from_slice(alloc, name)?)
+    }
+
+    /// Gives a procedure of this process the next number. Want of memory leaves all as it was.
+    pub fn add_procedure(
+        &mut self,
+        alloc: Global,
+        process: u32,
+        name: &[u8],
+    ) -> Result<(), NoMemory>
+        requires { length self.old.procedures < 4294967294 }
+        ensures ok { OnOk result (self.new ≡ with_procedure self.old process name.now) }
+        ensures err { OnErr result (self.new ≡ self.old) }
+    {
+        let name = Sequence::from_slice(alloc, name)?;
+        self.procedures.push(ProcedureName::new(process, name))
+    }
+
+    /// Gives a path that is not there the next number. Want of memory leaves all as it was.
+    pub fn add_path(&mut self, alloc: Global, name: &[u8]) -> Result<(), NoMemory>
+        requires { length self.old.paths < 4294967294 }
+        ensures ok { OnOk result (self.new ≡ with_path self.old name.now) }
+        ensures err { OnErr result (self.new ≡ self.old) }
+    {
+        self.paths.add(alloc, name)
+    }
+
+    pub fn process_count(&self) -> u32
+        ensures { result ≡ length self.now.processes }
+    {
+        self.processes.len() as u32
+    }
+
+    pub fn thread_count(&self) -> u32
+        ensures { result ≡ length self.now.threads }
+    {
+        self.threads.len() as u32
+    }
+
+    pub fn procedure_count(&self) -> u32
+        ensures { result ≡ length self.now.procedures }
+    {
+        self.procedures.len() as u32
+    }
+
+    /// The number of the process of this name.
+    pub fn process_number(&self, name: &[u8]) -> Option<u32>
+        ensures { result ≡ process_numbered self.now name.now }
+    {
+        let place = place_of(self.processes.slice(), name)?;
+        Some(place as u32 + 1)
+    }
+
+    /// The number of the thread or spare of this name.
+    pub fn thread_number(&self, name: &[u8]) -> Option<u32>
+        ensures { result ≡ thread_numbered self.now name.now }
+    {
+        let place = place_of(self.threads.slice(), name)?;
+        Some(place as u32 + 1)
+    }
+
+    /// The number of this process's procedure of this name.
+    pub fn entry_number(&self, process: u32, name: &[u8]) -> Option<u32>
+        ensures { result ≡ entry_numbered self.now process name.now }
+    {
+        let place = place_of_procedure(self.procedures.slice(), process, name)?;
+        Some(place as u32)
+    }
+
+    /// The number of a path. One that is not there gets the next.
+    pub fn path_number(&self, name: &[u8]) -> u32
+        ensures { result ≡ path_numbered self.now name.now }
+    {
+        self.paths.number_of(name)
+    }
+
+    /// The name of a process, or nothing where there is none.
+    pub fn process_name(&self, process: Pid) -> &[u8]
+        ensures { result.now ≡ process_word self.now process }
+    {
+        name_at(self.processes.slice(), process.0)
+    }
+
+    /// The name of a thread or spare, or nothing where there is none.
+    pub fn thread_name(&self, thread: Tid) -> &[u8]
+        ensures { result.now ≡ thread_word self.now thread }
+    {
+        name_at(self.threads.slice(), thread.0)
+    }
+
+    /// The name of a procedure, or nothing where there is none.
+    pub fn procedure_name(&self, entry: u32) -> &[u8]
+        ensures { result.now ≡ procedure_word self.now entry }
+    {
+        procedure_at(self.procedures.slice(), entry)
+    }
+
+    /// The path of a number, or nothing where there is none.
+    pub fn path_name(&self, path: PathId) -> &[u8]
+        ensures { result.now ≡ path_word self.now path }
+    {
+        self.paths.name_of(path.0)
+    }
+
+    pub fn copy(&self, alloc: Global) -> Result<Self, NoMemory>
+        ensures { IfOk result (λ copy. copy ≡ self.now) }
+    {
+        Ok(Tables {
+            processes: self.processes.duplicate(alloc)?,
+            threads: self.threads.duplicate(alloc)?,
+            procedures: self.procedures.duplicate(alloc)?,
+            paths: self.paths.copy()?,
+        })
+    }
+
+    /// Whether the same paths have the same numbers.
+    pub fn same_paths(&self, other: &Tables) -> bool
+        ensures { IsTrue result ↔ (self.now.paths ≡ other.now.paths) }
+    {
+        self.paths.same(&other.paths)
+    }
+}
