@@ -249,7 +249,7 @@ fn show(rt: HostRuntime) -> Result<(), Fail> {
 /// A header, and empty lines up to so many bytes.
 fn empty_lines(alloc: Global, bytes: usize) -> Result<Bytes, Fail> {
     let mut text = Bytes::from_slice(alloc, b"doors script 1\n")?;
-    while text.len() < bytes {
+    for _ in text.len()..bytes {
         text.push(b'\n')?;
     }
     Ok(text)
