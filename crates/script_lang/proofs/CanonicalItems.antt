@@ -4,7 +4,7 @@ use Rattle.std.specs.List.{filter, filter_map}
 use Rattle.std.proofs.lemmas.Bool.{false≢true}
 use Rattle.std.proofs.lemmas.List.{append_assoc}
 use Rattle.script_line.specs.declared.line.Kind.{Kind}
-use Rattle.script_line.specs.declared.line.Kind.TheVariants.{Act, Loop, Test, Close}
+use Rattle.script_line.specs.declared.line.Kind.TheVariants.{Act, Loop, Test, Closing}
 use Rattle.script_line.specs.declared.line.Line.{Line}
 use Rattle.script_line.specs.declared.line.Line.TheVariants.{Repeat, If, End}
 use Rattle.script_line.specs.Kinds.{kind_of, depth_after}
@@ -41,17 +41,17 @@ abbrev with_open : Bool → ℕ → List Item → List Item → List Item
 with_open false depth items others = others
 with_open true depth items others = map Do (body_from depth items) ++ Do End ∷ others
 
-close_is_end : (line : Line) → kind_of line ≡ Close → line ≡ End
+close_is_end : (line : Line) → kind_of line ≡ Closing → line ≡ End
 close_is_end End h = refl
 close_is_end (Repeat times) h = cc
 close_is_end (If cond) h = cc
 close_is_end line h = cc
 
-body_ends : (depth : ℕ) (kind : Kind) → depth_after depth kind ≡ None → kind ≡ Close
+body_ends : (depth : ℕ) (kind : Kind) → depth_after depth kind ≡ None → kind ≡ Closing
 body_ends depth Act h = cc
 body_ends depth Loop h = cc
 body_ends depth Test h = cc
-body_ends depth Close h = refl
+body_ends depth Closing h = refl
 
 pub closed_is_no_body : (place : Place) → is_closed_place place ≡ true → is_body place ≡ false
 closed_is_no_body Start h = refl

@@ -27,8 +27,7 @@ onto_turns thread (row ∷ rows) = refl
 pub turns_of-rows : (room : ℕ) (turns : List Tid) → flat_map turns_of (map Schedule (rows_from room turns)) ≡ turns
 turns_of-rows room [] = refl
 turns_of-rows zero (thread ∷ turns) = ap (λ others. thread ∷ others) (turns_of-rows 15 turns)
-turns_of-rows (suc zero) (thread ∷ turns) = ap (λ others. thread ∷ others) (turns_of-rows 16 turns)
-turns_of-rows (suc (suc room)) (thread ∷ turns) = onto_turns thread (rows_from (suc room) turns) ∙ ap (λ others. thread ∷ others) (turns_of-rows (suc room) turns)
+turns_of-rows (suc room) (thread ∷ turns) = onto_turns thread (rows_from room turns) ∙ ap (λ others. thread ∷ others) (turns_of-rows room turns)
 
 -- the parts' lines, with rows of a schedule behind them
 abbrev pub with_rows : List Item → List (List Tid) → List Item
@@ -125,7 +124,7 @@ procedures_same tables before process (item ∷ items) rows stand = procedures_s
 
 -- the rows of the canonical text
 abbrev pub rows_of : List Item → List (List Tid)
-rows_of items = rows_from 16 (flat_map turns_of items)
+rows_of items = rows_from 15 (flat_map turns_of items)
 
 pub written_script : (tables : Tables) (paths : List (List ℕ)) (items : List Item) → Stand tables nothing_before items → script_of paths (written items (rows_of items)) ≡ script_of paths items
 written_script tables paths items stand =
@@ -135,7 +134,7 @@ written_script tables paths items stand =
     let threads = threads_same tables nothing_before 0 items rows stand in
     let procedures = procedures_same tables nothing_before 0 items rows stand in
     let order = order_same items rows in
-    let schedule = turns_same items rows ∙ turns_of-rows 16 (flat_map turns_of items) in
+    let schedule = turns_same items rows ∙ turns_of-rows 15 (flat_map turns_of items) in
     rw (budget, processes, threads, procedures, order, schedule) refl
 
 pub script_written : (tables : Tables) (paths : List (List ℕ)) (items : List Item) → Stand tables nothing_before items → items_of (script_of paths items) ≡ written items (rows_of items)

@@ -69,8 +69,7 @@ onto_row tables thread ((next ∷ row) ∷ others) named rows = ((named, rows.0)
 rows_named : (tables : Tables) (room : ℕ) (threads : List Tid) → AreNamed tables threads → AreRows tables (rows_from room threads)
 rows_named tables room [] named = tt
 rows_named tables zero (thread ∷ threads) named = ((named.0, tt), rows_named tables 15 threads named.1)
-rows_named tables (suc zero) (thread ∷ threads) named = ((named.0, tt), rows_named tables 16 threads named.1)
-rows_named tables (suc (suc room)) (thread ∷ threads) named = onto_row tables thread (rows_from (suc room) threads) named.0 (rows_named tables (suc room) threads named.1)
+rows_named tables (suc room) (thread ∷ threads) named = onto_row tables thread (rows_from room threads) named.0 (rows_named tables room threads named.1)
 
 takes_schedule : (place : Place) (threads : List Tid) → is_closed_place place ≡ true → is_of_place place (Schedule threads) ≡ true
 takes_schedule Start threads h = refl
@@ -180,5 +179,5 @@ written_stand tables items stand =
       words = item_words tables (Budget (budget_of items));
       spells = (refl, ((within.0, within.1, refl), refl));
       may_stand = record { of_place = refl; once = refl; within_limits = refl; in_its_place = refl };
-      others = parts_behind_budget tables items (rows_of items) (rows_named tables 16 (flat_map turns_of items) (turns_named tables nothing_before items stand)) stand;
+      others = parts_behind_budget tables items (rows_of items) (rows_named tables 15 (flat_map turns_of items) (turns_named tables nothing_before items stand)) stand;
     }

@@ -11,7 +11,7 @@ use Rattle.script_line.specs.Keywords.{keyword_word}
 use Rattle.script_line.specs.LineKeyword.{keyword_of_line}
 use Rattle.script_line.specs.ItemReads.{stops_at}
 use Rattle.script_line.specs.Operands.{name as name_read, name_in, thread_in, no_stop}
-use Rattle.script_line.specs.Readers.{Reader, rest_of, give, takes, then_read, counted, ended, ◌>>=◌}
+use Rattle.script_line.specs.Readers.{Reader, rest_of, give, takes, then_read, at_least_one, ended, ◌>>=◌}
 use Rattle.script_line.specs.Commands.{line_with}
 use Rattle.script_line.specs.Spelled.{Ends, Each, SpellsThread}
 use Rattle.script_line.specs.Tables.{Tables}
@@ -20,7 +20,7 @@ use Rattle.script_line.proofs.DescriptorWords.{number_read-spelled, name_read-sp
 use Rattle.script_line.proofs.KeywordWords.{keyword-again}
 use Rattle.script_line.proofs.LineLawsProved.{not_empty, spelled-read_back}
 use Rattle.script_line.proofs.Numbering.{same_some}
-use Rattle.script_line.proofs.PassWords.{counted_again}
+use Rattle.script_line.proofs.PassWords.{at_least_one_again}
 use Rattle.script_line.proofs.WordKinds.{AThread, word_again}
 use Rattle.script_lang.specs.declared.item.Item.{Item}
 use Rattle.script_lang.specs.declared.item.Item.TheVariants.{Budget, Process, Spare, Thread, Procedure, Do, Schedule}
@@ -122,8 +122,8 @@ schedule_again : (tables : Tables) (threads : List Tid) (words : List (List ℕ)
 unfolding schedule_item
 schedule_again tables threads words distinct some spells =
     let items = items_again (SpellsThread tables) no_stop (thread_in tables) (λ thread word rest one. word_again tables 0 AThread word rest thread refl distinct one) (λ thread word one. refl) Ends (λ ws ends. ap (stops_at no_stop) ends) threads words spells in
-    ap (then_read (λ ts. ended (Schedule ts)))
-    (ap (then_read (λ ts. counted 1 (length ts) ts)) (items.reads (rest_of words)) ∙ counted_again 1 (length threads) threads (rest_of items.left) some (omega arith)) ∙
+    ap (then_read (λ named. at_least_one named >>= (λ ts. ended (Schedule ts)))) (items.reads (rest_of words)) ∙
+    ap (then_read (λ ts. ended (Schedule ts))) (at_least_one_again threads (rest_of items.left) some) ∙
     end_again (Schedule threads) items.left items.next
 
 -- a line of a body

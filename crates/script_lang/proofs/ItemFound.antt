@@ -10,7 +10,7 @@ use Rattle.script_line.specs.Commands.{line_with}
 use Rattle.script_line.specs.Keywords.{keyword_word, keyword_of}
 use Rattle.script_line.specs.KnownPaths.{ArePaths}
 use Rattle.script_line.specs.Operands.{number, number_in, name, name_in, thread_in, no_stop}
-use Rattle.script_line.specs.Readers.{Rest, Reader, give, leave, next_word, then_read, ended, items_to, counted, takes, rest_of, ◌>>=◌}
+use Rattle.script_line.specs.Readers.{Rest, Reader, give, leave, next_word, then_read, ended, items_to, at_least_one, takes, rest_of, ◌>>=◌}
 use Rattle.script_line.specs.Spelled.{Ends, First, Each, SpellsThread}
 use Rattle.script_line.specs.Tables.{Tables}
 use Rattle.script_line.proofs.DataWords.{GaveAll, items_found}
@@ -18,7 +18,7 @@ use Rattle.script_line.proofs.DescriptorWords.{Gave}
 use Rattle.script_line.proofs.Given.{Clean, in_turn, no_answer, same_value, same_rest, name_given, number_given, ended_given}
 use Rattle.script_line.proofs.KeywordWords.{keyword-found}
 use Rattle.script_line.proofs.LineFound.{line-found}
-use Rattle.script_line.proofs.PassWords.{counted_given}
+use Rattle.script_line.proofs.PassWords.{at_least_one_given}
 use Rattle.script_line.proofs.SkippedWords.{at_words}
 use Rattle.script_line.proofs.WordKinds.{AThread, word_found_at}
 use Rattle.script_lang.specs.declared.item.Item.{Item}
@@ -184,20 +184,17 @@ thread_gave tables word rest x new e clean =
     let found = word_found_at tables 0 AThread word rest x new refl e clean in
     record { spells = (found.spells (Unit {0}) tt).0; same = found.same }
 
-abbrev one_or_more : List Tid → Reader (List Tid)
-one_or_more threads = counted 1 (length threads) threads
-
 schedule_spells : (tables : Tables) (of : ℕ) → Spells tables of (codes "schedule") (schedule_item tables)
 unfolding schedule_item
 schedule_spells tables of = record {
   found = λ words item new used e known.
-      let turn = in_turn (items_to no_stop (thread_in tables) >>= one_or_more) (λ threads. ended (Schedule threads)) (rest_of words) item new e in
-      let inner = in_turn (items_to no_stop (thread_in tables)) one_or_more (rest_of words) turn.x turn.mid turn.first in
+      let named = in_turn (items_to no_stop (thread_in tables)) (λ named. at_least_one named >>= (λ threads. ended (Schedule threads))) (rest_of words) item new e in
+      let turn = in_turn (at_least_one named.x) (λ threads. ended (Schedule threads)) named.mid item new named.then in
       let end = end_found (Schedule turn.x) turn.mid item new turn.then known in
-      let count = counted_given 1 (length inner.x) inner.x inner.mid turn.x turn.mid inner.then in
-      let items = items_found (SpellsThread tables) no_stop (thread_in tables) (thread_gave tables) words (rest_of words) inner.x inner.mid inner.first (subst Clean count.same end.clean) in
-      let left : inner.mid.words ≡ [] = ap (λ r. r.words) (sym count.same) ∙ end.words in
-      subst (SpelledItem tables of (codes "schedule" ∷ words)) (sym (end.is ∙ ap Schedule count.is)) (schedule_spelled tables of inner.x words count.least (items.spells Ends left));
+      let count = at_least_one_given named.x named.mid turn.x turn.mid turn.first in
+      let items = items_found (SpellsThread tables) no_stop (thread_in tables) (thread_gave tables) words (rest_of words) named.x named.mid named.first (subst Clean count.same end.clean) in
+      let left : named.mid.words ≡ [] = ap (λ r. r.words) (sym count.same) ∙ end.words in
+      subst (SpelledItem tables of (codes "schedule" ∷ words)) (sym (end.is ∙ ap Schedule count.is)) (schedule_spelled tables of named.x words count.least (items.spells Ends left));
 }
 
 -- a line of a body

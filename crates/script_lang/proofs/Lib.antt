@@ -30,3 +30,4 @@ mod CanonicalLines
 mod CanonicalSpelled
 pub mod PrintSteps
 pub mod ScriptRead
+pub mod UnknownLast

@@ -7,7 +7,7 @@ use Rattle.script_line.specs.declared.line.Line.{Line}
 use Rattle.script_line.specs.declared.reason.Reason.{Reason}
 use Rattle.script_line.specs.declared.reason.Reason.TheVariants.{Byte}
 use Rattle.script_line.specs.Keywords.{keyword_of}
-use Rattle.script_line.specs.Readers.{Rest, Reader, rest_of, give, takes, then_read, items_to, counted, ended, at_end, ◌>>=◌}
+use Rattle.script_line.specs.Readers.{Rest, Reader, rest_of, give, takes, then_read, items_to, at_least_one, ended, at_end, ◌>>=◌}
 use Rattle.script_line.specs.Operands.{number, name, thread_in, no_stop}
 use Rattle.script_line.specs.Commands.{line_with}
 use Rattle.script_line.specs.Tables.{Tables}
@@ -73,7 +73,7 @@ only-procedure test h = only-then test name _ (λ procedure. only-ended test (Pr
 only-schedule : (tables : Tables) (test : Item → Bool) → ((threads : _) → test (Schedule threads) ≡ true) → GivesOnly test (schedule_item tables)
 unfolding schedule_item
 only-schedule tables test h =
-    only-then test (items_to no_stop (thread_in tables) >>= (λ threads. counted 1 (length threads) threads)) _ (λ threads. only-ended test (Schedule threads) (h threads))
+    only-then test (items_to no_stop (thread_in tables)) _ (λ named. only-then test (at_least_one named) _ (λ threads. only-ended test (Schedule threads) (h threads)))
 
 only-line : (tables : Tables) (of : ℕ) (keyword : Keyword) (test : Item → Bool) → ((line : Line) → test (Do line) ≡ true) → GivesOnly test (line_item tables of keyword)
 only-line tables of keyword test h = only-then test (line_with tables of keyword) _ (λ line. only-give test (Do line) (h line))

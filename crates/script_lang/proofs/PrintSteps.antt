@@ -40,7 +40,7 @@ body_more tables body i line d text within is =
     sym (map-append Do (take i body) (line ∷ [])) ∙ ap (map Do) (ap (λ y. take i body ++ y ∷ []) is ∙ sym (take_more body i d within)))
 
 -- the first row of a schedule
-pub first_row : (room : ℕ) (thread : Tid) (threads : List Tid) → rows_from (suc room) (thread ∷ threads) ≡ (thread ∷ take room threads) ∷ rows_from 16 (drop room threads)
+pub first_row : (room : ℕ) (thread : Tid) (threads : List Tid) → rows_from room (thread ∷ threads) ≡ (thread ∷ take room threads) ∷ rows_from 15 (drop room threads)
 first_row zero thread threads = refl
 first_row (suc room) thread [] = refl
 first_row (suc room) thread (next ∷ threads) = ap (onto_first thread) (first_row room next threads)
@@ -61,7 +61,7 @@ row_same xs n is =
       | inr all ↦ (let e : length xs ≤ n = omega arith in (take_all n xs e ∙ sym (take_all 16 xs all), drop_all n xs e ∙ sym (drop_all 16 xs all)))
     ]
 
-some_row : (threads : List Tid) → false ≡ (length threads == 0) → rows_from 16 threads ≡ take 16 threads ∷ rows_from 16 (drop 16 threads)
+some_row : (threads : List Tid) → false ≡ (length threads == 0) → rows_from 15 threads ≡ take 16 threads ∷ rows_from 15 (drop 16 threads)
 some_row [] some = absurd (false≢true some)
 some_row (thread ∷ threads) some = first_row 15 thread threads
 
@@ -69,7 +69,7 @@ pub row_more : (tables : Tables) (text : List ℕ) (threads row others : List Ti
     → (text ++ items_text tables (Schedule row ∷ [])) ++ items_text tables (schedule_items others) ≡ text ++ items_text tables (schedule_items threads)
 row_more tables text threads row others n some is front back =
     let same = row_same threads n is in
-    let rows : row ∷ rows_from 16 others ≡ rows_from 16 threads = rw (front, back, same.0, same.1) (sym (some_row threads some)) in
+    let rows : row ∷ rows_from 15 others ≡ rows_from 15 threads = rw (front, back, same.0, same.1) (sym (some_row threads some)) in
     put_items tables text (Schedule row ∷ []) (schedule_items others) ∙ ap (λ rows. text ++ items_text tables (map Schedule rows)) rows
 
 -- the lines of a script behind the first, with its own names

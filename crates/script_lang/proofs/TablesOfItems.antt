@@ -99,10 +99,10 @@ names_of_lines tables =
 -- how many names items declare
 
 -- processes, threads and the procedures of a process are at most as many as a script may have
-record AreFew (before : Before) : Type 0 where
-  processes : length before.processes ≤ 64
-  threads : length before.threads ≤ 64
-  procedures : length before.procedures ≤ 64
+pub record AreFew (before : Before) : Type 0 where
+  pub processes : length before.processes ≤ 64
+  pub threads : length before.threads ≤ 64
+  pub procedures : length before.procedures ≤ 64
 
 few_with_line : (before : Before) (behind : Option ℕ) → AreFew before → AreFew (with_depth before behind)
 few_with_line before None few = record { processes = few.processes; threads = few.threads; procedures = few.procedures }
@@ -121,21 +121,21 @@ few_after before (Do line) room few = few_with_line (with_variables before line)
 few_after before (Schedule threads) room few = record { processes = few.processes; threads = few.threads; procedures = few.procedures }
 
 -- how many processes are there whose procedures may follow, and how many procedures they have
-abbrev open_processes : Place → ℕ
+abbrev pub open_processes : Place → ℕ
 open_processes Start = 0
 open_processes Processes = 0
 open_processes Members = 1
 open_processes Body = 1
 open_processes Scheduled = 0
 
-abbrev open_procedures : Before → ℕ
+abbrev pub open_procedures : Before → ℕ
 open_procedures before = open_processes before.place * length before.procedures
 
 -- so many names follow at most
-record FewFollow (before : Before) (items : List Item) : Type 0 where
-  processes : length before.processes + length (filter_map process_of items) ≤ 64
-  threads : (process : ℕ) → length before.threads + length (threads_from process items) ≤ 64
-  procedures : (process : ℕ) → open_procedures before + length (procedures_from process items) ≤ 64 * (open_processes before.place + length (filter_map process_of items))
+pub record FewFollow (before : Before) (items : List Item) : Type 0 where
+  pub processes : length before.processes + length (filter_map process_of items) ≤ 64
+  pub threads : (process : ℕ) → length before.threads + length (threads_from process items) ≤ 64
+  pub procedures : (process : ℕ) → open_procedures before + length (procedures_from process items) ≤ 64 * (open_processes before.place + length (filter_map process_of items))
 
 open_most : (place : Place) (n : ℕ) → n ≤ 64 → open_processes place * n ≤ 64 * open_processes place
 open_most Start n few = omega arith
@@ -188,7 +188,7 @@ few_more before (Schedule threads) items few stands others =
     let most = open_most before.place (length before.procedures) few.procedures in
     record { processes = others.processes; threads = others.threads; procedures = λ process. let next = others.procedures process in omega (arith, most, next) }
 
-few_follow : (tables : Tables) (before : Before) (lines : List (List ℕ)) (items : List Item) → SpellsItems tables before lines items → AreFew before → FewFollow before items
+pub few_follow : (tables : Tables) (before : Before) (lines : List (List ℕ)) (items : List Item) → SpellsItems tables before lines items → AreFew before → FewFollow before items
 few_follow tables =
     along tables (λ before lines items. AreFew before → FewFollow before items) (record {
       ends = λ before closed few. few_end before few;
@@ -208,7 +208,7 @@ pub record NamesAgree (tables : Tables) (lines : List (List ℕ)) (items : List 
 all_taken : {X Y : Type 0} (limit : ℕ) (of : X → Y) (xs : List X) (ys : List Y) → ys ≡ map of xs → length xs ≤ limit → take limit ys ≡ map of xs
 all_taken limit of xs ys is few = ap (take limit) is ∙ take_all limit (map of xs) (rw (length-map xs of) few)
 
-few_before : AreFew nothing_before
+pub few_before : AreFew nothing_before
 few_before = record { processes = omega arith; threads = omega arith; procedures = omega arith }
 
 pub names_agree : (tables : Tables) (lines : List (List ℕ)) (items : List Item) → SpellsItems tables nothing_before lines items → NamesAgree tables lines items

@@ -2,7 +2,7 @@
 use Rattle.std.specs.Prelude.{ℕ, Bool, true, false, ◌&&◌, ◌||◌, not, nat_lt, nat_le, List, [], ◌∷◌, ◌++◌, length, Option, Some, None, if◌then◌else◌}
 use Rattle.script_text.specs.Names.{has_name, with_names}
 use Rattle.script_line.specs.declared.line.Kind.{Kind}
-use Rattle.script_line.specs.declared.line.Kind.TheVariants.{Act, Loop, Test, Close}
+use Rattle.script_line.specs.declared.line.Kind.TheVariants.{Act, Loop, Test, Closing}
 use Rattle.script_line.specs.declared.line.Line.{Line}
 use Rattle.script_line.specs.declared.reason.Reason.{Reason}
 use Rattle.script_line.specs.declared.reason.Reason.TheVariants.{Twice, Many, Body as Misplaced}
@@ -58,7 +58,7 @@ abbrev pub opens_block : Kind → Bool
 opens_block Act = false
 opens_block Loop = true
 opens_block Test = true
-opens_block Close = false
+opens_block Closing = false
 
 -- `repeat` and `if` nest at most 8 deep, and a body has at most 32 different variables
 abbrev pub is_line_over : Before → Line → Bool
@@ -78,7 +78,7 @@ abbrev pub makes_request : Kind → Bool
 makes_request Act = true
 makes_request Loop = false
 makes_request Test = false
-makes_request Close = false
+makes_request Closing = false
 
 -- the first item inside a `repeat` is a command that makes a request, and this line is another
 abbrev pub is_misplaced : Before → Item → Bool
@@ -116,7 +116,7 @@ abbrev pub begins_loop : Kind → Bool
 begins_loop Act = false
 begins_loop Loop = true
 begins_loop Test = false
-begins_loop Close = false
+begins_loop Closing = false
 
 -- with the variables of a line of its body
 abbrev pub with_variables : Before → Line → Before

@@ -1,10 +1,14 @@
 -- Every text either spells one script, or has a first bad line with a reason.
-use Rattle.std.specs.Prelude.{ℕ, ◌≡◌, ⊤, List, Some, None, Result, Ok, Err}
+use Rattle.std.specs.Prelude.{ℕ, ◌≡◌, ⊤, List, ◌∷◌, Some, None, Result, Ok, Err}
+use Rattle.script_text.specs.Lines.{lines_of}
 use Rattle.script_lang.specs.declared.bad.Bad.{Bad}
 use Rattle.script_lang.specs.declared.bad.ParseFault.{ParseFault}
 use Rattle.script_lang.specs.declared.bad.ParseFault.TheVariants.{Bad as BadLine, Memory as NoRoom}
-use Rattle.script_lang.specs.Reading.{bad}
+use Rattle.script_lang.specs.Before.{nothing_before}
+use Rattle.script_lang.specs.Canonical.{header}
+use Rattle.script_lang.specs.Reading.{ItemsRead, lines_read, bad}
 use Rattle.script_lang.specs.Spelled.{spells}
+use Rattle.script_lang.specs.TextTables.{tables_of_lines}
 use Rattle.script_lang.specs.Value.{ScriptValue}
 
 -- the text spells this script and no other
@@ -27,3 +31,12 @@ abbrev pub IsParsed : List ℕ → Result ScriptValue ParseFault → Type 0
 IsParsed text (Ok script) = SpellsOnly text script
 IsParsed text (Err (BadLine fault)) = SpellsNone text fault
 IsParsed text (Err NoRoom) = ⊤
+
+-- No line of the text has another reason, nor has its end: the first line is the header, and the lines behind it are read to
+-- the end. This is the first of them that names something that is not declared.
+pub record IsOnlyUnknown (text : List ℕ) (line : ℕ) : Type 0 where
+  pub lines : List (List ℕ)
+  pub found : ItemsRead
+  pub headed : lines_of text ≡ header ∷ lines
+  pub read : lines_read 1 (tables_of_lines lines) 2 nothing_before lines ≡ Ok found
+  pub first : found.unknown ≡ Some line

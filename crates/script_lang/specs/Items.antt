@@ -3,7 +3,7 @@ use Rattle.std.specs.Prelude.{ℕ, Bool, true, false, List, Option, Some, None, 
 use Rattle.script_line.specs.declared.keyword.Keyword.{Keyword}
 use Rattle.script_line.specs.Tables.{Tables}
 use Rattle.script_line.specs.Keywords.{keyword_of}
-use Rattle.script_line.specs.Readers.{Reader, give, takes, items_to, counted, ended, ◌>>=◌}
+use Rattle.script_line.specs.Readers.{Reader, give, takes, items_to, at_least_one, ended, ◌>>=◌}
 use Rattle.script_line.specs.Operands.{number, name, thread_in, no_stop}
 use Rattle.script_line.specs.Commands.{line_with}
 use Rattle.script_lang.specs.declared.item.Item.{Item}
@@ -50,12 +50,14 @@ procedure_item = do
 
 -- schedule NAME .. (one or more)
 unfoldable pub schedule_item : Tables → Reader Item
-schedule_item tables rest =
-    (items_to no_stop (thread_in tables) >>= (λ threads. counted 1 (length threads) threads) >>= (λ threads. ended (Schedule threads))) rest
+schedule_item tables = do
+  named ← items_to no_stop (thread_in tables)
+  threads ← at_least_one named
+  ended (Schedule threads)
 
 -- a line of a body in this process
 abbrev pub line_item : Tables → ℕ → Keyword → Reader Item
-line_item tables of keyword = line_with tables of keyword >>= (λ line. give (Do line))
+line_item tables process keyword = line_with tables process keyword >>= (λ line. give (Do line))
 
 abbrev pub is : List ℕ → List ℕ → Bool
 is word keyword = bytes_eq word keyword
@@ -79,14 +81,14 @@ in_members tables word =
     in_processes tables word))
 
 abbrev pub in_body : ℕ → Tables → ℕ → List ℕ → Option (Reader Item)
-in_body version tables of word = option_map (line_item tables of) (keyword_of version word)
+in_body version tables process word = option_map (line_item tables process) (keyword_of version word)
 
 abbrev pub item_at : Place → ℕ → Tables → ℕ → List ℕ → Option (Reader Item)
-item_at Start version tables of word = in_start tables word
-item_at Processes version tables of word = in_processes tables word
-item_at Members version tables of word = in_members tables word
-item_at Body version tables of word = in_body version tables of word
-item_at Scheduled version tables of word = in_schedule tables word
+item_at Start version tables process word = in_start tables word
+item_at Processes version tables process word = in_processes tables word
+item_at Members version tables process word = in_members tables word
+item_at Body version tables process word = in_body version tables process word
+item_at Scheduled version tables process word = in_schedule tables word
 
 -- The process of a body is the last that stands before.
 abbrev pub item_with : ℕ → Tables → Before → List ℕ → Option (Reader Item)

@@ -22,7 +22,7 @@ bad_line n reason = record { line = n; reason = reason }
 
 -- a line
 
--- a line that is not read: it has only spaces, or its first byte other than a space is `#`
+-- a line that is not read: it has only spaces, each 32, or its first byte other than a space is `#`, which is 35
 abbrev pub is_skipped : List ℕ → Bool
 is_skipped [] = true
 is_skipped (b ∷ bs) = if b == 32 then is_skipped bs else b == 35

@@ -122,15 +122,14 @@ part_items (ThreadPart ∷ order) processes (thread ∷ threads) procedures = th
 part_items (ProcedurePart ∷ order) processes threads (procedure ∷ procedures) = procedure_items procedure ++ part_items order processes threads procedures
 part_items order processes threads procedures = []
 
--- lists of 16 and a last with the rest, where the first may have so many
+-- rows of 16 and a last with the rest; in the first row so many may stand behind the next thread
 abbrev pub rows_from : ℕ → List Tid → List (List Tid)
 rows_from room [] = []
 rows_from zero (thread ∷ threads) = (thread ∷ []) ∷ rows_from 15 threads
-rows_from (suc zero) (thread ∷ threads) = (thread ∷ []) ∷ rows_from 16 threads
-rows_from (suc (suc room)) (thread ∷ threads) = onto_first thread (rows_from (suc room) threads)
+rows_from (suc room) (thread ∷ threads) = onto_first thread (rows_from room threads)
 
 abbrev pub schedule_items : List Tid → List Item
-schedule_items schedule = map Schedule (rows_from 16 schedule)
+schedule_items schedule = map Schedule (rows_from 15 schedule)
 
 -- the lines of a script behind the first, each once
 abbrev pub items_of : ScriptValue → List Item

@@ -10,7 +10,7 @@ pub fn kind_of(line: &Line) -> Kind
     match line {
         Line::Repeat { .. } => Kind::Loop,
         Line::If { .. } => Kind::Test,
-        Line::End => Kind::Close,
+        Line::End => Kind::Closing,
         _ => Kind::Act,
     }
 }
@@ -23,6 +23,6 @@ pub fn depth_after(depth: u32, kind: Kind) -> Option<u32>
     match kind {
         Kind::Act => Some(depth),
         Kind::Loop | Kind::Test => Some(depth + 1),
-        Kind::Close => depth.checked_sub(1),
+        Kind::Closing => depth.checked_sub(1),
     }
 }

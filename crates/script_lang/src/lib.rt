@@ -3,8 +3,9 @@
 
 pub mod bad;
 pub mod bad_text;
-mod blocks;
+pub mod blocks;
 mod copy;
+mod declared;
 mod draft;
 pub mod item;
 mod items;
@@ -21,3 +22,8 @@ mod tests;
 mod text_reader;
 mod variables;
 pub mod worked;
+
+pub use script_line::line::{
+    Body, Cond, FdArg, FdArgList, Line, PassArg, PassArgList, Piece, PieceList,
+};
+pub use script_line::reason::Reason;

@@ -167,4 +167,18 @@ impl Script {
     {
         &self.procedures.slice()[entry as usize].body
     }
+
+    /// The threads with the spares, in order.
+    pub fn thread_list(&self) -> &[ScriptThread]
+        ensures { result.now ≡ self.now.threads }
+    {
+        self.threads.slice()
+    }
+
+    /// The server procedures, in order.
+    pub fn procedure_list(&self) -> &[Procedure]
+        ensures { result.now ≡ self.now.procedures }
+    {
+        self.procedures.slice()
+    }
 }

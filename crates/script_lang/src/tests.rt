@@ -2,13 +2,15 @@ use crate::bad::{Bad, ParseFault};
 use crate::parse::parse;
 use crate::print::print;
 use crate::script::Script;
+use dk_base::error::NoMemory;
 use dk_base::list::Bytes;
 use script_line::reason::Reason;
+use std::alloc::Global;
 use std::process::Abort;
 use std::test::Fail;
 
 /// Texts that spell no script, with the first bad line and its reason.
-const BAD_TEXTS: [(&str, u32, Reason); 75] = [
+const BAD_TEXTS: [(&str, u32, Reason); 94] = [
     ("", 1, Reason::Header),
     ("doors script 2\n", 1, Reason::Header),
     ("doors script 1\r\n", 1, Reason::Byte),
@@ -292,10 +294,93 @@ const BAD_TEXTS: [(&str, u32, Reason); 75] = [
         Reason::Twice,
     ),
     ("doors script 1\nprocess a\nend\n", 3, Reason::Word),
+    (
+        "doors script 1\nprocess a\nthread t\nbid $d\nend\n",
+        4,
+        Reason::Word,
+    ),
+    (
+        "doors script 1\nprocess a\nthread t\nclose\nend\n",
+        4,
+        Reason::Form,
+    ),
+    (
+        "doors script 1\nprocess a\nthread t\nclose $d 1\nend\n",
+        4,
+        Reason::Form,
+    ),
+    (
+        "doors script 1\nprocess a\nthread t\nclose 07\nend\n",
+        4,
+        Reason::Form,
+    ),
+    (
+        "doors script 1\nprocess a\nthread t\nreturn \"a\"b\nend\n",
+        4,
+        Reason::Form,
+    ),
+    (
+        "doors script 1\nprocess a\nthread t\ncall r 256 $v x\nend\n",
+        4,
+        Reason::Form,
+    ),
+    (
+        "doors script 1\nprocess a\nthread t\nsendn 1 1\nend\n",
+        4,
+        Reason::Form,
+    ),
+    (
+        "doors script 1\nprocess a\nthread t\nif EMPTY\nend\n",
+        4,
+        Reason::Form,
+    ),
+    ("doors script 1\nprocess \u{7f}a\n", 2, Reason::Byte),
+    ("doors script 1\n\tprocess a\n", 2, Reason::Byte),
+    (
+        "doors script 1\nprocess a\nthread t\nrepeat 2\nend\nend\n",
+        5,
+        Reason::Body,
+    ),
+    (
+        "doors script 1\nprocess a\nthread t\nrepeat 2\n\n# x\nend\nend\n",
+        7,
+        Reason::Body,
+    ),
+    ("doors script 1\nprocess a\nproc e", 4, Reason::Open),
+    (
+        "doors script 1\nprocess a\nthread t\ninterrupt zz\n",
+        5,
+        Reason::Open,
+    ),
+    (
+        "doors script 1\nprocess a\nthread t\nif ok\nend\n",
+        6,
+        Reason::Open,
+    ),
+    (
+        "doors script 1\nprocess a\nprocess a limit 257\n",
+        3,
+        Reason::Range,
+    ),
+    (
+        "doors script 1\nprocess a\nthread t\nkill abcdefghijklmnopq\nend\n",
+        4,
+        Reason::Form,
+    ),
+    (
+        "doors script 1\nprocess a\nthread t\nserve\nprocess b\n",
+        5,
+        Reason::Word,
+    ),
+    (
+        "doors script 1\nprocess a\nproc p0\nend\nproc p1\nend\nproc p2\nend\nproc p3\nend\nproc p4\nend\nproc p5\nend\nproc p6\nend\nproc p7\nend\nproc p8\nend\nproc p9\nend\nproc p10\nend\nproc p11\nend\nproc p12\nend\nproc p13\nend\nproc p14\nend\nproc p15\nend\nproc p16\nend\nproc p17\nend\nproc p18\nend\nproc p19\nend\nproc p20\nend\nproc p21\nend\nproc p22\nend\nproc p23\nend\nproc p24\nend\nproc p25\nend\nproc p26\nend\nproc p27\nend\nproc p28\nend\nproc p29\nend\nproc p30\nend\nproc p31\nend\nproc p32\nend\nproc p33\nend\nproc p34\nend\nproc p35\nend\nproc p36\nend\nproc p37\nend\nproc p38\nend\nproc p39\nend\nproc p40\nend\nproc p41\nend\nproc p42\nend\nproc p43\nend\nproc p44\nend\nproc p45\nend\nproc p46\nend\nproc p47\nend\nproc p48\nend\nproc p49\nend\nproc p50\nend\nproc p51\nend\nproc p52\nend\nproc p53\nend\nproc p54\nend\nproc p55\nend\nproc p56\nend\nproc p57\nend\nproc p58\nend\nproc p59\nend\nproc p60\nend\nproc p61\nend\nproc p62\nend\nproc p63\nend\nproc p64\nend\n",
+        131,
+        Reason::Many,
+    ),
 ];
 
 /// Texts that spell a script.
-const GOOD_TEXTS: [&str; 7] = [
+const GOOD_TEXTS: [&str; 8] = [
     "doors script 1\nprocess a\nthread t\npcreate v0\npcreate v1\npcreate v2\npcreate v3\npcreate v4\npcreate v5\npcreate v6\npcreate v7\npcreate v8\npcreate v9\npcreate v10\npcreate v11\npcreate v12\npcreate v13\npcreate v14\npcreate v15\npcreate v16\npcreate v17\npcreate v18\npcreate v19\npcreate v20\npcreate v21\npcreate v22\npcreate v23\npcreate v24\npcreate v25\npcreate v26\npcreate v27\npcreate v28\npcreate v29\npcreate v30\npcreate v31\nend\n",
     "doors script 1\nprocess p0\nprocess p1\nprocess p2\nprocess p3\nprocess p4\nprocess p5\nprocess p6\nprocess p7\nprocess p8\nprocess p9\nprocess p10\nprocess p11\nprocess p12\nprocess p13\nprocess p14\nprocess p15\nprocess p16\nprocess p17\nprocess p18\nprocess p19\nprocess p20\nprocess p21\nprocess p22\nprocess p23\nprocess p24\nprocess p25\nprocess p26\nprocess p27\nprocess p28\nprocess p29\nprocess p30\nprocess p31\nprocess p32\nprocess p33\nprocess p34\nprocess p35\nprocess p36\nprocess p37\nprocess p38\nprocess p39\nprocess p40\nprocess p41\nprocess p42\nprocess p43\nprocess p44\nprocess p45\nprocess p46\nprocess p47\nprocess p48\nprocess p49\nprocess p50\nprocess p51\nprocess p52\nprocess p53\nprocess p54\nprocess p55\nprocess p56\nprocess p57\nprocess p58\nprocess p59\nprocess p60\nprocess p61\nprocess p62\nprocess p63\n",
     "doors script 1\nprocess a\nproc t\nend\nprocess b\nproc t\nend\n",
@@ -303,11 +388,16 @@ const GOOD_TEXTS: [&str; 7] = [
     "doors script 1\n   # x \"\nprocess a\n",
     "doors script 1\nprocess a\nthread t\nwrite $arg \"a b\" + fill:3 + $v\nwork v digest \" # \"\nend\n",
     "doors script 1\nprocess a\nthread t\ncall v $w \"x\" desc $a! 3! $b.15 rsize 0\nend\n",
+    "doors script 1\nprocess a\nproc p0\nend\nproc p1\nend\nproc p2\nend\nproc p3\nend\nproc p4\nend\nproc p5\nend\nproc p6\nend\nproc p7\nend\nproc p8\nend\nproc p9\nend\nproc p10\nend\nproc p11\nend\nproc p12\nend\nproc p13\nend\nproc p14\nend\nproc p15\nend\nproc p16\nend\nproc p17\nend\nproc p18\nend\nproc p19\nend\nproc p20\nend\nproc p21\nend\nproc p22\nend\nproc p23\nend\nproc p24\nend\nproc p25\nend\nproc p26\nend\nproc p27\nend\nproc p28\nend\nproc p29\nend\nproc p30\nend\nproc p31\nend\nproc p32\nend\nproc p33\nend\nproc p34\nend\nproc p35\nend\nproc p36\nend\nproc p37\nend\nproc p38\nend\nproc p39\nend\nproc p40\nend\nproc p41\nend\nproc p42\nend\nproc p43\nend\nproc p44\nend\nproc p45\nend\nproc p46\nend\nproc p47\nend\nproc p48\nend\nproc p49\nend\nproc p50\nend\nproc p51\nend\nproc p52\nend\nproc p53\nend\nproc p54\nend\nproc p55\nend\nproc p56\nend\nproc p57\nend\nproc p58\nend\nproc p59\nend\nproc p60\nend\nproc p61\nend\nproc p62\nend\nproc p63\nend\nprocess b\nproc p0\nend\nproc p1\nend\nproc p2\nend\nproc p3\nend\nproc p4\nend\nproc p5\nend\nproc p6\nend\nproc p7\nend\nproc p8\nend\nproc p9\nend\nproc p10\nend\nproc p11\nend\nproc p12\nend\nproc p13\nend\nproc p14\nend\nproc p15\nend\nproc p16\nend\nproc p17\nend\nproc p18\nend\nproc p19\nend\nproc p20\nend\nproc p21\nend\nproc p22\nend\nproc p23\nend\nproc p24\nend\nproc p25\nend\nproc p26\nend\nproc p27\nend\nproc p28\nend\nproc p29\nend\nproc p30\nend\nproc p31\nend\nproc p32\nend\nproc p33\nend\nproc p34\nend\nproc p35\nend\nproc p36\nend\nproc p37\nend\nproc p38\nend\nproc p39\nend\nproc p40\nend\nproc p41\nend\nproc p42\nend\nproc p43\nend\nproc p44\nend\nproc p45\nend\nproc p46\nend\nproc p47\nend\nproc p48\nend\nproc p49\nend\nproc p50\nend\nproc p51\nend\nproc p52\nend\nproc p53\nend\nproc p54\nend\nproc p55\nend\nproc p56\nend\nproc p57\nend\nproc p58\nend\nproc p59\nend\nproc p60\nend\nproc p61\nend\nproc p62\nend\nproc p63\nend\n",
 ];
 
 /// Texts, each with the canonical text of the script that it spells.
-const PRINTED_TEXTS: [(&str, &str); 3] = [
+const PRINTED_TEXTS: [(&str, &str); 4] = [
     ("doors script 1", "doors script 1\nbudget 100000\n"),
+    (
+        "doors script 1\nprocess a\nthread t\n  close   $d.0 \ncreate d e 1 private unref\ncall r 1 \"\\x41\"\nsetparam 1 data-max 18446744073709551615\ncall r 1 $v rsize 0\nreturn $v desc $d.0!\nend\nproc e\nend\n",
+        "doors script 1\nbudget 100000\nprocess a limit 256\nthread t\nclose $d\ncreate d e 1 unref private\ncall r 1 \"A\" rsize 4096\nsetparam 1 data-max max\ncall r 1 $v rsize 0\nreturn $v desc $d!\nend\nproc e\nend\n",
+    ),
     (
         "doors script 1\n\nprocess  a\nthread t\n send 3 1 2\n return \"\\x41\\x0a\" + $v desc $d.0!\nend\n",
         "doors script 1\nbudget 100000\nprocess a limit 256\nthread t\nsend 3 1 2\nreturn \"A\\x0a\" + $v desc $d!\nend\n",
@@ -388,4 +478,49 @@ fn every_form_is_shown_and_read_again(rt: HostRuntime) {
         }
         None => assert!(rt; false),
     }
+}
+
+/// Whether a copy of one script is the other.
+fn copy_is(alloc: Global, one: &Option<Script>, other: &Option<Script>) -> Result<bool, NoMemory> {
+    match (one, other) {
+        (Some(one), Some(other)) => Ok(one.copy(alloc)?.same(other)),
+        _ => Ok(false),
+    }
+}
+
+#[test]
+fn a_copy_is_the_same(rt: HostRuntime) -> Result<(), Fail> {
+    let script = read(&rt, EVERY_FORM.as_bytes());
+    assert!(rt; copy_is(rt.alloc(), &script, &script)?);
+    Ok(())
+}
+
+const ONE_SCRIPT: &str =
+    "doors script 1\nprocess a\nthread t\nopen v x\nend\nthread u\nend\nschedule t u\n";
+
+/// Scripts that differ from that one: in a body, the schedule, the budget and a path.
+const OTHER_SCRIPTS: [&str; 4] = [
+    "doors script 1\nprocess a\nthread t\nawait x\nend\nthread u\nend\nschedule t u\n",
+    "doors script 1\nprocess a\nthread t\nopen v x\nend\nthread u\nend\nschedule u t\n",
+    "doors script 1\nbudget 5\nprocess a\nthread t\nopen v x\nend\nthread u\nend\nschedule t u\n",
+    "doors script 1\nprocess a\nthread t\nopen v y\nend\nthread u\nend\nschedule t u\n",
+];
+
+#[test]
+fn other_scripts_are_not_the_same(rt: HostRuntime) -> Result<(), Fail> {
+    let script = read(&rt, ONE_SCRIPT.as_bytes());
+    for text in OTHER_SCRIPTS {
+        let other = read(&rt, text.as_bytes());
+        assert!(rt; other.is_some());
+        assert!(rt; !copy_is(rt.alloc(), &script, &other)?, "{text}");
+    }
+    Ok(())
+}
+
+fn needs_send<T: Send>() {}
+
+/// A script may go to another thread.
+#[test]
+fn a_script_is_send() {
+    needs_send::<Script>();
 }

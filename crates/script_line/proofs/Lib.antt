@@ -23,3 +23,5 @@ pub mod KeywordWords
 pub mod LineLawsProved
 pub mod SpacedWords
 pub mod PrintableLine
+pub mod OperandFailures
+pub mod LineFailures

@@ -8,7 +8,7 @@ use Rattle.std.proofs.lemmas.Slice.Eq.{bytes_eq-Decides}
 use Rattle.script_text.specs.Words.{is_word}
 use Rattle.script_line.specs.declared.line.FdArg.{FdArg}
 use Rattle.script_line.specs.declared.line.PassArg.{PassArg}
-use Rattle.script_line.specs.Readers.{Rest, give, misspelled, leave, then_read, items_from, items_to, counted, ◌>>=◌}
+use Rattle.script_line.specs.Readers.{Rest, give, misspelled, leave, then_read, items_from, items_to, counted, at_least_one, ◌>>=◌}
 use Rattle.script_line.specs.Operands.{greatest_64, number, fd_in, pass_in, is_rsize, no_stop, passes_behind, passes, rsize_behind, rsize, ports}
 use Rattle.script_line.specs.ItemReads.{stops_at}
 use Rattle.script_line.specs.Spelled.{Spelling, Ends, Each, SpellsFd, SpellsPass, Passes, Rsize, Ports}
@@ -43,6 +43,14 @@ counted_again low high xs rest least most = ap (λ test. cond test (give xs) mis
   where
     within : (l n h : ℕ) → l ≤ n → n ≤ h → (nat_le l n && nat_le n h) ≡ true
     within l n h p q = grind (arith, nat_tests)
+
+pub at_least_one_given : {A : Type 0} (xs : List A) (rest : Rest) (given : List A) (new : Rest) → at_least_one xs rest ≡ Ok (given, new) → IsCounted 1 (length xs) xs given rest new
+at_least_one_given [] rest given new e = absurd (no_answer e)
+at_least_one_given (x ∷ xs) rest given new e = record { is = sym (same_value e); same = sym (same_rest e); least = omega arith; most = omega arith }
+
+pub at_least_one_again : {A : Type 0} (xs : List A) (rest : Rest) → 1 ≤ length xs → at_least_one xs rest ≡ Ok (xs, rest)
+at_least_one_again [] rest some = absurd (omega arith)
+at_least_one_again (x ∷ xs) rest some = refl
 
 -- passes
 

@@ -10,9 +10,9 @@ use Rattle.script_line.specs.Operands.{greatest_32, greatest_64, number, name, p
 
 -- create VAR PROC COOKIE ATTR ..
 unfoldable pub create_line : Tables → ℕ → Reader Line
-create_line tables of = do
+create_line tables process = do
   var ← name
-  entry ← procedure tables of
+  entry ← procedure tables process
   cookie ← number 0 greatest_64
   attrs ← attributes
   ended (Create var entry cookie attrs)
@@ -255,39 +255,39 @@ end_line = ended End
 
 -- what follows the first word of a line, in a body of this process
 abbrev pub line_with : Tables → ℕ → Keyword → Reader Line
-line_with tables of keyword.Create = create_line tables of
-line_with tables of keyword.Call = call_line
-line_with tables of keyword.Return = return_line
-line_with tables of keyword.Serve = serve_line
-line_with tables of keyword.Revoke = revoke_line
-line_with tables of keyword.Bind = bind_line
-line_with tables of keyword.Unbind = unbind_line
-line_with tables of keyword.Info = info_line
-line_with tables of keyword.GetParam = getparam_line
-line_with tables of keyword.SetParam = setparam_line
-line_with tables of keyword.Cred = cred_line
-line_with tables of keyword.TestCancel = testcancel_line
-line_with tables of keyword.Exit = exit_line
-line_with tables of keyword.Close = close_line
-line_with tables of keyword.Dup = dup_line
-line_with tables of keyword.Attach = attach_line tables
-line_with tables of keyword.Detach = detach_line tables
-line_with tables of keyword.Open = open_line tables
-line_with tables of keyword.Await = await_line tables
-line_with tables of keyword.Pipe = pipe_line
-line_with tables of keyword.Write = write_line
-line_with tables of keyword.Read = read_line
-line_with tables of keyword.PortCreate = pcreate_line
-line_with tables of keyword.Associate = associate_line
-line_with tables of keyword.Dissociate = dissociate_line
-line_with tables of keyword.Get = get_line
-line_with tables of keyword.GetN = getn_line
-line_with tables of keyword.Send = send_line
-line_with tables of keyword.SendN = sendn_line
-line_with tables of keyword.Alert = alert_line
-line_with tables of keyword.Interrupt = interrupt_line tables
-line_with tables of keyword.Kill = kill_line tables
-line_with tables of keyword.Work = work_line
-line_with tables of keyword.Repeat = repeat_line
-line_with tables of keyword.If = if_line
-line_with tables of keyword.End = end_line
+line_with tables process keyword.Create = create_line tables process
+line_with tables process keyword.Call = call_line
+line_with tables process keyword.Return = return_line
+line_with tables process keyword.Serve = serve_line
+line_with tables process keyword.Revoke = revoke_line
+line_with tables process keyword.Bind = bind_line
+line_with tables process keyword.Unbind = unbind_line
+line_with tables process keyword.Info = info_line
+line_with tables process keyword.GetParam = getparam_line
+line_with tables process keyword.SetParam = setparam_line
+line_with tables process keyword.Cred = cred_line
+line_with tables process keyword.TestCancel = testcancel_line
+line_with tables process keyword.Exit = exit_line
+line_with tables process keyword.Close = close_line
+line_with tables process keyword.Dup = dup_line
+line_with tables process keyword.Attach = attach_line tables
+line_with tables process keyword.Detach = detach_line tables
+line_with tables process keyword.Open = open_line tables
+line_with tables process keyword.Await = await_line tables
+line_with tables process keyword.Pipe = pipe_line
+line_with tables process keyword.Write = write_line
+line_with tables process keyword.Read = read_line
+line_with tables process keyword.PortCreate = pcreate_line
+line_with tables process keyword.Associate = associate_line
+line_with tables process keyword.Dissociate = dissociate_line
+line_with tables process keyword.Get = get_line
+line_with tables process keyword.GetN = getn_line
+line_with tables process keyword.Send = send_line
+line_with tables process keyword.SendN = sendn_line
+line_with tables process keyword.Alert = alert_line
+line_with tables process keyword.Interrupt = interrupt_line tables
+line_with tables process keyword.Kill = kill_line tables
+line_with tables process keyword.Work = work_line
+line_with tables process keyword.Repeat = repeat_line
+line_with tables process keyword.If = if_line
+line_with tables process keyword.End = end_line

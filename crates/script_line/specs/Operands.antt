@@ -115,6 +115,7 @@ descriptor_number digits = do
   n ← number_in 0 255 digits
   give (NumberFd n)
 
+-- 36 is `$` and 46 is `.`
 abbrev pub fd_in : List ℕ → Reader FdArg
 fd_in [] = misspelled
 fd_in (b ∷ bs) = if b == 36 then variable_parts bs (parts_at 46 bs) else descriptor_number (b ∷ bs)
@@ -136,7 +137,7 @@ pass_parts bytes (Some front) = do
   given ← fd_in front
   give (pass_of given true)
 
--- PASS: an FD, or an FD followed at once by `!`
+-- PASS: an FD, or an FD followed at once by `!`, which is 33
 abbrev pub pass_in : List ℕ → Reader PassArg
 pass_in bytes = pass_parts bytes (before_last 33 bytes)
 
@@ -193,7 +194,7 @@ fill_parts (Some parts) =
     then number_in 0 8192 parts.1 >>= (λ n. give (Fill n))
     else misspelled
 
--- a string, $VAR, or fill:N with N from 0 to 8192
+-- a string, $VAR, or fill:N with N from 0 to 8192; 34 is `"`, 36 is `$` and 58 is `:`
 abbrev pub piece_in : List ℕ → Reader Piece
 piece_in [] = misspelled
 piece_in (b ∷ bs) =

@@ -70,12 +70,13 @@ takes_from keyword (word ∷ words) = if bytes_eq word keyword then leave words 
 abbrev pub takes : List ℕ → Reader Bool
 takes keyword rest = takes_from keyword rest.words rest
 
-abbrev pub out : {A : Type 0} → Reader A
-out rest = Err Range
+-- a number of the line was outside its range
+abbrev pub range_fault : {A : Type 0} → Reader A
+range_fault rest = Err Range
 
 abbrev pub at_end : {A : Type 0} → A → List (List ℕ) → Bool → Reader A
 at_end value [] true = give value
-at_end value [] false = out
+at_end value [] false = range_fault
 at_end value (word ∷ words) in_range = misspelled
 
 -- the line ends: no word is left, and each number was in its range
@@ -95,3 +96,7 @@ items_to stops read rest = items_from stops read rest.words rest
 -- a list of at least low and at most high
 abbrev pub counted : {A : Type 0} → ℕ → ℕ → List A → Reader (List A)
 counted low high items = if nat_le low (length items) && nat_le (length items) high then give items else misspelled
+
+abbrev pub at_least_one : {A : Type 0} → List A → Reader (List A)
+at_least_one [] = misspelled
+at_least_one (item ∷ items) = give (item ∷ items)

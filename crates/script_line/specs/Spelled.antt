@@ -1,4 +1,5 @@
--- Which words spell a line: from the line's values to words, one row for each command, with no reader.
+-- Which words spell a line: from the line's values to words, one row for each command, with no reader. Two rows cite the
+-- tables of Sets.antt, which the reader cites as well: a set of attributes, and a set of events of a poll.
 use Rattle.std.specs.Prelude.{ℕ, ◌≡◌, ◌≤◌, ◌⊎◌, Bool, true, false, List, [], ◌∷◌, ◌++◌, Some, length, slice_get, codes, decimal}
 use Rattle.dk_base.specs.declared.number.PathId.{PathId}
 use Rattle.dk_base.specs.declared.number.Pid.{Pid}
@@ -66,11 +67,11 @@ SpellsProcedure tables process entry word = (is_name word ≡ true) × (slice_ge
 abbrev pub SpellsPath : Tables → PathId → List ℕ → Type 0
 SpellsPath tables path word = (is_name word ≡ true) × (slice_get tables.paths path.0 ≡ Some word)
 
--- $VAR
+-- $VAR; 36 is `$`
 abbrev pub SpellsVariable : List ℕ → List ℕ → Type 0
 SpellsVariable variable word = (is_name variable ≡ true) × (word ≡ 36 ∷ variable)
 
--- $VAR.K with K from 0 to 15
+-- $VAR.K with K from 0 to 15; 36 is `$` and 46 is `.`
 abbrev pub SpellsIndexed : List ℕ → ℕ → List ℕ → Type 0
 SpellsIndexed variable k word = (is_name variable ≡ true) × (k ≤ 15) × (word ≡ 36 ∷ variable ++ 46 ∷ decimal k)
 
@@ -150,40 +151,40 @@ Waits false = Then (codes "nowait") Ends
 
 -- these words spell the line, in a body of this process
 abbrev pub SpellsLine : Tables → ℕ → Line → Spelling
-SpellsLine tables of (Create var entry cookie attrs) = Then (codes "create") (First (SpellsName var) (First (SpellsProcedure tables of entry) (First (SpellsNumber 0 greatest_64 cookie) (Attributes attrs))))
-SpellsLine tables of (Call var fd bytes pass rsize) = Then (codes "call") (First (SpellsName var) (First (SpellsFd fd) (Pieces bytes (Passes pass (Rsize rsize Ends)))))
-SpellsLine tables of (Return bytes pass) = Then (codes "return") (Pieces bytes (Passes pass Ends))
-SpellsLine tables of Serve = Then (codes "serve") Ends
-SpellsLine tables of (Revoke fd) = Then (codes "revoke") (First (SpellsFd fd) Ends)
-SpellsLine tables of (Bind fd) = Then (codes "bind") (First (SpellsFd fd) Ends)
-SpellsLine tables of Unbind = Then (codes "unbind") Ends
-SpellsLine tables of (Info fd) = Then (codes "info") (First (SpellsFd fd) Ends)
-SpellsLine tables of InfoQuery = Then (codes "info") (Then (codes "query") Ends)
-SpellsLine tables of (GetParam fd param) = Then (codes "getparam") (First (SpellsFd fd) (First (SpellsParam param) Ends))
-SpellsLine tables of (SetParam fd param value) = Then (codes "setparam") (First (SpellsFd fd) (First (SpellsParam param) (First (SpellsValue value) Ends)))
-SpellsLine tables of Cred = Then (codes "cred") Ends
-SpellsLine tables of TestCancel = Then (codes "testcancel") Ends
-SpellsLine tables of Exit = Then (codes "exit") Ends
-SpellsLine tables of (Close fd) = Then (codes "close") (First (SpellsFd fd) Ends)
-SpellsLine tables of (Dup var fd) = Then (codes "dup") (First (SpellsName var) (First (SpellsFd fd) Ends))
-SpellsLine tables of (Attach fd path) = Then (codes "attach") (First (SpellsFd fd) (First (SpellsPath tables path) Ends))
-SpellsLine tables of (Detach path) = Then (codes "detach") (First (SpellsPath tables path) Ends)
-SpellsLine tables of (Open var path) = Then (codes "open") (First (SpellsName var) (First (SpellsPath tables path) Ends))
-SpellsLine tables of (Await path) = Then (codes "await") (First (SpellsPath tables path) Ends)
-SpellsLine tables of (Pipe reading writing) = Then (codes "pipe") (First (SpellsName reading) (First (SpellsName writing) Ends))
-SpellsLine tables of (Write fd bytes) = Then (codes "write") (First (SpellsFd fd) (Pieces bytes Ends))
-SpellsLine tables of (Read var fd most) = Then (codes "read") (First (SpellsName var) (First (SpellsFd fd) (First (SpellsNumber 1 4096 most) Ends)))
-SpellsLine tables of (PortCreate var) = Then (codes "pcreate") (First (SpellsName var) Ends)
-SpellsLine tables of (Associate port object events user) = Then (codes "associate") (First (SpellsFd port) (First (SpellsFd object) (First (SpellsPoll events) (First (SpellsNumber 0 greatest_64 user) Ends))))
-SpellsLine tables of (Dissociate port object) = Then (codes "dissociate") (First (SpellsFd port) (First (SpellsFd object) Ends))
-SpellsLine tables of (Get port wait) = Then (codes "get") (First (SpellsFd port) (Waits wait))
-SpellsLine tables of (GetN port most least wait) = Then (codes "getn") (First (SpellsFd port) (First (SpellsNumber 0 64 most) (First (SpellsNumber 0 64 least) (Waits wait))))
-SpellsLine tables of (Send port events user) = Then (codes "send") (First (SpellsFd port) (First (SpellsNumber 0 greatest_32 events) (First (SpellsNumber 0 greatest_64 user) Ends)))
-SpellsLine tables of (SendN events user ports) = Then (codes "sendn") (First (SpellsNumber 0 greatest_32 events) (First (SpellsNumber 0 greatest_64 user) (Ports ports)))
-SpellsLine tables of (Alert port mode events user) = Then (codes "alert") (First (SpellsFd port) (First (SpellsMode mode) (First (SpellsNumber 0 greatest_32 events) (First (SpellsNumber 0 greatest_64 user) Ends))))
-SpellsLine tables of (Interrupt thread) = Then (codes "interrupt") (First (SpellsThread tables thread) Ends)
-SpellsLine tables of (Kill process) = Then (codes "kill") (First (SpellsProcess tables process) Ends)
-SpellsLine tables of (Work var op bytes) = Then (codes "work") (First (SpellsName var) (First (SpellsOp op) (Pieces bytes Ends)))
-SpellsLine tables of (Repeat times) = Then (codes "repeat") (First (SpellsNumber 1 1000000 times) Ends)
-SpellsLine tables of (If cond) = Then (codes "if") (First (SpellsCond cond) Ends)
-SpellsLine tables of End = Then (codes "end") Ends
+SpellsLine tables process (Create var entry cookie attrs) = Then (codes "create") (First (SpellsName var) (First (SpellsProcedure tables process entry) (First (SpellsNumber 0 greatest_64 cookie) (Attributes attrs))))
+SpellsLine tables process (Call var fd bytes pass rsize) = Then (codes "call") (First (SpellsName var) (First (SpellsFd fd) (Pieces bytes (Passes pass (Rsize rsize Ends)))))
+SpellsLine tables process (Return bytes pass) = Then (codes "return") (Pieces bytes (Passes pass Ends))
+SpellsLine tables process Serve = Then (codes "serve") Ends
+SpellsLine tables process (Revoke fd) = Then (codes "revoke") (First (SpellsFd fd) Ends)
+SpellsLine tables process (Bind fd) = Then (codes "bind") (First (SpellsFd fd) Ends)
+SpellsLine tables process Unbind = Then (codes "unbind") Ends
+SpellsLine tables process (Info fd) = Then (codes "info") (First (SpellsFd fd) Ends)
+SpellsLine tables process InfoQuery = Then (codes "info") (Then (codes "query") Ends)
+SpellsLine tables process (GetParam fd param) = Then (codes "getparam") (First (SpellsFd fd) (First (SpellsParam param) Ends))
+SpellsLine tables process (SetParam fd param value) = Then (codes "setparam") (First (SpellsFd fd) (First (SpellsParam param) (First (SpellsValue value) Ends)))
+SpellsLine tables process Cred = Then (codes "cred") Ends
+SpellsLine tables process TestCancel = Then (codes "testcancel") Ends
+SpellsLine tables process Exit = Then (codes "exit") Ends
+SpellsLine tables process (Close fd) = Then (codes "close") (First (SpellsFd fd) Ends)
+SpellsLine tables process (Dup var fd) = Then (codes "dup") (First (SpellsName var) (First (SpellsFd fd) Ends))
+SpellsLine tables process (Attach fd path) = Then (codes "attach") (First (SpellsFd fd) (First (SpellsPath tables path) Ends))
+SpellsLine tables process (Detach path) = Then (codes "detach") (First (SpellsPath tables path) Ends)
+SpellsLine tables process (Open var path) = Then (codes "open") (First (SpellsName var) (First (SpellsPath tables path) Ends))
+SpellsLine tables process (Await path) = Then (codes "await") (First (SpellsPath tables path) Ends)
+SpellsLine tables process (Pipe reading writing) = Then (codes "pipe") (First (SpellsName reading) (First (SpellsName writing) Ends))
+SpellsLine tables process (Write fd bytes) = Then (codes "write") (First (SpellsFd fd) (Pieces bytes Ends))
+SpellsLine tables process (Read var fd most) = Then (codes "read") (First (SpellsName var) (First (SpellsFd fd) (First (SpellsNumber 1 4096 most) Ends)))
+SpellsLine tables process (PortCreate var) = Then (codes "pcreate") (First (SpellsName var) Ends)
+SpellsLine tables process (Associate port object events user) = Then (codes "associate") (First (SpellsFd port) (First (SpellsFd object) (First (SpellsPoll events) (First (SpellsNumber 0 greatest_64 user) Ends))))
+SpellsLine tables process (Dissociate port object) = Then (codes "dissociate") (First (SpellsFd port) (First (SpellsFd object) Ends))
+SpellsLine tables process (Get port wait) = Then (codes "get") (First (SpellsFd port) (Waits wait))
+SpellsLine tables process (GetN port most least wait) = Then (codes "getn") (First (SpellsFd port) (First (SpellsNumber 0 64 most) (First (SpellsNumber 0 64 least) (Waits wait))))
+SpellsLine tables process (Send port events user) = Then (codes "send") (First (SpellsFd port) (First (SpellsNumber 0 greatest_32 events) (First (SpellsNumber 0 greatest_64 user) Ends)))
+SpellsLine tables process (SendN events user ports) = Then (codes "sendn") (First (SpellsNumber 0 greatest_32 events) (First (SpellsNumber 0 greatest_64 user) (Ports ports)))
+SpellsLine tables process (Alert port mode events user) = Then (codes "alert") (First (SpellsFd port) (First (SpellsMode mode) (First (SpellsNumber 0 greatest_32 events) (First (SpellsNumber 0 greatest_64 user) Ends))))
+SpellsLine tables process (Interrupt thread) = Then (codes "interrupt") (First (SpellsThread tables thread) Ends)
+SpellsLine tables process (Kill whom) = Then (codes "kill") (First (SpellsProcess tables whom) Ends)
+SpellsLine tables process (Work var op bytes) = Then (codes "work") (First (SpellsName var) (First (SpellsOp op) (Pieces bytes Ends)))
+SpellsLine tables process (Repeat times) = Then (codes "repeat") (First (SpellsNumber 1 1000000 times) Ends)
+SpellsLine tables process (If cond) = Then (codes "if") (First (SpellsCond cond) Ends)
+SpellsLine tables process End = Then (codes "end") Ends

@@ -28,15 +28,16 @@ procedure_word tables entry = unwrap_or (option_map (λ procedure. procedure.nam
 abbrev pub path_word : Tables → PathId → List ℕ
 path_word tables path = unwrap_or (slice_get tables.paths path.0) []
 
--- $VAR
+-- $VAR; 36 is `$`
 abbrev pub variable_word : List ℕ → List ℕ
 variable_word variable = 36 ∷ variable
 
--- $VAR.0 is written $VAR
+-- $VAR.0 is written $VAR; 46 is `.`
 abbrev pub fd_word : FdArg → List ℕ
 fd_word (Number n) = decimal n
 fd_word (OfFd variable k) = if k == 0 then variable_word variable else variable_word variable ++ 46 ∷ decimal k
 
+-- 33 is `!`
 abbrev pub release_mark : Bool → List ℕ
 release_mark true = 33 ∷ []
 release_mark false = []

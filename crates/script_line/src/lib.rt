@@ -28,5 +28,3 @@ pub mod same_line;
 mod search;
 pub mod sets;
 pub mod tables;
-#[cfg(test)]
-mod tests;

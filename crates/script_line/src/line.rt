@@ -234,5 +234,6 @@ pub enum Kind {
     Loop,
     /// An `if`.
     Test,
-    Close,
+    /// An `end`, of a `repeat`, an `if` or the body.
+    Closing,
 }

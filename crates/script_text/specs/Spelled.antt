@@ -16,11 +16,11 @@ SpellsNumber low high n word = (low ≤ n) × (n ≤ high) × (word ≡ decimal 
 abbrev pub SpellsPlain : ℕ → List ℕ → Type 0
 SpellsPlain b bytes = (is_printable b ≡ true) × (is_marked b ≡ false) × (bytes ≡ b ∷ [])
 
--- a quote or a backslash stands behind a backslash
+-- a quote or a backslash stands behind a backslash, which is 92
 abbrev pub SpellsMarked : ℕ → List ℕ → Type 0
 SpellsMarked b bytes = (is_marked b ≡ true) × (bytes ≡ 92 ∷ b ∷ [])
 
--- `\xHH` is any byte
+-- `\xHH` is any byte; 92 is `\` and 120 is `x`
 abbrev pub SpellsHex : ℕ → List ℕ → Type 0
 SpellsHex b bytes = (b < 256) × (bytes ≡ 92 ∷ 120 ∷ hex_digit (b / 16) ∷ hex_digit (b % 16) ∷ [])
 
@@ -35,12 +35,12 @@ pub record FirstByte (b : ℕ) (Rest : List ℕ → Type 0) (bytes : List ℕ) :
   pub spells_first : SpellsByte b first
   pub spells_others : Rest others
 
--- a string's bytes one after another, and the closing quote
+-- a string's bytes one after another, and the closing quote, which is 34
 abbrev pub SpellsText : List ℕ → List ℕ → Type 0
 SpellsText [] bytes = bytes ≡ 34 ∷ []
 SpellsText (b ∷ text) bytes = FirstByte b (SpellsText text) bytes
 
--- a string
+-- a string, which the byte 34, `"`, begins
 abbrev pub SpellsString : List ℕ → List ℕ → Type 0
 SpellsString text [] = ⊥
 SpellsString text (quote ∷ bytes) = (quote ≡ 34) × SpellsText text bytes

@@ -22,7 +22,7 @@ is_hex b = is_digit b || is_hex_letter b
 abbrev pub hex_value : ℕ → ℕ
 hex_value b = if is_digit b then b - 48 else b - 87
 
--- a byte that stands behind a backslash for itself
+-- a byte that stands behind a backslash for itself: 34 is `"` and 92 is `\`
 abbrev pub is_marked : ℕ → Bool
 is_marked b = (b == 34) || (b == 92)
 
@@ -39,7 +39,7 @@ abbrev pub text_at_end : List ℕ → Option (List ℕ)
 text_at_end [] = None
 text_at_end (b ∷ bs) = if b == 34 then closed bs else None
 
--- the bytes that the rest of a string spells, up to its closing quote
+-- the bytes that the rest of a string spells, up to its closing quote; 34 is `"`, 92 is `\` and 120 is `x`
 abbrev pub text_from : Place → List ℕ → Option (List ℕ)
 text_from place [] = None
 text_from Plain (b ∷ bs) =
@@ -60,14 +60,14 @@ string_of (b ∷ bs) = if b == 34 then text_from Plain bs else None
 abbrev pub hex_digit : ℕ → ℕ
 hex_digit n = if nat_le n 9 then 48 + n else 87 + n
 
--- a byte as it is written in a string
+-- a byte as it is written in a string; 92 is `\` and 120 is `x`
 abbrev pub quoted_byte : ℕ → List ℕ
 quoted_byte b =
     if is_marked b then 92 ∷ b ∷ [] else (
     if is_printable b then b ∷ [] else
     92 ∷ 120 ∷ hex_digit (b / 16) ∷ hex_digit (b % 16) ∷ [])
 
--- the string that is written for these bytes
+-- the string that is written for these bytes, between two bytes 34, which is `"`
 abbrev pub quoted : List ℕ → List ℕ
 quoted bytes = 34 ∷ flat_map quoted_byte bytes ++ 34 ∷ []
 

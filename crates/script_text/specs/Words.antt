@@ -5,7 +5,7 @@ use Rattle.std.specs.List.{onto_first, list_all}
 use Rattle.script_text.specs.declared.mode.Mode.{Mode}
 use Rattle.script_text.specs.declared.mode.Mode.TheVariants.{Between, Word, Text, Escape}
 
--- where the place behind a byte stands
+-- where the place behind a byte stands; 32 is a space, 34 is `"` and 92 is `\`
 abbrev pub mode_after : Mode → ℕ → Mode
 mode_after Between b = if b == 32 then Between else (if b == 34 then Text else Word)
 mode_after Word b = if b == 32 then Between else Word
@@ -34,19 +34,6 @@ words_from mode (b ∷ bs) = words_with b mode (mode_after mode b) (words_from (
 abbrev pub words_of : List ℕ → List (List ℕ)
 words_of line = words_from Between line
 
--- in the rest of a line a word follows each place between words
-abbrev pub is_spaced_from : Mode → List ℕ → Bool
-is_spaced_from Between [] = false
-is_spaced_from Word [] = true
-is_spaced_from Text [] = true
-is_spaced_from Escape [] = true
-is_spaced_from Between (b ∷ bs) = if b == 32 then false else is_spaced_from (mode_after Between b) bs
-is_spaced_from mode (b ∷ bs) = is_spaced_from (mode_after mode b) bs
-
--- there is a word, one space stands between each two, and none before the first or behind the last
-abbrev pub is_single_spaced : List ℕ → Bool
-is_single_spaced line = is_spaced_from Between line
-
 -- a word has begun
 abbrev pub is_in_word : Mode → Bool
 is_in_word Between = false
@@ -54,7 +41,7 @@ is_in_word Word = true
 is_in_word Text = true
 is_in_word Escape = true
 
--- no space stands first
+-- no space, which is 32, stands first
 abbrev pub is_unindented : List ℕ → Bool
 is_unindented [] = true
 is_unindented (b ∷ bs) = not (b == 32)
@@ -71,21 +58,22 @@ is_word_from mode (b ∷ bs) = is_in_word (mode_after mode b) && is_word_from (m
 abbrev pub is_word : List ℕ → Bool
 is_word word = is_word_from Between word
 
+-- no space, which is 32
 abbrev pub is_plain_byte : ℕ → Bool
 is_plain_byte b = not (b == 32)
 
--- a word that is no string
+-- a word that is no string, which 34, the byte `"`, would begin
 abbrev pub is_plain : List ℕ → Bool
 is_plain [] = false
 is_plain (b ∷ bs) = not (b == 34) && list_all is_plain_byte (b ∷ bs)
 
--- words with a space between each two
+-- words with a space, which is 32, between each two
 abbrev pub joined : List (List ℕ) → List ℕ
 joined [] = []
 joined (word ∷ []) = word
 joined (word ∷ next ∷ words) = word ++ 32 ∷ joined (next ∷ words)
 
--- words with a space before each
+-- words with a space, which is 32, before each
 abbrev pub spaced : List (List ℕ) → List ℕ
 spaced [] = []
 spaced (word ∷ words) = 32 ∷ word ++ spaced words

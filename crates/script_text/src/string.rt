@@ -115,7 +115,8 @@ pub fn string_of(alloc: Global, word: &[u8]) -> Result<Option<Bytes>, NoMemory>
     }
 }
 
-fn hex_digit(value: u8) -> u8
+/// A digit of a number in base 16, in lower case.
+pub fn hex_digit(value: u8) -> u8
     requires { value < 16 }
     ensures { result ≡ digit_of_hex value }
 {

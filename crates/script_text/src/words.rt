@@ -1,5 +1,5 @@
 ghost use Rattle.std.specs.Prelude.{◌≡◌, ◌∷◌, [], ◌<◌, ◌≤◌, true, length, take, drop, MatchOption, IfSome};
-ghost use Rattle.script_text.specs.Words.{is_in_word, is_unindented, mode_after as mode_behind, words_from, words_of, is_spaced_from, is_single_spaced as is_single_spaced_line};
+ghost use Rattle.script_text.specs.Words.{is_in_word, is_unindented, mode_after as mode_behind, words_from, words_of};
 
 use crate::mode::Mode;
 
@@ -15,20 +15,6 @@ fn mode_after(mode: Mode, byte: u8) -> Mode
         (Mode::Text, b'\\') => Mode::Escape,
         (Mode::Text | Mode::Escape, _) => Mode::Text,
     }
-}
-
-/// Whether a line has a word, one space between each two, and none at its ends.
-pub fn is_single_spaced(line: &[u8]) -> bool
-    ensures { result ≡ is_single_spaced_line line.now }
-{
-    let mut mode = Mode::Between;
-    for byte in line {
-        if matches!(mode, Mode::Between) && *byte == b' ' {
-            return false;
-        }
-        mode = mode_after(mode, *byte);
-    }
-    !matches!(mode, Mode::Between)
 }
 
 /// A line without the spaces at its front.

@@ -42,14 +42,22 @@ impl Writer {
         })
     }
 
+    /// Bytes with no space before them.
+    pub fn bytes(&mut self, bytes: &[u8]) -> Result<(), NoMemory>
+        ensures ok { OnOk result (self.new ≡ self.old ++ bytes.now) }
+        ensures err { OnErr result (self.new ≡ self.old) }
+    {
+        self.text.reserve(bytes.len())?;
+        append(&mut self.text, bytes);
+        Ok(())
+    }
+
     /// A line's first word.
     pub fn first(&mut self, word: &[u8]) -> Result<(), NoMemory>
         ensures ok { OnOk result (self.new ≡ self.old ++ word.now) }
         ensures err { OnErr result (self.new ≡ self.old) }
     {
-        self.text.reserve(word.len())?;
-        append(&mut self.text, word);
-        Ok(())
+        self.bytes(word)
     }
 
     /// A further word.
