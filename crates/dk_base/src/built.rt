@@ -8,9 +8,10 @@ use crate::set::Attrs;
 /// from one process to another, 2 the whole script language, 3 closing and copying descriptors, 4 attributes, parameters
 /// and information of doors, 5 descriptors in calls, 6 server pools and private doors, 7 nested calls, 8 leaving in
 /// mid-call, 9 unreferenced notices, 10 pipes and event ports, 11 associations and tasks.
-pub const BUILT: u32 = 1;
+pub const BUILT: u32 = 2;
 
-fn form_of_attributes(attrs: Attrs) -> u32
+/// The number of the capability that a door's attributes need, the greatest of several.
+pub fn form_of_attributes(attrs: Attrs) -> u32
     ensures { result ≡ form_of_attrs attrs }
 {
     if attrs.0 & 17 != 0 {

@@ -1,9 +1,2 @@
-pub mod Digits
-pub mod FirstLine
-pub mod FlagLemmas
 pub mod Fronts
-pub mod Places
-pub mod Prepended
-pub mod Strings
-pub mod WordEnd
 pub mod Plays

@@ -1,46 +1,70 @@
 -- What `play` answers and writes, from the clauses of the calls that it makes.
-use Rattle.std.proofs.Common.{◌≡◌, ℕ, List, Option, Some, refl, ap, sym, ◌∙◌, subst}
+use Rattle.std.proofs.Common.{◌≡◌, ℕ, List, Option, Some, None, Result, Ok, Err, IfOk, refl, ap, ◌∙◌, subst}
 use Rattle.dk_base.specs.declared.number.Tid.{Tid}
-use Rattle.dk_base.specs.declared.event.Event.{Event}
-use Rattle.kernel_laws.specs.Laws.{Laws}
-use Rattle.written_kernel.specs.Turns.{waiting_threads}
-use Rattle.written_script.specs.declared.ending.Ending.{Ending}
-use Rattle.written_script.specs.declared.script.Script.{Script}
-use Rattle.written_script.specs.IsScript.{IsScript}
+use Rattle.script_lang.specs.declared.bad.Bad.{Bad}
+use Rattle.script_lang.specs.Value.{ScriptValue}
 use Rattle.written_script.specs.Endings.{ending_of}
-use Rattle.written_script.specs.ScriptRuns.{History, opening_of, turns_of, threads_of}
-use Rattle.written_script.specs.SmallScript.{small_script}
-use Rattle.written_script.specs.TraceText.{trace_text}
-use Rattle.written_script.proofs.SmallScripts.{is_script_of_small_script}
-use Rattle.sys_run.specs.Sys.{Played, history, state_of_run, LawsOf}
-use Rattle.sys_run.proofs.Finishing.{IsPlay}
-use Rattle.doors_top.specs.declared.status.Status.{Status}
+use Rattle.written_script.specs.Plays.{IsWholePlay, IsRefusedPlay}
+use Rattle.written_script.specs.ScriptRuns.{History, Refusal, refusal, played, turns_before, threads_of}
+use Rattle.written_script.specs.TraceText.{text_of_history, refused_text}
+use Rattle.sys_run.specs.Schedules.{IsPlay, IsBefore, refused_at}
+use Rattle.sys_run.specs.Sys.{SysValue, history, LawsOf}
+use Rattle.doors_top.specs.declared.reading.ReadText.{ReadText}
+use Rattle.doors_top.specs.Outcomes.{script_of, outcome_of_turns}
 use Rattle.doors_top.specs.Status.{status_of_ending}
-use Rattle.doors_top.specs.Outcomes.{played_run, text_of_play}
-use Rattle.doors_top.specs.Top.{LawsOfScript}
+use Rattle.doors_top.specs.Top.{TurnsOfScript, TurnsOfPlay, LawsOfScript, LawsOfTurns}
 
-pub play-status :
-    (script : Script) (p : Played) (e : Ending) (s : Status) → IsPlay script p → e ≡ ending_of (state_of_run p) →
-    s ≡ status_of_ending e → s ≡ status_of_ending (ending_of (played_run script).state)
-play-status script p e s is he hs =
-    hs ∙ ap status_of_ending (he ∙ ap (λ (h : History). ending_of h.state) is.same_run)
+laws_of_turns : (script : ScriptValue) (q : SysValue) (ts : List ℕ) → q.script ≡ script → threads_of q.journal ≡ ts → LawsOf q → LawsOfTurns script ts
+laws_of_turns script q ts hs ht h =
+    subst (λ (us : List ℕ). LawsOfTurns script us) ht
+    (subst (λ (s : ScriptValue). LawsOfTurns s (threads_of q.journal)) hs h)
 
-pub play-text :
-    (script seen : Script) (p : Played) (events : List Event) (e : Ending) (waiting : List Tid) (text : List ℕ) →
-    IsPlay script p → text ≡ trace_text seen events e waiting → seen ≡ p.script → events ≡ (history p).events →
-    e ≡ ending_of (state_of_run p) → waiting ≡ waiting_threads (state_of_run p) → text ≡ text_of_play script (played_run script)
-play-text script seen p events e waiting text is ht hs hv he hw =
-    let seen_text : trace_text seen events e waiting ≡ text_of_play p.script (history p) = rw (hs, hv, he, hw) refl
-    in ht
-    ∙ seen_text
-    ∙ ap (λ (s : Script). text_of_play s (history p)) is.same_script
-    ∙ ap (λ (h : History). text_of_play script h) is.same_run
+-- the turns of the schedule were taken, and then those that were left
 
-pub play-laws : (script : Script) (p : Played) → IsPlay script p → LawsOf p → LawsOfScript script
-play-laws script p is h =
-    subst (λ (ts : List ℕ). Laws (opening_of script) (turns_of script ts)) is.same_turns
-    (subst (λ (s : Script). Laws (opening_of s) (turns_of s (threads_of p.journal))) is.same_script h)
+pub play_status :
+    (script : ScriptValue) (q : SysValue) → IsPlay script q →
+    status_of_ending (ending_of (history q).state) ≡ (outcome_of_turns script (refusal script)).status
+play_status script q is = rw is.not_refused (ap (λ (h : History). status_of_ending (ending_of h.state)) is.same_run)
 
-pub is_script-found :
-    (bytes : List ℕ) (found : Option Script) (s : Script) → found ≡ small_script bytes → found ≡ Some s → IsScript s
-is_script-found bytes found s h e = is_script_of_small_script bytes s (sym h ∙ e)
+pub play_text :
+    (script : ScriptValue) (q : SysValue) → IsPlay script q →
+    text_of_history q.script (history q) ≡ (outcome_of_turns script (refusal script)).text
+play_text script q is =
+    rw is.not_refused (ap (λ (s : ScriptValue). text_of_history s (history q)) is.same_script ∙ ap (text_of_history script) is.same_run)
+
+pub play_laws : (script : ScriptValue) (q : SysValue) → IsPlay script q → LawsOf q → LawsOfScript script (refusal script)
+play_laws script q is h = rw is.not_refused (laws_of_turns script q (played script) is.same_script is.same_turns h)
+
+-- a turn of the schedule is refused
+
+pub before_text :
+    (script : ScriptValue) (turn : ℕ) (thread : Tid) (q : SysValue) → IsBefore script (refused_at turn thread.0) q →
+    refused_text q.script (history q).events turn thread ≡ (outcome_of_turns script (refusal script)).text
+before_text script turn thread q is =
+    rw is.refusal
+    (ap (λ (s : ScriptValue). refused_text s (history q).events turn thread) is.same_script
+    ∙ ap (λ (h : History). refused_text script h.events turn thread) is.same_run)
+
+pub before_laws : (script : ScriptValue) (refused : Refusal) (q : SysValue) → IsBefore script refused q → LawsOf q → LawsOfScript script (refusal script)
+before_laws script refused q is h =
+    rw is.refusal (laws_of_turns script q (turns_before script refused) is.same_script is.same_turns h)
+
+-- the turns that are played
+
+turns_by :
+    (script : ScriptValue) (o : Option Refusal) → (refusal script ≡ None → IsWholePlay script (played script)) →
+    ((refused : Refusal) → refusal script ≡ Some refused → IsRefusedPlay script refused) → refusal script ≡ o → TurnsOfScript script o
+turns_by script None whole refused e = whole e
+turns_by script (Some r) whole refused e = refused r e
+
+turns_of : (found : Result ScriptValue Bad) →
+    ((script : ScriptValue) → refusal script ≡ None → IsWholePlay script (played script)) →
+    ((script : ScriptValue) (refused : Refusal) → refusal script ≡ Some refused → IsRefusedPlay script refused) →
+    IfOk found (λ script. TurnsOfScript script (refusal script))
+turns_of (Ok script) whole refused = turns_by script (refusal script) (whole script) (refused script) refl
+turns_of (Err bad) whole refused = tt
+
+pub play_turns :
+    (read : ReadText) → ((script : ScriptValue) → refusal script ≡ None → IsWholePlay script (played script)) →
+    ((script : ScriptValue) (refused : Refusal) → refusal script ≡ Some refused → IsRefusedPlay script refused) → TurnsOfPlay read
+play_turns read whole refused = turns_of (script_of read) whole refused

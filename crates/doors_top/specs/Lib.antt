@@ -1,7 +1,5 @@
-pub mod Flag
 pub mod Outcomes
 pub mod Reading
-pub mod SmallWords
 pub mod Status
 pub mod Top
 pub mod Writing

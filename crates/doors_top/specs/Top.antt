@@ -1,23 +1,20 @@
 -- What the top call promises.
-use Rattle.std.specs.Prelude.{ℕ, ◌≡◌, ⊤, List, Option, IfSome, MatchOption}
+use Rattle.std.specs.Prelude.{ℕ, ◌≡◌, ⊤, false, List, Option, Some, None, IfSome, IfOk}
 use Rattle.std.specs.Io.KnownBytes.{Appends}
 use Rattle.doors_top.specs.declared.status.Status.{Status}
 use Rattle.doors_top.specs.declared.status.Status.TheVariants as status
 use Rattle.doors_top.specs.declared.reading.ReadText.{ReadText}
 use Rattle.doors_top.specs.declared.reading.ReadText.TheVariants.{Whole, TooLong}
-use Rattle.doors_top.specs.Outcomes.{outcome_of_play, outcome_of_show}
+use Rattle.doors_top.specs.Outcomes.{script_of, outcome_of_play, outcome_of_show}
 use Rattle.doors_top.specs.Reading.{text_of, IsWithin, LeavesNone}
 use Rattle.doors_top.specs.Writing.{AppendsFront}
 use Rattle.kernel_laws.specs.Laws.{Laws}
 use Rattle.script_lang.specs.Decided.{IsDecided}
 use Rattle.script_lang.specs.Reading.{reading}
-use Rattle.written_script.specs.declared.script.Script.{Script}
-use Rattle.written_script.specs.SmallScript.{small_script}
-use Rattle.written_script.specs.ScriptRuns.{opening_of, turns_of, played}
-
--- the most bytes of a small script
-abbrev pub small_limit : ℕ
-small_limit = 2048
+use Rattle.script_lang.specs.Value.{ScriptValue}
+use Rattle.written_script.specs.Later.{later}
+use Rattle.written_script.specs.Plays.{IsWholePlay, IsRefusedPlay}
+use Rattle.written_script.specs.ScriptRuns.{Refusal, opening_of, turns_of, played, refusal, turns_before}
 
 -- the most bytes of a script
 abbrev pub script_limit : ℕ
@@ -36,32 +33,46 @@ pub record IsRead (limit : ℕ) (old new : Option (List ℕ)) (read : ReadText) 
   pub within : IsWithin limit read
   pub ended : IfSome old (λ _. LeavesNone read new)
 
--- the laws hold of the run that `play` makes of a script
-abbrev pub LawsOfScript : Script → Type 0
-LawsOfScript script = Laws (opening_of script) (turns_of script (played script))
+-- the bytes spell just the script that is shown, or none, and then the line is their first bad one
+abbrev pub SpelledOf : ReadText → Type 0
+SpelledOf (Whole bytes) = IsDecided bytes (reading bytes)
+SpelledOf TooLong = ⊤
+
+-- the laws of the run of these turns
+abbrev pub LawsOfTurns : ScriptValue → List ℕ → Type 0
+LawsOfTurns script ts = Laws (opening_of script) (turns_of script ts)
+
+-- the laws of the run that `play` makes of a script, up to the turn where it is refused
+abbrev pub LawsOfScript : ScriptValue → Option Refusal → Type 0
+LawsOfScript script None = LawsOfTurns script (played script)
+LawsOfScript script (Some refused) = LawsOfTurns script (turns_before script refused)
+
+-- `play` plays a whole run of a script, or the turns before the one that is refused
+abbrev pub TurnsOfScript : ScriptValue → Option Refusal → Type 0
+TurnsOfScript script None = IsWholePlay script (played script)
+TurnsOfScript script (Some refused) = IsRefusedPlay script refused
+
+abbrev pub TurnsOfPlay : ReadText → Type 0
+TurnsOfPlay read = IfOk (script_of read) (λ script. TurnsOfScript script (refusal script))
 
 abbrev pub LawsOfPlay : ReadText → Type 0
-LawsOfPlay (Whole bytes) = MatchOption (small_script bytes) ⊤ LawsOfScript
-LawsOfPlay TooLong = ⊤
+LawsOfPlay read = IfOk (script_of read) (λ script. later script ≡ false → LawsOfScript script (refusal script))
 
 -- `play` answered what its outcome is for what was read, and wrote exactly its text
 pub record Plays (left_old left_new held_old held_new : Option (List ℕ)) (answer : Status) : Type 0 where
   pub read : ReadText
-  pub is_read : IsRead small_limit left_old left_new read
+  pub is_read : IsRead script_limit left_old left_new read
   pub status : answer ≡ (outcome_of_play read).status
   pub text : Appends held_old held_new (outcome_of_play read).text
+  pub spelled : SpelledOf read
+  pub turns : TurnsOfPlay read
   pub laws : LawsOfPlay read
 
 -- `play` wrote a front of its outcome's text
 pub record PlaysFront (left_old left_new held_old held_new : Option (List ℕ)) : Type 0 where
   pub read : ReadText
-  pub is_read : IsRead small_limit left_old left_new read
+  pub is_read : IsRead script_limit left_old left_new read
   pub text : AppendsFront held_old held_new (outcome_of_play read).text
-
--- the bytes spell just the script that is shown, or none, and then the line is their first bad one
-abbrev pub SpelledOf : ReadText → Type 0
-SpelledOf (Whole bytes) = IsDecided bytes (reading bytes)
-SpelledOf TooLong = ⊤
 
 -- `show` answered what its outcome is for what was read, and wrote exactly its text
 pub record Shows (left_old left_new held_old held_new : Option (List ℕ)) (answer : Status) : Type 0 where

@@ -4,9 +4,8 @@
 pub mod play;
 pub mod reading;
 pub mod reply;
+pub mod script_in;
 pub mod show;
-pub mod small;
 pub mod status;
-pub mod text;
 pub mod top;
 pub mod writing;

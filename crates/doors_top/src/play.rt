@@ -1,20 +1,29 @@
 //! What `play` answers and writes for what was read.
-ghost use Rattle.std.specs.Prelude.{◌≡◌, IfOk};
-ghost use Rattle.written_script.specs.IsScript.{IsScript};
-ghost use Rattle.doors_top.specs.Outcomes.{outcome_of_play, outcome_of_script, no_script};
+ghost use Rattle.std.specs.Prelude.{◌≡◌, false, IfOk, []};
+ghost use Rattle.written_script.specs.Later.{later as later_of};
+ghost use Rattle.written_script.specs.ScriptRuns.{refusal};
+ghost use Rattle.sys_run.specs.Sys.{history};
+ghost use Rattle.written_script.specs.Endings.{ending_of};
+ghost use Rattle.written_script.specs.TraceText.{text_of_history, refused_text};
+ghost use Rattle.doors_top.specs.Outcomes.{outcome_of_play, outcome_of_script, outcome_of_turns};
+ghost use Rattle.doors_top.specs.Reading.{IsWithin};
 ghost use Rattle.doors_top.specs.Status.{status_of_ending};
-ghost use Rattle.doors_top.specs.Top.{IsAnswer, LawsOfPlay, LawsOfScript};
+ghost use Rattle.doors_top.specs.Top.{IsAnswer, LawsOfPlay, LawsOfScript, SpelledOf, TurnsOfPlay, script_limit};
 
 use crate::reading::ReadText;
-use crate::reply::{Reply, fixed};
-use crate::small::read_small;
+use crate::reply::{Reply, fixed, refused};
+use crate::script_in::script_in;
 use crate::status::Status;
-use crate::text::text_of_run;
 use dk_base::error::NoMemory;
+use dk_base::number::Tid;
+use script_lang::script::Script;
 use std::alloc::Global;
-use sys_run::sys::Sys;
+use sys_run::plays::{refused_plays, whole_plays};
+use sys_run::sys::{Played, Sys};
+use thread_machine::later::later;
+use trace_text::{text_before_refused, text_of_run};
 use written_script::ending::Ending;
-use written_script::script::Script;
+use written_script::runs::played_turns;
 
 fn status_of(ending: Ending) -> Status
     ensures value { result ≡ status_of_ending ending }
@@ -27,34 +36,95 @@ fn status_of(ending: Ending) -> Status
     }
 }
 
-fn play_script(alloc: Global, script: Script) -> Result<Reply, NoMemory>
-    requires { IsScript script }
-    ensures status { IfOk result (λ reply. reply.status ≡ (outcome_of_script (Some script)).status) }
-    ensures text { IfOk result (λ reply. reply.text ≡ (outcome_of_script (Some script)).text) }
+/// The text of a run that ends after its last turn.
+fn ended(alloc: Global, sys: &Sys) -> Result<Reply, NoMemory>
+    ensures status { IfOk result (λ reply. reply.status ≡ status_of_ending (ending_of (history sys.now).state)) }
+    ensures text { IfOk result (λ reply. reply.text ≡ text_of_history sys.now.script (history sys.now)) }
     ensures answer { IfOk result (λ reply. IsAnswer reply.status) }
-    ensures laws { IfOk result (λ _. LawsOfScript script) }
 {
-    let mut sys = Sys::new(alloc, script)?;
-    sys.finish()?;
     let ending = sys.ending();
     let waiting = sys.waiting()?;
     let text = text_of_run(alloc, sys.script(), sys.journal(), ending, &waiting)?;
-    let reply = fixed(alloc, status_of(ending), text.as_slice())?;
-    Ok(reply)
+    Ok(Reply {
+        status: status_of(ending),
+        text,
+    })
+}
+
+/// The text of a run whose next turn is refused.
+fn refused_turn(alloc: Global, sys: &Sys, turn: u32, thread: Tid) -> Result<Reply, NoMemory>
+    ensures status { IfOk result (λ reply. reply.status ≡ Status.Turn) }
+    ensures text { IfOk result (λ reply. reply.text ≡ refused_text sys.now.script (history sys.now).events turn thread) }
+{
+    let text = text_before_refused(alloc, sys.script(), sys.journal(), turn, thread)?;
+    Ok(Reply {
+        status: Status::Turn,
+        text,
+    })
+}
+
+/// Takes the turns of the schedule and then all others, and gives the text of the run.
+fn play_turns(alloc: Global, sys: &mut Sys) -> Result<Reply, NoMemory>
+    requires { sys.old.journal ≡ [] }
+    ensures status { IfOk result (λ reply. reply.status ≡ (outcome_of_turns sys.old.script (refusal sys.old.script)).status) }
+    ensures text { IfOk result (λ reply. reply.text ≡ (outcome_of_turns sys.old.script (refusal sys.old.script)).text) }
+    ensures answer { IfOk result (λ reply. IsAnswer reply.status) }
+    ensures laws { IfOk result (λ _. LawsOfScript sys.old.script (refusal sys.old.script)) }
+{
+    whole_plays();
+    refused_plays();
+    match sys.play_schedule()? {
+        Played::Over => {
+            sys.finish()?;
+            let reply = ended(alloc, sys)?;
+            Ok(reply)
+        }
+        Played::Refused { turn, thread } => {
+            let reply = refused_turn(alloc, sys, turn, thread)?;
+            Ok(reply)
+        }
+    }
+}
+
+/// What `play` makes of a script that needs nothing that is not built.
+fn play_script(alloc: Global, script: Script) -> Result<Reply, NoMemory>
+    requires { later_of script ≡ false }
+    ensures status { IfOk result (λ reply. reply.status ≡ (outcome_of_turns script (refusal script)).status) }
+    ensures text { IfOk result (λ reply. reply.text ≡ (outcome_of_turns script (refusal script)).text) }
+    ensures answer { IfOk result (λ reply. IsAnswer reply.status) }
+    ensures laws { IfOk result (λ _. LawsOfScript script (refusal script)) }
+{
+    let mut sys = Sys::new(alloc, script)?;
+    play_turns(alloc, &mut sys)
+}
+
+/// What `play` makes of a script.
+fn play_or_later(alloc: Global, script: Script) -> Result<Reply, NoMemory>
+    ensures status { IfOk result (λ reply. reply.status ≡ (outcome_of_script script).status) }
+    ensures text { IfOk result (λ reply. reply.text ≡ (outcome_of_script script).text) }
+    ensures answer { IfOk result (λ reply. IsAnswer reply.status) }
+    ensures laws { IfOk result (λ _. later_of script ≡ false → LawsOfScript script (refusal script)) }
+{
+    if later(&script) {
+        fixed(alloc, Status::Script, b"bad line 0 later\n")
+    } else {
+        play_script(alloc, script)
+    }
 }
 
 /// What `play` answers and writes.
 pub fn play(alloc: Global, read: &ReadText) -> Result<Reply, NoMemory>
+    requires { IsWithin script_limit read.now }
     ensures status { IfOk result (λ reply. reply.status ≡ (outcome_of_play read.now).status) }
     ensures text { IfOk result (λ reply. reply.text ≡ (outcome_of_play read.now).text) }
     ensures answer { IfOk result (λ reply. IsAnswer reply.status) }
+    ensures spelled { IfOk result (λ _. SpelledOf read.now) }
+    ensures turns { TurnsOfPlay read.now }
     ensures laws { IfOk result (λ _. LawsOfPlay read.now) }
 {
-    match read {
-        ReadText::Whole(bytes) => match read_small(alloc, bytes.slice())? {
-            Some(script) => play_script(alloc, script),
-            None => fixed(alloc, Status::Script, b"bad line 0 later\n"),
-        },
-        ReadText::TooLong => fixed(alloc, Status::Script, b"bad line 0 later\n"),
+    played_turns();
+    match script_in(alloc, read)? {
+        Ok(script) => play_or_later(alloc, script),
+        Err(bad) => refused(alloc, bad),
     }
 }

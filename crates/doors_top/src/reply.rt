@@ -1,9 +1,12 @@
 //! What a command answers and writes.
 ghost use Rattle.std.specs.Prelude.{◌≡◌, IfOk};
+ghost use Rattle.doors_top.specs.Outcomes.{outcome_of_bad};
 
 use crate::status::Status;
 use dk_base::error::NoMemory;
 use dk_base::list::Bytes;
+use script_lang::bad::Bad;
+use script_lang::bad_text::bad_text;
 use std::alloc::Global;
 
 /// A status with the text that goes with it.
@@ -20,4 +23,15 @@ pub fn fixed(alloc: Global, status: Status, line: &[u8]) -> Result<Reply, NoMemo
 {
     let text = Bytes::from_slice(alloc, line)?;
     Ok(Reply { status, text })
+}
+
+/// The reply for a text that spells no script.
+pub fn refused(alloc: Global, bad: Bad) -> Result<Reply, NoMemory>
+    ensures status { IfOk result (λ reply. reply.status ≡ Status.Script) }
+    ensures text { IfOk result (λ reply. reply.text ≡ (outcome_of_bad bad).text) }
+{
+    Ok(Reply {
+        status: Status::Script,
+        text: bad_text(alloc, bad)?,
+    })
 }

@@ -8,7 +8,7 @@ pub enum Status {
     Complete,
     /// No thread can go on, and some wait in a call, at a port or for a path.
     Stalled,
-    /// The input is no script.
+    /// The input is no script, or one that cannot be played yet.
     Script,
     /// The words are no command.
     Usage,

@@ -3,6 +3,7 @@ ghost use Rattle.std.specs.Prelude.{◌≡◌, ◌≢◌, true, false};
 ghost use Rattle.std.specs.Io.KnownBytes.{Appends};
 ghost use Rattle.dk_base.specs.Outside.{Rose};
 ghost use Rattle.doors_top.specs.Outcomes.{texts, is_play, is_show, is_command, is_run, usage};
+ghost use Rattle.doors_top.specs.Reading.{LeavesRest};
 ghost use Rattle.doors_top.specs.Top.{IsAnswer, Plays, PlaysFront, Shows, ShowsFront};
 ghost use Rattle.doors_top.specs.Writing.{AppendsFront};
 
@@ -16,9 +17,6 @@ use dk_base::outside::{Gate, Sink, Source};
 use std::alloc::Global;
 use std::sync::Wait;
 use std::thread::Threads;
-
-/// The most bytes of a small script.
-const SMALL_LIMIT: usize = 2048;
 
 /// The most bytes of a script.
 const SCRIPT_LIMIT: usize = 1_048_576;
@@ -83,12 +81,13 @@ fn write_usage<O: Sink>(alloc: Global, out: &mut O) -> Status
 fn play_input<S: Source, O: Sink>(alloc: Global, src: &mut S, out: &mut O) -> Status
     ensures play { IsAnswer result → Plays (S.left src.old) (S.left src.new) (O.held out.old) (O.held out.new) result }
     ensures front { result ≡ Status.WriteFault → PlaysFront (S.left src.old) (S.left src.new) (O.held out.old) (O.held out.new) }
+    ensures rest { LeavesRest (S.left src.old) (S.left src.new) }
     ensures read_fault { result ≡ Status.ReadFault → Rose (S.faults src.old) (S.faults src.new) }
     ensures read_fault_writes_nothing { result ≡ Status.ReadFault → out.new ≡ out.old }
     ensures write_fault { result ≡ Status.WriteFault → Rose (O.faults out.old) (O.faults out.new) }
     ensures want_writes_nothing { result ≡ Status.Memory → out.new ≡ out.old }
 {
-    match read_all(alloc, src, SMALL_LIMIT) {
+    match read_all(alloc, src, SCRIPT_LIMIT) {
         Ok(read) => match play(alloc, &read) {
             Ok(reply) => write_reply(out, &reply),
             Err(_) => Status::Memory,
@@ -101,6 +100,7 @@ fn play_input<S: Source, O: Sink>(alloc: Global, src: &mut S, out: &mut O) -> St
 fn show_input<S: Source, O: Sink>(alloc: Global, src: &mut S, out: &mut O) -> Status
     ensures show { IsAnswer result → Shows (S.left src.old) (S.left src.new) (O.held out.old) (O.held out.new) result }
     ensures front { result ≡ Status.WriteFault → ShowsFront (S.left src.old) (S.left src.new) (O.held out.old) (O.held out.new) }
+    ensures rest { LeavesRest (S.left src.old) (S.left src.new) }
     ensures read_fault { result ≡ Status.ReadFault → Rose (S.faults src.old) (S.faults src.new) }
     ensures read_fault_writes_nothing { result ≡ Status.ReadFault → out.new ≡ out.old }
     ensures write_fault { result ≡ Status.WriteFault → Rose (O.faults out.old) (O.faults out.new) }
@@ -116,7 +116,7 @@ fn show_input<S: Source, O: Sink>(alloc: Global, src: &mut S, out: &mut O) -> St
     }
 }
 
-/// The commands that wait for nobody. `play` reads a script to the end of the input and writes the trace of the run that
+/// The commands but `run`. `play` reads a script to the end of the input and writes the trace of the run that
 /// its turns make; `show` writes the canonical text of a script. Other words are answered with the usage line, and nothing
 /// is read. The text is made whole before the first write, so want of memory leaves the output as it was.
 pub fn plain_main<S: Source, O: Sink>(
@@ -132,6 +132,7 @@ pub fn plain_main<S: Source, O: Sink>(
     ensures show_front { is_show (texts words.now) ≡ true → result ≡ Status.WriteFault → ShowsFront (S.left src.old) (S.left src.new) (O.held out.old) (O.held out.new) }
     ensures usage { is_command (texts words.now) ≡ false → IsAnswer result → (result ≡ Status.Usage) × Appends (O.held out.old) (O.held out.new) usage.text }
     ensures usage_front { is_command (texts words.now) ≡ false → result ≡ Status.WriteFault → AppendsFront (O.held out.old) (O.held out.new) usage.text }
+    ensures rest { LeavesRest (S.left src.old) (S.left src.new) }
     ensures nothing_read { is_command (texts words.now) ≡ false → src.new ≡ src.old }
     ensures read_fault { result ≡ Status.ReadFault → Rose (S.faults src.old) (S.faults src.new) }
     ensures read_fault_writes_nothing { result ≡ Status.ReadFault → out.new ≡ out.old }
@@ -148,7 +149,7 @@ pub fn plain_main<S: Source, O: Sink>(
 }
 
 /// The top call: what the program does, from its words to its exit status. `run` is not built yet and is answered as
-/// words that are no command; all other words are those of `plain_main`. It waits for nobody until `run` is there.
+/// words that are no command; all other words are those of `plain_main`.
 pub fn doors_main<R: Threads + Wait + Sync, S: Source, O: Sink, G: Gate + Sync>(
     _rt: &R,
     alloc: Global,
@@ -163,6 +164,7 @@ pub fn doors_main<R: Threads + Wait + Sync, S: Source, O: Sink, G: Gate + Sync>(
     ensures show_front { is_show (texts words.now) ≡ true → result ≡ Status.WriteFault → ShowsFront (S.left src.old) (S.left src.new) (O.held out.old) (O.held out.new) }
     ensures usage { is_command (texts words.now) ≡ false → IsAnswer result → (result ≡ Status.Usage) × Appends (O.held out.old) (O.held out.new) usage.text }
     ensures usage_front { is_command (texts words.now) ≡ false → result ≡ Status.WriteFault → AppendsFront (O.held out.old) (O.held out.new) usage.text }
+    ensures rest { LeavesRest (S.left src.old) (S.left src.new) }
     ensures nothing_read { is_command (texts words.now) ≡ false → src.new ≡ src.old }
     ensures read_fault { result ≡ Status.ReadFault → Rose (S.faults src.old) (S.faults src.new) }
     ensures read_fault_writes_nothing { result ≡ Status.ReadFault → out.new ≡ out.old }

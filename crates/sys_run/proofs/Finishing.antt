@@ -6,13 +6,11 @@ use native.Mathlib.Numerals.{unary_clauses}
 use Rattle.std.specs.Option.{option_map_or}
 use Rattle.written_kernel.specs.State.{State}
 use Rattle.written_kernel.specs.Turns.{runnable, least_runnable, least_among, least_or}
-use Rattle.written_script.specs.declared.script.Script.{Script}
-use Rattle.written_script.specs.ScriptRuns.{History, beginning, turn, run, run_from, least_first, played, threads_of}
+use Rattle.script_lang.specs.Value.{ScriptValue}
+use Rattle.written_script.specs.ScriptRuns.{History, beginning, asked, turn, run, run_from, least_first, threads_of}
 use Rattle.written_kernel.specs.Step.{event_of}
-use Rattle.written_script.specs.ScriptRuns.{asked}
 use Rattle.written_script.proofs.Histories.{threads_of-append}
-use Rattle.sys_run.specs.Sys.{Played, history, state_of_run, with_turn, with_turns, turns_left, next_turn}
-use Rattle.sys_run.proofs.Places.{drop-more}
+use Rattle.sys_run.specs.Sys.{SysValue, with_journal, history, state_of_run, with_turn, with_turns, turns_left, next_turn}
 use Rattle.sys_run.proofs.Journals.{history-with_turn}
 
 -- the least runnable thread is runnable
@@ -27,27 +25,27 @@ least-runnable m (suc n) t h = by_least (λ u e. least-runnable m n u e) (least_
     by_least below None true e f g = let same : suc n ≡ t = cc in subst (λ v. runnable m v ≡ true) same f
     by_least below None false e f g = cc
 
-least_first-none : (script : Script) (n : ℕ) (h : History) → least_runnable h.state ≡ None → least_first script n h ≡ []
+least_first-none : (script : ScriptValue) (n : ℕ) (h : History) → least_runnable h.state ≡ None → least_first script n h ≡ []
 least_first-none script zero h none = refl
 least_first-none script (suc n) h none = rw none refl
 
 least_first-some :
-    (script : Script) (n : ℕ) (h : History) (t : ℕ) → least_runnable h.state ≡ Some t →
+    (script : ScriptValue) (n : ℕ) (h : History) (t : ℕ) → least_runnable h.state ≡ Some t →
     least_first script (suc n) h ≡ t ∷ least_first script n (turn script h t)
 least_first-some script n h t some = rw some refl
 
 -- no thread is runnable
-pub turns_left-none : (p : Played) → least_runnable (state_of_run p) ≡ None → turns_left p ≡ []
+pub turns_left-none : (p : SysValue) → least_runnable (state_of_run p) ≡ None → turns_left p ≡ []
 turns_left-none p none = least_first-none p.script (p.script.budget - length p.journal) (history p) none
 
 -- the budget is used up
-pub turns_left-used : (p : Played) → p.script.budget ≤ length p.journal → turns_left p ≡ []
+pub turns_left-used : (p : SysValue) → p.script.budget ≤ length p.journal → turns_left p ≡ []
 turns_left-used p used =
     let none : p.script.budget - length p.journal ≡ 0 = omega arith
     in rw none refl
 
 pub turns_left-some :
-    (p : Played) (t : ℕ) → least_runnable (state_of_run p) ≡ Some t → length p.journal < p.script.budget →
+    (p : SysValue) (t : ℕ) → least_runnable (state_of_run p) ≡ Some t → length p.journal < p.script.budget →
     turns_left p ≡ t ∷ turns_left (with_turn p t)
 turns_left-some p t some left =
     let one : length (with_turn p t).journal ≡ length p.journal + 1 = simp length-append refl
@@ -55,27 +53,35 @@ turns_left-some p t some left =
     in rw (more, history-with_turn p t) (least_first-some p.script (p.script.budget - length (with_turn p t).journal) (history p) t some)
 
 pub with_turns-append :
-    (ts : List ℕ) (p : Played) (t : ℕ) → with_turns p (ts ++ t ∷ []) ≡ with_turn (with_turns p ts) t
+    (ts : List ℕ) (p : SysValue) (t : ℕ) → with_turns p (ts ++ t ∷ []) ≡ with_turn (with_turns p ts) t
 with_turns-append [] p t = refl
 with_turns-append (u ∷ us) p t = with_turns-append us (with_turn p u) t
 
-pub history-with_turns : (ts : List ℕ) (p : Played) → history (with_turns p ts) ≡ run_from p.script (history p) ts
+pub history-with_turns : (ts : List ℕ) (p : SysValue) → history (with_turns p ts) ≡ run_from p.script (history p) ts
 history-with_turns [] p = refl
 history-with_turns (u ∷ us) p =
     history-with_turns us (with_turn p u) ∙ ap (λ h. run_from p.script h us) (history-with_turn p u)
 
-pub script-with_turns : (ts : List ℕ) (p : Played) → (with_turns p ts).script ≡ p.script
+pub script-with_turns : (ts : List ℕ) (p : SysValue) → (with_turns p ts).script ≡ p.script
 script-with_turns [] p = refl
 script-with_turns (u ∷ us) p = script-with_turns us (with_turn p u)
 
--- from an empty journal they are the played turns
-pub turns_left-new : (script : Script) → turns_left (record { script = script; journal = [] }) ≡ played script
-unfolding history played run
-turns_left-new script = let whole : script.budget - 0 ≡ script.budget = omega arith in rw whole refl
-
-pub history-new : (script : Script) → history (record { script = script; journal = [] }) ≡ beginning script
+pub history-new : (script : ScriptValue) → history (with_journal script []) ≡ beginning script
 unfolding history run
 history-new script = refl
+
+-- the run of turns from an empty journal
+pub history-from_new : (script : ScriptValue) (ts : List ℕ) → history (with_turns (with_journal script []) ts) ≡ run script ts
+unfolding run
+history-from_new script ts = history-with_turns ts (with_journal script []) ∙ ap (λ h. run_from script h ts) (history-new script)
+
+run_from-then : (script : ScriptValue) (ts us : List ℕ) (h : History) → run_from script h (ts ++ us) ≡ run_from script (run_from script h ts) us
+run_from-then script [] us h = refl
+run_from-then script (t ∷ ts) us h = run_from-then script ts us (turn script h t)
+
+pub run-then : (script : ScriptValue) (ts us : List ℕ) → run script (ts ++ us) ≡ run_from script (run script ts) us
+unfolding run
+run-then script ts us = run_from-then script ts us (beginning script)
 
 if_some : (b : Bool) (o : Option ℕ) (t : ℕ) → (if b then o else None) ≡ Some t → (b ≡ true) × (o ≡ Some t)
 if_some true o t h = (refl, h)
@@ -86,7 +92,7 @@ if_none true o h = inr h
 if_none false o h = inl refl
 
 -- the run is over
-pub turns_left-over : (p : Played) → next_turn p ≡ None → turns_left p ≡ []
+pub turns_left-over : (p : SysValue) → next_turn p ≡ None → turns_left p ≡ []
 turns_left-over p h = by_cause (if_none (nat_lt (length p.journal) p.script.budget) (least_runnable (state_of_run p)) h)
   where
     by_cause :
@@ -95,13 +101,13 @@ turns_left-over p h = by_cause (if_none (nat_lt (length p.journal) p.script.budg
     by_cause (inr none) = turns_left-none p none
 
 -- what the next turn is
-pub record IsNext (p : Played) (t : ℕ) : Type 0 where
+pub record IsNext (p : SysValue) (t : ℕ) : Type 0 where
   pub left : length p.journal < p.script.budget
   pub least : least_runnable (state_of_run p) ≡ Some t
   pub can : runnable (state_of_run p) t ≡ true
   pub turns : turns_left p ≡ t ∷ turns_left (with_turn p t)
 
-pub next : (p : Played) (t : ℕ) → next_turn p ≡ Some t → IsNext p t
+pub next : (p : SysValue) (t : ℕ) → next_turn p ≡ Some t → IsNext p t
 next p t h =
     let both : (nat_lt (length p.journal) p.script.budget ≡ true) × (least_runnable (state_of_run p) ≡ Some t) =
     if_some (nat_lt (length p.journal) p.script.budget) (least_runnable (state_of_run p)) t h
@@ -113,7 +119,7 @@ next p t h =
       turns = turns_left-some p t both.1 left;
     }
 
-least_first-few : (script : Script) (n : ℕ) (h : History) → length (least_first script n h) ≤ n
+least_first-few : (script : ScriptValue) (n : ℕ) (h : History) → length (least_first script n h) ≤ n
 least_first-few script zero h = omega arith
 least_first-few script (suc n) h = by_next (λ t. least_first-few script n (turn script h t)) (least_runnable h.state) refl
   where
@@ -121,19 +127,19 @@ least_first-few script (suc n) h = by_next (λ t. least_first-few script n (turn
     by_next few None e = omega arith
     by_next few (Some t) e = let rest : length (least_first script n (turn script h t)) ≤ n = few t in omega arith
 
-pub turns_left-few : (p : Played) → length (turns_left p) ≤ p.script.budget
+pub turns_left-few : (p : SysValue) → length (turns_left p) ≤ p.script.budget
 turns_left-few p =
     let few : length (turns_left p) ≤ p.script.budget - length p.journal =
     least_first-few p.script (p.script.budget - length p.journal) (history p)
     in omega arith
 
 -- so many of the turns that were left were taken
-pub record HasTaken (old now : Played) (n : ℕ) : Type 0 where
+pub record HasTaken (old now : SysValue) (n : ℕ) : Type 0 where
   pub taken : now ≡ with_turns old (take n (turns_left old))
   pub ahead : drop n (turns_left old) ≡ turns_left now
   pub few : n ≤ length (turns_left old)
 
-pub HasTaken-none : (p : Played) → HasTaken p p 0
+pub HasTaken-none : (p : SysValue) → HasTaken p p 0
 HasTaken-none p = record { taken = none (turns_left p); ahead = none-drop (turns_left p); few = omega arith }
   where
     none : (ts : List ℕ) → p ≡ with_turns p (take 0 ts)
@@ -144,21 +150,24 @@ HasTaken-none p = record { taken = none (turns_left p); ahead = none-drop (turns
     none-drop [] = refl
     none-drop (t ∷ ts) = refl
 
-take_more-at : (n : ℕ) (ts : List ℕ) (t : ℕ) (rest : List ℕ) → drop n ts ≡ t ∷ rest → take (n + 1) ts ≡ take n ts ++ t ∷ []
+pub take_more-at : (n : ℕ) (ts : List ℕ) (t : ℕ) (rest : List ℕ) → drop n ts ≡ t ∷ rest → take (n + 1) ts ≡ take n ts ++ t ∷ []
 take_more-at zero [] t rest h = cc
 take_more-at zero (u ∷ us) t rest h = let same : u ≡ t = cc in rw same refl
 take_more-at (suc n) [] t rest h = cc
 take_more-at (suc n) (u ∷ us) t rest h =
     simp unary_clauses (ap (λ ts. u ∷ ts) (simp unary_clauses at (take_more-at n us t rest h)))
 
-drop_more-at : (n : ℕ) (ts : List ℕ) (t : ℕ) (rest : List ℕ) → drop n ts ≡ t ∷ rest → drop (n + 1) ts ≡ rest
-drop_more-at n ts t rest h = drop-more n ts t rest h
+pub drop_more-at : (n : ℕ) (ts : List ℕ) (t : ℕ) (rest : List ℕ) → drop n ts ≡ t ∷ rest → drop (n + 1) ts ≡ rest
+drop_more-at zero [] t rest h = cc
+drop_more-at zero (u ∷ us) t rest h = cc
+drop_more-at (suc n) [] t rest h = cc
+drop_more-at (suc n) (u ∷ us) t rest h = simp unary_clauses (simp unary_clauses at (drop_more-at n us t rest h))
 
-longer_than : (n : ℕ) (ts : List ℕ) (t : ℕ) (rest : List ℕ) → drop n ts ≡ t ∷ rest → n + 1 ≤ length ts
+pub longer_than : (n : ℕ) (ts : List ℕ) (t : ℕ) (rest : List ℕ) → drop n ts ≡ t ∷ rest → n + 1 ≤ length ts
 longer_than n ts t rest h =
     let sizes : length ts - n ≡ suc (length rest) = sym (length-drop n ts) ∙ ap length h in omega arith
 
-pub HasTaken-more : (old now : Played) (n t : ℕ) → HasTaken old now n → next_turn now ≡ Some t → HasTaken old (with_turn now t) (n + 1)
+pub HasTaken-more : (old now : SysValue) (n t : ℕ) → HasTaken old now n → next_turn now ≡ Some t → HasTaken old (with_turn now t) (n + 1)
 HasTaken-more old now n t h e =
     let ahead : drop n (turns_left old) ≡ t ∷ turns_left (with_turn now t) = h.ahead ∙ (next now t e).turns
     in record {
@@ -169,25 +178,25 @@ HasTaken-more old now n t h e =
       few = longer_than n (turns_left old) t _ ahead;
     }
 
-take-all : (n : ℕ) (ts : List ℕ) → drop n ts ≡ [] → take n ts ≡ ts
+pub take-all : (n : ℕ) (ts : List ℕ) → drop n ts ≡ [] → take n ts ≡ ts
 take-all zero [] h = refl
 take-all zero (t ∷ ts) h = cc
 take-all (suc n) [] h = refl
 take-all (suc n) (t ∷ ts) h = ap (λ us. t ∷ us) (take-all n ts h)
 
 -- all of them were taken
-pub record HasFinished (old now : Played) (n : ℕ) : Type 0 where
+pub record HasFinished (old now : SysValue) (n : ℕ) : Type 0 where
   pub taken : now ≡ with_turns old (turns_left old)
   pub count : n ≡ length (turns_left old)
 
-pub finished : (old now : Played) (n : ℕ) → HasTaken old now n → next_turn now ≡ None → HasFinished old now n
+pub finished : (old now : SysValue) (n : ℕ) → HasTaken old now n → next_turn now ≡ None → HasFinished old now n
 finished old now n h e =
     let none : drop n (turns_left old) ≡ [] = h.ahead ∙ turns_left-over now e
     in let sizes : length (turns_left old) - n ≡ 0 = sym (length-drop n (turns_left old)) ∙ ap length none
     in let few : n ≤ length (turns_left old) = h.few
     in record { taken = h.taken ∙ ap (with_turns old) (take-all n (turns_left old) none); count = omega arith }
 
-threads-with_turns : (ts : List ℕ) (p : Played) → threads_of (with_turns p ts).journal ≡ threads_of p.journal ++ ts
+pub threads-with_turns : (ts : List ℕ) (p : SysValue) → threads_of (with_turns p ts).journal ≡ threads_of p.journal ++ ts
 threads-with_turns [] p = sym (append-nil (threads_of p.journal))
 threads-with_turns (t ∷ ts) p =
     threads-with_turns ts (with_turn p t)
@@ -195,27 +204,3 @@ threads-with_turns (t ∷ ts) p =
     (λ us. us ++ ts)
     (threads_of-append p.journal (event_of (history p).state t (asked p.script (history p) t) ∷ []))
     ∙ append_assoc (threads_of p.journal) (t ∷ []) ts
-
--- a journal of the run that `play` makes of a script
-pub record IsPlay (script : Script) (p : Played) : Type 0 where
-  pub same_script : p.script ≡ script
-  pub same_run : history p ≡ run script (played script)
-  pub same_turns : threads_of p.journal ≡ played script
-
-pub IsPlay-finished :
-    (script : Script) (new p : Played) → new ≡ record { script = script; journal = [] } → p ≡ with_turns new (turns_left new) →
-    IsPlay script p
-unfolding run
-IsPlay-finished script new p n h =
-    let whole : p ≡ with_turns (record { script = script; journal = [] }) (played script) =
-    h ∙ ap (λ q. with_turns q (turns_left q)) n ∙ ap (with_turns (record { script = script; journal = [] })) (turns_left-new script)
-    in record {
-      same_script = ap (λ (q : Played). q.script) whole ∙ script-with_turns (played script) (record { script = script; journal = [] });
-      same_run =
-          ap history whole
-          ∙ history-with_turns (played script) (record { script = script; journal = [] })
-          ∙ ap (λ h. run_from script h (played script)) (history-new script);
-      same_turns =
-          ap (λ (q : Played). threads_of q.journal) whole
-          ∙ threads-with_turns (played script) (record { script = script; journal = [] });
-    }

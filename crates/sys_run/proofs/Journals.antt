@@ -5,49 +5,47 @@ use Rattle.std.proofs.lemmas.Bool.Decides.{nat_tests}
 use Rattle.written_kernel.specs.Step.{event_of}
 use Rattle.written_kernel.specs.Turns.{runnable}
 use Rattle.written_kernel.specs.Legal.{MayTurn}
-use Rattle.written_kernel.specs.Runs.{IsRun}
-use Rattle.written_kernel.proofs.Runs.{IsRun_push}
-use Rattle.written_script.specs.declared.script.Script.{Script}
-use Rattle.written_script.specs.ScriptRuns.{History, beginning, asked, turn, run, run_from, turns_of, threads_of, opening_of, IsAllowed}
-use Rattle.written_script.proofs.Histories.{turn_at, run-append, turns_of-append, state_after-turns_of, AreRunnableFrom-append, threads_of-append, length-threads_of, events-run}
-use Rattle.written_script.proofs.Procedures.{AreInside-turn, may_turn}
-use Rattle.sys_run.specs.Sys.{Played, history, state_of_run, IsJournal, with_turn}
+use Rattle.script_lang.specs.Value.{ScriptValue}
+use Rattle.written_script.specs.DeclaredNames.{IsDeclared}
+use Rattle.written_script.specs.ScriptRuns.{History, beginning, asked, turn, run, run_from, threads_of, IsAllowed}
+use Rattle.written_script.proofs.Histories.{run-append, AreRunnableFrom-append, threads_of-append, length-threads_of, events-run}
+use Rattle.written_script.proofs.RunTurns.{IsKnownHistory, run-known, declared-known, may_turn}
+use Rattle.sys_run.specs.Sys.{SysValue, history, state_of_run, IsJournal, with_turn}
 
-pub history-with_turn : (p : Played) (t : ℕ) → history (with_turn p t) ≡ turn p.script (history p) t
+pub history-with_turn : (p : SysValue) (t : ℕ) → history (with_turn p t) ≡ turn p.script (history p) t
 unfolding history
 history-with_turn p t =
     ap (run p.script) (threads_of-append p.journal (event_of (history p).state t (asked p.script (history p) t) ∷ []))
     ∙ run-append p.script (threads_of p.journal) t
 
-pub events-history : (p : Played) → (history p).state.events ≡ length p.journal
+pub events-history : (p : SysValue) → (history p).state.events ≡ length p.journal
 unfolding history
 events-history p = events-run p.script (threads_of p.journal) ∙ length-threads_of p.journal
 
-pub may_turn-of : (p : Played) (t : ℕ) → IsJournal p → runnable (state_of_run p) t ≡ true → length p.journal < p.script.budget → MayTurn (history p).state t (asked p.script (history p) t)
+-- what a journal's history keeps
+pub known-history : (p : SysValue) → IsJournal p → IsKnownHistory p.script (history p)
+unfolding history
+known-history p is = run-known p.script (threads_of p.journal) is.script.sound is.allowed
+
+pub declared-history : (p : SysValue) → IsJournal p → IsDeclared p.script (history p)
+declared-history p is = declared-known p.script (history p) (known-history p is)
+
+pub may_turn-of : (p : SysValue) (t : ℕ) → IsJournal p → runnable (state_of_run p) t ≡ true → length p.journal < p.script.budget → MayTurn (history p).state t (asked p.script (history p) t)
 may_turn-of p t is can left =
-    let small : p.script.budget ≤ 100000 = is.script.small_budget
+    let small : p.script.budget ≤ 100000 = is.script.sound.small_budget
     in let events : (history p).state.events ≡ length p.journal = events-history p
-    in may_turn p.script (history p) t is.inside can (omega arith)
+    in may_turn p.script (history p) t is.script (known-history p is) can (omega arith)
 
 allowed_more :
-    (script : Script) (ts : List ℕ) (t : ℕ) →
+    (script : ScriptValue) (ts : List ℕ) (t : ℕ) →
     IsAllowed script ts → runnable (run script ts).state t ≡ true → length ts < script.budget → IsAllowed script (ts ++ t ∷ [])
 unfolding run
 allowed_more script ts t h can left =
     let one : length (ts ++ t ∷ []) ≡ length ts + 1 = simp length-append refl
     in record { runnable = AreRunnableFrom-append script ts (beginning script) t h.runnable can; within = omega arith }
 
-run_more :
-    (script : Script) (ts : List ℕ) (t : ℕ) →
-    IsRun (opening_of script) (turns_of script ts) → MayTurn (run script ts).state t (asked script (run script ts) t) →
-    IsRun (opening_of script) (turns_of script (ts ++ t ∷ []))
-run_more script ts t h may =
-    rw (turns_of-append script ts t)
-    (IsRun_push (opening_of script) (turns_of script ts) (turn_at script (run script ts) t) h
-    (rw (state_after-turns_of script ts) may))
-
 pub IsJournal-with_turn :
-    (p : Played) (t : ℕ) → IsJournal p → runnable (state_of_run p) t ≡ true → length p.journal < p.script.budget →
+    (p : SysValue) (t : ℕ) → IsJournal p → runnable (state_of_run p) t ≡ true → length p.journal < p.script.budget →
     IsJournal (with_turn p t)
 unfolding history run
 IsJournal-with_turn p t is can left =
@@ -55,15 +53,12 @@ IsJournal-with_turn p t is can left =
       script = is.script;
       events = rw (history-with_turn p t) (ap (λ es. es ++ event_of (history p).state t (asked p.script (history p) t) ∷ []) is.events);
       allowed = rw (threads_of-append p.journal (event_of (history p).state t (asked p.script (history p) t) ∷ [])) (allowed_more p.script (threads_of p.journal) t is.allowed can (rw (length-threads_of p.journal) left));
-      inside = rw (history-with_turn p t) (AreInside-turn p.script (history p) t is.script is.inside);
-      run = rw (threads_of-append p.journal (event_of (history p).state t (asked p.script (history p) t) ∷ []))
-          (run_more p.script (threads_of p.journal) t is.run (may_turn-of p t is can left));
     }
 
 pub le-not_lt : (a b : ℕ) → nat_le a b ≡ not (nat_lt b a)
 le-not_lt a b = grind (arith, nat_tests)
 
-events-run_from : (script : Script) (ts : List ℕ) (h : History) → length (run_from script h ts).events ≡ length h.events + length ts
+events-run_from : (script : ScriptValue) (ts : List ℕ) (h : History) → length (run_from script h ts).events ≡ length h.events + length ts
 events-run_from script [] h = omega arith
 events-run_from script (u ∷ us) h =
     let one : length (turn script h u).events ≡ length h.events + 1 = simp length-append refl
@@ -71,7 +66,7 @@ events-run_from script (u ∷ us) h =
     events-run_from script us (turn script h u)
     in omega arith
 
-pub length-history : (p : Played) → length (history p).events ≡ length p.journal
+pub length-history : (p : SysValue) → length (history p).events ≡ length p.journal
 unfolding history run
 length-history p =
     let rest : length (run_from p.script (beginning p.script) (threads_of p.journal)).events ≡ length (threads_of p.journal) =

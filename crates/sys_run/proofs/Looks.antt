@@ -1,7 +1,6 @@
 -- What the kernel's threads say of the run.
-use Rattle.std.proofs.Common.{◌≡◌, ℕ, ◌≤◌, ◌<◌, List, [], ◌∷◌, length, Option, Some, None, Bool, true, false, refl, ap, sym, ◌∙◌}
-use Rattle.std.specs.Prelude.{nat_lt, nat_le, is_none, option_map, not, ◌||◌, if◌then◌else◌}
-use Rattle.std.proofs.lemmas.Bool.{lt-ltb, le-ltb}
+use Rattle.std.proofs.Common.{◌≡◌, ℕ, List, [], ◌∷◌, length, Option, Some, None, Bool, true, false, refl, ap, sym, ◌∙◌, subst}
+use Rattle.std.specs.Prelude.{nat_lt, nat_le, is_none, option_map, not, All, slice_get, ◌||◌, if◌then◌else◌}
 use Rattle.dk_base.specs.declared.number.Tid.{Tid}
 use Rattle.written_kernel.specs.State.{State}
 use Rattle.written_kernel.specs.Kept.{StandsFor}
@@ -9,13 +8,17 @@ use Rattle.written_kernel.specs.Turns.{least_runnable, waiting_threads}
 use Rattle.written_script.specs.declared.ending.Ending.TheVariants.{Complete, Stalled, Budget}
 use Rattle.written_script.specs.Endings.{ending_of, ending_with, ending_waiting}
 use Rattle.written_script.specs.ScriptRuns.{opening_of, turns_of, threads_of, is_over}
+use Rattle.written_script.specs.DeclaredNames.{IsDeclaredEvent, IsDeclaredThread}
+use Rattle.written_script.proofs.Elements.{All-slice_get}
 use Rattle.written_script.proofs.Histories.{IsOpening-opening_of}
+use Rattle.written_script.proofs.RunTurns.{turns_of-run}
+use Rattle.dk_base.specs.declared.event.Event.{Event}
 use Rattle.kernel_laws.specs.Laws.{Laws}
 use Rattle.written_kernel.specs.Opening.{IsOpening}
 use Rattle.written_kernel.specs.Runs.{Turn, IsRun}
-use Rattle.sys_run.specs.Sys.{Played, history, state_of_run, next_turn, LawsOf, IsJournal}
+use Rattle.sys_run.specs.Sys.{SysValue, history, state_of_run, next_turn, LawsOf, IsJournal}
 use Rattle.sys_run.specs.Threads.{is_any, number_of}
-use Rattle.sys_run.proofs.Journals.{length-history, le-not_lt}
+use Rattle.sys_run.proofs.Journals.{length-history, le-not_lt, declared-history}
 use Rattle.sys_run.proofs.Systems.{least_runnable-kept, waiting_threads-kept}
 
 pub ending-budget :
@@ -51,24 +54,41 @@ ending-complete kept m stands e any =
 
 -- the thread of the next turn
 pub next_turn-kept :
-    (p : Played) (kept : State) (o : Option ℕ) → StandsFor kept (state_of_run p) → length p.journal < p.script.budget →
-    o ≡ least_runnable kept → o ≡ next_turn p
+    (p : SysValue) (kept : State) (o : Option ℕ) → StandsFor kept (state_of_run p) →
+    true ≡ nat_lt (length p.journal) p.script.budget → o ≡ least_runnable kept → o ≡ next_turn p
 next_turn-kept p kept o stands left e =
-    let test : nat_lt (length p.journal) p.script.budget ≡ true = lt-ltb (length p.journal) p.script.budget left
+    let test : nat_lt (length p.journal) p.script.budget ≡ true = sym left
     in rw test (e ∙ least_runnable-kept kept (state_of_run p) stands)
-
-pub next_turn-used : (p : Played) → p.script.budget ≤ length p.journal → None ≡ next_turn p
-next_turn-used p used =
-    let test : nat_lt (length p.journal) p.script.budget ≡ false = le-ltb (length p.journal) p.script.budget used in rw test refl
 
 -- the laws of every run, as they are told
 abbrev pub EveryRun : Type 0
 EveryRun = (m : State) (xs : List Turn) → IsOpening m → IsRun m xs → Laws m xs
 
 -- the laws hold of the journal's run
-pub laws-journal : (p : Played) → EveryRun → IsJournal p → LawsOf p
+pub laws-journal : (p : SysValue) → EveryRun → IsJournal p → LawsOf p
 laws-journal p every is =
-    every (opening_of p.script) (turns_of p.script (threads_of p.journal)) (IsOpening-opening_of p.script) is.run
+    every
+    (opening_of p.script)
+    (turns_of p.script (threads_of p.journal))
+    (IsOpening-opening_of p.script)
+    (turns_of-run p.script (threads_of p.journal) is.script is.allowed)
+
+-- whatever the journal's events and the waiting threads name is declared
+
+pub events-declared : (p : SysValue) → IsJournal p → All (IsDeclaredEvent p.script) p.journal
+events-declared p is = subst (All (IsDeclaredEvent p.script)) (sym is.events) (declared-history p is).events
+
+pub event-declared : (p : SysValue) (i : ℕ) (e : Event) → IsJournal p → slice_get p.journal i ≡ Some e → IsDeclaredEvent p.script e
+event-declared p i e is there = All-slice_get (IsDeclaredEvent p.script) p.journal i e (events-declared p is) there
+
+pub waiting-known :
+    (p : SysValue) (kept : State) (waiting : List Tid) → IsJournal p → StandsFor kept (state_of_run p) →
+    waiting ≡ waiting_threads kept → All (IsDeclaredThread p.script) waiting
+waiting-known p kept waiting is stands e =
+    subst
+    (All (IsDeclaredThread p.script))
+    (sym (e ∙ waiting_threads-kept kept (state_of_run p) stands))
+    (declared-history p is).waiting
 
 if_over : (a b : Bool) (o : Option ℕ) → b ≡ not a → is_none (if a then o else None) ≡ (is_none o || b)
 if_over true b None h = refl
@@ -77,7 +97,7 @@ if_over false b None h = refl
 if_over false b (Some t) h = sym h
 
 -- the run is over where no thread takes the next turn
-pub over-next : (p : Played) → is_none (next_turn p) ≡ is_over p.script (history p)
+pub over-next : (p : SysValue) → is_none (next_turn p) ≡ is_over p.script (history p)
 over-next p =
     let count : length (history p).events ≡ length p.journal = length-history p
     in let tests : nat_le p.script.budget (length (history p).events) ≡ not (nat_lt (length p.journal) p.script.budget) =
@@ -92,5 +112,5 @@ is_none-map : (o : Option Tid) → is_none o ≡ is_none (option_map number_of o
 is_none-map None = refl
 is_none-map (Some t) = refl
 
-pub is_none-next : (p : Played) (o : Option Tid) → option_map number_of o ≡ next_turn p → is_none o ≡ is_over p.script (history p)
+pub is_none-next : (p : SysValue) (o : Option Tid) → option_map number_of o ≡ next_turn p → is_none o ≡ is_over p.script (history p)
 is_none-next p o h = is_none-map o ∙ ap is_none h ∙ over-next p

@@ -1,4 +1,4 @@
-pub mod Machine
-pub mod Held
 pub mod Sys
+pub mod Schedules
+pub mod Turns
 pub mod Threads

@@ -1,35 +1,37 @@
 //! What a script opens with.
-ghost use Rattle.std.specs.Prelude.{◌≡◌, ◌+◌, ◌≤◌, length, map, IfOk, OnOk};
+ghost use Rattle.std.specs.Prelude.{◌≡◌, ◌≤◌, [], length, map, IfOk, OnOk};
 ghost use Rattle.written_script.specs.ScriptRuns.{limit_of, opening_of, with_script_threads};
-ghost use Rattle.written_script.specs.IsScript.{IsScript};
-ghost use Rattle.sys_run.specs.Sys.{AreFirst};
+ghost use Rattle.written_script.specs.Sound.{IsSound};
+ghost use Rattle.sys_run.specs.Sys.{AllStandFrom};
 
-use crate::machine::Machine;
 use dk_base::error::NoMemory;
 use dk_base::list::IdList;
+use dk_base::number::{Pid, Tid};
 use kernel_core::kernel::Kernel;
+use script_lang::script::Script;
 use std::alloc::Global;
-use written_script::script::{Script, ScriptProcess, ScriptThread};
+use thread_machine::machine::Machine;
 
-pub(crate) fn limits_of(alloc: Global, processes: &[ScriptProcess]) -> Result<IdList, NoMemory>
-    ensures { IfOk result (λ limits. limits ≡ map limit_of processes.now) }
+pub(crate) fn limits_of(alloc: Global, script: &Script) -> Result<IdList, NoMemory>
+    requires { length script.now.processes ≤ 64 }
+    ensures { IfOk result (λ limits. limits ≡ map limit_of script.now.processes) }
 {
     let mut limits = IdList::new(alloc);
-    for process in processes {
-        limits.push(process.limit)?;
+    for below in 0..script.processes() {
+        limits.push(script.limit(Pid(below + 1)))?;
     }
     Ok(limits)
 }
 
-#[tactic(auto, using(crate::proofs::Machines::AreFirst_push))]
-/// A machine at the begin of its body for each of `n` threads.
-pub(crate) fn first_machines(alloc: Global, n: usize) -> Result<Vec<Machine>, NoMemory>
-    ensures first { IfOk result (λ machines. AreFirst machines.items) }
-    ensures count { IfOk result (λ machines. length machines.items ≡ n) }
+/// A machine at the first command of each thread.
+pub(crate) fn first_machines(alloc: Global, script: &Script) -> Result<Vec<Machine>, NoMemory>
+    requires { length script.now.threads ≤ 64 }
+    ensures stand { IfOk result (λ machines. AllStandFrom script.now [] 1 machines.items) }
+    ensures count { IfOk result (λ machines. length machines.items ≡ length script.now.threads) }
 {
     let mut machines = Vec::new(alloc);
-    for _ in 0..n {
-        let machine = Machine::new(alloc)?;
+    for below in 0..script.threads() {
+        let machine = Machine::new(alloc, script, Tid(below + 1))?;
         match machines.push(machine) {
             Ok(()) => {}
             Err(_) => return Err(NoMemory),
@@ -38,13 +40,17 @@ pub(crate) fn first_machines(alloc: Global, n: usize) -> Result<Vec<Machine>, No
     Ok(machines)
 }
 
-fn add_threads(kernel: &mut Kernel, threads: &[ScriptThread]) -> Result<(), NoMemory>
+fn add_threads(kernel: &mut Kernel, script: &Script) -> Result<(), NoMemory>
     requires opening { kernel.old.events ≡ 0 }
-    requires few { length kernel.old.threads + length threads.now ≤ 64 }
-    ensures { OnOk result (kernel.new ≡ with_script_threads kernel.old threads.now) }
+    requires few { length script.now.threads ≤ 64 }
+    ensures { OnOk result (kernel.new ≡ with_script_threads kernel.old script.now.threads) }
 {
-    for thread in threads {
-        if kernel.add_thread(thread.process, false).is_err() {
+    for below in 0..script.threads() {
+        let thread = Tid(below + 1);
+        if kernel
+            .add_thread(script.process_of(thread), script.is_spare(thread))
+            .is_err()
+        {
             return Err(NoMemory);
         }
     }
@@ -53,11 +59,11 @@ fn add_threads(kernel: &mut Kernel, threads: &[ScriptThread]) -> Result<(), NoMe
 
 /// A kernel in the opening state of a script.
 pub(crate) fn open(alloc: Global, script: &Script) -> Result<Kernel, NoMemory>
-    requires { IsScript script.now }
+    requires { IsSound script.now }
     ensures { IfOk result (λ kernel. kernel ≡ opening_of script.now) }
 {
-    let limits = limits_of(alloc, script.processes.slice())?;
+    let limits = limits_of(alloc, script)?;
     let mut kernel = Kernel::new(alloc, &limits)?;
-    add_threads(&mut kernel, script.threads.slice())?;
+    add_threads(&mut kernel, script)?;
     Ok(kernel)
 }

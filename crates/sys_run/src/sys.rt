@@ -1,12 +1,12 @@
-ghost use Rattle.std.specs.Prelude.{◌≡◌, ℕ, ◌+◌, ◌<◌, ◌≤◌, ◌∷◌, ◌++◌, [], length, slice_get, Some, IfOk, option_map, OnOk, OnErr, take, true};
+ghost use Rattle.std.specs.Prelude.{◌≡◌, ℕ, ◌+◌, ◌<◌, ◌≤◌, ◌∷◌, ◌++◌, [], length, slice_get, Some, IfOk, option_map, OnOk, OnErr, take, true, false, nat_lt, All};
 ghost use Rattle.written_kernel.specs.Turns.{runnable, waiting_threads};
-ghost use Rattle.written_script.specs.IsScript.{IsScript};
-ghost use Rattle.written_script.specs.ScriptRuns.{is_over};
+ghost use Rattle.written_script.specs.DeclaredNames.{IsDeclaredEvent, IsDeclaredThread};
 ghost use Rattle.written_script.specs.Endings.{ending_of};
-ghost use Rattle.sys_run.specs.Sys.{played, history, state_of_run, with_turn, with_turns, turns_left, next_turn, woken_by, LawsOf, IsJournal};
+ghost use Rattle.written_script.specs.Later.{later};
+ghost use Rattle.written_script.specs.ScriptRuns.{is_over, scheduled};
+ghost use Rattle.sys_run.specs.Sys.{with_journal, history, state_of_run, with_turn, with_turns, turns_left, next_turn, scheduled_turn, woken_by, LawsOf, IsJournal};
 ghost use Rattle.sys_run.specs.Threads.{number_of};
 
-use crate::machine::Machine;
 use crate::opening::{first_machines, open};
 use crate::threads::{all_waiting, first_runnable, is_any_waiting};
 use crate::turn::take_turn;
@@ -16,10 +16,21 @@ use dk_base::list::TidList;
 use dk_base::number::Tid;
 use kernel_core::kernel::Kernel;
 use kernel_laws::every_run;
+use script_lang::script::Script;
 use std::alloc::Global;
 use std::marker::Model;
+use thread_machine::machine::Machine;
 use written_script::ending::Ending;
-use written_script::script::Script;
+use written_script::runs::sound_scripts;
+
+/// How playing a schedule ends.
+#[derive(Clone, Copy, Debug, PartialEq, Eq)]
+pub enum Played {
+    /// All turns were taken that the budget reaches.
+    Over,
+    /// The thread of this turn, counted from 1, was not runnable.
+    Refused { turn: u32, thread: Tid },
+}
 
 /// A script, the kernel, and the journal of the events so far. The journal is a run of the script from its opening
 /// state, in which its threads took turns, and kernel and machines stand after it.
@@ -33,9 +44,9 @@ pub struct Sys {
 }
 
 impl Model for Sys {
-    ghost use Rattle.sys_run.specs.Sys.{Played, IsSys};
+    ghost use Rattle.sys_run.specs.Sys.{SysValue, IsSys};
 
-    ghost Value = { Played };
+    ghost Value = { SysValue };
 
     ghost view = { λ s. record { script = s.script; journal = s.journal.items } };
 
@@ -43,13 +54,17 @@ impl Model for Sys {
 }
 
 impl Sys {
+    ghost use Rattle.sys_run.specs.Schedules.{PlaysSchedule};
+
     /// No event yet.
     pub fn new(alloc: Global, script: Script) -> Result<Self, NoMemory>
-        requires { IsScript script }
-        ensures { IfOk result (λ sys. sys ≡ played script []) }
+        requires { later script ≡ false }
+        ensures { IfOk result (λ sys. sys ≡ with_journal script []) }
     {
+        script.is_spelled();
+        sound_scripts();
         let kernel = open(alloc, &script)?;
-        let machines = first_machines(alloc, script.threads.len())?;
+        let machines = first_machines(alloc, &script)?;
         Ok(Sys {
             alloc,
             script,
@@ -82,11 +97,35 @@ impl Sys {
         Ok(woken)
     }
 
+    /// Takes the schedule's turns, as far as the budget reaches, up to one whose thread is not runnable. After want of
+    /// memory the turns so far stand.
+    pub fn play_schedule(&mut self) -> Result<Played, NoMemory>
+        requires { self.old.journal ≡ [] }
+        ensures played { IfOk result (λ played. PlaysSchedule self.old self.new played) }
+        ensures laws { LawsOf self.new }
+        ensures err { OnErr result ((k : ℕ) × (self.new ≡ with_turns self.old (take k (scheduled self.old.script)))) }
+    {
+        self.laws();
+        while let Some(t) = self.next_scheduled() {
+            self.laws();
+            if !self.runnable(t) {
+                return Ok(Played::Refused {
+                    turn: self.events() + 1,
+                    thread: t,
+                });
+            }
+            self.step(t)?;
+        }
+        self.laws();
+        Ok(Played::Over)
+    }
+
     /// The least runnable thread takes a turn, again and again, until the run is over. Answers how many turns were taken.
     /// After want of memory the turns so far stand.
     pub fn finish(&mut self) -> Result<u64, NoMemory>
         ensures turns { OnOk result (self.new ≡ with_turns self.old (turns_left self.old)) }
         ensures count { IfOk result (λ n. n ≡ length (turns_left self.old)) }
+        ensures over { OnOk result (is_over self.new.script (history self.new) ≡ true) }
         ensures laws { LawsOf self.new }
         ensures err { OnErr result ((k : ℕ) × (self.new ≡ with_turns self.old (take k (turns_left self.old)))) }
     {
@@ -103,6 +142,7 @@ impl Sys {
 
     // The laws hold of the journal's run.
     fn laws(&self)
+        ensures run { IsJournal self.now }
         ensures laws { LawsOf self.now }
         ensures small { self.now.script.budget ≤ 100000 }
     {
@@ -110,12 +150,34 @@ impl Sys {
         every_run();
     }
 
+    // Whether another event may be made.
+    fn has_budget(&self) -> bool
+        ensures { result ≡ nat_lt (length self.now.journal) self.now.script.budget }
+    {
+        self.journal.len() < self.script.budget() as usize
+    }
+
     // The thread that `finish` lets take the next turn.
     fn next_thread(&self) -> Option<Tid>
         ensures { option_map number_of result ≡ next_turn self.now }
     {
-        if self.journal.len() < self.script.budget as usize {
+        if self.has_budget() {
             first_runnable(&self.kernel)
+        } else {
+            None
+        }
+    }
+
+    // The thread that `play_schedule` lets take the next turn.
+    fn next_scheduled(&self) -> Option<Tid>
+        ensures { result ≡ scheduled_turn self.now }
+    {
+        if self.has_budget() {
+            self.script
+                .schedule()
+                .slice()
+                .get(self.journal.len())
+                .copied()
         } else {
             None
         }
@@ -138,7 +200,7 @@ impl Sys {
         }
     }
 
-    /// How the run stands, by its last state.
+    /// How the run stands, by its last state: Budget where some thread can go on, so at the end of a run the budget is used up.
     pub fn ending(&self) -> Ending
         ensures { result ≡ ending_of (state_of_run self.now) }
     {
@@ -163,10 +225,11 @@ impl Sys {
         self.journal.len() as u32
     }
 
-    /// The event of a place, counted from 0.
+    /// The event of a place, counted from 0. All that it names is declared in the script.
     pub fn event(&self, i: u32) -> &Event
         requires { i < length self.now.journal }
-        ensures { slice_get self.now.journal i ≡ Some result.now }
+        ensures event { slice_get self.now.journal i ≡ Some result.now }
+        ensures declared { IsDeclaredEvent self.now.script result.now }
     {
         &self.journal[i as usize]
     }
@@ -175,15 +238,17 @@ impl Sys {
     pub fn journal(&self) -> &[Event]
         ensures events { result.now ≡ self.now.journal }
         ensures run { result.now ≡ (history self.now).events }
+        ensures declared { All (IsDeclaredEvent self.now.script) result.now }
         ensures laws { LawsOf self.now }
     {
         every_run();
         self.journal.as_slice()
     }
 
-    /// The threads that are Calling, Getting or Awaiting, in order.
+    /// The threads that are Calling, Getting or Awaiting, in order. Each is declared in the script.
     pub fn waiting(&self) -> Result<TidList, NoMemory>
-        ensures { IfOk result (λ waiting. waiting ≡ waiting_threads (state_of_run self.now)) }
+        ensures threads { IfOk result (λ waiting. waiting ≡ waiting_threads (state_of_run self.now)) }
+        ensures declared { IfOk result (λ waiting. All (IsDeclaredThread self.now.script) waiting) }
     {
         all_waiting(self.alloc, &self.kernel)
     }

@@ -5,12 +5,12 @@ ghost use Rattle.written_kernel.specs.Legal.{MayTurn};
 ghost use Rattle.written_kernel.specs.Turns.{runnable};
 ghost use Rattle.written_kernel.specs.State.{State};
 ghost use Rattle.written_kernel.specs.Kept.{IsStep};
-ghost use Rattle.written_kernel.specs.Step.{step, what_of, event_of};
-ghost use Rattle.written_script.specs.ScriptRuns.{asked};
-ghost use Rattle.sys_run.specs.Machine.{Stands};
-ghost use Rattle.sys_run.specs.Sys.{played, history, state_of_run, with_turn, woken_by, IsJournal};
+ghost use Rattle.written_kernel.specs.Step.{step, what_of};
+ghost use Rattle.written_script.specs.Requests.{Frame};
+ghost use Rattle.thread_machine.specs.Machines.{IsMachine, Stands, HasRoom};
+ghost use Rattle.sys_run.specs.Sys.{with_journal, state_of_run, with_turn, woken_by, MachineStands, IsJournal};
+ghost use Rattle.sys_run.specs.Turns.{asked_in};
 
-use crate::machine::Machine;
 use crate::what;
 use dk_base::error::NoMemory;
 use dk_base::event::{Event, Stepped, What};
@@ -18,8 +18,9 @@ use dk_base::list::TidList;
 use dk_base::number::Tid;
 use dk_base::request::Request;
 use kernel_core::kernel::Kernel;
+use script_lang::script::Script;
 use std::alloc::Global;
-use written_script::script::Script;
+use thread_machine::machine::Machine;
 
 /// What a thread asks for at its turn: its next request where it runs, and nothing where its wait ends.
 fn ask(
@@ -27,16 +28,13 @@ fn ask(
     script: &Script,
     kernel: &Kernel,
     machine: &Machine,
-    journal: &[Event],
     t: Tid,
 ) -> Result<Option<Request>, NoMemory>
-    requires kernel { StandsFor kernel.now (state_of_run (played script.now journal.now)) }
-    requires events { journal.now ≡ (history (played script.now journal.now)).events }
-    requires machine { Stands script.now t.0 journal.now machine.now.began machine.now.ended.items }
-    ensures { IfOk result (λ r. r ≡ asked script.now (history (played script.now journal.now)) t.0) }
+    requires { IsMachine script.now machine.now }
+    ensures { IfOk result (λ r. (m : State) (f : Frame) → StandsFor kernel.now m → Stands script.now machine.now f → r ≡ asked_in m t.0 f) }
 {
     if kernel.is_running(t) {
-        let request = machine.next(alloc, script, t, journal)?;
+        let request = machine.next(alloc, script)?;
         Ok(Some(request))
     } else {
         Ok(None)
@@ -75,25 +73,25 @@ fn turn(
     t: Tid,
 ) -> Result<TidList, NoMemory>
     requires room { vec_len journal.old < vec_capacity journal.old }
-    requires machine_room { 0 < machine.old.ended.spare }
-    requires run { IsJournal (played script.now journal.old.items) }
-    requires kernel { StandsFor kernel.old (state_of_run (played script.now journal.old.items)) }
-    requires machine { Stands script.now t.0 journal.old.items machine.old.began machine.old.ended.items }
-    requires can { runnable (state_of_run (played script.now journal.old.items)) t.0 ≡ true }
+    requires machine_room { HasRoom machine.old }
+    requires run { IsJournal (with_journal script.now journal.old.items) }
+    requires kernel { StandsFor kernel.old (state_of_run (with_journal script.now journal.old.items)) }
+    requires machine { MachineStands script.now journal.old.items t.0 machine.old }
+    requires can { runnable (state_of_run (with_journal script.now journal.old.items)) t.0 ≡ true }
     requires left { length journal.old.items < script.now.budget }
-    ensures journal { OnOk result (played script.now journal.new.items ≡ with_turn (played script.now journal.old.items) t.0) }
-    ensures kernel { OnOk result (StandsFor kernel.new (state_of_run (with_turn (played script.now journal.old.items) t.0))) }
-    ensures machine { OnOk result (Stands script.now t.0 journal.new.items machine.new.began machine.new.ended.items) }
-    ensures woken { IfOk result (λ woken. woken ≡ woken_by (played script.now journal.old.items) t.0) }
+    ensures journal { OnOk result (with_journal script.now journal.new.items ≡ with_turn (with_journal script.now journal.old.items) t.0) }
+    ensures kernel { OnOk result (StandsFor kernel.new (state_of_run (with_turn (with_journal script.now journal.old.items) t.0))) }
+    ensures machine { OnOk result (MachineStands script.now journal.new.items t.0 machine.new) }
+    ensures woken { IfOk result (λ woken. woken ≡ woken_by (with_journal script.now journal.old.items) t.0) }
     ensures journal_err { OnErr result (journal.new.items ≡ journal.old.items) }
     ensures kernel_err { OnErr result (kernel.new ≡ kernel.old) }
     ensures machine_err { OnErr result (machine.new ≡ machine.old) }
 {
-    let request = ask(alloc, script, kernel, machine, journal.as_slice(), t)?;
+    let request = ask(alloc, script, kernel, machine, t)?;
     let what = what_of(kernel, t, &request);
     let root = kernel.root(t);
     let stepped = step(kernel, t, request)?;
-    machine.take(script, t, journal.as_slice(), &stepped.answer);
+    machine.take(script, &stepped.answer);
     Ok(appended(journal, t, root, what, stepped))
 }
 
@@ -125,20 +123,19 @@ pub(crate) fn take_turn(
     journal: &mut Vec<Event>,
     t: Tid,
 ) -> Result<TidList, NoMemory>
-    requires run { IsJournal (played script.now journal.old.items) }
-    requires kernel { StandsFor kernel.old (state_of_run (played script.now journal.old.items)) }
-    requires machine { Stands script.now t.0 journal.old.items machine.old.began machine.old.ended.items }
-    requires can { runnable (state_of_run (played script.now journal.old.items)) t.0 ≡ true }
+    requires run { IsJournal (with_journal script.now journal.old.items) }
+    requires kernel { StandsFor kernel.old (state_of_run (with_journal script.now journal.old.items)) }
+    requires machine { MachineStands script.now journal.old.items t.0 machine.old }
+    requires can { runnable (state_of_run (with_journal script.now journal.old.items)) t.0 ≡ true }
     requires left { length journal.old.items < script.now.budget }
-    ensures journal { OnOk result (played script.now journal.new.items ≡ with_turn (played script.now journal.old.items) t.0) }
-    ensures kernel { OnOk result (StandsFor kernel.new (state_of_run (with_turn (played script.now journal.old.items) t.0))) }
-    ensures machine { OnOk result (Stands script.now t.0 journal.new.items machine.new.began machine.new.ended.items) }
-    ensures woken { IfOk result (λ woken. woken ≡ woken_by (played script.now journal.old.items) t.0) }
+    ensures journal { OnOk result (with_journal script.now journal.new.items ≡ with_turn (with_journal script.now journal.old.items) t.0) }
+    ensures kernel { OnOk result (StandsFor kernel.new (state_of_run (with_turn (with_journal script.now journal.old.items) t.0))) }
+    ensures machine { MachineStands script.now journal.new.items t.0 machine.new }
+    ensures woken { IfOk result (λ woken. woken ≡ woken_by (with_journal script.now journal.old.items) t.0) }
     ensures journal_err { OnErr result (journal.new.items ≡ journal.old.items) }
     ensures kernel_err { OnErr result (kernel.new ≡ kernel.old) }
-    ensures machine_err { OnErr result ((machine.new.began ≡ machine.old.began) × (machine.new.ended.items ≡ machine.old.ended.items)) }
 {
-    machine.make_room()?;
+    machine.make_room(alloc)?;
     make_room(journal)?;
     turn(alloc, script, kernel, machine, journal, t)
 }

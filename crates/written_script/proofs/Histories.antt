@@ -1,5 +1,5 @@
 -- Runs of a script, one turn more at the end.
-use Rattle.std.proofs.Common.{◌≡◌, ℕ, ◌+◌, List, [], ◌∷◌, ◌++◌, length, true, false, arith, refl, ap, suc}
+use Rattle.std.proofs.Common.{◌≡◌, ℕ, ◌+◌, List, [], ◌∷◌, ◌++◌, length, true, arith, refl, ap, suc}
 use Rattle.std.specs.Prelude.{map}
 use Rattle.dk_base.specs.declared.event.Event.{Event}
 use Rattle.written_kernel.specs.State.{State}
@@ -9,8 +9,8 @@ use Rattle.written_kernel.specs.Opening.IsOpening.{processes, thread}
 use Rattle.written_kernel.proofs.Steps.{events-step}
 use Rattle.written_kernel.proofs.Opening.{opened}
 use Rattle.written_kernel.specs.Runs.{Turn, state_after}
-use Rattle.written_script.specs.declared.script.ScriptThread.{ScriptThread}
-use Rattle.written_script.specs.declared.script.Script.{Script}
+use Rattle.script_lang.specs.declared.script.ScriptThread.{ScriptThread}
+use Rattle.script_lang.specs.Value.{ScriptValue as Script}
 use Rattle.written_script.specs.Requests.{Frame, frame_from, frame_after, frame_of, first_frame}
 use Rattle.written_script.specs.ScriptRuns.{History, beginning, asked, turn, run, run_from, AreRunnableFrom, turns_from, turns_of, threads_of, opening_of, with_script_threads, limit_of, thread_number}
 
@@ -60,7 +60,7 @@ AreRunnableFrom-append script (u ∷ us) h t all here =
 IsOpening-with_script_threads :
     (xs : List ScriptThread) (m : State) → IsOpening m → IsOpening (with_script_threads m xs)
 IsOpening-with_script_threads [] m h = h
-IsOpening-with_script_threads (x ∷ xs) m h = IsOpening-with_script_threads xs _ (thread x.process.0 false h)
+IsOpening-with_script_threads (x ∷ xs) m h = IsOpening-with_script_threads xs _ (thread x.process.0 x.spare h)
 
 -- a script begins in an opening state
 pub IsOpening-opening_of : (script : Script) → IsOpening (opening_of script)

@@ -1,18 +1,21 @@
 -- How a trace shows an answer.
-use Rattle.std.specs.Prelude.{ℕ, ◌-◌, ◌^◌, ◌==◌, Bool, true, false, if◌then◌else◌, List, [], ◌∷◌, ◌++◌, length, flat_map, codes, decimal, Option, Some, None}
+use Rattle.std.specs.Prelude.{ℕ, Bool, true, false, List, [], ◌∷◌, ◌++◌, length, flat_map, codes, decimal, Option, Some, None}
+use Rattle.std.specs.List.{join_with_byte}
 use Rattle.dk_base.specs.Errno.{errno_name}
 use Rattle.dk_base.specs.declared.number.Fd.{Fd}
 use Rattle.dk_base.specs.declared.number.Pid.{Pid}
 use Rattle.dk_base.specs.declared.error.Errno.{Errno}
+use Rattle.dk_base.specs.declared.set.Attrs.{Attrs}
 use Rattle.dk_base.specs.declared.object.EventRec.{EventRec}
 use Rattle.dk_base.specs.declared.object.Src.{Src}
 use Rattle.dk_base.specs.declared.object.Src.TheVariants.{Fd as FromFd, User, Alert}
 use Rattle.dk_base.specs.declared.answer.DoorInfo.{DoorInfo}
 use Rattle.dk_base.specs.declared.answer.Answer.{Answer}
 use Rattle.dk_base.specs.declared.answer.Answer.TheVariants.{Wait, WaitCall, Done, NewFd, TwoFds, Count, Available, Param, Info, Client, Cancel, Data, Entered, EnteredNotice, EnterFailed, Results, OneEvent, Events, Errors, Failure}
-use Rattle.written_script.specs.declared.script.Script.{Script}
-use Rattle.written_script.specs.FlagWords.{attributes_text, poll_text}
-use Rattle.written_script.specs.Quoted.{data_text}
+use Rattle.script_line.specs.Sets.{attribute_words, poll_word}
+use Rattle.script_line.specs.Words.{value_word}
+use Rattle.script_lang.specs.Value.{ScriptValue}
+use Rattle.written_script.specs.DataText.{data_text}
 use Rattle.written_script.specs.TraceNames.{procedure_name}
 
 abbrev pub spaced_fd : Fd → List ℕ
@@ -31,23 +34,27 @@ abbrev pub yes_text : Bool → List ℕ
 yes_text true = codes "yes"
 yes_text false = codes "no"
 
--- the greatest number is `max`
-abbrev pub value_text : ℕ → List ℕ
-value_text value = if value == 2 ^ 64 - 1 then codes "max" else decimal value
+-- words joined by `+`, or `none`
+abbrev pub plus_joined : List (List ℕ) → List ℕ
+plus_joined [] = codes "none"
+plus_joined (word ∷ words) = join_with_byte 43 (word ∷ words)
+
+abbrev pub attributes_text : Attrs → List ℕ
+attributes_text attributes = plus_joined (attribute_words attributes)
 
 abbrev pub target_text : Option Pid → List ℕ
 target_text None = codes "-1"
 target_text (Some process) = decimal process.0
 
 -- whose door it is, and what it was made with
-abbrev pub made_text : Script → DoorInfo → List ℕ
+abbrev pub made_text : ScriptValue → DoorInfo → List ℕ
 made_text script info =
     codes "ok target " ++ target_text info.target
     ++ codes " proc " ++ procedure_name script info.entry
     ++ codes " cookie " ++ decimal info.cookie
 
 -- what door_info(3C) tells
-abbrev pub info_text : Script → DoorInfo → List ℕ
+abbrev pub info_text : ScriptValue → DoorInfo → List ℕ
 info_text script info =
     made_text script info
     ++ codes " attr " ++ attributes_text info.attrs
@@ -55,7 +62,7 @@ info_text script info =
 
 -- where an event comes from, and what it tells
 abbrev pub source_text : Src → EventRec → List ℕ
-source_text FromFd event = codes "fd:" ++ decimal event.object ++ codes ":" ++ poll_text event.events
+source_text FromFd event = codes "fd:" ++ decimal event.object ++ codes ":" ++ poll_word (record { 0 = event.events })
 source_text User event = codes "user:0:" ++ decimal event.events
 source_text Alert event = codes "alert:0:" ++ decimal event.events
 
@@ -71,23 +78,23 @@ spaced_error None = codes " ok"
 spaced_error (Some errno) = codes " " ++ errno_name errno
 
 -- how an invocation begins: what it serves, its procedure, and the door's cookie
-abbrev pub begun_text : Script → List ℕ → ℕ → ℕ → ℕ → List ℕ
+abbrev pub begun_text : ScriptValue → List ℕ → ℕ → ℕ → ℕ → List ℕ
 begun_text script item number entry cookie =
     codes "enter " ++ item ++ decimal number
     ++ codes " " ++ procedure_name script entry
     ++ codes " " ++ decimal cookie
 
-abbrev pub entered_text : Script → ℕ → ℕ → ℕ → List ℕ → List Fd → List ℕ
+abbrev pub entered_text : ScriptValue → ℕ → ℕ → ℕ → List ℕ → List Fd → List ℕ
 entered_text script call entry cookie bytes fds =
     begun_text script (codes "c") call entry cookie ++ codes " " ++ data_text bytes ++ fds_text fds
 
-abbrev pub notice_text : Script → ℕ → ℕ → ℕ → List ℕ
+abbrev pub notice_text : ScriptValue → ℕ → ℕ → ℕ → List ℕ
 notice_text script notice entry cookie = begun_text script (codes "n") notice entry cookie ++ codes " unref"
 
 abbrev pub results_text : List ℕ → List Fd → Bool → List ℕ
 results_text bytes fds grown = codes "ok " ++ data_text bytes ++ fds_text fds ++ grown_text grown
 
-abbrev pub answer_text : Script → Answer → List ℕ
+abbrev pub answer_text : ScriptValue → Answer → List ℕ
 answer_text script Wait = codes "wait"
 answer_text script (WaitCall call) = codes "wait c" ++ decimal call
 answer_text script Done = codes "ok"
@@ -95,7 +102,7 @@ answer_text script (NewFd fd) = codes "ok fd " ++ decimal fd.0
 answer_text script (TwoFds read write) = codes "ok fd " ++ decimal read.0 ++ codes " " ++ decimal write.0
 answer_text script (Count n) = codes "ok " ++ decimal n
 answer_text script (Available n) = codes "ok " ++ decimal n
-answer_text script (Param value) = codes "ok " ++ value_text value
+answer_text script (Param value) = codes "ok " ++ value_word value
 answer_text script (Info info) = info_text script info
 answer_text script (Client process) = codes "ok process " ++ decimal process.0
 answer_text script (Cancel cancelled) = codes "ok " ++ yes_text cancelled

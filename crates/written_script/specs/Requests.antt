@@ -1,165 +1,196 @@
 -- Which request a thread makes next: a function of its events so far. A frame is what is left of a body, with the
 -- variables that were set in it.
-use Rattle.std.specs.Prelude.{ℕ, ◌==◌, List, [], ◌∷◌, Option, Some, None, Bool, true, false, if◌then◌else◌, bytes_eq, codes, decimal, slice_get}
-use Rattle.dk_base.specs.declared.number.Fd.{Fd}
-use Rattle.dk_base.specs.declared.set.Attrs.{Attrs}
-use Rattle.dk_base.specs.declared.request.Request.{Request}
-use Rattle.dk_base.specs.declared.request.Request.TheVariants as request
+use Rattle.std.specs.Prelude.{ℕ, ◌==◌, List, [], ◌∷◌, Option, Some, None, Bool, true, false, if◌then◌else◌, bytes_eq, codes, decimal, map, slice_get}
+use Rattle.dk_base.specs.Errno.{errno_name}
 use Rattle.dk_base.specs.declared.answer.Answer.{Answer}
 use Rattle.dk_base.specs.declared.answer.Answer.TheVariants as answer
+use Rattle.dk_base.specs.declared.error.Errno.{Errno}
 use Rattle.dk_base.specs.declared.event.Event.{Event}
-use Rattle.written_kernel.specs.Numbered.{numbered}
-use Rattle.written_script.specs.declared.script.Piece.{Piece}
-use Rattle.written_script.specs.declared.script.Piece.TheVariants as piece
-use Rattle.written_script.specs.declared.script.Line.{Line}
-use Rattle.written_script.specs.declared.script.Line.TheVariants as line
-use Rattle.written_script.specs.declared.script.ScriptThread.{ScriptThread}
-use Rattle.written_script.specs.declared.script.Procedure.{Procedure}
-use Rattle.written_script.specs.declared.script.Script.{Script}
-
--- what a variable holds
-pub record Value : Type 0 where
-  pub bytes : List ℕ
-  pub descriptors : List Fd
-
-abbrev pub unset : Value
-unset = record { bytes = []; descriptors = [] }
-
-abbrev pub Variables : Type 0
-Variables = List ℕ → Value
-
-abbrev pub no_variables : Variables
-no_variables name = unset
-
--- setting a variable replaces its whole value
-abbrev pub set_variable : Variables → List ℕ → Value → Variables
-set_variable variables var value name = if bytes_eq name var then value else variables name
+use Rattle.dk_base.specs.declared.request.Request.{Request}
+use Rattle.dk_base.specs.declared.request.Request.TheVariants as request
+use Rattle.script_line.specs.Tables.{numbered}
+use Rattle.script_line.specs.declared.line.Cond.{Cond}
+use Rattle.script_line.specs.declared.line.Cond.TheVariants.{Good, Yes, Unref, Errno as Failed}
+use Rattle.script_line.specs.declared.line.Line.{Line}
+use Rattle.script_line.specs.declared.line.Line.TheVariants as line
+use Rattle.script_lang.specs.declared.script.Procedure.{Procedure}
+use Rattle.script_lang.specs.declared.script.ScriptThread.{ScriptThread}
+use Rattle.script_lang.specs.Value.{ScriptValue}
+use Rattle.written_script.specs.Steps.{Step, written_out, upcoming}
+use Rattle.written_script.specs.Steps.Step.{Do}
+use Rattle.written_script.specs.Variables.{Value, Variables, unset, with_bytes, with_both, no_variables, set_variable, set_each, vars_of, values_of, fd_of, pass_of, data_of}
 
 pub record Frame : Type 0 where
-  -- what is ahead, the command that a thread is at first
-  pub lines : List Line
+  -- what is ahead, from the command on that the thread is at
+  pub steps : List Step
   pub variables : Variables
+  -- the last answer
+  pub last : Answer
+  -- whether a notice began it
+  pub notice : Bool
   -- whether it is a procedure's
   pub procedure : Bool
 
+-- what a test says of the last answer, and of what began the frame
+
+abbrev pub is_good : Answer → Bool
+is_good (answer.Failure errno) = false
+is_good last = true
+
+abbrev pub is_yes : Answer → Bool
+is_yes (answer.Cancel cancelled) = cancelled
+is_yes last = false
+
+-- an errno is known by its name
+abbrev pub is_failure : Errno → Answer → Bool
+is_failure errno (answer.Failure other) = bytes_eq (errno_name other) (errno_name errno)
+is_failure errno last = false
+
+abbrev pub holds : Answer → Bool → Cond → Bool
+holds last notice Good = is_good last
+holds last notice Yes = is_yes last
+holds last notice Unref = notice
+holds last notice (Failed errno) = is_failure errno last
+
 -- what a frame asks
 
--- a number that no table has
-abbrev pub no_descriptor : Fd
-no_descriptor = record { 0 = 4294967295 }
-
-abbrev pub first_descriptor : List Fd → Fd
-first_descriptor [] = no_descriptor
-first_descriptor (fd ∷ fds) = fd
-
-abbrev pub descriptor_of : Variables → List ℕ → Fd
-descriptor_of variables var = first_descriptor (variables var).descriptors
-
-abbrev pub bytes_of : Variables → Piece → List ℕ
-bytes_of variables (piece.Text bytes) = bytes
-bytes_of variables (piece.Of var) = (variables var).bytes
-
-abbrev pub no_attributes : Attrs
-no_attributes = record { 0 = 0 }
-
+-- A `repeat`, an `if` and an `end` are no commands and stand in no step; they have a request so that each line has one.
 abbrev pub request_at : Variables → Line → Request
-request_at variables (line.Create var entry cookie) = request.Create entry cookie no_attributes
-request_at variables (line.Attach fd path) = request.Attach (descriptor_of variables fd) path
+request_at variables (line.Create var entry cookie attrs) = request.Create entry cookie attrs
+request_at variables (line.Call var fd bytes pass rsize) =
+    request.Call (fd_of variables fd) (data_of variables bytes) (map (pass_of variables) pass) rsize
+request_at variables (line.Return bytes pass) = request.Return (data_of variables bytes) (map (pass_of variables) pass)
 request_at variables line.Serve = request.Return [] []
-request_at variables (line.Await path) = request.Await path
+request_at variables (line.Revoke fd) = request.Revoke (fd_of variables fd)
+request_at variables (line.Bind fd) = request.Bind (fd_of variables fd)
+request_at variables line.Unbind = request.Unbind
+request_at variables (line.Info fd) = request.Info (fd_of variables fd)
+request_at variables line.InfoQuery = request.InfoQuery
+request_at variables (line.GetParam fd param) = request.GetParam (fd_of variables fd) param
+request_at variables (line.SetParam fd param value) = request.SetParam (fd_of variables fd) param value
+request_at variables line.Cred = request.Cred
+request_at variables line.TestCancel = request.TestCancel
+request_at variables (line.Close fd) = request.Close (fd_of variables fd)
+request_at variables (line.Dup var fd) = request.Dup (fd_of variables fd)
+request_at variables (line.Attach fd path) = request.Attach (fd_of variables fd) path
+request_at variables (line.Detach path) = request.Detach path
 request_at variables (line.Open var path) = request.Open path
-request_at variables (line.Call var fd bytes) = request.Call (descriptor_of variables fd) bytes [] 4096
-request_at variables (line.Return returned) = request.Return (bytes_of variables returned) []
+request_at variables (line.Await path) = request.Await path
+request_at variables (line.Pipe reading writing) = request.Pipe
+request_at variables (line.Write fd bytes) = request.Write (fd_of variables fd) (data_of variables bytes)
+request_at variables (line.Read var fd most) = request.Read (fd_of variables fd) most
+request_at variables (line.PortCreate var) = request.PortCreate
+request_at variables (line.Associate port object events user) =
+    request.Associate (fd_of variables port) (fd_of variables object) events user
+request_at variables (line.Dissociate port object) = request.Dissociate (fd_of variables port) (fd_of variables object)
+request_at variables (line.Get port wait) = request.Get (fd_of variables port) wait
+request_at variables (line.GetN port most least wait) = request.GetN (fd_of variables port) most least wait
+request_at variables (line.Send port events user) = request.Send (fd_of variables port) events user
+request_at variables (line.SendN events user ports) = request.SendN (map (fd_of variables) ports) events user
+request_at variables (line.Alert port mode events user) = request.Alert (fd_of variables port) mode events user
+request_at variables (line.Interrupt thread) = request.Interrupt thread
+request_at variables (line.Kill process) = request.Kill process
+request_at variables line.Exit = request.Exit
+request_at variables (line.Work var op bytes) = request.Work op (data_of variables bytes)
+request_at variables (line.Repeat times) = request.Exit
+request_at variables (line.If cond) = request.Exit
+request_at variables line.End = request.Exit
 
 -- at a procedure's end the request is Return with nothing, each time; at the end of a thread's body it is Exit
 abbrev pub request_at_end : Bool → Request
 request_at_end true = request.Return [] []
 request_at_end false = request.Exit
 
-abbrev pub request_ahead : Frame → List Line → Request
-request_ahead f [] = request_at_end f.procedure
-request_ahead f (x ∷ xs) = request_at f.variables x
+abbrev pub request_ahead : Frame → List Step → Request
+request_ahead f (Do line ∷ steps) = request_at f.variables line
+request_ahead f steps = request_at_end f.procedure
 
 abbrev pub request_of : Frame → Request
-request_of f = request_ahead f f.lines
+request_of f = request_ahead f f.steps
 
 -- what an answer makes of a frame
 
--- the variable that a command sets
-abbrev pub var_of : Line → Option (List ℕ)
-var_of (line.Create var entry cookie) = Some var
-var_of (line.Open var path) = Some var
-var_of (line.Call var fd bytes) = Some var
-var_of _ = None
+-- A frame begins before its body's first command. The last answer is `ok` there.
+abbrev pub begun : Bool → Bool → Variables → List Line → Frame
+begun procedure notice variables body =
+    record {
+      steps = upcoming (holds answer.Done notice) 0 (written_out body);
+      variables = variables;
+      last = answer.Done;
+      notice = notice;
+      procedure = procedure;
+    }
 
--- what an answer sets it to
-abbrev pub value_of : Answer → Option Value
-value_of (answer.NewFd fd) = Some (record { bytes = []; descriptors = fd ∷ [] })
-value_of (answer.Results bytes fds grown) = Some (record { bytes = bytes; descriptors = fds })
-value_of _ = None
+-- a spare begins as an empty procedure
+abbrev pub first_body : ScriptThread → List Line
+first_body thread = if thread.spare then [] else thread.body
 
-abbrev pub set_if : Variables → Option (List ℕ) → Option Value → Variables
-set_if variables (Some var) (Some value) = set_variable variables var value
-set_if variables _ _ = variables
-
--- an answer ends the command that it answers
-abbrev pub ended : Frame → List Line → Answer → Frame
-ended f [] a = f
-ended f (x ∷ xs) a =
-    record { lines = xs; variables = set_if f.variables (var_of x) (value_of a); procedure = f.procedure }
-
-abbrev pub thread_body_in : Option ScriptThread → List Line
-thread_body_in None = []
-thread_body_in (Some x) = x.body
-
-abbrev pub procedure_body_in : Option Procedure → List Line
-procedure_body_in None = []
-procedure_body_in (Some x) = x.body
+abbrev pub first_frame_in : Option ScriptThread → Frame
+first_frame_in None = begun false false no_variables []
+first_frame_in (Some thread) = begun thread.spare false no_variables (first_body thread)
 
 -- a thread's frame begins with its body
-abbrev pub first_frame : Script → ℕ → Frame
-first_frame script t =
-    record { lines = thread_body_in (numbered script.threads t); variables = no_variables; procedure = false }
+abbrev pub first_frame : ScriptValue → ℕ → Frame
+first_frame script t = first_frame_in (numbered script.threads t)
+
+abbrev pub body_in : Option Procedure → List Line
+body_in None = []
+body_in (Some procedure) = procedure.body
+
+-- the lines of a procedure
+abbrev pub procedure_body : ScriptValue → ℕ → List Line
+procedure_body script entry = body_in (slice_get script.procedures entry)
 
 -- the variables in which a procedure begins: the argument, and the decimal text of the door's cookie
 abbrev pub arguments : Value → ℕ → Variables
 arguments argument cookie =
-    set_variable
-    (set_variable no_variables (codes "arg") argument)
-    (codes "cookie")
-    (record { bytes = decimal cookie; descriptors = [] })
+    set_variable (set_variable no_variables (codes "arg") argument) (codes "cookie") (with_bytes (decimal cookie))
 
-abbrev pub procedure_frame : Script → ℕ → ℕ → Value → Frame
-procedure_frame script entry cookie argument =
-    record {
-      lines = procedure_body_in (slice_get script.procedures entry);
-      variables = arguments argument cookie;
-      procedure = true;
+abbrev pub procedure_frame : ScriptValue → ℕ → Bool → Variables → Frame
+procedure_frame script entry notice variables = begun true notice variables (procedure_body script entry)
+
+-- the steps behind the command that a frame is at
+abbrev pub behind : List Step → List Step
+behind [] = []
+behind (step ∷ steps) = steps
+
+-- the variables that the command sets
+abbrev pub vars_ahead : List Step → List (List ℕ)
+vars_ahead (Do line ∷ steps) = vars_of line
+vars_ahead steps = []
+
+-- an answer ends the command that it answers
+abbrev pub answered : Frame → Answer → Frame
+answered f a =
+    record f {
+      steps = upcoming (holds a f.notice) 0 (behind f.steps);
+      variables = set_each f.variables (vars_ahead f.steps) (values_of a);
+      last = a;
     }
 
 -- an accept that enters replaces the frame; what says that a thread waits, or that an accept failed, leaves it; any
 -- other answer ends the command that made the request
-abbrev pub taken : Script → Frame → Answer → Frame
+abbrev pub taken : ScriptValue → Frame → Answer → Frame
 taken script f (answer.Entered call entry cookie bytes fds) =
-    procedure_frame script entry cookie (record { bytes = bytes; descriptors = fds })
-taken script f (answer.EnteredNotice notice entry cookie) = procedure_frame script entry cookie unset
+    procedure_frame script entry false (arguments (with_both bytes fds) cookie)
+taken script f (answer.EnteredNotice notice entry cookie) = procedure_frame script entry true (arguments unset cookie)
 taken script f answer.Wait = f
 taken script f (answer.WaitCall call) = f
 taken script f (answer.EnterFailed call) = f
-taken script f a = ended f f.lines a
+taken script f a = answered f a
 
 -- a thread's frame after one event more
-abbrev pub frame_after : Script → ℕ → Frame → Event → Frame
+abbrev pub frame_after : ScriptValue → ℕ → Frame → Event → Frame
 frame_after script t f e = if e.thread.0 == t then taken script f e.answer else f
 
-abbrev pub frame_from : Script → ℕ → Frame → List Event → Frame
+abbrev pub frame_from : ScriptValue → ℕ → Frame → List Event → Frame
 frame_from script t f [] = f
 frame_from script t f (e ∷ es) = frame_from script t (frame_after script t f e) es
 
 -- a thread's frame after these events
-abbrev pub frame_of : Script → ℕ → List Event → Frame
+abbrev pub frame_of : ScriptValue → ℕ → List Event → Frame
 frame_of script t events = frame_from script t (first_frame script t) events
 
 -- a thread's next request after these events
-abbrev pub request_after : Script → ℕ → List Event → Request
+abbrev pub request_after : ScriptValue → ℕ → List Event → Request
 request_after script t events = request_of (frame_of script t events)

@@ -1,30 +1,40 @@
--- The names that a trace shows: a thread's by its number, a procedure's by its entry.
-use Rattle.std.specs.Prelude.{ℕ, ◌+◌, ◌-◌, ◌==◌, if◌then◌else◌, List, [], ◌∷◌, Option, Some, None, slice_get, bytes_eq}
-use Rattle.written_script.specs.declared.script.Script.{Script}
-use Rattle.written_script.specs.declared.script.ScriptThread.{ScriptThread}
-use Rattle.written_script.specs.declared.script.Procedure.{Procedure}
+-- The names that a trace shows, and the thread that a line of a trace names.
+use Rattle.std.specs.Prelude.{ℕ, Bool, ◌≡◌, ◌==◌, not, List, Option, Some, option_and_then, length, filter, slice_get}
+use Rattle.std.specs.List.{slice_split}
+use Rattle.dk_base.specs.declared.number.Tid.{Tid}
+use Rattle.script_line.specs.Tables.{thread_number, numbered}
+use Rattle.script_line.specs.Words.{thread_word, procedure_word}
+use Rattle.script_lang.specs.Scripts.{tables_of}
+use Rattle.script_lang.specs.Value.{ScriptValue}
 
-abbrev pub name_of_thread : Option ScriptThread → List ℕ
-name_of_thread None = []
-name_of_thread (Some thread) = thread.name
+-- a number that is no thread's has the empty name
+abbrev pub thread_name : ScriptValue → Tid → List ℕ
+thread_name script thread = thread_word (tables_of script) thread
 
--- thread t stands at place t - 1; a number that is no thread's has the empty name
-abbrev pub thread_name : Script → ℕ → List ℕ
-thread_name script t = if t == 0 then [] else name_of_thread (slice_get script.threads (t - 1))
+-- an entry that is no procedure's has the empty name
+abbrev pub procedure_name : ScriptValue → ℕ → List ℕ
+procedure_name script entry = procedure_word (tables_of script) entry
 
-abbrev pub name_of_procedure : Option Procedure → List ℕ
-name_of_procedure None = []
-name_of_procedure (Some procedure) = procedure.name
+-- the number of the thread or spare with the name
+abbrev pub thread_named : ScriptValue → List ℕ → Option ℕ
+thread_named script name = thread_number (tables_of script) name
 
--- a procedure stands at the place of its entry; an entry that is no procedure's has the empty name
-abbrev pub procedure_name : Script → ℕ → List ℕ
-procedure_name script entry = name_of_procedure (slice_get script.procedures entry)
+abbrev pub is_some_word : List ℕ → Bool
+is_some_word word = not (length word == 0)
 
--- the first of these threads with the name, where the first of them has the number t
-abbrev pub thread_from : ℕ → List ScriptThread → List ℕ → Option ℕ
-thread_from t [] name = None
-thread_from t (thread ∷ threads) name = if bytes_eq thread.name name then Some t else thread_from (t + 1) threads name
+-- the words of a trace's line stand between runs of spaces
+abbrev pub words_between_spaces : List ℕ → List (List ℕ)
+words_between_spaces line = filter is_some_word (slice_split (λ b. b == 32) line)
 
--- the number of the thread with the name
-abbrev pub thread_named : Script → List ℕ → Option ℕ
-thread_named script name = thread_from 1 script.threads name
+abbrev pub second_word : List ℕ → Option (List ℕ)
+second_word line = slice_get (words_between_spaces line) 1
+
+-- the declared thread that is a line's second word
+abbrev pub thread_of : ScriptValue → List ℕ → Option ℕ
+thread_of script line = option_and_then (thread_named script) (second_word line)
+
+-- a line's second word is the name of this declared thread or spare
+pub record NamesThread (script : ScriptValue) (line : List ℕ) (thread : Tid) : Type 0 where
+  pub word : List ℕ
+  pub second : second_word line ≡ Some word
+  pub declared : numbered (tables_of script).threads thread.0 ≡ Some word

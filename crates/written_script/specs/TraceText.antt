@@ -1,32 +1,35 @@
--- The text of a run: a line for each event, and the end line; and the turns that such a text names.
-use Rattle.std.specs.Prelude.{ℕ, ◌==◌, ◌&&◌, nat_le, Bool, false, if◌then◌else◌, List, [], ◌∷◌, ◌++◌, length, map, filter, flat_map, codes, decimal, Option}
-use Rattle.std.specs.List.{join_with_byte, slice_split}
+-- The text of a run: a line for each event, and the end line.
+use Rattle.std.specs.Prelude.{ℕ, List, [], ◌∷◌, ◌++◌, length, flat_map, codes, decimal}
+use Rattle.std.specs.List.{join_with_byte}
 use Rattle.dk_base.specs.declared.number.Tid.{Tid}
 use Rattle.dk_base.specs.declared.event.Event.{Event}
+use Rattle.written_kernel.specs.Turns.{waiting_threads}
+use Rattle.script_lang.specs.Value.{ScriptValue}
 use Rattle.written_script.specs.declared.ending.Ending.{Ending}
 use Rattle.written_script.specs.declared.ending.Ending.TheVariants.{Complete, Stalled, Budget}
-use Rattle.written_script.specs.declared.script.Script.{Script}
 use Rattle.written_script.specs.AnswerText.{answer_text}
-use Rattle.written_script.specs.TraceNames.{thread_name, thread_named}
+use Rattle.written_script.specs.Endings.{ending_of}
+use Rattle.written_script.specs.ScriptRuns.{History}
+use Rattle.written_script.specs.TraceNames.{thread_name}
 use Rattle.written_script.specs.WhatWord.{what_word}
 
 -- `NUMBER THREAD ROOT WHAT ANSWER`
-unfoldable pub line_of : Script → Event → List ℕ
+unfoldable pub line_of : ScriptValue → Event → List ℕ
 line_of script event =
     join_with_byte 32 (
     decimal event.number
-    ∷ thread_name script event.thread.0
-    ∷ thread_name script event.root.0
+    ∷ thread_name script event.thread
+    ∷ thread_name script event.root
     ∷ what_word event.what
     ∷ answer_text script event.answer
     ∷ [])
 
 -- a line and its LF
-abbrev pub whole_line : Script → Event → List ℕ
+abbrev pub whole_line : ScriptValue → Event → List ℕ
 whole_line script event = line_of script event ++ 10 ∷ []
 
-abbrev pub spaced_name : Script → Tid → List ℕ
-spaced_name script thread = codes " " ++ thread_name script thread.0
+abbrev pub spaced_name : ScriptValue → Tid → List ℕ
+spaced_name script thread = codes " " ++ thread_name script thread
 
 abbrev pub ending_word : Ending → List ℕ
 ending_word Complete = codes "complete"
@@ -34,50 +37,32 @@ ending_word Stalled = codes "stalled"
 ending_word Budget = codes "budget"
 
 -- a stalled run tells which threads wait
-abbrev pub waiting_text : Script → Ending → List Tid → List ℕ
+abbrev pub waiting_text : ScriptValue → Ending → List Tid → List ℕ
 waiting_text script Complete waiting = []
 waiting_text script Stalled waiting = flat_map (spaced_name script) waiting
 waiting_text script Budget waiting = []
 
 -- how the run ended, and after how many events
-unfoldable pub end_line_of : Script → Ending → ℕ → List Tid → List ℕ
+unfoldable pub end_line_of : ScriptValue → Ending → ℕ → List Tid → List ℕ
 end_line_of script ending n waiting =
     codes "end " ++ ending_word ending ++ codes " " ++ decimal n ++ waiting_text script ending waiting
 
-abbrev pub lines_text : Script → List Event → List ℕ
+abbrev pub lines_text : ScriptValue → List Event → List ℕ
 lines_text script events = flat_map (whole_line script) events
 
 -- the text of a run with these events and this end
-unfoldable pub trace_text : Script → List Event → Ending → List Tid → List ℕ
+unfoldable pub trace_text : ScriptValue → List Event → Ending → List Tid → List ℕ
 trace_text script events ending waiting =
     lines_text script events ++ end_line_of script ending (length events) waiting ++ 10 ∷ []
 
--- ---- the turns of a text
+-- the turn of a schedule that its thread could not take, counted from 1
+unfoldable pub refused_line_of : ScriptValue → ℕ → Tid → List ℕ
+refused_line_of script turn thread = codes "refused turn " ++ decimal turn ++ spaced_name script thread
 
-abbrev pub without_spaces : List ℕ → List ℕ
-without_spaces [] = []
-without_spaces (b ∷ bytes) = if b == 32 then without_spaces bytes else b ∷ bytes
+-- the text of a run that ends before a refused turn
+unfoldable pub refused_text : ScriptValue → List Event → ℕ → Tid → List ℕ
+refused_text script events turn thread = lines_text script events ++ refused_line_of script turn thread ++ 10 ∷ []
 
-abbrev pub first_word : List ℕ → List ℕ
-first_word [] = []
-first_word (b ∷ bytes) = if b == 32 then [] else b ∷ first_word bytes
-
-abbrev pub after_word : List ℕ → List ℕ
-after_word [] = []
-after_word (b ∷ bytes) = if b == 32 then bytes else after_word bytes
-
--- words stand between runs of spaces
-abbrev pub second_word : List ℕ → List ℕ
-second_word line = first_word (without_spaces (after_word (without_spaces line)))
-
-abbrev pub begins_with_digit : List ℕ → Bool
-begins_with_digit [] = false
-begins_with_digit (b ∷ bytes) = nat_le 48 b && nat_le b 57
-
--- an event line begins with its number
-abbrev pub event_lines : List ℕ → List (List ℕ)
-event_lines text = filter begins_with_digit (slice_split (λ b. b == 10) text)
-
--- the threads that the event lines name, in order; none where a name is no thread's
-abbrev pub turns_of_text : Script → List ℕ → List (Option ℕ)
-turns_of_text script text = map (λ line. thread_named script (second_word line)) (event_lines text)
+-- the text of a run by its history: its end is told by the last state
+abbrev pub text_of_history : ScriptValue → History → List ℕ
+text_of_history script h = trace_text script h.events (ending_of h.state) (waiting_threads h.state)

@@ -1,4 +1,4 @@
-/// How a run ends: every thread is done, the budget is used up, or no thread can go on.
+/// How a run ends: no thread can go on and none waits for another, some wait, or the budget is used up.
 #[derive(Clone, Copy, Debug, PartialEq, Eq)]
 pub enum Ending {
     Complete,

@@ -1,13 +1,28 @@
-//! Rows that are known beforehand, computed through the definitions.
-ghost use Rattle.std.specs.Prelude.{◌≡◌};
-ghost use Rattle.written_kernel.specs.Turns.{waiting_threads};
-ghost use Rattle.written_script.specs.Echo.{echo_script, echo_text};
-ghost use Rattle.written_script.specs.Endings.{ending_of};
-ghost use Rattle.written_script.specs.ScriptRuns.{run, played};
-ghost use Rattle.written_script.specs.TraceText.{trace_text};
+//! Scripts whose traces are known beforehand, computed through the definitions. No function here does anything: each is a law that
+//! the run which the definitions give a script has this text.
+ghost use Rattle.written_script.specs.Rows.{PlaysAs, echo_script, echo_text, grown_script, grown_text, budget_script, budget_text, refused_script, refused_turn_text, loops_script, loops_text};
 
-/// A law, with no work to do: the run that the definitions give the script of an echo door has this text.
-#[tactic(auto, using(crate::proofs::EchoRow::echo_row))]
+/// An echo door and a client.
 pub fn echo()
-    ensures { trace_text echo_script (run echo_script (played echo_script)).events (ending_of (run echo_script (played echo_script)).state) (waiting_threads (run echo_script (played echo_script)).state) ≡ echo_text }
+    ensures { PlaysAs echo_script echo_text }
+{}
+
+/// The results of a call are more than its caller has room for.
+pub fn grown()
+    ensures { PlaysAs grown_script grown_text }
+{}
+
+/// The budget is used up while a thread can go on.
+pub fn budget()
+    ensures { PlaysAs budget_script budget_text }
+{}
+
+/// A turn of the schedule is refused.
+pub fn refused()
+    ensures { PlaysAs refused_script refused_turn_text }
+{}
+
+/// A loop in a loop, and tests in tests.
+pub fn loops()
+    ensures { PlaysAs loops_script loops_text }
 {}

@@ -1,9 +1,8 @@
-use Rattle.std.proofs.Common.{◌≡◌, ◌+◌, ◌≤◌, length, drop}
+use Rattle.std.proofs.Common.{◌≡◌, drop}
 use Rattle.written_script.specs.ScriptRuns.{with_script_threads}
 use Rattle.sys_run.proofs.opening.add_threads.Given as goal
 
-abbrev pub invariant-loop-thread : goal.invariant-loop-thread
-invariant-loop-thread l =
-    (with_script_threads l.initial.kernel l.threads ≡ with_script_threads l.kernel (drop l.thread-index l.threads))
+abbrev pub invariant-loop-below : goal.invariant-loop-below
+invariant-loop-below l =
+    (with_script_threads l.initial.kernel l.script.threads ≡ with_script_threads l.kernel (drop l.below l.script.threads))
     × (l.kernel.events ≡ 0)
-    × (length l.kernel.threads + length (drop l.thread-index l.threads) ≤ 64)

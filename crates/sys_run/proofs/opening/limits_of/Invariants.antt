@@ -3,5 +3,5 @@ use Rattle.std.specs.Prelude.{map}
 use Rattle.written_script.specs.ScriptRuns.{limit_of}
 use Rattle.sys_run.proofs.opening.limits_of.Given as goal
 
-abbrev pub invariant-loop-process : goal.invariant-loop-process
-invariant-loop-process l = l.limits ≡ map limit_of (take l.process-index l.processes)
+abbrev pub invariant-loop-below : goal.invariant-loop-below
+invariant-loop-below l = l.limits ≡ map limit_of (take l.below l.script.processes)

@@ -1,70 +1,72 @@
-use Rattle.std.proofs.Common.{◌∙◌, ap, eq-eqb, refl, ◌++◌, ◌∷◌, []}
+use Rattle.std.proofs.Common.{◌∙◌, ap, sym, refl, ◌++◌, ◌∷◌, []}
 use Rattle.dk_base.specs.declared.event.Event.{Event}
-use Rattle.sys_run.specs.Sys.{played, state_of_run}
-use Rattle.sys_run.proofs.Turns.{may_turn-asked, asked-seen, kernel-after, machine-after}
+use Rattle.written_script.specs.Requests.{frame_of}
+use Rattle.sys_run.specs.Sys.{with_journal, state_of_run}
+use Rattle.sys_run.proofs.Machines.{stands-taken}
+use Rattle.sys_run.proofs.Turns.{asked-history, may_turn-asked, entered-turn, kernel-after}
 use Rattle.sys_run.proofs.Turning.{turn-event}
 use Rattle.sys_run.proofs.turn.turn.Goals as goal
 
 pub step-requires : goal.step-requires
-step-requires c = (
-  state_of_run (played c.args.script.now c.args.journal.now.items),
-  c.requires.kernel,
-  may_turn-asked
-      c.args.script.now
-      c.args.journal.now.items
-      _
-      c.args.t.0
-      _
-      c.as_slice.ensures.value
-      c.in_ok-request.ensures
-      c.requires.run
-      c.requires.can
-      c.requires.left,
-)
+step-requires c =
+    let p = with_journal c.args.script.now c.args.journal.now.items
+    in let asks = c.in_ok-request.ensures (state_of_run p) (frame_of c.args.script.now c.args.t.0 c.args.journal.now.items) c.requires.kernel c.requires.machine.stands
+    in (state_of_run p, c.requires.kernel, may_turn-asked p c.args.t.0 _ asks c.requires.run c.requires.can c.requires.left)
+
+pub take-requires-clause-declared : goal.take-requires-clause-declared
+take-requires-clause-declared c =
+    let p = with_journal c.args.script.now c.args.journal.now.items
+    in let asks = c.in_ok-request.ensures (state_of_run p) (frame_of c.args.script.now c.args.t.0 c.args.journal.now.items) c.requires.kernel c.requires.machine.stands
+    in entered-turn
+    p
+    c.args.t.0
+    _
+    _
+    asks
+    c.requires.run
+    c.requires.can
+    (c.in_ok-stepped.ensures.step (state_of_run p) c.requires.kernel).answer
 
 pub returns-clause-journal : goal.returns-clause-journal
 returns-clause-journal c =
-    ap (played c.args.script.now)
+    let p = with_journal c.args.script.now c.args.journal.now.items
+    in let asks = c.in_ok-request.ensures (state_of_run p) (frame_of c.args.script.now c.args.t.0 c.args.journal.now.items) c.requires.kernel c.requires.machine.stands
+    in ap (with_journal c.args.script.now)
     (c.appended.ensures.journal
     ∙ ap (λ (e : Event). c.args.journal.now.items ++ e ∷ [])
     (turn-event
-    (played c.args.script.now c.args.journal.now.items)
+    p
     c.args.t
     c.root-root.result
     c.what_of-what.result
     c.in_ok-stepped.stepped.answer
     c.in_ok-request.request
-    (c.root-root.ensures.stands (state_of_run (played c.args.script.now c.args.journal.now.items)) c.requires.kernel)
-    (asked-seen _ _ _ _ _ c.as_slice.ensures.value c.in_ok-request.ensures)
-    (c.what_of-what.ensures (state_of_run (played c.args.script.now c.args.journal.now.items)) c.requires.kernel)
-    (c.in_ok-stepped.ensures.step (state_of_run (played c.args.script.now c.args.journal.now.items)) c.requires.kernel).answer))
+    (c.root-root.ensures.stands (state_of_run p) c.requires.kernel)
+    (asks ∙ sym (asked-history p c.args.t.0 c.requires.run))
+    (c.what_of-what.ensures (state_of_run p) c.requires.kernel)
+    (c.in_ok-stepped.ensures.step (state_of_run p) c.requires.kernel).answer))
 
 pub returns-clause-kernel : goal.returns-clause-kernel
 returns-clause-kernel c =
-    kernel-after
-    (played c.args.script.now c.args.journal.now.items)
+    let p = with_journal c.args.script.now c.args.journal.now.items
+    in let asks = c.in_ok-request.ensures (state_of_run p) (frame_of c.args.script.now c.args.t.0 c.args.journal.now.items) c.requires.kernel c.requires.machine.stands
+    in kernel-after
+    p
     c.args.t.0
     c.in_ok-request.request
     _
-    (asked-seen _ _ _ _ _ c.as_slice.ensures.value c.in_ok-request.ensures)
-    (c.in_ok-stepped.ensures.step (state_of_run (played c.args.script.now c.args.journal.now.items)) c.requires.kernel).state
+    (asks ∙ sym (asked-history p c.args.t.0 c.requires.run))
+    (c.in_ok-stepped.ensures.step (state_of_run p) c.requires.kernel).state
 
 pub returns-clause-machine : goal.returns-clause-machine
 returns-clause-machine c =
-    machine-after
+    rw c.appended.ensures.journal
+    (stands-taken
     c.args.script.now
-    c.args.t.0
     c.args.journal.now.items
     _
-    _
-    _
-    _
-    _
-    _
-    _
-    c.as_slice-2.ensures.value
-    c.appended.ensures.journal
-    (eq-eqb c.args.t.0 c.args.t.0 refl)
-    c.take.ensures.began
-    c.take.ensures.ended
-    c.requires.machine
+    c.args.t.0
+    c.take.new.self
+    refl
+    c.take.ensures.machine
+    (c.take.ensures.stands (frame_of c.args.script.now c.args.t.0 c.args.journal.now.items) c.requires.machine.stands))

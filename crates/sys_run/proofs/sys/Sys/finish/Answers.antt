@@ -1,6 +1,7 @@
-use Rattle.std.proofs.Common.{arith, ◌≤◌, length, sym}
+use Rattle.std.proofs.Common.{arith, ◌≤◌, length, sym, None}
 use Rattle.sys_run.specs.Sys.{turns_left}
 use Rattle.sys_run.proofs.Finishing.{next, HasTaken-more, HasTaken-none, finished, turns_left-few}
+use Rattle.sys_run.proofs.Looks.{is_none-next}
 use Rattle.sys_run.proofs.sys.Sys.finish.Goals as goal
 
 pub loop-t-init : goal.loop-t-init
@@ -26,3 +27,6 @@ returns-clause-turns c = (finished _ _ _ c.loop-t.invariant.0 (sym c.in_default.
 
 pub returns-clause-count : goal.returns-clause-count
 returns-clause-count c = (finished _ _ _ c.loop-t.invariant.0 (sym c.in_default.ensures)).count
+
+pub returns-clause-over : goal.returns-clause-over
+returns-clause-over c = sym (is_none-next _ None c.in_default.ensures)

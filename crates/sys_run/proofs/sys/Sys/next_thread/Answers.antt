@@ -1,8 +1,6 @@
-use Rattle.std.proofs.Common.{arith}
 use Rattle.sys_run.proofs.Looks.{next_turn-kept}
 use Rattle.sys_run.proofs.sys.Sys.next_thread.Goals as goal
 
-pub returns-then-len-self : goal.returns-then-len-self
-returns-then-len-self c =
-    rw (← c.self.view_is)
-    (next_turn-kept _ _ _ c.self.invariant.kernel_stands (omega (arith, c.len.ensures)) c.first_runnable.ensures)
+pub returns-then-has_budget : goal.returns-then-has_budget
+returns-then-has_budget c =
+    next_turn-kept _ _ _ (rw c.self.view_is at c.self.invariant.kernel_stands) c.if-has_budget.ensures c.first_runnable.ensures

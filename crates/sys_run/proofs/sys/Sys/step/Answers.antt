@@ -1,6 +1,6 @@
 use Rattle.std.proofs.Common.{arith, refl}
 use Rattle.std.proofs.lemmas.Option.{slice_get_read}
-use Rattle.sys_run.specs.Sys.{played}
+use Rattle.sys_run.specs.Sys.{with_journal}
 use Rattle.sys_run.proofs.Systems.{has_machine, machine-stands, HasMachine, IsSys-same, IsSys-turn}
 use Rattle.sys_run.proofs.Looks.{laws-journal}
 use Rattle.sys_run.proofs.Journals.{IsJournal-with_turn}
@@ -31,13 +31,11 @@ invariant_of-self c =
     _
     _
     _
-    _
     c.self.invariant
-    (slice_get_read _ _ _ _ refl has.place c.index_mut-machine.ensures.value)
+    has
     c.in_err-woken.ensures.journal_err
     c.in_err-woken.ensures.kernel_err
-    c.in_err-woken.ensures.machine_err.0
-    c.in_err-woken.ensures.machine_err.1
+    c.in_err-woken.ensures.machine
 
 pub invariant_of-self-2 : goal.invariant_of-self-2
 invariant_of-self-2 c =
@@ -63,7 +61,7 @@ invariant_of-self-2 c =
 pub returns-clause-laws : goal.returns-clause-laws
 returns-clause-laws c =
     laws-journal
-    (played c.self.inside.script c.take_turn.new.journal.items)
+    (with_journal c.self.inside.script c.take_turn.new.journal.items)
     c.every_run.ensures
     (rw c.in_ok-woken.ensures.journal
     (IsJournal-with_turn

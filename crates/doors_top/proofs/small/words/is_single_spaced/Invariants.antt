@@ -1,6 +1,0 @@
-use Rattle.std.proofs.Common.{◌≡◌, drop}
-use Rattle.written_script.specs.Words.{is_spaced_from, is_single_spaced}
-use Rattle.doors_top.proofs.small.words.is_single_spaced.Given as goal
-
-abbrev pub invariant-loop-byte : goal.invariant-loop-byte
-invariant-loop-byte l = is_spaced_from l.mode (drop l.byte-index l.line) ≡ is_single_spaced l.line

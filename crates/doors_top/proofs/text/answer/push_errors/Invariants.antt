@@ -1,7 +1,0 @@
-use Rattle.std.proofs.Common.{◌≡◌, ◌++◌, take}
-use Rattle.std.specs.Prelude.{flat_map}
-use Rattle.written_script.specs.AnswerText.{spaced_error}
-use Rattle.doors_top.proofs.text.answer.push_errors.Given as goal
-
-abbrev pub invariant-loop-error : goal.invariant-loop-error
-invariant-loop-error l = l.text.items ≡ l.initial.text.items ++ flat_map spaced_error (take l.error-index l.errors)

@@ -1,0 +1,61 @@
+-- Opening a kernel process by process and thread by thread.
+use Rattle.std.proofs.Common.{◌≡◌, ℕ, ◌+◌, List, [], ◌∷◌, ◌++◌, take, drop, Some, Bool, false, arith, refl, ap, sym, ◌∙◌, zero, suc, map, option_map}
+use Rattle.std.proofs.Common.{Result, Ok, Err}
+use Rattle.std.specs.Prelude.{slice_get, OnOk}
+use Rattle.std.specs.Result.{is_err}
+use Rattle.dk_base.specs.declared.number.Pid.{Pid}
+use Rattle.written_kernel.specs.Opening.{with_new_thread}
+use Rattle.written_kernel.specs.State.{State}
+use Rattle.written_kernel.proofs.Lists.{numbered-suc}
+use Rattle.script_line.specs.Tables.{numbered}
+use Rattle.script_lang.specs.declared.script.ScriptProcess.{ScriptProcess}
+use Rattle.script_lang.specs.declared.script.ScriptThread.{ScriptThread}
+use Rattle.written_script.specs.ScriptRuns.{limit_of, with_script_threads}
+
+numbered-at : {X Y : Type 0} (f : X → Y) (xs : List X) (k : ℕ) (y : Y) → option_map f (numbered xs (k + 1)) ≡ Some y → option_map f (slice_get xs k) ≡ Some y
+numbered-at f xs k y e =
+    let more : k + 1 ≡ suc k = omega arith in sym (ap (option_map f) (ap (numbered xs) more ∙ numbered-suc xs k)) ∙ e
+
+take-map : {X Y : Type 0} (f : X → Y) (xs : List X) (k : ℕ) (y : Y) → option_map f (slice_get xs k) ≡ Some y → map f (take (suc k) xs) ≡ map f (take k xs) ++ y ∷ []
+take-map f [] k y e = cc
+take-map f (x ∷ []) zero y e = let same : f x ≡ y = cc in rw same refl
+take-map f (x ∷ z ∷ zs) zero y e = let same : f x ≡ y = cc in rw same refl
+take-map f (x ∷ xs) (suc k) y e = ap (λ ys. f x ∷ ys) (take-map f xs k y e)
+
+-- one process more
+pub limits_more :
+    (processes : List ScriptProcess) (k : ℕ) (limit : ℕ) (limits : List ℕ) → limits ≡ map limit_of (take k processes) →
+    option_map (λ (of : ScriptProcess). of.limit) (numbered processes (k + 1)) ≡ Some limit →
+    limits ++ limit ∷ [] ≡ map limit_of (take (k + 1) processes)
+limits_more processes k limit limits h e =
+    let more : k + 1 ≡ suc k = omega arith
+    in rw (h, more) (sym (take-map limit_of processes k limit (numbered-at limit_of processes k limit e)))
+
+at_thread :
+    (xs : List ScriptThread) (m : State) (k : ℕ) (process : Pid) (spare : Bool) → option_map (λ (x : ScriptThread). x.process) (slice_get xs k) ≡ Some process →
+    option_map (λ (x : ScriptThread). x.spare) (slice_get xs k) ≡ Some spare →
+    with_script_threads m (drop k xs) ≡ with_script_threads (with_new_thread m process.0 spare) (drop (suc k) xs)
+at_thread [] m k process spare p s = cc
+at_thread (x ∷ []) m zero process spare p s =
+    let same_process : x.process ≡ process = cc in let same_spare : x.spare ≡ spare = cc in rw (same_process, same_spare) refl
+at_thread (x ∷ y ∷ ys) m zero process spare p s =
+    let same_process : x.process ≡ process = cc in let same_spare : x.spare ≡ spare = cc in rw (same_process, same_spare) refl
+at_thread (x ∷ xs) m (suc k) process spare p s = at_thread xs m k process spare p s
+
+-- one thread more
+pub threads_more :
+    (xs : List ScriptThread) (opening old new : State) (k : ℕ) (process : Pid) (spare : Bool) →
+    with_script_threads opening xs ≡ with_script_threads old (drop k xs) →
+    option_map (λ (x : ScriptThread). x.process) (numbered xs (k + 1)) ≡ Some process →
+    option_map (λ (x : ScriptThread). x.spare) (numbered xs (k + 1)) ≡ Some spare → new ≡ with_new_thread old process.0 spare →
+    with_script_threads opening xs ≡ with_script_threads new (drop (k + 1) xs)
+threads_more xs opening old new k process spare h p s e =
+    let more : k + 1 ≡ suc k = omega arith
+    in let of : option_map (λ (x : ScriptThread). x.process) (slice_get xs k) ≡ Some process = numbered-at (λ (x : ScriptThread). x.process) xs k process p
+    in let kind : option_map (λ (x : ScriptThread). x.spare) (slice_get xs k) ≡ Some spare = numbered-at (λ (x : ScriptThread). x.spare) xs k spare s
+    in rw (e, more) (h ∙ at_thread xs old k process spare of kind)
+
+-- a result that is no error
+pub not_err : {A E : Type 0} (r : Result A E) (P : Type 0) → OnOk r P → is_err r ≡ false → P
+not_err (Ok x) P h e = h
+not_err (Err x) P h e = cc

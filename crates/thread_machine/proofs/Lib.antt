@@ -1,0 +1,10 @@
+pub mod Cuts
+pub mod Positions
+pub mod Walks
+pub mod Leaving
+pub mod Passing
+pub mod Slotted
+pub mod SpelledLines
+pub mod SameRequests
+pub mod ScriptBodies
+pub mod Frames

@@ -1,0 +1,76 @@
+use Rattle.std.proofs.Common.{refl}
+use Rattle.script_lang.specs.Canonical.{canonical}
+use Rattle.thread_machine.specs.Machines.{lines_of}
+use Rattle.thread_machine.proofs.Frames.{ended-line, ended-placed}
+use Rattle.thread_machine.proofs.Positions.{slice_get-seen}
+use Rattle.thread_machine.proofs.ScriptBodies.{spelled-body, spelled-at}
+use Rattle.thread_machine.proofs.machine.Machine.end.Goals as goal
+
+pub answer-requires-clause-line : goal.answer-requires-clause-line
+answer-requires-clause-line c =
+    let body =
+    spelled-body
+    (canonical c.args.script.now)
+    c.args.script.now
+    c.args.self.now.thread.0
+    c.args.self.now.entry
+    c.is_spelled.ensures.spelled
+    in spelled-at
+    (lines_of c.args.script.now c.args.self.now)
+    c.args.self.now.place.position
+    c.index-lines-self.result
+    body.spelled
+    (slice_get-seen
+    c.lines_of-lines.result.now
+    (lines_of c.args.script.now c.args.self.now)
+    c.args.self.now.place.position
+    c.index-lines-self.result
+    c.lines_of-lines.ensures
+    c.if-self-lines.false
+    c.index-lines-self.is)
+
+pub returns-clause-ends : goal.returns-clause-ends
+returns-clause-ends c =
+    λ f s. ended-line
+    c.args.script.now
+    c.args.self.now
+    _
+    c.index-lines-self.result
+    c.args.answer.now
+    f
+    c.requires.machine
+    s
+    (slice_get-seen
+    c.lines_of-lines.result.now
+    (lines_of c.args.script.now c.args.self.now)
+    c.args.self.now.place.position
+    c.index-lines-self.result
+    c.lines_of-lines.ensures
+    c.if-self-lines.false
+    c.index-lines-self.is)
+    refl
+    refl
+    refl
+    c.last_of-self.ensures
+    refl
+    (c.answer.ensures f.variables s.variables)
+
+pub returns-clause-placed : goal.returns-clause-placed
+returns-clause-placed c =
+    ended-placed
+    c.args.script.now
+    c.args.self.now
+    _
+    c.index-lines-self.result
+    c.requires.machine
+    (slice_get-seen
+    c.lines_of-lines.result.now
+    (lines_of c.args.script.now c.args.self.now)
+    c.args.self.now.place.position
+    c.index-lines-self.result
+    c.lines_of-lines.ensures
+    c.if-self-lines.false
+    c.index-lines-self.is)
+    refl
+    refl
+    refl

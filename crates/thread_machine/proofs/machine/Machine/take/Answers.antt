@@ -1,0 +1,39 @@
+use Rattle.std.proofs.Common.{sym, subst, Some}
+use Rattle.script_lang.specs.Canonical.{canonical}
+use Rattle.written_script.specs.Requests.{Frame, behind, vars_ahead}
+use Rattle.written_script.specs.Variables.{set_each, values_of}
+use Rattle.thread_machine.specs.Machines.{Stands}
+use Rattle.thread_machine.proofs.Frames.{settled, enters-placed, taken-ends}
+use Rattle.thread_machine.proofs.ScriptBodies.{spelled-body}
+use Rattle.thread_machine.proofs.machine.Machine.take.Goals as goal
+
+pub settle-requires : goal.settle-requires
+settle-requires c =
+    enters-placed
+    c.args.script.now
+    c.args.self.now
+    c.enter.new.self
+    c.args.answer.now
+    (sym c.in-Enters.ensures)
+    c.requires.machine
+    c.enter.ensures.thread
+    c.enter.ensures.entered
+    c.requires.declared
+    (λ entry. spelled-body (canonical c.args.script.now) c.args.script.now 0 (Some entry) c.is_spelled.ensures.spelled)
+
+pub returns-in-Ends-clause-stands : goal.returns-in-Ends-clause-stands
+returns-in-Ends-clause-stands c =
+    λ f s. subst
+    (λ (g : Frame). Stands c.args.script.now c.settle-in-Ends.new.self g)
+    (sym (taken-ends c.args.script.now f c.args.answer.now (sym c.in-Ends.ensures)))
+    (settled
+    c.args.script.now
+    c.end.new.self
+    c.settle-in-Ends.new.self
+    (behind f.steps)
+    (set_each f.variables (vars_ahead f.steps) (values_of c.args.answer.now))
+    c.args.answer.now
+    f.notice
+    f.procedure
+    (c.end.ensures.ends f s)
+    c.settle-in-Ends.ensures)

@@ -1,0 +1,8 @@
+use Rattle.std.proofs.Common.{◌≡◌, take}
+use Rattle.std.specs.Prelude.{map}
+use Rattle.written_script.specs.Variables.{fd_of}
+use Rattle.thread_machine.specs.Slots.{held}
+use Rattle.thread_machine.proofs.variables.Variables.fds.Given as goal
+
+abbrev pub invariant-loop-fd : goal.invariant-loop-fd
+invariant-loop-fd l = l.list ≡ map (fd_of (held l.self.set)) (take l.fd-index l.fds)

@@ -1,0 +1,16 @@
+//! Where a thread stands in its script, and which request it makes next.
+#![tactic(auto)]
+
+mod data;
+mod fill;
+mod known;
+pub mod later;
+mod lines;
+pub mod machine;
+mod place;
+mod request;
+mod stack;
+#[cfg(test)]
+mod tests;
+mod variable;
+mod variables;

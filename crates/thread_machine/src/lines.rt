@@ -1,0 +1,52 @@
+ghost use Rattle.std.specs.Prelude.{◌≡◌, option_copied, slice_get};
+ghost use Rattle.written_script.specs.Steps.{times_of as times_of_line, cond_of as cond_of_line};
+ghost use Rattle.written_script.specs.Variables.{vars_of};
+
+use script_line::line::{Cond, Line};
+
+/// How often the block of a `repeat` is run.
+pub fn times_of(line: &Line) -> u32
+    ensures { result ≡ times_of_line line.now }
+{
+    match line {
+        Line::Repeat { times } => *times,
+        _ => 0,
+    }
+}
+
+/// What an `if` tests.
+pub fn cond_of(line: &Line) -> Cond
+    ensures { result ≡ cond_of_line line.now }
+{
+    match line {
+        Line::If { cond } => *cond,
+        _ => Cond::Good,
+    }
+}
+
+/// The variable that a command sets first.
+pub fn first_var(line: &Line) -> Option<&[u8]>
+    ensures { option_copied result ≡ slice_get (vars_of line.now) 0 }
+{
+    match line {
+        Line::Create { var, .. }
+        | Line::Call { var, .. }
+        | Line::Dup { var, .. }
+        | Line::Open { var, .. }
+        | Line::Read { var, .. }
+        | Line::PortCreate { var }
+        | Line::Work { var, .. } => Some(var.slice()),
+        Line::Pipe { reading, .. } => Some(reading.slice()),
+        _ => None,
+    }
+}
+
+/// The variable that a command sets second.
+pub fn second_var(line: &Line) -> Option<&[u8]>
+    ensures { option_copied result ≡ slice_get (vars_of line.now) 1 }
+{
+    match line {
+        Line::Pipe { writing, .. } => Some(writing.slice()),
+        _ => None,
+    }
+}

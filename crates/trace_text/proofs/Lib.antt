@@ -1,0 +1,2 @@
+pub mod PlusJoined
+pub mod NamedThreads

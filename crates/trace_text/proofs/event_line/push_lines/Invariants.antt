@@ -1,0 +1,6 @@
+use Rattle.std.proofs.Common.{◌≡◌, ◌++◌, take}
+use Rattle.written_script.specs.TraceText.{lines_text}
+use Rattle.trace_text.proofs.event_line.push_lines.Given as goal
+
+abbrev pub invariant-loop-event : goal.invariant-loop-event
+invariant-loop-event l = l.text ≡ l.initial.text ++ lines_text l.script (take l.event-index l.events)

@@ -1,0 +1,58 @@
+//! Event lines. Want of memory may leave a part of what was to be added.
+
+ghost use Rattle.std.specs.Prelude.{◌≡◌, [], ◌∷◌, ◌++◌, OnOk};
+ghost use Rattle.written_script.specs.TraceText.{line_of, lines_text};
+
+use super::answer::push_answer;
+use super::append::{push_number, push_word};
+use super::what_word::word_of;
+use dk_base::error::NoMemory;
+use dk_base::event::Event;
+use script_lang::script::Script;
+use script_text::writer::Writer;
+use std::alloc::Global;
+
+/// Adds the event's line, `NUMBER THREAD ROOT WHAT ANSWER`.
+#[tactic(auto, unfolding(written_script::specs::TraceText::line_of))]
+pub fn push_line(
+    alloc: Global,
+    text: &mut Writer,
+    script: &Script,
+    event: &Event,
+) -> Result<(), NoMemory>
+    ensures { OnOk result (text.new ≡ text.old ++ line_of script.now event.now) }
+{
+    push_number(text, u64::from(event.number))?;
+    text.word(script.name_of_thread(event.thread))?;
+    text.word(script.name_of_thread(event.root))?;
+    text.word(word_of(event.what).as_bytes())?;
+    push_word(text, " ")?;
+    push_answer(alloc, text, script, &event.answer)
+}
+
+fn push_whole_line(
+    alloc: Global,
+    text: &mut Writer,
+    script: &Script,
+    event: &Event,
+) -> Result<(), NoMemory>
+    ensures { OnOk result (text.new ≡ text.old ++ (line_of script.now event.now ++ 10 ∷ [])) }
+{
+    push_line(alloc, text, script, event)?;
+    text.end_line()
+}
+
+/// Adds the line of each event, with its line feed.
+pub fn push_lines(
+    alloc: Global,
+    text: &mut Writer,
+    script: &Script,
+    events: &[Event],
+) -> Result<(), NoMemory>
+    ensures { OnOk result (text.new ≡ text.old ++ lines_text script.now events.now) }
+{
+    for event in events {
+        push_whole_line(alloc, text, script, event)?;
+    }
+    Ok(())
+}

@@ -1,0 +1,76 @@
+//! The last lines of traces. Want of memory may leave a part of what was to be added.
+
+ghost use Rattle.std.specs.Prelude.{◌≡◌, ◌++◌, flat_map, OnOk};
+ghost use Rattle.written_script.specs.TraceText.{spaced_name, ending_word, waiting_text, end_line_of, refused_line_of};
+
+use super::append::{push_counted, push_word};
+use dk_base::error::NoMemory;
+use dk_base::number::Tid;
+use script_lang::script::Script;
+use script_text::writer::Writer;
+use written_script::ending::Ending;
+
+fn push_names(text: &mut Writer, script: &Script, threads: &[Tid]) -> Result<(), NoMemory>
+    ensures { OnOk result (text.new ≡ text.old ++ flat_map (spaced_name script.now) threads.now) }
+{
+    for thread in threads {
+        text.word(script.name_of_thread(*thread))?;
+    }
+    Ok(())
+}
+
+fn word_of_ending(ending: Ending) -> &'static str
+    ensures { result.now ≡ ending_word ending }
+{
+    match ending {
+        Ending::Complete => "complete",
+        Ending::Stalled => "stalled",
+        Ending::Budget => "budget",
+    }
+}
+
+/// The threads that wait, of which a stalled run tells.
+fn push_waiting(
+    text: &mut Writer,
+    script: &Script,
+    ending: Ending,
+    waiting: &[Tid],
+) -> Result<(), NoMemory>
+    ensures { OnOk result (text.new ≡ text.old ++ waiting_text script.now ending waiting.now) }
+{
+    match ending {
+        Ending::Complete | Ending::Budget => Ok(()),
+        Ending::Stalled => push_names(text, script, waiting),
+    }
+}
+
+/// Adds the end line of a run of `count` events. `waiting` are the threads that wait, of which a stalled run tells.
+#[tactic(auto, unfolding(written_script::specs::TraceText::end_line_of))]
+pub fn push_end_line(
+    text: &mut Writer,
+    script: &Script,
+    ending: Ending,
+    count: u64,
+    waiting: &[Tid],
+) -> Result<(), NoMemory>
+    ensures { OnOk result (text.new ≡ text.old ++ end_line_of script.now ending count waiting.now) }
+{
+    push_word(text, "end ")?;
+    push_word(text, word_of_ending(ending))?;
+    push_counted(text, " ", count)?;
+    push_waiting(text, script, ending, waiting)
+}
+
+/// Adds the line that tells of a schedule's turn, counted from 1, that its thread could not take.
+#[tactic(auto, unfolding(written_script::specs::TraceText::refused_line_of))]
+pub fn push_refused_line(
+    text: &mut Writer,
+    script: &Script,
+    turn: u32,
+    thread: Tid,
+) -> Result<(), NoMemory>
+    ensures { OnOk result (text.new ≡ text.old ++ refused_line_of script.now turn thread) }
+{
+    push_counted(text, "refused turn ", u64::from(turn))?;
+    text.word(script.name_of_thread(thread))
+}

@@ -1,0 +1,84 @@
+//! Lines and whole texts of traces.
+
+ghost use Rattle.std.specs.Prelude.{◌≡◌, IfOk};
+ghost use Rattle.written_script.specs.TraceText.{line_of, end_line_of, trace_text, refused_text};
+
+use super::event_line::{push_line, push_lines};
+use super::last_line::{push_end_line, push_refused_line};
+use dk_base::error::NoMemory;
+use dk_base::event::Event;
+use dk_base::list::{Bytes, TidList};
+use dk_base::number::Tid;
+use script_lang::script::Script;
+use script_text::writer::Writer;
+use std::alloc::Global;
+use written_script::ending::Ending;
+
+/// The line of an event, `NUMBER THREAD ROOT WHAT ANSWER`, without a line feed. A number that is no thread's or no
+/// procedure's has the empty name.
+pub fn line(alloc: Global, script: &Script, event: &Event) -> Result<Bytes, NoMemory>
+    ensures { IfOk result (λ text. text ≡ line_of script.now event.now) }
+{
+    let mut text = Writer::new(alloc)?;
+    push_line(alloc, &mut text, script, event)?;
+    Ok(text.into_bytes())
+}
+
+/// The end line of a run of `n` events, without a line feed. `waiting` are the threads that wait at the end, of which a
+/// stalled run tells.
+pub fn end_line(
+    alloc: Global,
+    script: &Script,
+    ending: Ending,
+    n: u32,
+    waiting: &TidList,
+) -> Result<Bytes, NoMemory>
+    ensures { IfOk result (λ text. text ≡ end_line_of script.now ending n waiting.now) }
+{
+    let mut text = Writer::new(alloc)?;
+    push_end_line(&mut text, script, ending, u64::from(n), waiting.slice())?;
+    Ok(text.into_bytes())
+}
+
+/// The text of a run with these events and this end; `waiting` are the threads that wait at the end, of which a stalled
+/// run tells.
+#[tactic(auto, unfolding(written_script::specs::TraceText::trace_text))]
+pub fn text_of_run(
+    alloc: Global,
+    script: &Script,
+    events: &[Event],
+    ending: Ending,
+    waiting: &TidList,
+) -> Result<Bytes, NoMemory>
+    ensures { IfOk result (λ text. text ≡ trace_text script.now events.now ending waiting.now) }
+{
+    let mut text = Writer::new(alloc)?;
+    push_lines(alloc, &mut text, script, events)?;
+    push_end_line(
+        &mut text,
+        script,
+        ending,
+        events.len() as u64,
+        waiting.slice(),
+    )?;
+    text.end_line()?;
+    Ok(text.into_bytes())
+}
+
+/// The text of a run with these events before a schedule's turn, counted from 1, that its thread could not take.
+#[tactic(auto, unfolding(written_script::specs::TraceText::refused_text))]
+pub fn text_before_refused(
+    alloc: Global,
+    script: &Script,
+    events: &[Event],
+    turn: u32,
+    thread: Tid,
+) -> Result<Bytes, NoMemory>
+    ensures { IfOk result (λ text. text ≡ refused_text script.now events.now turn thread) }
+{
+    let mut text = Writer::new(alloc)?;
+    push_lines(alloc, &mut text, script, events)?;
+    push_refused_line(&mut text, script, turn, thread)?;
+    text.end_line()?;
+    Ok(text.into_bytes())
+}

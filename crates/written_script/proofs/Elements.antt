@@ -1,0 +1,36 @@
+-- What holds of each element of a list holds of those that are found in it.
+use Rattle.std.proofs.Common.{◌≡◌, ℕ, ◌-◌, ◌==◌, ◌||◌, List, [], ◌∷◌, Some, None, Bool, true, false, if◌then◌else◌, refl, subst}
+use Rattle.std.specs.Prelude.{All, find, slice_get}
+use Rattle.std.specs.List.{list_any}
+use Rattle.std.proofs.lemmas.List.Elements.{All-nil, All-cons, All-head, All-tail}
+use Rattle.std.proofs.lemmas.Option.{slice_get_within, get_or_from_slice_get}
+use Rattle.written_kernel.specs.Numbered.{numbered}
+
+pub All-slice_get : {X : Type 0} (P : X → Type 0) (xs : List X) (k : ℕ) (x : X) → All P xs → slice_get xs k ≡ Some x → P x
+All-slice_get P xs k x all e = subst P (get_or_from_slice_get xs k x x e) (all k x (slice_get_within xs k x e))
+
+pub All-numbered : {X : Type 0} (P : X → Type 0) (xs : List X) (k : ℕ) (x : X) → All P xs → numbered xs k ≡ Some x → P x
+All-numbered P xs k x all e = by_test (k == 0) e
+  where
+    by_test : (b : Bool) → (if b then None else slice_get xs (k - 1)) ≡ Some x → P x
+    by_test true h = cc
+    by_test false h = All-slice_get P xs (k - 1) x all h
+
+pub All-find : {X : Type 0} (P : X → Type 0) (p : X → Bool) (xs : List X) (x : X) → All P xs → find p xs ≡ Some x → P x
+All-find P p [] x all e = cc
+All-find P p (y ∷ ys) x all e = by_test (All-find P p ys x (All-tail P y ys all)) (p y) e
+  where
+    by_test : (find p ys ≡ Some x → P x) → (b : Bool) → (if b then Some y else find p ys) ≡ Some x → P x
+    by_test rest true h = let same : y ≡ x = cc in subst P same (All-head P y ys all)
+    by_test rest false h = rest h
+
+-- a test that no element passes
+pub All-none : {X : Type 0} (p : X → Bool) (xs : List X) → list_any p xs ≡ false → All (λ x. p x ≡ false) xs
+All-none p [] h = All-nil (λ x. p x ≡ false)
+All-none p (x ∷ xs) h = by_test (All-none p xs) (p x) refl h
+  where
+    by_test :
+        (list_any p xs ≡ false → All (λ y. p y ≡ false) xs) → (b : Bool) → p x ≡ b → (b || list_any p xs) ≡ false →
+        All (λ y. p y ≡ false) (x ∷ xs)
+    by_test rest true e f = cc
+    by_test rest false e f = All-cons (λ y. p y ≡ false) x xs e (rest f)

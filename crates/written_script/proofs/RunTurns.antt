@@ -1,0 +1,393 @@
+-- Each turn of a sound script is one that the kernel takes, and whatever its runs name is declared.
+use Rattle.std.proofs.Common.{◌≡◌, ℕ, ◌+◌, ◌≤◌, ◌<◌, ◌==◌, List, [], ◌∷◌, Option, Some, None, IsSome, Bool, true, false, if◌then◌else◌, ◌||◌, ◌⊎◌, inl, inr, length, map, arith, refl, sym, ap, ◌∙◌, subst, eq-eqb, length-append}
+use Rattle.std.specs.Prelude.{All}
+use Rattle.std.proofs.lemmas.Bool.{false≢true}
+use Rattle.std.proofs.lemmas.List.Elements.{All-nil, All-head, All-tail, All-push, All-weaker}
+use Rattle.std.proofs.lemmas.Option.{slice_get_within}
+use Rattle.dk_base.specs.declared.event.Event.{Event}
+use Rattle.dk_base.specs.declared.record.Thread.{Thread}
+use Rattle.written_kernel.specs.Answers.{IsEntering}
+use Rattle.written_kernel.specs.Legal.{MayTurn}
+use Rattle.written_kernel.specs.Opening.{no_process, opening, with_processes, with_new_process, new_thread, with_new_thread}
+use Rattle.written_kernel.specs.Runs.{IsRun}
+use Rattle.written_kernel.specs.State.{State, thread_of, process_in, process_of, state_in, invocation_of}
+use Rattle.written_kernel.specs.Step.{step, event_of}
+use Rattle.written_kernel.specs.Turns.{runnable, can_go_on, is_running}
+use Rattle.written_kernel.proofs.Lists.{numbered_within, numbered_there}
+use Rattle.written_kernel.proofs.Invocations.{invocation-step}
+use Rattle.written_kernel.proofs.Opening.{opened, invocation_of-opening}
+use Rattle.written_kernel.proofs.Steps.{events-step, threads-step, processes-step, process_of-step}
+use Rattle.script_line.specs.declared.line.Line.{Line}
+use Rattle.script_line.specs.declared.line.Line.TheVariants as line
+use Rattle.script_lang.specs.declared.script.Procedure.{Procedure}
+use Rattle.script_lang.specs.declared.script.ScriptProcess.{ScriptProcess}
+use Rattle.script_lang.specs.declared.script.ScriptThread.{ScriptThread}
+use Rattle.script_lang.specs.Value.{ScriptValue}
+use Rattle.written_script.specs.DeclaredNames.{IsNumberOf, IsThread, IsProcess, IsDeclaredAnswer, IsDeclaredEvent, IsDeclaredDoor, IsDeclared}
+use Rattle.written_script.specs.Later.{later, is_later_form, is_later_line, is_later_thread, is_later_procedure, form_of_spare}
+use Rattle.written_script.specs.Requests.{Frame, request_at, request_at_end, request_ahead, request_after, taken, frame_after, frame_of}
+use Rattle.written_script.specs.ScriptRuns.{History, limit_of, with_script_threads, opening_of, beginning, asked, turn, run, run_from, AreRunnableFrom, IsAllowed, turns_from, turns_of}
+use Rattle.written_script.specs.Sound.{IsFitLine, IsSoundThread, IsSoundProcedure, IsSound, IsPlayable}
+use Rattle.written_script.specs.Steps.{Step}
+use Rattle.written_script.specs.Steps.Step.{Do, When}
+use Rattle.written_script.specs.Variables.{Variables}
+use Rattle.written_script.proofs.DeclaredStates.{IsKnown, MakesDeclared, AsksDeclared, step-known, root-declared, waiting-declared}
+use Rattle.written_script.proofs.Elements.{All-numbered, All-none}
+use Rattle.written_script.proofs.FitRequests.{HasThreads, IsFitSomewhere, fit-somewhere, IsBuiltLine, request-fit, request-built, request-inside}
+use Rattle.written_script.proofs.Histories.{frame_of-append, IsOpening-opening_of, events-run}
+use Rattle.written_script.proofs.SoundFrames.{IsStep, AreSteps, AreLines, IsFrame, frame_of-frame, taken-procedure, entering-procedure}
+
+-- the lines of a sound script
+
+fit-lines : (script : ScriptValue) → IsSound script → AreLines (λ procedure. IsFitSomewhere script) script
+fit-lines script sound =
+    record {
+      threads =
+          All-weaker
+          (IsSoundThread script)
+          (λ (x : ScriptThread). All (IsFitSomewhere script) x.body)
+          (λ x h. fit-somewhere script x.process.0 x.body h.body)
+          script.threads
+          sound.threads;
+      procedures =
+          All-weaker
+          (IsSoundProcedure script)
+          (λ (x : Procedure). All (IsFitSomewhere script) x.body)
+          (λ x h. fit-somewhere script x.process.0 x.body h.body)
+          script.procedures
+          sound.procedures;
+    }
+
+neither : (a b : Bool) → (a || b) ≡ false → (a ≡ false) × (b ≡ false)
+neither true b h = cc
+neither false b h = (refl, h)
+
+built-lines : (script : ScriptValue) → later script ≡ false → AreLines IsBuiltLine script
+built-lines script none =
+    let bodies = (neither (is_later_form 2) _ none).1
+    in let both = neither _ _ bodies
+    in record {
+      threads =
+          All-weaker
+          (λ (x : ScriptThread). is_later_thread x ≡ false)
+          (λ (x : ScriptThread). All (IsBuiltLine false) x.body)
+          (λ x h. All-none (is_later_line false) x.body (neither (is_later_form (form_of_spare x.spare)) _ h).1)
+          script.threads
+          (All-none is_later_thread script.threads both.0);
+      procedures =
+          All-weaker
+          (λ (x : Procedure). is_later_procedure x ≡ false)
+          (λ (x : Procedure). All (IsBuiltLine true) x.body)
+          (λ x h. All-none (is_later_line true) x.body h)
+          script.procedures
+          (All-none is_later_procedure script.procedures both.1);
+    }
+
+-- what a fit line makes is declared
+
+makes_at : (script : ScriptValue) (of : ℕ) (variables : Variables) (x : Line) → IsFitLine script of x → MakesDeclared script (request_at variables x)
+makes_at script of variables (line.Create var entry cookie attrs) fit = slice_get_within script.procedures entry fit.procedure fit.there
+makes_at script of variables x fit = tt
+
+makes_at_end : (script : ScriptValue) (procedure : Bool) → MakesDeclared script (request_at_end procedure)
+makes_at_end script true = tt
+makes_at_end script false = tt
+
+makes_ahead : (script : ScriptValue) (f : Frame) (steps : List Step) → AreSteps (IsFitSomewhere script) steps → MakesDeclared script (request_ahead f steps)
+makes_ahead script f [] all = makes_at_end script f.procedure
+makes_ahead script f (When cond n ∷ steps) all = makes_at_end script f.procedure
+makes_ahead script f (Do x ∷ steps) all =
+    let here = All-head (IsStep (IsFitSomewhere script)) (Do x) steps all
+    in makes_at script here.1.process f.variables x here.1.fit
+
+asked-declared : (script : ScriptValue) (h : History) (t : ℕ) → IsSound script → AsksDeclared script (asked script h t)
+asked-declared script h t sound = by_test (is_running h.state t)
+  where
+    by_test : (b : Bool) → AsksDeclared script (if b then Some (request_after script t h.events) else None)
+    by_test true =
+        makes_ahead
+        script
+        (frame_of script t h.events)
+        (frame_of script t h.events).steps
+        (frame_of-frame (λ procedure. IsFitSomewhere script) script t h.events (fit-lines script sound)).steps
+    by_test false = tt
+
+-- a runnable thread is there
+pub runnable-there : (m : State) (t : ℕ) → runnable m t ≡ true → IsNumberOf (length m.threads) t
+runnable-there m t h = by_thread (thread_of m t) refl h
+  where
+    by_thread : (x : Option Thread) → thread_of m t ≡ x → can_go_on m (state_in x) ≡ true → IsNumberOf (length m.threads) t
+    by_thread None e h = absurd (false≢true h)
+    by_thread (Some x) e h = numbered_within m.threads t x e
+
+-- what a history of a sound script keeps
+pub record IsKnownHistory (script : ScriptValue) (h : History) : Type 0 where
+  pub has : HasThreads script h.state
+  pub owners : (u : ℕ) → IsThread script u → IsProcess script (process_of h.state u)
+  pub known : IsKnown script h.state
+  pub events : All (IsDeclaredEvent script) h.events
+  -- a thread with an invocation is in a procedure
+  pub inside : (u : ℕ) → IsSome (invocation_of h.state u) → (frame_of script u h.events).procedure ≡ true
+
+frame_after-procedure :
+    (script : ScriptValue) (u : ℕ) (f : Frame) (e : Event) → f.procedure ≡ true → (frame_after script u f e).procedure ≡ true
+frame_after-procedure script u f e h = by_test (e.thread.0 == u)
+  where
+    by_test : (b : Bool) → (if b then taken script f e.answer else f).procedure ≡ true
+    by_test true = taken-procedure script f e.answer h
+    by_test false = h
+
+frame_after-entering :
+    (script : ScriptValue) (u : ℕ) (f : Frame) (e : Event) →
+    e.thread.0 ≡ u → IsEntering e.answer → (frame_after script u f e).procedure ≡ true
+frame_after-entering script u f e same h =
+    let test : (e.thread.0 == u) ≡ true = eq-eqb e.thread.0 u same in rw test (entering-procedure script f e.answer h)
+
+inside-turn : (script : ScriptValue) (h : History) (t : ℕ) → IsKnownHistory script h → (u : ℕ) → IsSome (invocation_of (turn script h t).state u) → (frame_of script u (turn script h t).events).procedure ≡ true
+inside-turn script h t kept u some = rw frame_of-append (by_cause (invocation-step h.state t u (asked script h t) some))
+  where
+    by_cause :
+        IsSome (invocation_of h.state u) ⊎ ((u ≡ t) × IsEntering (step h.state t (asked script h t)).answer) →
+        (frame_after script u (frame_of script u h.events) (event_of h.state t (asked script h t))).procedure ≡ true
+    by_cause (inl had) =
+        frame_after-procedure script u (frame_of script u h.events) (event_of h.state t (asked script h t)) (kept.inside u had)
+    by_cause (inr entered) =
+        frame_after-entering
+        script
+        u
+        (frame_of script u h.events)
+        (event_of h.state t (asked script h t))
+        (sym entered.0)
+        entered.1
+
+-- the thread of a turn is declared
+pub turn-thread : (script : ScriptValue) (h : History) (t : ℕ) → IsKnownHistory script h → runnable h.state t ≡ true → IsThread script t
+turn-thread script h t kept can =
+    let there : IsNumberOf (length h.state.threads) t = runnable-there h.state t can
+    in let low : 1 ≤ t = there.0
+    in let high : t ≤ length h.state.threads = there.1
+    in let same : length h.state.threads ≡ length script.threads = kept.has.threads
+    in let last : t ≤ length script.threads = omega arith
+    in (low, last)
+
+pub IsKnownHistory-turn :
+    (script : ScriptValue) (h : History) (t : ℕ) → IsSound script → IsKnownHistory script h → runnable h.state t ≡ true →
+    IsKnownHistory script (turn script h t)
+IsKnownHistory-turn script h t sound kept can =
+    let thread : IsThread script t = turn-thread script h t kept can
+    in let after = step-known script h.state t (asked script h t) kept.known thread (kept.owners t thread) (asked-declared script h t sound)
+    in record {
+      has = record {
+        threads = threads-step h.state t (asked script h t) ∙ kept.has.threads;
+        processes = processes-step h.state t (asked script h t) ∙ kept.has.processes;
+      };
+      owners = λ u known. rw (process_of-step h.state t u (asked script h t)) (kept.owners u known);
+      known = after.state;
+      events =
+          All-push
+          (IsDeclaredEvent script)
+          h.events
+          (event_of h.state t (asked script h t))
+          kept.events
+          (record { thread = thread; root = root-declared script h.state t kept.known thread; answer = after.answer });
+      inside = inside-turn script h t kept;
+    }
+
+-- what the answer of a turn names is declared
+pub turn-answer :
+    (script : ScriptValue) (h : History) (t : ℕ) → IsSound script → IsKnownHistory script h → runnable h.state t ≡ true →
+    IsDeclaredAnswer script (step h.state t (asked script h t)).answer
+turn-answer script h t sound kept can =
+    let thread : IsThread script t = turn-thread script h t kept can
+    in (step-known script h.state t (asked script h t) kept.known thread (kept.owners t thread) (asked-declared script h t sound)).answer
+
+-- each runnable thread's turn is one that the kernel takes
+pub may_turn :
+    (script : ScriptValue) (h : History) (t : ℕ) → IsPlayable script → IsKnownHistory script h → runnable h.state t ≡ true →
+    h.state.events < 1000000 → MayTurn h.state t (asked script h t)
+may_turn script h t playable kept can few = by_test (is_running h.state t) refl
+  where
+    built : IsFrame IsBuiltLine (frame_of script t h.events)
+    built = frame_of-frame IsBuiltLine script t h.events (built-lines script playable.built)
+
+    by_test :
+        (b : Bool) → is_running h.state t ≡ b →
+        MayTurn h.state t (if b then Some (request_after script t h.events) else None)
+    by_test true running =
+        record {
+          running = running;
+          fit =
+              request-fit
+              script
+              h.state
+              (frame_of script t h.events)
+              kept.has
+              (frame_of-frame (λ procedure. IsFitSomewhere script) script t h.events (fit-lines script playable.sound));
+          built = request-built (frame_of script t h.events) built;
+          inside = request-inside (invocation_of h.state t) (frame_of script t h.events) built (kept.inside t);
+          few = few;
+        }
+    by_test false waits = record { runnable = can; waits = waits; few = few }
+
+-- the begin
+
+threads-with_processes : (limits : List ℕ) (m : State) → (with_processes m limits).threads ≡ m.threads
+threads-with_processes [] m = refl
+threads-with_processes (limit ∷ limits) m = threads-with_processes limits (with_new_process m limit)
+
+processes-with_processes : (limits : List ℕ) (m : State) → length (with_processes m limits).processes ≡ length m.processes + length limits
+processes-with_processes [] m = omega arith
+processes-with_processes (limit ∷ limits) m =
+    let one : length (with_new_process m limit).processes ≡ length m.processes + 1 = simp length-append refl
+    in let rest : length (with_processes (with_new_process m limit) limits).processes ≡ length (with_new_process m limit).processes + length limits =
+    processes-with_processes limits (with_new_process m limit)
+    in omega arith
+
+processes-with_script_threads : (xs : List ScriptThread) (m : State) → (with_script_threads m xs).processes ≡ m.processes
+processes-with_script_threads [] m = refl
+processes-with_script_threads (x ∷ xs) m = processes-with_script_threads xs (with_new_thread m x.process.0 x.spare)
+
+threads-with_script_threads :
+    (xs : List ScriptThread) (m : State) → length (with_script_threads m xs).threads ≡ length m.threads + length xs
+threads-with_script_threads [] m = omega arith
+threads-with_script_threads (x ∷ xs) m =
+    let rest : length (with_script_threads (with_new_thread m x.process.0 x.spare) xs).threads ≡ length (with_new_thread m x.process.0 x.spare).threads + length xs =
+    threads-with_script_threads xs (with_new_thread m x.process.0 x.spare)
+    in let one : length (with_new_thread m x.process.0 x.spare).threads ≡ length m.threads + 1 = simp length-append refl
+    in omega arith
+
+limits-length : (xs : List ScriptProcess) → length (map limit_of xs) ≡ length xs
+limits-length [] = refl
+limits-length (x ∷ xs) = let rest : length (map limit_of xs) ≡ length xs = limits-length xs in omega arith
+
+pub threads-opening : (limits : List ℕ) → length (opening limits).threads ≡ 0
+threads-opening limits = ap length (threads-with_processes limits no_process)
+
+pub opening-has : (script : ScriptValue) → HasThreads script (opening_of script)
+opening-has script =
+    let none : length (opening (map limit_of script.processes)).threads ≡ 0 = threads-opening (map limit_of script.processes)
+    in let threads : length (opening_of script).threads ≡ length (opening (map limit_of script.processes)).threads + length script.threads =
+    threads-with_script_threads script.threads (opening (map limit_of script.processes))
+    in let processes : length (opening_of script).processes ≡ length (opening (map limit_of script.processes)).processes =
+    ap length (processes-with_script_threads script.threads (opening (map limit_of script.processes)))
+    in let limits : length (opening (map limit_of script.processes)).processes ≡ 0 + length (map limit_of script.processes) =
+    processes-with_processes (map limit_of script.processes) no_process
+    in let same : length (map limit_of script.processes) ≡ length script.processes = limits-length script.processes
+    in record { threads = omega arith; processes = omega arith }
+
+abbrev OwnsProcess : ScriptValue → Thread → Type 0
+OwnsProcess script x = IsProcess script x.process.0
+
+owners-with_script_threads :
+    (script : ScriptValue) (xs : List ScriptThread) (m : State) → All (IsSoundThread script) xs → All (OwnsProcess script) m.threads →
+    All (OwnsProcess script) (with_script_threads m xs).threads
+owners-with_script_threads script [] m sound h = h
+owners-with_script_threads script (x ∷ xs) m sound h =
+    owners-with_script_threads
+    script
+    xs
+    (with_new_thread m x.process.0 x.spare)
+    (All-tail (IsSoundThread script) x xs sound)
+    (All-push
+    (OwnsProcess script)
+    m.threads
+    (new_thread (length m.threads + 1) x.process.0 x.spare)
+    h
+    (All-head (IsSoundThread script) x xs sound).process)
+
+opening-owners : (script : ScriptValue) → IsSound script → All (OwnsProcess script) (opening_of script).threads
+opening-owners script sound =
+    owners-with_script_threads
+    script
+    script.threads
+    (opening (map limit_of script.processes))
+    sound.threads
+    (rw (threads-with_processes (map limit_of script.processes) no_process) (All-nil (OwnsProcess script)))
+
+owner-there : (script : ScriptValue) (m : State) (u : ℕ) → HasThreads script m → All (OwnsProcess script) m.threads → IsThread script u → IsProcess script (process_of m u)
+owner-there script m u has all thread = by_thread (thread_of m u) refl
+  where
+    there : IsSome (thread_of m u)
+    there =
+        let low : 1 ≤ u = thread.0
+        in let high : u ≤ length script.threads = thread.1
+        in let same : length m.threads ≡ length script.threads = has.threads
+        in numbered_there m.threads u low (omega arith)
+
+    by_thread : (o : Option Thread) → thread_of m u ≡ o → IsProcess script (process_in o)
+    by_thread None e = absurd (false≢true (subst (λ (o : Option Thread). IsSome o) e there))
+    by_thread (Some x) e = All-numbered (OwnsProcess script) m.threads u x all e
+
+pub IsKnownHistory-beginning : (script : ScriptValue) → IsSound script → IsKnownHistory script (beginning script)
+IsKnownHistory-beginning script sound =
+    let opens = opened (IsOpening-opening_of script)
+    in record {
+      has = opening-has script;
+      owners = λ u thread. owner-there script (opening_of script) u (opening-has script) (opening-owners script sound) thread;
+      known = record {
+        doors = rw opens.doors (All-nil (IsDeclaredDoor script));
+        calls = rw opens.calls (All-nil _);
+      };
+      events = All-nil (IsDeclaredEvent script);
+      inside = λ u some. absurd (false≢true (subst (λ o. IsSome o) (invocation_of-opening (IsOpening-opening_of script) u) some));
+    }
+
+-- whole runs
+
+run_from-known :
+    (script : ScriptValue) (ts : List ℕ) (h : History) → IsSound script → IsKnownHistory script h → AreRunnableFrom script h ts →
+    IsKnownHistory script (run_from script h ts)
+run_from-known script [] h sound kept can = kept
+run_from-known script (t ∷ ts) h sound kept can =
+    run_from-known script ts (turn script h t) sound (IsKnownHistory-turn script h t sound kept can.0) can.1
+
+pub run-known : (script : ScriptValue) (ts : List ℕ) → IsSound script → IsAllowed script ts → IsKnownHistory script (run script ts)
+unfolding run
+run-known script ts sound allowed =
+    run_from-known script ts (beginning script) sound (IsKnownHistory-beginning script sound) allowed.runnable
+
+pub declared-known : (script : ScriptValue) (h : History) → IsKnownHistory script h → IsDeclared script h
+declared-known script h kept =
+    record { events = kept.events; doors = kept.known.doors; waiting = waiting-declared script h.state kept.has.threads }
+
+pub run-declared : (script : ScriptValue) (ts : List ℕ) → IsSound script → IsAllowed script ts → IsDeclared script (run script ts)
+run-declared script ts sound allowed = declared-known script (run script ts) (run-known script ts sound allowed)
+
+pub run-may_turn :
+    (script : ScriptValue) (ts : List ℕ) (t : ℕ) → IsPlayable script → IsAllowed script ts → runnable (run script ts).state t ≡ true →
+    MayTurn (run script ts).state t (asked script (run script ts) t)
+run-may_turn script ts t playable allowed can =
+    let within : length ts ≤ script.budget = allowed.within
+    in let small : script.budget ≤ 100000 = playable.sound.small_budget
+    in let events : (run script ts).state.events ≡ length ts = events-run script ts
+    in may_turn script (run script ts) t playable (run-known script ts playable.sound allowed) can (omega arith)
+
+-- the turns of a run are a run of the written kernel
+
+turns_from-run :
+    (script : ScriptValue) (ts : List ℕ) (h : History) → IsPlayable script → IsKnownHistory script h →
+    h.state.events + length ts < 1000000 → AreRunnableFrom script h ts → IsRun h.state (turns_from script h ts)
+turns_from-run script [] h playable kept few can = tt
+turns_from-run script (t ∷ ts) h playable kept few can =
+    let one : (turn script h t).state.events ≡ h.state.events + 1 = events-step h.state t (asked script h t)
+    in let left : h.state.events < 1000000 = omega arith
+    in let rest : (turn script h t).state.events + length ts < 1000000 = omega arith
+    in (
+      may_turn script h t playable kept can.0 left,
+      turns_from-run script ts (turn script h t) playable (IsKnownHistory-turn script h t playable.sound kept can.0) rest can.1,
+    )
+
+pub turns_of-run : (script : ScriptValue) (ts : List ℕ) → IsPlayable script → IsAllowed script ts → IsRun (opening_of script) (turns_of script ts)
+turns_of-run script ts playable allowed =
+    let none : (opening_of script).events ≡ 0 = (opened (IsOpening-opening_of script)).events
+    in let within : length ts ≤ script.budget = allowed.within
+    in let small : script.budget ≤ 100000 = playable.sound.small_budget
+    in let few : (opening_of script).events + length ts < 1000000 = omega arith
+    in turns_from-run
+    script
+    ts
+    (beginning script)
+    playable
+    (IsKnownHistory-beginning script playable.sound)
+    few
+    allowed.runnable

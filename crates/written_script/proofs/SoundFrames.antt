@@ -1,0 +1,202 @@
+-- What holds of each line of a script's bodies holds of the commands that are ahead in its threads' frames.
+use Rattle.std.proofs.Common.{◌≡◌, ℕ, List, [], ◌∷◌, ◌++◌, Option, Some, None, Bool, true, false, if◌then◌else◌, refl, zero, suc}
+use Rattle.std.specs.Prelude.{All, slice_get, ◌==◌}
+use Rattle.std.proofs.lemmas.List.Elements.{All-nil, All-cons, All-head, All-tail, All-append}
+use Rattle.dk_base.specs.declared.answer.Answer.{Answer}
+use Rattle.dk_base.specs.declared.answer.Answer.TheVariants as answer
+use Rattle.dk_base.specs.declared.event.Event.{Event}
+use Rattle.written_kernel.specs.Answers.{IsEntering}
+use Rattle.written_kernel.specs.Numbered.{numbered}
+use Rattle.script_line.specs.declared.line.Cond.{Cond}
+use Rattle.script_line.specs.declared.line.Kind.{Kind}
+use Rattle.script_line.specs.declared.line.Kind.TheVariants.{Act, Loop, Test, Closing}
+use Rattle.script_line.specs.declared.line.Line.{Line}
+use Rattle.script_line.specs.Kinds.{kind_of}
+use Rattle.script_lang.specs.declared.script.Procedure.{Procedure}
+use Rattle.script_lang.specs.declared.script.ScriptThread.{ScriptThread}
+use Rattle.script_lang.specs.Value.{ScriptValue}
+use Rattle.written_script.specs.Requests.{Frame, holds, begun, first_frame_in, first_frame, body_in, procedure_body, procedure_frame, behind, answered, taken, frame_after, frame_from, frame_of}
+use Rattle.written_script.specs.Steps.{Step, copies, innermost_block, outer_blocks, before_innermost, guarded, line_before, blocks_of, written_out, upcoming, times_of, cond_of}
+use Rattle.written_script.specs.Steps.Step.{Do, When}
+use Rattle.written_script.specs.Variables.{Variables}
+use Rattle.written_script.proofs.Elements.{All-slice_get, All-numbered}
+
+-- a step that is a command of which P holds, or a test
+abbrev pub IsStep : (Line → Type 0) → Step → Type 0
+IsStep P (Do line) = (kind_of line ≡ Act) × P line
+IsStep P (When cond n) = Unit {0}
+
+abbrev pub AreSteps : (Line → Type 0) → List Step → Type 0
+AreSteps P steps = All (IsStep P) steps
+
+-- of each block
+abbrev AreBlocks : (Line → Type 0) → List (List Step) → Type 0
+AreBlocks P blocks = All (AreSteps P) blocks
+
+innermost_block-steps : (P : Line → Type 0) (blocks : List (List Step)) → AreBlocks P blocks → AreSteps P (innermost_block blocks)
+innermost_block-steps P [] h = All-nil (IsStep P)
+innermost_block-steps P (block ∷ blocks) h = All-head (AreSteps P) block blocks h
+
+outer_blocks-blocks : (P : Line → Type 0) (blocks : List (List Step)) → AreBlocks P blocks → AreBlocks P (outer_blocks blocks)
+outer_blocks-blocks P [] h = h
+outer_blocks-blocks P (block ∷ blocks) h = All-tail (AreSteps P) block blocks h
+
+before_innermost-blocks :
+    (P : Line → Type 0) (steps : List Step) (blocks : List (List Step)) →
+    AreSteps P steps → AreBlocks P blocks → AreBlocks P (before_innermost steps blocks)
+before_innermost-blocks P steps blocks first h =
+    All-cons
+    (AreSteps P)
+    (steps ++ innermost_block blocks)
+    (outer_blocks blocks)
+    (All-append (IsStep P) steps (innermost_block blocks) first (innermost_block-steps P blocks h))
+    (outer_blocks-blocks P blocks h)
+
+copies-steps : (P : Line → Type 0) (n : ℕ) (steps : List Step) → AreSteps P steps → AreSteps P (copies n steps)
+copies-steps P zero steps h = All-nil (IsStep P)
+copies-steps P (suc n) steps h = All-append (IsStep P) steps (copies n steps) h (copies-steps P n steps h)
+
+guarded-steps : (P : Line → Type 0) (cond : Cond) (block : List Step) → AreSteps P block → AreSteps P (guarded cond block)
+guarded-steps P cond block h = All-cons (IsStep P) (When cond _) block tt h
+
+line_before-blocks :
+    (P : Line → Type 0) (line : Line) (kind : Kind) (blocks : List (List Step)) → kind_of line ≡ kind →
+    P line → AreBlocks P blocks → AreBlocks P (line_before line kind blocks)
+line_before-blocks P line Act blocks same here h =
+    before_innermost-blocks P (Do line ∷ []) blocks (All-cons (IsStep P) (Do line) [] (same, here) (All-nil (IsStep P))) h
+line_before-blocks P line Loop blocks same here h =
+    before_innermost-blocks
+    P
+    (copies (times_of line) (innermost_block blocks))
+    (outer_blocks blocks)
+    (copies-steps P (times_of line) (innermost_block blocks) (innermost_block-steps P blocks h))
+    (outer_blocks-blocks P blocks h)
+line_before-blocks P line Test blocks same here h =
+    before_innermost-blocks
+    P
+    (guarded (cond_of line) (innermost_block blocks))
+    (outer_blocks blocks)
+    (guarded-steps P (cond_of line) (innermost_block blocks) (innermost_block-steps P blocks h))
+    (outer_blocks-blocks P blocks h)
+line_before-blocks P line Closing blocks same here h = All-cons (AreSteps P) [] blocks (All-nil (IsStep P)) h
+
+blocks_of-blocks : (P : Line → Type 0) (lines : List Line) → All P lines → AreBlocks P (blocks_of lines)
+blocks_of-blocks P [] h = All-nil (AreSteps P)
+blocks_of-blocks P (line ∷ lines) h =
+    line_before-blocks
+    P
+    line
+    (kind_of line)
+    (blocks_of lines)
+    refl
+    (All-head P line lines h)
+    (blocks_of-blocks P lines (All-tail P line lines h))
+
+written_out-steps : (P : Line → Type 0) (body : List Line) → All P body → AreSteps P (written_out body)
+written_out-steps P body h = innermost_block-steps P (blocks_of body) (blocks_of-blocks P body h)
+
+upcoming-steps :
+    (P : Line → Type 0) (test : Cond → Bool) (skip : ℕ) (steps : List Step) → AreSteps P steps → AreSteps P (upcoming test skip steps)
+upcoming-steps P test skip [] h = h
+upcoming-steps P test (suc skip) (step ∷ steps) h = upcoming-steps P test skip steps (All-tail (IsStep P) step steps h)
+upcoming-steps P test zero (Do line ∷ steps) h = h
+upcoming-steps P test zero (When cond n ∷ steps) h =
+    upcoming-steps P test (if test cond then 0 else n) steps (All-tail (IsStep P) (When cond n) steps h)
+
+behind-steps : (P : Line → Type 0) (steps : List Step) → AreSteps P steps → AreSteps P (behind steps)
+behind-steps P [] h = h
+behind-steps P (step ∷ steps) h = All-tail (IsStep P) step steps h
+
+-- P holds of each line of the threads' bodies, and of the procedures'
+pub record AreLines (P : Bool → Line → Type 0) (script : ScriptValue) : Type 0 where
+  pub threads : All (λ (x : ScriptThread). All (P false) x.body) script.threads
+  pub procedures : All (λ (x : Procedure). All (P true) x.body) script.procedures
+
+-- P holds of each command that is ahead in a frame
+pub record IsFrame (P : Bool → Line → Type 0) (f : Frame) : Type 0 where
+  pub steps : AreSteps (P f.procedure) f.steps
+
+begun-frame :
+    (P : Bool → Line → Type 0) (procedure notice : Bool) (variables : Variables) (body : List Line) →
+    All (P procedure) body → IsFrame P (begun procedure notice variables body)
+begun-frame P procedure notice variables body h =
+    record {
+      steps =
+          upcoming-steps
+          (P procedure)
+          (holds answer.Done notice)
+          0
+          (written_out body)
+          (written_out-steps (P procedure) body h);
+    }
+
+first_frame-frame : (P : Bool → Line → Type 0) (script : ScriptValue) (u : ℕ) → AreLines P script → IsFrame P (first_frame script u)
+first_frame-frame P script u h = by_thread (numbered script.threads u) refl
+  where
+    by_spare : (x : ScriptThread) (spare : Bool) (variables : Variables) → All (P false) x.body → IsFrame P (begun spare false variables (if spare then [] else x.body))
+    by_spare x true variables all = begun-frame P true false variables [] (All-nil (P true))
+    by_spare x false variables all = begun-frame P false false variables x.body all
+
+    by_thread : (o : Option ScriptThread) → numbered script.threads u ≡ o → IsFrame P (first_frame_in o)
+    by_thread None e = begun-frame P false false _ [] (All-nil (P false))
+    by_thread (Some x) e =
+        by_spare x x.spare _ (All-numbered (λ (x : ScriptThread). All (P false) x.body) script.threads u x h.threads e)
+
+procedure_frame-frame :
+    (P : Bool → Line → Type 0) (script : ScriptValue) (entry : ℕ) (notice : Bool) (variables : Variables) →
+    AreLines P script → IsFrame P (procedure_frame script entry notice variables)
+procedure_frame-frame P script entry notice variables h =
+    begun-frame P true notice variables (procedure_body script entry) (by_procedure (slice_get script.procedures entry) refl)
+  where
+    by_procedure : (o : Option Procedure) → slice_get script.procedures entry ≡ o → All (P true) (body_in o)
+    by_procedure None e = All-nil (P true)
+    by_procedure (Some x) e = All-slice_get (λ (x : Procedure). All (P true) x.body) script.procedures entry x h.procedures e
+
+answered-frame : (P : Bool → Line → Type 0) (f : Frame) (a : Answer) → IsFrame P f → IsFrame P (answered f a)
+answered-frame P f a h =
+    record {
+      steps = upcoming-steps (P f.procedure) (holds a f.notice) 0 (behind f.steps) (behind-steps (P f.procedure) f.steps h.steps);
+    }
+
+taken-frame :
+    (P : Bool → Line → Type 0) (script : ScriptValue) (f : Frame) (a : Answer) → AreLines P script → IsFrame P f →
+    IsFrame P (taken script f a)
+taken-frame P script f (answer.Entered call entry cookie bytes fds) s h = procedure_frame-frame P script entry false _ s
+taken-frame P script f (answer.EnteredNotice notice entry cookie) s h = procedure_frame-frame P script entry true _ s
+taken-frame P script f answer.Wait s h = h
+taken-frame P script f (answer.WaitCall call) s h = h
+taken-frame P script f (answer.EnterFailed call) s h = h
+taken-frame P script f a s h = answered-frame P f a h
+
+frame_after-frame :
+    (P : Bool → Line → Type 0) (script : ScriptValue) (u : ℕ) (f : Frame) (e : Event) → AreLines P script → IsFrame P f →
+    IsFrame P (frame_after script u f e)
+frame_after-frame P script u f e s h = by_test (e.thread.0 == u)
+  where
+    by_test : (b : Bool) → IsFrame P (if b then taken script f e.answer else f)
+    by_test true = taken-frame P script f e.answer s h
+    by_test false = h
+
+frame_from-frame :
+    (P : Bool → Line → Type 0) (script : ScriptValue) (u : ℕ) (f : Frame) (es : List Event) → AreLines P script →
+    IsFrame P f → IsFrame P (frame_from script u f es)
+frame_from-frame P script u f [] s h = h
+frame_from-frame P script u f (e ∷ es) s h =
+    frame_from-frame P script u (frame_after script u f e) es s (frame_after-frame P script u f e s h)
+
+-- whatever answers came
+pub frame_of-frame :
+    (P : Bool → Line → Type 0) (script : ScriptValue) (u : ℕ) (es : List Event) → AreLines P script →
+    IsFrame P (frame_of script u es)
+frame_of-frame P script u es s = frame_from-frame P script u (first_frame script u) es s (first_frame-frame P script u s)
+
+-- where a frame stays or becomes a procedure's
+
+pub taken-procedure : (script : ScriptValue) (f : Frame) (a : Answer) → f.procedure ≡ true → (taken script f a).procedure ≡ true
+taken-procedure script f (answer.Entered call entry cookie bytes fds) h = refl
+taken-procedure script f (answer.EnteredNotice notice entry cookie) h = refl
+taken-procedure script f a h = h
+
+pub entering-procedure : (script : ScriptValue) (f : Frame) (a : Answer) → IsEntering a → (taken script f a).procedure ≡ true
+entering-procedure script f (answer.Entered call entry cookie bytes fds) h = refl
+entering-procedure script f a h = absurd h

@@ -1,0 +1,51 @@
+-- What every script that a text spells keeps, so that its requests are ones that a kernel takes.
+use Rattle.std.specs.Prelude.{ℕ, ◌≡◌, ◌≤◌, Some, false, length, slice_get, All}
+use Rattle.script_line.specs.declared.line.Line.{Line}
+use Rattle.script_line.specs.declared.line.Line.TheVariants.{Create, Read, GetN, Interrupt, Kill}
+use Rattle.script_lang.specs.declared.script.Procedure.{Procedure}
+use Rattle.script_lang.specs.declared.script.ScriptThread.{ScriptThread}
+use Rattle.script_lang.specs.Value.{ScriptValue}
+use Rattle.written_script.specs.DeclaredNames.{IsThread, IsProcess, IsDeclaredThread}
+use Rattle.written_script.specs.Later.{later}
+use Rattle.written_script.specs.Trees.{IsClosed}
+
+-- an entry is that of a procedure of this process
+pub record IsEntryOf (script : ScriptValue) (process entry : ℕ) : Type 0 where
+  pub procedure : Procedure
+  pub there : slice_get script.procedures entry ≡ Some procedure
+  pub same_process : procedure.process.0 ≡ process
+
+-- What a line in a body of this process names is declared, and its counts are in range. A door is made of a procedure of
+-- the process itself, since others may have procedures of the same name.
+abbrev pub IsFitLine : ScriptValue → ℕ → Line → Type 0
+IsFitLine script of (Create var entry cookie attrs) = IsEntryOf script of entry
+IsFitLine script of (Read var fd most) = (1 ≤ most) × (most ≤ 4096)
+IsFitLine script of (GetN port most least wait) = most ≤ 64
+IsFitLine script of (Interrupt thread) = IsThread script thread.0
+IsFitLine script of (Kill process) = IsProcess script process.0
+IsFitLine script of line = Unit {0}
+
+pub record IsSoundThread (script : ScriptValue) (x : ScriptThread) : Type 0 where
+  pub process : IsProcess script x.process.0
+  pub body : All (IsFitLine script x.process.0) x.body
+  -- each of its blocks is closed in it
+  pub closed : IsClosed x.body
+
+pub record IsSoundProcedure (script : ScriptValue) (x : Procedure) : Type 0 where
+  pub process : IsProcess script x.process.0
+  pub body : All (IsFitLine script x.process.0) x.body
+  -- each of its blocks is closed in it
+  pub closed : IsClosed x.body
+
+pub record IsSound (script : ScriptValue) : Type 0 where
+  pub few_processes : length script.processes ≤ 64
+  pub few_threads : length script.threads ≤ 64
+  pub small_budget : script.budget ≤ 100000
+  pub threads : All (IsSoundThread script) script.threads
+  pub procedures : All (IsSoundProcedure script) script.procedures
+  pub schedule : All (IsDeclaredThread script) script.schedule
+
+-- a script that can be run: it needs no capability that is not built
+pub record IsPlayable (script : ScriptValue) : Type 0 where
+  pub sound : IsSound script
+  pub built : later script ≡ false
