@@ -10,7 +10,7 @@ use std::process::Abort;
 use std::test::Fail;
 
 /// Texts that spell no script, with the first bad line and its reason.
-const BAD_TEXTS: [(&str, u32, Reason); 94] = [
+const BAD_TEXTS: [(&str, u32, Reason); 100] = [
     ("", 1, Reason::Header),
     ("doors script 2\n", 1, Reason::Header),
     ("doors script 1\r\n", 1, Reason::Byte),
@@ -377,6 +377,36 @@ const BAD_TEXTS: [(&str, u32, Reason); 94] = [
         131,
         Reason::Many,
     ),
+    (
+        "doors script 1\nprocess a\nthread t\nclose 256\nend\n",
+        4,
+        Reason::Range,
+    ),
+    (
+        "doors script 1\nprocess a\nthread t\nclose $d.16\nend\n",
+        4,
+        Reason::Range,
+    ),
+    (
+        "doors script 1\nprocess a\nthread t\nreturn $v +\nend\n",
+        4,
+        Reason::Form,
+    ),
+    (
+        "doors script 1\nprocess a\nthread t\nreturn fill:8193\nend\n",
+        4,
+        Reason::Range,
+    ),
+    (
+        "doors script 1\nprocess a\nthread t\nreturn $v desc\nend\n",
+        4,
+        Reason::Form,
+    ),
+    (
+        "doors script 1\nprocess a\nthread t\nassociate 1 2 out+in 0\nend\n",
+        4,
+        Reason::Form,
+    ),
 ];
 
 /// Texts that spell a script.
@@ -444,7 +474,7 @@ fn canonical_texts_are_printed(rt: HostRuntime) -> Result<(), Fail> {
     Ok(())
 }
 
-/// A script with every command and every form of an operand.
+/// A script with every command and every form of an operand, in its canonical text.
 const EVERY_FORM: &str =
     "doors script 1\nbudget 77\nprocess a limit 3\nspare s\nthread t\ncreate d e 18446744073709551615 unref private local revoked unref-multi is-unref refuse-desc no-cancel\ncreate d e 0\ncall r $d \"h\" rsize 4096\ncall r $d.3 \"h\\\"\\\\\\x0a\\xff\" + $v + fill:8192 desc $d $d! $d.15! 255! rsize 18446744073709551615\nreturn \"\"\nreturn $arg desc 1\nserve\nrevoke 0\nbind $x\nunbind\ninfo 255\ninfo query\ngetparam $d data-max\nsetparam $d data-min 0\nsetparam $d desc-max max\ncred\ntestcancel\nexit\nclose $d\ndup v $d.9\nattach $d road\ndetach alley\nopen v road\nawait gate\npipe x y\nwrite $y \"z\" + $w\nread v $x 4096\npcreate p\nassociate $p $x none 1\nassociate $p $x in+out+err+hup 1\nassociate $p $x out+hup 18446744073709551615\ndissociate $p $x\nget $p\nget $p nowait\ngetn $p 64 0\ngetn $p 0 64 nowait\nsend $p 4294967295 1\nsendn 1 2 $p 3 $p.2\nalert $p set 1 2\nalert $p update 0 0\nalert $p none 0 0\ninterrupt s\ninterrupt t\nkill a\nkill b\nwork w upper \"a\"\nwork w reverse $w + \"\"\nwork w sum fill:0\nwork w digest \"\"\nrepeat 1000000\nserve\nif ok\nif yes\nif unref\nend\nend\nif E2BIG\nif ETIME\nend\nend\nend\nend\nend\nproc e\nreturn $arg\nend\nspare q\nprocess b limit 256\nproc e\nend\nthread u\nend\nschedule s t q u s t q u s t q u s t q u\nschedule t\n";
 
@@ -473,6 +503,7 @@ fn every_form_is_shown_and_read_again(rt: HostRuntime) {
     let script = read(&rt, EVERY_FORM.as_bytes());
     match shown(&rt, &script) {
         Some(text) => {
+            assert!(rt; text.slice() == EVERY_FORM.as_bytes());
             let again = read(&rt, text.slice());
             assert!(rt; are_same(&again, &script));
         }
