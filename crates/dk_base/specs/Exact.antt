@@ -15,11 +15,11 @@ pub lists_exact : {A : Type 0} {E : A → A → Bool} → ((x y : A) → Decides
 lists_exact {A} {E} each xs ys = slice_eq-Decides each xs ys (pointwise E xs ys) refl
 
 -- each variant's comparison holds of equal fields alone
-abbrev pub Exacts : (Fss : List (List Field)) → Each Bool Fss → Type 0
-Exacts [] es = Unit {0}
-Exacts (Fs ∷ Fss) es = ((x y : Values Fs) → Decides (es.0 x y) (x ≡ y)) × Exacts Fss es.1
+abbrev pub AreExact : (Fss : List (List Field)) → Each Bool Fss → Type 0
+AreExact [] es = Unit {0}
+AreExact (Fs ∷ Fss) es = ((x y : Values Fs) → Decides (es.0 x y) (x ≡ y)) × AreExact Fss es.1
 
-choices_exact : (Fss : List (List Field)) (es : Each Bool Fss) → Exacts Fss es → (c d : Choice Fss) → Decides (by false false Fss es c d) (c ≡ d)
+choices_exact : (Fss : List (List Field)) (es : Each Bool Fss) → AreExact Fss es → (c d : Choice Fss) → Decides (by false false Fss es c d) (c ≡ d)
 choices_exact [] es all c d = absurd c
 choices_exact (Fs ∷ Fss) es all (inl x) (inl y) = Decides-like (es.0 x y) (ap inl) (λ e. cc) (all.0 x y)
 choices_exact (Fs ∷ Fss) es all (inl x) (inr y) = (λ e. cc, λ e. cc)
@@ -27,7 +27,7 @@ choices_exact (Fs ∷ Fss) es all (inr x) (inl y) = (λ e. cc, λ e. cc)
 choices_exact (Fs ∷ Fss) es all (inr x) (inr y) = Decides-like (by false false Fss es.1 x y) (ap inr) (λ e. cc) (choices_exact Fss es.1 all.1 x y)
 
 -- a derived `==` of an enum
-pub enum_exact : (N : Record) (es : Each Bool N.parts) → Exacts N.parts es → (x y : N.D) → Decides (by false false N.parts es (N.as_values x) (N.as_values y)) (x ≡ y)
+pub enum_exact : (N : Record) (es : Each Bool N.parts) → AreExact N.parts es → (x y : N.D) → Decides (by false false N.parts es (N.as_values x) (N.as_values y)) (x ≡ y)
 enum_exact N es all x y =
     Decides-like (by false false N.parts es (N.as_values x) (N.as_values y)) (values_one N x y) (ap N.as_values)
     (choices_exact N.parts es all (N.as_values x) (N.as_values y))

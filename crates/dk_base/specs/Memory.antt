@@ -21,8 +21,8 @@ pub record StoredSink : Type 0 where
   pub calls : ℕ
   pub faults : ℕ
 
-abbrev pub failed : Failed
-failed = record {}
+abbrev pub failure : Failed
+failure = record {}
 
 abbrev pub is_listed : List ℕ → ℕ → Bool
 is_listed fail call = list_any (λ n. n == call) fail
@@ -38,7 +38,7 @@ abbrev pub read_count : StoredSource → ℕ → ℕ
 read_count s room = min (min s.piece room) (length s.left)
 
 abbrev pub read_answer : StoredSource → ℕ → Result ℕ Failed
-read_answer s room = if read_fails s then Err failed else Ok (read_count s room)
+read_answer s room = if read_fails s then Err failure else Ok (read_count s room)
 
 abbrev pub source_after : StoredSource → ℕ → StoredSource
 source_after s room =
@@ -63,7 +63,7 @@ abbrev pub write_count : StoredSink → ℕ → ℕ
 write_count s n = min (min s.piece n) (s.room - length s.held)
 
 abbrev pub write_answer : StoredSink → ℕ → Result ℕ Failed
-write_answer s n = if write_fails s then Err failed else Ok (write_count s n)
+write_answer s n = if write_fails s then Err failure else Ok (write_count s n)
 
 abbrev pub sink_after : StoredSink → List ℕ → StoredSink
 sink_after s bytes =

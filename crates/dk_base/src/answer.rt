@@ -8,7 +8,7 @@ use crate::set::Attrs;
 use std::alloc::Global;
 
 /// What door_info(3C) tells. `unique` is the door's number; there is no target where the owner has ended.
-#[derive(Clone, Copy, Debug, PartialEq, Eq)]
+#[derive(Clone, Copy)]
 pub struct DoorInfo {
     pub target: Option<Pid>,
     pub entry: u32,
@@ -18,7 +18,7 @@ pub struct DoorInfo {
 }
 
 /// The answer of a kernel entry, or of the end of a wait.
-#[derive(Debug, Drop)]
+#[derive(Drop)]
 pub enum Answer {
     /// The thread waits.
     Wait,

@@ -1,3 +1,4 @@
+use std::fmt;
 use thiserror::Error;
 
 /// Want of memory.
@@ -58,10 +59,21 @@ impl Errno {
     }
 }
 
+impl fmt::Display for Errno {
+    ghost use Rattle.std.specs.Prelude.{Some};
+    ghost use Rattle.dk_base.specs.Errno.{errno_name};
+
+    ghost output = { λ errno. Some (errno_name errno) };
+
+    fn fmt<W: fmt::Write>(&self, f: &mut fmt::Formatter<W>) -> fmt::Result {
+        f.write_str(self.name())
+    }
+}
+
 /// A refusal of a call that may also want memory.
 #[derive(Clone, Copy, Debug, PartialEq, Eq, Error)]
 pub enum Refusal {
-    #[error("refused")]
+    #[error("{0}")]
     No(Errno),
     #[error("out of memory")]
     Memory,
@@ -70,7 +82,7 @@ pub enum Refusal {
 /// What keeps a process or a thread from being added.
 #[derive(Clone, Copy, Debug, PartialEq, Eq, Error)]
 pub enum ProcFault {
-    #[error("64 are there")]
+    #[error("64 threads are there")]
     Full,
     #[error("out of memory")]
     Memory,

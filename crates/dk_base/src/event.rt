@@ -3,7 +3,7 @@ use crate::list::TidList;
 use crate::number::Tid;
 
 /// The kernel entry, or the end of a wait, that an event is. `serve` is Return, and both forms of info are Info.
-#[derive(Clone, Copy, Debug, PartialEq, Eq)]
+#[derive(Clone, Copy, PartialEq, Eq)]
 pub enum What {
     Create,
     Call,
@@ -46,7 +46,7 @@ pub enum What {
 }
 
 /// One event of a run. `root` is the thread's root in the state before the event; events are numbered from 1.
-#[derive(Debug, Drop)]
+#[derive(Drop)]
 pub struct Event {
     pub number: u32,
     pub thread: Tid,
@@ -56,7 +56,7 @@ pub struct Event {
 }
 
 /// What one event gives: its answer, and in order the threads that were not runnable before and are now.
-#[derive(Debug, Drop)]
+#[derive(Drop)]
 pub struct Stepped {
     pub answer: Answer,
     pub woken: TidList,

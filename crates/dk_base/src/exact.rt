@@ -31,25 +31,3 @@ impl Exact for Tid {
 impl<T: Exact> Exact for Sequence<T> {
     ghost exact = { lists_exact T.exact };
 }
-
-#[cfg(test)]
-mod tests {
-    use super::*;
-    use crate::duplicate::Duplicate;
-    use crate::list::Bytes;
-    use std::test::Fail;
-
-    #[test]
-    fn lists_are_copied_and_compared(rt: HostRuntime) -> Result<(), Fail> {
-        let alloc = rt.alloc();
-        let mut names = Sequence::new(alloc);
-        names.push(Bytes::from_slice(alloc, b"door")?)?;
-        let copy = names.duplicate(alloc)?;
-        assert!(rt; copy.same(&names));
-        names.push(Bytes::from_slice(alloc, b"port")?)?;
-        assert!(rt; !copy.same(&names));
-        let threads = Sequence::from_slice(alloc, &[Tid(1), Tid(2)])?;
-        assert!(rt; !threads.same(&Sequence::from_slice(alloc, &[Tid(2), Tid(1)])?));
-        Ok(())
-    }
-}

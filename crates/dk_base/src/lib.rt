@@ -3,11 +3,11 @@
 #![tactic(auto)]
 
 pub mod answer;
-pub mod built;
 pub mod duplicate;
 pub mod error;
 pub mod event;
 pub mod exact;
+pub mod limits;
 pub mod list;
 pub mod memory;
 pub mod number;

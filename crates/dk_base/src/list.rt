@@ -7,7 +7,7 @@ use std::alloc::Global;
 use std::marker::Model;
 
 /// Items in order. Clauses see the list itself, so two lists with the same items are equal, however much room either has.
-#[derive(Drop, Debug)]
+#[derive(Drop)]
 pub struct Sequence<T> {
     items: Vec<T>,
 }
@@ -127,16 +127,16 @@ impl<T: Copy + Drop> Sequence<T> {
 }
 
 /// A list that tells how many pushes can't fail. Clauses see its items and that number, `spare`.
-#[derive(Drop, Debug)]
+#[derive(Drop)]
 pub struct Room<T> {
     items: Vec<T>,
 }
 
 impl<T> Model for Room<T> {
     ghost use Rattle.std.specs.Prelude.{◌-◌, vec_len, vec_capacity};
-    ghost use Rattle.dk_base.specs.Spare.{Roomy};
+    ghost use Rattle.dk_base.specs.Spare.{RoomValue};
 
-    ghost Value = { Roomy T };
+    ghost Value = { RoomValue T };
 
     ghost view = { λ s. record { items = s.items.items; spare = vec_capacity s.items - vec_len s.items } };
 }
@@ -200,37 +200,5 @@ impl<T: Drop> Room<T> {
     {
         let Room { items } = self;
         Sequence { items }
-    }
-}
-
-#[cfg(test)]
-mod tests {
-    use super::*;
-    use std::test::Fail;
-
-    #[test]
-    fn lists(rt: HostRuntime) -> Result<(), Fail> {
-        let alloc = rt.alloc();
-        let mut bytes = Bytes::from_slice(alloc, b"door")?;
-        bytes.push(b's')?;
-        assert_eq!(rt; bytes.copy(alloc)?.slice(), b"doors".as_slice());
-        assert_eq!(rt; bytes.is_empty(), false);
-        Ok(())
-    }
-
-    #[test]
-    fn rooms(rt: HostRuntime) -> Result<(), Fail> {
-        let mut room = Room::with_room(rt.alloc(), 2)?;
-        room.push(Tid(3));
-        room.push(Tid(4));
-        room.reserve(1)?;
-        room.push(Tid(5));
-        assert_eq!(rt; room.len(), 3);
-        let list = room.into_list();
-        assert_eq!(rt; list.slice(), [Tid(3), Tid(4), Tid(5)].as_slice());
-        let mut room = list.into_room();
-        room.clear();
-        assert_eq!(rt; room.slice().len(), 0);
-        Ok(())
     }
 }

@@ -11,7 +11,7 @@ use std::alloc::Global;
 use std::marker::Model;
 
 /// A source of given bytes. Clauses see what is left of them, what decides each read, and the counts of reads and faults.
-#[derive(Drop, Debug)]
+#[derive(Drop)]
 pub struct MemSource {
     bytes: Bytes,
     at: usize,
@@ -92,7 +92,7 @@ impl Source for MemSource {
 
 /// A sink that holds at most so many bytes. Clauses see what it holds, what decides each write, and the counts of writes
 /// and faults.
-#[derive(Drop, Debug)]
+#[derive(Drop)]
 pub struct MemSink {
     held: Vec<u8>,
     room: usize,
@@ -162,70 +162,5 @@ impl Sink for MemSink {
         let n = self.piece.min(piece.len()).min(self.room - self.held.len());
         let _ = self.held.extend_from_slice(&piece[..n]);
         Ok(n)
-    }
-}
-
-#[cfg(test)]
-mod tests {
-    use super::*;
-    use std::test::Fail;
-
-    fn read_from<S: Source>(source: &mut S, buf: &mut [u8]) -> Result<usize, Failed> {
-        source.read(buf)
-    }
-
-    fn write_to<O: Sink>(sink: &mut O, piece: &[u8]) -> Result<usize, Failed> {
-        sink.write(piece)
-    }
-
-    #[test]
-    fn the_first_read_fails(rt: HostRuntime) -> Result<(), Fail> {
-        let alloc = rt.alloc();
-        let fail = CallList::from_slice(alloc, &[1])?;
-        let mut source = MemSource::new(Bytes::from_slice(alloc, b"door")?, fail);
-        let mut buf = [0; 8];
-        assert_eq!(rt; read_from(&mut source, &mut buf), Err(Failed));
-        assert_eq!(rt; source.left(), 4);
-        assert_eq!(rt; read_from(&mut source, &mut buf), Ok(4));
-        assert_eq!(rt; buf.as_slice(), b"door\0\0\0\0".as_slice());
-        assert_eq!(rt; read_from(&mut source, &mut buf), Ok(0));
-        Ok(())
-    }
-
-    #[test]
-    fn one_byte_at_a_time(rt: HostRuntime) -> Result<(), Fail> {
-        let alloc = rt.alloc();
-        let bytes = Bytes::from_slice(alloc, b"ok")?;
-        let mut source = MemSource::in_pieces(bytes, 1, CallList::new(alloc));
-        let mut buf = [0; 2];
-        assert_eq!(rt; read_from(&mut source, &mut buf), Ok(1));
-        assert_eq!(rt; buf[0], b'o');
-        assert_eq!(rt; read_from(&mut source, &mut buf), Ok(1));
-        assert_eq!(rt; buf[0], b'k');
-        assert_eq!(rt; read_from(&mut source, &mut buf), Ok(0));
-        Ok(())
-    }
-
-    #[test]
-    fn the_third_write_fails(rt: HostRuntime) -> Result<(), Fail> {
-        let alloc = rt.alloc();
-        let fail = CallList::from_slice(alloc, &[3])?;
-        let mut sink = MemSink::new(alloc, 100, 5, fail)?;
-        let line = b"1 s s create ok fd 0\n";
-        assert_eq!(rt; write_to(&mut sink, line), Ok(5));
-        assert_eq!(rt; write_to(&mut sink, &line[5..]), Ok(5));
-        assert_eq!(rt; write_to(&mut sink, &line[10..]), Err(Failed));
-        assert_eq!(rt; sink.held(), b"1 s s crea".as_slice());
-        Ok(())
-    }
-
-    #[test]
-    fn a_full_sink_fails(rt: HostRuntime) -> Result<(), Fail> {
-        let alloc = rt.alloc();
-        let mut sink = MemSink::new(alloc, 3, 5, CallList::new(alloc))?;
-        assert_eq!(rt; write_to(&mut sink, b"door"), Ok(3));
-        assert_eq!(rt; write_to(&mut sink, b"r"), Err(Failed));
-        assert_eq!(rt; sink.held(), b"doo".as_slice());
-        Ok(())
     }
 }

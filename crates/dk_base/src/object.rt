@@ -1,7 +1,7 @@
 use crate::number::Fd;
 
 /// What a descriptor names. Doors, ports and pipes are numbered from 1.
-#[derive(Clone, Copy, Debug, PartialEq, Eq)]
+#[derive(Clone, Copy, PartialEq, Eq)]
 pub enum Obj {
     Door(u32),
     Port(u32),
@@ -12,28 +12,28 @@ pub enum Obj {
 }
 
 /// A descriptor that a call or a return passes; `release` closes it in its sender (DOOR_RELEASE, door_call(3C)).
-#[derive(Clone, Copy, Debug, PartialEq, Eq)]
+#[derive(Clone, Copy, PartialEq, Eq)]
 pub struct Pass {
     pub fd: Fd,
     pub release: bool,
 }
 
 /// What an invocation serves: a call, or an unreferenced notice. Both are numbered from 1.
-#[derive(Clone, Copy, Debug, PartialEq, Eq)]
+#[derive(Clone, Copy, PartialEq, Eq)]
 pub enum Item {
     Call(u32),
     Notice(u32),
 }
 
 /// An invocation of a server procedure. `cancelled` is set where the caller left and the door has no DOOR_NO_CANCEL.
-#[derive(Clone, Copy, Debug, PartialEq, Eq)]
+#[derive(Clone, Copy, PartialEq, Eq)]
 pub struct Inv {
     pub item: Item,
     pub cancelled: bool,
 }
 
 /// Where a port's event comes from (port_get(3C)).
-#[derive(Clone, Copy, Debug, PartialEq, Eq)]
+#[derive(Clone, Copy, PartialEq, Eq)]
 pub enum Src {
     Fd,
     User,
@@ -41,7 +41,7 @@ pub enum Src {
 }
 
 /// A port's event as it is retrieved.
-#[derive(Clone, Copy, Debug, PartialEq, Eq)]
+#[derive(Clone, Copy, PartialEq, Eq)]
 pub struct EventRec {
     pub source: Src,
     pub object: u32,

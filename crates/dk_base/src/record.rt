@@ -9,14 +9,14 @@ use crate::set::Attrs;
 use std::alloc::Global;
 
 /// Whether a process lives.
-#[derive(Clone, Copy, Debug, PartialEq, Eq)]
+#[derive(Clone, Copy)]
 pub enum ProcessStage {
     Live,
     Ended,
 }
 
 /// A process, the event that made it (0 for those of the opening state), and how many descriptors it may have.
-#[derive(Clone, Copy, Debug, PartialEq, Eq)]
+#[derive(Clone, Copy)]
 pub struct Process {
     pub number: u32,
     pub made: u64,
@@ -25,7 +25,7 @@ pub struct Process {
 }
 
 /// What a thread is at.
-#[derive(Debug, Drop)]
+#[derive(Drop)]
 pub enum ThreadState {
     /// A spare server thread that was not started.
     Dormant,
@@ -94,7 +94,7 @@ impl ThreadState {
 }
 
 /// A thread, the event that made it, its process, its invocation of a server procedure, and its state.
-#[derive(Debug, Drop)]
+#[derive(Drop)]
 pub struct Thread {
     pub number: u32,
     pub made: u64,
@@ -104,7 +104,7 @@ pub struct Thread {
 }
 
 /// A door as door_create(3C) made it, with the parameters of door_setparam(3C).
-#[derive(Clone, Copy, Debug, PartialEq, Eq)]
+#[derive(Clone, Copy)]
 pub struct Door {
     pub number: u32,
     pub made: u64,
@@ -119,7 +119,7 @@ pub struct Door {
 }
 
 /// A door attached to a path (fattach(3C)).
-#[derive(Clone, Copy, Debug, PartialEq, Eq)]
+#[derive(Clone, Copy)]
 pub struct Name {
     pub path: PathId,
     pub made: u64,
@@ -127,7 +127,7 @@ pub struct Name {
 }
 
 /// Where a call stands.
-#[derive(Debug, Drop)]
+#[derive(Drop)]
 pub enum CallStage {
     /// It waits for a server thread.
     Queued,
@@ -145,7 +145,7 @@ pub enum CallStage {
 
 /// A door call. Its bytes and objects are those of the arguments while it is queued or given, and then leave it.
 /// `abandoned` is set where the caller left while a server thread was in the call.
-#[derive(Debug, Drop)]
+#[derive(Drop)]
 pub struct Call {
     pub number: u32,
     pub made: u64,
@@ -159,7 +159,7 @@ pub struct Call {
 }
 
 /// Where an unreferenced notice stands.
-#[derive(Clone, Copy, Debug, PartialEq, Eq)]
+#[derive(Clone, Copy)]
 pub enum NoticeStage {
     Waiting,
     Given { to: Tid },
@@ -171,7 +171,7 @@ pub enum NoticeStage {
 }
 
 /// An unreferenced notice of a door (DOOR_UNREF, door_create(3C)).
-#[derive(Clone, Copy, Debug, PartialEq, Eq)]
+#[derive(Clone, Copy)]
 pub struct Notice {
     pub number: u32,
     pub made: u64,

@@ -7,7 +7,7 @@ use crate::set::{Attrs, PollSet};
 use std::alloc::Global;
 
 /// A door's parameters (door_getparam(3C), door_setparam(3C)).
-#[derive(Clone, Copy, Debug, PartialEq, Eq)]
+#[derive(Clone, Copy, PartialEq, Eq)]
 pub enum Param {
     DataMax,
     DataMin,
@@ -15,7 +15,7 @@ pub enum Param {
 }
 
 /// The modes of port_alert(3C).
-#[derive(Clone, Copy, Debug, PartialEq, Eq)]
+#[derive(Clone, Copy, PartialEq, Eq)]
 pub enum AlertMode {
     Set,
     Update,
@@ -23,7 +23,7 @@ pub enum AlertMode {
 }
 
 /// What a task computes of its input.
-#[derive(Clone, Copy, Debug, PartialEq, Eq)]
+#[derive(Clone, Copy, PartialEq, Eq)]
 pub enum Op {
     Upper,
     Reverse,
@@ -32,7 +32,7 @@ pub enum Op {
 }
 
 /// A kernel entry with its operands.
-#[derive(Debug, Drop)]
+#[derive(Drop)]
 pub enum Request {
     Create {
         entry: u32,
@@ -273,51 +273,5 @@ impl Request {
                 bytes: bytes.copy(alloc)?,
             },
         })
-    }
-}
-
-#[cfg(test)]
-mod tests {
-    use super::*;
-    use crate::answer::Answer;
-    use crate::record::ThreadState;
-    use std::test::Fail;
-
-    #[test]
-    fn a_request_is_copied(rt: HostRuntime) -> Result<(), Fail> {
-        let alloc = rt.alloc();
-        let bytes = Bytes::from_slice(alloc, b"hi")?;
-        let request = Request::Return {
-            bytes,
-            pass: PassList::new(alloc),
-        };
-        match request.copy(alloc)? {
-            Request::Return { bytes, .. } => assert_eq!(rt; bytes.slice(), b"hi".as_slice()),
-            _ => assert!(rt; false),
-        }
-        Ok(())
-    }
-
-    #[test]
-    fn an_answer_is_copied(rt: HostRuntime) -> Result<(), Fail> {
-        let alloc = rt.alloc();
-        let bytes = Bytes::from_slice(alloc, b"hi")?;
-        match (Answer::Data { bytes }).copy(alloc)? {
-            Answer::Data { bytes } => assert_eq!(rt; bytes.slice(), b"hi".as_slice()),
-            _ => assert!(rt; false),
-        }
-        Ok(())
-    }
-
-    #[test]
-    fn a_state_is_copied(rt: HostRuntime) -> Result<(), Fail> {
-        let alloc = rt.alloc();
-        let input = Bytes::from_slice(alloc, b"hi")?;
-        let op = Op::Upper;
-        match (ThreadState::Working { op, input }).copy(alloc)? {
-            ThreadState::Working { input, .. } => assert_eq!(rt; input.slice(), b"hi".as_slice()),
-            _ => assert!(rt; false),
-        }
-        Ok(())
     }
 }

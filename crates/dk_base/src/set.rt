@@ -3,7 +3,7 @@ ghost use Rattle.std.specs.Prelude.{⊤, [], ◌∷◌, codes};
 use bitflags::{Flag, Flags, bitflag_items};
 
 /// The attributes of a door (door_create(3C), door_info(3C)).
-#[derive(Clone, Copy, PartialEq, Eq, Debug)]
+#[derive(Clone, Copy, PartialEq, Eq)]
 pub struct Attrs(pub u32);
 
 bitflag_items! {
@@ -42,7 +42,7 @@ impl Flags for Attrs {
 }
 
 /// The events that an association polls for (port_associate(3C), poll(2)).
-#[derive(Clone, Copy, PartialEq, Eq, Debug)]
+#[derive(Clone, Copy, PartialEq, Eq)]
 pub struct PollSet(pub u32);
 
 bitflag_items! {

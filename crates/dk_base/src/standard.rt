@@ -7,7 +7,7 @@ use crate::outside::{Sink, Source, count_on};
 use std::io::{Read, Write};
 
 /// A reader. What it will give is not told.
-#[derive(Drop, Debug)]
+#[derive(Drop)]
 pub struct StdSource<R> {
     reader: R,
     faults: u64,
@@ -38,7 +38,7 @@ impl<R: Read> Source for StdSource<R> {
 }
 
 /// A writer without a buffer of its own, since nothing flushes it. What it holds is not told.
-#[derive(Drop, Debug)]
+#[derive(Drop)]
 pub struct StdSink<W> {
     writer: W,
     faults: u64,
@@ -65,42 +65,5 @@ impl<W: Write> Sink for StdSink<W> {
                 Err(Failed)
             }
         }
-    }
-}
-
-#[cfg(test)]
-mod tests {
-    use super::*;
-    use std::test::Fail;
-
-    fn read_from<S: Source>(source: &mut S, buf: &mut [u8]) -> Result<usize, Failed> {
-        source.read(buf)
-    }
-
-    fn write_to<O: Sink>(sink: &mut O, piece: &[u8]) -> Result<usize, Failed> {
-        sink.write(piece)
-    }
-
-    #[test]
-    fn bytes_are_read(rt: HostRuntime) -> Result<(), Fail> {
-        let mut source = StdSource::new(b"door".as_slice());
-        let mut buf = [0; 3];
-        assert_eq!(rt; read_from(&mut source, &mut buf), Ok(3));
-        assert_eq!(rt; buf.as_slice(), b"doo".as_slice());
-        assert_eq!(rt; read_from(&mut source, &mut buf), Ok(1));
-        assert_eq!(rt; read_from(&mut source, &mut buf), Ok(0));
-        Ok(())
-    }
-
-    // A full slice takes nothing.
-    #[test]
-    fn a_write_that_takes_nothing_fails(rt: HostRuntime) -> Result<(), Fail> {
-        let mut room = [0; 2];
-        let mut sink = StdSink::new(room.as_mut_slice());
-        assert_eq!(rt; write_to(&mut sink, b"abc"), Ok(2));
-        assert_eq!(rt; write_to(&mut sink, b""), Ok(0));
-        assert_eq!(rt; write_to(&mut sink, b"c"), Err(Failed));
-        assert_eq!(rt; sink.faults, 1);
-        Ok(())
     }
 }

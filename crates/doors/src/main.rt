@@ -14,7 +14,7 @@ use std::sync::Wait;
 use std::thread::Threads;
 use std::{env, io};
 
-/// The words behind the program's name. Words that cannot be had for another cause than memory are no words.
+/// The words after the program's name. Words that cannot be had for another cause than memory are no words.
 fn words_given<R: Env + AllocGlobal>(rt: &R) -> Result<Vec<String>, NoMemory> {
     match env::args(rt) {
         Ok(words) => match words.skip(1).collect(rt.alloc()) {
@@ -52,7 +52,15 @@ where
     ))
 }
 
+/// One line on the error stream, for a status that has one. Where it cannot be written the status stays.
+fn report<R: Eprint>(rt: &R, status: Status) {
+    if let Some(message) = status.message() {
+        let _ = rt.eprintln(message);
+    }
+}
+
 fn main(rt: HostRuntime) -> ExitCode {
     let status = status_of(&rt).unwrap_or(Status::Memory);
+    report(&rt, status);
     ExitCode::from(status.code())
 }

@@ -1,23 +1,19 @@
 -- What `play` answers and writes, from the clauses of the calls that it makes.
 use Rattle.std.proofs.Common.{◌≡◌, ℕ, List, Option, Some, None, Result, Ok, Err, IfOk, refl, ap, ◌∙◌, subst}
-use Rattle.dk_base.specs.declared.number.Tid.{Tid}
-use Rattle.script_lang.specs.declared.bad.Bad.{Bad}
-use Rattle.script_lang.specs.Value.{ScriptValue}
-use Rattle.written_script.specs.Endings.{ending_of}
-use Rattle.written_script.specs.Plays.{IsWholePlay, IsRefusedPlay}
-use Rattle.written_script.specs.ScriptRuns.{History, Refusal, refusal, played, turns_before, threads_of}
-use Rattle.written_script.specs.TraceText.{text_of_history, refused_text}
-use Rattle.sys_run.specs.Schedules.{IsPlay, IsBefore, refused_at}
-use Rattle.sys_run.specs.Sys.{SysValue, history, LawsOf}
+use Rattle.written_kernel.specs.Types.{Tid}
+use Rattle.written_script.specs.Types.{Bad}
+use Rattle.script_lang.specs.Words.{ScriptValue}
+use Rattle.written_script.specs.Words.{History, IsRefusedPlay, IsWholePlay, Refusal, ending_of, refusal, refused_text, text_of_history, threads_of_events, turns_before, turns_of_play}
+use Rattle.sys_run.specs.Words.{IsBefore, IsPlay, LawsOf, SysValue, history, refusal_at}
 use Rattle.doors_top.specs.declared.reading.ReadText.{ReadText}
-use Rattle.doors_top.specs.Outcomes.{script_of, outcome_of_turns}
+use Rattle.doors_top.specs.Outcomes.{script_of_input, outcome_of_turns}
 use Rattle.doors_top.specs.Status.{status_of_ending}
 use Rattle.doors_top.specs.Top.{TurnsOfScript, TurnsOfPlay, LawsOfScript, LawsOfTurns}
 
-laws_of_turns : (script : ScriptValue) (q : SysValue) (ts : List ℕ) → q.script ≡ script → threads_of q.journal ≡ ts → LawsOf q → LawsOfTurns script ts
+laws_of_turns : (script : ScriptValue) (q : SysValue) (ts : List ℕ) → q.script ≡ script → threads_of_events q.journal ≡ ts → LawsOf q → LawsOfTurns script ts
 laws_of_turns script q ts hs ht h =
     subst (λ (us : List ℕ). LawsOfTurns script us) ht
-    (subst (λ (s : ScriptValue). LawsOfTurns s (threads_of q.journal)) hs h)
+    (subst (λ (s : ScriptValue). LawsOfTurns s (threads_of_events q.journal)) hs h)
 
 -- the turns of the schedule were taken, and then those that were left
 
@@ -33,12 +29,12 @@ play_text script q is =
     rw is.not_refused (ap (λ (s : ScriptValue). text_of_history s (history q)) is.same_script ∙ ap (text_of_history script) is.same_run)
 
 pub play_laws : (script : ScriptValue) (q : SysValue) → IsPlay script q → LawsOf q → LawsOfScript script (refusal script)
-play_laws script q is h = rw is.not_refused (laws_of_turns script q (played script) is.same_script is.same_turns h)
+play_laws script q is h = rw is.not_refused (laws_of_turns script q (turns_of_play script) is.same_script is.same_turns h)
 
 -- a turn of the schedule is refused
 
 pub before_text :
-    (script : ScriptValue) (turn : ℕ) (thread : Tid) (q : SysValue) → IsBefore script (refused_at turn thread.0) q →
+    (script : ScriptValue) (turn : ℕ) (thread : Tid) (q : SysValue) → IsBefore script (refusal_at turn thread.0) q →
     refused_text q.script (history q).events turn thread ≡ (outcome_of_turns script (refusal script)).text
 before_text script turn thread q is =
     rw is.refusal
@@ -52,19 +48,19 @@ before_laws script refused q is h =
 -- the turns that are played
 
 turns_by :
-    (script : ScriptValue) (o : Option Refusal) → (refusal script ≡ None → IsWholePlay script (played script)) →
+    (script : ScriptValue) (o : Option Refusal) → (refusal script ≡ None → IsWholePlay script (turns_of_play script)) →
     ((refused : Refusal) → refusal script ≡ Some refused → IsRefusedPlay script refused) → refusal script ≡ o → TurnsOfScript script o
 turns_by script None whole refused e = whole e
 turns_by script (Some r) whole refused e = refused r e
 
 turns_of : (found : Result ScriptValue Bad) →
-    ((script : ScriptValue) → refusal script ≡ None → IsWholePlay script (played script)) →
+    ((script : ScriptValue) → refusal script ≡ None → IsWholePlay script (turns_of_play script)) →
     ((script : ScriptValue) (refused : Refusal) → refusal script ≡ Some refused → IsRefusedPlay script refused) →
     IfOk found (λ script. TurnsOfScript script (refusal script))
 turns_of (Ok script) whole refused = turns_by script (refusal script) (whole script) (refused script) refl
 turns_of (Err bad) whole refused = tt
 
 pub play_turns :
-    (read : ReadText) → ((script : ScriptValue) → refusal script ≡ None → IsWholePlay script (played script)) →
+    (read : ReadText) → ((script : ScriptValue) → refusal script ≡ None → IsWholePlay script (turns_of_play script)) →
     ((script : ScriptValue) (refused : Refusal) → refusal script ≡ Some refused → IsRefusedPlay script refused) → TurnsOfPlay read
-play_turns read whole refused = turns_of (script_of read) whole refused
+play_turns read whole refused = turns_of (script_of_input read) whole refused

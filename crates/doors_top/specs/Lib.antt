@@ -1,5 +1,5 @@
 pub mod Outcomes
-pub mod Reading
+pub mod Input
 pub mod Status
 pub mod Top
-pub mod Writing
+pub mod Output

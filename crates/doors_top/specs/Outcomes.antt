@@ -1,22 +1,16 @@
 -- What each command answers and writes, as a function of its words and of what was read.
 use Rattle.std.specs.Prelude.{ℕ, List, [], ◌∷◌, ◌||◌, Option, Some, None, Result, Ok, Err, Bool, false, bytes_eq, codes, map, if◌then◌else◌}
 use Rattle.std.specs.Borrow.{Bor}
-use Rattle.dk_base.specs.declared.number.Tid.{Tid}
+use Rattle.written_kernel.specs.Types.{Tid}
 use Rattle.doors_top.specs.declared.status.Status.{Status}
 use Rattle.doors_top.specs.declared.status.Status.TheVariants as status
 use Rattle.doors_top.specs.declared.reading.ReadText.{ReadText}
 use Rattle.doors_top.specs.declared.reading.ReadText.TheVariants.{Whole, TooLong}
 use Rattle.doors_top.specs.Status.{status_of_ending}
 use Rattle.script_line.specs.declared.reason.Reason.TheVariants.{Size}
-use Rattle.script_lang.specs.declared.bad.Bad.{Bad}
-use Rattle.script_lang.specs.BadText.{bad_text}
-use Rattle.script_lang.specs.Canonical.{canonical}
-use Rattle.script_lang.specs.Reading.{reading, bad_line}
-use Rattle.script_lang.specs.Value.{ScriptValue}
-use Rattle.written_script.specs.ScriptRuns.{History, Refusal, run, played, refusal, turns_before}
-use Rattle.written_script.specs.Endings.{ending_of}
-use Rattle.written_script.specs.Later.{later}
-use Rattle.written_script.specs.TraceText.{text_of_history, refused_text}
+use Rattle.written_script.specs.Types.{Bad}
+use Rattle.script_lang.specs.Words.{ScriptValue, bad_line, bad_text, canonical_text, parse_result}
+use Rattle.written_script.specs.Words.{History, Refusal, ending_of, has_later_parts, refusal, refused_text, run, text_of_history, turns_before, turns_of_play}
 
 -- the words of the command line
 
@@ -54,43 +48,43 @@ abbrev pub usage : Outcome
 usage = record { status = status.Usage; text = codes "usage: doors play|run|show|check|load N\n" }
 
 -- the script that was read, or what is bad: more bytes than a script may have are bad as a whole
-abbrev pub script_of : ReadText → Result ScriptValue Bad
-script_of (Whole bytes) = reading bytes
-script_of TooLong = Err (bad_line 0 Size)
+abbrev pub script_of_input : ReadText → Result ScriptValue Bad
+script_of_input (Whole bytes) = parse_result bytes
+script_of_input TooLong = Err (bad_line 0 Size)
 
 abbrev pub outcome_of_bad : Bad → Outcome
 outcome_of_bad bad = record { status = status.Script; text = bad_text bad }
 
 -- the script needs a capability that is not built
-abbrev pub not_built : Outcome
-not_built = record { status = status.Script; text = codes "bad line 0 later\n" }
+abbrev pub outcome_of_later : Outcome
+outcome_of_later = record { status = status.Script; text = codes "bad line 0 later\n" }
 
 -- the run that `play` makes of a script whose schedule is not refused
-abbrev pub played_run : ScriptValue → History
-played_run script = run script (played script)
+abbrev pub run_of_play : ScriptValue → History
+run_of_play script = run script (turns_of_play script)
 
 -- the run of the turns before a refused one
 abbrev pub run_before : ScriptValue → Refusal → History
 run_before script refused = run script (turns_before script refused)
 
-abbrev pub thread_refused : Refusal → Tid
-thread_refused refused = record { 0 = refused.thread }
+abbrev pub refused_thread : Refusal → Tid
+refused_thread refused = record { 0 = refused.thread }
 
 -- the schedule is refused at a turn, or its turns are taken and then the least runnable thread's
 abbrev pub outcome_of_turns : ScriptValue → Option Refusal → Outcome
 outcome_of_turns script None =
     record {
-      status = status_of_ending (ending_of (played_run script).state);
-      text = text_of_history script (played_run script);
+      status = status_of_ending (ending_of (run_of_play script).state);
+      text = text_of_history script (run_of_play script);
     }
 outcome_of_turns script (Some refused) =
     record {
       status = status.Turn;
-      text = refused_text script (run_before script refused).events refused.turn (thread_refused refused);
+      text = refused_text script (run_before script refused).events refused.turn (refused_thread refused);
     }
 
 abbrev pub outcome_of_script : ScriptValue → Outcome
-outcome_of_script script = if later script then not_built else outcome_of_turns script (refusal script)
+outcome_of_script script = if has_later_parts script then outcome_of_later else outcome_of_turns script (refusal script)
 
 abbrev pub outcome_of_played : Result ScriptValue Bad → Outcome
 outcome_of_played (Ok script) = outcome_of_script script
@@ -98,12 +92,12 @@ outcome_of_played (Err bad) = outcome_of_bad bad
 
 -- what `play` makes of what was read: the text of the run of the script, or its first bad line
 abbrev pub outcome_of_play : ReadText → Outcome
-outcome_of_play read = outcome_of_played (script_of read)
+outcome_of_play read = outcome_of_played (script_of_input read)
 
 abbrev pub outcome_of_shown : Result ScriptValue Bad → Outcome
-outcome_of_shown (Ok script) = record { status = status.Complete; text = canonical script }
+outcome_of_shown (Ok script) = record { status = status.Complete; text = canonical_text script }
 outcome_of_shown (Err bad) = outcome_of_bad bad
 
 -- what `show` makes of what was read: the canonical text of the script, or its first bad line
 abbrev pub outcome_of_show : ReadText → Outcome
-outcome_of_show read = outcome_of_shown (script_of read)
+outcome_of_show read = outcome_of_shown (script_of_input read)

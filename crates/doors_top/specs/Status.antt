@@ -1,5 +1,5 @@
--- Exit statuses.
-use Rattle.std.specs.Prelude.{ℕ}
+-- Exit statuses, and what is said of them on the error stream.
+use Rattle.std.specs.Prelude.{ℕ, List, Option, Some, None, codes}
 use Rattle.doors_top.specs.declared.status.Status.{Status}
 use Rattle.doors_top.specs.declared.status.Status.TheVariants.{Complete, Stalled, Script, Usage, Budget, Memory, ReadFault, WriteFault, Turn, Illegal}
 use Rattle.written_script.specs.declared.ending.Ending.{Ending}
@@ -16,6 +16,13 @@ status_code ReadFault = 6
 status_code WriteFault = 7
 status_code Turn = 8
 status_code Illegal = 9
+
+abbrev pub status_message : Status → Option (List ℕ)
+status_message Usage = Some (codes "doors: give one word, play or show, and a script as the input; read on in README.md (run, check and load are not built yet)")
+status_message Memory = Some (codes "doors: out of memory")
+status_message ReadFault = Some (codes "doors: the standard input could not be read")
+status_message WriteFault = Some (codes "doors: the standard output could not be written")
+status_message status = None
 
 abbrev pub status_of_ending : Ending → Status
 status_of_ending ending.Complete = Complete

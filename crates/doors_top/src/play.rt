@@ -1,29 +1,25 @@
 //! What `play` answers and writes for what was read.
 ghost use Rattle.std.specs.Prelude.{◌≡◌, false, IfOk, []};
-ghost use Rattle.written_script.specs.Later.{later as later_of};
-ghost use Rattle.written_script.specs.ScriptRuns.{refusal};
-ghost use Rattle.sys_run.specs.Sys.{history};
-ghost use Rattle.written_script.specs.Endings.{ending_of};
-ghost use Rattle.written_script.specs.TraceText.{text_of_history, refused_text};
+ghost use Rattle.written_script.specs.Words.{ending_of, has_later_parts as later_of, refusal, refused_text, text_of_history};
+ghost use Rattle.sys_run.specs.Words.{history};
 ghost use Rattle.doors_top.specs.Outcomes.{outcome_of_play, outcome_of_script, outcome_of_turns};
-ghost use Rattle.doors_top.specs.Reading.{IsWithin};
+ghost use Rattle.doors_top.specs.Input.{IsWithinLimit};
 ghost use Rattle.doors_top.specs.Status.{status_of_ending};
-ghost use Rattle.doors_top.specs.Top.{IsAnswer, LawsOfPlay, LawsOfScript, SpelledOf, TurnsOfPlay, script_limit};
+ghost use Rattle.doors_top.specs.Top.{IsAnswer, LawsOfPlay, LawsOfScript, IsDecidedText, TurnsOfPlay, script_limit};
 
 use crate::reading::ReadText;
-use crate::reply::{Reply, fixed, refused};
+use crate::reply::{Reply, fixed_reply, reply_for_bad};
 use crate::script_in::script_in;
 use crate::status::Status;
 use dk_base::error::NoMemory;
 use dk_base::number::Tid;
 use script_lang::script::Script;
 use std::alloc::Global;
-use sys_run::plays::{refused_plays, whole_plays};
+use sys_run::laws;
 use sys_run::sys::{Played, Sys};
 use thread_machine::later::later;
 use trace_text::{text_before_refused, text_of_run};
 use written_script::ending::Ending;
-use written_script::runs::played_turns;
 
 fn status_of(ending: Ending) -> Status
     ensures value { result ≡ status_of_ending ending }
@@ -37,7 +33,7 @@ fn status_of(ending: Ending) -> Status
 }
 
 /// The text of a run that ends after its last turn.
-fn ended(alloc: Global, sys: &Sys) -> Result<Reply, NoMemory>
+fn reply_at_end(alloc: Global, sys: &Sys) -> Result<Reply, NoMemory>
     ensures status { IfOk result (λ reply. reply.status ≡ status_of_ending (ending_of (history sys.now).state)) }
     ensures text { IfOk result (λ reply. reply.text ≡ text_of_history sys.now.script (history sys.now)) }
     ensures answer { IfOk result (λ reply. IsAnswer reply.status) }
@@ -52,7 +48,7 @@ fn ended(alloc: Global, sys: &Sys) -> Result<Reply, NoMemory>
 }
 
 /// The text of a run whose next turn is refused.
-fn refused_turn(alloc: Global, sys: &Sys, turn: u32, thread: Tid) -> Result<Reply, NoMemory>
+fn reply_for_refusal(alloc: Global, sys: &Sys, turn: u32, thread: Tid) -> Result<Reply, NoMemory>
     ensures status { IfOk result (λ reply. reply.status ≡ Status.Turn) }
     ensures text { IfOk result (λ reply. reply.text ≡ refused_text sys.now.script (history sys.now).events turn thread) }
 {
@@ -71,16 +67,16 @@ fn play_turns(alloc: Global, sys: &mut Sys) -> Result<Reply, NoMemory>
     ensures answer { IfOk result (λ reply. IsAnswer reply.status) }
     ensures laws { IfOk result (λ _. LawsOfScript sys.old.script (refusal sys.old.script)) }
 {
-    whole_plays();
-    refused_plays();
+    laws::whole_plays();
+    laws::refused_plays();
     match sys.play_schedule()? {
         Played::Over => {
             sys.finish()?;
-            let reply = ended(alloc, sys)?;
+            let reply = reply_at_end(alloc, sys)?;
             Ok(reply)
         }
         Played::Refused { turn, thread } => {
-            let reply = refused_turn(alloc, sys, turn, thread)?;
+            let reply = reply_for_refusal(alloc, sys, turn, thread)?;
             Ok(reply)
         }
     }
@@ -106,7 +102,7 @@ fn play_or_later(alloc: Global, script: Script) -> Result<Reply, NoMemory>
     ensures laws { IfOk result (λ _. later_of script ≡ false → LawsOfScript script (refusal script)) }
 {
     if later(&script) {
-        fixed(alloc, Status::Script, b"bad line 0 later\n")
+        fixed_reply(alloc, Status::Script, b"bad line 0 later\n")
     } else {
         play_script(alloc, script)
     }
@@ -114,17 +110,17 @@ fn play_or_later(alloc: Global, script: Script) -> Result<Reply, NoMemory>
 
 /// What `play` answers and writes.
 pub fn play(alloc: Global, read: &ReadText) -> Result<Reply, NoMemory>
-    requires { IsWithin script_limit read.now }
+    requires { IsWithinLimit script_limit read.now }
     ensures status { IfOk result (λ reply. reply.status ≡ (outcome_of_play read.now).status) }
     ensures text { IfOk result (λ reply. reply.text ≡ (outcome_of_play read.now).text) }
     ensures answer { IfOk result (λ reply. IsAnswer reply.status) }
-    ensures spelled { IfOk result (λ _. SpelledOf read.now) }
+    ensures spelled { IfOk result (λ _. IsDecidedText read.now) }
     ensures turns { TurnsOfPlay read.now }
     ensures laws { IfOk result (λ _. LawsOfPlay read.now) }
 {
-    played_turns();
+    written_script::laws::played_turns();
     match script_in(alloc, read)? {
         Ok(script) => play_or_later(alloc, script),
-        Err(bad) => refused(alloc, bad),
+        Err(bad) => reply_for_bad(alloc, bad),
     }
 }

@@ -1,7 +1,7 @@
 //! Reading all that a source has, up to a limit.
 ghost use Rattle.std.specs.Prelude.{◌≡◌, ◌≤◌, ◌++◌, IfSome, IfOk, OnOk, OnErr, IsErrOf};
-ghost use Rattle.dk_base.specs.Outside.{Rose};
-ghost use Rattle.doors_top.specs.Reading.{text_of, IsWithin, LeavesNone, LeavesRest};
+ghost use Rattle.dk_base.specs.Words.{Rose};
+ghost use Rattle.doors_top.specs.Input.{text_within_limit, IsWithinLimit, LeavesNone, LeavesRest};
 
 use dk_base::error::{Failed, NoMemory};
 use dk_base::list::Bytes;
@@ -12,7 +12,7 @@ use thiserror::Error;
 const CHUNK: usize = 4096;
 
 /// What was read.
-#[derive(Drop, Debug)]
+#[derive(Drop)]
 pub enum ReadText {
     /// All bytes up to the end of the input.
     Whole(Bytes),
@@ -64,8 +64,8 @@ pub fn read_all<S: Source>(
     source: &mut S,
     limit: usize,
 ) -> Result<ReadText, ReadingFault>
-    ensures text { IfSome (S.left source.old) (λ bytes. IfOk result (λ text. text ≡ text_of bytes limit)) }
-    ensures within { IfOk result (IsWithin limit) }
+    ensures text { IfSome (S.left source.old) (λ bytes. IfOk result (λ text. text ≡ text_within_limit bytes limit)) }
+    ensures within { IfOk result (IsWithinLimit limit) }
     ensures ended { IfSome (S.left source.old) (λ _. IfOk result (λ text. LeavesNone text (S.left source.new))) }
     ensures rest { LeavesRest (S.left source.old) (S.left source.new) }
     ensures steady { S.faults source.old ≤ S.faults source.new }
@@ -81,36 +81,4 @@ pub fn read_all<S: Source>(
         append(&mut bytes, &chunk[..count])?;
     }
     Ok(ReadText::TooLong)
-}
-
-#[cfg(test)]
-mod tests {
-    use super::*;
-    use dk_base::list::CallList;
-    use dk_base::memory::MemSource;
-    use std::test::Fail;
-
-    #[test]
-    fn short_reads_are_joined(rt: HostRuntime) -> Result<(), Fail> {
-        let alloc = rt.alloc();
-        let bytes = Bytes::from_slice(alloc, b"thread")?;
-        let mut source = MemSource::in_pieces(bytes, 4, CallList::new(alloc));
-        match read_all(alloc, &mut source, 6)? {
-            ReadText::Whole(text) => assert_eq!(rt; text.slice(), b"thread".as_slice()),
-            ReadText::TooLong => assert!(rt; false),
-        }
-        Ok(())
-    }
-
-    #[test]
-    fn a_read_fails_in_mid_stream(rt: HostRuntime) -> Result<(), Fail> {
-        let alloc = rt.alloc();
-        let bytes = Bytes::from_slice(alloc, b"thread")?;
-        let fail = CallList::from_slice(alloc, &[2])?;
-        let mut source = MemSource::in_pieces(bytes, 4, fail);
-        let answer = read_all(alloc, &mut source, 6);
-        assert!(rt; matches!(answer, Err(ReadingFault::Failed)));
-        assert_eq!(rt; source.left(), 2);
-        Ok(())
-    }
 }

@@ -17,7 +17,7 @@ pub struct Reply {
 }
 
 /// A reply of a line that is given.
-pub fn fixed(alloc: Global, status: Status, line: &[u8]) -> Result<Reply, NoMemory>
+pub fn fixed_reply(alloc: Global, status: Status, line: &[u8]) -> Result<Reply, NoMemory>
     ensures status { IfOk result (λ reply. reply.status ≡ status) }
     ensures text { IfOk result (λ reply. reply.text ≡ line.now) }
 {
@@ -26,7 +26,7 @@ pub fn fixed(alloc: Global, status: Status, line: &[u8]) -> Result<Reply, NoMemo
 }
 
 /// The reply for a text that spells no script.
-pub fn refused(alloc: Global, bad: Bad) -> Result<Reply, NoMemory>
+pub fn reply_for_bad(alloc: Global, bad: Bad) -> Result<Reply, NoMemory>
     ensures status { IfOk result (λ reply. reply.status ≡ Status.Script) }
     ensures text { IfOk result (λ reply. reply.text ≡ (outcome_of_bad bad).text) }
 {

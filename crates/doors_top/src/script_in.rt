@@ -1,13 +1,13 @@
 //! The script of a text that was read.
 ghost use Rattle.std.specs.Prelude.{◌≡◌, IfOk};
-ghost use Rattle.doors_top.specs.Outcomes.{script_of};
-ghost use Rattle.doors_top.specs.Reading.{IsWithin};
-ghost use Rattle.doors_top.specs.Top.{SpelledOf, script_limit};
+ghost use Rattle.doors_top.specs.Outcomes.{script_of_input};
+ghost use Rattle.doors_top.specs.Input.{IsWithinLimit};
+ghost use Rattle.doors_top.specs.Top.{IsDecidedText, script_limit};
 
 use crate::reading::ReadText;
 use dk_base::error::NoMemory;
 use script_lang::bad::{Bad, ParseFault};
-use script_lang::laws::texts_decided;
+use script_lang::laws;
 use script_lang::parse::parse;
 use script_lang::script::Script;
 use script_line::reason::Reason;
@@ -15,11 +15,11 @@ use std::alloc::Global;
 
 /// The script that was read, or what is bad: its first bad line, or line 0 where more bytes were read than a script may have.
 pub fn script_in(alloc: Global, read: &ReadText) -> Result<Result<Script, Bad>, NoMemory>
-    requires { IsWithin script_limit read.now }
-    ensures script { IfOk result (λ script. script ≡ script_of read.now) }
-    ensures spelled { SpelledOf read.now }
+    requires { IsWithinLimit script_limit read.now }
+    ensures script { IfOk result (λ script. script ≡ script_of_input read.now) }
+    ensures spelled { IsDecidedText read.now }
 {
-    texts_decided();
+    laws::text_is_decided();
     match read {
         ReadText::Whole(bytes) => match parse(alloc, bytes.slice()) {
             Ok(script) => Ok(Ok(script)),

@@ -1,11 +1,11 @@
 //! What `show` answers and writes for what was read.
 ghost use Rattle.std.specs.Prelude.{◌≡◌, IfOk};
 ghost use Rattle.doors_top.specs.Outcomes.{outcome_of_show};
-ghost use Rattle.doors_top.specs.Top.{IsAnswer, SpelledOf, script_limit};
-ghost use Rattle.doors_top.specs.Reading.{IsWithin};
+ghost use Rattle.doors_top.specs.Top.{IsAnswer, IsDecidedText, script_limit};
+ghost use Rattle.doors_top.specs.Input.{IsWithinLimit};
 
 use crate::reading::ReadText;
-use crate::reply::{Reply, refused};
+use crate::reply::{Reply, reply_for_bad};
 use crate::script_in::script_in;
 use crate::status::Status;
 use dk_base::error::NoMemory;
@@ -14,17 +14,17 @@ use std::alloc::Global;
 
 /// What `show` answers and writes.
 pub fn show(alloc: Global, read: &ReadText) -> Result<Reply, NoMemory>
-    requires { IsWithin script_limit read.now }
+    requires { IsWithinLimit script_limit read.now }
     ensures status { IfOk result (λ reply. reply.status ≡ (outcome_of_show read.now).status) }
     ensures text { IfOk result (λ reply. reply.text ≡ (outcome_of_show read.now).text) }
     ensures answer { IfOk result (λ reply. IsAnswer reply.status) }
-    ensures spelled { IfOk result (λ _. SpelledOf read.now) }
+    ensures spelled { IfOk result (λ _. IsDecidedText read.now) }
 {
     match script_in(alloc, read)? {
         Ok(script) => Ok(Reply {
             status: Status::Complete,
             text: print(alloc, &script)?,
         }),
-        Err(bad) => refused(alloc, bad),
+        Err(bad) => reply_for_bad(alloc, bad),
     }
 }

@@ -1,5 +1,6 @@
 ghost use Rattle.std.specs.Prelude.{◌≡◌};
-ghost use Rattle.doors_top.specs.Status.{status_code};
+ghost use Rattle.std.specs.Option.{option_copied};
+ghost use Rattle.doors_top.specs.Status.{status_code, status_message};
 
 /// How a command ended.
 #[derive(Clone, Copy, Debug, PartialEq, Eq)]
@@ -42,6 +43,26 @@ impl Status {
             Status::WriteFault => 7,
             Status::Turn => 8,
             Status::Illegal => 9,
+        }
+    }
+
+    /// What is said of it on the error stream: one line for a status of which the output tells nothing or not enough.
+    pub fn message(self) -> Option<&'static str>
+        ensures { option_copied result ≡ status_message self }
+    {
+        match self {
+            Status::Usage => Some(
+                "doors: give one word, play or show, and a script as the input; read on in README.md (run, check and load are not built yet)",
+            ),
+            Status::Memory => Some("doors: out of memory"),
+            Status::ReadFault => Some("doors: the standard input could not be read"),
+            Status::WriteFault => Some("doors: the standard output could not be written"),
+            Status::Complete
+            | Status::Stalled
+            | Status::Script
+            | Status::Budget
+            | Status::Turn
+            | Status::Illegal => None,
         }
     }
 }

@@ -1,15 +1,15 @@
 //! The top call.
 ghost use Rattle.std.specs.Prelude.{◌≡◌, ◌≢◌, true, false};
 ghost use Rattle.std.specs.Io.KnownBytes.{Appends};
-ghost use Rattle.dk_base.specs.Outside.{Rose};
+ghost use Rattle.dk_base.specs.Words.{Rose};
 ghost use Rattle.doors_top.specs.Outcomes.{texts, is_play, is_show, is_command, is_run, usage};
-ghost use Rattle.doors_top.specs.Reading.{LeavesRest};
+ghost use Rattle.doors_top.specs.Input.{LeavesRest};
 ghost use Rattle.doors_top.specs.Top.{IsAnswer, Plays, PlaysFront, Shows, ShowsFront};
-ghost use Rattle.doors_top.specs.Writing.{AppendsFront};
+ghost use Rattle.doors_top.specs.Output.{AppendsFront};
 
 use crate::play::play;
 use crate::reading::{ReadingFault, read_all};
-use crate::reply::{Reply, fixed};
+use crate::reply::{Reply, fixed_reply};
 use crate::show::show;
 use crate::status::Status;
 use crate::writing::write_all;
@@ -72,7 +72,7 @@ fn write_usage<O: Sink>(alloc: Global, out: &mut O) -> Status
     ensures no_read_fault { result ≢ Status.ReadFault }
     ensures want { result ≡ Status.Memory → out.new ≡ out.old }
 {
-    match fixed(alloc, Status::Usage, USAGE) {
+    match fixed_reply(alloc, Status::Usage, USAGE) {
         Ok(reply) => write_reply(out, &reply),
         Err(_) => Status::Memory,
     }
@@ -177,6 +177,3 @@ pub fn doors_main<R: Threads + Wait + Sync, S: Source, O: Sink, G: Gate + Sync>(
         plain_main(alloc, words, src, out)
     }
 }
-
-#[cfg(test)]
-mod tests;

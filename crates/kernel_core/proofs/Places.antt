@@ -4,14 +4,12 @@ use Rattle.std.specs.List.{position_or_len}
 use Rattle.std.proofs.lemmas.Option.{slice_get-get_or}
 use Rattle.std.proofs.lemmas.Bool.Decides.{nat_tests}
 use Rattle.std.proofs.lemmas.List.Quantifiers.{position-Some}
-use Rattle.dk_base.specs.declared.number.Tid.{Tid}
-use Rattle.dk_base.specs.declared.record.Call.{Call}
-use Rattle.written_kernel.specs.Numbered.{numbered}
-use Rattle.written_kernel.specs.State.{State, call_of, at_stage, is_call, replaced}
-use Rattle.written_kernel.specs.Settle.{give_call}
+use Rattle.written_kernel.specs.Types.{Call, Tid}
+use Rattle.dk_base.specs.ByNumber.{at_number}
+use Rattle.written_kernel.specs.Words.{State, at_stage, call_of, give_call, is_call, with_live_call}
 use Rattle.dk_base.specs.declared.record.CallStage.TheVariants.{Given}
 
-pub numbered_here : {X : Type 0} (xs : List X) (n : ℕ) (d : X) → 0 < n → n - 1 < length xs → numbered xs n ≡ Some (get_or xs (n - 1) d)
+pub numbered_here : {X : Type 0} (xs : List X) (n : ℕ) (d : X) → 0 < n → n - 1 < length xs → at_number xs n ≡ Some (get_or xs (n - 1) d)
 numbered_here xs n d p h = let e = slice_get-get_or xs (n - 1) d h in grind (arith, nat_tests)
 
 position_is : {X : Type 0} (p : X → Bool) (xs : List X) (i : ℕ) → position p xs ≡ Some i → i ≡ position_or_len p xs
@@ -41,13 +39,13 @@ find_nowhere rs c h = find_none (is_call c) rs (none_there (is_call c) rs h)
 pub number_at : (rs : List Call) (c i : ℕ) (d : Call) → position (is_call c) rs ≡ Some i → (get_or rs i d).number ≡ c
 number_at rs c i d h = let w = position-Some (is_call c) rs i d h in grind (arith, nat_tests)
 
-replaced_first : (c : ℕ) (x : Call) (rs : List Call) → position_or_len (is_call c) rs < length rs → replaced rs c x ≡ set rs (position_or_len (is_call c) rs) x
+replaced_first : (c : ℕ) (x : Call) (rs : List Call) → position_or_len (is_call c) rs < length rs → with_live_call rs c x ≡ set rs (position_or_len (is_call c) rs) x
 replaced_first c x [] h = absurd (omega arith)
 replaced_first c x (r ∷ rs) h =
-    elim (is_call c r) as (λ b. cond (not b) (1 + position_or_len (is_call c) rs) 0 < suc (length rs) → cond b (x ∷ rs) (r ∷ replaced rs c x) ≡ set (r ∷ rs) (cond (not b) (1 + position_or_len (is_call c) rs) 0) x)
+    elim (is_call c r) as (λ b. cond (not b) (1 + position_or_len (is_call c) rs) 0 < suc (length rs) → cond b (x ∷ rs) (r ∷ with_live_call rs c x) ≡ set (r ∷ rs) (cond (not b) (1 + position_or_len (is_call c) rs) 0) x)
     [ true ↦ λ _. refl | false ↦ λ k. let e : 1 + position_or_len (is_call c) rs ≡ suc (position_or_len (is_call c) rs) = omega arith in rw e (ap (λ zs. r ∷ zs) (replaced_first c x rs (omega arith))) ] h
 
-pub replaced_at : (rs : List Call) (c i : ℕ) (x d : Call) → position (is_call c) rs ≡ Some i → replaced rs c x ≡ set rs i x
+pub replaced_at : (rs : List Call) (c i : ℕ) (x d : Call) → position (is_call c) rs ≡ Some i → with_live_call rs c x ≡ set rs i x
 replaced_at rs c i x d h = let e = position_is (is_call c) rs i h in let w = position-Some (is_call c) rs i d h in grind (arith, replaced_first c x rs)
 
 -- what is written at the place of a live call gives it
@@ -56,4 +54,4 @@ given_at m n e c i u old new h read is =
     let r = get_or m.calls i old in
     let x = at_stage r (Given u) in
     let same : new ≡ x = is ∙ ap (λ d. at_stage d (Given u)) read in
-    rw (← e) (rw (find_at m.calls c i old h) (ap (λ z. record m { calls = set m.calls i z }) same ∙ sym (ap (λ xs. record m { calls = xs }) (ap (λ n. replaced m.calls n x) (number_at m.calls c i old h) ∙ replaced_at m.calls c i x old h))))
+    rw (← e) (rw (find_at m.calls c i old h) (ap (λ z. record m { calls = set m.calls i z }) same ∙ sym (ap (λ xs. record m { calls = xs }) (ap (λ n. with_live_call m.calls n x) (number_at m.calls c i old h) ∙ replaced_at m.calls c i x old h))))

@@ -4,42 +4,39 @@ use Rattle.std.proofs.lemmas.List.{get_or_append_left}
 use Rattle.std.proofs.lemmas.Bool.{cases_lt}
 use Rattle.std.proofs.lemmas.Grind.{common_steps}
 use Rattle.std.proofs.Math.Seq.{get_or-append_seam}
-use Rattle.dk_base.specs.declared.number.Tid.{Tid}
-use Rattle.written_kernel.specs.State.{State, tid}
-use Rattle.written_kernel.specs.Turns.{runnable, woken_among}
-use Rattle.written_kernel.specs.Walks.{caller_of, walk, root}
-use Rattle.written_kernel.specs.Kept.{StandsFor}
-use Rattle.written_kernel.proofs.Forget.{runnable-forget, root-forget}
+use Rattle.written_kernel.specs.Types.{Tid}
+use Rattle.written_kernel.specs.Words.{StandsFor, State, caller_of, is_runnable, root, tid, walk, woken_among}
+use Rattle.written_kernel.proofs.Forget.{is_runnable-forget, root-forget}
 use Rattle.kernel_core.specs.Woken.{runnables}
 
-pub runnable_stands : (kept m : State) (t : ℕ) → StandsFor kept m → runnable kept t ≡ runnable m t
-runnable_stands kept m t e = ap (λ k. runnable k t) e ∙ runnable-forget m t
+pub runnable_stands : (kept m : State) (t : ℕ) → StandsFor kept m → is_runnable kept t ≡ is_runnable m t
+runnable_stands kept m t e = ap (λ k. is_runnable k t) e ∙ is_runnable-forget m t
 
 pub root_stands : (kept m : State) (t : ℕ) → StandsFor kept m → root kept t ≡ root m t
 root_stands kept m t e = ap (λ k. root k t) e ∙ root-forget m t
 
 pub length_runnables : (m : State) (n : ℕ) → length (runnables m n) ≡ n
 length_runnables m zero = refl
-length_runnables m (suc n) = omega (arith, length-append (runnables m n) (runnable m (suc n) ∷ []), length_runnables m n)
+length_runnables m (suc n) = omega (arith, length-append (runnables m n) (is_runnable m (suc n) ∷ []), length_runnables m n)
 
-pub runnables_at : (m : State) (n i : ℕ) (d : Bool) → i < n → get_or (runnables m n) i d ≡ runnable m (i + 1)
+pub runnables_at : (m : State) (n i : ℕ) (d : Bool) → i < n → get_or (runnables m n) i d ≡ is_runnable m (i + 1)
 runnables_at m zero i d h = absurd (omega arith)
 runnables_at m (suc n) i d h =
     elim (cases_lt i n) [
-      | inl k ↦ get_or_append_left (runnables m n) (runnable m (suc n) ∷ []) d i (omega (arith, length_runnables m n)) ∙ runnables_at m n i d k
-      | inr k ↦ let e : i ≡ n = omega arith in rw (e, add-one) (ap (λ j. get_or (runnables m n ++ runnable m (suc n) ∷ []) j d) (sym (length_runnables m n)) ∙ get_or-append_seam (runnables m n) (runnable m (suc n)) [] d)
+      | inl k ↦ get_or_append_left (runnables m n) (is_runnable m (suc n) ∷ []) d i (omega (arith, length_runnables m n)) ∙ runnables_at m n i d k
+      | inr k ↦ let e : i ≡ n = omega arith in rw (e, add-one) (ap (λ j. get_or (runnables m n ++ is_runnable m (suc n) ∷ []) j d) (sym (length_runnables m n)) ∙ get_or-append_seam (runnables m n) (is_runnable m (suc n)) [] d)
     ]
 
 -- the list of those that an event woke, at a thread that it woke and at another
 pub woken_one :
-    (before after : State) (i : ℕ) (was : Bool) (xs : List Tid) → was ≡ runnable before (i + 1) →
-    (not was && runnable after (i + 1)) ≡ true → xs ≡ woken_among before after i →
+    (before after : State) (i : ℕ) (was : Bool) (xs : List Tid) → was ≡ is_runnable before (i + 1) →
+    (not was && is_runnable after (i + 1)) ≡ true → xs ≡ woken_among before after i →
     xs ++ tid (i + 1) ∷ [] ≡ woken_among before after (i + 1)
 woken_one before after i was xs e f h = let k : i + 1 ≡ suc i = omega arith in grind arith
 
 pub woken_none :
-    (before after : State) (i : ℕ) (was : Bool) (xs : List Tid) → was ≡ runnable before (i + 1) →
-    (not was && runnable after (i + 1)) ≡ false → xs ≡ woken_among before after i →
+    (before after : State) (i : ℕ) (was : Bool) (xs : List Tid) → was ≡ is_runnable before (i + 1) →
+    (not was && is_runnable after (i + 1)) ≡ false → xs ≡ woken_among before after i →
     xs ≡ woken_among before after (i + 1)
 woken_none before after i was xs e f h = let k : i + 1 ≡ suc i = omega arith in grind (arith, common_steps)
 

@@ -1,15 +1,8 @@
 -- What a step keeps within.
 use Rattle.std.proofs.Common.{◌≡◌, ℕ, ◌<◌, length, List, [], ◌∷◌, Option, Result, Ok, Err, IfOk, OnErr, subst, sym, ap, ◌∙◌, arith}
-use Rattle.dk_base.specs.declared.error.NoMemory.{NoMemory}
-use Rattle.dk_base.specs.declared.event.Stepped.{Stepped}
-use Rattle.dk_base.specs.declared.request.Request.{Request}
-use Rattle.written_kernel.specs.State.{State}
-use Rattle.written_kernel.specs.Opening.{with_processes, with_new_process, no_process}
-use Rattle.written_kernel.specs.Settle.{settle}
-use Rattle.written_kernel.specs.Step.{act, counted, step}
-use Rattle.written_kernel.specs.Kept.{forget, is_live_call, StandsFor, IsStep}
+use Rattle.written_kernel.specs.Types.{NoMemory, Request, Stepped}
+use Rattle.written_kernel.specs.Words.{IsStep, StandsFor, State, act, forget, is_live_call, no_process, settle, step, with_event_counted, with_new_process, with_processes, woken_threads}
 use Rattle.kernel_core.specs.Numbers.{HasNumbersLeft}
-use Rattle.written_kernel.specs.Turns.{woken}
 use Rattle.kernel_core.specs.declared.settle.Settling.{Settling}
 use Rattle.kernel_core.specs.Woken.{runnables, IsReady, HasRoom}
 use Rattle.kernel_core.proofs.Readers.{length_runnables}
@@ -88,11 +81,11 @@ listed_before s m n h g = h.runnables ∙ ap (runnables m) (sym g.threads)
 -- an act and what follows it are a step
 pub stepped :
     (m n new : State) (t : ℕ) (r : Option Request) (s : Stepped) → n ≡ (act m t r).state → s.answer ≡ (act m t r).answer →
-    new ≡ forget (counted (settle n)) → s.woken ≡ woken m (counted (settle n)) → IsStep (step m t r) new s
+    new ≡ forget (with_event_counted (settle n)) → s.woken ≡ woken_threads m (with_event_counted (settle n)) → IsStep (step m t r) new s
 unfolding step
 stepped m n new t r s e answer state woken_is =
     record {
-      state = state ∙ ap (λ x. forget (counted (settle x))) e;
+      state = state ∙ ap (λ x. forget (with_event_counted (settle x))) e;
       answer = answer;
-      woken = woken_is ∙ ap (λ x. woken m (counted (settle x))) e;
+      woken = woken_is ∙ ap (λ x. woken_threads m (with_event_counted (settle x))) e;
     }

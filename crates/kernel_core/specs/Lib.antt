@@ -1,5 +1,5 @@
-pub mod Moved
+pub mod CallStages
 pub mod Numbers
-pub mod Pooled
+pub mod PoolViews
 pub mod Within
 pub mod Woken

@@ -1,19 +1,18 @@
 -- What a kernel's numbers and bytes stay within.
 use Rattle.std.specs.Prelude.{◌≤◌, length, List, [], ◌∷◌}
-use Rattle.dk_base.specs.declared.answer.Answer.{Answer}
+use Rattle.written_kernel.specs.Types.{Answer, Call, CallStage}
 use Rattle.dk_base.specs.declared.answer.Answer.TheVariants as answer
-use Rattle.dk_base.specs.declared.record.Call.{Call}
-use Rattle.dk_base.specs.declared.record.CallStage.{CallStage}
 use Rattle.dk_base.specs.declared.record.CallStage.TheVariants as stage
-use Rattle.written_kernel.specs.State.{State}
+use Rattle.dk_base.specs.declared.limits.TheConstants.{DATA_MAX, EVENTS_MAX, PASS_MAX, ANSWER_ITEMS_MAX}
+use Rattle.written_kernel.specs.Words.{State}
 
 abbrev pub IsSmallStage : CallStage → Type 0
-IsSmallStage (stage.Returned bytes objects) = length bytes ≤ 4096
+IsSmallStage (stage.Returned bytes objects) = length bytes ≤ DATA_MAX
 IsSmallStage _ = Unit {0}
 
 -- the bytes of a call's arguments and of its results are at most 4,096
 pub record IsSmallCall (r : Call) : Type 0 where
-  pub arguments : length r.bytes ≤ 4096
+  pub arguments : length r.bytes ≤ DATA_MAX
   pub results : IsSmallStage r.stage
 
 abbrev pub AreSmall : List Call → Type 0
@@ -22,16 +21,16 @@ AreSmall (r ∷ rs) = IsSmallCall r × AreSmall rs
 
 -- each event makes at most one door and one call, and no more than a million are made
 pub record IsWithin (m : State) : Type 0 where
-  pub events : m.events ≤ 1000000
+  pub events : m.events ≤ EVENTS_MAX
   pub doors : length m.doors ≤ m.events
   pub calls_made : m.calls_made ≤ m.events
   pub bytes : AreSmall m.calls
 
 -- at most 4,096 bytes, 16 descriptors and 64 events
 abbrev pub IsSmall : Answer → Type 0
-IsSmall (answer.Data bytes) = length bytes ≤ 4096
-IsSmall (answer.Entered call entry cookie bytes fds) = (length bytes ≤ 4096) × (length fds ≤ 16)
-IsSmall (answer.Results bytes fds grown) = (length bytes ≤ 4096) × (length fds ≤ 16)
-IsSmall (answer.Events events) = length events ≤ 64
-IsSmall (answer.Errors errors) = length errors ≤ 64
+IsSmall (answer.Data bytes) = length bytes ≤ DATA_MAX
+IsSmall (answer.Entered call entry cookie bytes fds) = (length bytes ≤ DATA_MAX) × (length fds ≤ PASS_MAX)
+IsSmall (answer.Results bytes fds grown) = (length bytes ≤ DATA_MAX) × (length fds ≤ PASS_MAX)
+IsSmall (answer.Events events) = length events ≤ ANSWER_ITEMS_MAX
+IsSmall (answer.Errors errors) = length errors ≤ ANSWER_ITEMS_MAX
 IsSmall _ = Unit {0}

@@ -1,13 +1,12 @@
 -- Which threads could run before an event.
 use Rattle.std.specs.Prelude.{ℕ, ◌≡◌, ◌≤◌, ◌+◌, length, ◌++◌, List, [], ◌∷◌, Bool, zero, suc}
 use Rattle.kernel_core.specs.declared.settle.Settling.{Settling}
-use Rattle.written_kernel.specs.State.{State}
-use Rattle.written_kernel.specs.Turns.{runnable}
+use Rattle.written_kernel.specs.Words.{State, is_runnable}
 
 -- of each of the threads 1 to n whether it can take a turn
 abbrev pub runnables : State → ℕ → List Bool
 runnables m zero = []
-runnables m (suc n) = runnables m n ++ runnable m (suc n) ∷ []
+runnables m (suc n) = runnables m n ++ is_runnable m (suc n) ∷ []
 
 -- what was taken before an event suffices for what follows its act
 pub record HasRoom (s : Settling) (m : State) : Type 0 where

@@ -1,14 +1,14 @@
 ghost use Rattle.std.specs.Prelude.{◌≡◌, Option, Some, None, IsSome, IfOk, OnOk, OnErr, IfNone, IfSome};
 ghost use Rattle.std.specs.Option.{option_copied};
-ghost use Rattle.written_kernel.specs.State.{call_of, door_of};
-ghost use Rattle.written_kernel.specs.Doors.{create, call_refusal, call, client, parked, return_for, return, entry_of, cookie_of, accept_call, accept, collect};
+ghost use Rattle.written_kernel.specs.Words.{accept, accept_call, call, call_of, call_refusal, client, collect, cookie_of, create, door_of, entry_of, park, return, return_for};
 ghost use Rattle.kernel_core.specs.Numbers.{HasNumbersLeft};
-ghost use Rattle.kernel_core.specs.Moved.{outcome_of};
+ghost use Rattle.kernel_core.specs.CallStages.{answer_at_stage};
 
-use crate::parts::Parts;
+use crate::store::Store;
 use crate::turns::has_answer;
 use dk_base::answer::Answer;
 use dk_base::error::{Errno, NoMemory};
+use dk_base::limits::{DATA_MAX, QUEUE_MAX};
 use dk_base::list::{Bytes, FdList, ObjList};
 use dk_base::number::{Fd, Pid, Tid};
 use dk_base::object::{Inv, Item, Obj};
@@ -16,43 +16,37 @@ use dk_base::record::{Call, CallStage, ThreadState};
 use dk_base::set::Attrs;
 use std::alloc::Global;
 
-/// The most bytes that a call or a return carries.
-const DATA_MAX: usize = 4096;
-
-/// The most calls that wait in a pool.
-const QUEUE_MAX: usize = 32;
-
 /// door_create(3C): EMFILE, or a door of the process at its lowest descriptor that is free.
 pub fn create(
-    parts: &mut Parts,
+    store: &mut Store,
     p: Pid,
     entry: u32,
     cookie: u64,
     attrs: Attrs,
 ) -> Result<Answer, NoMemory>
-    requires { HasNumbersLeft parts.old }
-    ensures state { OnOk result (parts.new ≡ (create parts.old p.0 entry cookie attrs).state) }
-    ensures answer { IfOk result (λ a. a ≡ (create parts.old p.0 entry cookie attrs).answer) }
-    ensures err { OnErr result (parts.new ≡ parts.old) }
+    requires { HasNumbersLeft store.old }
+    ensures state { OnOk result (store.new ≡ (create store.old p.0 entry cookie attrs).state) }
+    ensures answer { IfOk result (λ a. a ≡ (create store.old p.0 entry cookie attrs).answer) }
+    ensures err { OnErr result (store.new ≡ store.old) }
 {
-    let Some(place) = parts.lowest_free(p) else {
+    let Some(place) = store.lowest_free(p) else {
         return Ok(Answer::Failure(Errno::EMFILE));
     };
-    let door = parts.add_door(p, entry, cookie, attrs)?;
-    parts.put_row(p, place, Obj::Door(door));
+    let door = store.add_door(p, entry, cookie, attrs)?;
+    store.put_row(p, place, Obj::Door(door));
     Ok(Answer::NewFd { fd: Fd(place) })
 }
 
-fn call_refusal(parts: &Parts, d: u32, bytes: &Bytes) -> Option<Errno>
-    ensures { result ≡ call_refusal parts.now d bytes.now }
+fn call_refusal(store: &Store, d: u32, bytes: &Bytes) -> Option<Errno>
+    ensures { result ≡ call_refusal store.now d bytes.now }
 {
-    if !parts.is_valid(d) {
+    if !store.is_valid(d) {
         return Some(Errno::EBADF);
     }
     if bytes.len() > DATA_MAX {
         return Some(Errno::E2BIG);
     }
-    if parts.queue_length(&parts.pool_of(d)) >= QUEUE_MAX {
+    if store.queue_length(&store.pool_of(d)) >= QUEUE_MAX {
         return Some(Errno::EAGAIN);
     }
     None
@@ -60,7 +54,7 @@ fn call_refusal(parts: &Parts, d: u32, bytes: &Bytes) -> Option<Errno>
 
 /// door_call(3C): EBADF, E2BIG, EAGAIN, or a call that waits for a server thread.
 pub fn call(
-    parts: &mut Parts,
+    store: &mut Store,
     alloc: Global,
     t: Tid,
     p: Pid,
@@ -68,105 +62,105 @@ pub fn call(
     bytes: Bytes,
     rsize: u64,
 ) -> Result<Answer, NoMemory>
-    requires { HasNumbersLeft parts.old }
-    ensures state { OnOk result (parts.new ≡ (call parts.old t.0 p.0 fd bytes rsize).state) }
-    ensures answer { IfOk result (λ a. a ≡ (call parts.old t.0 p.0 fd bytes rsize).answer) }
-    ensures err { OnErr result (parts.new ≡ parts.old) }
+    requires { HasNumbersLeft store.old }
+    ensures state { OnOk result (store.new ≡ (call store.old t.0 p.0 fd bytes rsize).state) }
+    ensures answer { IfOk result (λ a. a ≡ (call store.old t.0 p.0 fd bytes rsize).answer) }
+    ensures err { OnErr result (store.new ≡ store.old) }
 {
-    let Some(Obj::Door(door)) = parts.object_at(p, fd) else {
+    let Some(Obj::Door(door)) = store.object_at(p, fd) else {
         return Ok(Answer::Failure(Errno::EBADF));
     };
-    if let Some(errno) = call_refusal(parts, door, &bytes) {
+    if let Some(errno) = call_refusal(store, door, &bytes) {
         return Ok(Answer::Failure(errno));
     }
-    let call = parts.add_call(alloc, t, door, bytes, rsize)?;
-    parts.set_state(t, ThreadState::Calling { call });
+    let call = store.add_call(alloc, t, door, bytes, rsize)?;
+    store.set_state(t, ThreadState::Calling { call });
     Ok(Answer::WaitCall { call })
 }
 
 /// The number of the call that a thread is in, where its caller has not left.
-fn client(parts: &Parts, t: Tid) -> Option<u32>
-    ensures none { IfNone result (client parts.now t.0 ≡ None) }
-    ensures some { IfSome result (λ c. client parts.now t.0 ≡ call_of parts.now c) }
-    ensures there { IfSome result (λ c. IsSome (call_of parts.now c)) }
+fn client(store: &Store, t: Tid) -> Option<u32>
+    ensures none { IfNone result (client store.now t.0 ≡ None) }
+    ensures some { IfSome result (λ c. client store.now t.0 ≡ call_of store.now c) }
+    ensures there { IfSome result (λ c. IsSome (call_of store.now c)) }
 {
     let Some(
         Inv {
             item: Item::Call(c),
             ..
         },
-    ) = parts.invocation(t)
+    ) = store.invocation(t)
     else {
         return None;
     };
-    match parts.call_of(c) {
+    match store.call_of(c) {
         Some(call) if !call.abandoned => Some(c),
         _ => None,
     }
 }
 
 /// A thread whose invocation ends is parked.
-fn park(parts: &mut Parts, t: Tid)
-    requires { HasNumbersLeft parts.old }
-    ensures { parts.new ≡ parked parts.old t.0 }
+fn park(store: &mut Store, t: Tid)
+    requires { HasNumbersLeft store.old }
+    ensures { store.new ≡ park store.old t.0 }
 {
-    let since = parts.now();
-    parts.set_invocation(t, None);
-    parts.set_state(t, ThreadState::Idle { since });
+    let since = store.now();
+    store.set_invocation(t, None);
+    store.set_state(t, ThreadState::Idle { since });
 }
 
 /// A return to the client of call `c`: E2BIG, or the call is Returned with the results.
-fn return_to_client(parts: &mut Parts, alloc: Global, t: Tid, bytes: Bytes, c: u32) -> Answer
-    requires numbers { HasNumbersLeft parts.old }
-    requires there { IsSome (call_of parts.old c) }
-    ensures state { parts.new ≡ (return_for parts.old t.0 bytes (call_of parts.old c)).state }
-    ensures answer { result ≡ (return_for parts.old t.0 bytes (call_of parts.old c)).answer }
+fn return_to_client(store: &mut Store, alloc: Global, t: Tid, bytes: Bytes, c: u32) -> Answer
+    requires numbers { HasNumbersLeft store.old }
+    requires there { IsSome (call_of store.old c) }
+    ensures state { store.new ≡ (return_for store.old t.0 bytes (call_of store.old c)).state }
+    ensures answer { result ≡ (return_for store.old t.0 bytes (call_of store.old c)).answer }
 {
     if bytes.len() > DATA_MAX {
         return Answer::Failure(Errno::E2BIG);
     }
     let objects = ObjList::new(alloc);
-    let _ = parts.move_call(alloc, c, CallStage::Returned { bytes, objects });
-    park(parts, t);
+    let _ = store.move_call(alloc, c, CallStage::Returned { bytes, objects });
+    park(store, t);
     Answer::Wait
 }
 
 /// door_return(3C). Results without a client are dropped.
-pub fn return_from(parts: &mut Parts, alloc: Global, t: Tid, bytes: Bytes) -> Answer
-    requires { HasNumbersLeft parts.old }
-    ensures state { parts.new ≡ (return parts.old t.0 bytes).state }
-    ensures answer { result ≡ (return parts.old t.0 bytes).answer }
+pub fn return_from(store: &mut Store, alloc: Global, t: Tid, bytes: Bytes) -> Answer
+    requires { HasNumbersLeft store.old }
+    ensures state { store.new ≡ (return store.old t.0 bytes).state }
+    ensures answer { result ≡ (return store.old t.0 bytes).answer }
 {
-    match client(parts, t) {
-        Some(c) => return_to_client(parts, alloc, t, bytes, c),
+    match client(store, t) {
+        Some(c) => return_to_client(store, alloc, t, bytes, c),
         None => {
-            park(parts, t);
+            park(store, t);
             Answer::Wait
         }
     }
 }
 
 /// The entry number and the cookie of a door.
-fn entry_point(parts: &Parts, d: u32) -> (u32, u64)
-    ensures entry { result.0 ≡ entry_of (door_of parts.now d) }
-    ensures cookie { result.1 ≡ cookie_of (door_of parts.now d) }
+fn entry_point(store: &Store, d: u32) -> (u32, u64)
+    ensures entry { result.0 ≡ entry_of (door_of store.now d) }
+    ensures cookie { result.1 ≡ cookie_of (door_of store.now d) }
 {
-    match parts.door(d) {
+    match store.door(d) {
         Some(door) => (door.entry, door.cookie),
         None => (0, 0),
     }
 }
 
 /// The invocation of call `c` begins, and its arguments are handed out.
-fn begin(parts: &mut Parts, alloc: Global, t: Tid, c: u32) -> Answer
-    ensures state { parts.new ≡ (accept_call parts.old t.0 (call_of parts.old c)).state }
-    ensures answer { result ≡ (accept_call parts.old t.0 (call_of parts.old c)).answer }
+fn begin(store: &mut Store, alloc: Global, t: Tid, c: u32) -> Answer
+    ensures state { store.new ≡ (accept_call store.old t.0 (call_of store.old c)).state }
+    ensures answer { result ≡ (accept_call store.old t.0 (call_of store.old c)).answer }
 {
-    let Some(call) = parts.call_of(c) else {
+    let Some(call) = store.call_of(c) else {
         return Answer::Done;
     };
-    let (entry, cookie) = entry_point(parts, call.door);
-    let Some(call) = parts.move_call(alloc, c, CallStage::Entered { by: t }) else {
+    let (entry, cookie) = entry_point(store, call.door);
+    let Some(call) = store.move_call(alloc, c, CallStage::Entered { by: t }) else {
         return Answer::Done;
     };
     let Call { number, bytes, .. } = call;
@@ -174,8 +168,8 @@ fn begin(parts: &mut Parts, alloc: Global, t: Tid, c: u32) -> Answer
         item: Item::Call(number),
         cancelled: false,
     };
-    parts.set_invocation(t, Some(invocation));
-    parts.set_state(t, ThreadState::Running);
+    store.set_invocation(t, Some(invocation));
+    store.set_state(t, ThreadState::Running);
     Answer::Entered {
         call: number,
         entry,
@@ -186,19 +180,19 @@ fn begin(parts: &mut Parts, alloc: Global, t: Tid, c: u32) -> Answer
 }
 
 /// The end of the wait of a thread that was given an item: its invocation begins.
-pub fn accept(parts: &mut Parts, alloc: Global, t: Tid, item: Item) -> Answer
-    ensures state { parts.new ≡ (accept parts.old t.0 item).state }
-    ensures answer { result ≡ (accept parts.old t.0 item).answer }
+pub fn accept(store: &mut Store, alloc: Global, t: Tid, item: Item) -> Answer
+    ensures state { store.new ≡ (accept store.old t.0 item).state }
+    ensures answer { result ≡ (accept store.old t.0 item).answer }
 {
     match item {
-        Item::Call(c) => begin(parts, alloc, t, c),
+        Item::Call(c) => begin(store, alloc, t, c),
         Item::Notice(_) => Answer::Done,
     }
 }
 
 /// What a caller is told of a call that has an answer.
 fn outcome(alloc: Global, call: Call) -> Answer
-    ensures { result ≡ outcome_of call call.stage }
+    ensures { result ≡ answer_at_stage call call.stage }
 {
     let Call { rsize, stage, .. } = call;
     match stage {
@@ -213,18 +207,18 @@ fn outcome(alloc: Global, call: Call) -> Answer
 }
 
 /// The end of the wait of a caller: the results, or the error that its call ended with.
-pub fn collect(parts: &mut Parts, alloc: Global, t: Tid, c: u32) -> Answer
-    requires { HasNumbersLeft parts.old }
-    ensures state { parts.new ≡ (collect parts.old t.0 c).state }
-    ensures answer { result ≡ (collect parts.old t.0 c).answer }
+pub fn collect(store: &mut Store, alloc: Global, t: Tid, c: u32) -> Answer
+    requires { HasNumbersLeft store.old }
+    ensures state { store.new ≡ (collect store.old t.0 c).state }
+    ensures answer { result ≡ (collect store.old t.0 c).answer }
 {
-    if !has_answer(parts, c) {
+    if !has_answer(store, c) {
         return Answer::Done;
     }
-    let at = parts.now();
-    let Some(call) = parts.move_call(alloc, c, CallStage::Answered { at }) else {
+    let at = store.now();
+    let Some(call) = store.move_call(alloc, c, CallStage::Answered { at }) else {
         return Answer::Done;
     };
-    parts.set_state(t, ThreadState::Running);
+    store.set_state(t, ThreadState::Running);
     outcome(alloc, call)
 }

@@ -1,21 +1,17 @@
 ghost use Rattle.std.specs.Prelude.{◌≡◌, ◌+◌, ◌<◌, ◌≤◌, ◌↔◌, Some, None, true, is_some, length, IfOk, OnOk, OnErr};
 ghost use Rattle.dk_base.specs.declared.error.ProcFault.TheVariants.{Full};
-ghost use Rattle.dk_base.specs.declared.built.TheConstants.{BUILT};
-ghost use Rattle.dk_base.specs.Form.{form_of_lem};
-ghost use Rattle.written_kernel.specs.State.{State, state_of, invocation_of};
-ghost use Rattle.written_kernel.specs.Opening.{opening, with_processes, with_new_thread};
-ghost use Rattle.written_kernel.specs.Turns.{runnable, is_running};
-ghost use Rattle.written_kernel.specs.Walks.{root};
-ghost use Rattle.written_kernel.specs.Step.{step};
-ghost use Rattle.written_kernel.specs.Kept.{StandsFor, IsStep};
-ghost use Rattle.written_kernel.specs.Legal.{IsFit, MayInside, MayGoOn};
+ghost use Rattle.dk_base.specs.declared.limits.TheConstants.{PROCESSES_MAX, EVENTS_MAX};
+ghost use Rattle.capabilities.specs.declared.table.TheConstants.{BUILT};
+ghost use Rattle.capabilities.specs.Words.{capability_of};
+ghost use Rattle.written_kernel.specs.Words.{IsFit, IsStep, MayGoOn, MayInside, StandsFor, State, invocation_of, is_runnable, is_running, opening, root, state_of, step, with_new_thread, with_processes};
 ghost use Rattle.kernel_core.specs.Within.{IsWithin, IsSmall};
 
-use crate::event::{entered, gone_on};
-use crate::parts::Parts;
+use crate::event::{run_end_of_wait, run_entry};
+use crate::store::Store;
 use crate::turns;
 use dk_base::error::{NoMemory, ProcFault};
 use dk_base::event::Stepped;
+use dk_base::limits::THREADS_MAX;
 use dk_base::list::IdList;
 use dk_base::number::{Pid, Tid};
 use dk_base::record::ThreadState;
@@ -23,33 +19,30 @@ use dk_base::request::Request;
 use std::alloc::Global;
 use std::marker::Model;
 
-/// The most threads of a kernel.
-const THREADS_MAX: u32 = 64;
-
 /// A kernel. Clauses see the written state that it keeps, in which the calls that were answered or left are forgotten.
-#[derive(Debug, Drop)]
+#[derive(Drop)]
 pub struct Kernel {
     alloc: Global,
-    parts: Parts,
+    store: Store,
 }
 
 impl Model for Kernel {
     ghost Value = { State };
 
-    ghost view = { λ k. k.parts };
+    ghost view = { λ k. k.store };
 
-    ghost invariant = { λ k. IsWithin k.parts };
+    ghost invariant = { λ k. IsWithin k.store };
 }
 
 impl Kernel {
     /// Processes with these limits of descriptors, numbered from 1, and nothing else.
     pub fn new(alloc: Global, limits: &IdList) -> Result<Self, NoMemory>
-        requires { length limits.now ≤ 64 }
+        requires { length limits.now ≤ PROCESSES_MAX }
         ensures { IfOk result (λ k. k ≡ opening limits.now) }
     {
-        let mut parts = Parts::new(alloc);
-        add_processes(&mut parts, alloc, limits.slice())?;
-        Ok(Kernel { alloc, parts })
+        let mut store = Store::new(alloc);
+        add_processes(&mut store, alloc, limits.slice())?;
+        Ok(Kernel { alloc, store })
     }
 
     /// Another thread of a process, which runs, or is a spare one that was not started.
@@ -57,13 +50,13 @@ impl Kernel {
         requires { self.old.events ≡ 0 }
         ensures ok { OnOk result (self.new ≡ with_new_thread self.old process.0 spare) }
         ensures number { IfOk result (λ t. t.0 ≡ length self.old.threads + 1) }
-        ensures full { (result ≡ Err Full) ↔ (length self.old.threads ≡ 64) }
+        ensures full { (result ≡ Err Full) ↔ (length self.old.threads ≡ THREADS_MAX) }
         ensures err { OnErr result (self.new ≡ self.old) }
     {
-        if self.parts.thread_count() == THREADS_MAX {
+        if self.store.thread_count() == THREADS_MAX {
             return Err(ProcFault::Full);
         }
-        match self.parts.add_thread(process, spare) {
+        match self.store.add_thread(process, spare) {
             Ok(thread) => Ok(thread),
             Err(_) => Err(ProcFault::Memory),
         }
@@ -73,14 +66,14 @@ impl Kernel {
     pub fn enter(&mut self, t: Tid, request: Request) -> Result<Stepped, NoMemory>
         requires running { is_running self.old t.0 ≡ true }
         requires fit { IsFit self.old request }
-        requires built { form_of_lem request ≤ BUILT }
+        requires built { capability_of request ≤ BUILT }
         requires inside { MayInside (invocation_of self.old t.0) request }
-        requires few { self.old.events < 1000000 }
+        requires few { self.old.events < EVENTS_MAX }
         ensures step { IfOk result (λ s. (m : State) → StandsFor self.old m → IsStep (step m t.0 (Some request)) self.new s) }
         ensures small { IfOk result (λ s. IsSmall s.answer) }
         ensures err { OnErr result (self.new ≡ self.old) }
     {
-        entered(&mut self.parts, self.alloc, t, request)
+        run_entry(&mut self.store, self.alloc, t, request)
     }
 
     /// The end of a wait of a thread that is runnable. Want of memory leaves the kernel as it was.
@@ -90,23 +83,23 @@ impl Kernel {
         ensures small { IfOk result (λ s. IsSmall s.answer) }
         ensures err { OnErr result (self.new ≡ self.old) }
     {
-        gone_on(&mut self.parts, self.alloc, t)
+        run_end_of_wait(&mut self.store, self.alloc, t)
     }
 
     /// Whether a thread can take a turn: it runs, or its wait can end.
     #[tactic(auto, using(crate::proofs::Readers::runnable_stands))]
     pub fn runnable(&self, t: Tid) -> bool
-        ensures kept { result ≡ runnable self.now t.0 }
-        ensures stands { (m : State) → StandsFor self.now m → result ≡ runnable m t.0 }
+        ensures kept { result ≡ is_runnable self.now t.0 }
+        ensures stands { (m : State) → StandsFor self.now m → result ≡ is_runnable m t.0 }
     {
-        turns::runnable(&self.parts, t)
+        turns::runnable(&self.store, t)
     }
 
     pub fn is_running(&self, t: Tid) -> bool
         ensures kept { result ≡ is_running self.now t.0 }
         ensures stands { (m : State) → StandsFor self.now m → result ≡ is_running m t.0 }
     {
-        turns::is_running(&self.parts, t)
+        turns::is_running(&self.store, t)
     }
 
     /// Whether a thread is in an invocation of a server procedure.
@@ -114,7 +107,7 @@ impl Kernel {
         ensures kept { result ≡ is_some (invocation_of self.now t.0) }
         ensures stands { (m : State) → StandsFor self.now m → result ≡ is_some (invocation_of m t.0) }
     {
-        self.parts.invocation(t).is_some()
+        self.store.invocation(t).is_some()
     }
 
     /// The end of the walk from a thread to the caller of the call that it serves, and so on.
@@ -123,7 +116,7 @@ impl Kernel {
         ensures kept { result.0 ≡ root self.now t.0 }
         ensures stands { (m : State) → StandsFor self.now m → result.0 ≡ root m t.0 }
     {
-        turns::root(&self.parts, t)
+        turns::root(&self.store, t)
     }
 
     /// What a thread is at. A number that no thread has reads as Done.
@@ -131,36 +124,33 @@ impl Kernel {
         ensures kept { result.now ≡ state_of self.now t.0 }
         ensures stands { (m : State) → StandsFor self.now m → result.now ≡ state_of m t.0 }
     {
-        self.parts.state(t)
+        self.store.state(t)
     }
 
     pub fn threads(&self) -> u32
         ensures count { result ≡ length self.now.threads }
-        ensures few { length self.now.threads ≤ 64 }
+        ensures few { length self.now.threads ≤ THREADS_MAX }
         ensures stands { (m : State) → StandsFor self.now m → result ≡ length m.threads }
     {
-        self.parts.thread_count()
+        self.store.thread_count()
     }
 
     /// How many events there were.
     pub fn events(&self) -> u64
         ensures count { result ≡ self.now.events }
-        ensures few { self.now.events ≤ 1000000 }
+        ensures few { self.now.events ≤ EVENTS_MAX }
         ensures stands { (m : State) → StandsFor self.now m → result ≡ m.events }
     {
-        self.parts.event_count()
+        self.store.event_count()
     }
 }
 
-fn add_processes(parts: &mut Parts, alloc: Global, limits: &[u32]) -> Result<(), NoMemory>
-    requires { length parts.old.processes + length limits.now ≤ 64 }
-    ensures { OnOk result (parts.new ≡ with_processes parts.old limits.now) }
+fn add_processes(store: &mut Store, alloc: Global, limits: &[u32]) -> Result<(), NoMemory>
+    requires { length store.old.processes + length limits.now ≤ PROCESSES_MAX }
+    ensures { OnOk result (store.new ≡ with_processes store.old limits.now) }
 {
     for limit in limits {
-        parts.add_process(alloc, *limit)?;
+        store.add_process(alloc, *limit)?;
     }
     Ok(())
 }
-
-#[cfg(test)]
-mod tests;

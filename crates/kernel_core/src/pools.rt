@@ -1,9 +1,9 @@
 ghost use Rattle.std.specs.Prelude.{◌≡◌};
 ghost use Rattle.std.specs.Option.{option_map};
-ghost use Rattle.written_kernel.specs.Pools.{is_pool, is_private, pool_of_door, parked_at, later, better, pick};
-ghost use Rattle.kernel_core.specs.Pooled.{pool_seen, parked_seen};
+ghost use Rattle.written_kernel.specs.Words.{better_parked, is_pool, is_private, later_parked, parked_at, pick, pool_of_door};
+ghost use Rattle.kernel_core.specs.PoolViews.{pool_view, parked_view};
 
-use crate::parts::Parts;
+use crate::store::Store;
 use dk_base::number::{Pid, Tid};
 use dk_base::object::Item;
 use dk_base::record::{Door, ThreadState};
@@ -34,7 +34,7 @@ pub struct Waiting {
 }
 
 pub fn is_same_pool(a: &Pool, b: &Pool) -> bool
-    ensures { result ≡ is_pool (pool_seen a.now) (pool_seen b.now) }
+    ensures { result ≡ is_pool (pool_view a.now) (pool_view b.now) }
 {
     match (a, b) {
         (Pool::Common(p), Pool::Common(q)) => p.0 == q.0,
@@ -46,11 +46,11 @@ pub fn is_same_pool(a: &Pool, b: &Pool) -> bool
 fn is_private(attrs: Attrs) -> bool
     ensures { result ≡ is_private attrs }
 {
-    attrs.0 & 2 == 2
+    attrs.0 & Attrs::PRIVATE.0 == Attrs::PRIVATE.0
 }
 
 pub fn pool_of_door(door: &Door) -> Pool
-    ensures { pool_seen result ≡ pool_of_door door.now }
+    ensures { pool_view result ≡ pool_of_door door.now }
 {
     if is_private(door.attrs) {
         Pool::Private(door.number)
@@ -59,15 +59,15 @@ pub fn pool_of_door(door: &Door) -> Pool
     }
 }
 
-fn parked_at(parts: &Parts, t: Tid) -> Option<Parked>
-    ensures { option_map parked_seen result ≡ parked_at parts.now t.0 }
+fn parked_at(store: &Store, t: Tid) -> Option<Parked>
+    ensures { option_map parked_view result ≡ parked_at store.now t.0 }
 {
-    match parts.state(t) {
+    match store.state(t) {
         ThreadState::Idle { since } => Some(Parked {
             thread: t,
-            pool: match parts.bound_door(t) {
+            pool: match store.bound_door(t) {
                 Some(door) => Pool::Private(door),
-                None => Pool::Common(parts.process_of(t)),
+                None => Pool::Common(store.process_of(t)),
             },
             since: *since,
         }),
@@ -77,7 +77,7 @@ fn parked_at(parts: &Parts, t: Tid) -> Option<Parked>
 
 /// Of two parked threads the one that parked later; where both parked at one event, the second.
 fn later(best: Option<Parked>, x: Parked) -> Option<Parked>
-    ensures { option_map parked_seen result ≡ later (option_map parked_seen best) (parked_seen x) }
+    ensures { option_map parked_view result ≡ later_parked (option_map parked_view best) (parked_view x) }
 {
     match best {
         Some(best) if best.since > x.since => Some(best),
@@ -86,7 +86,7 @@ fn later(best: Option<Parked>, x: Parked) -> Option<Parked>
 }
 
 fn better(pool: &Pool, best: Option<Parked>, x: Option<Parked>) -> Option<Parked>
-    ensures { option_map parked_seen result ≡ better (pool_seen pool.now) (option_map parked_seen best) (option_map parked_seen x) }
+    ensures { option_map parked_view result ≡ better_parked (pool_view pool.now) (option_map parked_view best) (option_map parked_view x) }
 {
     match x {
         Some(x) if is_same_pool(pool, &x.pool) => later(best, x),
@@ -95,12 +95,12 @@ fn better(pool: &Pool, best: Option<Parked>, x: Option<Parked>) -> Option<Parked
 }
 
 /// The pool's thread that parked last; of several that parked at one event, the one with the greatest number.
-pub fn pick(parts: &Parts, pool: &Pool) -> Option<Parked>
-    ensures { option_map parked_seen result ≡ pick parts.now (pool_seen pool.now) }
+pub fn pick(store: &Store, pool: &Pool) -> Option<Parked>
+    ensures { option_map parked_view result ≡ pick store.now (pool_view pool.now) }
 {
     let mut best = None;
-    for i in 0..parts.thread_count() {
-        best = better(pool, best, parked_at(parts, Tid(i + 1)));
+    for i in 0..store.thread_count() {
+        best = better(pool, best, parked_at(store, Tid(i + 1)));
     }
     best
 }

@@ -1,8 +1,5 @@
 ghost use Rattle.std.specs.Prelude.{◌≡◌};
-ghost use Rattle.written_kernel.specs.State.{is_live, is_queued};
-ghost use Rattle.written_kernel.specs.Turns.{is_to_collect, is_running_state};
-ghost use Rattle.written_kernel.specs.Walks.{is_with};
-ghost use Rattle.written_kernel.specs.Leaving.{is_active};
+ghost use Rattle.written_kernel.specs.Words.{is_active, is_live, is_queued, is_running_state, is_to_collect, is_with};
 
 use dk_base::number::Tid;
 use dk_base::record::{CallStage, ThreadState};

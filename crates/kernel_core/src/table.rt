@@ -1,9 +1,6 @@
 ghost use Rattle.std.specs.Prelude.{◌≡◌, ◌<◌, List, Option, Some, IfOk, length, map, slice_get, slice_set};
-ghost use Rattle.dk_base.specs.declared.object.Obj.{Obj};
-ghost use Rattle.written_kernel.specs.State.{object_in};
-ghost use Rattle.written_kernel.specs.Acts.{lowest_free};
-ghost use Rattle.written_kernel.specs.Opening.{empty_table};
-ghost use Rattle.written_kernel.specs.Leaving.{closed};
+ghost use Rattle.written_kernel.specs.Types.{Obj};
+ghost use Rattle.written_kernel.specs.Words.{empty_table, free_row, lowest_free, object_in};
 
 use dk_base::error::NoMemory;
 use dk_base::number::Fd;
@@ -12,7 +9,7 @@ use std::alloc::Global;
 use std::marker::Model;
 
 /// The descriptors of a process: a place for each that it may have.
-#[derive(Debug, Drop)]
+#[derive(Drop)]
 pub struct Table {
     rows: Vec<Option<Obj>>,
 }
@@ -32,7 +29,7 @@ fn first_free(rows: &[Option<Obj>]) -> Option<usize>
 }
 
 fn close_all(rows: &mut [Option<Obj>])
-    ensures { rows.new ≡ map closed rows.old }
+    ensures { rows.new ≡ map free_row rows.old }
 {
     for row in rows.iter_mut() {
         *row = None;
@@ -82,7 +79,7 @@ impl Table {
 
     /// Closes each descriptor.
     pub fn close_all(&mut self)
-        ensures { self.new ≡ map closed self.old }
+        ensures { self.new ≡ map free_row self.old }
     {
         close_all(&mut self.rows);
     }

@@ -3,20 +3,14 @@ use Rattle.std.specs.Prelude.{ℕ, ◌≡◌, [], Option, false, Some, None}
 use Rattle.std.proofs.Common.{refl, sym, ap, subst, ◌∙◌}
 use native.Mathlib.Omega.{arith}
 use Rattle.dk_base.specs.declared.object.Item.TheVariants as item
-use Rattle.dk_base.specs.declared.request.Request.{Request}
+use Rattle.written_kernel.specs.Types.{Call, CallStage, Request}
 use Rattle.dk_base.specs.declared.answer.Answer.TheVariants as answer
 use Rattle.dk_base.specs.declared.record.ThreadState.TheVariants as is
-use Rattle.dk_base.specs.declared.record.Call.{Call}
-use Rattle.dk_base.specs.declared.record.CallStage.{CallStage}
 use Rattle.dk_base.specs.declared.record.CallStage.TheVariants as stage
-use Rattle.written_kernel.specs.State.{State, tid, state_of, process_of, invocation_of, door_of, call_of, moved_on}
-use Rattle.written_kernel.specs.Doors.{entry_of, cookie_of, accept_call, entered}
-use Rattle.written_kernel.specs.Settle.{settle}
-use Rattle.written_kernel.specs.Step.{act, step, go_on}
-use Rattle.written_kernel.specs.Legal.{MayTurn}
+use Rattle.written_kernel.specs.Words.{MayTurn, State, accept_call, act, call_of, cookie_of, door_of, enter_call, entry_of, go_on, invocation_of, process_of, settle, state_of, step, tid, without_arguments_at}
 use Rattle.kernel_laws.specs.Once.{record_of, stage_in, stage_of, owner_in, door_at, owner_of_call}
 use Rattle.kernel_laws.specs.Core.{core, door_in, is_outside}
-use Rattle.kernel_laws.specs.Invariant.{Consistent, Invariant}
+use Rattle.kernel_laws.specs.Invariant.{IsConsistent, Invariant}
 use Rattle.kernel_laws.proofs.Calls.{find-number, find_call_live}
 use Rattle.kernel_laws.proofs.CallActs.{record_of_call, AfterAccept, after_accept}
 use Rattle.kernel_laws.proofs.Events.{StepDoes, step_does}
@@ -41,11 +35,11 @@ pub record Accepted (m : State) (t : ℕ) (q : Option Request) (c : ℕ) : Type 
 
 acted_entered :
     (m : State) (t : ℕ) (r : Call) → state_of m t ≡ is.Given (item.Call r.number) → call_of m r.number ≡ Some r →
-    (act m t None).state ≡ entered m t r
+    (act m t None).state ≡ enter_call m t r
 acted_entered m t r e f = ap (λ s. (go_on m t s).state) e ∙ ap (λ o. (accept_call m t o).state) f
 
 owner_of_given :
-    (m : State) (t : ℕ) (r : Call) → Consistent m → record_of m r.number ≡ Some r → r.stage ≡ stage.Given (tid t) →
+    (m : State) (t : ℕ) (r : Call) → IsConsistent m → record_of m r.number ≡ Some r → r.stage ≡ stage.Given (tid t) →
     owner_of_call m r.number ≡ Some (process_of m t)
 owner_of_given m t r h e f =
     ap (λ o. owner_in (door_at m o)) e
@@ -73,7 +67,7 @@ accepted_call m t r h may e f =
     he : AfterAccept m t r
     he = after_accept m t r h.consistent f e
 
-    acted : (act m t None).state ≡ entered m t r
+    acted : (act m t None).state ≡ enter_call m t r
     acted = acted_entered m t r e f
 
     found : record_of m r.number ≡ Some r
@@ -82,7 +76,7 @@ accepted_call m t r h may e f =
     given : r.stage ≡ stage.Given (tid t)
     given = grind (arith, h.consistent.coherent.given_back r.number t e, found)
 
-    recorded : record_of (act m t None).state r.number ≡ Some (moved_on r (stage.Entered (tid t)))
+    recorded : record_of (act m t None).state r.number ≡ Some (without_arguments_at r (stage.Entered (tid t)))
     recorded = ap (λ n. record_of n r.number) acted ∙ he.record_after
 
     same : record_of (settle (act m t None).state) r.number ≡ record_of (act m t None).state r.number
@@ -96,7 +90,7 @@ accepted m t c q h may e a =
 
 -- the answer at which a call becomes entered
 pub accept_answer :
-    (m : State) (t c : ℕ) (q : Option Request) → Consistent m → (b : EnteredBy m t q (record_of m c)) →
+    (m : State) (t c : ℕ) (q : Option Request) → IsConsistent m → (b : EnteredBy m t q (record_of m c)) →
     (step m t q).answer ≡ answer.Entered c (entry_of (door_of m b.call.door)) (cookie_of (door_of m b.call.door)) b.call.bytes []
 accept_answer m t c q h b =
     let number : b.call.number ≡ c = find-number m.calls c b.call b.was in

@@ -3,37 +3,25 @@ use Rattle.std.specs.Prelude.{ℕ, ◌≡◌, ◌+◌, Option, true, false, ◌=
 use Rattle.std.proofs.Common.{refl, sym, ap, subst, ◌∙◌}
 use native.Mathlib.Omega.{arith}
 use Rattle.std.proofs.lemmas.Bool.Decides.{nat_tests}
-use Rattle.dk_base.specs.declared.number.Fd.{Fd}
-use Rattle.dk_base.specs.declared.number.PathId.{PathId}
-use Rattle.dk_base.specs.declared.set.Attrs.{Attrs}
-use Rattle.dk_base.specs.declared.object.Obj.{Obj}
+use Rattle.written_kernel.specs.Types.{Attrs, Door, Fd, Inv, Name, Obj, PathId, Request, Thread, ThreadState}
 use Rattle.dk_base.specs.declared.object.Obj.TheVariants as obj
-use Rattle.dk_base.specs.declared.request.Request.{Request}
-use Rattle.dk_base.specs.declared.record.Thread.{Thread}
-use Rattle.dk_base.specs.declared.record.ThreadState.{ThreadState}
 use Rattle.dk_base.specs.declared.record.ThreadState.TheVariants as is
-use Rattle.dk_base.specs.declared.record.Door.{Door}
-use Rattle.dk_base.specs.declared.record.Name.{Name}
-use Rattle.written_kernel.specs.Numbered.{numbered}
-use Rattle.dk_base.specs.declared.object.Inv.{Inv}
-use Rattle.written_kernel.specs.State.{State, with_state_in, with_invocation, with_invocation_in, state_of, state_in, thread_of, process_of, table_of, object_at, with_row, name_of, with_state}
-use Rattle.written_kernel.specs.Acts.{lowest_free}
-use Rattle.written_kernel.specs.Doors.{new_door, with_door, created, create}
-use Rattle.written_kernel.specs.Descriptors.{new_name, with_name, attach_unless, attach_object, attach, open_at, open_name, open_path, await_name, await, found}
+use Rattle.dk_base.specs.ByNumber.{at_number}
+use Rattle.written_kernel.specs.Words.{State, attach, attach_object, attach_unless, await, await_name, create, create_at, end_await, lowest_free, name_of, new_door, new_name, object_at, open_at, open_name, open_path, process_of, state_in, state_of, table_of, thread_of, with_door, with_invocation, with_invocation_in, with_name, with_row, with_state, with_state_in}
 use Rattle.kernel_laws.specs.Once.{has_number, record_of}
 use Rattle.kernel_laws.specs.Core.{core, number_in, ended_in}
-use Rattle.kernel_laws.specs.Invariant.{InOrder, Coherent, Consistent}
+use Rattle.kernel_laws.specs.Invariant.{IsInOrder, IsCoherent, IsConsistent}
 use Rattle.kernel_laws.specs.Arrows.{ByAct}
 use Rattle.kernel_laws.specs.Arrows.ByAct.{stays}
-use Rattle.written_kernel.proofs.Lists.{numbered-renumbered, numbered_past}
+use Rattle.written_kernel.proofs.Lists.{at_number-with_at_number, numbered_past}
 use Rattle.kernel_laws.proofs.Cores.{There, with_state-core, with_door-core}
 use Rattle.kernel_laws.proofs.ThreadMoves.{turn_keeps, door_keeps, is_quiet}
 
 pub record Does (m : State) (t : ℕ) (q : Option Request) (n : State) : Type 0 where
-  pub consistent : Consistent n
+  pub consistent : IsConsistent n
   pub arrows : (c : ℕ) → ByAct m t q n (record_of m c) (record_of n c)
 
-pub does_nothing : (m : State) (t : ℕ) (q : Option Request) → Consistent m → Does m t q m
+pub does_nothing : (m : State) (t : ℕ) (q : Option Request) → IsConsistent m → Does m t q m
 does_nothing m t q h = record { consistent = h; arrows = λ c. stays }
 
 -- a thread that is not Done is there
@@ -50,7 +38,7 @@ pub object_at-with_row :
     (m : State) (p place : ℕ) (o : Obj) (q : ℕ) (fd : Fd) → (q == p) ≡ false →
     object_at (with_row m p place o) q fd ≡ object_at m q fd
 object_at-with_row m p place o q fd e =
-    grind (arith, numbered-renumbered m.tables p q (slice_set (table_of m p) place (Some o)))
+    grind (arith, at_number-with_at_number m.tables p q (slice_set (table_of m p) place (Some o)))
 
 -- what an act of a call leaves alone
 pub record SameRest (m n : State) : Type 0 where
@@ -69,8 +57,8 @@ same_rest_then m n o h g =
     }
 
 pub consistent_from :
-    (m n : State) → Consistent m → SameRest m n → InOrder 0 n.calls → length n.calls ≡ n.calls_made → Coherent (core n) →
-    Consistent n
+    (m n : State) → IsConsistent m → SameRest m n → IsInOrder 0 n.calls → length n.calls ≡ n.calls_made → IsCoherent (core n) →
+    IsConsistent n
 consistent_from m n h g i e k =
     record {
       in_order = i;
@@ -109,32 +97,32 @@ same_calls_then m n o h g =
 
 -- an act that leaves the calls alone
 pub does_no_call :
-    (m : State) (t : ℕ) (q : Option Request) (n : State) → Consistent m → SameCalls m n → Coherent (core n) → Does m t q n
+    (m : State) (t : ℕ) (q : Option Request) (n : State) → IsConsistent m → SameCalls m n → IsCoherent (core n) → Does m t q n
 does_no_call m t q n h g k =
     record {
       consistent =
-          consistent_from m n h g.rest (subst (λ rs. InOrder 0 rs) (sym g.calls) h.in_order)
+          consistent_from m n h g.rest (subst (λ rs. IsInOrder 0 rs) (sym g.calls) h.in_order)
           (ap length g.calls ∙ h.counted ∙ sym g.made)
           k;
       arrows = λ c. subst (λ rs. ByAct m t q n (record_of m c) (find (has_number c) rs)) (sym g.calls) stays;
     }
 
 turned_to :
-    (m : State) (t : ℕ) (q : Option Request) (s : ThreadState) → Consistent m → is_quiet (state_of m t) ≡ true →
+    (m : State) (t : ℕ) (q : Option Request) (s : ThreadState) → IsConsistent m → is_quiet (state_of m t) ≡ true →
     is_quiet s ≡ true → Does m t q (with_state m t s)
 turned_to m t q s h e f =
     does_no_call m t q (with_state m t s) h (with_state_calls m t s)
-    (subst Coherent
+    (subst IsCoherent
     (sym (with_state-core m t s (core m) refl (there m t (λ d. grind arith))))
     (turn_keeps (core m) t s h.coherent e f))
 
 pub found_does :
-    (m : State) (t : ℕ) (q : Option Request) (path : PathId) → Consistent m → state_of m t ≡ is.Awaiting path →
-    Does m t q (found m t).state
+    (m : State) (t : ℕ) (q : Option Request) (path : PathId) → IsConsistent m → state_of m t ≡ is.Awaiting path →
+    Does m t q (end_await m t).state
 found_does m t q path h e = turned_to m t q is.Running h (grind arith) refl
 
 pub await_does :
-    (m : State) (t : ℕ) (q : Option Request) (path : PathId) → Consistent m → state_of m t ≡ is.Running →
+    (m : State) (t : ℕ) (q : Option Request) (path : PathId) → IsConsistent m → state_of m t ≡ is.Running →
     Does m t q (await m t path).state
 await_does m t q path h e = go (name_of m path)
   where
@@ -142,14 +130,14 @@ await_does m t q path h e = go (name_of m path)
     go (Some n) = does_nothing m t q h
     go None = turned_to m t q (is.Awaiting path) h (grind arith) refl
 
-with_name_does : (m : State) (t : ℕ) (q : Option Request) (n : Name) → Consistent m → Does m t q (with_name m n)
+with_name_does : (m : State) (t : ℕ) (q : Option Request) (n : Name) → IsConsistent m → Does m t q (with_name m n)
 with_name_does m t q n h =
     does_no_call m t q (with_name m n) h
     (record { rest = record { tables = refl; processes = refl; notices = refl; bound = refl }; calls = refl; made = refl })
     h.coherent
 
 pub attach_does :
-    (m : State) (t : ℕ) (q : Option Request) (p : ℕ) (fd : Fd) (path : PathId) → Consistent m →
+    (m : State) (t : ℕ) (q : Option Request) (p : ℕ) (fd : Fd) (path : PathId) → IsConsistent m →
     Does m t q (attach m p fd path).state
 attach_does m t q p fd path h = go (object_at m p fd)
   where
@@ -163,12 +151,12 @@ attach_does m t q p fd path h = go (object_at m p fd)
     go (Some _) = does_nothing m t q h
 
 -- a running thread's process has not ended
-pub not_ended : (m : State) (t : ℕ) → Consistent m → state_of m t ≡ is.Running → ended_in (numbered m.processes (process_of m t)) ≡ false
+pub not_ended : (m : State) (t : ℕ) → IsConsistent m → state_of m t ≡ is.Running → ended_in (at_number m.processes (process_of m t)) ≡ false
 not_ended m t h e = grind (arith, h.coherent.ended_done t)
 
 with_row_keeps :
-    (m : State) (p place : ℕ) (o : Obj) → Consistent m → ended_in (numbered m.processes p) ≡ false →
-    Consistent (with_row m p place o)
+    (m : State) (p place : ℕ) (o : Obj) → IsConsistent m → ended_in (at_number m.processes p) ≡ false →
+    IsConsistent (with_row m p place o)
 with_row_keeps m p place o h e =
     record {
       in_order = h.in_order;
@@ -179,7 +167,7 @@ with_row_keeps m p place o h e =
     }
 
 pub open_does :
-    (m : State) (t : ℕ) (q : Option Request) (path : PathId) → Consistent m → state_of m t ≡ is.Running →
+    (m : State) (t : ℕ) (q : Option Request) (path : PathId) → IsConsistent m → state_of m t ≡ is.Running →
     Does m t q (open_path m (process_of m t) path).state
 open_does m t q path h e = go (name_of m path)
   where
@@ -193,19 +181,19 @@ open_does m t q path h e = go (name_of m path)
     go (Some n) = at n (lowest_free (table_of m (process_of m t)))
 
 with_door_keeps :
-    (m : State) (d : Door) → Consistent m → d.number ≡ length m.doors + 1 → Consistent (with_door m d)
+    (m : State) (d : Door) → IsConsistent m → d.number ≡ length m.doors + 1 → IsConsistent (with_door m d)
 with_door_keeps m d h e =
     consistent_from m (with_door m d) h (record { tables = refl; processes = refl; notices = refl; bound = refl }) h.in_order h.counted
-    (subst Coherent
+    (subst IsCoherent
     (sym (with_door-core m d (core m) e refl))
     (door_keeps (core m) d h.coherent (numbered_past m.doors d.number (grind arith))))
 
 pub create_does :
-    (m : State) (t : ℕ) (q : Option Request) (entry cookie : ℕ) (attrs : Attrs) → Consistent m → state_of m t ≡ is.Running →
+    (m : State) (t : ℕ) (q : Option Request) (entry cookie : ℕ) (attrs : Attrs) → IsConsistent m → state_of m t ≡ is.Running →
     Does m t q (create m (process_of m t) entry cookie attrs).state
 create_does m t q entry cookie attrs h e = go (lowest_free (table_of m (process_of m t)))
   where
-    go : (o : Option ℕ) → Does m t q (created m (process_of m t) (new_door m (process_of m t) entry cookie attrs) o).state
+    go : (o : Option ℕ) → Does m t q (create_at m (process_of m t) (new_door m (process_of m t) entry cookie attrs) o).state
     go None = does_nothing m t q h
     go (Some place) =
         record {

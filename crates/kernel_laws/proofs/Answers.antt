@@ -2,29 +2,15 @@
 use Rattle.std.specs.Prelude.{ℕ, ◌≡◌, List, Option, Bool, true, false, if◌then◌else◌, Some, None, length, nat_lt}
 use Rattle.std.proofs.Common.{refl, sym, ap, ◌∙◌}
 use native.Mathlib.Omega.{arith}
-use Rattle.dk_base.specs.declared.number.Fd.{Fd}
-use Rattle.dk_base.specs.declared.number.PathId.{PathId}
-use Rattle.dk_base.specs.declared.set.Attrs.{Attrs}
-use Rattle.dk_base.specs.declared.error.Errno.{Errno}
+use Rattle.written_kernel.specs.Types.{Answer, Attrs, Call, CallStage, Errno, Fd, Name, Obj, PathId, Request, ThreadState}
 use Rattle.dk_base.specs.declared.error.Errno.TheVariants.{E2BIG}
-use Rattle.dk_base.specs.declared.object.Obj.{Obj}
 use Rattle.dk_base.specs.declared.object.Obj.TheVariants as obj
 use Rattle.dk_base.specs.declared.object.Item.TheVariants as item
-use Rattle.dk_base.specs.declared.request.Request.{Request}
 use Rattle.dk_base.specs.declared.request.Request.TheVariants as request
-use Rattle.dk_base.specs.declared.answer.Answer.{Answer}
 use Rattle.dk_base.specs.declared.answer.Answer.TheVariants as answer
-use Rattle.dk_base.specs.declared.record.Name.{Name}
-use Rattle.dk_base.specs.declared.record.ThreadState.{ThreadState}
 use Rattle.dk_base.specs.declared.record.ThreadState.TheVariants as is
-use Rattle.dk_base.specs.declared.record.Call.{Call}
-use Rattle.dk_base.specs.declared.record.CallStage.{CallStage}
 use Rattle.dk_base.specs.declared.record.CallStage.TheVariants as stage
-use Rattle.written_kernel.specs.State.{State, state_of, process_of, table_of, object_at, name_of, call_of}
-use Rattle.written_kernel.specs.Acts.{Acted, refused, lowest_free}
-use Rattle.written_kernel.specs.Doors.{new_door, created, create, call_refusal, new_call, call_unless, call_object, call, client, returned_to, return_for, return, accept_call, collect_at, collect_call}
-use Rattle.written_kernel.specs.Descriptors.{new_name, attach_unless, attach_object, attach, open_at, open_name, open_path, await_name, await}
-use Rattle.written_kernel.specs.Step.{enter, go_on, act}
+use Rattle.written_kernel.specs.Words.{ActResult, State, accept_call, act, attach, attach_object, attach_unless, await, await_name, call, call_object, call_of, call_refusal, call_unless, client, collect_at, collect_call, create, create_at, enter, go_on, lowest_free, name_of, new_call, new_door, new_name, object_at, open_at, open_name, open_path, process_of, refused_act, return, return_for, return_to, state_of, table_of}
 use Rattle.kernel_laws.proofs.CallActs.{number_of_call}
 
 -- neither an invocation that begins nor results
@@ -36,13 +22,13 @@ is_plain _ = true
 
 -- the answers of kernel entries are plain
 
-abbrev Plain : Acted → Type 0
+abbrev Plain : ActResult → Type 0
 Plain a = is_plain a.answer ≡ true
 
 create_plain : (m : State) (p entry cookie : ℕ) (attrs : Attrs) → Plain (create m p entry cookie attrs)
 create_plain m p entry cookie attrs = go (lowest_free (table_of m p))
   where
-    go : (o : Option ℕ) → Plain (created m p (new_door m p entry cookie attrs) o)
+    go : (o : Option ℕ) → Plain (create_at m p (new_door m p entry cookie attrs) o)
     go None = refl
     go (Some place) = refl
 
@@ -61,7 +47,7 @@ call_plain m t p fd bytes rsize = go (object_at m p fd)
 return_plain : (m : State) (t : ℕ) (bytes : List ℕ) → Plain (return m t bytes)
 return_plain m t bytes = go (client m t)
   where
-    sized : (r : Call) (b : Bool) → Plain (if b then refused m E2BIG else returned_to m t bytes r)
+    sized : (r : Call) (b : Bool) → Plain (if b then refused_act m E2BIG else return_to m t bytes r)
     sized r true = refl
     sized r false = refl
 

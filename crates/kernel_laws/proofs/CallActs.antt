@@ -4,31 +4,20 @@ use Rattle.std.proofs.Common.{refl, sym, ap, subst, ◌∙◌}
 use native.Mathlib.Omega.{arith}
 use Rattle.std.proofs.Common.{length-append}
 use Rattle.std.proofs.lemmas.Bool.Decides.{nat_tests}
-use Rattle.dk_base.specs.declared.number.Fd.{Fd}
-use Rattle.dk_base.specs.declared.error.Errno.{Errno}
+use Rattle.written_kernel.specs.Types.{Call, CallStage, Errno, Fd, Inv, Item, Obj, Pass, Request}
 use Rattle.dk_base.specs.declared.error.Errno.TheVariants.{E2BIG}
-use Rattle.written_kernel.specs.Acts.{refused}
-use Rattle.dk_base.specs.declared.object.Pass.{Pass}
-use Rattle.dk_base.specs.declared.object.Obj.{Obj}
+use Rattle.written_kernel.specs.Words.{State, accept, accept_call, answer_call, call, call_object, call_of, call_refusal, call_unless, client, client_call, client_in, client_item, collect, collect_at, collect_call, enter_call, invocation_of, is_to_collect, is_valid, new_call, new_invocation, now, object_at, open_call, park, process_of, refused_act, return, return_for, return_to, state_of, tid, with_call, with_invocation, with_new_call, with_state, without_arguments_at}
 use Rattle.dk_base.specs.declared.object.Obj.TheVariants as obj
-use Rattle.dk_base.specs.declared.object.Inv.{Inv}
-use Rattle.dk_base.specs.declared.object.Item.{Item}
 use Rattle.dk_base.specs.declared.object.Item.TheVariants as item
-use Rattle.dk_base.specs.declared.request.Request.{Request}
 use Rattle.dk_base.specs.declared.request.Request.TheVariants as request
 use Rattle.dk_base.specs.declared.record.ThreadState.TheVariants as is
-use Rattle.dk_base.specs.declared.record.Call.{Call}
-use Rattle.dk_base.specs.declared.record.CallStage.{CallStage}
 use Rattle.dk_base.specs.declared.record.CallStage.TheVariants as stage
-use Rattle.written_kernel.specs.State.{State, tid, now, state_of, process_of, invocation_of, object_at, call_of, is_valid, moved_on, with_call, with_state, with_invocation}
-use Rattle.written_kernel.specs.Turns.{is_to_collect}
-use Rattle.written_kernel.specs.Doors.{call_refusal, new_call, with_new_call, called, call_unless, call_object, call, client_call, client_item, client_in, client, parked, returned_to, return_for, return, invocation, entered, accept_call, accept, answered, collect_at, collect_call, collect}
 use Rattle.kernel_laws.specs.Once.{record_of, item_in}
 use Rattle.kernel_laws.specs.Core.{Core, core, abandoned_in}
-use Rattle.kernel_laws.specs.Invariant.{InOrder, Coherent, Consistent}
+use Rattle.kernel_laws.specs.Invariant.{IsInOrder, IsCoherent, IsConsistent}
 use Rattle.kernel_laws.specs.Arrows.{ByAct}
-use Rattle.kernel_laws.specs.Arrows.ByAct.{stays, made, returned as returns, answered as collects, entered as enters}
-use Rattle.kernel_laws.proofs.Calls.{find_call, find_call-number, find_call_live, find-past, InOrder-push, InOrder-replaced, length-replaced}
+use Rattle.kernel_laws.specs.Arrows.ByAct.{stays, makes, returns, answers as collects, enters}
+use Rattle.kernel_laws.proofs.Calls.{find_call, find_call-number, find_call_live, find-past, IsInOrder-push, IsInOrder-with_live_call, length-with_live_call}
 use Rattle.kernel_laws.proofs.Cores.{upd, There, set_role, set_serves, set_call, set_new_call, with_state-core, with_invocation-core, with_call-core, with_new_call-core}
 use Rattle.kernel_laws.proofs.CallMoves.{call_keeps, Parks, entered_core, enter_keeps, returned_core, return_keeps, park_keeps, answered_core, collect_keeps}
 use Rattle.kernel_laws.proofs.Acts.{Does, does_nothing, does_no_call, there, same_rest_then, consistent_from, SameCalls, with_state_calls, with_invocation_calls, same_calls_then}
@@ -49,7 +38,7 @@ arrow_at m t q n i x f g e a c = go (c == i) refl
         subst (λ o. ByAct m t q n (f c) o) (sym is) stays
 
 -- the record of a live call
-pub record_of_call : (m : State) (c : ℕ) (r : Call) → Consistent m → call_of m c ≡ Some r → record_of m c ≡ Some r
+pub record_of_call : (m : State) (c : ℕ) (r : Call) → IsConsistent m → call_of m c ≡ Some r → record_of m c ≡ Some r
 record_of_call m c r h e = find_call-number m.calls 0 c r h.in_order e
 
 pub number_of_call : (m : State) (c : ℕ) (r : Call) → call_of m c ≡ Some r → r.number ≡ c
@@ -57,16 +46,16 @@ number_of_call m c r e = (find_call m.calls c r e).0
 
 -- an act that changes one call
 does_one_call :
-    (m : State) (t : ℕ) (q : Option Request) (n : State) (r x : Call) → Consistent m → call_of m r.number ≡ Some r →
+    (m : State) (t : ℕ) (q : Option Request) (n : State) (r x : Call) → IsConsistent m → call_of m r.number ≡ Some r →
     x.number ≡ r.number → SameCalls (with_call m r.number x) n → (k : Core) → core n ≡ set_call k r.number x →
-    ((c : ℕ) → k.call c ≡ record_of m c) → Coherent (core n) → ByAct m t q n (Some r) (Some x) → Does m t q n
+    ((c : ℕ) → k.call c ≡ record_of m c) → IsCoherent (core n) → ByAct m t q n (Some r) (Some x) → Does m t q n
 does_one_call m t q n r x h f e g k l s i a =
     record {
       consistent =
           consistent_from m n h
           (same_rest_then m (with_call m r.number x) n (record { tables = refl; processes = refl; notices = refl; bound = refl }) g.rest)
-          (subst (λ rs. InOrder 0 rs) (sym g.calls) (InOrder-replaced m.calls 0 r.number x h.in_order e))
-          (ap length g.calls ∙ length-replaced m.calls r.number x ∙ h.counted ∙ sym g.made)
+          (subst (λ rs. IsInOrder 0 rs) (sym g.calls) (IsInOrder-with_live_call m.calls 0 r.number x h.in_order e))
+          (ap length g.calls ∙ length-with_live_call m.calls r.number x ∙ h.counted ∙ sym g.made)
           i;
       arrows =
           arrow_at m t q n r.number x (λ c. record_of m c) (λ c. record_of n c)
@@ -80,21 +69,21 @@ call_valid : (m : State) (d : ℕ) (bytes : List ℕ) → call_refusal m d bytes
 call_valid m d bytes e = grind arith
 
 called_does :
-    (m : State) (t d rsize : ℕ) (fd : Fd) (bytes : List ℕ) (pass : List Pass) → Consistent m → state_of m t ≡ is.Running →
+    (m : State) (t d rsize : ℕ) (fd : Fd) (bytes : List ℕ) (pass : List Pass) → IsConsistent m → state_of m t ≡ is.Running →
     object_at m (process_of m t) fd ≡ Some (obj.Door d) → is_valid m d ≡ true →
-    Does m t (Some (request.Call fd bytes pass rsize)) (called m t (new_call m t d bytes rsize)).state
+    Does m t (Some (request.Call fd bytes pass rsize)) (open_call m t (new_call m t d bytes rsize)).state
 called_does m t d rsize fd bytes pass h e o v =
     record {
       consistent =
           consistent_from m n h
           (same_rest_then m n1 n (record { tables = refl; processes = refl; notices = refl; bound = refl }) same.rest)
-          (subst (λ rs. InOrder 0 rs) (sym same.calls) (InOrder-push m.calls 0 r h.in_order (grind (arith, h.counted))))
+          (subst (λ rs. IsInOrder 0 rs) (sym same.calls) (IsInOrder-push m.calls 0 r h.in_order (grind (arith, h.counted))))
           (ap length same.calls ∙ counted ∙ sym same.made)
-          (subst Coherent (sym l) (call_keeps (core m) t r h.coherent
+          (subst IsCoherent (sym l) (call_keeps (core m) t r h.coherent
           (record { running = e; number = refl; caller = refl; kept = refl; queued = refl; valid = v })));
       arrows =
           arrow_at m t q n (m.calls_made + 1) r (λ c. record_of m c) (λ c. record_of n c) (λ c. ap (λ (j : Core). j.call c) l)
-          (subst (λ p. ByAct m t q n p (Some r)) (sym new) (made d rsize fd bytes pass refl o v));
+          (subst (λ p. ByAct m t q n p (Some r)) (sym new) (makes d rsize fd bytes pass refl o v));
     }
   where
     q : Option Request
@@ -124,7 +113,7 @@ called_does m t d rsize fd bytes pass h e o v =
     new = find-past m.calls 0 (m.calls_made + 1) h.in_order (grind (arith, h.counted))
 
 pub call_does :
-    (m : State) (t rsize : ℕ) (fd : Fd) (bytes : List ℕ) (pass : List Pass) → Consistent m → state_of m t ≡ is.Running →
+    (m : State) (t rsize : ℕ) (fd : Fd) (bytes : List ℕ) (pass : List Pass) → IsConsistent m → state_of m t ≡ is.Running →
     Does m t (Some (request.Call fd bytes pass rsize)) (call m t (process_of m t) fd bytes rsize).state
 call_does m t rsize fd bytes pass h e = go (object_at m (process_of m t) fd) refl
   where
@@ -143,19 +132,19 @@ call_does m t rsize fd bytes pass h e = go (object_at m (process_of m t) fd) ref
 
 -- accept
 
-entered-core :
-    (m : State) (t : ℕ) (r : Call) → Consistent m → call_of m r.number ≡ Some r →
-    state_of m t ≡ is.Given (item.Call r.number) → core (entered m t r) ≡ entered_core (core m) t r
-entered-core m t r h f e =
+enter_call-core :
+    (m : State) (t : ℕ) (r : Call) → IsConsistent m → call_of m r.number ≡ Some r →
+    state_of m t ≡ is.Given (item.Call r.number) → core (enter_call m t r) ≡ entered_core (core m) t r
+enter_call-core m t r h f e =
     with_state-core n2 t is.Running (set_serves (set_call (core m) r.number x) t v)
     (with_invocation-core n1 t v (set_call (core m) r.number x) (with_call-core m r.number r x (core m) h.in_order f refl refl) th)
     th
   where
     x : Call
-    x = moved_on r (stage.Entered (tid t))
+    x = without_arguments_at r (stage.Entered (tid t))
 
     v : Option Inv
-    v = Some (invocation (item.Call r.number))
+    v = Some (new_invocation (item.Call r.number))
 
     n1 : State
     n1 = with_call m r.number x
@@ -167,20 +156,20 @@ entered-core m t r h f e =
     th = there m t (λ z. grind arith)
 
 entered_does :
-    (m : State) (t : ℕ) (r : Call) → Consistent m → call_of m r.number ≡ Some r →
-    state_of m t ≡ is.Given (item.Call r.number) → Does m t None (entered m t r)
+    (m : State) (t : ℕ) (r : Call) → IsConsistent m → call_of m r.number ≡ Some r →
+    state_of m t ≡ is.Given (item.Call r.number) → Does m t None (enter_call m t r)
 entered_does m t r h f e =
     does_one_call m t None n r x h f refl
     (same_calls_then n1 n2 n (with_invocation_calls n1 t v) (with_state_calls n2 t is.Running))
     (set_role (set_serves (core m) t v) t is.Running) l (λ c. refl)
-    (subst Coherent (sym l) (enter_keeps (core m) t r h.coherent (record_of_call m r.number r h f) e))
+    (subst IsCoherent (sym l) (enter_keeps (core m) t r h.coherent (record_of_call m r.number r h f) e))
     (enters r refl e given)
   where
     x : Call
-    x = moved_on r (stage.Entered (tid t))
+    x = without_arguments_at r (stage.Entered (tid t))
 
     v : Option Inv
-    v = Some (invocation (item.Call r.number))
+    v = Some (new_invocation (item.Call r.number))
 
     n1 : State
     n1 = with_call m r.number x
@@ -192,13 +181,13 @@ entered_does m t r h f e =
     n = with_state n2 t is.Running
 
     l : core n ≡ entered_core (core m) t r
-    l = entered-core m t r h f e
+    l = enter_call-core m t r h f e
 
     given : r.stage ≡ stage.Given (tid t)
     given = grind (arith, h.coherent.given_back r.number t e, record_of_call m r.number r h f)
 
 pub accept_does :
-    (m : State) (t : ℕ) (i : Item) → Consistent m → state_of m t ≡ is.Given i → Does m t None (accept m t i).state
+    (m : State) (t : ℕ) (i : Item) → IsConsistent m → state_of m t ≡ is.Given i → Does m t None (accept m t i).state
 accept_does m t (item.Notice n) h e = does_nothing m t None h
 accept_does m t (item.Call c) h e = go (call_of m c) refl
   where
@@ -211,27 +200,27 @@ accept_does m t (item.Call c) h e = go (call_of m c) refl
 
 -- collect
 
-answered-core :
-    (m : State) (t : ℕ) (r : Call) → Consistent m → call_of m r.number ≡ Some r → state_of m t ≡ is.Calling r.number →
-    core (answered m t r) ≡ answered_core (core m) t r (now m)
-answered-core m t r h f e =
+answer_call-core :
+    (m : State) (t : ℕ) (r : Call) → IsConsistent m → call_of m r.number ≡ Some r → state_of m t ≡ is.Calling r.number →
+    core (answer_call m t r) ≡ answered_core (core m) t r (now m)
+answer_call-core m t r h f e =
     with_state-core (with_call m r.number x) t is.Running (set_call (core m) r.number x)
     (with_call-core m r.number r x (core m) h.in_order f refl refl)
     (there m t (λ z. grind arith))
   where
     x : Call
-    x = moved_on r (stage.Answered (now m))
+    x = without_arguments_at r (stage.Answered (now m))
 
 answered_does :
-    (m : State) (t : ℕ) (r : Call) → Consistent m → call_of m r.number ≡ Some r → state_of m t ≡ is.Calling r.number →
-    is_to_collect r.stage ≡ true → Does m t None (answered m t r)
+    (m : State) (t : ℕ) (r : Call) → IsConsistent m → call_of m r.number ≡ Some r → state_of m t ≡ is.Calling r.number →
+    is_to_collect r.stage ≡ true → Does m t None (answer_call m t r)
 answered_does m t r h f e z =
     does_one_call m t None n r x h f refl (with_state_calls n1 t is.Running) (set_role (core m) t is.Running) l (λ c. refl)
-    (subst Coherent (sym l) (collect_keeps (core m) t r (now m) h.coherent (record_of_call m r.number r h f) e z))
+    (subst IsCoherent (sym l) (collect_keeps (core m) t r (now m) h.coherent (record_of_call m r.number r h f) e z))
     (collects r refl e caller z)
   where
     x : Call
-    x = moved_on r (stage.Answered (now m))
+    x = without_arguments_at r (stage.Answered (now m))
 
     n1 : State
     n1 = with_call m r.number x
@@ -240,13 +229,13 @@ answered_does m t r h f e z =
     n = with_state n1 t is.Running
 
     l : core n ≡ answered_core (core m) t r (now m)
-    l = answered-core m t r h f e
+    l = answer_call-core m t r h f e
 
     caller : r.caller.0 ≡ t
     caller = grind (arith, h.coherent.caller r.number t e, record_of_call m r.number r h f)
 
 pub collect_does :
-    (m : State) (t c : ℕ) → Consistent m → state_of m t ≡ is.Calling c → Does m t None (collect m t c).state
+    (m : State) (t c : ℕ) → IsConsistent m → state_of m t ≡ is.Calling c → Does m t None (collect m t c).state
 collect_does m t c h e = go (call_of m c) refl
   where
     at :
@@ -266,7 +255,7 @@ collect_does m t c h e = go (call_of m c) refl
 
 -- door_return
 
-parks : (m : State) (t : ℕ) → Consistent m → state_of m t ≡ is.Running → Parks (core m) t
+parks : (m : State) (t : ℕ) → IsConsistent m → state_of m t ≡ is.Running → Parks (core m) t
 parks m t h e = record { running = e; valid = λ d f. grind (arith, h.unbuilt.unbound t) }
 
 -- the client of a thread is its call, where that is not abandoned
@@ -293,7 +282,7 @@ client_is m t r = go (invocation_of m t) refl
     go (Some v) f e = item_is v.item (ap item_in f) e
 
 no_client :
-    (m : State) (t c : ℕ) → Consistent m → client m t ≡ None → item_in (invocation_of m t) ≡ Some (item.Call c) →
+    (m : State) (t c : ℕ) → IsConsistent m → client m t ≡ None → item_in (invocation_of m t) ≡ Some (item.Call c) →
     abandoned_in (record_of m c) ≡ true
 no_client m t c h e f = go (record_of m c) refl
   where
@@ -305,13 +294,13 @@ no_client m t c h e f = go (record_of m c) refl
     go (Some r) g = grind (arith, h.coherent.entered_back c t f, find_call_live m.calls c r g)
 
 returned_does :
-    (m : State) (t : ℕ) (bytes : List ℕ) (pass : List Pass) (r : Call) → Consistent m → state_of m t ≡ is.Running →
-    IsClient m t r → Does m t (Some (request.Return bytes pass)) (returned_to m t bytes r).state
+    (m : State) (t : ℕ) (bytes : List ℕ) (pass : List Pass) (r : Call) → IsConsistent m → state_of m t ≡ is.Running →
+    IsClient m t r → Does m t (Some (request.Return bytes pass)) (return_to m t bytes r).state
 returned_does m t bytes pass r h e s =
     does_one_call m t q n r x h s.found refl
     (same_calls_then n1 n2 n (with_invocation_calls n1 t None) (with_state_calls n2 t (is.Idle (now m))))
     (set_role (set_serves (core m) t None) t (is.Idle (now m))) l (λ c. refl)
-    (subst Coherent (sym l)
+    (subst IsCoherent (sym l)
     (return_keeps (core m) t r bytes (now m) h.coherent (parks m t h e) (record_of_call m r.number r h s.found) s.served s.kept))
     (returns r bytes pass refl entered_by s.kept)
   where
@@ -319,7 +308,7 @@ returned_does m t bytes pass r h e s =
     q = Some (request.Return bytes pass)
 
     x : Call
-    x = moved_on r (stage.Returned bytes [])
+    x = without_arguments_at r (stage.Returned bytes [])
 
     n1 : State
     n1 = with_call m r.number x
@@ -342,12 +331,12 @@ returned_does m t bytes pass r h e s =
     entered_by = grind (arith, h.coherent.entered_back r.number t s.served, record_of_call m r.number r h s.found, s.kept)
 
 parked_does :
-    (m : State) (t : ℕ) (q : Option Request) → Consistent m → state_of m t ≡ is.Running → client m t ≡ None →
-    Does m t q (parked m t)
+    (m : State) (t : ℕ) (q : Option Request) → IsConsistent m → state_of m t ≡ is.Running → client m t ≡ None →
+    Does m t q (park m t)
 parked_does m t q h e f =
     does_no_call m t q n h
     (same_calls_then m n1 n (with_invocation_calls m t None) (with_state_calls n1 t (is.Idle (now m))))
-    (subst Coherent (sym l)
+    (subst IsCoherent (sym l)
     (park_keeps (core m) t (now m) h.coherent (parks m t h e) (λ c g. no_client m t c h f g)
     (λ i g. grind (arith, h.coherent.notice_entered_back i t g, h.unbuilt.no_notices))))
   where
@@ -364,13 +353,13 @@ parked_does m t q h e f =
     l = with_state-core n1 t (is.Idle (now m)) (set_serves (core m) t None) (with_invocation-core m t None (core m) refl th) th
 
 pub return_does :
-    (m : State) (t : ℕ) (bytes : List ℕ) (pass : List Pass) → Consistent m → state_of m t ≡ is.Running →
+    (m : State) (t : ℕ) (bytes : List ℕ) (pass : List Pass) → IsConsistent m → state_of m t ≡ is.Running →
     Does m t (Some (request.Return bytes pass)) (return m t bytes).state
 return_does m t bytes pass h e = go (client m t) refl
   where
     sized :
         (r : Call) → IsClient m t r → (b : Bool) →
-        Does m t (Some (request.Return bytes pass)) (if b then refused m E2BIG else returned_to m t bytes r).state
+        Does m t (Some (request.Return bytes pass)) (if b then refused_act m E2BIG else return_to m t bytes r).state
     sized r s true = does_nothing m t _ h
     sized r s false = returned_does m t bytes pass r h e s
 
@@ -381,22 +370,22 @@ return_does m t bytes pass h e = go (client m t) refl
 -- what the accept of a call leaves of it and of its thread
 
 pub record AfterAccept (m : State) (t : ℕ) (r : Call) : Type 0 where
-  pub record_after : record_of (entered m t r) r.number ≡ Some (moved_on r (stage.Entered (tid t)))
-  pub serves_after : invocation_of (entered m t r) t ≡ Some (invocation (item.Call r.number))
-  pub others : (u : ℕ) → (u == t) ≡ false → invocation_of (entered m t r) u ≡ invocation_of m u
+  pub record_after : record_of (enter_call m t r) r.number ≡ Some (without_arguments_at r (stage.Entered (tid t)))
+  pub serves_after : invocation_of (enter_call m t r) t ≡ Some (new_invocation (item.Call r.number))
+  pub others : (u : ℕ) → (u == t) ≡ false → invocation_of (enter_call m t r) u ≡ invocation_of m u
 
 pub after_accept :
-    (m : State) (t : ℕ) (r : Call) → Consistent m → call_of m r.number ≡ Some r →
+    (m : State) (t : ℕ) (r : Call) → IsConsistent m → call_of m r.number ≡ Some r →
     state_of m t ≡ is.Given (item.Call r.number) → AfterAccept m t r
 after_accept m t r h f e =
     record {
-      record_after = ap (λ (k : Core). k.call r.number) (entered-core m t r h f e) ∙ grind (arith, nat_tests);
-      serves_after = ap (λ (k : Core). k.serves t) (entered-core m t r h f e) ∙ grind (arith, nat_tests);
-      others = λ u g. ap (λ (k : Core). k.serves u) (entered-core m t r h f e) ∙ grind (arith, nat_tests);
+      record_after = ap (λ (k : Core). k.call r.number) (enter_call-core m t r h f e) ∙ grind (arith, nat_tests);
+      serves_after = ap (λ (k : Core). k.serves t) (enter_call-core m t r h f e) ∙ grind (arith, nat_tests);
+      others = λ u g. ap (λ (k : Core). k.serves u) (enter_call-core m t r h f e) ∙ grind (arith, nat_tests);
     }
 
 -- what the collect of a call leaves of it
 pub record_after_collect :
-    (m : State) (t : ℕ) (r : Call) → Consistent m → call_of m r.number ≡ Some r → state_of m t ≡ is.Calling r.number →
-    record_of (answered m t r) r.number ≡ Some (moved_on r (stage.Answered (now m)))
-record_after_collect m t r h f e = ap (λ (k : Core). k.call r.number) (answered-core m t r h f e) ∙ grind (arith, nat_tests)
+    (m : State) (t : ℕ) (r : Call) → IsConsistent m → call_of m r.number ≡ Some r → state_of m t ≡ is.Calling r.number →
+    record_of (answer_call m t r) r.number ≡ Some (without_arguments_at r (stage.Answered (now m)))
+record_after_collect m t r h f e = ap (λ (k : Core). k.call r.number) (answer_call-core m t r h f e) ∙ grind (arith, nat_tests)

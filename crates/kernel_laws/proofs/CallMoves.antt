@@ -4,14 +4,12 @@ use native.Mathlib.Omega.{arith}
 use Rattle.std.proofs.lemmas.Bool.Decides.{nat_tests}
 use Rattle.dk_base.specs.declared.object.Item.TheVariants as item
 use Rattle.dk_base.specs.declared.record.ThreadState.TheVariants as is
-use Rattle.dk_base.specs.declared.record.Call.{Call}
+use Rattle.written_kernel.specs.Types.{Call}
 use Rattle.dk_base.specs.declared.record.CallStage.TheVariants as stage
-use Rattle.written_kernel.specs.State.{tid, moved_on}
-use Rattle.written_kernel.specs.Turns.{is_to_collect}
-use Rattle.written_kernel.specs.Doors.{invocation}
+use Rattle.written_kernel.specs.Words.{is_to_collect, new_invocation, tid, without_arguments_at}
 use Rattle.kernel_laws.specs.Once.{item_in}
 use Rattle.kernel_laws.specs.Core.{Core, abandoned_in, valid_in}
-use Rattle.kernel_laws.specs.Invariant.{Coherent}
+use Rattle.kernel_laws.specs.Invariant.{IsCoherent}
 use Rattle.kernel_laws.proofs.Cores.{set_role, set_serves, set_call, set_new_call}
 
 -- a new call of a running thread waits at a valid door
@@ -26,7 +24,7 @@ pub record Calls (k : Core) (t : ℕ) (r : Call) : Type 0 where
   pub queued : r.stage ≡ stage.Queued
   pub valid : valid_in k (k.door r.door) ≡ true
 
-pub call_keeps : (k : Core) (t : ℕ) (r : Call) → Coherent k → Calls k t r → Coherent (with_call_of k t r)
+pub call_keeps : (k : Core) (t : ℕ) (r : Call) → IsCoherent k → Calls k t r → IsCoherent (with_call_of k t r)
 call_keeps k t r h p = record {
   given = λ c v e. grind (arith, nat_tests, h.given c v);
   given_back = λ c v e. grind (arith, nat_tests, h.given_back c v);
@@ -60,11 +58,11 @@ call_keeps k t r h p = record {
 -- a thread enters the call that it was given
 abbrev pub entered_core : Core → ℕ → Call → Core
 entered_core k t r =
-    set_role (set_serves (set_call k r.number (moved_on r (stage.Entered (tid t)))) t (Some (invocation (item.Call r.number)))) t is.Running
+    set_role (set_serves (set_call k r.number (without_arguments_at r (stage.Entered (tid t)))) t (Some (new_invocation (item.Call r.number)))) t is.Running
 
 pub enter_keeps :
-    (k : Core) (t : ℕ) (r : Call) → Coherent k → k.call r.number ≡ Some r → k.role t ≡ is.Given (item.Call r.number) →
-    Coherent (entered_core k t r)
+    (k : Core) (t : ℕ) (r : Call) → IsCoherent k → k.call r.number ≡ Some r → k.role t ≡ is.Given (item.Call r.number) →
+    IsCoherent (entered_core k t r)
 enter_keeps k t r h q g = record {
   given = λ c v e. grind (arith, nat_tests, h.given c v);
   given_back = λ c v e. grind (arith, nat_tests, h.given_back c v);
@@ -98,15 +96,15 @@ enter_keeps k t r h q g = record {
 -- a thread returns from its call, and is parked
 abbrev pub returned_core : Core → ℕ → Call → List ℕ → ℕ → Core
 returned_core k t r bytes since =
-    set_role (set_serves (set_call k r.number (moved_on r (stage.Returned bytes []))) t None) t (is.Idle since)
+    set_role (set_serves (set_call k r.number (without_arguments_at r (stage.Returned bytes []))) t None) t (is.Idle since)
 
 pub record Parks (k : Core) (t : ℕ) : Type 0 where
   pub running : k.role t ≡ is.Running
   pub valid : (d : ℕ) → k.bound t ≡ Some d → valid_in k (k.door d) ≡ true
 
 pub return_keeps :
-    (k : Core) (t : ℕ) (r : Call) (bytes : List ℕ) (since : ℕ) → Coherent k → Parks k t → k.call r.number ≡ Some r →
-    item_in (k.serves t) ≡ Some (item.Call r.number) → r.abandoned ≡ false → Coherent (returned_core k t r bytes since)
+    (k : Core) (t : ℕ) (r : Call) (bytes : List ℕ) (since : ℕ) → IsCoherent k → Parks k t → k.call r.number ≡ Some r →
+    item_in (k.serves t) ≡ Some (item.Call r.number) → r.abandoned ≡ false → IsCoherent (returned_core k t r bytes since)
 return_keeps k t r bytes since h p q s a = record {
   given = λ c v e. grind (arith, nat_tests, h.given c v);
   given_back = λ c v e. grind (arith, nat_tests, h.given_back c v);
@@ -142,9 +140,9 @@ abbrev pub parked_core : Core → ℕ → ℕ → Core
 parked_core k t since = set_role (set_serves k t None) t (is.Idle since)
 
 pub park_keeps :
-    (k : Core) (t since : ℕ) → Coherent k → Parks k t →
+    (k : Core) (t since : ℕ) → IsCoherent k → Parks k t →
     ((c : ℕ) → item_in (k.serves t) ≡ Some (item.Call c) → abandoned_in (k.call c) ≡ true) →
-    ((n : ℕ) → item_in (k.serves t) ≡ Some (item.Notice n) → ⊥) → Coherent (parked_core k t since)
+    ((n : ℕ) → item_in (k.serves t) ≡ Some (item.Notice n) → ⊥) → IsCoherent (parked_core k t since)
 park_keeps k t since h p q z = record {
   given = λ c v e. grind (arith, nat_tests, h.given c v);
   given_back = λ c v e. grind (arith, nat_tests, h.given_back c v);
@@ -177,11 +175,11 @@ park_keeps k t since h p q z = record {
 
 -- a caller collects the answer of its call
 abbrev pub answered_core : Core → ℕ → Call → ℕ → Core
-answered_core k t r at = set_role (set_call k r.number (moved_on r (stage.Answered at))) t is.Running
+answered_core k t r at = set_role (set_call k r.number (without_arguments_at r (stage.Answered at))) t is.Running
 
 pub collect_keeps :
-    (k : Core) (t : ℕ) (r : Call) (at : ℕ) → Coherent k → k.call r.number ≡ Some r → k.role t ≡ is.Calling r.number →
-    is_to_collect r.stage ≡ true → Coherent (answered_core k t r at)
+    (k : Core) (t : ℕ) (r : Call) (at : ℕ) → IsCoherent k → k.call r.number ≡ Some r → k.role t ≡ is.Calling r.number →
+    is_to_collect r.stage ≡ true → IsCoherent (answered_core k t r at)
 collect_keeps k t r at h q g z = record {
   given = λ c v e. grind (arith, nat_tests, h.given c v);
   given_back = λ c v e. grind (arith, nat_tests, h.given_back c v);

@@ -2,17 +2,10 @@
 use Rattle.std.specs.Prelude.{ℕ, ◌≡◌, Option, true, false, Some, None}
 use Rattle.std.proofs.Common.{refl, sym, ap, subst, ◌∙◌}
 use native.Mathlib.Omega.{arith}
-use Rattle.dk_base.specs.declared.request.Request.{Request}
+use Rattle.written_kernel.specs.Types.{Call, CallStage, Request}
 use Rattle.dk_base.specs.declared.record.ThreadState.TheVariants as is
-use Rattle.dk_base.specs.declared.record.Call.{Call}
-use Rattle.dk_base.specs.declared.record.CallStage.{CallStage}
 use Rattle.dk_base.specs.declared.record.CallStage.TheVariants as stage
-use Rattle.written_kernel.specs.State.{State, now, state_of, call_of, moved_on}
-use Rattle.written_kernel.specs.Turns.{is_to_collect, has_answer, can_go_on}
-use Rattle.written_kernel.specs.Doors.{answered, collect_at, collect_call}
-use Rattle.written_kernel.specs.Settle.{settle}
-use Rattle.written_kernel.specs.Step.{act, step, go_on}
-use Rattle.written_kernel.specs.Legal.{MayTurn}
+use Rattle.written_kernel.specs.Words.{MayTurn, State, act, answer_call, call_of, can_go_on, collect_at, collect_call, go_on, has_answer, is_to_collect, now, settle, state_of, step, without_arguments_at}
 use Rattle.kernel_laws.specs.Once.{record_of, is_answered, is_answered_in}
 use Rattle.kernel_laws.specs.Invariant.{Invariant}
 use Rattle.kernel_laws.proofs.CallActs.{record_of_call, number_of_call, record_after_collect}
@@ -24,7 +17,7 @@ pub record Collected (m : State) (t : ℕ) (q : Option Request) (c : ℕ) : Type
   pub after : is_answered (step m t q).state c ≡ true
 
 collects_at :
-    (m : State) (t : ℕ) (r : Call) (s : CallStage) → is_to_collect s ≡ true → (collect_at m t r s).state ≡ answered m t r
+    (m : State) (t : ℕ) (r : Call) (s : CallStage) → is_to_collect s ≡ true → (collect_at m t r s).state ≡ answer_call m t r
 collects_at m t r (stage.Returned bytes objects) e = refl
 collects_at m t r (stage.Ended x) e = refl
 collects_at m t r s e = grind arith
@@ -42,10 +35,10 @@ collected_call m t r h may e f z =
     d : StepDoes m t None
     d = step_does m t None h may
 
-    acted : (act m t None).state ≡ answered m t r
+    acted : (act m t None).state ≡ answer_call m t r
     acted = ap (λ s. (go_on m t s).state) e ∙ ap (λ o. (collect_call m t o).state) f ∙ collects_at m t r r.stage z
 
-    recorded : record_of (act m t None).state r.number ≡ Some (moved_on r (stage.Answered (now m)))
+    recorded : record_of (act m t None).state r.number ≡ Some (without_arguments_at r (stage.Answered (now m)))
     recorded = ap (λ n. record_of n r.number) acted ∙ record_after_collect m t r h.consistent f e
 
     same : record_of (settle (act m t None).state) r.number ≡ record_of (act m t None).state r.number

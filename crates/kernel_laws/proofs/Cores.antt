@@ -3,17 +3,12 @@ use Rattle.std.specs.Prelude.{ℕ, ◌≡◌, ◌+◌, Option, true, ◌==◌, i
 use Rattle.std.proofs.Common.{refl, sym, ap, subst, ◌∙◌}
 use native.Mathlib.Omega.{arith}
 use Rattle.std.proofs.lemmas.Bool.Decides.{nat_tests}
-use Rattle.dk_base.specs.declared.object.Inv.{Inv}
-use Rattle.dk_base.specs.declared.record.Thread.{Thread}
-use Rattle.dk_base.specs.declared.record.ThreadState.{ThreadState}
-use Rattle.dk_base.specs.declared.record.Door.{Door}
-use Rattle.dk_base.specs.declared.record.Call.{Call}
-use Rattle.written_kernel.specs.State.{State, thread_of, with_state, with_state_in, with_invocation, with_invocation_in, with_call, call_of}
-use Rattle.written_kernel.specs.Doors.{with_door, with_new_call}
+use Rattle.written_kernel.specs.Types.{Call, Door, Inv, Thread, ThreadState}
+use Rattle.written_kernel.specs.Words.{State, call_of, thread_of, with_call, with_door, with_invocation, with_invocation_in, with_new_call, with_state, with_state_in}
 use Rattle.kernel_laws.specs.Core.{Core, core, number_in}
-use Rattle.kernel_laws.specs.Invariant.{InOrder}
-use Rattle.written_kernel.proofs.Lists.{numbered-renumbered_there, numbered_push}
-use Rattle.kernel_laws.proofs.Calls.{find-replaced, find-push}
+use Rattle.kernel_laws.specs.Invariant.{IsInOrder}
+use Rattle.written_kernel.proofs.Lists.{at_number-renumbered_there, numbered_push}
+use Rattle.kernel_laws.proofs.Calls.{find-with_live_call, find-push}
 
 abbrev pub upd : {X : Type 0} → (ℕ → X) → ℕ → X → ℕ → X
 upd f i x j = if j == i then x else f j
@@ -68,10 +63,10 @@ with_state_in-core :
     SameCore (core (with_state_in m t s o)) (set_role (core m) t s)
 with_state_in-core m t s None e h = grind arith
 with_state_in-core m t s (Some x) e h = record {
-  role = λ u. grind (arith, nat_tests, numbered-renumbered_there m.threads t u (record x { state = s }) x e);
-  serves = λ u. grind (arith, nat_tests, numbered-renumbered_there m.threads t u (record x { state = s }) x e);
-  process = λ u. grind (arith, nat_tests, numbered-renumbered_there m.threads t u (record x { state = s }) x e);
-  number = λ u. grind (arith, nat_tests, numbered-renumbered_there m.threads t u (record x { state = s }) x e);
+  role = λ u. grind (arith, nat_tests, at_number-renumbered_there m.threads t u (record x { state = s }) x e);
+  serves = λ u. grind (arith, nat_tests, at_number-renumbered_there m.threads t u (record x { state = s }) x e);
+  process = λ u. grind (arith, nat_tests, at_number-renumbered_there m.threads t u (record x { state = s }) x e);
+  number = λ u. grind (arith, nat_tests, at_number-renumbered_there m.threads t u (record x { state = s }) x e);
   bound = λ u. refl;
   door = λ u. refl;
   proc = λ u. refl;
@@ -91,10 +86,10 @@ with_invocation_in-core :
     SameCore (core (with_invocation_in m t v o)) (set_serves (core m) t v)
 with_invocation_in-core m t v None e h = grind arith
 with_invocation_in-core m t v (Some x) e h = record {
-  role = λ u. grind (arith, nat_tests, numbered-renumbered_there m.threads t u (record x { invocation = v }) x e);
-  serves = λ u. grind (arith, nat_tests, numbered-renumbered_there m.threads t u (record x { invocation = v }) x e);
-  process = λ u. grind (arith, nat_tests, numbered-renumbered_there m.threads t u (record x { invocation = v }) x e);
-  number = λ u. grind (arith, nat_tests, numbered-renumbered_there m.threads t u (record x { invocation = v }) x e);
+  role = λ u. grind (arith, nat_tests, at_number-renumbered_there m.threads t u (record x { invocation = v }) x e);
+  serves = λ u. grind (arith, nat_tests, at_number-renumbered_there m.threads t u (record x { invocation = v }) x e);
+  process = λ u. grind (arith, nat_tests, at_number-renumbered_there m.threads t u (record x { invocation = v }) x e);
+  number = λ u. grind (arith, nat_tests, at_number-renumbered_there m.threads t u (record x { invocation = v }) x e);
   bound = λ u. refl;
   door = λ u. refl;
   proc = λ u. refl;
@@ -111,7 +106,7 @@ with_invocation-core m t v k e h =
     same_core _ _ (with_invocation_in-core m t v (thread_of m t) refl h') ∙ ap (λ l. set_serves l t v) e
 
 pub with_call-core :
-    (m : State) (c : ℕ) (r x : Call) (k : Core) → InOrder 0 m.calls → call_of m c ≡ Some r → x.number ≡ c →
+    (m : State) (c : ℕ) (r x : Call) (k : Core) → IsInOrder 0 m.calls → call_of m c ≡ Some r → x.number ≡ c →
     core m ≡ k → core (with_call m c x) ≡ set_call k c x
 with_call-core m c r x k h f n e =
     same_core _ _
@@ -123,14 +118,14 @@ with_call-core m c r x k h f n e =
       bound = λ u. refl;
       door = λ u. refl;
       proc = λ u. refl;
-      call = λ j. find-replaced m.calls 0 c r x j h f n;
+      call = λ j. find-with_live_call m.calls 0 c r x j h f n;
       made = refl;
       notice = λ u. refl;
     })
     ∙ ap (λ l. set_call l c x) e
 
 pub with_new_call-core :
-    (m : State) (r : Call) (k : Core) → InOrder 0 m.calls → r.number ≡ length m.calls + 1 →
+    (m : State) (r : Call) (k : Core) → IsInOrder 0 m.calls → r.number ≡ length m.calls + 1 →
     core m ≡ k → core (with_new_call m r) ≡ set_new_call k r
 with_new_call-core m r k h n e =
     same_core _ _

@@ -3,26 +3,11 @@ use Rattle.std.specs.Prelude.{ℕ, ◌≡◌, ◌+◌, ◌<◌, List, [], ◌∷
 use Rattle.std.proofs.Common.{refl, sym, ap, subst, ◌∙◌}
 use native.Mathlib.Omega.{arith}
 use Rattle.std.proofs.lemmas.Bool.Decides.{nat_tests}
-use Rattle.dk_base.specs.declared.number.Fd.{Fd}
-use Rattle.dk_base.specs.declared.number.PathId.{PathId}
-use Rattle.dk_base.specs.declared.set.Attrs.{Attrs}
-use Rattle.dk_base.specs.declared.object.Inv.{Inv}
-use Rattle.dk_base.specs.declared.object.Item.{Item}
-use Rattle.dk_base.specs.declared.request.Request.{Request}
+use Rattle.written_kernel.specs.Types.{Attrs, Door, Fd, Inv, Item, PathId, Request, ThreadState}
 use Rattle.dk_base.specs.declared.request.Request.TheVariants as request
-use Rattle.dk_base.specs.declared.record.ThreadState.{ThreadState}
 use Rattle.dk_base.specs.declared.record.ThreadState.TheVariants as is
-use Rattle.dk_base.specs.declared.record.Door.{Door}
-use Rattle.written_kernel.specs.Numbered.{numbered}
-use Rattle.written_kernel.specs.State.{State, now, state_of, process_of, table_of, door_of, with_state, with_invocation}
-use Rattle.written_kernel.specs.Opening.{IsOpening}
-use Rattle.written_kernel.specs.Acts.{lowest_free}
-use Rattle.written_kernel.specs.Doors.{new_door, created, create, call, parked, return, accept, collect}
-use Rattle.written_kernel.specs.Descriptors.{attach, open_path, await}
-use Rattle.written_kernel.specs.Leaving.{exit}
-use Rattle.written_kernel.specs.Step.{enter, go_on, act, step}
-use Rattle.written_kernel.specs.Legal.{MayTurn}
-use Rattle.written_kernel.specs.Runs.{Turn, state_at, IsRun}
+use Rattle.dk_base.specs.ByNumber.{at_number}
+use Rattle.written_kernel.specs.Words.{IsOpening, IsRun, MayTurn, State, Turn, accept, act, attach, await, call, collect, create, create_at, door_of, enter, exit, go_on, lowest_free, new_door, now, open_path, park, process_of, return, state_at, state_of, step, table_of, with_invocation, with_state}
 use Rattle.written_kernel.proofs.Lists.{numbered_push}
 use Rattle.written_kernel.proofs.Opening.{opened}
 use Rattle.written_kernel.proofs.Steps.{door_of-step}
@@ -42,7 +27,7 @@ with_invocation_same m t v = grind arith
 call_same : (m : State) (t p : ℕ) (fd : Fd) (bytes : List ℕ) (rsize : ℕ) → (call m t p fd bytes rsize).state.doors ≡ m.doors
 call_same m t p fd bytes rsize = grind arith
 
-parked_same : (m : State) (t : ℕ) → (parked m t).doors ≡ m.doors
+parked_same : (m : State) (t : ℕ) → (park m t).doors ≡ m.doors
 parked_same m t = with_state_same (with_invocation m t None) t (is.Idle (now m)) ∙ with_invocation_same m t None
 
 return_same : (m : State) (t : ℕ) (bytes : List ℕ) → (return m t bytes).state.doors ≡ m.doors
@@ -81,7 +66,7 @@ create_move m t entry cookie attrs = go (lowest_free (table_of m (process_of m t
     go :
         (o : Option ℕ) →
         DoorsMove m t (Some (request.Create entry cookie attrs))
-        (created m (process_of m t) (new_door m (process_of m t) entry cookie attrs) o).state
+        (create_at m (process_of m t) (new_door m (process_of m t) entry cookie attrs) o).state
     go None = same refl
     go (Some place) = created_one entry cookie attrs refl refl
 
@@ -121,10 +106,10 @@ record Created (m : State) (t : ℕ) (q : Option Request) (d : Door) : Type 0 wh
   request : q ≡ Some (request.Create d.entry d.cookie d.attrs)
   owner : d.owner.0 ≡ process_of m t
 
-pushed : (xs : List Door) (y x : Door) (d : ℕ) → numbered xs d ≡ None → numbered (xs ++ y ∷ []) d ≡ Some x → y ≡ x
+pushed : (xs : List Door) (y x : Door) (d : ℕ) → at_number xs d ≡ None → at_number (xs ++ y ∷ []) d ≡ Some x → y ≡ x
 pushed xs y x d e f = go (d == length xs + 1) (sym (numbered_push xs y d) ∙ f)
   where
-    go : (b : Bool) → (if b then Some y else numbered xs d) ≡ Some x → y ≡ x
+    go : (b : Bool) → (if b then Some y else at_number xs d) ≡ Some x → y ≡ x
     go true g = cc
     go false g = grind arith
 
@@ -134,7 +119,7 @@ new_is_created :
 new_is_created m t q n d x (same e) f g = grind arith
 new_is_created m t q n d x (created_one entry cookie attrs e g) f k =
     subst (λ (y : Door). Created m t q y)
-    (pushed m.doors (new_door m (process_of m t) entry cookie attrs) x d f (sym (ap (λ ds. numbered ds d) g) ∙ k))
+    (pushed m.doors (new_door m (process_of m t) entry cookie attrs) x d f (sym (ap (λ ds. at_number ds d) g) ∙ k))
     (record { request = e; owner = refl })
 
 module _ (m : State) (xs : List Turn) (opens : IsOpening m) (run : IsRun m xs) where
@@ -167,7 +152,7 @@ module _ (m : State) (xs : List Turn) (opens : IsOpening m) (run : IsRun m xs) w
   pub made_by_creator : MadeByCreator m xs
   made_by_creator =
       record {
-        none_at_first = λ d. ap (λ ds. numbered ds d) (opened opens).doors ∙ grind (arith, nat_tests);
+        none_at_first = λ d. ap (λ ds. at_number ds d) (opened opens).doors ∙ grind (arith, nat_tests);
         made = made;
         kept = kept;
         same_process = λ i t. process_of-state_after m (take i xs) t;

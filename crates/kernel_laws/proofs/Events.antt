@@ -2,21 +2,14 @@
 use Rattle.std.specs.Prelude.{ℕ, ◌≡◌, Option, true, Some, None}
 use Rattle.std.proofs.Common.{refl, ◌∙◌}
 use native.Mathlib.Omega.{arith}
-use Rattle.dk_base.specs.declared.object.Inv.{Inv}
-use Rattle.dk_base.specs.declared.request.Request.{Request}
+use Rattle.written_kernel.specs.Types.{Call, Inv, Request, ThreadState}
 use Rattle.dk_base.specs.declared.request.Request.TheVariants as request
-use Rattle.dk_base.specs.declared.record.ThreadState.{ThreadState}
 use Rattle.dk_base.specs.declared.record.ThreadState.TheVariants as is
-use Rattle.dk_base.specs.declared.record.Call.{Call}
-use Rattle.written_kernel.specs.State.{State, state_of, process_of, invocation_of, is_valid}
-use Rattle.written_kernel.specs.Turns.{is_running_state, is_running}
-use Rattle.written_kernel.specs.Settle.{settle}
-use Rattle.written_kernel.specs.Step.{enter, go_on, act, counted, step}
-use Rattle.written_kernel.specs.Legal.{MayInside, MayTurn}
+use Rattle.written_kernel.specs.Words.{MayInside, MayTurn, State, act, enter, go_on, invocation_of, is_running, is_running_state, is_valid, process_of, settle, state_of, step, with_event_counted}
 use Rattle.kernel_laws.specs.Once.{record_of}
-use Rattle.kernel_laws.specs.Invariant.{Consistent, Invariant}
+use Rattle.kernel_laws.specs.Invariant.{IsConsistent, Invariant}
 use Rattle.kernel_laws.specs.Arrows.{ByAct}
-use Rattle.kernel_laws.specs.Arrows.ByAct.{stays, made, entered, returned, ended, answered}
+use Rattle.kernel_laws.specs.Arrows.ByAct.{stays, makes, enters, returns, ends, answers}
 use Rattle.kernel_laws.specs.Events.{Keeps}
 use Rattle.kernel_laws.proofs.Acts.{Does, does_nothing, create_does, attach_does, open_does, await_does, found_does}
 use Rattle.kernel_laws.proofs.CallActs.{call_does, return_does, accept_does, collect_does}
@@ -35,7 +28,7 @@ no_exit_inside None h = refl
 no_exit_inside (Some v) h = absurd h
 
 enter_does :
-    (m : State) (t : ℕ) (r : Request) → Consistent m → state_of m t ≡ is.Running → MayInside (invocation_of m t) r →
+    (m : State) (t : ℕ) (r : Request) → IsConsistent m → state_of m t ≡ is.Running → MayInside (invocation_of m t) r →
     Does m t (Some r) (enter m t (process_of m t) r).state
 enter_does m t (request.Create entry cookie attrs) h e i = create_does m t _ entry cookie attrs h e
 enter_does m t (request.Call fd bytes pass rsize) h e i = call_does m t rsize fd bytes pass h e
@@ -47,17 +40,17 @@ enter_does m t request.Exit h e i = exit_does m t _ h e (no_exit_inside (invocat
 enter_does m t r h e i = does_nothing m t _ h
 
 go_on_does :
-    (m : State) (t : ℕ) (s : ThreadState) → Consistent m → state_of m t ≡ s → Does m t None (go_on m t s).state
+    (m : State) (t : ℕ) (s : ThreadState) → IsConsistent m → state_of m t ≡ s → Does m t None (go_on m t s).state
 go_on_does m t (is.Given i) h e = accept_does m t i h e
 go_on_does m t (is.Calling c) h e = collect_does m t c h e
 go_on_does m t (is.Awaiting path) h e = found_does m t None path h e
 go_on_does m t s h e = does_nothing m t None h
 
-pub act_does : (m : State) (t : ℕ) (q : Option Request) → Consistent m → MayTurn m t q → Does m t q (act m t q).state
+pub act_does : (m : State) (t : ℕ) (q : Option Request) → IsConsistent m → MayTurn m t q → Does m t q (act m t q).state
 act_does m t (Some r) h may = enter_does m t r h (running_is m t may.running) may.inside
 act_does m t None h may = go_on_does m t (state_of m t) h refl
 
-counted_keeps : (m : State) → Consistent m → Consistent (counted m)
+counted_keeps : (m : State) → IsConsistent m → IsConsistent (with_event_counted m)
 counted_keeps m h =
     record {
       in_order = h.in_order;
@@ -72,11 +65,11 @@ by_act_later :
     (m : State) (t : ℕ) (q : Option Request) (n o : State) (before after : Option Call) →
     ((d : ℕ) → is_valid o d ≡ is_valid n d) → ByAct m t q n before after → ByAct m t q o before after
 by_act_later m t q n o before after h stays = stays
-by_act_later m t q n o before after h (made d rsize fd bytes pass e f v) = made d rsize fd bytes pass e f v
-by_act_later m t q n o before after h (entered r e f g) = entered r e f g
-by_act_later m t q n o before after h (returned r bytes pass e f g) = returned r bytes pass e f g
-by_act_later m t q n o before after h (ended r e f g) = ended r e f (h r.door ∙ g)
-by_act_later m t q n o before after h (answered r e f g k) = answered r e f g k
+by_act_later m t q n o before after h (makes d rsize fd bytes pass e f v) = makes d rsize fd bytes pass e f v
+by_act_later m t q n o before after h (enters r e f g) = enters r e f g
+by_act_later m t q n o before after h (returns r bytes pass e f g) = returns r bytes pass e f g
+by_act_later m t q n o before after h (ends r e f g) = ends r e f (h r.door ∙ g)
+by_act_later m t q n o before after h (answers r e f g k) = answers r e f g k
 
 same_valid : (m n : State) (d : ℕ) → n.doors ≡ m.doors → n.processes ≡ m.processes → is_valid n d ≡ is_valid m d
 same_valid m n d e f = grind arith
@@ -102,7 +95,7 @@ step_keeps m t q h may =
           λ c. record {
             between = record_of (act m t q).state c;
             act =
-                by_act_later m t q (act m t q).state (counted (settle (act m t q).state)) _ _
+                by_act_later m t q (act m t q).state (with_event_counted (settle (act m t q).state)) _ _
                 (λ e. same_valid (act m t q).state (settle (act m t q).state) e d.settled.gave.doors d.settled.gave.processes)
                 (d.acted.arrows c);
             giving = d.settled.gave.arrows c;

@@ -2,14 +2,10 @@
 use Rattle.std.specs.Prelude.{◌≡◌, List, [], ◌∷◌, map, false, Some, None}
 use Rattle.std.proofs.Common.{refl, lit<, lit≤}
 use Rattle.dk_base.specs.declared.request.Request.TheVariants as request
-use Rattle.dk_base.specs.declared.answer.Answer.{Answer}
+use Rattle.written_kernel.specs.Types.{Answer, Event}
 use Rattle.dk_base.specs.declared.answer.Answer.TheVariants as answer
-use Rattle.dk_base.specs.declared.event.Event.{Event}
-use Rattle.written_kernel.specs.State.{State}
-use Rattle.written_kernel.specs.Opening.{opening, with_new_thread, IsOpening}
+use Rattle.written_kernel.specs.Words.{IsOpening, IsRun, State, Turn, events_of, opening, step, with_new_thread}
 use Rattle.written_kernel.specs.Opening.IsOpening.{processes, thread}
-use Rattle.written_kernel.specs.Step.{step}
-use Rattle.written_kernel.specs.Runs.{Turn, events_of, IsRun}
 use Rattle.kernel_laws.specs.Once.{BecomesEntered, BecomesAnswered}
 
 abbrev start : State

@@ -5,27 +5,20 @@ use Rattle.std.specs.List.{list_any}
 use native.Mathlib.Omega.{arith}
 use Rattle.std.proofs.lemmas.List.{length-map}
 use Rattle.std.proofs.lemmas.Bool.Decides.{nat_tests}
-use Rattle.dk_base.specs.declared.number.Fd.{Fd}
+use Rattle.written_kernel.specs.Types.{Call, Door, Fd, Obj, Process, Request, Thread}
 use Rattle.dk_base.specs.declared.error.Errno.TheVariants.{EBADF}
-use Rattle.dk_base.specs.declared.object.Obj.{Obj}
-use Rattle.dk_base.specs.declared.request.Request.{Request}
-use Rattle.dk_base.specs.declared.record.Process.{Process}
-use Rattle.dk_base.specs.declared.record.Thread.{Thread}
 use Rattle.dk_base.specs.declared.record.ThreadState.TheVariants as is
-use Rattle.dk_base.specs.declared.record.Door.{Door}
-use Rattle.dk_base.specs.declared.record.Call.{Call}
 use Rattle.dk_base.specs.declared.record.CallStage.TheVariants as stage
-use Rattle.written_kernel.specs.Numbered.{numbered, renumbered}
-use Rattle.written_kernel.specs.State.{State, state_in, process_in, invocation_in, state_of, process_of, invocation_of, thread_of, table_of, object_at, object_in, door_of, lives_in, is_valid, is_valid_door, is_queued, moved_on, with_state, with_invocation, ended_process}
-use Rattle.written_kernel.specs.Leaving.{keeps_alive, is_last, end_thread, ended_thread, with_ended, closed, is_owned, ended_call, dropped_notice, with_ended_threads, with_closed_table, with_ended_calls, end_process, exit}
+use Rattle.dk_base.specs.ByNumber.{at_number, with_at_number}
+use Rattle.written_kernel.specs.Words.{State, door_of, dropped_notice, end_process, end_thread, ended_call, ended_process, ended_thread, exit, free_row, invocation_in, invocation_of, is_last, is_owned, is_queued, is_valid, is_valid_door, keeps_alive, lives_in, object_at, object_in, process_in, process_of, state_in, state_of, table_of, thread_of, with_closed_table, with_ended, with_ended_calls, with_ended_threads, with_invocation, with_state, without_arguments_at}
 use Rattle.kernel_laws.specs.Once.{record_of}
 use Rattle.kernel_laws.specs.Core.{Core, core, number_in, notice_in, ended_in, valid_in}
-use Rattle.kernel_laws.specs.Invariant.{InOrder, Coherent, Consistent}
+use Rattle.kernel_laws.specs.Invariant.{IsInOrder, IsCoherent, IsConsistent}
 use Rattle.kernel_laws.specs.Arrows.{ByAct}
-use Rattle.kernel_laws.specs.Arrows.ByAct.{stays, ended as ends}
+use Rattle.kernel_laws.specs.Arrows.ByAct.{stays, ends}
 use Rattle.std.proofs.lemmas.Option.{slice_get-map}
-use Rattle.written_kernel.proofs.Lists.{numbered-map, numbered-renumbered, numbered-renumbered_there}
-use Rattle.kernel_laws.proofs.Calls.{find-map, InOrder-map}
+use Rattle.written_kernel.proofs.Lists.{at_number-map, at_number-with_at_number, at_number-renumbered_there}
+use Rattle.kernel_laws.proofs.Calls.{find-map, IsInOrder-map}
 use Rattle.kernel_laws.proofs.Cores.{There, SameCore, same_core, set_serves, with_state-core, with_invocation-core}
 use Rattle.kernel_laws.proofs.ThreadMoves.{left_core, leave_keeps, ended_core, ended_call_of, Leaves, may_leave, end_keeps}
 use Rattle.kernel_laws.proofs.Acts.{Does, does_no_call, there, with_state_calls, with_invocation_calls, same_calls_then}
@@ -33,12 +26,12 @@ use Rattle.kernel_laws.proofs.Acts.{Does, does_no_call, there, with_state_calls,
 -- the end of a thread
 
 end_thread_does :
-    (m : State) (t : ℕ) (q : Option Request) → Consistent m → state_of m t ≡ is.Running → invocation_of m t ≡ None →
+    (m : State) (t : ℕ) (q : Option Request) → IsConsistent m → state_of m t ≡ is.Running → invocation_of m t ≡ None →
     Does m t q (end_thread m t)
 end_thread_does m t q h e f =
     does_no_call m t q n h
     (same_calls_then m n1 n (with_invocation_calls m t None) (with_state_calls n1 t is.Done))
-    (subst Coherent (sym l) (leave_keeps (core m) t h.coherent e f))
+    (subst IsCoherent (sym l) (leave_keeps (core m) t h.coherent e f))
   where
     n1 : State
     n1 = with_invocation m t None
@@ -72,35 +65,35 @@ ended_thread_is p None = record { role = grind arith; serves = grind arith; proc
 ended_thread_is p (Some x) = record { role = grind arith; serves = grind arith; process = grind arith; number = grind arith }
 
 end_process_in-core :
-    (m : State) (p : ℕ) (o : Option Process) → m.notices ≡ [] → numbered m.processes p ≡ o →
+    (m : State) (p : ℕ) (o : Option Process) → m.notices ≡ [] → at_number m.processes p ≡ o →
     SameCore (core (end_process_in m p o)) (ended_core (core m) p)
 end_process_in-core m p None h e = record {
-  role = λ u. ap state_in (numbered-map (ended_thread p) m.threads u) ∙ (ended_thread_is p (thread_of m u)).role;
-  serves = λ u. ap invocation_in (numbered-map (ended_thread p) m.threads u) ∙ (ended_thread_is p (thread_of m u)).serves;
-  process = λ u. ap process_in (numbered-map (ended_thread p) m.threads u) ∙ (ended_thread_is p (thread_of m u)).process;
-  number = λ u. ap number_in (numbered-map (ended_thread p) m.threads u) ∙ (ended_thread_is p (thread_of m u)).number;
+  role = λ u. ap state_in (at_number-map (ended_thread p) m.threads u) ∙ (ended_thread_is p (thread_of m u)).role;
+  serves = λ u. ap invocation_in (at_number-map (ended_thread p) m.threads u) ∙ (ended_thread_is p (thread_of m u)).serves;
+  process = λ u. ap process_in (at_number-map (ended_thread p) m.threads u) ∙ (ended_thread_is p (thread_of m u)).process;
+  number = λ u. ap number_in (at_number-map (ended_thread p) m.threads u) ∙ (ended_thread_is p (thread_of m u)).number;
   bound = λ u. refl;
   door = λ d. refl;
   proc = λ q. grind (arith, nat_tests);
   call = λ c. find-map (ended_call m.doors p) (ended_number m.doors p) m.calls c;
   made = refl;
-  notice = λ n. ap notice_in (numbered-map (dropped_notice m.doors p) m.notices n) ∙ grind arith;
+  notice = λ n. ap notice_in (at_number-map (dropped_notice m.doors p) m.notices n) ∙ grind arith;
 }
 end_process_in-core m p (Some x) h e = record {
-  role = λ u. ap state_in (numbered-map (ended_thread p) m.threads u) ∙ (ended_thread_is p (thread_of m u)).role;
-  serves = λ u. ap invocation_in (numbered-map (ended_thread p) m.threads u) ∙ (ended_thread_is p (thread_of m u)).serves;
-  process = λ u. ap process_in (numbered-map (ended_thread p) m.threads u) ∙ (ended_thread_is p (thread_of m u)).process;
-  number = λ u. ap number_in (numbered-map (ended_thread p) m.threads u) ∙ (ended_thread_is p (thread_of m u)).number;
+  role = λ u. ap state_in (at_number-map (ended_thread p) m.threads u) ∙ (ended_thread_is p (thread_of m u)).role;
+  serves = λ u. ap invocation_in (at_number-map (ended_thread p) m.threads u) ∙ (ended_thread_is p (thread_of m u)).serves;
+  process = λ u. ap process_in (at_number-map (ended_thread p) m.threads u) ∙ (ended_thread_is p (thread_of m u)).process;
+  number = λ u. ap number_in (at_number-map (ended_thread p) m.threads u) ∙ (ended_thread_is p (thread_of m u)).number;
   bound = λ u. refl;
   door = λ d. refl;
-  proc = λ q. grind (arith, nat_tests, numbered-renumbered_there m.processes p q (ended_process x) x e);
+  proc = λ q. grind (arith, nat_tests, at_number-renumbered_there m.processes p q (ended_process x) x e);
   call = λ c. find-map (ended_call m.doors p) (ended_number m.doors p) m.calls c;
   made = refl;
-  notice = λ n. ap notice_in (numbered-map (dropped_notice m.doors p) m.notices n) ∙ grind arith;
+  notice = λ n. ap notice_in (at_number-map (dropped_notice m.doors p) m.notices n) ∙ grind arith;
 }
 
-pub end_process-core : (m : State) (p : ℕ) → Consistent m → core (end_process m p) ≡ ended_core (core m) p
-end_process-core m p h = same_core _ _ (end_process_in-core m p (numbered m.processes p) h.unbuilt.no_notices refl)
+pub end_process-core : (m : State) (p : ℕ) → IsConsistent m → core (end_process m p) ≡ ended_core (core m) p
+end_process-core m p h = same_core _ _ (end_process_in-core m p (at_number m.processes p) h.unbuilt.no_notices refl)
 
 -- the lists of the state after the end of a process
 record EndedLists (m : State) (p : ℕ) (n : State) : Type 0 where
@@ -108,26 +101,26 @@ record EndedLists (m : State) (p : ℕ) (n : State) : Type 0 where
   made : n.calls_made ≡ m.calls_made
   notices : n.notices ≡ map (dropped_notice m.doors p) m.notices
   bound : n.bound ≡ m.bound
-  tables : n.tables ≡ renumbered m.tables p (map closed (table_of m p))
+  tables : n.tables ≡ with_at_number m.tables p (map free_row (table_of m p))
 
 end_process_in-lists : (m : State) (p : ℕ) (o : Option Process) → EndedLists m p (end_process_in m p o)
 end_process_in-lists m p None = record { calls = refl; made = refl; notices = refl; bound = refl; tables = refl }
 end_process_in-lists m p (Some x) = record { calls = refl; made = refl; notices = refl; bound = refl; tables = refl }
 
 -- a closed table has no row
-closed_row : (rows : List (Option Obj)) (i : ℕ) → object_in (slice_get (map closed rows) i) ≡ None
-closed_row rows i = grind (arith, slice_get-map closed rows i)
+closed_row : (rows : List (Option Obj)) (i : ℕ) → object_in (slice_get (map free_row rows) i) ≡ None
+closed_row rows i = grind (arith, slice_get-map free_row rows i)
 
 closed_table : (m : State) (p : ℕ) (n : State) (fd : Fd) → EndedLists m p n → object_at n p fd ≡ None
-closed_table m p n fd l = go (numbered m.tables p) refl
+closed_table m p n fd l = go (at_number m.tables p) refl
   where
-    go : (o : Option (List (Option Obj))) → numbered m.tables p ≡ o → object_at n p fd ≡ None
-    go None e = grind (arith, l.tables, numbered-renumbered m.tables p p (map closed (table_of m p)))
+    go : (o : Option (List (Option Obj))) → at_number m.tables p ≡ o → object_at n p fd ≡ None
+    go None e = grind (arith, l.tables, at_number-with_at_number m.tables p p (map free_row (table_of m p)))
     go (Some rows) e =
-        grind (arith, nat_tests, l.tables, numbered-renumbered_there m.tables p p (map closed (table_of m p)) rows e, closed_row (table_of m p) fd.0)
+        grind (arith, nat_tests, l.tables, at_number-renumbered_there m.tables p p (map free_row (table_of m p)) rows e, closed_row (table_of m p) fd.0)
 
 other_table : (m : State) (p q : ℕ) (n : State) (fd : Fd) → EndedLists m p n → (q == p) ≡ false → object_at n q fd ≡ object_at m q fd
-other_table m p q n fd l e = grind (arith, l.tables, numbered-renumbered m.tables p q (map closed (table_of m p)))
+other_table m p q n fd l e = grind (arith, l.tables, at_number-with_at_number m.tables p q (map free_row (table_of m p)))
 
 pub is_valid-core : (m : State) (d : ℕ) → is_valid m d ≡ valid_in (core m) ((core m).door d)
 is_valid-core m d = go (door_of m d)
@@ -145,14 +138,14 @@ ended_invalid k p None f = grind arith
 ended_invalid k p (Some d) f = grind (arith, nat_tests, ended_lives (k.proc p))
 
 end_process_does :
-    (m : State) (t : ℕ) (q : Option Request) (p : ℕ) → Consistent m → Leaves (core m) p → Does m t q (end_process m p)
+    (m : State) (t : ℕ) (q : Option Request) (p : ℕ) → IsConsistent m → Leaves (core m) p → Does m t q (end_process m p)
 end_process_does m t q p h s =
     record {
       consistent =
           record {
-            in_order = subst (λ rs. InOrder 0 rs) (sym l.calls) (InOrder-map (ended_call m.doors p) (ended_number m.doors p) m.calls 0 h.in_order);
+            in_order = subst (λ rs. IsInOrder 0 rs) (sym l.calls) (IsInOrder-map (ended_call m.doors p) (ended_number m.doors p) m.calls 0 h.in_order);
             counted = ap length l.calls ∙ length-map m.calls (ended_call m.doors p) ∙ h.counted ∙ sym l.made;
-            coherent = subst Coherent (sym e) (end_keeps (core m) p h.coherent s);
+            coherent = subst IsCoherent (sym e) (end_keeps (core m) p h.coherent s);
             no_rows = λ r fd f. rows r fd f (r == p) refl;
             unbuilt =
                 record {
@@ -170,7 +163,7 @@ end_process_does m t q p h s =
     e = end_process-core m p h
 
     l : EndedLists m p n
-    l = end_process_in-lists m p (numbered m.processes p)
+    l = end_process_in-lists m p (at_number m.processes p)
 
     rows : (r : ℕ) (fd : Fd) → ended_in ((core n).proc r) ≡ true → (b : Bool) → (r == p) ≡ b → object_at n r fd ≡ None
     rows r fd f true g =
@@ -190,7 +183,7 @@ end_process_does m t q p h s =
       where
         go :
             (a b : Bool) → is_queued r.stage ≡ a → is_owned p (door_of m r.door) ≡ b →
-            ByAct m t q n (Some r) (Some (if a && b then moved_on r (stage.Ended EBADF) else r))
+            ByAct m t q n (Some r) (Some (if a && b then without_arguments_at r (stage.Ended EBADF) else r))
         go true true x y =
             let queued : r.stage ≡ stage.Queued = grind arith in
             ends r queued (is_valid-core m r.door ∙ grind (arith, h.coherent.waiting_valid c)) (invalid r y)
@@ -206,11 +199,11 @@ not_any p (z ∷ xs) zero x e f = grind (arith, nat_tests)
 not_any p (z ∷ xs) (suc i) x e f = not_any p xs i x (grind arith) f
 
 not_any_numbered :
-    {X : Type 0} (p : X → Bool) (xs : List X) (n : ℕ) (x : X) → list_any p xs ≡ false → numbered xs n ≡ Some x → p x ≡ false
+    {X : Type 0} (p : X → Bool) (xs : List X) (n : ℕ) (x : X) → list_any p xs ≡ false → at_number xs n ≡ Some x → p x ≡ false
 not_any_numbered p xs n x e f = not_any p xs (n - 1) x e (grind (arith, nat_tests))
 
 pub last_leaves :
-    (m : State) (t : ℕ) → Consistent m → state_of m t ≡ is.Running → invocation_of m t ≡ None →
+    (m : State) (t : ℕ) → IsConsistent m → state_of m t ≡ is.Running → invocation_of m t ≡ None →
     is_last m t (process_of m t) ≡ true → Leaves (core m) (process_of m t)
 last_leaves m t h e f g = record { states = λ u i. (each u (thread_of m u) refl i).0; outside = λ u i. (each u (thread_of m u) refl i).1 }
   where
@@ -228,7 +221,7 @@ last_leaves m t h e f g = record { states = λ u i. (each u (thread_of m u) refl
         (may, grind (arith, nat_tests, h.coherent.outside u))
 
 pub exit_does :
-    (m : State) (t : ℕ) (q : Option Request) → Consistent m → state_of m t ≡ is.Running → invocation_of m t ≡ None →
+    (m : State) (t : ℕ) (q : Option Request) → IsConsistent m → state_of m t ≡ is.Running → invocation_of m t ≡ None →
     Does m t q (exit m t (process_of m t)).state
 exit_does m t q h e f = go (is_last m t (process_of m t)) refl
   where

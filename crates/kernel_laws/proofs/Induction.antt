@@ -3,10 +3,7 @@ use Rattle.std.specs.Prelude.{ℕ, ◌≡◌, ◌+◌, ◌<◌, ◌≤◌, List,
 use Rattle.std.proofs.Common.{refl, sym, ap, subst, ◌∙◌, add-one, inl, inr, ◌⊎◌}
 use native.Mathlib.Omega.{arith}
 use Rattle.std.proofs.lemmas.Option.{slice_get_within}
-use Rattle.written_kernel.specs.State.{State}
-use Rattle.written_kernel.specs.Opening.{IsOpening}
-use Rattle.written_kernel.specs.Legal.{MayTurn}
-use Rattle.written_kernel.specs.Runs.{Turn, turned, state_at, IsRun}
+use Rattle.written_kernel.specs.Words.{IsOpening, IsRun, MayTurn, State, Turn, state_after_turn, state_at}
 use Rattle.written_kernel.proofs.Runs.{state_at_more, MayTurn_at}
 use Rattle.kernel_laws.specs.Invariant.{Invariant}
 use Rattle.kernel_laws.specs.Events.{Keeps}
@@ -40,7 +37,7 @@ pub record Taken (m : State) (xs : List Turn) (i : ℕ) (x : Turn) : Type 0 wher
   pub invariant : Invariant (state_at m xs i)
   pub may : MayTurn (state_at m xs i) x.thread x.request
   pub keeps : Keeps (state_at m xs i) x.thread x.request
-  pub next : state_at m xs (i + 1) ≡ turned (state_at m xs i) x
+  pub next : state_at m xs (i + 1) ≡ state_after_turn (state_at m xs i) x
 
 pub taken_at :
     (m : State) (xs : List Turn) → IsOpening m → IsRun m xs → (i : ℕ) (x : Turn) → slice_get xs i ≡ Some x → Taken m xs i x

@@ -17,5 +17,5 @@ mod Collected
 mod Serving
 mod Once
 mod Creators
-mod Laws
+mod EveryRun
 mod Example

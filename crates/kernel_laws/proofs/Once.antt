@@ -3,19 +3,12 @@ use Rattle.std.specs.Prelude.{ℕ, ◌≡◌, ◌+◌, ◌<◌, ◌≤◌, List,
 use Rattle.std.proofs.Common.{refl, sym, ap, subst, ◌∙◌}
 use native.Mathlib.Omega.{arith}
 use Rattle.std.proofs.lemmas.Option.{slice_get_within}
-use Rattle.dk_base.specs.declared.number.Fd.{Fd}
-use Rattle.dk_base.specs.declared.object.Item.{Item}
+use Rattle.written_kernel.specs.Types.{Call, Door, Fd, Item}
 use Rattle.dk_base.specs.declared.object.Item.TheVariants as item
 use Rattle.dk_base.specs.declared.answer.Answer.TheVariants as answer
 use Rattle.dk_base.specs.declared.record.ThreadState.TheVariants as is
-use Rattle.dk_base.specs.declared.record.Door.{Door}
-use Rattle.dk_base.specs.declared.record.Call.{Call}
 use Rattle.dk_base.specs.declared.record.CallStage.TheVariants as stage
-use Rattle.written_kernel.specs.State.{State, tid, invocation_of, door_of}
-use Rattle.written_kernel.specs.Opening.{IsOpening}
-use Rattle.written_kernel.specs.Doors.{entry_of, cookie_of}
-use Rattle.written_kernel.specs.Step.{act, step}
-use Rattle.written_kernel.specs.Runs.{Turn, state_at, IsRun}
+use Rattle.written_kernel.specs.Words.{IsOpening, IsRun, State, Turn, act, cookie_of, door_of, entry_of, invocation_of, state_at, step, tid}
 use Rattle.kernel_laws.specs.Once.{record_of, stage_in, stage_of, owner_in, door_at, door_of_call, is_entered, is_entered_in, is_answered, item_of, HasEntered, BecomesEntered, BecomesAnswered, answer_at, Enters, IsAccept, IsCollect, WasEntered, CollectsEntered, InvocationMoves, Once}
 use Rattle.kernel_laws.specs.Once.InvocationMoves.{stays, begins, ends}
 use Rattle.kernel_laws.specs.MadeByCreator.{IsOf}

@@ -3,17 +3,14 @@ use Rattle.std.specs.Prelude.{ℕ, All, map, filter, ◌≡◌, ◌+◌, List, [
 use Rattle.std.proofs.Common.{refl, sym, ap, subst, ◌∙◌}
 use native.Mathlib.Omega.{arith}
 use Rattle.std.proofs.lemmas.Bool.Decides.{nat_tests}
-use Rattle.dk_base.specs.declared.number.Fd.{Fd}
-use Rattle.dk_base.specs.declared.record.ThreadState.{ThreadState}
+use Rattle.written_kernel.specs.Types.{Fd, ThreadState}
 use Rattle.dk_base.specs.declared.record.ThreadState.TheVariants as is
-use Rattle.written_kernel.specs.Numbered.{numbered}
-use Rattle.written_kernel.specs.State.{State, thread_of, state_of, invocation_of, bound_of}
-use Rattle.written_kernel.specs.Opening.{new_process, with_new_process, with_processes, no_process, new_thread, with_new_thread, IsOpening}
+use Rattle.dk_base.specs.ByNumber.{at_number}
+use Rattle.written_kernel.specs.Words.{IsOpening, State, bound_of, invocation_of, is_queued_call, is_waiting_notice, new_process, new_thread, no_process, pick, pool_of, state_of, thread_of, waiting_call, waiting_items, waiting_notice, with_new_process, with_new_thread, with_notices, with_processes}
 use Rattle.written_kernel.specs.Opening.IsOpening.{processes, thread}
 use Rattle.std.proofs.lemmas.List.Elements.{All-nil}
-use Rattle.written_kernel.specs.Pools.{pick, pool_of, waits, with_notices, waiting_call, waiting_notice, is_queued_call, is_waiting_notice}
 use Rattle.kernel_laws.specs.Core.{Core, core, number_in, ended_in}
-use Rattle.kernel_laws.specs.Invariant.{InOrder, Coherent, Invariant}
+use Rattle.kernel_laws.specs.Invariant.{IsInOrder, IsCoherent, Invariant}
 use Rattle.written_kernel.proofs.Lists.{numbered_push}
 
 abbrev may_open : ThreadState → Bool
@@ -32,7 +29,7 @@ record Opens (m : State) : Type 0 where
   outside : (t : ℕ) → invocation_of m t ≡ None
   numbers : (t n : ℕ) → number_in (thread_of m t) ≡ Some n → n ≡ t
   unbound : (t : ℕ) → bound_of m t ≡ None
-  living : (p : ℕ) → ended_in (numbered m.processes p) ≡ false
+  living : (p : ℕ) → ended_in (at_number m.processes p) ≡ false
 
 no_process_opens : Opens no_process
 no_process_opens =
@@ -84,7 +81,7 @@ opening_opens : (m : State) → IsOpening m → Opens m
 opening_opens m (processes limits) = processes_open no_process limits no_process_opens
 opening_opens m (thread p spare h) = new_thread_opens _ p spare (opening_opens _ h)
 
-no_row_at_all : (m : State) → Opens m → (p : ℕ) (fd : Fd) → ended_in (numbered m.processes p) ≡ true → ⊥
+no_row_at_all : (m : State) → Opens m → (p : ℕ) (fd : Fd) → ended_in (at_number m.processes p) ≡ true → ⊥
 no_row_at_all m h p fd e = grind (arith, h.living p)
 
 no_call : (m : State) → Opens m → (c : ℕ) → (core m).call c ≡ None
@@ -100,7 +97,7 @@ no_notice m h n = grind (arith, nat_tests, h.notices)
 coherent_of :
     (k : Core) → ((c : ℕ) → k.call c ≡ None) → ((d : ℕ) → k.door d ≡ None) → ((n : ℕ) → k.notice n ≡ None) →
     ((t : ℕ) → may_open (k.role t) ≡ true) → ((t : ℕ) → k.serves t ≡ None) → ((t n : ℕ) → k.number t ≡ Some n → n ≡ t) →
-    ((t : ℕ) → k.bound t ≡ None) → ((p : ℕ) → ended_in (k.proc p) ≡ false) → Coherent k
+    ((t : ℕ) → k.bound t ≡ None) → ((p : ℕ) → ended_in (k.proc p) ≡ false) → IsCoherent k
 coherent_of k calls doors notices states outside numbers unbound living = record {
   given = λ c v e. grind (arith, calls c);
   given_back = λ c v e. grind (arith, states v);
@@ -131,14 +128,14 @@ coherent_of k calls doors notices states outside numbers unbound living = record
   entered_owner = λ c v e. grind (arith, calls c);
 }
 
-opening_coherent : (m : State) → Opens m → Coherent (core m)
+opening_coherent : (m : State) → Opens m → IsCoherent (core m)
 opening_coherent m h = coherent_of (core m) (no_call m h) (no_door m h) (no_notice m h) h.states h.outside h.numbers h.unbound h.living
 
-none_wait : (m : State) → Opens m → All (λ w. pick m (pool_of m w.door) ≡ None) (waits m)
+none_wait : (m : State) → Opens m → All (λ w. pick m (pool_of m w.door) ≡ None) (waiting_items m)
 none_wait m h =
     subst (λ ws. All (λ w. pick m (pool_of m w.door) ≡ None) ws) (sym empty) (All-nil (λ w. pick m (pool_of m w.door) ≡ None))
   where
-    empty : waits m ≡ []
+    empty : waiting_items m ≡ []
     empty =
         ap (λ rs. with_notices (map waiting_call (filter is_queued_call rs)) (map waiting_notice (filter is_waiting_notice m.notices))) h.calls
         ∙ ap (λ ns. with_notices [] (map waiting_notice (filter is_waiting_notice ns))) h.notices
@@ -149,7 +146,7 @@ opening_keeps m o =
     record {
       consistent =
           record {
-            in_order = subst (λ rs. InOrder 0 rs) (sym h.calls) tt;
+            in_order = subst (λ rs. IsInOrder 0 rs) (sym h.calls) tt;
             counted = ap length h.calls ∙ sym h.made;
             coherent = opening_coherent m h;
             no_rows = λ p fd e. absurd (no_row_at_all m h p fd e);

@@ -3,16 +3,13 @@ use Rattle.std.specs.Prelude.{ℕ, ◌≡◌, Option, Bool, true, false, if◌th
 use Rattle.std.proofs.Common.{refl, sym, ap, subst, ◌∙◌}
 use native.Mathlib.Omega.{arith}
 use Rattle.std.proofs.lemmas.Bool.Decides.{nat_tests}
-use Rattle.dk_base.specs.declared.record.Thread.{Thread}
-use Rattle.dk_base.specs.declared.record.ThreadState.{ThreadState}
+use Rattle.written_kernel.specs.Types.{Door, Thread, ThreadState}
 use Rattle.dk_base.specs.declared.record.ThreadState.TheVariants as is
-use Rattle.dk_base.specs.declared.record.Door.{Door}
-use Rattle.written_kernel.specs.State.{State, state_of, process_of, thread_of, bound_of, door_of}
-use Rattle.written_kernel.specs.Pools.{Pool, is_pool, pool_of_door, pool_in, pool_of, Parked, pool_of_thread, parked_in, parked_thread, parked_at, later, better, pick_among, pick}
+use Rattle.written_kernel.specs.Words.{Parked, Pool, State, better_parked, bound_of, door_of, is_pool, later_parked, parked_at, parked_in, parked_thread, pick, pick_among, pool_in, pool_of, pool_of_door, pool_of_thread, process_of, state_of, thread_of}
 use Rattle.written_kernel.specs.Pools.Pool.{Common, Private}
 use Rattle.kernel_laws.specs.Once.{owner_in}
 use Rattle.kernel_laws.specs.Core.{Core, core, valid_in}
-use Rattle.kernel_laws.specs.Invariant.{Coherent}
+use Rattle.kernel_laws.specs.Invariant.{IsCoherent}
 
 abbrev pub pool_by : ℕ → Option ℕ → Pool
 pool_by p None = Common p
@@ -48,7 +45,7 @@ pub record IsPick (m : State) (pool : Pool) (y : Parked) : Type 0 where
 
 better_is :
     (m : State) (pool : Pool) (t : ℕ) (best : Option Parked) (y : Parked) → ((x : Parked) → best ≡ Some x → IsPick m pool x) →
-    better pool best (parked_at m t) ≡ Some y → IsPick m pool y
+    better_parked pool best (parked_at m t) ≡ Some y → IsPick m pool y
 better_is m pool t best y h = go (parked_at m t) refl
   where
     here : (x : Parked) → parked_at m t ≡ Some x → is_pool pool x.pool ≡ true → IsPick m pool x
@@ -57,7 +54,7 @@ better_is m pool t best y h = go (parked_at m t) refl
         record { parked = subst (λ (u : ℕ). parked_at m u ≡ Some x) (sym same) e; of_pool = f }
 
     later_is :
-        (b : Option Parked) (x : Parked) → best ≡ b → parked_at m t ≡ Some x → is_pool pool x.pool ≡ true → later b x ≡ Some y →
+        (b : Option Parked) (x : Parked) → best ≡ b → parked_at m t ≡ Some x → is_pool pool x.pool ≡ true → later_parked b x ≡ Some y →
         IsPick m pool y
     later_is None x e f g l = subst (λ z. IsPick m pool z) (grind arith) (here x f g)
     later_is (Some z) x e f g l = newer (nat_le z.since x.since) l
@@ -67,12 +64,12 @@ better_is m pool t best y h = go (parked_at m t) refl
         newer false l = h y (grind arith)
 
     in_pool :
-        (x : Parked) (c : Bool) → parked_at m t ≡ Some x → is_pool pool x.pool ≡ c → (if c then later best x else best) ≡ Some y →
+        (x : Parked) (c : Bool) → parked_at m t ≡ Some x → is_pool pool x.pool ≡ c → (if c then later_parked best x else best) ≡ Some y →
         IsPick m pool y
     in_pool x true f g l = later_is best x refl f g l
     in_pool x false f g l = h y l
 
-    go : (o : Option Parked) → parked_at m t ≡ o → better pool best o ≡ Some y → IsPick m pool y
+    go : (o : Option Parked) → parked_at m t ≡ o → better_parked pool best o ≡ Some y → IsPick m pool y
     go None f l = h y l
     go (Some x) f l = in_pool x (is_pool pool x.pool) f refl l
 
@@ -84,14 +81,14 @@ pub pick_is : (m : State) (pool : Pool) (y : Parked) → pick m pool ≡ Some y 
 pick_is m pool y e = pick_among_is m pool (length m.threads) y e
 
 owner_of_pick :
-    (k : Core) (d t : ℕ) (x : Door) (b : Option ℕ) → Coherent k → k.door d ≡ Some x → k.bound t ≡ b →
+    (k : Core) (d t : ℕ) (x : Door) (b : Option ℕ) → IsCoherent k → k.door d ≡ Some x → k.bound t ≡ b →
     is_pool (pool_of_door x) (pool_by (k.process t) b) ≡ true → owner_in (k.door d) ≡ Some (k.process t)
 owner_of_pick k d t x None h e f g = grind (arith, nat_tests)
 owner_of_pick k d t x (Some c) h e f g = grind (arith, nat_tests, h.bound_own t c, h.door_number d x)
 
 -- a thread of the pool of a valid door is of the process that made the door
 pub pick_owner :
-    (m : State) (d : ℕ) (y : Parked) → Coherent (core m) → valid_in (core m) (door_of m d) ≡ true → pick m (pool_of m d) ≡ Some y →
+    (m : State) (d : ℕ) (y : Parked) → IsCoherent (core m) → valid_in (core m) (door_of m d) ≡ true → pick m (pool_of m d) ≡ Some y →
     owner_in (door_of m d) ≡ Some (process_of m y.thread)
 pick_owner m d y h v e = go (door_of m d) refl v
   where

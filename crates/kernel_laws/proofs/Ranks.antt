@@ -3,16 +3,14 @@ use Rattle.std.specs.Prelude.{ℕ, ◌≡◌, ◌≤◌, Option, Bool, true, fal
 use Rattle.std.proofs.Common.{sym, refl, ap, ◌∙◌}
 use native.Mathlib.Omega.{arith}
 use Rattle.dk_base.specs.declared.object.Item.TheVariants as item
-use Rattle.dk_base.specs.declared.request.Request.{Request}
+use Rattle.written_kernel.specs.Types.{Call, CallStage, Request}
 use Rattle.dk_base.specs.declared.record.ThreadState.TheVariants as is
-use Rattle.dk_base.specs.declared.record.Call.{Call}
-use Rattle.dk_base.specs.declared.record.CallStage.{CallStage}
 use Rattle.dk_base.specs.declared.record.CallStage.TheVariants as stage
-use Rattle.written_kernel.specs.State.{State, tid, state_of}
+use Rattle.written_kernel.specs.Words.{State, state_of, tid}
 use Rattle.kernel_laws.specs.Once.{stage_in, is_entered_in, is_answered_in}
 use Rattle.kernel_laws.specs.Arrows.{ByAct, ByGiving, Arrow}
-use Rattle.kernel_laws.specs.Arrows.ByAct.{stays, made, entered, returned, ended, answered}
-use Rattle.kernel_laws.specs.Arrows.ByGiving.{stays as keeps, given}
+use Rattle.kernel_laws.specs.Arrows.ByAct.{stays, makes, enters, returns, ends, answers}
+use Rattle.kernel_laws.specs.Arrows.ByGiving.{stays as keeps, gives}
 
 abbrev pub rank_of : CallStage → ℕ
 rank_of stage.Queued = 1
@@ -42,15 +40,15 @@ not_answered_rank o e f = grind arith
 act_rank :
     (m : State) (t : ℕ) (q : Option Request) (n : State) (o p : Option Call) → ByAct m t q n o p → rank_in o ≤ rank_in p
 act_rank m t q n o p stays = grind arith
-act_rank m t q n o p (made d rsize fd bytes pass e f v) = grind arith
-act_rank m t q n o p (entered r e f g) = grind arith
-act_rank m t q n o p (returned r bytes pass e f g) = grind arith
-act_rank m t q n o p (ended r e f g) = grind arith
-act_rank m t q n o p (answered r e f g k) = grind arith
+act_rank m t q n o p (makes d rsize fd bytes pass e f v) = grind arith
+act_rank m t q n o p (enters r e f g) = grind arith
+act_rank m t q n o p (returns r bytes pass e f g) = grind arith
+act_rank m t q n o p (ends r e f g) = grind arith
+act_rank m t q n o p (answers r e f g k) = grind arith
 
 giving_rank : (o p : Option Call) → ByGiving o p → rank_in o ≤ rank_in p
 giving_rank o p keeps = grind arith
-giving_rank o p (given r u e) = grind arith
+giving_rank o p (gives r u e) = grind arith
 
 pub arrow_rank :
     (m : State) (t : ℕ) (q : Option Request) (n : State) (o p : Option Call) → Arrow m t q n o p → rank_in o ≤ rank_in p
@@ -59,11 +57,11 @@ arrow_rank m t q n o p a = grind (arith, act_rank m t q n o a.between a.act, giv
 -- giving changes only what is Queued, to Given
 pub not_given : (o p : Option Call) → ByGiving o p → (stage_in o ≡ Some stage.Queued → ⊥) → p ≡ o
 not_given o p keeps h = refl
-not_given o p (given r u e) h = absurd (h (ap (λ (s : CallStage). Some s) e))
+not_given o p (gives r u e) h = absurd (h (ap (λ (s : CallStage). Some s) e))
 
 pub not_to_given : (o p : Option Call) → ByGiving o p → ((u : ℕ) → stage_in p ≡ Some (stage.Given (tid u)) → ⊥) → o ≡ p
 not_to_given o p keeps h = refl
-not_to_given o p (given r u e) h = absurd (h u refl)
+not_to_given o p (gives r u e) h = absurd (h u refl)
 
 -- a call becomes entered only at the accept of the thread that it was given to
 pub record EnteredBy (m : State) (t : ℕ) (q : Option Request) (o : Option Call) : Type 0 where
@@ -77,11 +75,11 @@ act_entered :
     (m : State) (t : ℕ) (q : Option Request) (n : State) (o p : Option Call) → ByAct m t q n o p → is_entered_in o ≡ false →
     is_entered_in p ≡ true → EnteredBy m t q o
 act_entered m t q n o p stays a b = grind arith
-act_entered m t q n o p (made d rsize fd bytes pass e f v) a b = grind arith
-act_entered m t q n o p (entered r e f g) a b = record { call = r; was = refl; request = e; state = f; given = g }
-act_entered m t q n o p (returned r bytes pass e f g) a b = grind arith
-act_entered m t q n o p (ended r e f g) a b = grind arith
-act_entered m t q n o p (answered r e f g k) a b = grind arith
+act_entered m t q n o p (makes d rsize fd bytes pass e f v) a b = grind arith
+act_entered m t q n o p (enters r e f g) a b = record { call = r; was = refl; request = e; state = f; given = g }
+act_entered m t q n o p (returns r bytes pass e f g) a b = grind arith
+act_entered m t q n o p (ends r e f g) a b = grind arith
+act_entered m t q n o p (answers r e f g k) a b = grind arith
 
 pub arrow_entered :
     (m : State) (t : ℕ) (q : Option Request) (n : State) (o p : Option Call) → Arrow m t q n o p → is_entered_in o ≡ false →
@@ -101,11 +99,11 @@ act_answered :
     (m : State) (t : ℕ) (q : Option Request) (n : State) (o p : Option Call) → ByAct m t q n o p → is_answered_in o ≡ false →
     is_answered_in p ≡ true → AnsweredBy m t q o
 act_answered m t q n o p stays a b = grind arith
-act_answered m t q n o p (made d rsize fd bytes pass e f v) a b = grind arith
-act_answered m t q n o p (entered r e f g) a b = grind arith
-act_answered m t q n o p (returned r bytes pass e f g) a b = grind arith
-act_answered m t q n o p (ended r e f g) a b = grind arith
-act_answered m t q n o p (answered r e f g k) a b = record { call = r; was = refl; request = e; state = f }
+act_answered m t q n o p (makes d rsize fd bytes pass e f v) a b = grind arith
+act_answered m t q n o p (enters r e f g) a b = grind arith
+act_answered m t q n o p (returns r bytes pass e f g) a b = grind arith
+act_answered m t q n o p (ends r e f g) a b = grind arith
+act_answered m t q n o p (answers r e f g k) a b = record { call = r; was = refl; request = e; state = f }
 
 pub arrow_answered :
     (m : State) (t : ℕ) (q : Option Request) (n : State) (o p : Option Call) → Arrow m t q n o p → is_answered_in o ≡ false →
@@ -132,11 +130,11 @@ act_served :
     (m : State) (t : ℕ) (q : Option Request) (n : State) (o p : Option Call) → ByAct m t q n o p → is_served_in o ≡ false →
     is_served_in p ≡ true → is_entered_in p ≡ true
 act_served m t q n o p stays a b = grind arith
-act_served m t q n o p (made d rsize fd bytes pass e f v) a b = grind arith
-act_served m t q n o p (entered r e f g) a b = refl
-act_served m t q n o p (returned r bytes pass e f g) a b = grind arith
-act_served m t q n o p (ended r e f g) a b = grind arith
-act_served m t q n o p (answered r e f g k) a b = grind arith
+act_served m t q n o p (makes d rsize fd bytes pass e f v) a b = grind arith
+act_served m t q n o p (enters r e f g) a b = refl
+act_served m t q n o p (returns r bytes pass e f g) a b = grind arith
+act_served m t q n o p (ends r e f g) a b = grind arith
+act_served m t q n o p (answers r e f g k) a b = grind arith
 
 pub arrow_served :
     (m : State) (t : ℕ) (q : Option Request) (n : State) (o p : Option Call) → Arrow m t q n o p → is_served_in o ≡ false →

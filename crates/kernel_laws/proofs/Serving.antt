@@ -3,37 +3,19 @@ use Rattle.std.specs.Prelude.{ℕ, ◌≡◌, List, [], Option, Bool, true, fals
 use Rattle.std.proofs.Common.{refl, sym, ap, ◌∙◌}
 use native.Mathlib.Omega.{arith}
 use Rattle.std.proofs.lemmas.Bool.Decides.{nat_tests}
-use Rattle.dk_base.specs.declared.number.Fd.{Fd}
-use Rattle.dk_base.specs.declared.number.PathId.{PathId}
-use Rattle.dk_base.specs.declared.set.Attrs.{Attrs}
-use Rattle.dk_base.specs.declared.error.Errno.{Errno}
+use Rattle.written_kernel.specs.Types.{Answer, Attrs, Call, CallStage, Errno, Fd, Item, Name, Obj, Pass, PathId, Request, ThreadState}
 use Rattle.dk_base.specs.declared.error.Errno.TheVariants.{E2BIG}
-use Rattle.dk_base.specs.declared.object.Pass.{Pass}
-use Rattle.dk_base.specs.declared.object.Obj.{Obj}
 use Rattle.dk_base.specs.declared.object.Obj.TheVariants as obj
-use Rattle.dk_base.specs.declared.object.Item.{Item}
 use Rattle.dk_base.specs.declared.object.Item.TheVariants as item
-use Rattle.dk_base.specs.declared.request.Request.{Request}
 use Rattle.dk_base.specs.declared.request.Request.TheVariants as request
-use Rattle.dk_base.specs.declared.answer.Answer.{Answer}
 use Rattle.dk_base.specs.declared.answer.Answer.TheVariants as answer
-use Rattle.dk_base.specs.declared.record.Name.{Name}
-use Rattle.dk_base.specs.declared.record.ThreadState.{ThreadState}
 use Rattle.dk_base.specs.declared.record.ThreadState.TheVariants as is
-use Rattle.dk_base.specs.declared.record.Call.{Call}
-use Rattle.dk_base.specs.declared.record.CallStage.{CallStage}
 use Rattle.dk_base.specs.declared.record.CallStage.TheVariants as stage
-use Rattle.written_kernel.specs.State.{State, now, state_of, process_of, invocation_of, table_of, object_at, name_of, door_of, call_of, moved_on, with_call, with_state, with_invocation}
-use Rattle.written_kernel.specs.Acts.{Acted, refused, lowest_free}
-use Rattle.written_kernel.specs.Doors.{new_door, created, create, call_refusal, new_call, with_new_call, call_unless, call_object, call, client, returned_to, return_for, return, entry_of, cookie_of, entered, accept_call, accept, answered, collect_at, collect_call, collect}
-use Rattle.written_kernel.specs.Descriptors.{new_name, attach_unless, attach_object, attach, open_at, open_name, open_path, await_name, await}
-use Rattle.written_kernel.specs.Leaving.{is_last, end_thread, end_process, exit}
-use Rattle.written_kernel.specs.Step.{enter, go_on, act, step}
-use Rattle.written_kernel.specs.Legal.{MayInside, MayTurn}
+use Rattle.written_kernel.specs.Words.{ActResult, MayInside, MayTurn, State, accept, accept_call, act, answer_call, attach, attach_object, attach_unless, await, await_name, call, call_object, call_of, call_refusal, call_unless, client, collect, collect_at, collect_call, cookie_of, create, create_at, door_of, end_process, end_thread, enter, enter_call, entry_of, exit, go_on, invocation_of, is_last, lowest_free, name_of, new_call, new_door, new_name, now, object_at, open_at, open_name, open_path, process_of, refused_act, return, return_for, return_to, state_of, step, table_of, with_call, with_invocation, with_new_call, with_state, without_arguments_at}
 use Rattle.written_kernel.proofs.Invocations.{invocation_of-with_state, invocation_of-with_invocation, invocation_of-settle}
 use Rattle.kernel_laws.specs.Once.{item_in, item_of}
 use Rattle.kernel_laws.specs.Core.{Core, core, is_outside}
-use Rattle.kernel_laws.specs.Invariant.{Consistent, Invariant}
+use Rattle.kernel_laws.specs.Invariant.{IsConsistent, Invariant}
 use Rattle.kernel_laws.proofs.ThreadMoves.{Leaves}
 use Rattle.kernel_laws.proofs.CallActs.{number_of_call, AfterAccept, after_accept}
 use Rattle.kernel_laws.proofs.Exits.{end_process-core, last_leaves}
@@ -49,7 +31,7 @@ pub data Moves (m : State) (t : ℕ) (q : Option Request) (n : State) (a : Answe
       (bytes : List ℕ) (pass : List Pass) → u ≡ t → q ≡ Some (request.Return bytes pass) → a ≡ answer.Wait →
       invocation_of n u ≡ None → Moves m t q n a u
 
-abbrev Acts : State → ℕ → Option Request → Acted → ℕ → Type 0
+abbrev Acts : State → ℕ → Option Request → ActResult → ℕ → Type 0
 Acts m t q a u = Moves m t q a.state a.answer u
 
 -- acts that leave every invocation as it is
@@ -59,7 +41,7 @@ create_stays :
     invocation_of (create m p entry cookie attrs).state u ≡ invocation_of m u
 create_stays m p entry cookie attrs u = go (lowest_free (table_of m p))
   where
-    go : (o : Option ℕ) → invocation_of (created m p (new_door m p entry cookie attrs) o).state u ≡ invocation_of m u
+    go : (o : Option ℕ) → invocation_of (create_at m p (new_door m p entry cookie attrs) o).state u ≡ invocation_of m u
     go None = refl
     go (Some place) = refl
 
@@ -110,8 +92,8 @@ await_stays m t path u = go (name_of m path)
 collect_stays : (m : State) (t c u : ℕ) → invocation_of (collect m t c).state u ≡ invocation_of m u
 collect_stays m t c u = go (call_of m c)
   where
-    done : (r : Call) → invocation_of (answered m t r) u ≡ invocation_of m u
-    done r = invocation_of-with_state (with_call m r.number (moved_on r (stage.Answered (now m)))) t u is.Running
+    done : (r : Call) → invocation_of (answer_call m t r) u ≡ invocation_of m u
+    done r = invocation_of-with_state (with_call m r.number (without_arguments_at r (stage.Answered (now m)))) t u is.Running
 
     at : (r : Call) (s : CallStage) → invocation_of (collect_at m t r s).state u ≡ invocation_of m u
     at r (stage.Returned bytes objects) = done r
@@ -133,7 +115,7 @@ left m t u s e =
 
 -- a thread that exits has no invocation, and no other thread of a process that ends has one
 exit_stays :
-    (m : State) (t u : ℕ) → Consistent m → state_of m t ≡ is.Running → invocation_of m t ≡ None →
+    (m : State) (t u : ℕ) → IsConsistent m → state_of m t ≡ is.Running → invocation_of m t ≡ None →
     invocation_of (exit m t (process_of m t)).state u ≡ invocation_of m u
 exit_stays m t u h e f = go (is_last m t (process_of m t)) refl
   where
@@ -162,11 +144,11 @@ return_moves :
     Acts m t (Some (request.Return bytes pass)) (return m t bytes) u
 return_moves m t bytes pass u e = go (client m t)
   where
-    sized : (r : Call) (b : Bool) → Acts m t (Some (request.Return bytes pass)) (if b then refused m E2BIG else returned_to m t bytes r) u
+    sized : (r : Call) (b : Bool) → Acts m t (Some (request.Return bytes pass)) (if b then refused_act m E2BIG else return_to m t bytes r) u
     sized r true = stays refl
     sized r false =
         parked_ends m t bytes pass u _ e
-        (left (with_call m r.number (moved_on r (stage.Returned bytes []))) t u (is.Idle (now m)) e)
+        (left (with_call m r.number (without_arguments_at r (stage.Returned bytes []))) t u (is.Idle (now m)) e)
 
     go : (o : Option Call) → Acts m t (Some (request.Return bytes pass)) (return_for m t bytes o) u
     go None = parked_ends m t bytes pass u _ e (left m t u (is.Idle (now m)) e)
@@ -175,7 +157,7 @@ return_moves m t bytes pass u e = go (client m t)
 -- the accept of a call begins one
 
 entered_begins :
-    (m : State) (t u : ℕ) (r : Call) → Consistent m → state_of m t ≡ is.Given (item.Call r.number) →
+    (m : State) (t u : ℕ) (r : Call) → IsConsistent m → state_of m t ≡ is.Given (item.Call r.number) →
     call_of m r.number ≡ Some r → Acts m t None (accept_call m t (Some r)) u
 entered_begins m t u r h e f = go (u == t) refl
   where
@@ -187,10 +169,10 @@ entered_begins m t u r h e f = go (u == t) refl
         let same : u ≡ t = grind (arith, nat_tests) in
         begins r.number (entry_of (door_of m r.door)) (cookie_of (door_of m r.door)) r.bytes [] same refl
         (ap (λ (v : ℕ). invocation_of m v) same ∙ h.coherent.outside t (ap is_outside e))
-        (ap (λ (v : ℕ). item_of (entered m t r) v) same ∙ ap item_in after.serves_after)
+        (ap (λ (v : ℕ). item_of (enter_call m t r) v) same ∙ ap item_in after.serves_after)
     go false g = stays (after.others u g)
 
-accept_moves : (m : State) (t : ℕ) (i : Item) (u : ℕ) → Consistent m → state_of m t ≡ is.Given i → Acts m t None (accept m t i) u
+accept_moves : (m : State) (t : ℕ) (i : Item) (u : ℕ) → IsConsistent m → state_of m t ≡ is.Given i → Acts m t None (accept m t i) u
 accept_moves m t (item.Notice n) u h e = stays refl
 accept_moves m t (item.Call c) u h e = go (call_of m c) refl
   where
@@ -203,7 +185,7 @@ accept_moves m t (item.Call c) u h e = go (call_of m c) refl
 -- acts
 
 enter_moves :
-    (m : State) (t : ℕ) (r : Request) (u : ℕ) → Consistent m → state_of m t ≡ is.Running → MayInside (invocation_of m t) r →
+    (m : State) (t : ℕ) (r : Request) (u : ℕ) → IsConsistent m → state_of m t ≡ is.Running → MayInside (invocation_of m t) r →
     Acts m t (Some r) (enter m t (process_of m t) r) u
 enter_moves m t (request.Create entry cookie attrs) u h e i = stays (create_stays m (process_of m t) entry cookie attrs u)
 enter_moves m t (request.Call fd bytes pass rsize) u h e i = stays (call_stays m t (process_of m t) fd bytes rsize u)
@@ -214,13 +196,13 @@ enter_moves m t (request.Await path) u h e i = stays (await_stays m t path u)
 enter_moves m t request.Exit u h e i = stays (exit_stays m t u h e (no_exit_inside (invocation_of m t) i))
 enter_moves m t r u h e i = stays refl
 
-go_on_moves : (m : State) (t : ℕ) (s : ThreadState) (u : ℕ) → Consistent m → state_of m t ≡ s → Acts m t None (go_on m t s) u
+go_on_moves : (m : State) (t : ℕ) (s : ThreadState) (u : ℕ) → IsConsistent m → state_of m t ≡ s → Acts m t None (go_on m t s) u
 go_on_moves m t (is.Given i) u h e = accept_moves m t i u h e
 go_on_moves m t (is.Calling c) u h e = stays (collect_stays m t c u)
 go_on_moves m t (is.Awaiting path) u h e = stays (invocation_of-with_state m t u is.Running)
 go_on_moves m t s u h e = stays refl
 
-act_moves : (m : State) (t : ℕ) (q : Option Request) (u : ℕ) → Consistent m → MayTurn m t q → Acts m t q (act m t q) u
+act_moves : (m : State) (t : ℕ) (q : Option Request) (u : ℕ) → IsConsistent m → MayTurn m t q → Acts m t q (act m t q) u
 act_moves m t (Some r) u h may = enter_moves m t r u h (running_is m t may.running) may.inside
 act_moves m t None u h may = go_on_moves m t (state_of m t) u h refl
 

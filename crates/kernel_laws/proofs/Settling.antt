@@ -4,20 +4,16 @@ use Rattle.std.proofs.Common.{refl, sym, ap, subst, ◌∙◌, inl, inr}
 use native.Mathlib.Omega.{arith}
 use Rattle.std.proofs.lemmas.Bool.Decides.{nat_tests}
 use Rattle.dk_base.specs.declared.object.Item.TheVariants as item
-use Rattle.dk_base.specs.declared.record.Thread.{Thread}
-use Rattle.dk_base.specs.declared.record.ThreadState.{ThreadState}
+use Rattle.written_kernel.specs.Types.{Call, Thread, ThreadState}
 use Rattle.dk_base.specs.declared.record.ThreadState.TheVariants as is
-use Rattle.dk_base.specs.declared.record.Call.{Call}
 use Rattle.dk_base.specs.declared.record.CallStage.TheVariants as stage
-use Rattle.written_kernel.specs.State.{State, tid, thread_of, door_of, call_of, is_queued, at_stage, with_call, with_state, with_state_in}
-use Rattle.written_kernel.specs.Pools.{Parked, pick, pool_of, is_queued_call, waiting_call, waiting_notice, is_waiting_notice, waits, with_notices}
-use Rattle.written_kernel.specs.Settle.{give_call, give_one, give_to, give_each, settle}
+use Rattle.written_kernel.specs.Words.{Parked, State, at_stage, call_of, door_of, give_call, give_each, give_one, give_to, is_queued, is_queued_call, is_waiting_notice, pick, pool_of, settle, thread_of, tid, waiting_call, waiting_items, waiting_notice, with_call, with_notices, with_state, with_state_in}
 use Rattle.kernel_laws.specs.Once.{has_number, record_of}
 use Rattle.kernel_laws.specs.Core.{Core, core, door_in, valid_in}
-use Rattle.kernel_laws.specs.Invariant.{InOrder, Coherent, Consistent}
+use Rattle.kernel_laws.specs.Invariant.{IsInOrder, IsCoherent, IsConsistent}
 use Rattle.kernel_laws.specs.Arrows.{ByGiving}
-use Rattle.kernel_laws.specs.Arrows.ByGiving.{stays, given}
-use Rattle.kernel_laws.proofs.Calls.{find_call_live, InOrder-replaced, length-replaced}
+use Rattle.kernel_laws.specs.Arrows.ByGiving.{stays, gives}
+use Rattle.kernel_laws.proofs.Calls.{find_call_live, IsInOrder-with_live_call, length-with_live_call}
 use Rattle.kernel_laws.proofs.Cores.{upd, set_call, with_state-core, with_call-core}
 use Rattle.kernel_laws.proofs.ThreadMoves.{given_core, Gives, give_keeps}
 use Rattle.kernel_laws.proofs.Acts.{there, same_rest_then, consistent_from, SameCalls, with_state_calls}
@@ -27,21 +23,21 @@ use Rattle.std.proofs.lemmas.List.Elements.{All-nil, All-cons, All-map}
 
 pub giving_then : (o p q : Option Call) → ByGiving o p → ByGiving p q → ByGiving o q
 giving_then o p q stays b = b
-giving_then o p q (given r u e) b = go _ _ b refl
+giving_then o p q (gives r u e) b = go _ _ b refl
   where
     go : (x y : Option Call) → ByGiving x y → x ≡ Some (at_stage r (stage.Given (tid u))) → ByGiving (Some r) y
-    go x y stays f = subst (λ z. ByGiving (Some r) z) (sym f) (given r u e)
-    go x y (given s v g) f = grind arith
+    go x y stays f = subst (λ z. ByGiving (Some r) z) (sym f) (gives r u e)
+    go x y (gives s v g) f = grind arith
 
 -- what giving keeps, and the arrows that calls take by it
 pub record Gave (m n : State) : Type 0 where
-  pub consistent : Consistent n
+  pub consistent : IsConsistent n
   pub arrows : (c : ℕ) → ByGiving (record_of m c) (record_of n c)
   pub serves : (t : ℕ) → (core n).serves t ≡ (core m).serves t
   pub doors : n.doors ≡ m.doors
   pub processes : n.processes ≡ m.processes
 
-pub gave_nothing : (m : State) → Consistent m → Gave m m
+pub gave_nothing : (m : State) → IsConsistent m → Gave m m
 gave_nothing m h =
     record { consistent = h; arrows = λ c. stays; serves = λ t. refl; doors = refl; processes = refl }
 
@@ -89,7 +85,7 @@ record GaveOne (m n : State) (r : Call) : Type 0 where
   others : (c : ℕ) → (c == r.number) ≡ false → record_of n c ≡ record_of m c
 
 given_does :
-    (m : State) (r : Call) (u : ℕ) → Consistent m → Gives (core m) r u → call_of m r.number ≡ Some r →
+    (m : State) (r : Call) (u : ℕ) → IsConsistent m → Gives (core m) r u → call_of m r.number ≡ Some r →
     GaveOne m (with_state (with_call m r.number (at_stage r (stage.Given (tid u)))) u (is.Given (item.Call r.number))) r
 given_does m r u h g f =
     record {
@@ -98,12 +94,12 @@ given_does m r u h g f =
             consistent =
                 consistent_from m n h
                 (same_rest_then m n1 n (record { tables = refl; processes = refl; notices = refl; bound = refl }) same.rest)
-                (subst (λ rs. InOrder 0 rs) (sym same.calls) (InOrder-replaced m.calls 0 r.number x h.in_order refl))
-                (ap length same.calls ∙ length-replaced m.calls r.number x ∙ h.counted ∙ sym same.made)
-                (subst Coherent (sym l) (give_keeps (core m) r u h.coherent g));
+                (subst (λ rs. IsInOrder 0 rs) (sym same.calls) (IsInOrder-with_live_call m.calls 0 r.number x h.in_order refl))
+                (ap length same.calls ∙ length-with_live_call m.calls r.number x ∙ h.counted ∙ sym same.made)
+                (subst IsCoherent (sym l) (give_keeps (core m) r u h.coherent g));
             arrows =
                 giving_at r.number x (λ c. record_of m c) (λ c. record_of n c) (λ c. ap (λ (k : Core). k.call c) l)
-                (subst (λ o. ByGiving o (Some x)) (sym g.found) (given r u g.queued));
+                (subst (λ o. ByGiving o (Some x)) (sym g.found) (gives r u g.queued));
             serves = λ t. ap (λ (k : Core). k.serves t) l;
             doors = (with_state_doors n1 u (is.Given (item.Call r.number))).doors;
             processes = (with_state_doors n1 u (is.Given (item.Call r.number))).processes;
@@ -129,7 +125,7 @@ given_does m r u h g f =
         (there m u (λ z. grind (arith, g.idle)))
 
 give_one_does :
-    (m : State) (r : Call) (u : ℕ) → Consistent m → Gives (core m) r u → GaveOne m (give_one m (item.Call r.number) u) r
+    (m : State) (r : Call) (u : ℕ) → IsConsistent m → Gives (core m) r u → GaveOne m (give_one m (item.Call r.number) u) r
 give_one_does m r u h g =
     subst (λ o. GaveOne m (with_state (give_call m u o) u (is.Given (item.Call r.number))) r) (sym found) (given_does m r u h g found)
   where
@@ -137,7 +133,7 @@ give_one_does m r u h g =
     found = find_call_live m.calls r.number r g.found (grind (arith, g.queued))
 
 give_to_does :
-    (m : State) (r : Call) → Consistent m → record_of m r.number ≡ Some r → r.stage ≡ stage.Queued →
+    (m : State) (r : Call) → IsConsistent m → record_of m r.number ≡ Some r → r.stage ≡ stage.Queued →
     GaveOne m (give_to m (waiting_call r) (pick m (pool_of m r.door))) r
 give_to_does m r h e q = go (pick m (pool_of m r.door)) refl
   where
@@ -168,7 +164,7 @@ pending_moves m n low i (r ∷ rs) h l p =
     (p.0, h r.number (grind (arith, nat_tests, p.0)) ∙ p.1, p.2, pending_moves m n r.number i rs h later p.3)
 
 give_each_does :
-    (rs : List Call) (low : ℕ) (m : State) → Consistent m → Pending m low rs → Gave m (give_each m (map waiting_call rs))
+    (rs : List Call) (low : ℕ) (m : State) → IsConsistent m → Pending m low rs → Gave m (give_each m (map waiting_call rs))
 give_each_does [] low m h p = gave_nothing m h
 give_each_does (r ∷ rs) low m h p =
     let one : GaveOne m (give_to m (waiting_call r) (pick m (pool_of m r.door))) r = give_to_does m r h p.1 p.2 in
@@ -179,7 +175,7 @@ give_each_does (r ∷ rs) low m h p =
 -- the waiting calls of a state
 
 pending_all :
-    (m : State) (rs : List Call) (n low : ℕ) → InOrder n rs → low ≤ n →
+    (m : State) (rs : List Call) (n low : ℕ) → IsInOrder n rs → low ≤ n →
     ((c : ℕ) → n < c → record_of m c ≡ find (has_number c) rs) → Pending m low (filter is_queued_call rs)
 pending_all m [] n low h l f = tt
 pending_all m (r ∷ rs) n low h l f =
@@ -198,11 +194,11 @@ pending_all m (r ∷ rs) n low h l f =
     go false e p q = p
     go true e p q = (grind (arith, h.0), here, grind arith, q)
 
-waits_of : (m : State) → m.notices ≡ [] → waits m ≡ map waiting_call (filter is_queued_call m.calls)
+waits_of : (m : State) → m.notices ≡ [] → waiting_items m ≡ map waiting_call (filter is_queued_call m.calls)
 waits_of m e =
     ap (λ ns. with_notices (map waiting_call (filter is_queued_call m.calls)) (map waiting_notice (filter is_waiting_notice ns))) e
 
-settle_gave : (m : State) → Consistent m → Gave m (settle m)
+settle_gave : (m : State) → IsConsistent m → Gave m (settle m)
 settle_gave m h =
     subst (λ ws. Gave m (give_each m ws)) (sym (waits_of m h.unbuilt.no_notices))
     (give_each_does (filter is_queued_call m.calls) 0 m h
@@ -210,12 +206,12 @@ settle_gave m h =
 
 -- no pool is left with a waiting call and an idle thread
 
-in_after : (rs : List Call) (n : ℕ) (r : Call) → InOrder n rs → IsIn r rs → n < r.number
+in_after : (rs : List Call) (n : ℕ) (r : Call) → IsInOrder n rs → IsIn r rs → n < r.number
 in_after [] n r h i = absurd i
 in_after (q ∷ qs) n r h (inl e) = grind (arith, h.0)
 in_after (q ∷ qs) n r h (inr i) = grind (arith, in_after qs (n + 1) r h.1 i)
 
-apart : (rs : List Call) (n : ℕ) → InOrder n rs → IsApart rs
+apart : (rs : List Call) (n : ℕ) → IsInOrder n rs → IsApart rs
 apart [] n h = tt
 apart (q ∷ qs) n h = (λ r l k. grind (arith, h.0, in_after qs (n + 1) r h.1 k.is_in, k.number), apart qs (n + 1) h.1)
 
@@ -230,7 +226,7 @@ queued_all P (q ∷ qs) h = go (is_queued_call q) refl (queued_all P qs (λ r e 
     go true e a = All-cons P q (filter is_queued_call qs) (h q e (inl refl)) a
 
 all_given_out :
-    (m n : State) → n ≡ settle m → Consistent m → Consistent n → All (λ w. pick n (pool_of n w.door) ≡ None) (waits n)
+    (m n : State) → n ≡ settle m → IsConsistent m → IsConsistent n → All (λ w. pick n (pool_of n w.door) ≡ None) (waiting_items n)
 all_given_out m n e h g =
     subst (λ ws. All (λ w. pick n (pool_of n w.door) ≡ None) ws) (sym (waits_of n g.unbuilt.no_notices))
     (All-map (λ w. pick n (pool_of n w.door) ≡ None) waiting_call (filter is_queued_call n.calls)
@@ -242,9 +238,9 @@ all_given_out m n e h g =
 
 pub record Settles (m n : State) : Type 0 where
   pub gave : Gave m n
-  pub given_out : All (λ w. pick n (pool_of n w.door) ≡ None) (waits n)
+  pub given_out : All (λ w. pick n (pool_of n w.door) ≡ None) (waiting_items n)
 
-pub settle_does : (m : State) → Consistent m → Settles m (settle m)
+pub settle_does : (m : State) → IsConsistent m → Settles m (settle m)
 settle_does m h =
     let g : Gave m (settle m) = settle_gave m h in
     record { gave = g; given_out = all_given_out m (settle m) refl h g.consistent }

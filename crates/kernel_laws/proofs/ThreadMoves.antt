@@ -5,15 +5,12 @@ use native.Mathlib.Omega.{arith}
 use Rattle.std.proofs.lemmas.Bool.Decides.{nat_tests}
 use Rattle.dk_base.specs.declared.error.Errno.TheVariants.{EBADF}
 use Rattle.dk_base.specs.declared.object.Item.TheVariants as item
-use Rattle.dk_base.specs.declared.record.ThreadState.{ThreadState}
+use Rattle.written_kernel.specs.Types.{Call, Door, ThreadState}
 use Rattle.dk_base.specs.declared.record.ThreadState.TheVariants as is
-use Rattle.dk_base.specs.declared.record.Door.{Door}
-use Rattle.dk_base.specs.declared.record.Call.{Call}
 use Rattle.dk_base.specs.declared.record.CallStage.TheVariants as stage
-use Rattle.written_kernel.specs.State.{tid, at_stage, moved_on, is_queued, ended_process}
-use Rattle.written_kernel.specs.Leaving.{is_owned}
+use Rattle.written_kernel.specs.Words.{at_stage, ended_process, is_owned, is_queued, tid, without_arguments_at}
 use Rattle.kernel_laws.specs.Core.{Core}
-use Rattle.kernel_laws.specs.Invariant.{Coherent}
+use Rattle.kernel_laws.specs.Invariant.{IsCoherent}
 use Rattle.kernel_laws.specs.Once.{owner_in}
 use Rattle.kernel_laws.proofs.Cores.{set_role, set_serves, set_call, set_door}
 
@@ -26,8 +23,8 @@ is_quiet (is.Working op input) = true
 is_quiet _ = false
 
 pub turn_keeps :
-    (k : Core) (t : ℕ) (s : ThreadState) → Coherent k → is_quiet (k.role t) ≡ true → is_quiet s ≡ true →
-    Coherent (set_role k t s)
+    (k : Core) (t : ℕ) (s : ThreadState) → IsCoherent k → is_quiet (k.role t) ≡ true → is_quiet s ≡ true →
+    IsCoherent (set_role k t s)
 turn_keeps k t s h p q = record {
   given = λ c v e. grind (arith, nat_tests, h.given c v);
   given_back = λ c v e. grind (arith, nat_tests, h.given_back c v);
@@ -58,7 +55,7 @@ turn_keeps k t s h p q = record {
   entered_owner = λ c v e. grind (arith, nat_tests, h.entered_owner c v);
 }
 
-pub door_keeps : (k : Core) (d : Door) → Coherent k → k.door d.number ≡ None → Coherent (set_door k d)
+pub door_keeps : (k : Core) (d : Door) → IsCoherent k → k.door d.number ≡ None → IsCoherent (set_door k d)
 door_keeps k d h p = record {
   given = λ c v e. grind (arith, nat_tests, h.given c v);
   given_back = λ c v e. grind (arith, nat_tests, h.given_back c v);
@@ -94,7 +91,7 @@ abbrev pub left_core : Core → ℕ → Core
 left_core k t = set_role (set_serves k t None) t is.Done
 
 pub leave_keeps :
-    (k : Core) (t : ℕ) → Coherent k → k.role t ≡ is.Running → k.serves t ≡ None → Coherent (left_core k t)
+    (k : Core) (t : ℕ) → IsCoherent k → k.role t ≡ is.Running → k.serves t ≡ None → IsCoherent (left_core k t)
 leave_keeps k t h p q = record {
   given = λ c v e. grind (arith, nat_tests, h.given c v);
   given_back = λ c v e. grind (arith, nat_tests, h.given_back c v);
@@ -136,7 +133,7 @@ pub record Gives (k : Core) (r : Call) (u : ℕ) : Type 0 where
   pub queued : r.stage ≡ stage.Queued
   pub owner : owner_in (k.door r.door) ≡ Some (k.process u)
 
-pub give_keeps : (k : Core) (r : Call) (u : ℕ) → Coherent k → Gives k r u → Coherent (given_core k r u)
+pub give_keeps : (k : Core) (r : Call) (u : ℕ) → IsCoherent k → Gives k r u → IsCoherent (given_core k r u)
 give_keeps k r u h p = record {
   given = λ c v e. grind (arith, nat_tests, h.given c v);
   given_back = λ c v e. grind (arith, nat_tests, h.given_back c v);
@@ -169,7 +166,7 @@ give_keeps k r u h p = record {
 
 -- a process ends: its threads are done, and the calls that wait at its doors end
 abbrev pub ended_call_of : Core → ℕ → Call → Call
-ended_call_of k p r = if is_queued r.stage && is_owned p (k.door r.door) then moved_on r (stage.Ended EBADF) else r
+ended_call_of k p r = if is_queued r.stage && is_owned p (k.door r.door) then without_arguments_at r (stage.Ended EBADF) else r
 
 abbrev pub ended_core : Core → ℕ → Core
 ended_core k p =
@@ -191,7 +188,7 @@ pub record Leaves (k : Core) (p : ℕ) : Type 0 where
   pub states : (t : ℕ) → k.process t ≡ p → may_leave (k.role t) ≡ true
   pub outside : (t : ℕ) → k.process t ≡ p → k.serves t ≡ None
 
-pub end_keeps : (k : Core) (p : ℕ) → Coherent k → Leaves k p → Coherent (ended_core k p)
+pub end_keeps : (k : Core) (p : ℕ) → IsCoherent k → Leaves k p → IsCoherent (ended_core k p)
 end_keeps k p h l = record {
   given = λ c v e. grind (arith, nat_tests, h.given c v);
   given_back = λ c v e. grind (arith, nat_tests, h.given_back c v);

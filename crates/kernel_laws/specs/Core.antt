@@ -1,21 +1,11 @@
 -- What the invariant and the laws see of a state: functions of the numbers of threads, doors, processes and calls.
 use Rattle.std.specs.Prelude.{ℕ, Option, Bool, true, false, Some, None, not, ◌&&◌}
-use Rattle.dk_base.specs.declared.object.Inv.{Inv}
-use Rattle.dk_base.specs.declared.record.Process.{Process}
-use Rattle.dk_base.specs.declared.record.ProcessStage.{ProcessStage}
+use Rattle.written_kernel.specs.Types.{Call, CallStage, Door, Inv, Notice, NoticeStage, Process, ProcessStage, Thread, ThreadState}
 use Rattle.dk_base.specs.declared.record.ProcessStage.TheVariants.{Live, Ended}
-use Rattle.dk_base.specs.declared.record.Thread.{Thread}
-use Rattle.dk_base.specs.declared.record.ThreadState.{ThreadState}
 use Rattle.dk_base.specs.declared.record.ThreadState.TheVariants as is
-use Rattle.dk_base.specs.declared.record.Door.{Door}
-use Rattle.dk_base.specs.declared.record.Call.{Call}
-use Rattle.dk_base.specs.declared.record.CallStage.{CallStage}
 use Rattle.dk_base.specs.declared.record.CallStage.TheVariants as stage
-use Rattle.dk_base.specs.declared.record.Notice.{Notice}
-use Rattle.dk_base.specs.declared.record.NoticeStage.{NoticeStage}
-use Rattle.written_kernel.specs.Numbered.{numbered}
-use Rattle.written_kernel.specs.State.{State, is_live, lives_in, process_of, state_of, invocation_of, thread_of, bound_of, door_of}
-use Rattle.written_kernel.specs.Pools.{is_private}
+use Rattle.dk_base.specs.ByNumber.{at_number}
+use Rattle.written_kernel.specs.Words.{State, bound_of, door_of, invocation_of, is_live, is_private, lives_in, process_of, state_of, thread_of}
 use Rattle.kernel_laws.specs.Once.{record_of, owner_in}
 
 pub record Core : Type 0 where
@@ -49,17 +39,17 @@ core m =
       number = λ t. number_in (thread_of m t);
       bound = λ t. bound_of m t;
       door = λ d. door_of m d;
-      proc = λ p. numbered m.processes p;
+      proc = λ p. at_number m.processes p;
       call = λ c. record_of m c;
       made = m.calls_made;
-      notice = λ n. notice_in (numbered m.notices n);
+      notice = λ n. notice_in (at_number m.notices n);
     }
 
 -- of a call's record, if there is one
 
-abbrev pub caller_in : Option Call → ℕ
-caller_in None = 0
-caller_in (Some r) = r.caller.0
+abbrev pub caller_number : Option Call → ℕ
+caller_number None = 0
+caller_number (Some r) = r.caller.0
 
 abbrev pub door_in : Option Call → ℕ
 door_in None = 0

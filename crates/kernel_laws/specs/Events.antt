@@ -1,8 +1,7 @@
 -- What every event does: it keeps the invariant, and each call's record takes arrows of the table.
 use Rattle.std.specs.Prelude.{ℕ, Option}
-use Rattle.dk_base.specs.declared.request.Request.{Request}
-use Rattle.written_kernel.specs.State.{State}
-use Rattle.written_kernel.specs.Step.{step}
+use Rattle.written_kernel.specs.Types.{Request}
+use Rattle.written_kernel.specs.Words.{State, step}
 use Rattle.kernel_laws.specs.Once.{record_of}
 use Rattle.kernel_laws.specs.Invariant.{Invariant}
 use Rattle.kernel_laws.specs.Arrows.{Arrow}

@@ -1,19 +1,16 @@
 -- The invariant of every run: what holds of each state between two events.
 use Rattle.std.specs.Prelude.{ℕ, ◌≡◌, ◌+◌, ◌<◌, ◌≤◌, List, [], ◌∷◌, true, false, Some, None, length, All}
-use Rattle.dk_base.specs.declared.number.Fd.{Fd}
+use Rattle.written_kernel.specs.Types.{Call, Door, Fd}
 use Rattle.dk_base.specs.declared.object.Item.TheVariants as item
 use Rattle.dk_base.specs.declared.record.ThreadState.TheVariants as is
-use Rattle.dk_base.specs.declared.record.Door.{Door}
-use Rattle.dk_base.specs.declared.record.Call.{Call}
 use Rattle.dk_base.specs.declared.record.CallStage.TheVariants as stage
 use Rattle.dk_base.specs.declared.record.NoticeStage.TheVariants as notice
-use Rattle.written_kernel.specs.State.{State, tid, object_at}
-use Rattle.written_kernel.specs.Pools.{pick, pool_of, waits}
-use Rattle.kernel_laws.specs.Core.{Core, core, caller_in, door_in, abandoned_in, live_in, underway_in, has_arguments, is_outside, ended_in, private_in, valid_in, owner_at}
+use Rattle.written_kernel.specs.Words.{State, object_at, pick, pool_of, tid, waiting_items}
+use Rattle.kernel_laws.specs.Core.{Core, core, caller_number, door_in, abandoned_in, live_in, underway_in, has_arguments, is_outside, ended_in, private_in, valid_in, owner_at}
 use Rattle.kernel_laws.specs.Once.{owner_in, stage_in, item_in}
 
 -- of threads, calls, notices, doors and processes
-pub record Coherent (k : Core) : Type 0 where
+pub record IsCoherent (k : Core) : Type 0 where
   -- a call is Given u exactly where u is Given that call, and Entered u exactly where u has it as its invocation and it
   -- is not abandoned; a call is abandoned only once it has left its server
   pub given : (c u : ℕ) → stage_in (k.call c) ≡ Some (stage.Given (tid u)) → k.role u ≡ is.Given (item.Call c)
@@ -31,9 +28,9 @@ pub record Coherent (k : Core) : Type 0 where
   pub notice_entered_back :
       (n u : ℕ) → item_in (k.serves u) ≡ Some (item.Notice n) → k.notice n ≡ Some (notice.Entered (tid u))
   -- a thread is Calling c exactly where it is c's caller and c is neither answered nor left
-  pub caller : (c t : ℕ) → k.role t ≡ is.Calling c → caller_in (k.call c) ≡ t
+  pub caller : (c t : ℕ) → k.role t ≡ is.Calling c → caller_number (k.call c) ≡ t
   pub live : (c t : ℕ) → k.role t ≡ is.Calling c → live_in (k.call c) ≡ true
-  pub calling : (c : ℕ) → live_in (k.call c) ≡ true → k.role (caller_in (k.call c)) ≡ is.Calling c
+  pub calling : (c : ℕ) → live_in (k.call c) ≡ true → k.role (caller_number (k.call c)) ≡ is.Calling c
   -- threads that are Dormant, Idle, Given, FailedReturn or Done have no invocation
   pub outside : (t : ℕ) → is_outside (k.role t) ≡ true → k.serves t ≡ None
   -- a thread that serves c and is Calling d has c below d
@@ -62,26 +59,26 @@ pub record Coherent (k : Core) : Type 0 where
       (c u : ℕ) → stage_in (k.call c) ≡ Some (stage.Entered (tid u)) → owner_at k c ≡ Some (k.process u)
 
 -- the calls of a list have the numbers from n + 1 on, in order
-abbrev pub InOrder : ℕ → List Call → Type 0
-InOrder n [] = Unit {0}
-InOrder n (r ∷ rs) = (r.number ≡ n + 1) × InOrder (n + 1) rs
+abbrev pub IsInOrder : ℕ → List Call → Type 0
+IsInOrder n [] = Unit {0}
+IsInOrder n (r ∷ rs) = (r.number ≡ n + 1) × IsInOrder (n + 1) rs
 
 -- what no built kind of event makes: these go as the capabilities come
-pub record Unbuilt (m : State) : Type 0 where
+pub record HasNothingUnbuilt (m : State) : Type 0 where
   pub no_notices : m.notices ≡ []
   pub unbound : (t : ℕ) → (core m).bound t ≡ None
 
 -- what holds at each time: also between an act and what the kernel does after it
-pub record Consistent (m : State) : Type 0 where
+pub record IsConsistent (m : State) : Type 0 where
   -- the calls have the numbers from 1 to the number of calls made, in order
-  pub in_order : InOrder 0 m.calls
+  pub in_order : IsInOrder 0 m.calls
   pub counted : length m.calls ≡ m.calls_made
-  pub coherent : Coherent (core m)
+  pub coherent : IsCoherent (core m)
   -- an ended process has no row
   pub no_rows : (p : ℕ) (fd : Fd) → ended_in ((core m).proc p) ≡ true → object_at m p fd ≡ None
-  pub unbuilt : Unbuilt m
+  pub unbuilt : HasNothingUnbuilt m
 
 pub record Invariant (m : State) : Type 0 where
-  pub consistent : Consistent m
+  pub consistent : IsConsistent m
   -- no pool has both a waiting item and an Idle thread
-  pub given_out : All (λ w. pick m (pool_of m w.door) ≡ None) (waits m)
+  pub given_out : All (λ w. pick m (pool_of m w.door) ≡ None) (waiting_items m)

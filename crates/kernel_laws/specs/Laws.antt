@@ -1,7 +1,6 @@
 -- The laws of every run. Each later law is added here.
 use Rattle.std.specs.Prelude.{List}
-use Rattle.written_kernel.specs.State.{State}
-use Rattle.written_kernel.specs.Runs.{Turn}
+use Rattle.written_kernel.specs.Words.{State, Turn}
 use Rattle.kernel_laws.specs.Once.{Once}
 use Rattle.kernel_laws.specs.MadeByCreator.{MadeByCreator}
 

@@ -5,3 +5,4 @@ pub mod Core
 pub mod Invariant
 pub mod Arrows
 pub mod Events
+pub mod Words

@@ -1,12 +1,10 @@
 -- Who made a door: a door comes only by a Create, belongs to the process of the thread that asked for it, and keeps that
 -- owner, its procedure and its cookie; and a call of it is entered at that procedure, with that cookie.
 use Rattle.std.specs.Prelude.{ℕ, ◌≡◌, ◌+◌, ◌<◌, List, Option, Some, None, length, slice_get}
-use Rattle.dk_base.specs.declared.number.Fd.{Fd}
+use Rattle.written_kernel.specs.Types.{Door, Fd}
 use Rattle.dk_base.specs.declared.request.Request.TheVariants as request
 use Rattle.dk_base.specs.declared.answer.Answer.TheVariants as answer
-use Rattle.dk_base.specs.declared.record.Door.{Door}
-use Rattle.written_kernel.specs.State.{State, door_of, process_of}
-use Rattle.written_kernel.specs.Runs.{Turn, state_at}
+use Rattle.written_kernel.specs.Words.{State, Turn, door_of, process_of, state_at}
 use Rattle.kernel_laws.specs.Once.{door_of_call, answer_at}
 
 -- the turn of place i asks for this door, in the name of its thread's process

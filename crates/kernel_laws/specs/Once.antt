@@ -2,22 +2,13 @@
 -- process that made its door; a thread is in one call at a time; each call is answered at most once, and only by the
 -- collect of its caller; and what is answered with results was entered before.
 use Rattle.std.specs.Prelude.{ℕ, ◌≡◌, ◌+◌, ◌<◌, ◌≤◌, List, Option, Bool, true, false, ◌==◌, Some, None, find, length, slice_get}
-use Rattle.dk_base.specs.declared.number.Fd.{Fd}
-use Rattle.dk_base.specs.declared.object.Item.{Item}
+use Rattle.written_kernel.specs.Types.{Answer, Call, CallStage, Door, Fd, Inv, Item, Pass}
 use Rattle.dk_base.specs.declared.object.Item.TheVariants as item
-use Rattle.dk_base.specs.declared.object.Inv.{Inv}
-use Rattle.dk_base.specs.declared.object.Pass.{Pass}
 use Rattle.dk_base.specs.declared.request.Request.TheVariants as request
-use Rattle.dk_base.specs.declared.answer.Answer.{Answer}
 use Rattle.dk_base.specs.declared.answer.Answer.TheVariants as answer
-use Rattle.dk_base.specs.declared.record.Door.{Door}
-use Rattle.dk_base.specs.declared.record.Call.{Call}
-use Rattle.dk_base.specs.declared.record.CallStage.{CallStage}
 use Rattle.dk_base.specs.declared.record.CallStage.TheVariants as stage
 use Rattle.dk_base.specs.declared.record.ThreadState.TheVariants as is
-use Rattle.written_kernel.specs.State.{State, tid, door_of, process_of, invocation_of, state_of}
-use Rattle.written_kernel.specs.Step.{step}
-use Rattle.written_kernel.specs.Runs.{Turn, state_at}
+use Rattle.written_kernel.specs.Words.{State, Turn, door_of, invocation_of, process_of, state_at, state_of, step, tid}
 
 abbrev pub has_number : ℕ → Call → Bool
 has_number c r = r.number == c

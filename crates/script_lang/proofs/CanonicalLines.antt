@@ -3,38 +3,30 @@ use Rattle.std.proofs.Common.{◌≡◌, ℕ, ◌≤◌, ◌<◌, ◌^◌, true,
 use Rattle.std.specs.Prelude.{codes, decimal}
 use Rattle.std.specs.List.{list_all}
 use Rattle.std.proofs.lemmas.Bool.{and_from}
-use Rattle.dk_base.specs.declared.number.Tid.{Tid}
-use Rattle.script_text.specs.Names.{is_name}
-use Rattle.script_text.specs.Spelled.{SpellsName}
-use Rattle.script_text.specs.Words.{joined, spaced, is_word}
+use Rattle.script_text.specs.Types.{Tid}
+use Rattle.script_text.specs.Words.{SpellsName, is_name, is_word, joined_words, spaced_words}
 use Rattle.script_text.proofs.DecimalWords.{is_plain-decimal}
-use Rattle.script_text.proofs.JoinedWords.{words_of-joined, joined_first, is_word-plain}
+use Rattle.script_text.proofs.JoinedWords.{words_of-joined_words, joined_first, is_word-plain}
 use Rattle.script_text.proofs.PartWords.{is_plain-name}
-use Rattle.script_text.proofs.PrintableWords.{are_printable, are_printable-joined, are_printable-name, are_printable-decimal}
-use Rattle.script_line.specs.declared.keyword.Keyword.{Keyword}
+use Rattle.script_text.proofs.PrintableWords.{are_printable, are_printable-joined_words, are_printable-name, are_printable-decimal}
+use Rattle.script_lang.specs.Types.{Keyword, Line}
 use Rattle.script_line.specs.declared.keyword.Keyword.TheVariants.{Create}
-use Rattle.script_line.specs.declared.line.Line.{Line}
-use Rattle.script_line.specs.Keywords.{keyword_word}
-use Rattle.script_line.specs.LineKeyword.{keyword_of_line}
-use Rattle.script_line.specs.LineLaws.{operand_words}
-use Rattle.script_line.specs.Tables.{Tables}
-use Rattle.script_line.specs.Spelled.{Ends, First, Each, SpellsThread, Then}
-use Rattle.script_line.specs.Words.{line_words, thread_word}
-use Rattle.script_line.proofs.LineWritten.{line-written, line-words}
-use Rattle.script_line.proofs.PrintableLine.{line_printable}
-use Rattle.script_line.proofs.SpacedWords.{parted}
-use Rattle.script_lang.specs.declared.item.Item.{Item}
-use Rattle.script_lang.specs.declared.item.Item.TheVariants.{Budget, Process, Spare, Thread, Procedure, Do, Schedule}
-use Rattle.script_lang.specs.Before.{Before, after}
+use Rattle.script_line.specs.Words.{Each, Ends, First, SpellsThread, Tables, Then, keyword_of_line, keyword_word, line_words, operand_words, thread_word}
+use Rattle.line_laws.proofs.LineWritten.{line-written, line-words}
+use Rattle.line_laws.proofs.PrintableLine.{line_printable}
+use Rattle.line_writer.proofs.SpacedWords.{parted}
+use Rattle.script_lang.specs.declared.item.ScriptLine.{ScriptLine}
+use Rattle.script_lang.specs.declared.item.ScriptLine.TheVariants.{Budget, Process, Spare, Thread, Procedure, Do, Schedule}
+use Rattle.script_lang.specs.Context.{ContextValue, context_after}
 use Rattle.script_lang.specs.Canonical.{item_words, item_line}
-use Rattle.script_lang.specs.Reading.{is_skipped}
-use Rattle.script_lang.specs.Spelled.{SpellsItem, SpellsItems, Limit}
+use Rattle.script_lang.specs.Parsing.{is_skipped}
+use Rattle.script_lang.specs.Spelled.{SpellsScriptLine, SpellsScriptLines, SpellsLimit}
 use Rattle.script_lang.proofs.Stand.{Stand}
 use Rattle.script_lang.proofs.CanonicalStands.{schedule_named, named_words}
 
 -- what is shown of the words of an item
-record IsWritten (tables : Tables) (of : ℕ) (item : Item) : Type 0 where
-  pub spells : SpellsItem tables of item (item_words tables item)
+record IsWritten (tables : Tables) (of : ℕ) (item : ScriptLine) : Type 0 where
+  pub spells : SpellsScriptLine tables of item (item_words tables item)
   pub words : list_all is_word (item_words tables item) ≡ true
   pub printable : list_all are_printable (item_words tables item) ≡ true
   pub read : is_skipped (item_line tables item) ≡ false
@@ -62,24 +54,24 @@ all_are_printable : (words : List (List ℕ)) → AreGood words → list_all are
 all_are_printable [] good = refl
 all_are_printable (word ∷ words) good = and_from _ _ good.0.printable (all_are_printable words good.1)
 
--- a keyword and words behind it
-written_by : (tables : Tables) (of : ℕ) (item : Item) → SpellsItem tables of item (item_words tables item) → AreGood (item_words tables item) → is_skipped (item_line tables item) ≡ false → IsWritten tables of item
+-- a keyword and words after it
+written_by : (tables : Tables) (of : ℕ) (item : ScriptLine) → SpellsScriptLine tables of item (item_words tables item) → AreGood (item_words tables item) → is_skipped (item_line tables item) ≡ false → IsWritten tables of item
 written_by tables of item spells good read = record { spells = spells; words = all_are_words (item_words tables item) good; printable = all_are_printable (item_words tables item) good; read = read }
 
-budget_written : (tables : Tables) (of events : ℕ) (words : List (List ℕ)) → SpellsItem tables of (Budget events) words → IsWritten tables of (Budget events)
+budget_written : (tables : Tables) (of events : ℕ) (words : List (List ℕ)) → SpellsScriptLine tables of (Budget events) words → IsWritten tables of (Budget events)
 budget_written tables of events [] spells = absurd spells
 budget_written tables of events (word ∷ []) spells = absurd spells.1
 budget_written tables of events (word ∷ number ∷ words) spells =
     let most = spells.1.0.1 in
     written_by tables of (Budget events) (refl, ((spells.1.0.0, most, refl), refl)) (record { is_word = refl; printable = refl }, (good_number events (omega arith), tt)) refl
 
-limit_within : (limit : ℕ) (words : List (List ℕ)) → Limit limit words → limit ≤ 256
+limit_within : (limit : ℕ) (words : List (List ℕ)) → SpellsLimit limit words → limit ≤ 256
 limit_within limit words (inl nothing) = let is = nothing.0 in omega arith
 limit_within limit [] (inr some) = absurd some
 limit_within limit (word ∷ []) (inr some) = absurd some.1
 limit_within limit (word ∷ number ∷ words) (inr some) = some.1.0.1
 
-process_written : (tables : Tables) (of limit : ℕ) (name : List ℕ) (words : List (List ℕ)) → SpellsItem tables of (Process name limit) words → IsWritten tables of (Process name limit)
+process_written : (tables : Tables) (of limit : ℕ) (name : List ℕ) (words : List (List ℕ)) → SpellsScriptLine tables of (Process name limit) words → IsWritten tables of (Process name limit)
 process_written tables of limit name [] spells = absurd spells
 process_written tables of limit name (word ∷ []) spells = absurd spells.1
 process_written tables of limit name (word ∷ named ∷ words) spells =
@@ -97,7 +89,7 @@ thread_names : (tables : Tables) (threads : List Tid) (words : List (List ℕ)) 
 thread_names tables [] words spells = tt
 thread_names tables (thread ∷ threads) words spells = (good_name (thread_word tables thread) spells.0.0, thread_names tables threads words spells.1)
 
-schedule_written : (tables : Tables) (of : ℕ) (threads : List Tid) (words : List (List ℕ)) → SpellsItem tables of (Schedule threads) words → IsWritten tables of (Schedule threads)
+schedule_written : (tables : Tables) (of : ℕ) (threads : List Tid) (words : List (List ℕ)) → SpellsScriptLine tables of (Schedule threads) words → IsWritten tables of (Schedule threads)
 schedule_written tables of [] words spells = absurd spells
 schedule_written tables of (thread ∷ threads) words spells =
     let named = named_words tables (thread ∷ threads) (schedule_named tables of (thread ∷ threads) words spells) in
@@ -107,17 +99,17 @@ keyword_read : (keyword : Keyword) (others : List ℕ) → is_skipped (keyword_w
 keyword_read Create others = refl
 keyword_read keyword others = refl
 
-line_is_read : (tables : Tables) (line : Line) → is_skipped (joined (line_words tables line)) ≡ false
+line_is_read : (tables : Tables) (line : Line) → is_skipped (joined_words (line_words tables line)) ≡ false
 line_is_read tables line =
-    ap is_skipped (ap joined (parted tables line) ∙ joined_first (keyword_word (keyword_of_line line)) (operand_words tables line)) ∙
-    keyword_read (keyword_of_line line) (spaced (operand_words tables line))
+    ap is_skipped (ap joined_words (parted tables line) ∙ joined_first (keyword_word (keyword_of_line line)) (operand_words tables line)) ∙
+    keyword_read (keyword_of_line line) (spaced_words (operand_words tables line))
 
-line_is_written : (tables : Tables) (of : ℕ) (line : Line) (words : List (List ℕ)) → SpellsItem tables of (Do line) words → IsWritten tables of (Do line)
+line_is_written : (tables : Tables) (of : ℕ) (line : Line) (words : List (List ℕ)) → SpellsScriptLine tables of (Do line) words → IsWritten tables of (Do line)
 line_is_written tables of line words spells =
     let written = line-written tables of line words spells in
     record { spells = written; words = line-words tables of line words spells; printable = line_printable tables of line (line_words tables line) written; read = line_is_read tables line }
 
-item_written : (tables : Tables) (of : ℕ) (item : Item) (words : List (List ℕ)) → SpellsItem tables of item words → IsWritten tables of item
+item_written : (tables : Tables) (of : ℕ) (item : ScriptLine) (words : List (List ℕ)) → SpellsScriptLine tables of item words → IsWritten tables of item
 item_written tables of (Budget events) words spells = budget_written tables of events words spells
 item_written tables of (Process name limit) words spells = process_written tables of limit name words spells
 item_written tables of (Spare name) words spells =
@@ -132,24 +124,24 @@ item_written tables of (Procedure name) words spells =
 item_written tables of (Do line) words spells = line_is_written tables of line words spells
 item_written tables of (Schedule threads) words spells = schedule_written tables of threads words spells
 
--- lines that stand behind one another are spelled by their canonical text, which is printable
-pub record AreSpelled (tables : Tables) (before : Before) (items : List Item) : Type 0 where
-  pub spelled : SpellsItems tables before (map (item_line tables) items) items
+-- lines that stand after one another are spelled by their canonical text, which is printable
+pub record AreSpelled (tables : Tables) (context : ContextValue) (items : List ScriptLine) : Type 0 where
+  pub spelled : SpellsScriptLines tables context (map (item_line tables) items) items
   pub printable : list_all are_printable (map (item_line tables) items) ≡ true
 
-pub stand_spelled : (tables : Tables) (before : Before) (items : List Item) → Stand tables before items → AreSpelled tables before items
-stand_spelled tables before [] stand = record { spelled = stand; printable = refl }
-stand_spelled tables before (item ∷ items) stand =
-    let of = length before.processes in
+pub stand_spelled : (tables : Tables) (context : ContextValue) (items : List ScriptLine) → Stand tables context items → AreSpelled tables context items
+stand_spelled tables context [] stand = record { spelled = stand; printable = refl }
+stand_spelled tables context (item ∷ items) stand =
+    let of = length context.processes in
     let written = item_written tables of item stand.words stand.spells in
-    let later = stand_spelled tables (after before item) items stand.others in
-    let printable = are_printable-joined (item_words tables item) written.printable in
+    let later = stand_spelled tables (context_after context item) items stand.others in
+    let printable = are_printable-joined_words (item_words tables item) written.printable in
     record {
       spelled = (
         printable,
         inr (record {
           read = written.read;
-          spells = subst (SpellsItem tables of item) (sym (words_of-joined (item_words tables item) written.words)) written.spells;
+          spells = subst (SpellsScriptLine tables of item) (sym (words_of-joined_words (item_words tables item) written.words)) written.spells;
           may_stand = stand.may_stand;
           others = later.spelled;
         }),

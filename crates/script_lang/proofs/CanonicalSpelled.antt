@@ -2,13 +2,13 @@
 use Rattle.std.proofs.Common.{◌≡◌, ℕ, true, List, [], ◌∷◌, map, refl, sym, ap, ◌∙◌, subst}
 use Rattle.std.specs.List.{list_all, flat_map}
 use Rattle.std.proofs.lemmas.Bool.{and_parts, and_from}
-use Rattle.script_text.specs.Lines.{lines_of, is_one_line}
+use Rattle.script_text.specs.Words.{is_one_line, lines_of}
 use Rattle.script_text.proofs.PrintableWords.{are_printable, is_one_line-printable}
-use Rattle.script_text.proofs.TextLines.{lines_of-text_of}
-use Rattle.script_lang.specs.Before.{nothing_before}
-use Rattle.script_lang.specs.Canonical.{header, item_line, canonical}
-use Rattle.script_lang.specs.Scripts.{items_of, script_of, tables_of}
-use Rattle.script_lang.specs.Spelled.{SpellsScript, SpellsLines, path_uses, paths_behind, spells}
+use Rattle.script_text.proofs.TextLines.{lines_of-text_of_lines}
+use Rattle.script_lang.specs.Context.{first_context}
+use Rattle.script_lang.specs.Canonical.{header, item_line, canonical_text}
+use Rattle.script_lang.specs.Scripts.{items_of, script_of_items, tables_of}
+use Rattle.script_lang.specs.Spelled.{SpellsScript, SpellsLines, path_uses, path_count_after, spells}
 use Rattle.script_lang.specs.Value.{ScriptValue}
 use Rattle.script_lang.proofs.Stand.{Stand, spelled_stand}
 use Rattle.script_lang.proofs.CanonicalScript.{written, rows_of, uses_same, written_script, script_written}
@@ -24,7 +24,7 @@ are_lines (line ∷ lines) h =
 abbrev canonical_lines : ScriptValue → List (List ℕ)
 canonical_lines script = map (item_line (tables_of script)) (items_of script)
 
--- the canonical lines behind the first
+-- the canonical lines after the first
 record IsCanonical (script : ScriptValue) : Type 0 where
   pub spelled : SpellsScript (canonical_lines script) script
   pub printable : list_all are_printable (canonical_lines script) ≡ true
@@ -32,17 +32,17 @@ record IsCanonical (script : ScriptValue) : Type 0 where
 script_again : (lines : List (List ℕ)) (script : ScriptValue) → SpellsScript lines script → IsCanonical script
 script_again lines script h =
     let tables = tables_of script in
-    let stand = spelled_stand tables nothing_before lines h.items h.spells in
+    let stand = spelled_stand tables first_context lines h.items h.spells in
     let same : items_of script ≡ written h.items (rows_of h.items) = ap items_of (sym h.is_script) ∙ script_written tables script.paths h.items stand in
-    let stands : Stand tables nothing_before (items_of script) = subst (Stand tables nothing_before) (sym same) (written_stand tables h.items stand) in
-    let spelled = stand_spelled tables nothing_before (items_of script) stands in
+    let stands : Stand tables first_context (items_of script) = subst (Stand tables first_context) (sym same) (written_stand tables h.items stand) in
+    let spelled = stand_spelled tables first_context (items_of script) stands in
     record {
       spelled = record {
         items = items_of script;
         spells = spelled.spelled;
         different_paths = h.different_paths;
-        numbered_paths = ap (λ items. paths_behind 0 (flat_map path_uses items)) same ∙ ap (paths_behind 0) (uses_same h.items (rows_of h.items)) ∙ h.numbered_paths;
-        is_script = ap (script_of script.paths) same ∙ written_script tables script.paths h.items stand ∙ h.is_script;
+        numbered_paths = ap (λ items. path_count_after 0 (flat_map path_uses items)) same ∙ ap (path_count_after 0) (uses_same h.items (rows_of h.items)) ∙ h.numbered_paths;
+        is_script = ap (script_of_items script.paths) same ∙ written_script tables script.paths h.items stand ∙ h.is_script;
       };
       printable = spelled.printable;
     }
@@ -51,9 +51,9 @@ lines_again : (lines : List (List ℕ)) (script : ScriptValue) → SpellsLines l
 lines_again [] script h = absurd h
 lines_again (line ∷ lines) script h = script_again lines script h.1
 
-pub canonical_spelled : (text : List ℕ) (script : ScriptValue) → spells text script → spells (canonical script) script
-unfolding spells canonical
+pub canonical_spelled : (text : List ℕ) (script : ScriptValue) → spells text script → spells (canonical_text script) script
+unfolding spells canonical_text
 canonical_spelled text script h =
     let again = lines_again (lines_of text) script h in
-    let lines = lines_of-text_of (header ∷ canonical_lines script) (are_lines (header ∷ canonical_lines script) (and_from _ _ refl again.printable)) in
+    let lines = lines_of-text_of_lines (header ∷ canonical_lines script) (are_lines (header ∷ canonical_lines script) (and_from _ _ refl again.printable)) in
     subst (λ ls. SpellsLines ls script) (sym lines) (refl, again.spelled)

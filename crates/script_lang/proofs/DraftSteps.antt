@@ -2,26 +2,26 @@
 use Rattle.std.proofs.Common.{◌≡◌, ℕ, Bool, true, false, List, ◌∷◌, length, Option, Some, None, refl, sym, ap, subst, ◌∙◌}
 use Rattle.std.proofs.lemmas.List.{append_assoc, append-nil, length-append}
 use Rattle.std.proofs.lemmas.Bool.{false≢true}
-use Rattle.dk_base.specs.declared.number.Tid.{Tid}
-use Rattle.script_line.specs.declared.line.Line.{Line}
-use Rattle.script_line.specs.Kinds.{kind_of, depth_after}
+use Rattle.script_text.specs.Types.{Tid}
+use Rattle.script_lang.specs.Types.{Line}
+use Rattle.script_line.specs.Words.{depth_after, kind_of}
 use Rattle.script_lang.specs.declared.draft.Draft.{Draft}
 use Rattle.script_lang.specs.declared.draft.Owner.{Owner}
 use Rattle.script_lang.specs.declared.draft.Owner.TheVariants.{Nobody, Thread as OfThread, Procedure as OfProcedure}
-use Rattle.script_lang.specs.declared.item.Item.{Item}
-use Rattle.script_lang.specs.declared.item.Item.TheVariants.{Budget, Process, Spare, Thread, Procedure, Do, Schedule}
-use Rattle.script_lang.specs.declared.item.Place.{Place}
-use Rattle.script_lang.specs.declared.item.Place.TheVariants.{Start, Processes, Members, Body, Schedule as Scheduled}
+use Rattle.script_lang.specs.declared.item.ScriptLine.{ScriptLine}
+use Rattle.script_lang.specs.declared.item.ScriptLine.TheVariants.{Budget, Process, Spare, Thread, Procedure, Do, Schedule}
+use Rattle.script_lang.specs.declared.item.ScriptPlace.{ScriptPlace}
+use Rattle.script_lang.specs.declared.item.ScriptPlace.TheVariants.{Start, Processes, Members, Body, Schedule as Scheduled}
 use Rattle.script_lang.specs.Spelled.{is_of_place}
 use Rattle.script_lang.specs.declared.script.Part.{Part}
 use Rattle.script_lang.specs.declared.script.Procedure.{Procedure as ScriptProcedure}
 use Rattle.script_lang.specs.declared.script.ScriptProcess.{ScriptProcess}
 use Rattle.script_lang.specs.declared.script.ScriptThread.{ScriptThread}
-use Rattle.script_lang.specs.Before.{Before, after, with_depth, with_variables}
-use Rattle.script_lang.specs.Drafts.{drafted, closed_of, with_draft_line, script_with}
-use Rattle.script_lang.specs.Remaining.{has_owner, is_body, Agrees}
+use Rattle.script_lang.specs.Context.{ContextValue, context_after, context_at_depth, context_with_variables}
+use Rattle.script_lang.specs.Drafts.{draft_after, draft_after_body_of, draft_with_line, script_with}
+use Rattle.script_lang.specs.TextReaderContracts.{has_owner, is_body, Agrees}
 
-abbrev pub is_do : Item → Bool
+abbrev pub is_do : ScriptLine → Bool
 is_do (Do line) = true
 is_do item = false
 
@@ -29,41 +29,41 @@ true≢false : true ≡ false → ⊥
 true≢false h = false≢true (sym h)
 
 -- how many blocks are open in the body that an item begins
-abbrev depth_behind : Item → ℕ → ℕ
-depth_behind (Thread name) depth = 0
-depth_behind (Procedure name) depth = 0
-depth_behind item depth = depth
+abbrev depth_after_item : ScriptLine → ℕ → ℕ
+depth_after_item (Thread name) depth = 0
+depth_after_item (Procedure name) depth = 0
+depth_after_item item depth = depth
 
 module _ (paths : List (List ℕ)) (budget : ℕ) (processes : List ScriptProcess) (threads : List ScriptThread) (procedures : List ScriptProcedure) (order : List Part) (schedule : List Tid) (body : List Line) where
   draft_with : Owner → Draft
   draft_with owner = record { budget = budget; processes = processes; threads = threads; procedures = procedures; order = order; schedule = schedule; owner = owner; body = body }
 
-  line_ends : (owner : Owner) (depth behind : ℕ) (line : Line) (items : List Item) → depth_after depth (kind_of line) ≡ None → has_owner owner ≡ true
-      → script_with paths (with_draft_line (draft_with owner) line None) behind items ≡ script_with paths (draft_with owner) depth (Do line ∷ items)
+  line_ends : (owner : Owner) (depth after : ℕ) (line : Line) (items : List ScriptLine) → depth_after depth (kind_of line) ≡ None → has_owner owner ≡ true
+      → script_with paths (draft_with_line (draft_with owner) line None) after items ≡ script_with paths (draft_with owner) depth (Do line ∷ items)
   unfolding draft_with
-  line_ends Nobody depth behind line items e h = absurd (false≢true h)
-  line_ends (OfThread name) depth behind line items e h = rw e (simp (append_assoc, append-nil))
-  line_ends (OfProcedure name) depth behind line items e h = rw e (simp (append_assoc, append-nil))
+  line_ends Nobody depth after line items e h = absurd (false≢true h)
+  line_ends (OfThread name) depth after line items e h = rw e (simp (append_assoc, append-nil))
+  line_ends (OfProcedure name) depth after line items e h = rw e (simp (append_assoc, append-nil))
 
-  line_goes_on : (owner : Owner) (depth behind : ℕ) (line : Line) (items : List Item) → depth_after depth (kind_of line) ≡ Some behind → has_owner owner ≡ true
-      → script_with paths (with_draft_line (draft_with owner) line (Some behind)) behind items ≡ script_with paths (draft_with owner) depth (Do line ∷ items)
+  line_goes_on : (owner : Owner) (depth after : ℕ) (line : Line) (items : List ScriptLine) → depth_after depth (kind_of line) ≡ Some after → has_owner owner ≡ true
+      → script_with paths (draft_with_line (draft_with owner) line (Some after)) after items ≡ script_with paths (draft_with owner) depth (Do line ∷ items)
   unfolding draft_with
-  line_goes_on Nobody depth behind line items e h = absurd (false≢true h)
-  line_goes_on (OfThread name) depth behind line items e h = rw e (simp (append_assoc, append-nil))
-  line_goes_on (OfProcedure name) depth behind line items e h = rw e (simp (append_assoc, append-nil))
+  line_goes_on Nobody depth after line items e h = absurd (false≢true h)
+  line_goes_on (OfThread name) depth after line items e h = rw e (simp (append_assoc, append-nil))
+  line_goes_on (OfProcedure name) depth after line items e h = rw e (simp (append_assoc, append-nil))
 
-  item_more : (item : Item) (depth behind : ℕ) (items : List Item) → is_do item ≡ false
-      → script_with paths (drafted (draft_with Nobody) depth item) (depth_behind item depth) items ≡ script_with paths (draft_with Nobody) depth (item ∷ items)
+  item_more : (item : ScriptLine) (depth after : ℕ) (items : List ScriptLine) → is_do item ≡ false
+      → script_with paths (draft_after (draft_with Nobody) depth item) (depth_after_item item depth) items ≡ script_with paths (draft_with Nobody) depth (item ∷ items)
   unfolding draft_with
-  item_more (Budget events) depth behind items h = refl
-  item_more (Process name limit) depth behind items h = simp (append_assoc, append-nil, length-append)
-  item_more (Spare name) depth behind items h = simp (append_assoc, append-nil)
-  item_more (Thread name) depth behind items h = simp (append_assoc, append-nil)
-  item_more (Procedure name) depth behind items h = simp (append_assoc, append-nil)
-  item_more (Do line) depth behind items h = absurd (true≢false h)
-  item_more (Schedule turns) depth behind items h = simp (append_assoc, append-nil)
+  item_more (Budget events) depth after items h = refl
+  item_more (Process name limit) depth after items h = simp (append_assoc, append-nil, length-append)
+  item_more (Spare name) depth after items h = simp (append_assoc, append-nil)
+  item_more (Thread name) depth after items h = simp (append_assoc, append-nil)
+  item_more (Procedure name) depth after items h = simp (append_assoc, append-nil)
+  item_more (Do line) depth after items h = absurd (true≢false h)
+  item_more (Schedule turns) depth after items h = simp (append_assoc, append-nil)
 
-pub is_do_of_place : (place : Place) (item : Item) → is_of_place place item ≡ true → is_body place ≡ is_do item
+pub is_do_of_place : (place : ScriptPlace) (item : ScriptLine) → is_of_place place item ≡ true → is_body place ≡ is_do item
 is_do_of_place Start (Budget events) h = refl
 is_do_of_place Start (Process name limit) h = refl
 is_do_of_place Start (Schedule threads) h = refl
@@ -100,90 +100,90 @@ is_do_of_place Scheduled (Thread name) h = absurd (false≢true h)
 is_do_of_place Scheduled (Procedure name) h = absurd (false≢true h)
 is_do_of_place Scheduled (Do line) h = absurd (false≢true h)
 
--- how many blocks are open behind an item
+-- how many blocks are open after an item
 abbrev depth_then : ℕ → Option ℕ → ℕ
 depth_then depth None = depth
-depth_then depth (Some behind) = behind
+depth_then depth (Some after) = after
 
-line_more : (paths : List (List ℕ)) (draft : Draft) (depth : ℕ) (behind : Option ℕ) (line : Line) (items : List Item) → depth_after depth (kind_of line) ≡ behind → has_owner draft.owner ≡ true
-    → script_with paths (with_draft_line draft line behind) (depth_then depth behind) items ≡ script_with paths draft depth (Do line ∷ items)
+line_more : (paths : List (List ℕ)) (draft : Draft) (depth : ℕ) (after : Option ℕ) (line : Line) (items : List ScriptLine) → depth_after depth (kind_of line) ≡ after → has_owner draft.owner ≡ true
+    → script_with paths (draft_with_line draft line after) (depth_then depth after) items ≡ script_with paths draft depth (Do line ∷ items)
 unfolding draft_with
 line_more paths draft depth None line items e h = line_ends paths draft.budget draft.processes draft.threads draft.procedures draft.order draft.schedule draft.body draft.owner depth depth line items e h
-line_more paths draft depth (Some behind) line items e h = line_goes_on paths draft.budget draft.processes draft.threads draft.procedures draft.order draft.schedule draft.body draft.owner depth behind line items e h
+line_more paths draft depth (Some after) line items e h = line_goes_on paths draft.budget draft.processes draft.threads draft.procedures draft.order draft.schedule draft.body draft.owner depth after line items e h
 
-with_depth_then : (before : Before) (behind : Option ℕ) → (with_depth before behind).depth ≡ depth_then before.depth behind
-with_depth_then before None = refl
-with_depth_then before (Some behind) = refl
+with_depth_then : (context : ContextValue) (after : Option ℕ) → (context_at_depth context after).depth ≡ depth_then context.depth after
+with_depth_then context None = refl
+with_depth_then context (Some after) = refl
 
 no_owner : (owner : Owner) → has_owner owner ≡ false → owner ≡ Nobody
 no_owner Nobody h = refl
 no_owner (OfThread name) h = absurd (true≢false h)
 no_owner (OfProcedure name) h = absurd (true≢false h)
 
-depth_behind_after : (before : Before) (item : Item) → is_do item ≡ false → (after before item).depth ≡ depth_behind item before.depth
-depth_behind_after before (Budget events) h = refl
-depth_behind_after before (Process name limit) h = refl
-depth_behind_after before (Spare name) h = refl
-depth_behind_after before (Thread name) h = refl
-depth_behind_after before (Procedure name) h = refl
-depth_behind_after before (Do line) h = absurd (true≢false h)
-depth_behind_after before (Schedule threads) h = refl
+depth_after_is : (context : ContextValue) (item : ScriptLine) → is_do item ≡ false → (context_after context item).depth ≡ depth_after_item item context.depth
+depth_after_is context (Budget events) h = refl
+depth_after_is context (Process name limit) h = refl
+depth_after_is context (Spare name) h = refl
+depth_after_is context (Thread name) h = refl
+depth_after_is context (Procedure name) h = refl
+depth_after_is context (Do line) h = absurd (true≢false h)
+depth_after_is context (Schedule threads) h = refl
 
-other_more : (paths : List (List ℕ)) (draft : Draft) (depth : ℕ) (item : Item) (items : List Item) → is_do item ≡ false → draft.owner ≡ Nobody
-    → script_with paths (drafted draft depth item) (depth_behind item depth) items ≡ script_with paths draft depth (item ∷ items)
+other_more : (paths : List (List ℕ)) (draft : Draft) (depth : ℕ) (item : ScriptLine) (items : List ScriptLine) → is_do item ≡ false → draft.owner ≡ Nobody
+    → script_with paths (draft_after draft depth item) (depth_after_item item depth) items ≡ script_with paths draft depth (item ∷ items)
 unfolding draft_with
 other_more paths draft depth item items h e =
     let with_owner : Owner → Draft = λ owner. record { budget = draft.budget; processes = draft.processes; threads = draft.threads; procedures = draft.procedures; order = draft.order; schedule = draft.schedule; owner = owner; body = draft.body } in
-    subst (λ owner. script_with paths (drafted (with_owner owner) depth item) (depth_behind item depth) items ≡ script_with paths (with_owner owner) depth (item ∷ items)) (sym e)
+    subst (λ owner. script_with paths (draft_after (with_owner owner) depth item) (depth_after_item item depth) items ≡ script_with paths (with_owner owner) depth (item ∷ items)) (sym e)
     (item_more paths draft.budget draft.processes draft.threads draft.procedures draft.order draft.schedule draft.body item depth depth items h)
 
-draft_more_as : (paths : List (List ℕ)) (draft : Draft) (before : Before) (item : Item) (items : List Item) → has_owner draft.owner ≡ is_do item
-    → script_with paths (drafted draft before.depth item) (after before item).depth items ≡ script_with paths draft before.depth (item ∷ items)
-draft_more_as paths draft before (Budget events) items h = other_more paths draft before.depth (Budget events) items refl (no_owner draft.owner h)
-draft_more_as paths draft before (Process name limit) items h = other_more paths draft before.depth (Process name limit) items refl (no_owner draft.owner h)
-draft_more_as paths draft before (Spare name) items h = other_more paths draft before.depth (Spare name) items refl (no_owner draft.owner h)
-draft_more_as paths draft before (Thread name) items h = other_more paths draft before.depth (Thread name) items refl (no_owner draft.owner h)
-draft_more_as paths draft before (Procedure name) items h = other_more paths draft before.depth (Procedure name) items refl (no_owner draft.owner h)
-draft_more_as paths draft before (Schedule threads) items h = other_more paths draft before.depth (Schedule threads) items refl (no_owner draft.owner h)
-draft_more_as paths draft before (Do line) items h =
-    rw (with_depth_then (with_variables before line) (depth_after before.depth (kind_of line))) (line_more paths draft before.depth (depth_after before.depth (kind_of line)) line items refl h)
+draft_more_as : (paths : List (List ℕ)) (draft : Draft) (context : ContextValue) (item : ScriptLine) (items : List ScriptLine) → has_owner draft.owner ≡ is_do item
+    → script_with paths (draft_after draft context.depth item) (context_after context item).depth items ≡ script_with paths draft context.depth (item ∷ items)
+draft_more_as paths draft context (Budget events) items h = other_more paths draft context.depth (Budget events) items refl (no_owner draft.owner h)
+draft_more_as paths draft context (Process name limit) items h = other_more paths draft context.depth (Process name limit) items refl (no_owner draft.owner h)
+draft_more_as paths draft context (Spare name) items h = other_more paths draft context.depth (Spare name) items refl (no_owner draft.owner h)
+draft_more_as paths draft context (Thread name) items h = other_more paths draft context.depth (Thread name) items refl (no_owner draft.owner h)
+draft_more_as paths draft context (Procedure name) items h = other_more paths draft context.depth (Procedure name) items refl (no_owner draft.owner h)
+draft_more_as paths draft context (Schedule threads) items h = other_more paths draft context.depth (Schedule threads) items refl (no_owner draft.owner h)
+draft_more_as paths draft context (Do line) items h =
+    rw (with_depth_then (context_with_variables context line) (depth_after context.depth (kind_of line))) (line_more paths draft context.depth (depth_after context.depth (kind_of line)) line items refl h)
 
 -- the script of a draft with one more line
-pub draft_more : (paths : List (List ℕ)) (draft : Draft) (before : Before) (item : Item) (items : List Item) → Agrees draft before → is_of_place before.place item ≡ true
-    → script_with paths (drafted draft before.depth item) (after before item).depth items ≡ script_with paths draft before.depth (item ∷ items)
-draft_more paths draft before item items h p = draft_more_as paths draft before item items (h.in_body ∙ is_do_of_place before.place item p)
+pub draft_more : (paths : List (List ℕ)) (draft : Draft) (context : ContextValue) (item : ScriptLine) (items : List ScriptLine) → Agrees draft context → is_of_place context.place item ≡ true
+    → script_with paths (draft_after draft context.depth item) (context_after context item).depth items ≡ script_with paths draft context.depth (item ∷ items)
+draft_more paths draft context item items h p = draft_more_as paths draft context item items (h.in_body ∙ is_do_of_place context.place item p)
 
-owner_closed : (draft : Draft) (owner : Owner) → has_owner (closed_of draft owner).owner ≡ false
+owner_closed : (draft : Draft) (owner : Owner) → has_owner (draft_after_body_of draft owner).owner ≡ false
 owner_closed draft Nobody = refl
 owner_closed draft (OfThread name) = refl
 owner_closed draft (OfProcedure name) = refl
 
-owner_behind_line : (draft : Draft) (before : Before) (line : Line) (behind : Option ℕ) → has_owner draft.owner ≡ true → is_body before.place ≡ true
-    → has_owner (with_draft_line draft line behind).owner ≡ is_body (with_depth before behind).place
-owner_behind_line draft before line None h p = owner_closed draft draft.owner
-owner_behind_line draft before line (Some depth) h p = h ∙ sym p
+owner_after_line : (draft : Draft) (context : ContextValue) (line : Line) (after : Option ℕ) → has_owner draft.owner ≡ true → is_body context.place ≡ true
+    → has_owner (draft_with_line draft line after).owner ≡ is_body (context_at_depth context after).place
+owner_after_line draft context line None h p = owner_closed draft draft.owner
+owner_after_line draft context line (Some depth) h p = h ∙ sym p
 
-processes_closed : (draft : Draft) (owner : Owner) → (closed_of draft owner).processes ≡ draft.processes
+processes_closed : (draft : Draft) (owner : Owner) → (draft_after_body_of draft owner).processes ≡ draft.processes
 processes_closed draft Nobody = refl
 processes_closed draft (OfThread name) = refl
 processes_closed draft (OfProcedure name) = refl
 
-processes_behind_line : (draft : Draft) (before : Before) (line : Line) (behind : Option ℕ) → length draft.processes ≡ length before.processes
-    → length (with_draft_line draft line behind).processes ≡ length (with_depth before behind).processes
-processes_behind_line draft before line None h = ap length (processes_closed draft draft.owner) ∙ h
-processes_behind_line draft before line (Some depth) h = h
+processes_after_line : (draft : Draft) (context : ContextValue) (line : Line) (after : Option ℕ) → length draft.processes ≡ length context.processes
+    → length (draft_with_line draft line after).processes ≡ length (context_at_depth context after).processes
+processes_after_line draft context line None h = ap length (processes_closed draft draft.owner) ∙ h
+processes_after_line draft context line (Some depth) h = h
 
 -- a draft goes on agreeing with what stands before
-pub agrees_more : (draft : Draft) (before : Before) (item : Item) → Agrees draft before → is_of_place before.place item ≡ true → Agrees (drafted draft before.depth item) (after before item)
-agrees_more draft before (Budget events) h p = record { in_body = h.in_body ∙ is_do_of_place before.place (Budget events) p; processes = h.processes }
-agrees_more draft before (Process name limit) h p = record { in_body = h.in_body ∙ is_do_of_place before.place (Process name limit) p; processes = simp length-append (rw h.processes refl) }
-agrees_more draft before (Spare name) h p = record { in_body = h.in_body; processes = h.processes }
-agrees_more draft before (Thread name) h p = record { in_body = refl; processes = h.processes }
-agrees_more draft before (Procedure name) h p = record { in_body = refl; processes = h.processes }
-agrees_more draft before (Schedule threads) h p = record { in_body = h.in_body ∙ is_do_of_place before.place (Schedule threads) p; processes = h.processes }
-agrees_more draft before (Do line) h p =
-    let q : is_body before.place ≡ true = is_do_of_place before.place (Do line) p in
+pub agrees_more : (draft : Draft) (context : ContextValue) (item : ScriptLine) → Agrees draft context → is_of_place context.place item ≡ true → Agrees (draft_after draft context.depth item) (context_after context item)
+agrees_more draft context (Budget events) h p = record { in_body = h.in_body ∙ is_do_of_place context.place (Budget events) p; processes = h.processes }
+agrees_more draft context (Process name limit) h p = record { in_body = h.in_body ∙ is_do_of_place context.place (Process name limit) p; processes = simp length-append (rw h.processes refl) }
+agrees_more draft context (Spare name) h p = record { in_body = h.in_body; processes = h.processes }
+agrees_more draft context (Thread name) h p = record { in_body = refl; processes = h.processes }
+agrees_more draft context (Procedure name) h p = record { in_body = refl; processes = h.processes }
+agrees_more draft context (Schedule threads) h p = record { in_body = h.in_body ∙ is_do_of_place context.place (Schedule threads) p; processes = h.processes }
+agrees_more draft context (Do line) h p =
+    let q : is_body context.place ≡ true = is_do_of_place context.place (Do line) p in
     record {
-      in_body = owner_behind_line draft (with_variables before line) line (depth_after before.depth (kind_of line)) (h.in_body ∙ q) q;
-      processes = processes_behind_line draft (with_variables before line) line (depth_after before.depth (kind_of line)) h.processes;
+      in_body = owner_after_line draft (context_with_variables context line) line (depth_after context.depth (kind_of line)) (h.in_body ∙ q) q;
+      processes = processes_after_line draft (context_with_variables context line) line (depth_after context.depth (kind_of line)) h.processes;
     }

@@ -6,8 +6,8 @@ use Rattle.std.proofs.lemmas.Bool.{and_parts, or_parts, false≢true}
 use Rattle.std.proofs.lemmas.List.{append_assoc, append-nil}
 use Rattle.std.proofs.lemmas.List.Folds.{list_any-append}
 use Rattle.std.proofs.lemmas.Slice.Eq.{bytes_eq-Decides}
-use Rattle.script_text.specs.Names.{has_name, with_name, with_names, first_uses, are_distinct}
-use Rattle.script_line.specs.Tables.{is_same}
+use Rattle.script_text.specs.Words.{are_distinct, first_uses, has_name, with_distinct_name, with_distinct_names}
+use Rattle.script_line.specs.Words.{is_same}
 
 -- a list begins with these names
 pub record BeginsWith (names all : List (List ℕ)) : Type 0 where
@@ -18,11 +18,11 @@ one_more : (has : Bool) (names : List (List ℕ)) (name : List ℕ) → BeginsWi
 one_more true names name = record { others = []; split = sym (append-nil names) }
 one_more false names name = record { others = name ∷ []; split = refl }
 
-pub names_first : (names uses : List (List ℕ)) → BeginsWith names (with_names names uses)
+pub names_first : (names uses : List (List ℕ)) → BeginsWith names (with_distinct_names names uses)
 names_first names [] = record { others = []; split = sym (append-nil names) }
 names_first names (used ∷ uses) =
     let one = one_more (has_name names used) names used in
-    let later = names_first (with_name names used) uses in
+    let later = names_first (with_distinct_name names used) uses in
     record { others = one.others ++ later.others; split = later.split ∙ ap (λ ns. ns ++ later.others) one.split ∙ append_assoc names one.others later.others }
 
 -- names that are among these
@@ -50,22 +50,22 @@ has_if false names name e =
     list_any-append (λ other. bytes_eq other name) names (name ∷ []) ∙
     or_right (has_name names name) (has_name (name ∷ []) name) (or_left (bytes_eq name name) false (own_name name))
 
-has_itself : (names : List (List ℕ)) (name : List ℕ) → has_name (with_name names name) name ≡ true
+has_itself : (names : List (List ℕ)) (name : List ℕ) → has_name (with_distinct_name names name) name ≡ true
 has_itself names name = has_if (has_name names name) names name refl
 
 both : (one other : Bool) → one ≡ true → other ≡ true → (one && other) ≡ true
 both one other e f = ap (λ b. b && other) e ∙ f
 
-all_used-behind : (names uses : List (List ℕ)) → list_all (has_name (with_names names uses)) uses ≡ true
-all_used-behind names [] = refl
-all_used-behind names (used ∷ uses) =
-    both (has_name (with_names (with_name names used) uses) used) (list_all (has_name (with_names (with_name names used) uses)) uses)
-    (has_still (with_name names used) (with_names (with_name names used) uses) used (names_first (with_name names used) uses) (has_itself names used))
-    (all_used-behind (with_name names used) uses)
+all_used-after : (names uses : List (List ℕ)) → list_all (has_name (with_distinct_names names uses)) uses ≡ true
+all_used-after names [] = refl
+all_used-after names (used ∷ uses) =
+    both (has_name (with_distinct_names (with_distinct_name names used) uses) used) (list_all (has_name (with_distinct_names (with_distinct_name names used) uses)) uses)
+    (has_still (with_distinct_name names used) (with_distinct_names (with_distinct_name names used) uses) used (names_first (with_distinct_name names used) uses) (has_itself names used))
+    (all_used-after (with_distinct_name names used) uses)
 
 -- each use is among the different ones
 pub all_used : (uses : List (List ℕ)) → list_all (has_name (first_uses uses)) uses ≡ true
-all_used uses = all_used-behind [] uses
+all_used uses = all_used-after [] uses
 
 -- no two of them are the same
 
@@ -88,12 +88,12 @@ distinct_if : (has : Bool) (names : List (List ℕ)) (name : List ℕ) → has_n
 distinct_if true names name e distinct = distinct
 distinct_if false names name e distinct = distinct_more names name distinct e
 
-distinct_behind : (names uses : List (List ℕ)) → are_distinct bytes_eq names ≡ true → are_distinct bytes_eq (with_names names uses) ≡ true
-distinct_behind names [] distinct = distinct
-distinct_behind names (used ∷ uses) distinct = distinct_behind (with_name names used) uses (distinct_if (has_name names used) names used refl distinct)
+distinct_after : (names uses : List (List ℕ)) → are_distinct bytes_eq names ≡ true → are_distinct bytes_eq (with_distinct_names names uses) ≡ true
+distinct_after names [] distinct = distinct
+distinct_after names (used ∷ uses) distinct = distinct_after (with_distinct_name names used) uses (distinct_if (has_name names used) names used refl distinct)
 
 pub first_uses-distinct : (uses : List (List ℕ)) → are_distinct bytes_eq (first_uses uses) ≡ true
-first_uses-distinct uses = distinct_behind [] uses refl
+first_uses-distinct uses = distinct_after [] uses refl
 
 -- the place of a name
 
@@ -104,18 +104,18 @@ within_if : (here has : Bool) (n m : ℕ) → (has ≡ true → n < m) → (here
 within_if true has n m later e = omega arith
 within_if false has n m later e = let h : n < m = later e in omega arith
 
--- a name that is among these has a place in them, whatever stands behind
+-- a name that is among these has a place in them, whatever stands after
 pub place_within : (names others : List (List ℕ)) (name : List ℕ) → has_name names name ≡ true → position_or_len (is_same name) (names ++ others) < length names
 place_within [] others name has = absurd (false≢true has)
 place_within (x ∷ names) others name has =
     within_if (bytes_eq x name) (has_name names name) (position_or_len (is_same name) (names ++ others)) (length names) (place_within names others name) has
 
--- one that is not has its place behind them
-pub place_behind : (names others : List (List ℕ)) (name : List ℕ) → has_name names name ≡ false → position_or_len (is_same name) (names ++ name ∷ others) ≡ length names
-place_behind [] others name new = ap (λ here. place_if here (position_or_len (is_same name) others)) (own_name name)
-place_behind (x ∷ names) others name new =
+-- one that is not has its place after them
+pub place_after : (names others : List (List ℕ)) (name : List ℕ) → has_name names name ≡ false → position_or_len (is_same name) (names ++ name ∷ others) ≡ length names
+place_after [] others name new = ap (λ here. place_if here (position_or_len (is_same name) others)) (own_name name)
+place_after (x ∷ names) others name new =
     let parts = or_parts (bytes_eq x name) (has_name names name) new in
-    ap (λ here. place_if here (position_or_len (is_same name) (names ++ name ∷ others))) parts.0 ∙ next (place_behind names others name parts.1)
+    ap (λ here. place_if here (position_or_len (is_same name) (names ++ name ∷ others))) parts.0 ∙ next (place_after names others name parts.1)
   where
     next : {m n : ℕ} → m ≡ n → 1 + m ≡ suc n
     next e = omega arith

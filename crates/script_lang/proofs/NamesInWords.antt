@@ -3,29 +3,24 @@ use Rattle.std.proofs.Common.{◌≡◌, ℕ, Bool, true, false, cond, ◌==◌,
 use Rattle.std.specs.Prelude.{codes, bytes_eq, unwrap_or, slice_get}
 use Rattle.std.specs.List.{onto_first}
 use Rattle.std.proofs.lemmas.Bool.{eqb-true, or_parts}
-use Rattle.dk_base.specs.declared.number.PathId.{PathId}
+use Rattle.script_text.specs.Types.{PathId}
 use Rattle.script_text.specs.declared.mode.Mode.TheVariants.{Word}
-use Rattle.script_text.specs.Words.{words_of, words_from}
-use Rattle.script_line.specs.declared.line.Line.{Line}
+use Rattle.script_text.specs.Words.{words_from, words_of}
+use Rattle.script_lang.specs.Types.{Line}
 use Rattle.script_line.specs.declared.line.Line.TheVariants.{Attach, Detach, Open, Await}
-use Rattle.script_line.specs.Keywords.{keyword_word}
-use Rattle.script_line.specs.LineKeyword.{keyword_of_line}
-use Rattle.script_line.specs.Spelled.{SpellsLine}
-use Rattle.script_line.specs.Tables.{Tables}
-use Rattle.script_line.specs.Uses.{paths_of}
-use Rattle.script_line.specs.Words.{path_word}
-use Rattle.script_lang.specs.declared.item.Item.{Item}
-use Rattle.script_lang.specs.declared.item.Item.TheVariants.{Budget, Process, Spare, Thread, Procedure, Do, Schedule}
-use Rattle.script_lang.specs.Reading.{is_skipped}
-use Rattle.script_lang.specs.Spelled.{SpellsItem, path_uses}
-use Rattle.script_lang.specs.TextTables.{second_of, third_of, process_in, thread_in, procedure_in, path_in}
+use Rattle.script_line.specs.Words.{SpellsLine, Tables, keyword_of_line, keyword_word, path_word, paths_of}
+use Rattle.script_lang.specs.declared.item.ScriptLine.{ScriptLine}
+use Rattle.script_lang.specs.declared.item.ScriptLine.TheVariants.{Budget, Process, Spare, Thread, Procedure, Do, Schedule}
+use Rattle.script_lang.specs.Parsing.{is_skipped}
+use Rattle.script_lang.specs.Spelled.{SpellsScriptLine, path_uses}
+use Rattle.script_lang.specs.TextTables.{second_of, third_of, process_of_words, thread_of_words, procedure_of_words, path_of_words}
 
 -- what the words of a line declare, and the path that they use
 pub record NamesIn (words : List (List ℕ)) (process_name thread_name procedure_name path_name : Option (List ℕ)) : Type 0 where
-  pub process : process_in words ≡ process_name
-  pub thread : thread_in words ≡ thread_name
-  pub procedure : procedure_in words ≡ procedure_name
-  pub path : path_in words ≡ path_name
+  pub process : process_of_words words ≡ process_name
+  pub thread : thread_of_words words ≡ thread_name
+  pub procedure : procedure_of_words words ≡ procedure_name
+  pub path : path_of_words words ≡ path_name
 
 -- a line names nothing by a keyword that is not its first word
 
@@ -46,14 +41,14 @@ declares word = bytes_eq word (codes "process") || (bytes_eq word (codes "spare"
 abbrev has_path : List ℕ → Bool
 has_path word = bytes_eq word (codes "attach") || (bytes_eq word (codes "detach") || (bytes_eq word (codes "open") || bytes_eq word (codes "await")))
 
-no_path : (word : List ℕ) (words : List (List ℕ)) → has_path word ≡ false → path_in (word ∷ words) ≡ None
+no_path : (word : List ℕ) (words : List (List ℕ)) → has_path word ≡ false → path_of_words (word ∷ words) ≡ None
 no_path word words pathless =
     let attach = or_parts (bytes_eq word (codes "attach")) _ pathless in
     let detach = or_parts (bytes_eq word (codes "detach")) _ attach.1 in
     let opens = or_parts (bytes_eq word (codes "open")) (bytes_eq word (codes "await")) detach.1 in
     rw (no_third (codes "attach") word words attach.0, no_second (codes "detach") word words detach.0, no_third (codes "open") word words opens.0, no_second (codes "await") word words opens.1) refl
 
-uses_path : (word : List ℕ) (words : List (List ℕ)) (path : Option (List ℕ)) → declares word ≡ false → path_in (word ∷ words) ≡ path → NamesIn (word ∷ words) None None None path
+uses_path : (word : List ℕ) (words : List (List ℕ)) (path : Option (List ℕ)) → declares word ≡ false → path_of_words (word ∷ words) ≡ path → NamesIn (word ∷ words) None None None path
 uses_path word words path nothing is =
     let process = or_parts (bytes_eq word (codes "process")) _ nothing in
     let spare = or_parts (bytes_eq word (codes "spare")) _ process.1 in
@@ -110,14 +105,14 @@ path_used tables (path ∷ paths) = Some (path_word tables path)
 path_is : (found : Option (List ℕ)) (word : List ℕ) → found ≡ Some word → Some word ≡ Some (unwrap_or found [])
 path_is found word is = rw is refl
 
-path_alone : (word : List ℕ) (words : List (List ℕ)) (tables : Tables) (at : PathId) (path : List ℕ) → declares word ≡ false → path_in (word ∷ words) ≡ Some path → slice_get tables.paths at.0 ≡ Some path
+path_alone : (word : List ℕ) (words : List (List ℕ)) (tables : Tables) (at : PathId) (path : List ℕ) → declares word ≡ false → path_of_words (word ∷ words) ≡ Some path → slice_get tables.paths at.0 ≡ Some path
     → NamesIn (word ∷ words) None None None (Some (path_word tables at))
 path_alone word words tables at path nothing found is = uses_path word words (Some (path_word tables at)) nothing (found ∙ path_is (slice_get tables.paths at.0) path is)
 
-detach_path : (path : List ℕ) (words : List (List ℕ)) → path_in (codes "detach" ∷ path ∷ words) ≡ Some path
+detach_path : (path : List ℕ) (words : List (List ℕ)) → path_of_words (codes "detach" ∷ path ∷ words) ≡ Some path
 detach_path path words = rw (no_third (codes "attach") (codes "detach") (path ∷ words) refl) refl
 
-await_path : (path : List ℕ) (words : List (List ℕ)) → path_in (codes "await" ∷ path ∷ words) ≡ Some path
+await_path : (path : List ℕ) (words : List (List ℕ)) → path_of_words (codes "await" ∷ path ∷ words) ≡ Some path
 await_path path words = rw (no_third (codes "attach") (codes "await") (path ∷ words) refl) refl
 
 body_names : (tables : Tables) (of : ℕ) (line : Line) (words : List (List ℕ)) → SpellsLine tables of line words → NamesIn words None None None (path_used tables (paths_of line))
@@ -145,20 +140,20 @@ body_names tables of line (word ∷ words) spells =
 
 -- a line
 
-abbrev pub process_named : Item → Option (List ℕ)
+abbrev pub process_named : ScriptLine → Option (List ℕ)
 process_named (Process name limit) = Some name
 process_named item = None
 
-abbrev pub thread_named : Item → Option (List ℕ)
+abbrev pub thread_named : ScriptLine → Option (List ℕ)
 thread_named (Spare name) = Some name
 thread_named (Thread name) = Some name
 thread_named item = None
 
-abbrev pub procedure_named : Item → Option (List ℕ)
+abbrev pub procedure_named : ScriptLine → Option (List ℕ)
 procedure_named (Procedure name) = Some name
 procedure_named item = None
 
-pub item_names : (tables : Tables) (of : ℕ) (item : Item) (words : List (List ℕ)) → SpellsItem tables of item words → NamesIn words (process_named item) (thread_named item) (procedure_named item) (path_used tables (path_uses item))
+pub item_names : (tables : Tables) (of : ℕ) (item : ScriptLine) (words : List (List ℕ)) → SpellsScriptLine tables of item words → NamesIn words (process_named item) (thread_named item) (procedure_named item) (path_used tables (path_uses item))
 item_names tables of (Budget events) [] spells = absurd spells
 item_names tables of (Budget events) (word ∷ words) spells =
     rw spells.0 (names_nothing (codes "budget") words refl refl)

@@ -4,15 +4,11 @@ use Rattle.std.specs.Prelude.{map, filter_map}
 use Rattle.std.specs.List.{cons_option}
 use Rattle.std.proofs.lemmas.List.{append_assoc, append-nil, length-append, take-append-le, take_all}
 use Rattle.std.proofs.lemmas.Bool.Decides.{nat_tests}
-use Rattle.script_text.specs.Lines.{lines_of}
-use Rattle.script_text.specs.Words.{words_of}
-use Rattle.script_text.specs.Names.{has_name, with_names}
-use Rattle.script_line.specs.TableChanges.{no_names}
-use Rattle.script_line.specs.Spelled.{procedure_name}
-use Rattle.script_line.specs.Tables.{Tables}
+use Rattle.script_text.specs.Words.{has_name, lines_of, with_distinct_names, words_of}
+use Rattle.script_line.specs.Words.{Tables, no_names, qualified_name}
 use Rattle.script_lang.specs.declared.names.Names.{Names}
-use Rattle.script_lang.specs.NamesThen.{with_room, names_then, names_with, with_process, with_thread, with_procedure, with_path, names_of_line}
-use Rattle.script_lang.specs.TextTables.{process_in, thread_in, procedure_in, path_in, process_behind, with_procedure as procedure_then, procedures_from, tables_of_lines}
+use Rattle.script_lang.specs.NamesThen.{with_room, names_then, names_with, names_with_process, names_with_thread, names_with_procedure, names_with_path, names_of_line}
+use Rattle.script_lang.specs.TextTables.{process_of_words, thread_of_words, procedure_of_words, path_of_words, process_after, procedure_names_with as procedure_then, procedure_names_from, tables_of_lines}
 
 -- so many names at most, and paths and processes at most as many as lines
 pub record AreFew (names : Names) (lines : ℕ) : Type 0 where
@@ -49,13 +45,13 @@ name_few false names name = simp length-append (omega arith)
 abbrev step_is : Names → Option (List ℕ) → Option (List ℕ) → Option (List ℕ) → Option (List ℕ) → List (List (List ℕ)) → Tables
 step_is names c t p d lines =
     record {
-      processes = take 64 (names.tables.processes ++ cons_option p (filter_map process_in lines));
-      threads = take 64 (names.tables.threads ++ cons_option t (filter_map thread_in lines));
-      procedures = take 4096 (names.tables.procedures ++ procedure_then names.process c (procedures_from (process_behind names.process p) lines));
-      paths = with_names names.tables.paths (cons_option d (filter_map path_in lines));
+      processes = take 64 (names.tables.processes ++ cons_option p (filter_map process_of_words lines));
+      threads = take 64 (names.tables.threads ++ cons_option t (filter_map thread_of_words lines));
+      procedures = take 4096 (names.tables.procedures ++ procedure_then names.process c (procedure_names_from (process_after names.process p) lines));
+      paths = with_distinct_names names.tables.paths (cons_option d (filter_map path_of_words lines));
     }
 
-names_step : (names : Names) (c t p d : Option (List ℕ)) (lines : List (List (List ℕ))) → names_then (with_path (with_process (with_thread (with_procedure names c) t) p) d) lines ≡ step_is names c t p d lines
+names_step : (names : Names) (c t p d : Option (List ℕ)) (lines : List (List (List ℕ))) → names_then (names_with_path (names_with_process (names_with_thread (names_with_procedure names c) t) p) d) lines ≡ step_is names c t p d lines
 names_step names None None None None lines = refl
 names_step names None None None (Some d) lines = refl
 names_step names None None (Some p) None lines = simp room_more
@@ -75,9 +71,9 @@ names_step names (Some c) (Some t) (Some p) (Some d) lines = simp room_more
 
 -- the names with those of a line
 pub names_more : (names : Names) (words : List (List ℕ)) (lines : List (List (List ℕ))) → names_then (names_of_line names words) lines ≡ names_then names (words ∷ lines)
-names_more names words lines = names_step names (procedure_in words) (thread_in words) (process_in words) (path_in words) lines
+names_more names words lines = names_step names (procedure_of_words words) (thread_of_words words) (process_of_words words) (path_of_words words) lines
 
-few_step : (names : Names) (c t p d : Option (List ℕ)) (lines : ℕ) → AreFew names lines → AreFew (with_path (with_process (with_thread (with_procedure names c) t) p) d) (lines + 1)
+few_step : (names : Names) (c t p d : Option (List ℕ)) (lines : ℕ) → AreFew names lines → AreFew (names_with_path (names_with_process (names_with_thread (names_with_procedure names c) t) p) d) (lines + 1)
 few_step names None None None None lines h = record { processes = h.processes; threads = h.threads; procedures = h.procedures; paths = omega (arith, h.paths); process = omega (arith, h.process) }
 few_step names None None None (Some d) lines h = record { processes = h.processes; threads = h.threads; procedures = h.procedures; paths = omega (arith, name_few (has_name names.tables.paths d) names.tables.paths d, h.paths); process = omega (arith, h.process) }
 few_step names None None (Some p) None lines h = record { processes = below_room 64 names.tables.processes p h.processes; threads = h.threads; procedures = h.procedures; paths = omega (arith, h.paths); process = omega (arith, h.process) }
@@ -86,17 +82,17 @@ few_step names None (Some t) None None lines h = record { processes = h.processe
 few_step names None (Some t) None (Some d) lines h = record { processes = h.processes; threads = below_room 64 names.tables.threads t h.threads; procedures = h.procedures; paths = omega (arith, name_few (has_name names.tables.paths d) names.tables.paths d, h.paths); process = omega (arith, h.process) }
 few_step names None (Some t) (Some p) None lines h = record { processes = below_room 64 names.tables.processes p h.processes; threads = below_room 64 names.tables.threads t h.threads; procedures = h.procedures; paths = omega (arith, h.paths); process = omega (arith, h.process) }
 few_step names None (Some t) (Some p) (Some d) lines h = record { processes = below_room 64 names.tables.processes p h.processes; threads = below_room 64 names.tables.threads t h.threads; procedures = h.procedures; paths = omega (arith, name_few (has_name names.tables.paths d) names.tables.paths d, h.paths); process = omega (arith, h.process) }
-few_step names (Some c) None None None lines h = record { processes = h.processes; threads = h.threads; procedures = below_room 4096 names.tables.procedures (procedure_name names.process c) h.procedures; paths = omega (arith, h.paths); process = omega (arith, h.process) }
-few_step names (Some c) None None (Some d) lines h = record { processes = h.processes; threads = h.threads; procedures = below_room 4096 names.tables.procedures (procedure_name names.process c) h.procedures; paths = omega (arith, name_few (has_name names.tables.paths d) names.tables.paths d, h.paths); process = omega (arith, h.process) }
-few_step names (Some c) None (Some p) None lines h = record { processes = below_room 64 names.tables.processes p h.processes; threads = h.threads; procedures = below_room 4096 names.tables.procedures (procedure_name names.process c) h.procedures; paths = omega (arith, h.paths); process = omega (arith, h.process) }
-few_step names (Some c) None (Some p) (Some d) lines h = record { processes = below_room 64 names.tables.processes p h.processes; threads = h.threads; procedures = below_room 4096 names.tables.procedures (procedure_name names.process c) h.procedures; paths = omega (arith, name_few (has_name names.tables.paths d) names.tables.paths d, h.paths); process = omega (arith, h.process) }
-few_step names (Some c) (Some t) None None lines h = record { processes = h.processes; threads = below_room 64 names.tables.threads t h.threads; procedures = below_room 4096 names.tables.procedures (procedure_name names.process c) h.procedures; paths = omega (arith, h.paths); process = omega (arith, h.process) }
-few_step names (Some c) (Some t) None (Some d) lines h = record { processes = h.processes; threads = below_room 64 names.tables.threads t h.threads; procedures = below_room 4096 names.tables.procedures (procedure_name names.process c) h.procedures; paths = omega (arith, name_few (has_name names.tables.paths d) names.tables.paths d, h.paths); process = omega (arith, h.process) }
-few_step names (Some c) (Some t) (Some p) None lines h = record { processes = below_room 64 names.tables.processes p h.processes; threads = below_room 64 names.tables.threads t h.threads; procedures = below_room 4096 names.tables.procedures (procedure_name names.process c) h.procedures; paths = omega (arith, h.paths); process = omega (arith, h.process) }
-few_step names (Some c) (Some t) (Some p) (Some d) lines h = record { processes = below_room 64 names.tables.processes p h.processes; threads = below_room 64 names.tables.threads t h.threads; procedures = below_room 4096 names.tables.procedures (procedure_name names.process c) h.procedures; paths = omega (arith, name_few (has_name names.tables.paths d) names.tables.paths d, h.paths); process = omega (arith, h.process) }
+few_step names (Some c) None None None lines h = record { processes = h.processes; threads = h.threads; procedures = below_room 4096 names.tables.procedures (qualified_name names.process c) h.procedures; paths = omega (arith, h.paths); process = omega (arith, h.process) }
+few_step names (Some c) None None (Some d) lines h = record { processes = h.processes; threads = h.threads; procedures = below_room 4096 names.tables.procedures (qualified_name names.process c) h.procedures; paths = omega (arith, name_few (has_name names.tables.paths d) names.tables.paths d, h.paths); process = omega (arith, h.process) }
+few_step names (Some c) None (Some p) None lines h = record { processes = below_room 64 names.tables.processes p h.processes; threads = h.threads; procedures = below_room 4096 names.tables.procedures (qualified_name names.process c) h.procedures; paths = omega (arith, h.paths); process = omega (arith, h.process) }
+few_step names (Some c) None (Some p) (Some d) lines h = record { processes = below_room 64 names.tables.processes p h.processes; threads = h.threads; procedures = below_room 4096 names.tables.procedures (qualified_name names.process c) h.procedures; paths = omega (arith, name_few (has_name names.tables.paths d) names.tables.paths d, h.paths); process = omega (arith, h.process) }
+few_step names (Some c) (Some t) None None lines h = record { processes = h.processes; threads = below_room 64 names.tables.threads t h.threads; procedures = below_room 4096 names.tables.procedures (qualified_name names.process c) h.procedures; paths = omega (arith, h.paths); process = omega (arith, h.process) }
+few_step names (Some c) (Some t) None (Some d) lines h = record { processes = h.processes; threads = below_room 64 names.tables.threads t h.threads; procedures = below_room 4096 names.tables.procedures (qualified_name names.process c) h.procedures; paths = omega (arith, name_few (has_name names.tables.paths d) names.tables.paths d, h.paths); process = omega (arith, h.process) }
+few_step names (Some c) (Some t) (Some p) None lines h = record { processes = below_room 64 names.tables.processes p h.processes; threads = below_room 64 names.tables.threads t h.threads; procedures = below_room 4096 names.tables.procedures (qualified_name names.process c) h.procedures; paths = omega (arith, h.paths); process = omega (arith, h.process) }
+few_step names (Some c) (Some t) (Some p) (Some d) lines h = record { processes = below_room 64 names.tables.processes p h.processes; threads = below_room 64 names.tables.threads t h.threads; procedures = below_room 4096 names.tables.procedures (qualified_name names.process c) h.procedures; paths = omega (arith, name_few (has_name names.tables.paths d) names.tables.paths d, h.paths); process = omega (arith, h.process) }
 
 pub few_more : (names : Names) (words : List (List ℕ)) (lines : ℕ) → AreFew names lines → AreFew (names_of_line names words) (lines + 1)
-few_more names words lines h = few_step names (procedure_in words) (thread_in words) (process_in words) (path_in words) lines h
+few_more names words lines h = few_step names (procedure_of_words words) (thread_of_words words) (process_of_words words) (path_of_words words) lines h
 
 -- the names of no more lines
 pub names_end : (names : Names) (lines : ℕ) → AreFew names lines → names_then names [] ≡ names.tables

@@ -5,14 +5,12 @@ use Rattle.std.specs.List.{position_or_len}
 use Rattle.std.proofs.lemmas.Bool.Decides.{nat_tests}
 use Rattle.std.proofs.lemmas.List.{append_assoc, length-append}
 use Rattle.std.proofs.lemmas.Option.{slice_get-get_or, unwrap_or-slice_get}
-use Rattle.dk_base.specs.declared.number.PathId.{PathId}
-use Rattle.script_text.specs.Names.{has_name, with_name, with_names, first_uses, are_distinct}
-use Rattle.script_line.specs.KnownPaths.{ArePaths}
-use Rattle.script_line.specs.Tables.{Tables, is_same, path_number}
-use Rattle.script_line.specs.Words.{path_word}
+use Rattle.script_text.specs.Types.{PathId}
+use Rattle.script_text.specs.Words.{are_distinct, first_uses, has_name, with_distinct_name, with_distinct_names}
+use Rattle.script_line.specs.Words.{ArePaths, Tables, is_same, path_number, path_word}
 use Rattle.script_line.proofs.Numbering.{number_of_path}
-use Rattle.script_lang.specs.Spelled.{paths_behind}
-use Rattle.script_lang.proofs.FirstUses.{BeginsWith, names_first, first_uses-distinct, place_within, place_behind}
+use Rattle.script_lang.specs.Spelled.{path_count_after}
+use Rattle.script_lang.proofs.FirstUses.{BeginsWith, names_first, first_uses-distinct, place_within, place_after}
 
 -- a path's number is that of its name
 
@@ -24,16 +22,16 @@ number_at tables path distinct within = number_of_path tables path.0 (path_word 
 
 -- one use more
 
-used_before : (n : ℕ) (path : PathId) (paths : List PathId) → path.0 < n → paths_behind n (path ∷ paths) ≡ paths_behind n paths
-used_before n path paths below = ap (λ b. cond b (paths_behind n paths) (cond (path.0 == n) (paths_behind (n + 1) paths) None)) (is_below path.0 n below)
+used_before : (n : ℕ) (path : PathId) (paths : List PathId) → path.0 < n → path_count_after n (path ∷ paths) ≡ path_count_after n paths
+used_before n path paths below = ap (λ b. cond b (path_count_after n paths) (cond (path.0 == n) (path_count_after (n + 1) paths) None)) (is_below path.0 n below)
   where
     is_below : (m n : ℕ) → m < n → nat_lt m n ≡ true
     is_below m n h = grind (arith, nat_tests)
 
-used_first : (n : ℕ) (path : PathId) (paths : List PathId) → path.0 ≡ n → paths_behind n (path ∷ paths) ≡ paths_behind (n + 1) paths
+used_first : (n : ℕ) (path : PathId) (paths : List PathId) → path.0 ≡ n → path_count_after n (path ∷ paths) ≡ path_count_after (n + 1) paths
 used_first n path paths same =
-    ap (λ b. cond b (paths_behind n paths) (cond (path.0 == n) (paths_behind (n + 1) paths) None)) (is_not_below path.0 n same) ∙
-    ap (λ b. cond b (paths_behind (n + 1) paths) None) (is_same_number path.0 n same)
+    ap (λ b. cond b (path_count_after n paths) (cond (path.0 == n) (path_count_after (n + 1) paths) None)) (is_not_below path.0 n same) ∙
+    ap (λ b. cond b (path_count_after (n + 1) paths) None) (is_same_number path.0 n same)
   where
     is_not_below : (m n : ℕ) → m ≡ n → nat_lt m n ≡ false
     is_not_below m n h = grind (arith, nat_tests)
@@ -42,7 +40,7 @@ used_first n path paths same =
     is_same_number m n h = grind (arith, nat_tests)
 
 use_if : (has : Bool) (tables : Tables) (seen : List (List ℕ)) (path : PathId) (paths : List PathId) (name : List ℕ) → path_number tables name ≡ path.0 → has_name seen name ≡ has → BeginsWith (cond has seen (seen ++ name ∷ [])) tables.paths
-    → paths_behind (length seen) (path ∷ paths) ≡ paths_behind (length (cond has seen (seen ++ name ∷ []))) paths
+    → path_count_after (length seen) (path ∷ paths) ≡ path_count_after (length (cond has seen (seen ++ name ∷ []))) paths
 use_if true tables seen path paths name number has begins =
     let at = ap (position_or_len (is_same name)) begins.split in
     let within = place_within seen begins.others name has in
@@ -50,18 +48,18 @@ use_if true tables seen path paths name number has begins =
 use_if false tables seen path paths name number has begins =
     let split : tables.paths ≡ seen ++ name ∷ begins.others = begins.split ∙ append_assoc seen (name ∷ []) begins.others in
     let at = ap (position_or_len (is_same name)) split in
-    let behind = place_behind seen begins.others name has in
-    used_first (length seen) path paths (sym number ∙ at ∙ behind) ∙ ap (λ n. paths_behind n paths) (sym (length-append seen (name ∷ [])))
+    let after = place_after seen begins.others name has in
+    used_first (length seen) path paths (sym number ∙ at ∙ after) ∙ ap (λ n. path_count_after n paths) (sym (length-append seen (name ∷ [])))
 
-numbered_from : (tables : Tables) (seen : List (List ℕ)) (uses : List PathId) → are_distinct bytes_eq tables.paths ≡ true → ArePaths tables uses → tables.paths ≡ with_names seen (map (path_word tables) uses) → paths_behind (length seen) uses ≡ Some (length tables.paths)
+numbered_from : (tables : Tables) (seen : List (List ℕ)) (uses : List PathId) → are_distinct bytes_eq tables.paths ≡ true → ArePaths tables uses → tables.paths ≡ with_distinct_names seen (map (path_word tables) uses) → path_count_after (length seen) uses ≡ Some (length tables.paths)
 numbered_from tables seen [] distinct known is = ap (λ names. Some (length names)) (sym is)
 numbered_from tables seen (path ∷ paths) distinct known is =
     let name = path_word tables path in
-    let begins : BeginsWith (with_name seen name) tables.paths = subst (BeginsWith (with_name seen name)) (sym is) (names_first (with_name seen name) (map (path_word tables) paths)) in
+    let begins : BeginsWith (with_distinct_name seen name) tables.paths = subst (BeginsWith (with_distinct_name seen name)) (sym is) (names_first (with_distinct_name seen name) (map (path_word tables) paths)) in
     use_if (has_name seen name) tables seen path paths name (number_at tables path distinct known.0) refl begins ∙
-    numbered_from tables (with_name seen name) paths distinct known.1 is
+    numbered_from tables (with_distinct_name seen name) paths distinct known.1 is
 
 -- where the table of paths has the different ones of these uses, each new use has the next number
-pub numbered_by_first_use : (tables : Tables) (uses : List PathId) → ArePaths tables uses → tables.paths ≡ first_uses (map (path_word tables) uses) → paths_behind 0 uses ≡ Some (length tables.paths)
+pub numbered_by_first_use : (tables : Tables) (uses : List PathId) → ArePaths tables uses → tables.paths ≡ first_uses (map (path_word tables) uses) → path_count_after 0 uses ≡ Some (length tables.paths)
 numbered_by_first_use tables uses known is =
     numbered_from tables [] uses (ap (are_distinct bytes_eq) is ∙ first_uses-distinct (map (path_word tables) uses)) known is

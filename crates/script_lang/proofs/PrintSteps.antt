@@ -1,38 +1,36 @@
--- Lines behind a text, one after another.
+-- Lines after a text, one after another.
 use Rattle.std.proofs.Common.{◌≡◌, ℕ, zero, suc, ◌+◌, ◌<◌, ◌≤◌, false, ◌==◌, min, List, [], ◌∷◌, ◌++◌, length, take, drop, get_or, map, refl, sym, ap, ◌∙◌, inl, inr, arith}
 use Rattle.std.proofs.lemmas.Bool.{false≢true, cases_lt}
 use Rattle.std.specs.List.{onto_first}
 use Rattle.std.specs.Prelude.{codes}
 use Rattle.std.proofs.lemmas.List.{append_assoc, take_more, take_all, drop_all, map-append}
-use Rattle.dk_base.specs.declared.number.Tid.{Tid}
-use Rattle.script_text.specs.Lines.{text_of}
-use Rattle.script_text.specs.Words.{joined, spaced}
+use Rattle.script_text.specs.Types.{Tid}
+use Rattle.script_text.specs.Words.{joined_words, spaced_words, text_of_lines}
 use Rattle.script_text.proofs.JoinedWords.{joined_first}
-use Rattle.script_text.proofs.TextLines.{text_of-append}
-use Rattle.script_line.specs.declared.line.Line.{Line}
+use Rattle.script_text.proofs.TextLines.{text_of_lines-append}
+use Rattle.script_lang.specs.Types.{Line}
 use Rattle.script_line.specs.declared.line.Line.TheVariants.{End}
-use Rattle.script_line.specs.Tables.{Tables}
-use Rattle.script_line.specs.Words.{line_words, thread_word}
-use Rattle.script_lang.specs.declared.item.Item.{Item}
-use Rattle.script_lang.specs.declared.item.Item.TheVariants.{Budget, Do, Schedule}
+use Rattle.script_line.specs.Words.{Tables, line_words, thread_word}
+use Rattle.script_lang.specs.declared.item.ScriptLine.{ScriptLine}
+use Rattle.script_lang.specs.declared.item.ScriptLine.TheVariants.{Budget, Do, Schedule}
 use Rattle.script_lang.specs.Canonical.{item_line}
 use Rattle.script_lang.specs.Printed.{items_text}
 use Rattle.script_lang.specs.Scripts.{rows_from, body_items, schedule_items, part_items, items_of, tables_of}
 use Rattle.script_lang.specs.Value.{ScriptValue}
 
-pub items_text-append : (tables : Tables) (items others : List Item) → items_text tables (items ++ others) ≡ items_text tables items ++ items_text tables others
-items_text-append tables items others = ap text_of (map-append (item_line tables) items others) ∙ text_of-append (map (item_line tables) items) (map (item_line tables) others)
+pub items_text-append : (tables : Tables) (items others : List ScriptLine) → items_text tables (items ++ others) ≡ items_text tables items ++ items_text tables others
+items_text-append tables items others = ap text_of_lines (map-append (item_line tables) items others) ∙ text_of_lines-append (map (item_line tables) items) (map (item_line tables) others)
 
--- lines behind others
-pub put_items : (tables : Tables) (text : List ℕ) (items others : List Item) → (text ++ items_text tables items) ++ items_text tables others ≡ text ++ items_text tables (items ++ others)
+-- lines after others
+pub put_items : (tables : Tables) (text : List ℕ) (items others : List ScriptLine) → (text ++ items_text tables items) ++ items_text tables others ≡ text ++ items_text tables (items ++ others)
 put_items tables text items others = append_assoc text (items_text tables items) (items_text tables others) ∙ ap (λ rest. text ++ rest) (sym (items_text-append tables items others))
 
--- one line behind others
-pub put_item : (tables : Tables) (text : List ℕ) (item : Item) → (text ++ item_line tables item) ++ 10 ∷ [] ≡ text ++ items_text tables (item ∷ [])
+-- one line after others
+pub put_item : (tables : Tables) (text : List ℕ) (item : ScriptLine) → (text ++ item_line tables item) ++ 10 ∷ [] ≡ text ++ items_text tables (item ∷ [])
 put_item tables text item = append_assoc text (item_line tables item) (10 ∷ [])
 
 pub body_more : (tables : Tables) (body : List Line) (i : ℕ) (line d : Line) (text : List ℕ) → i < length body → line ≡ get_or body i d
-    → ((text ++ items_text tables (map Do (take i body))) ++ joined (line_words tables line)) ++ 10 ∷ [] ≡ text ++ items_text tables (map Do (take (i + 1) body))
+    → ((text ++ items_text tables (map Do (take i body))) ++ joined_words (line_words tables line)) ++ 10 ∷ [] ≡ text ++ items_text tables (map Do (take (i + 1) body))
 body_more tables body i line d text within is =
     put_item tables (text ++ items_text tables (map Do (take i body))) (Do line) ∙
     put_items tables text (map Do (take i body)) (Do line ∷ []) ∙
@@ -48,9 +46,9 @@ first_row (suc room) thread (next ∷ threads) = ap (onto_first thread) (first_r
 pub body_ends : (tables : Tables) (text : List ℕ) (body : List Line) → ((text ++ items_text tables (map Do body)) ++ codes "end") ++ 10 ∷ [] ≡ text ++ items_text tables (body_items body)
 body_ends tables text body = put_item tables (text ++ items_text tables (map Do body)) (Do End) ∙ put_items tables text (map Do body) (Do End ∷ [])
 
-pub schedule_ends : (tables : Tables) (text : List ℕ) (threads : List Tid) → ((text ++ codes "schedule") ++ spaced (map (thread_word tables) threads)) ++ 10 ∷ [] ≡ text ++ items_text tables (Schedule threads ∷ [])
+pub schedule_ends : (tables : Tables) (text : List ℕ) (threads : List Tid) → ((text ++ codes "schedule") ++ spaced_words (map (thread_word tables) threads)) ++ 10 ∷ [] ≡ text ++ items_text tables (Schedule threads ∷ [])
 schedule_ends tables text threads =
-    ap (λ line. line ++ 10 ∷ []) (append_assoc text (codes "schedule") (spaced (map (thread_word tables) threads)) ∙ ap (λ rest. text ++ rest) (sym (joined_first (codes "schedule") (map (thread_word tables) threads)))) ∙
+    ap (λ line. line ++ 10 ∷ []) (append_assoc text (codes "schedule") (spaced_words (map (thread_word tables) threads)) ∙ ap (λ rest. text ++ rest) (sym (joined_first (codes "schedule") (map (thread_word tables) threads)))) ∙
     put_item tables text (Schedule threads)
 
 -- a row is 16, or what there is
@@ -72,7 +70,7 @@ row_more tables text threads row others n some is front back =
     let rows : row ∷ rows_from 15 others ≡ rows_from 15 threads = rw (front, back, same.0, same.1) (sym (some_row threads some)) in
     put_items tables text (Schedule row ∷ []) (schedule_items others) ∙ ap (λ rows. text ++ items_text tables (map Schedule rows)) rows
 
--- the lines of a script behind the first, with its own names
+-- the lines of a script after the first, with its own names
 pub script_put : (tables : Tables) (script : ScriptValue) (text : List ℕ) → tables ≡ tables_of script
     → ((text ++ items_text tables (Budget script.budget ∷ [])) ++ items_text tables (part_items script.order script.processes script.threads script.procedures)) ++ items_text tables (schedule_items script.schedule)
     ≡ text ++ items_text (tables_of script) (items_of script)

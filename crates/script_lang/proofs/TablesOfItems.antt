@@ -5,45 +5,42 @@ use Rattle.std.specs.List.{cons_option}
 use Rattle.std.proofs.lemmas.Bool.{false≢true, leb-false}
 use Rattle.std.proofs.lemmas.List.{length-append, length-map, map-append, take_all}
 use Rattle.script_text.specs.Words.{words_of}
-use Rattle.script_line.specs.declared.line.Line.{Line}
+use Rattle.script_lang.specs.Types.{Line}
 use Rattle.script_line.specs.declared.line.Line.TheVariants.{Attach}
-use Rattle.script_line.specs.Kinds.{kind_of, depth_after}
-use Rattle.script_line.specs.Tables.{Tables, ProcedureName}
-use Rattle.script_line.specs.Uses.{paths_of}
-use Rattle.script_line.specs.Words.{path_word}
-use Rattle.script_lang.specs.declared.item.Item.{Item}
-use Rattle.script_lang.specs.declared.item.Item.TheVariants.{Budget, Process, Spare, Thread, Procedure, Do, Schedule}
-use Rattle.script_lang.specs.declared.item.Place.{Place}
-use Rattle.script_lang.specs.declared.item.Place.TheVariants.{Start, Processes, Members, Body, Schedule as Scheduled}
-use Rattle.script_lang.specs.Before.{Before, nothing_before, is_over, after, with_depth, with_variables}
-use Rattle.script_lang.specs.Scripts.{process_of, threads_from, procedures_from, name_of_procedure}
-use Rattle.script_lang.specs.Spelled.{SpellsItems, MayStand, is_of_place, path_uses}
-use Rattle.script_lang.specs.TextTables.{process_in, thread_in, path_in, process_behind, with_procedure, procedures_from as procedures_in, tables_of_lines}
+use Rattle.script_line.specs.Words.{ProcedureName, Tables, depth_after, kind_of, path_word, paths_of}
+use Rattle.script_lang.specs.declared.item.ScriptLine.{ScriptLine}
+use Rattle.script_lang.specs.declared.item.ScriptLine.TheVariants.{Budget, Process, Spare, Thread, Procedure, Do, Schedule}
+use Rattle.script_lang.specs.declared.item.ScriptPlace.{ScriptPlace}
+use Rattle.script_lang.specs.declared.item.ScriptPlace.TheVariants.{Start, Processes, Members, Body, Schedule as Scheduled}
+use Rattle.script_lang.specs.Context.{ContextValue, first_context, is_over_limit, context_after, context_at_depth, context_with_variables}
+use Rattle.script_lang.specs.Scripts.{process_of_item, threads_from, procedures_from, name_of_procedure}
+use Rattle.script_lang.specs.Spelled.{SpellsScriptLines, MayStand, is_of_place, path_uses}
+use Rattle.script_lang.specs.TextTables.{process_of_words, thread_of_words, path_of_words, process_after, procedure_names_with, procedure_names_from as procedures_in, tables_of_lines}
 use Rattle.script_lang.proofs.NamesInWords.{NamesIn, names_skipped, process_named, thread_named, procedure_named, path_used, item_names}
 use Rattle.script_lang.proofs.SpelledItems.{along}
 
 -- the names that items declare, and the paths that they use
 
-abbrev pub process_names : List Item → List (List ℕ)
-process_names items = map (λ process. process.name) (filter_map process_of items)
+abbrev pub process_names : List ScriptLine → List (List ℕ)
+process_names items = map (λ process. process.name) (filter_map process_of_item items)
 
-abbrev pub thread_names : ℕ → List Item → List (List ℕ)
+abbrev pub thread_names : ℕ → List ScriptLine → List (List ℕ)
 thread_names process items = map (λ thread. thread.name) (threads_from process items)
 
-abbrev pub procedure_names : ℕ → List Item → List ProcedureName
+abbrev pub procedure_names : ℕ → List ScriptLine → List ProcedureName
 procedure_names process items = map name_of_procedure (procedures_from process items)
 
-abbrev path_names : Tables → List Item → List (List ℕ)
+abbrev path_names : Tables → List ScriptLine → List (List ℕ)
 path_names tables items = map (path_word tables) (flat_map path_uses items)
 
 -- lines declare what these items do
-record NamesOf (tables : Tables) (lines : List (List ℕ)) (items : List Item) : Type 0 where
-  processes : filter_map process_in (map words_of lines) ≡ process_names items
-  threads : (process : ℕ) → filter_map thread_in (map words_of lines) ≡ thread_names process items
+record NamesOf (tables : Tables) (lines : List (List ℕ)) (items : List ScriptLine) : Type 0 where
+  processes : filter_map process_of_words (map words_of lines) ≡ process_names items
+  threads : (process : ℕ) → filter_map thread_of_words (map words_of lines) ≡ thread_names process items
   procedures : (process : ℕ) → procedures_in process (map words_of lines) ≡ procedure_names process items
-  paths : filter_map path_in (map words_of lines) ≡ path_names tables items
+  paths : filter_map path_of_words (map words_of lines) ≡ path_names tables items
 
-skipped_more : (tables : Tables) (line : List ℕ) (lines : List (List ℕ)) (items : List Item) → NamesIn (words_of line) None None None None → NamesOf tables lines items → NamesOf tables (line ∷ lines) items
+skipped_more : (tables : Tables) (line : List ℕ) (lines : List (List ℕ)) (items : List ScriptLine) → NamesIn (words_of line) None None None None → NamesOf tables lines items → NamesOf tables (line ∷ lines) items
 skipped_more tables line lines items names others =
     record {
       processes = rw names.process others.processes;
@@ -54,15 +51,15 @@ skipped_more tables line lines items names others =
 
 -- one item more
 
-processes_more : (item : Item) (items : List Item) → cons_option (process_named item) (process_names items) ≡ process_names (item ∷ items)
+processes_more : (item : ScriptLine) (items : List ScriptLine) → cons_option (process_named item) (process_names items) ≡ process_names (item ∷ items)
 processes_more (Process name limit) items = refl
 processes_more item items = refl
 
-threads_more : (process : ℕ) (item : Item) (items : List Item) → cons_option (thread_named item) (thread_names (process_behind process (process_named item)) items) ≡ thread_names process (item ∷ items)
+threads_more : (process : ℕ) (item : ScriptLine) (items : List ScriptLine) → cons_option (thread_named item) (thread_names (process_after process (process_named item)) items) ≡ thread_names process (item ∷ items)
 threads_more process (Process name limit) items = refl
 threads_more process item items = refl
 
-procedures_more : (process : ℕ) (item : Item) (items : List Item) → with_procedure process (procedure_named item) (procedure_names (process_behind process (process_named item)) items) ≡ procedure_names process (item ∷ items)
+procedures_more : (process : ℕ) (item : ScriptLine) (items : List ScriptLine) → procedure_names_with process (procedure_named item) (procedure_names (process_after process (process_named item)) items) ≡ procedure_names process (item ∷ items)
 procedures_more process (Process name limit) items = refl
 procedures_more process item items = refl
 
@@ -71,155 +68,155 @@ line_path_more : (tables : Tables) (line : Line) (others : List (List ℕ)) → 
 line_path_more tables (Attach fd at) others = refl
 line_path_more tables line others = refl
 
-path_more : (tables : Tables) (item : Item) (others : List (List ℕ)) → cons_option (path_used tables (path_uses item)) others ≡ map (path_word tables) (path_uses item) ++ others
+path_more : (tables : Tables) (item : ScriptLine) (others : List (List ℕ)) → cons_option (path_used tables (path_uses item)) others ≡ map (path_word tables) (path_uses item) ++ others
 path_more tables (Do line) others = line_path_more tables line others
 path_more tables item others = refl
 
-paths_more : (tables : Tables) (item : Item) (items : List Item) → cons_option (path_used tables (path_uses item)) (path_names tables items) ≡ path_names tables (item ∷ items)
+paths_more : (tables : Tables) (item : ScriptLine) (items : List ScriptLine) → cons_option (path_used tables (path_uses item)) (path_names tables items) ≡ path_names tables (item ∷ items)
 paths_more tables item items = path_more tables item (path_names tables items) ∙ sym (map-append (path_word tables) (path_uses item) (flat_map path_uses items))
 
-item_more : (tables : Tables) (line : List ℕ) (lines : List (List ℕ)) (item : Item) (items : List Item)
+item_more : (tables : Tables) (line : List ℕ) (lines : List (List ℕ)) (item : ScriptLine) (items : List ScriptLine)
     → NamesIn (words_of line) (process_named item) (thread_named item) (procedure_named item) (path_used tables (path_uses item)) → NamesOf tables lines items → NamesOf tables (line ∷ lines) (item ∷ items)
 item_more tables line lines item items names others =
     record {
       processes = rw (names.process, others.processes) (processes_more item items);
-      threads = λ process. rw (names.thread, others.threads (process_behind process (process_named item))) (threads_more process item items);
-      procedures = λ process. rw (names.procedure, names.process, others.procedures (process_behind process (process_named item))) (procedures_more process item items);
+      threads = λ process. rw (names.thread, others.threads (process_after process (process_named item))) (threads_more process item items);
+      procedures = λ process. rw (names.procedure, names.process, others.procedures (process_after process (process_named item))) (procedures_more process item items);
       paths = rw (names.path, others.paths) (paths_more tables item items);
     }
 
-names_of_lines : (tables : Tables) (before : Before) (lines : List (List ℕ)) (items : List Item) → SpellsItems tables before lines items → NamesOf tables lines items
+names_of_lines : (tables : Tables) (context : ContextValue) (lines : List (List ℕ)) (items : List ScriptLine) → SpellsScriptLines tables context lines items → NamesOf tables lines items
 names_of_lines tables =
-    along tables (λ before lines items. NamesOf tables lines items) (record {
-      ends = λ before closed. record { processes = refl; threads = λ process. refl; procedures = λ process. refl; paths = refl };
-      skips = λ before line lines items printable skipped others. skipped_more tables line lines items (names_skipped line skipped) others;
-      goes_on = λ before line lines item items is others. item_more tables line lines item items (item_names tables (length before.processes) item (words_of line) is.spells) others;
+    along tables (λ context lines items. NamesOf tables lines items) (record {
+      ends = λ context closed. record { processes = refl; threads = λ process. refl; procedures = λ process. refl; paths = refl };
+      skips = λ context line lines items printable skipped others. skipped_more tables line lines items (names_skipped line skipped) others;
+      goes_on = λ context line lines item items is others. item_more tables line lines item items (item_names tables (length context.processes) item (words_of line) is.spells) others;
     })
 
 -- how many names items declare
 
 -- processes, threads and the procedures of a process are at most as many as a script may have
-pub record AreFew (before : Before) : Type 0 where
-  pub processes : length before.processes ≤ 64
-  pub threads : length before.threads ≤ 64
-  pub procedures : length before.procedures ≤ 64
+pub record AreFew (context : ContextValue) : Type 0 where
+  pub processes : length context.processes ≤ 64
+  pub threads : length context.threads ≤ 64
+  pub procedures : length context.procedures ≤ 64
 
-few_with_line : (before : Before) (behind : Option ℕ) → AreFew before → AreFew (with_depth before behind)
-few_with_line before None few = record { processes = few.processes; threads = few.threads; procedures = few.procedures }
-few_with_line before (Some depth) few = record { processes = few.processes; threads = few.threads; procedures = few.procedures }
+few_with_line : (context : ContextValue) (after : Option ℕ) → AreFew context → AreFew (context_at_depth context after)
+few_with_line context None few = record { processes = few.processes; threads = few.threads; procedures = few.procedures }
+few_with_line context (Some depth) few = record { processes = few.processes; threads = few.threads; procedures = few.procedures }
 
 one_more : (names : List (List ℕ)) (name : List ℕ) → nat_le 64 (length names) ≡ false → length (names ++ name ∷ []) ≤ 64
 one_more names name room = let below = leb-false 64 (length names) room in simp length-append (omega (arith, below))
 
-few_after : (before : Before) (item : Item) → is_over before item ≡ false → AreFew before → AreFew (after before item)
-few_after before (Budget events) room few = record { processes = few.processes; threads = few.threads; procedures = few.procedures }
-few_after before (Process name limit) room few = record { processes = one_more before.processes name room; threads = few.threads; procedures = omega arith }
-few_after before (Spare name) room few = record { processes = few.processes; threads = one_more before.threads name room; procedures = few.procedures }
-few_after before (Thread name) room few = record { processes = few.processes; threads = one_more before.threads name room; procedures = few.procedures }
-few_after before (Procedure name) room few = record { processes = few.processes; threads = few.threads; procedures = one_more before.procedures name room }
-few_after before (Do line) room few = few_with_line (with_variables before line) (depth_after before.depth (kind_of line)) (record { processes = few.processes; threads = few.threads; procedures = few.procedures })
-few_after before (Schedule threads) room few = record { processes = few.processes; threads = few.threads; procedures = few.procedures }
+few_after : (context : ContextValue) (item : ScriptLine) → is_over_limit context item ≡ false → AreFew context → AreFew (context_after context item)
+few_after context (Budget events) room few = record { processes = few.processes; threads = few.threads; procedures = few.procedures }
+few_after context (Process name limit) room few = record { processes = one_more context.processes name room; threads = few.threads; procedures = omega arith }
+few_after context (Spare name) room few = record { processes = few.processes; threads = one_more context.threads name room; procedures = few.procedures }
+few_after context (Thread name) room few = record { processes = few.processes; threads = one_more context.threads name room; procedures = few.procedures }
+few_after context (Procedure name) room few = record { processes = few.processes; threads = few.threads; procedures = one_more context.procedures name room }
+few_after context (Do line) room few = few_with_line (context_with_variables context line) (depth_after context.depth (kind_of line)) (record { processes = few.processes; threads = few.threads; procedures = few.procedures })
+few_after context (Schedule threads) room few = record { processes = few.processes; threads = few.threads; procedures = few.procedures }
 
 -- how many processes are there whose procedures may follow, and how many procedures they have
-abbrev pub open_processes : Place → ℕ
+abbrev pub open_processes : ScriptPlace → ℕ
 open_processes Start = 0
 open_processes Processes = 0
 open_processes Members = 1
 open_processes Body = 1
 open_processes Scheduled = 0
 
-abbrev pub open_procedures : Before → ℕ
-open_procedures before = open_processes before.place * length before.procedures
+abbrev pub open_procedures : ContextValue → ℕ
+open_procedures context = open_processes context.place * length context.procedures
 
 -- so many names follow at most
-pub record FewFollow (before : Before) (items : List Item) : Type 0 where
-  pub processes : length before.processes + length (filter_map process_of items) ≤ 64
-  pub threads : (process : ℕ) → length before.threads + length (threads_from process items) ≤ 64
-  pub procedures : (process : ℕ) → open_procedures before + length (procedures_from process items) ≤ 64 * (open_processes before.place + length (filter_map process_of items))
+pub record FewFollow (context : ContextValue) (items : List ScriptLine) : Type 0 where
+  pub processes : length context.processes + length (filter_map process_of_item items) ≤ 64
+  pub threads : (process : ℕ) → length context.threads + length (threads_from process items) ≤ 64
+  pub procedures : (process : ℕ) → open_procedures context + length (procedures_from process items) ≤ 64 * (open_processes context.place + length (filter_map process_of_item items))
 
-open_most : (place : Place) (n : ℕ) → n ≤ 64 → open_processes place * n ≤ 64 * open_processes place
+open_most : (place : ScriptPlace) (n : ℕ) → n ≤ 64 → open_processes place * n ≤ 64 * open_processes place
 open_most Start n few = omega arith
 open_most Processes n few = omega arith
 open_most Members n few = omega arith
 open_most Body n few = omega arith
 open_most Scheduled n few = omega arith
 
-in_members : (place : Place) (name : List ℕ) → is_of_place place (Procedure name) ≡ true → place ≡ Members
+in_members : (place : ScriptPlace) (name : List ℕ) → is_of_place place (Procedure name) ≡ true → place ≡ Members
 in_members Members name at = refl
 in_members place name at = absurd (false≢true at)
 
-thread_in_members : (place : Place) (name : List ℕ) → is_of_place place (Thread name) ≡ true → place ≡ Members
+thread_in_members : (place : ScriptPlace) (name : List ℕ) → is_of_place place (Thread name) ≡ true → place ≡ Members
 thread_in_members Members name at = refl
 thread_in_members place name at = absurd (false≢true at)
 
-line_in_body : (place : Place) (line : Line) → is_of_place place (Do line) ≡ true → place ≡ Body
+line_in_body : (place : ScriptPlace) (line : Line) → is_of_place place (Do line) ≡ true → place ≡ Body
 line_in_body Body line at = refl
 line_in_body place line at = absurd (false≢true at)
 
-few_end : (before : Before) → AreFew before → FewFollow before []
-few_end before few =
-    let most = open_most before.place (length before.procedures) few.procedures in
+few_end : (context : ContextValue) → AreFew context → FewFollow context []
+few_end context few =
+    let most = open_most context.place (length context.procedures) few.procedures in
     record { processes = omega (arith, few.processes); threads = λ process. omega (arith, few.threads); procedures = λ process. omega (arith, most) }
 
-few_line : (before : Before) (behind : Option ℕ) (items : List Item) → before.place ≡ Body → FewFollow (with_depth before behind) items → FewFollow before items
-few_line before None items at others = record { processes = others.processes; threads = others.threads; procedures = λ process. rw at (others.procedures process) }
-few_line before (Some depth) items at others = record { processes = others.processes; threads = others.threads; procedures = λ process. rw at (rw at at (others.procedures process)) }
+few_line : (context : ContextValue) (after : Option ℕ) (items : List ScriptLine) → context.place ≡ Body → FewFollow (context_at_depth context after) items → FewFollow context items
+few_line context None items at others = record { processes = others.processes; threads = others.threads; procedures = λ process. rw at (others.procedures process) }
+few_line context (Some depth) items at others = record { processes = others.processes; threads = others.threads; procedures = λ process. rw at (rw at at (others.procedures process)) }
 
-few_more : (before : Before) (item : Item) (items : List Item) → AreFew before → MayStand before item → FewFollow (after before item) items → FewFollow before (item ∷ items)
-few_more before (Budget events) items few stands others =
-    let most = open_most before.place (length before.procedures) few.procedures in
+few_more : (context : ContextValue) (item : ScriptLine) (items : List ScriptLine) → AreFew context → MayStand context item → FewFollow (context_after context item) items → FewFollow context (item ∷ items)
+few_more context (Budget events) items few stands others =
+    let most = open_most context.place (length context.procedures) few.procedures in
     record { processes = others.processes; threads = others.threads; procedures = λ process. let next = others.procedures process in omega (arith, most, next) }
-few_more before (Process name limit) items few stands others =
-    let most = open_most before.place (length before.procedures) few.procedures in
+few_more context (Process name limit) items few stands others =
+    let most = open_most context.place (length context.procedures) few.procedures in
     let processes = simp length-append at others.processes in
     record { processes = omega (arith, processes); threads = λ process. others.threads (process + 1); procedures = λ process. let next = others.procedures (process + 1) in omega (arith, most, next) }
-few_more before (Spare name) items few stands others =
+few_more context (Spare name) items few stands others =
     record { processes = others.processes; threads = λ process. let next = simp length-append at (others.threads process) in omega (arith, next); procedures = others.procedures }
-few_more before (Thread name) items few stands others =
-    let at = thread_in_members before.place name stands.of_place in
+few_more context (Thread name) items few stands others =
+    let at = thread_in_members context.place name stands.of_place in
     record { processes = others.processes; threads = λ process. let next = simp length-append at (others.threads process) in omega (arith, next); procedures = λ process. rw at (others.procedures process) }
-few_more before (Procedure name) items few stands others =
-    let at = in_members before.place name stands.of_place in
+few_more context (Procedure name) items few stands others =
+    let at = in_members context.place name stands.of_place in
     record { processes = others.processes; threads = others.threads; procedures = λ process. rw at (let next = simp length-append at (others.procedures process) in omega (arith, next)) }
-few_more before (Do line) items few stands others =
-    let same = few_line (with_variables before line) (depth_after before.depth (kind_of line)) items (line_in_body before.place line stands.of_place) others in
+few_more context (Do line) items few stands others =
+    let same = few_line (context_with_variables context line) (depth_after context.depth (kind_of line)) items (line_in_body context.place line stands.of_place) others in
     record { processes = same.processes; threads = same.threads; procedures = same.procedures }
-few_more before (Schedule threads) items few stands others =
-    let most = open_most before.place (length before.procedures) few.procedures in
+few_more context (Schedule threads) items few stands others =
+    let most = open_most context.place (length context.procedures) few.procedures in
     record { processes = others.processes; threads = others.threads; procedures = λ process. let next = others.procedures process in omega (arith, most, next) }
 
-pub few_follow : (tables : Tables) (before : Before) (lines : List (List ℕ)) (items : List Item) → SpellsItems tables before lines items → AreFew before → FewFollow before items
+pub few_follow : (tables : Tables) (context : ContextValue) (lines : List (List ℕ)) (items : List ScriptLine) → SpellsScriptLines tables context lines items → AreFew context → FewFollow context items
 few_follow tables =
-    along tables (λ before lines items. AreFew before → FewFollow before items) (record {
-      ends = λ before closed few. few_end before few;
-      skips = λ before line lines items printable skipped others. others;
-      goes_on = λ before line lines item items is others few. few_more before item items few is.may_stand (others (few_after before item is.may_stand.within_limits few));
+    along tables (λ context lines items. AreFew context → FewFollow context items) (record {
+      ends = λ context closed few. few_end context few;
+      skips = λ context line lines items printable skipped others. others;
+      goes_on = λ context line lines item items is others few. few_more context item items few is.may_stand (others (few_after context item is.may_stand.within_limits few));
     })
 
 -- the tables of lines
 
 -- what lines declare and use is what their items do
-pub record NamesAgree (tables : Tables) (lines : List (List ℕ)) (items : List Item) : Type 0 where
-  pub processes : (tables_of_lines lines).processes ≡ map (λ process. process.name) (filter_map process_of items)
+pub record NamesAgree (tables : Tables) (lines : List (List ℕ)) (items : List ScriptLine) : Type 0 where
+  pub processes : (tables_of_lines lines).processes ≡ map (λ process. process.name) (filter_map process_of_item items)
   pub threads : (tables_of_lines lines).threads ≡ map (λ thread. thread.name) (threads_from 0 items)
   pub procedures : (tables_of_lines lines).procedures ≡ map name_of_procedure (procedures_from 0 items)
-  pub paths : filter_map path_in (map words_of lines) ≡ map (path_word tables) (flat_map path_uses items)
+  pub paths : filter_map path_of_words (map words_of lines) ≡ map (path_word tables) (flat_map path_uses items)
 
 all_taken : {X Y : Type 0} (limit : ℕ) (of : X → Y) (xs : List X) (ys : List Y) → ys ≡ map of xs → length xs ≤ limit → take limit ys ≡ map of xs
 all_taken limit of xs ys is few = ap (take limit) is ∙ take_all limit (map of xs) (rw (length-map xs of) few)
 
-pub few_before : AreFew nothing_before
+pub few_before : AreFew first_context
 few_before = record { processes = omega arith; threads = omega arith; procedures = omega arith }
 
-pub names_agree : (tables : Tables) (lines : List (List ℕ)) (items : List Item) → SpellsItems tables nothing_before lines items → NamesAgree tables lines items
+pub names_agree : (tables : Tables) (lines : List (List ℕ)) (items : List ScriptLine) → SpellsScriptLines tables first_context lines items → NamesAgree tables lines items
 unfolding tables_of_lines
 names_agree tables lines items spells =
-    let names = names_of_lines tables nothing_before lines items spells in
-    let few = few_follow tables nothing_before lines items spells few_before in
+    let names = names_of_lines tables first_context lines items spells in
+    let few = few_follow tables first_context lines items spells few_before in
     let threads = few.threads 0 in
     let procedures = few.procedures 0 in
     record {
-      processes = all_taken 64 (λ process. process.name) (filter_map process_of items) _ names.processes (omega (arith, few.processes));
+      processes = all_taken 64 (λ process. process.name) (filter_map process_of_item items) _ names.processes (omega (arith, few.processes));
       threads = all_taken 64 (λ thread. thread.name) (threads_from 0 items) _ (names.threads 0) (omega (arith, threads));
       procedures = all_taken 4096 name_of_procedure (procedures_from 0 items) _ (names.procedures 0) (omega (arith, few.processes, procedures));
       paths = names.paths;

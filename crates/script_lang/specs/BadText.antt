@@ -1,9 +1,9 @@
 -- The line that answers a text that spells no script.
 use Rattle.std.specs.Prelude.{ℕ, List, [], ◌∷◌, ◌++◌, codes, decimal}
-use Rattle.script_text.specs.Words.{joined}
-use Rattle.script_line.specs.ReasonWords.{reason_word}
+use Rattle.script_text.specs.Words.{joined_words}
+use Rattle.script_line.specs.Words.{reason_word}
 use Rattle.script_lang.specs.declared.bad.Bad.{Bad}
 
 -- `bad line N REASON` and a line feed
 abbrev pub bad_text : Bad → List ℕ
-bad_text bad = joined (codes "bad" ∷ codes "line" ∷ decimal bad.line ∷ reason_word bad.reason ∷ []) ++ 10 ∷ []
+bad_text bad = joined_words (codes "bad" ∷ codes "line" ∷ decimal bad.line ∷ reason_word bad.reason ∷ []) ++ 10 ∷ []

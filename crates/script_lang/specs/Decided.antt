@@ -1,12 +1,12 @@
 -- Every text either spells one script, or has a first bad line with a reason.
 use Rattle.std.specs.Prelude.{ℕ, ◌≡◌, ⊤, List, ◌∷◌, Some, None, Result, Ok, Err}
-use Rattle.script_text.specs.Lines.{lines_of}
+use Rattle.script_text.specs.Words.{lines_of}
 use Rattle.script_lang.specs.declared.bad.Bad.{Bad}
 use Rattle.script_lang.specs.declared.bad.ParseFault.{ParseFault}
 use Rattle.script_lang.specs.declared.bad.ParseFault.TheVariants.{Bad as BadLine, Memory as NoRoom}
-use Rattle.script_lang.specs.Before.{nothing_before}
+use Rattle.script_lang.specs.Context.{first_context}
 use Rattle.script_lang.specs.Canonical.{header}
-use Rattle.script_lang.specs.Reading.{ItemsRead, lines_read, bad}
+use Rattle.script_lang.specs.Parsing.{ScriptLinesRead, lines_read, first_bad_line}
 use Rattle.script_lang.specs.Spelled.{spells}
 use Rattle.script_lang.specs.TextTables.{tables_of_lines}
 use Rattle.script_lang.specs.Value.{ScriptValue}
@@ -15,12 +15,12 @@ use Rattle.script_lang.specs.Value.{ScriptValue}
 pub record SpellsOnly (text : List ℕ) (script : ScriptValue) : Type 0 where
   pub spelled : spells text script
   pub only : (other : ScriptValue) → spells text other → other ≡ script
-  pub good : bad text ≡ None
+  pub good : first_bad_line text ≡ None
 
 -- the text spells no script, and this is its first bad line
 pub record SpellsNone (text : List ℕ) (fault : Bad) : Type 0 where
   pub none : (script : ScriptValue) → spells text script → ⊥
-  pub bad : bad text ≡ Some fault
+  pub bad : first_bad_line text ≡ Some fault
 
 abbrev pub IsDecided : List ℕ → Result ScriptValue Bad → Type 0
 IsDecided text (Ok script) = SpellsOnly text script
@@ -32,11 +32,11 @@ IsParsed text (Ok script) = SpellsOnly text script
 IsParsed text (Err (BadLine fault)) = SpellsNone text fault
 IsParsed text (Err NoRoom) = ⊤
 
--- No line of the text has another reason, nor has its end: the first line is the header, and the lines behind it are read to
+-- No line of the text has another reason, nor has its end: the first line is the header, and the lines after it are read to
 -- the end. This is the first of them that names something that is not declared.
 pub record IsOnlyUnknown (text : List ℕ) (line : ℕ) : Type 0 where
   pub lines : List (List ℕ)
-  pub found : ItemsRead
+  pub found : ScriptLinesRead
   pub headed : lines_of text ≡ header ∷ lines
-  pub read : lines_read 1 (tables_of_lines lines) 2 nothing_before lines ≡ Ok found
+  pub read : lines_read 1 (tables_of_lines lines) 2 first_context lines ≡ Ok found
   pub first : found.unknown ≡ Some line

@@ -1,10 +1,10 @@
 -- What the reader's own contracts say of the dispatch by first words.
 use Rattle.std.specs.Prelude.{Option, Some, None, Err}
 use Rattle.script_line.specs.declared.reason.Reason.TheVariants.{Word}
-use Rattle.script_line.specs.Readers.{Reader}
-use Rattle.script_lang.specs.declared.item.Item.{Item}
+use Rattle.line_reader.specs.Words.{Reader}
+use Rattle.script_lang.specs.declared.item.ScriptLine.{ScriptLine}
 
 -- what follows a first word, or the word is none of this place
-abbrev pub item_reader : Option (Reader Item) → Reader Item
+abbrev pub item_reader : Option (Reader ScriptLine) → Reader ScriptLine
 item_reader None rest = Err Word
 item_reader (Some read) rest = read rest

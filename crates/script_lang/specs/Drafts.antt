@@ -1,84 +1,85 @@
 -- What the reader's own contracts say of the parts of a script that it has made so far.
 use Rattle.std.specs.Prelude.{ℕ, Bool, true, false, List, [], ◌∷◌, ◌++◌, length, Option, Some, None, filter_map, flat_map}
-use Rattle.script_line.specs.declared.line.Line.{Line}
-use Rattle.script_line.specs.Kinds.{kind_of, depth_after}
+use Rattle.script_lang.specs.Types.{Line}
+use Rattle.script_line.specs.Words.{depth_after, kind_of}
 use Rattle.script_lang.specs.declared.draft.Draft.{Draft}
 use Rattle.script_lang.specs.declared.draft.Owner.{Owner}
 use Rattle.script_lang.specs.declared.draft.Owner.TheVariants.{Nobody, Thread as OfThread, Procedure as OfProcedure}
-use Rattle.script_lang.specs.declared.item.Item.{Item}
-use Rattle.script_lang.specs.declared.item.Item.TheVariants.{Budget, Process, Spare, Thread, Procedure, Do, Schedule}
+use Rattle.script_lang.specs.declared.item.ScriptLine.{ScriptLine}
+use Rattle.script_lang.specs.declared.item.ScriptLine.TheVariants.{Budget, Process, Spare, Thread, Procedure, Do, Schedule}
 use Rattle.script_lang.specs.declared.script.Part.{Part}
 use Rattle.script_lang.specs.declared.script.Part.TheVariants.{Process as ProcessPart, Thread as ThreadPart, Procedure as ProcedurePart}
 use Rattle.script_lang.specs.declared.script.Procedure.{Procedure as ScriptProcedure}
 use Rattle.script_lang.specs.declared.script.ScriptThread.{ScriptThread}
-use Rattle.script_lang.specs.Scripts.{budget_from, script_process, process_of, body_from, thread_of, threads_from, procedure_of, procedures_from, part_of, turns_of}
+use Rattle.script_lang.specs.Scripts.{budget_from, script_process, process_of_item, body_from, script_thread, threads_from, script_procedure, procedures_from, part_of_item, turns_of_item}
 use Rattle.script_lang.specs.Value.{ScriptValue}
+use Rattle.dk_base.specs.declared.limits.TheConstants.{BUDGET_MAX}
 
 -- no lines
 abbrev pub empty_draft : Draft
-empty_draft = record { budget = 100000; processes = []; threads = []; procedures = []; order = []; schedule = []; owner = Nobody; body = [] }
+empty_draft = record { budget = BUDGET_MAX; processes = []; threads = []; procedures = []; order = []; schedule = []; owner = Nobody; body = [] }
 
-abbrev pub with_thread : Draft → List ℕ → Bool → List Line → Draft
-with_thread draft name spare body = record draft { threads = draft.threads ++ thread_of (length draft.processes) name spare body ∷ [] }
+abbrev pub draft_with_thread : Draft → List ℕ → Bool → List Line → Draft
+draft_with_thread draft name spare body = record draft { threads = draft.threads ++ script_thread (length draft.processes) name spare body ∷ [] }
 
-abbrev pub with_procedure : Draft → List ℕ → List Line → Draft
-with_procedure draft name body = record draft { procedures = draft.procedures ++ procedure_of (length draft.processes) name body ∷ [] }
+abbrev pub draft_with_procedure : Draft → List ℕ → List Line → Draft
+draft_with_procedure draft name body = record draft { procedures = draft.procedures ++ script_procedure (length draft.processes) name body ∷ [] }
 
-abbrev pub with_part : Draft → Part → Draft
-with_part draft part = record draft { order = draft.order ++ part ∷ [] }
+abbrev pub draft_with_part : Draft → Part → Draft
+draft_with_part draft part = record draft { order = draft.order ++ part ∷ [] }
 
-abbrev pub with_owner : Draft → Owner → Draft
-with_owner draft owner = record draft { owner = owner; body = [] }
+abbrev pub draft_with_owner : Draft → Owner → Draft
+draft_with_owner draft owner = record draft { owner = owner; body = [] }
 
 -- a body begins
-abbrev pub opened : Draft → Part → Owner → Draft
-opened draft part owner = with_owner (with_part draft part) owner
+abbrev pub draft_in_body : Draft → Part → Owner → Draft
+draft_in_body draft part owner = draft_with_owner (draft_with_part draft part) owner
 
 -- the body ends
-abbrev pub closed_of : Draft → Owner → Draft
-closed_of draft Nobody = with_owner draft Nobody
-closed_of draft (OfThread name) = with_owner (with_thread draft name false draft.body) Nobody
-closed_of draft (OfProcedure name) = with_owner (with_procedure draft name draft.body) Nobody
+abbrev pub draft_after_body_of : Draft → Owner → Draft
+draft_after_body_of draft Nobody = draft_with_owner draft Nobody
+draft_after_body_of draft (OfThread name) = draft_with_owner (draft_with_thread draft name false draft.body) Nobody
+draft_after_body_of draft (OfProcedure name) = draft_with_owner (draft_with_procedure draft name draft.body) Nobody
 
-abbrev pub closed : Draft → Draft
-closed draft = closed_of draft draft.owner
+abbrev pub draft_after_body : Draft → Draft
+draft_after_body draft = draft_after_body_of draft draft.owner
 
-abbrev pub with_draft_line : Draft → Line → Option ℕ → Draft
-with_draft_line draft line None = closed draft
-with_draft_line draft line (Some depth) = record draft { body = draft.body ++ line ∷ [] }
+abbrev pub draft_with_line : Draft → Line → Option ℕ → Draft
+draft_with_line draft line None = draft_after_body draft
+draft_with_line draft line (Some depth) = record draft { body = draft.body ++ line ∷ [] }
 
 -- with an item, where so many blocks are open before it
-abbrev pub drafted : Draft → ℕ → Item → Draft
-drafted draft depth (Budget events) = record draft { budget = events }
-drafted draft depth (Process name limit) = with_part (record draft { processes = draft.processes ++ script_process name limit ∷ [] }) ProcessPart
-drafted draft depth (Spare name) = with_part (with_thread draft name true []) ThreadPart
-drafted draft depth (Thread name) = opened draft ThreadPart (OfThread name)
-drafted draft depth (Procedure name) = opened draft ProcedurePart (OfProcedure name)
-drafted draft depth (Do line) = with_draft_line draft line (depth_after depth (kind_of line))
-drafted draft depth (Schedule threads) = record draft { schedule = draft.schedule ++ threads }
+abbrev pub draft_after : Draft → ℕ → ScriptLine → Draft
+draft_after draft depth (Budget events) = record draft { budget = events }
+draft_after draft depth (Process name limit) = draft_with_part (record draft { processes = draft.processes ++ script_process name limit ∷ [] }) ProcessPart
+draft_after draft depth (Spare name) = draft_with_part (draft_with_thread draft name true []) ThreadPart
+draft_after draft depth (Thread name) = draft_in_body draft ThreadPart (OfThread name)
+draft_after draft depth (Procedure name) = draft_in_body draft ProcedurePart (OfProcedure name)
+draft_after draft depth (Do line) = draft_with_line draft line (depth_after depth (kind_of line))
+draft_after draft depth (Schedule threads) = record draft { schedule = draft.schedule ++ threads }
 
--- the script of a draft with more lines behind it
+-- the script of a draft with more lines after it
 
 abbrev pub open_threads : ℕ → Owner → List Line → List ScriptThread
 open_threads process Nobody body = []
-open_threads process (OfThread name) body = thread_of process name false body ∷ []
+open_threads process (OfThread name) body = script_thread process name false body ∷ []
 open_threads process (OfProcedure name) body = []
 
 abbrev pub open_procedures : ℕ → Owner → List Line → List ScriptProcedure
 open_procedures process Nobody body = []
 open_procedures process (OfThread name) body = []
-open_procedures process (OfProcedure name) body = procedure_of process name body ∷ []
+open_procedures process (OfProcedure name) body = script_procedure process name body ∷ []
 
-abbrev pub script_with : List (List ℕ) → Draft → ℕ → List Item → ScriptValue
+abbrev pub script_with : List (List ℕ) → Draft → ℕ → List ScriptLine → ScriptValue
 script_with paths draft depth items =
     record {
       budget = budget_from draft.budget items;
-      processes = draft.processes ++ filter_map process_of items;
+      processes = draft.processes ++ filter_map process_of_item items;
       threads = draft.threads ++ open_threads (length draft.processes) draft.owner (draft.body ++ body_from depth items) ++ threads_from (length draft.processes) items;
       procedures = draft.procedures ++ open_procedures (length draft.processes) draft.owner (draft.body ++ body_from depth items) ++ procedures_from (length draft.processes) items;
-      order = draft.order ++ filter_map part_of items;
+      order = draft.order ++ filter_map part_of_item items;
       paths = paths;
-      schedule = draft.schedule ++ flat_map turns_of items;
+      schedule = draft.schedule ++ flat_map turns_of_item items;
     }
 
 -- the script of a draft

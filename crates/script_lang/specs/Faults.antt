@@ -1,7 +1,7 @@
 -- What the reader's own contracts say of faults.
 use Rattle.std.specs.Prelude.{ℕ}
-use Rattle.script_line.specs.declared.fault.Fault.{Fault}
-use Rattle.script_line.specs.declared.fault.Fault.TheVariants.{Bad as BadLine, Memory as NoRoom}
+use Rattle.line_reader.specs.declared.fault.Fault.{Fault}
+use Rattle.line_reader.specs.declared.fault.Fault.TheVariants.{Bad as BadLine, Memory as NoRoom}
 use Rattle.script_lang.specs.declared.bad.ParseFault.{ParseFault}
 use Rattle.script_lang.specs.declared.bad.ParseFault.TheVariants.{Bad, Memory}
 

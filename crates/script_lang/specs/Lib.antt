@@ -1,4 +1,5 @@
-pub mod Before
+pub mod Types
+pub mod Context
 pub mod Items
 pub mod Value
 pub mod TextTables
@@ -8,12 +9,13 @@ pub mod Adds
 pub mod Faults
 pub mod Dispatch
 pub mod Drafts
-pub mod Reading
+pub mod Parsing
 pub mod Spelled
-pub mod Remaining
+pub mod TextReaderContracts
 pub mod NamesThen
 pub mod BadText
 pub mod Decided
 pub mod Printed
 pub mod IsScript
 pub mod SameScript
+pub mod Words

@@ -1,98 +1,97 @@
 -- The script that lines in their order are, and the lines of a script.
 use Rattle.std.specs.Prelude.{ℕ, zero, suc, Bool, true, false, ◌+◌, List, [], ◌∷◌, ◌++◌, Option, Some, None, map, flat_map, filter_map}
 use Rattle.std.specs.List.{onto_first}
-use Rattle.dk_base.specs.declared.number.Tid.{Tid}
-use Rattle.script_line.specs.declared.line.Line.{Line}
+use Rattle.script_text.specs.Types.{Tid}
+use Rattle.script_lang.specs.Types.{Line}
 use Rattle.script_line.specs.declared.line.Line.TheVariants.{End}
-use Rattle.script_line.specs.Kinds.{kind_of, depth_after}
-use Rattle.script_line.specs.Tables.{Tables, ProcedureName}
-use Rattle.script_line.specs.Spelled.{procedure_name}
-use Rattle.script_lang.specs.declared.item.Item.{Item}
-use Rattle.script_lang.specs.declared.item.Item.TheVariants.{Budget, Process, Spare, Thread, Procedure, Do, Schedule}
+use Rattle.script_line.specs.Words.{ProcedureName, Tables, depth_after, kind_of, qualified_name}
+use Rattle.script_lang.specs.declared.item.ScriptLine.{ScriptLine}
+use Rattle.script_lang.specs.declared.item.ScriptLine.TheVariants.{Budget, Process, Spare, Thread, Procedure, Do, Schedule}
 use Rattle.script_lang.specs.declared.script.Part.{Part}
 use Rattle.script_lang.specs.declared.script.Part.TheVariants.{Process as ProcessPart, Thread as ThreadPart, Procedure as ProcedurePart}
 use Rattle.script_lang.specs.declared.script.Procedure.{Procedure as ScriptProcedure}
 use Rattle.script_lang.specs.declared.script.ScriptProcess.{ScriptProcess}
 use Rattle.script_lang.specs.declared.script.ScriptThread.{ScriptThread}
 use Rattle.script_lang.specs.Value.{ScriptValue}
+use Rattle.dk_base.specs.declared.limits.TheConstants.{BUDGET_MAX}
 
 -- from lines to a script
 
 -- the budget of these lines, where it is this without them
-abbrev pub budget_from : ℕ → List Item → ℕ
+abbrev pub budget_from : ℕ → List ScriptLine → ℕ
 budget_from events [] = events
 budget_from events (Budget given ∷ items) = budget_from given items
 budget_from events (item ∷ items) = budget_from events items
 
 -- without a line `budget` it is 100000
-abbrev pub budget_of : List Item → ℕ
-budget_of items = budget_from 100000 items
+abbrev pub budget_of : List ScriptLine → ℕ
+budget_of items = budget_from BUDGET_MAX items
 
 abbrev pub script_process : List ℕ → ℕ → ScriptProcess
 script_process name limit = record { name = name; limit = limit }
 
-abbrev pub process_of : Item → Option ScriptProcess
-process_of (Process name limit) = Some (script_process name limit)
-process_of item = None
+abbrev pub process_of_item : ScriptLine → Option ScriptProcess
+process_of_item (Process name limit) = Some (script_process name limit)
+process_of_item item = None
 
 abbrev pub before_line : Line → Option ℕ → (ℕ → List Line) → List Line
 before_line line None body = []
 before_line line (Some depth) body = line ∷ body depth
 
 -- the lines of a body up to its end, where so many blocks are open in it
-abbrev pub body_from : ℕ → List Item → List Line
-body_from depth (Do line ∷ items) = before_line line (depth_after depth (kind_of line)) (λ behind. body_from behind items)
+abbrev pub body_from : ℕ → List ScriptLine → List Line
+body_from depth (Do line ∷ items) = before_line line (depth_after depth (kind_of line)) (λ after. body_from after items)
 body_from depth items = []
 
-abbrev pub thread_of : ℕ → List ℕ → Bool → List Line → ScriptThread
-thread_of process name spare body = record { name = name; process = record { 0 = process }; spare = spare; body = body }
+abbrev pub script_thread : ℕ → List ℕ → Bool → List Line → ScriptThread
+script_thread process name spare body = record { name = name; process = record { 0 = process }; spare = spare; body = body }
 
 -- threads with spares, where so many processes stand before
-abbrev pub threads_from : ℕ → List Item → List ScriptThread
+abbrev pub threads_from : ℕ → List ScriptLine → List ScriptThread
 threads_from process [] = []
 threads_from process (Process name limit ∷ items) = threads_from (process + 1) items
-threads_from process (Spare name ∷ items) = thread_of process name true [] ∷ threads_from process items
-threads_from process (Thread name ∷ items) = thread_of process name false (body_from 0 items) ∷ threads_from process items
+threads_from process (Spare name ∷ items) = script_thread process name true [] ∷ threads_from process items
+threads_from process (Thread name ∷ items) = script_thread process name false (body_from 0 items) ∷ threads_from process items
 threads_from process (item ∷ items) = threads_from process items
 
-abbrev pub procedure_of : ℕ → List ℕ → List Line → ScriptProcedure
-procedure_of process name body = record { name = name; process = record { 0 = process }; body = body }
+abbrev pub script_procedure : ℕ → List ℕ → List Line → ScriptProcedure
+script_procedure process name body = record { name = name; process = record { 0 = process }; body = body }
 
-abbrev pub procedures_from : ℕ → List Item → List ScriptProcedure
+abbrev pub procedures_from : ℕ → List ScriptLine → List ScriptProcedure
 procedures_from process [] = []
 procedures_from process (Process name limit ∷ items) = procedures_from (process + 1) items
-procedures_from process (Procedure name ∷ items) = procedure_of process name (body_from 0 items) ∷ procedures_from process items
+procedures_from process (Procedure name ∷ items) = script_procedure process name (body_from 0 items) ∷ procedures_from process items
 procedures_from process (item ∷ items) = procedures_from process items
 
-abbrev pub part_of : Item → Option Part
-part_of (Process name limit) = Some ProcessPart
-part_of (Spare name) = Some ThreadPart
-part_of (Thread name) = Some ThreadPart
-part_of (Procedure name) = Some ProcedurePart
-part_of item = None
+abbrev pub part_of_item : ScriptLine → Option Part
+part_of_item (Process name limit) = Some ProcessPart
+part_of_item (Spare name) = Some ThreadPart
+part_of_item (Thread name) = Some ThreadPart
+part_of_item (Procedure name) = Some ProcedurePart
+part_of_item item = None
 
 -- the lines `schedule` are one list
-abbrev pub turns_of : Item → List Tid
-turns_of (Schedule threads) = threads
-turns_of item = []
+abbrev pub turns_of_item : ScriptLine → List Tid
+turns_of_item (Schedule threads) = threads
+turns_of_item item = []
 
 -- the script of these lines, with these paths
-abbrev pub script_of : List (List ℕ) → List Item → ScriptValue
-script_of paths items =
+abbrev pub script_of_items : List (List ℕ) → List ScriptLine → ScriptValue
+script_of_items paths items =
     record {
       budget = budget_of items;
-      processes = filter_map process_of items;
+      processes = filter_map process_of_item items;
       threads = threads_from 0 items;
       procedures = procedures_from 0 items;
-      order = filter_map part_of items;
+      order = filter_map part_of_item items;
       paths = paths;
-      schedule = flat_map turns_of items;
+      schedule = flat_map turns_of_item items;
     }
 
 -- the names of a script with their numbers
 
 abbrev pub name_of_procedure : ScriptProcedure → ProcedureName
-name_of_procedure procedure = procedure_name procedure.process.0 procedure.name
+name_of_procedure procedure = qualified_name procedure.process.0 procedure.name
 
 abbrev pub tables_of : ScriptValue → Tables
 tables_of script =
@@ -105,32 +104,32 @@ tables_of script =
 
 -- from a script to its lines
 
-abbrev pub body_items : List Line → List Item
+abbrev pub body_items : List Line → List ScriptLine
 body_items body = map Do body ++ Do End ∷ []
 
-abbrev pub thread_items : ScriptThread → Bool → List Item
+abbrev pub thread_items : ScriptThread → Bool → List ScriptLine
 thread_items thread true = Spare thread.name ∷ []
 thread_items thread false = Thread thread.name ∷ body_items thread.body
 
-abbrev pub procedure_items : ScriptProcedure → List Item
+abbrev pub procedure_items : ScriptProcedure → List ScriptLine
 procedure_items procedure = Procedure procedure.name ∷ body_items procedure.body
 
 -- processes, threads and procedures in this order
-abbrev pub part_items : List Part → List ScriptProcess → List ScriptThread → List ScriptProcedure → List Item
+abbrev pub part_items : List Part → List ScriptProcess → List ScriptThread → List ScriptProcedure → List ScriptLine
 part_items (ProcessPart ∷ order) (process ∷ processes) threads procedures = Process process.name process.limit ∷ part_items order processes threads procedures
 part_items (ThreadPart ∷ order) processes (thread ∷ threads) procedures = thread_items thread thread.spare ++ part_items order processes threads procedures
 part_items (ProcedurePart ∷ order) processes threads (procedure ∷ procedures) = procedure_items procedure ++ part_items order processes threads procedures
 part_items order processes threads procedures = []
 
--- rows of 16 and a last with the rest; in the first row so many may stand behind the next thread
+-- rows of 16 and a last with the rest; in the first row so many may stand after the next thread
 abbrev pub rows_from : ℕ → List Tid → List (List Tid)
 rows_from room [] = []
 rows_from zero (thread ∷ threads) = (thread ∷ []) ∷ rows_from 15 threads
 rows_from (suc room) (thread ∷ threads) = onto_first thread (rows_from room threads)
 
-abbrev pub schedule_items : List Tid → List Item
+abbrev pub schedule_items : List Tid → List ScriptLine
 schedule_items schedule = map Schedule (rows_from 15 schedule)
 
--- the lines of a script behind the first, each once
-abbrev pub items_of : ScriptValue → List Item
+-- the lines of a script after the first, each once
+abbrev pub items_of : ScriptValue → List ScriptLine
 items_of script = Budget script.budget ∷ part_items script.order script.processes script.threads script.procedures ++ schedule_items script.schedule

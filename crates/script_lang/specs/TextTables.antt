@@ -2,10 +2,9 @@
 -- has a reason they are those of its script.
 use Rattle.std.specs.Prelude.{ℕ, ◌+◌, List, [], ◌∷◌, Option, Some, None, map, filter_map, take, bytes_eq, codes, if◌then◌else◌}
 use Rattle.std.specs.Option.{option_or}
-use Rattle.script_text.specs.Words.{words_of}
-use Rattle.script_text.specs.Names.{first_uses}
-use Rattle.script_line.specs.Tables.{Tables, ProcedureName}
-use Rattle.script_line.specs.Spelled.{procedure_name}
+use Rattle.script_text.specs.Words.{first_uses, words_of}
+use Rattle.script_line.specs.Words.{ProcedureName, Tables, qualified_name}
+use Rattle.dk_base.specs.declared.limits.TheConstants.{ALL_PROCEDURES_MAX, PROCESSES_MAX, THREADS_MAX}
 
 -- the second word of a line whose first is this
 abbrev pub second_of : List ℕ → List (List ℕ) → Option (List ℕ)
@@ -20,42 +19,42 @@ third_of keyword (word ∷ []) = None
 third_of keyword (word ∷ second ∷ []) = None
 third_of keyword (word ∷ second ∷ third ∷ words) = if bytes_eq word keyword then Some third else None
 
-abbrev pub process_in : List (List ℕ) → Option (List ℕ)
-process_in words = second_of (codes "process") words
+abbrev pub process_of_words : List (List ℕ) → Option (List ℕ)
+process_of_words words = second_of (codes "process") words
 
-abbrev pub thread_in : List (List ℕ) → Option (List ℕ)
-thread_in words = option_or (second_of (codes "spare") words) (second_of (codes "thread") words)
+abbrev pub thread_of_words : List (List ℕ) → Option (List ℕ)
+thread_of_words words = option_or (second_of (codes "spare") words) (second_of (codes "thread") words)
 
-abbrev pub procedure_in : List (List ℕ) → Option (List ℕ)
-procedure_in words = second_of (codes "proc") words
+abbrev pub procedure_of_words : List (List ℕ) → Option (List ℕ)
+procedure_of_words words = second_of (codes "proc") words
 
-abbrev pub path_in : List (List ℕ) → Option (List ℕ)
-path_in words =
+abbrev pub path_of_words : List (List ℕ) → Option (List ℕ)
+path_of_words words =
     option_or (third_of (codes "attach") words) (
     option_or (second_of (codes "detach") words) (
     option_or (third_of (codes "open") words) (second_of (codes "await") words)))
 
-abbrev pub process_behind : ℕ → Option (List ℕ) → ℕ
-process_behind process None = process
-process_behind process (Some name) = process + 1
+abbrev pub process_after : ℕ → Option (List ℕ) → ℕ
+process_after process None = process
+process_after process (Some name) = process + 1
 
-abbrev pub with_procedure : ℕ → Option (List ℕ) → List ProcedureName → List ProcedureName
-with_procedure process None others = others
-with_procedure process (Some name) others = procedure_name process name ∷ others
+abbrev pub procedure_names_with : ℕ → Option (List ℕ) → List ProcedureName → List ProcedureName
+procedure_names_with process None others = others
+procedure_names_with process (Some name) others = qualified_name process name ∷ others
 
 -- the procedures of these lines, where so many processes stand before
-abbrev pub procedures_from : ℕ → List (List (List ℕ)) → List ProcedureName
-procedures_from process [] = []
-procedures_from process (words ∷ lines) = with_procedure process (procedure_in words) (procedures_from (process_behind process (process_in words)) lines)
+abbrev pub procedure_names_from : ℕ → List (List (List ℕ)) → List ProcedureName
+procedure_names_from process [] = []
+procedure_names_from process (words ∷ lines) = procedure_names_with process (procedure_of_words words) (procedure_names_from (process_after process (process_of_words words)) lines)
 
 -- Of processes, threads and procedures only so many count as a script may have: in a text with more, a line has a reason.
 abbrev pub tables_of_words : List (List (List ℕ)) → Tables
 tables_of_words lines =
     record {
-      processes = take 64 (filter_map process_in lines);
-      threads = take 64 (filter_map thread_in lines);
-      procedures = take 4096 (procedures_from 0 lines);
-      paths = first_uses (filter_map path_in lines);
+      processes = take PROCESSES_MAX (filter_map process_of_words lines);
+      threads = take THREADS_MAX (filter_map thread_of_words lines);
+      procedures = take ALL_PROCEDURES_MAX (procedure_names_from 0 lines);
+      paths = first_uses (filter_map path_of_words lines);
     }
 
 unfoldable pub tables_of_lines : List (List ℕ) → Tables

@@ -2,20 +2,24 @@ ghost use Rattle.std.specs.Prelude.{◌≡◌};
 ghost use Rattle.script_lang.specs.declared.bad.ParseFault.TheVariants.{Memory};
 
 use dk_base::error::NoMemory;
-use script_line::fault::Fault;
+use line_reader::fault::Fault;
 use script_line::reason::Reason;
+use thiserror::Error;
 
 /// The first bad line of a text, counted from 1, and the reason.
-#[derive(Clone, Copy, Debug, PartialEq, Eq)]
+#[derive(Clone, Copy, Debug, PartialEq, Eq, Error)]
+#[error("bad line {line} {reason}")]
 pub struct Bad {
     pub line: u32,
     pub reason: Reason,
 }
 
 /// Why a text was not read.
-#[derive(Clone, Copy, Debug, PartialEq, Eq)]
+#[derive(Clone, Copy, Debug, PartialEq, Eq, Error)]
 pub enum ParseFault {
+    #[error("{0}")]
     Bad(Bad),
+    #[error("out of memory")]
     Memory,
 }
 

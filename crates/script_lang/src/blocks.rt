@@ -1,5 +1,5 @@
 ghost use Rattle.std.specs.Prelude.{◌≡◌, ◌<◌, ◌+◌, ◌^◌};
-ghost use Rattle.script_line.specs.Kinds.{kind_of as kind_of_line, depth_after as depth_behind};
+ghost use Rattle.script_line.specs.Words.{depth_after as depth_after_item, kind_of as kind_of_line};
 
 use script_line::line::{Kind, Line};
 
@@ -15,10 +15,10 @@ pub fn kind_of(line: &Line) -> Kind
     }
 }
 
-/// How many blocks are open behind a line, where so many are before it; none where the body ends.
+/// How many blocks are open after a line, where so many are before it; none where the body ends.
 pub fn depth_after(depth: u32, kind: Kind) -> Option<u32>
     requires { depth + 1 < 2 ^ 32 }
-    ensures { result ≡ depth_behind depth kind }
+    ensures { result ≡ depth_after_item depth kind }
 {
     match kind {
         Kind::Act => Some(depth),

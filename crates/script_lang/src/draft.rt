@@ -1,13 +1,15 @@
 ghost use Rattle.std.specs.Prelude.{◌≡◌, ◌≤◌, ◌∷◌, ◌++◌, [], true, length, OnOk};
-ghost use Rattle.script_line.specs.Kinds.{kind_of as kind_of_line, depth_after as depth_behind};
+ghost use Rattle.dk_base.specs.declared.limits.TheConstants.{DEPTH_MAX};
+ghost use Rattle.script_line.specs.Words.{depth_after as depth_after_item, kind_of as kind_of_line};
 ghost use Rattle.script_lang.specs.Scripts.{script_process};
 ghost use Rattle.script_lang.specs.IsScript.{IsScript};
-ghost use Rattle.script_lang.specs.Drafts.{empty_draft, opened, closed, drafted, with_part, with_thread, with_procedure, with_draft_line, script_of_draft};
+ghost use Rattle.script_lang.specs.Drafts.{empty_draft, draft_in_body, draft_after_body, draft_after, draft_with_part, draft_with_thread, draft_with_procedure, draft_with_line, script_of_draft};
 
 use crate::blocks::{depth_after, kind_of};
-use crate::item::Item;
+use crate::item::ScriptLine;
 use crate::script::{Part, Procedure, Script, ScriptProcess, ScriptThread};
 use dk_base::error::NoMemory;
+use dk_base::limits::BUDGET_MAX;
 use dk_base::list::{Bytes, Sequence, TidList};
 use dk_base::number::{Pid, Tid};
 use script_line::line::{Body, Line};
@@ -16,7 +18,7 @@ use std::alloc::Global;
 use std::mem;
 
 /// Whose body the lines are in.
-#[derive(Debug, Drop)]
+#[derive(Drop)]
 pub enum Owner {
     Nobody,
     Thread(Bytes),
@@ -24,7 +26,7 @@ pub enum Owner {
 }
 
 /// The parts of a script that the lines so far declare, and the body that they have begun.
-#[derive(Debug, Drop)]
+#[derive(Drop)]
 pub struct Draft {
     pub budget: u32,
     pub processes: Sequence<ScriptProcess>,
@@ -42,7 +44,7 @@ impl Draft {
         ensures { result ≡ empty_draft }
     {
         Draft {
-            budget: 100_000,
+            budget: BUDGET_MAX,
             processes: Sequence::new(alloc),
             threads: Sequence::new(alloc),
             procedures: Sequence::new(alloc),
@@ -55,7 +57,7 @@ impl Draft {
 
     /// A body begins, of a thread or a procedure.
     fn open(&mut self, alloc: Global, part: Part, owner: Owner) -> Result<(), NoMemory>
-        ensures { OnOk result (self.new ≡ opened self.old part owner) }
+        ensures { OnOk result (self.new ≡ draft_in_body self.old part owner) }
     {
         self.order.push(part)?;
         self.owner = owner;
@@ -71,7 +73,7 @@ impl Draft {
         body: Body,
     ) -> Result<(), NoMemory>
         requires { process.0 ≡ length self.old.processes }
-        ensures { OnOk result (self.new ≡ with_thread self.old name spare body) }
+        ensures { OnOk result (self.new ≡ draft_with_thread self.old name spare body) }
     {
         self.threads.push(ScriptThread {
             name,
@@ -83,7 +85,7 @@ impl Draft {
 
     fn add_procedure(&mut self, process: Pid, name: Bytes, body: Body) -> Result<(), NoMemory>
         requires { process.0 ≡ length self.old.processes }
-        ensures { OnOk result (self.new ≡ with_procedure self.old name body) }
+        ensures { OnOk result (self.new ≡ draft_with_procedure self.old name body) }
     {
         self.procedures.push(Procedure {
             name,
@@ -95,7 +97,7 @@ impl Draft {
     /// The body ends.
     fn close(&mut self, alloc: Global, process: Pid) -> Result<(), NoMemory>
         requires { process.0 ≡ length self.old.processes }
-        ensures { OnOk result (self.new ≡ closed self.old) }
+        ensures { OnOk result (self.new ≡ draft_after_body self.old) }
     {
         let body = mem::replace(&mut self.body, Sequence::new(alloc));
         match mem::replace(&mut self.owner, Owner::Nobody) {
@@ -114,8 +116,8 @@ impl Draft {
         line: Line,
     ) -> Result<(), NoMemory>
         requires process { process.0 ≡ length self.old.processes }
-        requires depth { depth ≤ 8 }
-        ensures { OnOk result (self.new ≡ with_draft_line self.old line (depth_behind depth (kind_of_line line))) }
+        requires depth { depth ≤ DEPTH_MAX }
+        ensures { OnOk result (self.new ≡ draft_with_line self.old line (depth_after_item depth (kind_of_line line))) }
     {
         match depth_after(depth, kind_of(&line)) {
             Some(_) => self.body.push(line),
@@ -124,7 +126,7 @@ impl Draft {
     }
 
     fn add_process(&mut self, name: Bytes, limit: u32) -> Result<(), NoMemory>
-        ensures { OnOk result (self.new ≡ with_part (record self.old { processes = self.old.processes ++ script_process name limit ∷ [] }) Part.Process) }
+        ensures { OnOk result (self.new ≡ draft_with_part (record self.old { processes = self.old.processes ++ script_process name limit ∷ [] }) Part.Process) }
     {
         self.processes.push(ScriptProcess { name, limit })?;
         self.order.push(Part::Process)
@@ -132,7 +134,7 @@ impl Draft {
 
     fn add_spare(&mut self, alloc: Global, process: Pid, name: Bytes) -> Result<(), NoMemory>
         requires { process.0 ≡ length self.old.processes }
-        ensures { OnOk result (self.new ≡ with_part (with_thread self.old name true []) Part.Thread) }
+        ensures { OnOk result (self.new ≡ draft_with_part (draft_with_thread self.old name true []) Part.Thread) }
     {
         self.add_thread(process, name, true, Sequence::new(alloc))?;
         self.order.push(Part::Thread)
@@ -147,28 +149,28 @@ impl Draft {
         Ok(())
     }
 
-    /// The item that stands behind these lines, where this is the last process, and so many blocks are open before it.
+    /// The item that stands after these lines, where this is the last process, and so many blocks are open before it.
     pub fn add(
         &mut self,
         alloc: Global,
         process: Pid,
         depth: u32,
-        item: Item,
+        item: ScriptLine,
     ) -> Result<(), NoMemory>
         requires process { process.0 ≡ length self.old.processes }
-        requires depth { depth ≤ 8 }
-        ensures { OnOk result (self.new ≡ drafted self.old depth item) }
+        requires depth { depth ≤ DEPTH_MAX }
+        ensures { OnOk result (self.new ≡ draft_after self.old depth item) }
     {
         match item {
-            Item::Budget { events } => self.budget = events,
-            Item::Process { name, limit } => self.add_process(name, limit)?,
-            Item::Spare { name } => self.add_spare(alloc, process, name)?,
-            Item::Thread { name } => self.open(alloc, Part::Thread, Owner::Thread(name))?,
-            Item::Procedure { name } => {
+            ScriptLine::Budget { events } => self.budget = events,
+            ScriptLine::Process { name, limit } => self.add_process(name, limit)?,
+            ScriptLine::Spare { name } => self.add_spare(alloc, process, name)?,
+            ScriptLine::Thread { name } => self.open(alloc, Part::Thread, Owner::Thread(name))?,
+            ScriptLine::Procedure { name } => {
                 self.open(alloc, Part::Procedure, Owner::Procedure(name))?;
             }
-            Item::Do { line } => self.add_line(alloc, process, depth, line)?,
-            Item::Schedule { threads } => self.add_turns(threads.slice())?,
+            ScriptLine::Do { line } => self.add_line(alloc, process, depth, line)?,
+            ScriptLine::Schedule { threads } => self.add_turns(threads.slice())?,
         }
         Ok(())
     }

@@ -1,9 +1,9 @@
 use dk_base::list::{Bytes, TidList};
 use script_line::line::Line;
 
-/// A line of a script behind the first, with numbers in place of names.
-#[derive(Debug, Drop)]
-pub enum Item {
+/// A line of a script after the first, with numbers in place of names.
+#[derive(Drop)]
+pub enum ScriptLine {
     /// `budget N`
     Budget { events: u32 },
     /// `process NAME`, `process NAME limit N`
@@ -21,23 +21,23 @@ pub enum Item {
 }
 
 /// A line as it was read, and whether each procedure, thread and process that it names is declared.
-#[derive(Debug, Drop)]
-pub struct ItemRead {
-    pub item: Item,
+#[derive(Drop)]
+pub struct ScriptLineRead {
+    pub item: ScriptLine,
     pub known: bool,
 }
 
 /// Where a line stands.
-#[derive(Clone, Copy, Debug, PartialEq, Eq)]
-pub enum Place {
-    /// Behind the first line.
+#[derive(Clone, Copy, PartialEq, Eq)]
+pub enum ScriptPlace {
+    /// After the first line.
     Start,
-    /// Behind the budget.
+    /// After the budget.
     Processes,
     /// In a process, between its members.
     Members,
     /// In a thread or a procedure.
     Body,
-    /// Behind a schedule.
+    /// After a schedule.
     Schedule,
 }

@@ -4,21 +4,19 @@
 pub mod bad;
 pub mod bad_text;
 pub mod blocks;
+mod context;
 mod copy;
 mod declared;
 mod draft;
 pub mod item;
 mod items;
 pub mod laws;
-mod line_reader;
 mod names;
 pub mod parse;
 pub mod print;
 mod same;
 pub mod script;
-mod standing;
-#[cfg(test)]
-mod tests;
+mod text_lines;
 mod text_reader;
 mod variables;
 pub mod worked;

@@ -1,12 +1,12 @@
 //! The names that a text declares and the paths that it uses, by the first words of its lines.
 
 ghost use Rattle.std.specs.Prelude.{◌≡◌, ◌≤◌, ◌<◌, ◌+◌, ◌^◌, [], Some, IfOk, OnOk, option_copied, length};
-ghost use Rattle.script_text.specs.Lines.{lines_of};
-ghost use Rattle.script_text.specs.Words.{words_of};
-ghost use Rattle.script_lang.specs.TextTables.{second_of as second_of_words, third_of as third_of_words, process_in as process_in_words, thread_in as thread_in_words, procedure_in as procedure_in_words, path_in as path_in_words, tables_of_lines};
-ghost use Rattle.script_lang.specs.NamesThen.{with_process, with_thread, with_procedure, names_of_line};
+ghost use Rattle.script_text.specs.Words.{lines_of, words_of};
+ghost use Rattle.script_lang.specs.TextTables.{second_of as second_of_words, third_of as third_of_words, process_of_words, thread_of_words, procedure_of_words, path_of_words, tables_of_lines};
+ghost use Rattle.script_lang.specs.NamesThen.{names_with_process, names_with_thread, names_with_procedure, names_of_line};
 
 use dk_base::error::NoMemory;
+use dk_base::limits::{ALL_PROCEDURES_MAX, PROCESSES_MAX, THREADS_MAX};
 use script_line::tables::Tables;
 use script_text::lines::next_line;
 use script_text::words::next_word;
@@ -39,14 +39,14 @@ fn third_of<'a>(keyword: &str, line: &'a [u8]) -> Option<&'a [u8]>
     }
 }
 
-fn process_in(line: &[u8]) -> Option<&[u8]>
-    ensures { option_copied result ≡ process_in_words (words_of line.now) }
+fn process_of_line(line: &[u8]) -> Option<&[u8]>
+    ensures { option_copied result ≡ process_of_words (words_of line.now) }
 {
     second_of("process", line)
 }
 
-fn thread_in(line: &[u8]) -> Option<&[u8]>
-    ensures { option_copied result ≡ thread_in_words (words_of line.now) }
+fn thread_of_line(line: &[u8]) -> Option<&[u8]>
+    ensures { option_copied result ≡ thread_of_words (words_of line.now) }
 {
     match second_of("spare", line) {
         Some(name) => Some(name),
@@ -54,14 +54,14 @@ fn thread_in(line: &[u8]) -> Option<&[u8]>
     }
 }
 
-fn procedure_in(line: &[u8]) -> Option<&[u8]>
-    ensures { option_copied result ≡ procedure_in_words (words_of line.now) }
+fn procedure_of_line(line: &[u8]) -> Option<&[u8]>
+    ensures { option_copied result ≡ procedure_of_words (words_of line.now) }
 {
     second_of("proc", line)
 }
 
-fn path_in(line: &[u8]) -> Option<&[u8]>
-    ensures { option_copied result ≡ path_in_words (words_of line.now) }
+fn path_of_line(line: &[u8]) -> Option<&[u8]>
+    ensures { option_copied result ≡ path_of_words (words_of line.now) }
 {
     if let Some(path) = third_of("attach", line) {
         return Some(path);
@@ -85,28 +85,28 @@ pub struct Names {
 impl Names {
     fn add_process(&mut self, alloc: Global, name: &[u8]) -> Result<(), NoMemory>
         requires { self.old.process + 1 < 2 ^ 32 }
-        ensures { OnOk result (self.new ≡ with_process self.old (Some name.now)) }
+        ensures { OnOk result (self.new ≡ names_with_process self.old (Some name.now)) }
     {
         self.process += 1;
-        if self.tables.process_count() >= 64 {
+        if self.tables.process_count() >= PROCESSES_MAX {
             return Ok(());
         }
         self.tables.add_process(alloc, name)
     }
 
     fn add_thread(&mut self, alloc: Global, name: &[u8]) -> Result<(), NoMemory>
-        ensures { OnOk result (self.new ≡ with_thread self.old (Some name.now)) }
+        ensures { OnOk result (self.new ≡ names_with_thread self.old (Some name.now)) }
     {
-        if self.tables.thread_count() >= 64 {
+        if self.tables.thread_count() >= THREADS_MAX {
             return Ok(());
         }
         self.tables.add_thread(alloc, name)
     }
 
     fn add_procedure(&mut self, alloc: Global, name: &[u8]) -> Result<(), NoMemory>
-        ensures { OnOk result (self.new ≡ with_procedure self.old (Some name.now)) }
+        ensures { OnOk result (self.new ≡ names_with_procedure self.old (Some name.now)) }
     {
-        if self.tables.procedure_count() >= 4096 {
+        if self.tables.procedure_count() >= ALL_PROCEDURES_MAX as u32 {
             return Ok(());
         }
         let process = self.process;
@@ -119,16 +119,16 @@ impl Names {
         requires paths { length self.old.tables.paths < 4294967294 }
         ensures { OnOk result (self.new ≡ names_of_line self.old (words_of line.now)) }
     {
-        if let Some(name) = procedure_in(line) {
+        if let Some(name) = procedure_of_line(line) {
             self.add_procedure(alloc, name)?;
         }
-        if let Some(name) = thread_in(line) {
+        if let Some(name) = thread_of_line(line) {
             self.add_thread(alloc, name)?;
         }
-        if let Some(name) = process_in(line) {
+        if let Some(name) = process_of_line(line) {
             self.add_process(alloc, name)?;
         }
-        if let Some(path) = path_in(line) {
+        if let Some(path) = path_of_line(line) {
             self.tables.add_path(alloc, path)?;
         }
         Ok(())

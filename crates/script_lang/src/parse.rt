@@ -1,14 +1,14 @@
 ghost use Rattle.std.specs.Prelude.{◌≡◌, ◌<◌, length, MatchResult, Ok};
-ghost use Rattle.script_lang.specs.Reading.{reading, version_of as version_of_line};
+ghost use Rattle.script_lang.specs.Parsing.{parse_result, version_of as version_of_line};
 ghost use Rattle.script_lang.specs.Decided.{IsParsed};
-ghost use Rattle.script_lang.specs.Remaining.{Refuses};
+ghost use Rattle.script_lang.specs.TextReaderContracts.{Refuses};
 
 use crate::bad::ParseFault;
-use crate::line_reader::{LineReader, is_printable_line};
 use crate::names::tables_of_text;
 use crate::script::Script;
+use crate::text_lines::{LineReader, is_printable_line};
 use crate::text_reader::TextReader;
-use script_line::fault::Fault;
+use line_reader::fault::Fault;
 use script_line::reason::Reason;
 use script_text::lines::next_line;
 use std::alloc::Global;
@@ -24,10 +24,10 @@ fn version_of(line: &[u8]) -> Option<u32>
     }
 }
 
-#[tactic(auto, unfolding(crate::specs::Reading::reading))]
+#[tactic(auto, unfolding(crate::specs::Parsing::parse_result))]
 fn read(alloc: Global, text: &[u8]) -> Result<Script, ParseFault>
     requires { length text.now < 4000000000 }
-    ensures { MatchResult result (λ script. reading text.now ≡ Ok script) (λ fault. Refuses (reading text.now) fault) }
+    ensures { MatchResult result (λ script. parse_result text.now ≡ Ok script) (λ fault. Refuses (parse_result text.now) fault) }
 {
     let Some((first, rest)) = next_line(text) else {
         return Err(ParseFault::at(1, Fault::Bad(Reason::Header)));
@@ -53,7 +53,7 @@ fn read(alloc: Global, text: &[u8]) -> Result<Script, ParseFault>
 pub fn parse(alloc: Global, text: &[u8]) -> Result<Script, ParseFault>
     requires { length text.now < 4000000000 }
     ensures spelled { IsParsed text.now result }
-    ensures read { MatchResult result (λ script. reading text.now ≡ Ok script) (λ fault. Refuses (reading text.now) fault) }
+    ensures read { MatchResult result (λ script. parse_result text.now ≡ Ok script) (λ fault. Refuses (parse_result text.now) fault) }
 {
     read(alloc, text)
 }

@@ -1,12 +1,12 @@
 //! The canonical text of a script: no skipped lines, single spaces and no indentation.
 
 ghost use Rattle.std.specs.Prelude.{◌≡◌, ◌∷◌, [], ◌++◌, map, codes, Ok, IfOk, OnOk, MatchOption};
-ghost use Rattle.script_text.specs.Words.{joined, spaced};
+ghost use Rattle.script_text.specs.Words.{joined_words, spaced_words};
 ghost use Rattle.script_line.specs.Words.{thread_word};
-ghost use Rattle.script_lang.specs.declared.item.Item.TheVariants.{Budget, Process, Do, Schedule};
-ghost use Rattle.script_lang.specs.Canonical.{canonical};
-ghost use Rattle.script_lang.specs.Printed.{items_text, PutsItems, declared_items};
-ghost use Rattle.script_lang.specs.Reading.{reading};
+ghost use Rattle.script_lang.specs.declared.item.ScriptLine.TheVariants.{Budget, Process, Do, Schedule};
+ghost use Rattle.script_lang.specs.Canonical.{canonical_text};
+ghost use Rattle.script_lang.specs.Printed.{items_text, PutsScriptLines, declared_items};
+ghost use Rattle.script_lang.specs.Parsing.{parse_result};
 ghost use Rattle.script_lang.specs.Spelled.{spells};
 ghost use Rattle.script_lang.specs.Scripts.{body_items, thread_items, procedure_items, schedule_items, tables_of, items_of};
 
@@ -14,8 +14,8 @@ use crate::script::{Part, Procedure, Script, ScriptProcess, ScriptThread};
 use dk_base::error::NoMemory;
 use dk_base::list::Bytes;
 use dk_base::number::Tid;
+use line_writer::put_line::put_line;
 use script_line::line::Line;
-use script_line::put_line::put_line;
 use script_line::tables::Tables;
 use script_text::writer::Writer;
 use std::alloc::Global;
@@ -28,7 +28,7 @@ fn put_budget(
     text: &mut Writer,
     budget: u32,
 ) -> Result<(), NoMemory>
-    ensures { PutsItems tables.now (Budget budget ∷ []) text.old result text.new }
+    ensures { PutsScriptLines tables.now (Budget budget ∷ []) text.old result text.new }
 {
     text.first(b"budget")?;
     text.number(alloc, u64::from(budget))?;
@@ -37,7 +37,7 @@ fn put_budget(
 
 /// A keyword and a name.
 fn put_named(text: &mut Writer, keyword: &[u8], name: &Bytes) -> Result<(), NoMemory>
-    ensures { OnOk result (text.new ≡ text.old ++ joined (keyword.now ∷ name.now ∷ []) ++ 10 ∷ []) }
+    ensures { OnOk result (text.new ≡ text.old ++ joined_words (keyword.now ∷ name.now ∷ []) ++ 10 ∷ []) }
 {
     text.first(keyword)?;
     text.word(name.slice())?;
@@ -51,7 +51,7 @@ fn put_process(
     text: &mut Writer,
     process: &ScriptProcess,
 ) -> Result<(), NoMemory>
-    ensures { PutsItems tables.now (Process process.now.name process.now.limit ∷ []) text.old result text.new }
+    ensures { PutsScriptLines tables.now (Process process.now.name process.now.limit ∷ []) text.old result text.new }
 {
     text.first(b"process")?;
     text.word(process.name.slice())?;
@@ -66,7 +66,7 @@ fn put_lines(
     text: &mut Writer,
     lines: &[Line],
 ) -> Result<(), NoMemory>
-    ensures { PutsItems tables.now (map Do lines.now) text.old result text.new }
+    ensures { PutsScriptLines tables.now (map Do lines.now) text.old result text.new }
 {
     for line in lines {
         put_line(alloc, tables, text, line)?;
@@ -83,7 +83,7 @@ fn put_body(
     text: &mut Writer,
     body: &[Line],
 ) -> Result<(), NoMemory>
-    ensures { PutsItems tables.now (body_items body.now) text.old result text.new }
+    ensures { PutsScriptLines tables.now (body_items body.now) text.old result text.new }
 {
     put_lines(alloc, tables, text, body)?;
     text.first(b"end")?;
@@ -96,7 +96,7 @@ fn put_thread(
     text: &mut Writer,
     thread: &ScriptThread,
 ) -> Result<(), NoMemory>
-    ensures { PutsItems tables.now (thread_items thread.now thread.now.spare) text.old result text.new }
+    ensures { PutsScriptLines tables.now (thread_items thread.now thread.now.spare) text.old result text.new }
 {
     if thread.spare {
         return put_named(text, b"spare", &thread.name);
@@ -111,7 +111,7 @@ fn put_procedure(
     text: &mut Writer,
     procedure: &Procedure,
 ) -> Result<(), NoMemory>
-    ensures { PutsItems tables.now (procedure_items procedure.now) text.old result text.new }
+    ensures { PutsScriptLines tables.now (procedure_items procedure.now) text.old result text.new }
 {
     put_named(text, b"proc", &procedure.name)?;
     put_body(alloc, tables, text, procedure.body.slice())
@@ -127,24 +127,24 @@ enum Declared<'a> {
 
 /// The parts of a script that are still to be printed. Clauses see their lines.
 #[derive(Drop)]
-struct Parts<'a> {
+struct Unprinted<'a> {
     order: &'a [Part],
     processes: &'a [ScriptProcess],
     threads: &'a [ScriptThread],
     procedures: &'a [Procedure],
 }
 
-impl<'a> Model for Parts<'a> {
+impl<'a> Model for Unprinted<'a> {
     ghost use Rattle.std.specs.Prelude.{List};
-    ghost use Rattle.script_lang.specs.declared.item.Item.{Item};
+    ghost use Rattle.script_lang.specs.declared.item.ScriptLine.{ScriptLine};
     ghost use Rattle.script_lang.specs.Scripts.{part_items};
 
-    ghost Value = { List Item };
+    ghost Value = { List ScriptLine };
 
     ghost view = { λ parts. part_items parts.order.now parts.processes.now parts.threads.now parts.procedures.now };
 }
 
-impl<'a> Parts<'a> {
+impl<'a> Unprinted<'a> {
     /// The first of them.
     fn next(&mut self) -> Option<Declared<'a>>
         ensures { MatchOption result (self.old ≡ []) (λ part. self.old ≡ declared_items part ++ self.new) }
@@ -179,7 +179,7 @@ fn put_part(
     text: &mut Writer,
     part: Declared,
 ) -> Result<(), NoMemory>
-    ensures { PutsItems tables.now (declared_items part.entry) text.old result text.new }
+    ensures { PutsScriptLines tables.now (declared_items part.entry) text.old result text.new }
 {
     match part {
         Declared::Process(process) => put_process(alloc, tables, text, process),
@@ -192,9 +192,9 @@ fn put_parts(
     alloc: Global,
     tables: &Tables,
     text: &mut Writer,
-    mut parts: Parts,
+    mut parts: Unprinted,
 ) -> Result<(), NoMemory>
-    ensures { PutsItems tables.now parts.entry text.old result text.new }
+    ensures { PutsScriptLines tables.now parts.entry text.old result text.new }
 {
     while let Some(part) = parts.next() {
         put_part(alloc, tables, text, part)?;
@@ -204,7 +204,7 @@ fn put_parts(
 
 /// The names of these threads.
 fn put_threads(tables: &Tables, text: &mut Writer, threads: &[Tid]) -> Result<(), NoMemory>
-    ensures { OnOk result (text.new ≡ text.old ++ spaced (map (thread_word tables.now) threads.now)) }
+    ensures { OnOk result (text.new ≡ text.old ++ spaced_words (map (thread_word tables.now) threads.now)) }
 {
     for thread in threads {
         text.word(tables.thread_name(*thread))?;
@@ -215,7 +215,7 @@ fn put_threads(tables: &Tables, text: &mut Writer, threads: &[Tid]) -> Result<()
 /// `schedule NAME ..`
 #[tactic(auto, using(crate::proofs::PrintSteps::schedule_ends))]
 fn put_schedule(tables: &Tables, text: &mut Writer, threads: &[Tid]) -> Result<(), NoMemory>
-    ensures { PutsItems tables.now (Schedule threads.now ∷ []) text.old result text.new }
+    ensures { PutsScriptLines tables.now (Schedule threads.now ∷ []) text.old result text.new }
 {
     text.first(b"schedule")?;
     put_threads(tables, text, threads)?;
@@ -224,7 +224,7 @@ fn put_schedule(tables: &Tables, text: &mut Writer, threads: &[Tid]) -> Result<(
 
 /// Lines of 16 names, and a last with the rest.
 fn put_schedules(tables: &Tables, text: &mut Writer, schedule: &[Tid]) -> Result<(), NoMemory>
-    ensures { PutsItems tables.now (schedule_items schedule.now) text.old result text.new }
+    ensures { PutsScriptLines tables.now (schedule_items schedule.now) text.old result text.new }
 {
     let mut rest = schedule;
     while !rest.is_empty() {
@@ -239,7 +239,7 @@ fn put_script(alloc: Global, text: &mut Writer, script: &Script) -> Result<(), N
     ensures { OnOk result (text.new ≡ text.old ++ items_text (tables_of script.now) (items_of script.now)) }
 {
     put_budget(alloc, &script.tables, text, script.budget)?;
-    let parts = Parts {
+    let parts = Unprinted {
         order: script.order.slice(),
         processes: script.processes.slice(),
         threads: script.threads.slice(),
@@ -249,9 +249,9 @@ fn put_script(alloc: Global, text: &mut Writer, script: &Script) -> Result<(), N
     put_schedules(&script.tables, text, script.schedule.slice())
 }
 
-#[tactic(auto, unfolding(crate::specs::Canonical::canonical))]
+#[tactic(auto, unfolding(crate::specs::Canonical::canonical_text))]
 fn text_of(alloc: Global, script: &Script) -> Result<Bytes, NoMemory>
-    ensures { IfOk result (λ text. text ≡ canonical script.now) }
+    ensures { IfOk result (λ text. text ≡ canonical_text script.now) }
 {
     let mut text = Writer::new(alloc)?;
     text.first(b"doors script 1")?;
@@ -262,9 +262,9 @@ fn text_of(alloc: Global, script: &Script) -> Result<Bytes, NoMemory>
 
 /// The canonical text of a script. It spells the script, and is read as it.
 pub fn print(alloc: Global, script: &Script) -> Result<Bytes, NoMemory>
-    ensures canonical { IfOk result (λ text. text ≡ canonical script.now) }
+    ensures canonical { IfOk result (λ text. text ≡ canonical_text script.now) }
     ensures spelled { IfOk result (λ text. spells text script.now) }
-    ensures again { IfOk result (λ text. reading text ≡ Ok script.now) }
+    ensures again { IfOk result (λ text. parse_result text ≡ Ok script.now) }
 {
     script.is_spelled();
     let text = text_of(alloc, script)?;

@@ -1,7 +1,7 @@
 //! Whether two scripts are the same.
 
 ghost use Rattle.std.specs.Prelude.{◌≡◌, ◌↔◌, IsTrue};
-ghost use Rattle.script_lang.specs.SameScript.{part_exact, process_exact, thread_exact, procedure_exact};
+ghost use Rattle.script_lang.specs.SameScript.{part_exact, script_process_exact, script_thread_exact, script_procedure_exact};
 
 use crate::script::{Part, Procedure, Script, ScriptProcess, ScriptThread};
 use dk_base::exact::Exact;
@@ -11,15 +11,15 @@ impl Exact for Part {
 }
 
 impl Exact for ScriptProcess {
-    ghost exact = { process_exact };
+    ghost exact = { script_process_exact };
 }
 
 impl Exact for ScriptThread {
-    ghost exact = { thread_exact };
+    ghost exact = { script_thread_exact };
 }
 
 impl Exact for Procedure {
-    ghost exact = { procedure_exact };
+    ghost exact = { script_procedure_exact };
 }
 
 impl Script {

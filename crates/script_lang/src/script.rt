@@ -1,4 +1,4 @@
-use crate::laws::texts_found;
+use crate::laws;
 use dk_base::list::{Bytes, Sequence, TidList};
 use dk_base::number::{Pid, Tid};
 use script_line::line::Body;
@@ -6,7 +6,7 @@ use script_line::tables::Tables;
 use std::marker::Model;
 
 /// A process of a script. Processes are numbered from 1 in order.
-#[derive(Debug, Drop, PartialEq)]
+#[derive(Drop, PartialEq)]
 pub struct ScriptProcess {
     pub name: Bytes,
     /// How many descriptors it may have, at most 256.
@@ -14,7 +14,7 @@ pub struct ScriptProcess {
 }
 
 /// A thread of a script, or a spare, whose body is empty. They are numbered together from 1 in order.
-#[derive(Debug, Drop, PartialEq)]
+#[derive(Drop, PartialEq)]
 pub struct ScriptThread {
     pub name: Bytes,
     pub process: Pid,
@@ -23,7 +23,7 @@ pub struct ScriptThread {
 }
 
 /// A server procedure. Procedures are numbered from 0 over the whole script; the number is the `entry` of its doors.
-#[derive(Debug, Drop, PartialEq)]
+#[derive(Drop, PartialEq)]
 pub struct Procedure {
     pub name: Bytes,
     pub process: Pid,
@@ -31,7 +31,7 @@ pub struct Procedure {
 }
 
 /// What a line declares.
-#[derive(Clone, Copy, Debug, PartialEq, Eq)]
+#[derive(Clone, Copy, PartialEq, Eq)]
 pub enum Part {
     Process,
     /// A thread or a spare.
@@ -66,18 +66,18 @@ impl Model for Script {
 
 impl Script {
     ghost use Rattle.std.specs.Prelude.{◌≡◌, ◌<◌, ◌≤◌, length, Some, Ok, option_map, slice_get};
-    ghost use Rattle.script_line.specs.Tables.{numbered};
-    ghost use Rattle.script_lang.specs.Canonical.{canonical};
-    ghost use Rattle.script_lang.specs.Reading.{reading};
+    ghost use Rattle.dk_base.specs.ByNumber.{at_number};
+    ghost use Rattle.script_lang.specs.Canonical.{canonical_text};
+    ghost use Rattle.script_lang.specs.Parsing.{parse_result};
     ghost use Rattle.script_lang.specs.Spelled.{spells};
 
     /// The canonical text of every script spells it, and is read as it. It does nothing: callers have the law by it.
     pub fn is_spelled(&self)
-        ensures spelled { spells (canonical self.now) self.now }
-        ensures again { reading (canonical self.now) ≡ Ok self.now }
+        ensures spelled { spells (canonical_text self.now) self.now }
+        ensures again { parse_result (canonical_text self.now) ≡ Ok self.now }
     {
         let _tables = &self.tables;
-        texts_found();
+        laws::read_is_spelled();
     }
 
     /// At most this many events are made.
@@ -112,7 +112,7 @@ impl Script {
     pub fn limit(&self, process: Pid) -> u32
         requires first { 1 ≤ process.0 }
         requires declared { process.0 ≤ length self.now.processes }
-        ensures { option_map (λ of. of.limit) (numbered self.now.processes process.0) ≡ Some result }
+        ensures { option_map (λ of. of.limit) (at_number self.now.processes process.0) ≡ Some result }
     {
         self.processes.slice()[process.0 as usize - 1].limit
     }
@@ -121,7 +121,7 @@ impl Script {
     pub fn process_of(&self, thread: Tid) -> Pid
         requires first { 1 ≤ thread.0 }
         requires declared { thread.0 ≤ length self.now.threads }
-        ensures { option_map (λ of. of.process) (numbered self.now.threads thread.0) ≡ Some result }
+        ensures { option_map (λ of. of.process) (at_number self.now.threads thread.0) ≡ Some result }
     {
         self.threads.slice()[thread.0 as usize - 1].process
     }
@@ -130,7 +130,7 @@ impl Script {
     pub fn is_spare(&self, thread: Tid) -> bool
         requires first { 1 ≤ thread.0 }
         requires declared { thread.0 ≤ length self.now.threads }
-        ensures { option_map (λ of. of.spare) (numbered self.now.threads thread.0) ≡ Some result }
+        ensures { option_map (λ of. of.spare) (at_number self.now.threads thread.0) ≡ Some result }
     {
         self.threads.slice()[thread.0 as usize - 1].spare
     }
@@ -138,7 +138,7 @@ impl Script {
     pub fn thread_name(&self, thread: Tid) -> &Bytes
         requires first { 1 ≤ thread.0 }
         requires declared { thread.0 ≤ length self.now.threads }
-        ensures { option_map (λ of. of.name) (numbered self.now.threads thread.0) ≡ Some result.now }
+        ensures { option_map (λ of. of.name) (at_number self.now.threads thread.0) ≡ Some result.now }
     {
         &self.threads.slice()[thread.0 as usize - 1].name
     }
@@ -147,7 +147,7 @@ impl Script {
     pub fn thread_body(&self, thread: Tid) -> &Body
         requires first { 1 ≤ thread.0 }
         requires declared { thread.0 ≤ length self.now.threads }
-        ensures { option_map (λ of. of.body) (numbered self.now.threads thread.0) ≡ Some result.now }
+        ensures { option_map (λ of. of.body) (at_number self.now.threads thread.0) ≡ Some result.now }
     {
         &self.threads.slice()[thread.0 as usize - 1].body
     }

@@ -1,6 +1,6 @@
 ghost use Rattle.std.specs.Prelude.{◌≡◌, ◌++◌, flat_map, OnOk};
-ghost use Rattle.script_text.specs.Names.{with_name, with_names};
-ghost use Rattle.script_line.specs.Uses.{fd_variables, pass_variables, piece_variables, variables_of};
+ghost use Rattle.script_text.specs.Words.{with_distinct_name, with_distinct_names};
+ghost use Rattle.script_line.specs.Words.{fd_variables, pass_variables, piece_variables, variables_of};
 
 use dk_base::error::NoMemory;
 use dk_base::list::{Bytes, Sequence};
@@ -8,9 +8,9 @@ use script_line::line::{FdArg, Line, PassArg, Piece};
 use script_text::names::add_name;
 use std::alloc::Global;
 
-/// Puts the variable of a descriptor behind these names, unless it is among them.
+/// Puts the variable of a descriptor after these names, unless it is among them.
 fn add_of_fd(alloc: Global, names: &mut Sequence<Bytes>, fd: &FdArg) -> Result<(), NoMemory>
-    ensures { OnOk result (names.new ≡ with_names names.old (fd_variables fd.now)) }
+    ensures { OnOk result (names.new ≡ with_distinct_names names.old (fd_variables fd.now)) }
 {
     match fd {
         FdArg::Number(_) => Ok(()),
@@ -20,7 +20,7 @@ fn add_of_fd(alloc: Global, names: &mut Sequence<Bytes>, fd: &FdArg) -> Result<(
 
 #[tactic(auto, using(crate::proofs::WithNames::with_names_append))]
 fn add_of_fds(alloc: Global, names: &mut Sequence<Bytes>, fds: &[FdArg]) -> Result<(), NoMemory>
-    ensures { OnOk result (names.new ≡ with_names names.old (flat_map fd_variables fds.now)) }
+    ensures { OnOk result (names.new ≡ with_distinct_names names.old (flat_map fd_variables fds.now)) }
 {
     for fd in fds {
         add_of_fd(alloc, names, fd)?;
@@ -34,7 +34,7 @@ fn add_of_passes(
     names: &mut Sequence<Bytes>,
     passes: &[PassArg],
 ) -> Result<(), NoMemory>
-    ensures { OnOk result (names.new ≡ with_names names.old (flat_map pass_variables passes.now)) }
+    ensures { OnOk result (names.new ≡ with_distinct_names names.old (flat_map pass_variables passes.now)) }
 {
     for pass in passes {
         add_of_fd(alloc, names, &pass.fd)?;
@@ -43,7 +43,7 @@ fn add_of_passes(
 }
 
 fn add_of_piece(alloc: Global, names: &mut Sequence<Bytes>, piece: &Piece) -> Result<(), NoMemory>
-    ensures { OnOk result (names.new ≡ with_names names.old (piece_variables piece.now)) }
+    ensures { OnOk result (names.new ≡ with_distinct_names names.old (piece_variables piece.now)) }
 {
     match piece {
         Piece::Of(name) => add_name(alloc, names, name.slice()),
@@ -57,7 +57,7 @@ fn add_of_pieces(
     names: &mut Sequence<Bytes>,
     pieces: &[Piece],
 ) -> Result<(), NoMemory>
-    ensures { OnOk result (names.new ≡ with_names names.old (flat_map piece_variables pieces.now)) }
+    ensures { OnOk result (names.new ≡ with_distinct_names names.old (flat_map piece_variables pieces.now)) }
 {
     for piece in pieces {
         add_of_piece(alloc, names, piece)?;
@@ -65,14 +65,14 @@ fn add_of_pieces(
     Ok(())
 }
 
-/// Puts the variables of a line behind these names, each that is not among them.
+/// Puts the variables of a line after these names, each that is not among them.
 #[tactic(auto, using(crate::proofs::WithNames::with_names_append))]
 pub fn add_variables(
     alloc: Global,
     names: &mut Sequence<Bytes>,
     line: &Line,
 ) -> Result<(), NoMemory>
-    ensures { OnOk result (names.new ≡ with_names names.old (variables_of line.now)) }
+    ensures { OnOk result (names.new ≡ with_distinct_names names.old (variables_of line.now)) }
 {
     match line {
         Line::Create { var, .. } | Line::Open { var, .. } | Line::PortCreate { var } => add_name(

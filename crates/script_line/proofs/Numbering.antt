@@ -5,10 +5,11 @@ use Rattle.std.specs.List.{position_or_len, list_any}
 use Rattle.std.proofs.lemmas.Bool.{false≢true, and_parts, or_parts}
 use Rattle.std.proofs.lemmas.Bool.Decides.{nat_tests}
 use Rattle.std.proofs.lemmas.Slice.Eq.{bytes_eq-Decides}
-use Rattle.script_text.specs.Names.{are_distinct}
-use Rattle.script_line.specs.Tables.{Tables, ProcedureName, is_same, is_procedure, from_one, entry_number, path_number, numbered}
-use Rattle.script_line.specs.DistinctTables.{same_procedure}
-use Rattle.script_line.specs.Spelled.{procedure_name}
+use Rattle.script_text.specs.Words.{are_distinct}
+use Rattle.dk_base.specs.ByNumber.{at_number}
+use Rattle.script_line.specs.Tables.{Tables, ProcedureName, is_same, is_procedure, from_one, entry_number, path_number}
+use Rattle.script_line.specs.DistinctTables.{is_same_procedure}
+use Rattle.script_line.specs.Spelled.{qualified_name}
 
 abbrev some_or : {A : Type 0} → A → Option A → A
 some_or x None = x
@@ -31,14 +32,14 @@ record Passes {A : Type 0} (test : A → Bool) (xs : List A) (i : ℕ) : Type 0 
   at : slice_get xs i ≡ Some item
   passes : test item ≡ true
 
-passes_behind : {A : Type 0} (test : A → Bool) (x : A) (xs : List A) (i j : ℕ) → j ≡ 1 + i → Passes test xs i → Passes test (x ∷ xs) j
-passes_behind test x xs i zero e found = absurd (omega arith)
-passes_behind test x xs i (suc j) e found = let same : i ≡ j = omega arith in record { item = found.item; at = ap (slice_get xs) (sym same) ∙ found.at; passes = found.passes }
+passes_after : {A : Type 0} (test : A → Bool) (x : A) (xs : List A) (i j : ℕ) → j ≡ 1 + i → Passes test xs i → Passes test (x ∷ xs) j
+passes_after test x xs i zero e found = absurd (omega arith)
+passes_after test x xs i (suc j) e found = let same : i ≡ j = omega arith in record { item = found.item; at = ap (slice_get xs) (sym same) ∙ found.at; passes = found.passes }
 
 first_if : {A : Type 0} (test : A → Bool) (x : A) (xs : List A) (here : Bool) → test x ≡ here → (position_or_len test xs < length xs → Passes test xs (position_or_len test xs))
     → cond (not here) (1 + position_or_len test xs) 0 < length (x ∷ xs) → Passes test (x ∷ xs) (cond (not here) (1 + position_or_len test xs) 0)
 first_if test x xs true is later within = record { item = x; at = refl; passes = is }
-first_if test x xs false is later within = passes_behind test x xs (position_or_len test xs) (1 + position_or_len test xs) refl (later (omega arith))
+first_if test x xs false is later within = passes_after test x xs (position_or_len test xs) (1 + position_or_len test xs) refl (later (omega arith))
 
 first_passes : {A : Type 0} (test : A → Bool) (xs : List A) → position_or_len test xs < length xs → Passes test xs (position_or_len test xs)
 first_passes test [] within = absurd (omega arith)
@@ -62,28 +63,28 @@ same_name name other e = (bytes_eq-Decides other name).0 e
 pub name_at_place : (names : List (List ℕ)) (name : List ℕ) (i : ℕ) → position (is_same name) names ≡ Some i → slice_get names i ≡ Some name
 name_at_place names name i e = let found = place_passes (is_same name) names i e in found.at ∙ ap Some (same_name name found.item found.passes)
 
-numbered_from_one : (names : List (List ℕ)) (i : ℕ) → numbered names (i + 1) ≡ slice_get names i
+numbered_from_one : (names : List (List ℕ)) (i : ℕ) → at_number names (i + 1) ≡ slice_get names i
 numbered_from_one names i = rw (no_zero i) (ap (slice_get names) (omega arith))
   where
     no_zero : (i : ℕ) → (i + 1 == 0) ≡ false
     no_zero i = grind (arith, nat_tests)
 
-from_one_at : (names : List (List ℕ)) (name : List ℕ) (place : Option ℕ) (n : ℕ) → position (is_same name) names ≡ place → from_one place ≡ Some n → numbered names n ≡ Some name
+from_one_at : (names : List (List ℕ)) (name : List ℕ) (place : Option ℕ) (n : ℕ) → position (is_same name) names ≡ place → from_one place ≡ Some n → at_number names n ≡ Some name
 from_one_at names name None n is e = absurd (no_value e)
-from_one_at names name (Some i) n is e = ap (numbered names) (sym (same_some e)) ∙ numbered_from_one names i ∙ name_at_place names name i is
+from_one_at names name (Some i) n is e = ap (at_number names) (sym (same_some e)) ∙ numbered_from_one names i ∙ name_at_place names name i is
 
 -- a name that has this number
-pub name_of_number : (names : List (List ℕ)) (name : List ℕ) (n : ℕ) → from_one (position (is_same name) names) ≡ Some n → numbered names n ≡ Some name
+pub name_of_number : (names : List (List ℕ)) (name : List ℕ) (n : ℕ) → from_one (position (is_same name) names) ≡ Some n → at_number names n ≡ Some name
 name_of_number names name n e = from_one_at names name (position (is_same name) names) n refl e
 
-same_process : (process : ℕ) (name : List ℕ) (other : ProcedureName) → is_procedure process name other ≡ true → other ≡ procedure_name process name
+same_process : (process : ℕ) (name : List ℕ) (other : ProcedureName) → is_procedure process name other ≡ true → other ≡ qualified_name process name
 same_process process name other e =
     let parts = and_parts (other.process == process) (bytes_eq other.name name) e in
     let of : other.process ≡ process = grind (arith, nat_tests) in
     let is : other.name ≡ name = (bytes_eq-Decides other.name name).0 parts.1 in
-    ap (λ n. procedure_name n other.name) of ∙ ap (procedure_name process) is
+    ap (λ n. qualified_name n other.name) of ∙ ap (qualified_name process) is
 
-pub procedure_of_number : (tables : Tables) (process : ℕ) (name : List ℕ) (n : ℕ) → entry_number tables process name ≡ Some n → slice_get tables.procedures n ≡ Some (procedure_name process name)
+pub procedure_of_number : (tables : Tables) (process : ℕ) (name : List ℕ) (n : ℕ) → entry_number tables process name ≡ Some n → slice_get tables.procedures n ≡ Some (qualified_name process name)
 procedure_of_number tables process name n e =
     let found = place_passes (is_procedure process name) tables.procedures n e in
     found.at ∙ ap Some (same_process process name found.item found.passes)
@@ -137,18 +138,18 @@ number_if false names n name is distinct at =
     above : (n : ℕ) → (n == 0) ≡ false → 0 < n
     above n h = grind (arith, nat_tests)
 
-pub number_of_name : (names : List (List ℕ)) (n : ℕ) (name : List ℕ) → are_distinct bytes_eq names ≡ true → numbered names n ≡ Some name → from_one (position (is_same name) names) ≡ Some n
+pub number_of_name : (names : List (List ℕ)) (n : ℕ) (name : List ℕ) → are_distinct bytes_eq names ≡ true → at_number names n ≡ Some name → from_one (position (is_same name) names) ≡ Some n
 number_of_name names n name distinct at = number_if (n == 0) names n name refl distinct at
 
-own_procedure : (process : ℕ) (name : List ℕ) → is_procedure process name (procedure_name process name) ≡ true
+own_procedure : (process : ℕ) (name : List ℕ) → is_procedure process name (qualified_name process name) ≡ true
 own_procedure process name = rw own_name (own process)
   where
     own : (n : ℕ) → ((n == n) && true) ≡ true
     own n = grind (arith, nat_tests)
 
-pub number_of_procedure : (tables : Tables) (process n : ℕ) (name : List ℕ) → are_distinct same_procedure tables.procedures ≡ true → slice_get tables.procedures n ≡ Some (procedure_name process name) → entry_number tables process name ≡ Some n
+pub number_of_procedure : (tables : Tables) (process n : ℕ) (name : List ℕ) → are_distinct is_same_procedure tables.procedures ≡ true → slice_get tables.procedures n ≡ Some (qualified_name process name) → entry_number tables process name ≡ Some n
 number_of_procedure tables process n name distinct at =
-    place_at (is_procedure process name) tables.procedures n (first_at same_procedure tables.procedures n (procedure_name process name) (own_procedure process name) distinct at) (within_length tables.procedures n (procedure_name process name) at)
+    place_at (is_procedure process name) tables.procedures n (first_at is_same_procedure tables.procedures n (qualified_name process name) (own_procedure process name) distinct at) (within_length tables.procedures n (qualified_name process name) at)
 
 pub number_of_path : (tables : Tables) (n : ℕ) (name : List ℕ) → are_distinct bytes_eq tables.paths ≡ true → slice_get tables.paths n ≡ Some name → path_number tables name ≡ n
 number_of_path tables n name distinct at = first_at bytes_eq tables.paths n name (own_name name) distinct at

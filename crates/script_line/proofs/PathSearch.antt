@@ -11,9 +11,9 @@ use Rattle.std.proofs.lemmas.Slice.Eq.{slice_eq-Decides}
 use Rattle.std.specs.Bool.{Decides}
 use Rattle.std.specs.Cmp.{unsigned_Decides}
 use Rattle.std.specs.Cmp.Lexicographic.{pointwise}
-use Rattle.script_text.specs.Names.{with_name, has_name}
+use Rattle.script_text.specs.Words.{has_name, with_distinct_name}
 use Rattle.script_line.specs.Tables.{is_same}
-use Rattle.script_line.specs.PathNames.{bytes_of}
+use Rattle.script_line.specs.PathNames.{names_as_bytes}
 
 pub bytes_eq_comm : (xs ys : List ℕ) → bytes_eq xs ys ≡ bytes_eq ys xs
 bytes_eq_comm xs ys = nat_list_eq_equiv.symm xs ys
@@ -21,10 +21,10 @@ bytes_eq_comm xs ys = nat_list_eq_equiv.symm xs ys
 abbrev count_if : Bool → ℕ → ℕ
 count_if test n = cond (not test) (1 + n) 0
 
-pub named_place : {Y : Type 0} (name : List ℕ) (keys : List (Vec ℕ Y)) → position_or_len (is_same name) (bytes_of keys) ≡ position_or_len (λ key. bytes_eq name key.items) keys
+pub named_place : {Y : Type 0} (name : List ℕ) (keys : List (Vec ℕ Y)) → position_or_len (is_same name) (names_as_bytes keys) ≡ position_or_len (λ key. bytes_eq name key.items) keys
 named_place name [] = refl
 named_place name (key ∷ keys) =
-    ap (λ test. count_if test (position_or_len (is_same name) (bytes_of keys))) (bytes_eq_comm key.items name) ∙
+    ap (λ test. count_if test (position_or_len (is_same name) (names_as_bytes keys))) (bytes_eq_comm key.items name) ∙
     ap (count_if (bytes_eq name key.items)) (named_place name keys)
 
 some_of : (test : Bool) (n : ℕ) (i : ℕ) → cond test (Some n) None ≡ Some i → i ≡ n
@@ -40,35 +40,35 @@ not_below m n h e = grind (arith, nat_tests)
 pub place_missing : {X : Type 0} (test : X → Bool) (xs : List X) → position test xs ≡ None → length xs ≡ position_or_len test xs
 place_missing test xs e = not_below (position_or_len test xs) (length xs) (prefix_len-le-length (λ x. not (test x)) xs) e
 
-pub named_any : {Y : Type 0} (name : List ℕ) (keys : List (Vec ℕ Y)) → has_name (bytes_of keys) name ≡ list_any (λ key. bytes_eq name key.items) keys
+pub named_any : {Y : Type 0} (name : List ℕ) (keys : List (Vec ℕ Y)) → has_name (names_as_bytes keys) name ≡ list_any (λ key. bytes_eq name key.items) keys
 named_any name [] = refl
 named_any name (key ∷ keys) =
-    ap (λ test. test || has_name (bytes_of keys) name) (bytes_eq_comm key.items name) ∙
+    ap (λ test. test || has_name (names_as_bytes keys) name) (bytes_eq_comm key.items name) ∙
     ap (λ others. bytes_eq name key.items || others) (named_any name keys)
 
 -- what the table has after a name was put in
-inserted_if : {Y : Type 0} (test : Bool) (value : Vec ℕ Y) (keys : List (Vec ℕ Y)) → bytes_of (cond test keys (keys ++ value ∷ [])) ≡ cond test (bytes_of keys) (bytes_of keys ++ value.items ∷ [])
+inserted_if : {Y : Type 0} (test : Bool) (value : Vec ℕ Y) (keys : List (Vec ℕ Y)) → names_as_bytes (cond test keys (keys ++ value ∷ [])) ≡ cond test (names_as_bytes keys) (names_as_bytes keys ++ value.items ∷ [])
 inserted_if true value keys = refl
 inserted_if false value keys = map-append (λ name. name.items) keys (value ∷ [])
 
-pub inserted : {Y : Type 0} (name : List ℕ) (value : Vec ℕ Y) (old new : List (Vec ℕ Y)) → value.items ≡ name → new ≡ cond (list_any (λ key. bytes_eq value.items key.items) old) old (old ++ value ∷ []) → bytes_of new ≡ with_name (bytes_of old) name
+pub inserted : {Y : Type 0} (name : List ℕ) (value : Vec ℕ Y) (old new : List (Vec ℕ Y)) → value.items ≡ name → new ≡ cond (list_any (λ key. bytes_eq value.items key.items) old) old (old ++ value ∷ []) → names_as_bytes new ≡ with_distinct_name (names_as_bytes old) name
 inserted name value old new is e =
-    ap bytes_of e ∙
+    ap names_as_bytes e ∙
     inserted_if (list_any (λ key. bytes_eq value.items key.items) old) value old ∙
-    ap (λ test. cond test (bytes_of old) (bytes_of old ++ value.items ∷ [])) (sym (named_any value.items old)) ∙
-    ap (with_name (bytes_of old)) is
+    ap (λ test. cond test (names_as_bytes old) (names_as_bytes old ++ value.items ∷ [])) (sym (named_any value.items old)) ∙
+    ap (with_distinct_name (names_as_bytes old)) is
 
 -- `==` of two tables' names
-same_names : {Y : Type 0} (xs ys : List (Vec ℕ Y)) → pointwise (λ (x y : Vec ℕ Y). bytes_eq x.items y.items) xs ys ≡ pointwise bytes_eq (bytes_of xs) (bytes_of ys)
+same_names : {Y : Type 0} (xs ys : List (Vec ℕ Y)) → pointwise (λ (x y : Vec ℕ Y). bytes_eq x.items y.items) xs ys ≡ pointwise bytes_eq (names_as_bytes xs) (names_as_bytes ys)
 same_names [] [] = refl
 same_names [] (y ∷ ys) = refl
 same_names (x ∷ xs) [] = refl
 same_names (x ∷ xs) (y ∷ ys) = ap (λ rest. bytes_eq x.items y.items && rest) (same_names xs ys)
 
-pub same_paths : {Y : Type 0} (xs ys : List (Vec ℕ Y)) (r : Bool) → r ≡ pointwise (λ (x y : Vec ℕ Y). bytes_eq x.items y.items) xs ys → Decides r (bytes_of xs ≡ bytes_of ys)
-same_paths xs ys r e = slice_eq-Decides (λ a b. slice_eq-Decides unsigned_Decides a b (bytes_eq a b) refl) (bytes_of xs) (bytes_of ys) r (e ∙ same_names xs ys)
+pub same_paths : {Y : Type 0} (xs ys : List (Vec ℕ Y)) (r : Bool) → r ≡ pointwise (λ (x y : Vec ℕ Y). bytes_eq x.items y.items) xs ys → Decides r (names_as_bytes xs ≡ names_as_bytes ys)
+same_paths xs ys r e = slice_eq-Decides (λ a b. slice_eq-Decides unsigned_Decides a b (bytes_eq a b) refl) (names_as_bytes xs) (names_as_bytes ys) r (e ∙ same_names xs ys)
 
-pub copied_paths : {Y : Type 0} (C : Vec ℕ Y → Vec ℕ Y → Type 0) (xs ys : List (Vec ℕ Y)) → AllZip C xs ys → ((x y : Vec ℕ Y) → C x y → y.items ≡ x.items) → bytes_of ys ≡ bytes_of xs
+pub copied_paths : {Y : Type 0} (C : Vec ℕ Y → Vec ℕ Y → Type 0) (xs ys : List (Vec ℕ Y)) → AllZip C xs ys → ((x y : Vec ℕ Y) → C x y → y.items ≡ x.items) → names_as_bytes ys ≡ names_as_bytes xs
 copied_paths C [] [] all each = refl
 copied_paths C [] (y ∷ ys) all each = absurd all
 copied_paths C (x ∷ xs) [] all each = absurd all

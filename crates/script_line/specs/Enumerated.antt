@@ -1,14 +1,11 @@
 -- Operands that are one of a few words.
 use Rattle.std.specs.Prelude.{ℕ, List, [], ◌∷◌, Option, Some, option_map, find, bytes_eq, codes, if◌then◌else◌}
-use Rattle.dk_base.specs.declared.error.Errno.{Errno}
+use Rattle.script_text.specs.Types.{AlertMode, Errno, Op, Param}
 use Rattle.dk_base.specs.declared.error.Errno.TheVariants.{E2BIG, EAGAIN, EBADF, EBADFD, EBUSY, EINTR, EINVAL, EMFILE, ENFILE, ENOBUFS, ENOENT, ENOTSUP, EPERM, EPIPE, ETIME}
-use Rattle.dk_base.specs.declared.request.Param.{Param}
 use Rattle.dk_base.specs.declared.request.Param.TheVariants.{DataMax, DataMin, DescMax}
-use Rattle.dk_base.specs.declared.request.AlertMode.{AlertMode}
 use Rattle.dk_base.specs.declared.request.AlertMode.TheVariants.{Set, Update, Nothing}
-use Rattle.dk_base.specs.declared.request.Op.{Op}
 use Rattle.dk_base.specs.declared.request.Op.TheVariants.{Upper, Reverse, Sum, Digest}
-use Rattle.dk_base.specs.Errno.{errno_name}
+use Rattle.dk_base.specs.Words.{errno_name}
 use Rattle.script_line.specs.declared.line.Cond.{Cond}
 use Rattle.script_line.specs.declared.line.Cond.TheVariants.{Good, Yes, Unref, Errno as ErrnoCond}
 

@@ -43,30 +43,30 @@ keyword_word Repeat = codes "repeat"
 keyword_word If = codes "if"
 keyword_word End = codes "end"
 
-abbrev pub door_keywords : List Keyword
-door_keywords = Create ∷ Call ∷ Return ∷ Serve ∷ Revoke ∷ Bind ∷ Unbind ∷ Info ∷ []
+abbrev pub keywords_create_to_info : List Keyword
+keywords_create_to_info = Create ∷ Call ∷ Return ∷ Serve ∷ Revoke ∷ Bind ∷ Unbind ∷ Info ∷ []
 
-abbrev pub descriptor_keywords : List Keyword
-descriptor_keywords = GetParam ∷ SetParam ∷ Cred ∷ TestCancel ∷ Exit ∷ Close ∷ Dup ∷ Attach ∷ Detach ∷ []
+abbrev pub keywords_getparam_to_detach : List Keyword
+keywords_getparam_to_detach = GetParam ∷ SetParam ∷ Cred ∷ TestCancel ∷ Exit ∷ Close ∷ Dup ∷ Attach ∷ Detach ∷ []
 
-abbrev pub port_keywords : List Keyword
-port_keywords = Open ∷ Await ∷ Pipe ∷ Write ∷ Read ∷ PortCreate ∷ Associate ∷ Dissociate ∷ Get ∷ []
+abbrev pub keywords_open_to_get : List Keyword
+keywords_open_to_get = Open ∷ Await ∷ Pipe ∷ Write ∷ Read ∷ PortCreate ∷ Associate ∷ Dissociate ∷ Get ∷ []
 
-abbrev pub other_keywords : List Keyword
-other_keywords = GetN ∷ Send ∷ SendN ∷ Alert ∷ Interrupt ∷ Kill ∷ Work ∷ Repeat ∷ If ∷ End ∷ []
+abbrev pub keywords_getn_to_end : List Keyword
+keywords_getn_to_end = GetN ∷ Send ∷ SendN ∷ Alert ∷ Interrupt ∷ Kill ∷ Work ∷ Repeat ∷ If ∷ End ∷ []
 
-unfoldable pub door_keyword : List ℕ → Option Keyword
-door_keyword word = value_of_word keyword_word door_keywords word
+unfoldable pub keyword_create_to_info : List ℕ → Option Keyword
+keyword_create_to_info word = value_of_word keyword_word keywords_create_to_info word
 
-unfoldable pub descriptor_keyword : List ℕ → Option Keyword
-descriptor_keyword word = value_of_word keyword_word descriptor_keywords word
+unfoldable pub keyword_getparam_to_detach : List ℕ → Option Keyword
+keyword_getparam_to_detach word = value_of_word keyword_word keywords_getparam_to_detach word
 
-unfoldable pub port_keyword : List ℕ → Option Keyword
-port_keyword word = value_of_word keyword_word port_keywords word
+unfoldable pub keyword_open_to_get : List ℕ → Option Keyword
+keyword_open_to_get word = value_of_word keyword_word keywords_open_to_get word
 
-unfoldable pub other_keyword : List ℕ → Option Keyword
-other_keyword word = value_of_word keyword_word other_keywords word
+unfoldable pub keyword_getn_to_end : List ℕ → Option Keyword
+keyword_getn_to_end word = value_of_word keyword_word keywords_getn_to_end word
 
 -- the keyword that a word is. Which words are keywords may depend on the text's version: version 1 has these.
 abbrev pub keyword_of : ℕ → List ℕ → Option Keyword
-keyword_of version word = option_or (door_keyword word) (option_or (descriptor_keyword word) (option_or (port_keyword word) (other_keyword word)))
+keyword_of version word = option_or (keyword_create_to_info word) (option_or (keyword_getparam_to_detach word) (option_or (keyword_open_to_get word) (keyword_getn_to_end word)))

@@ -11,7 +11,7 @@ kind_of (If cond) = Test
 kind_of End = Closing
 kind_of line = Act
 
--- how many blocks of a body are open behind a line, where so many are before it; none where it closes the body
+-- how many blocks of a body are open after a line, where so many are before it; none where it closes the body
 abbrev pub depth_after : ℕ → Kind → Option ℕ
 depth_after depth Act = Some depth
 depth_after depth Loop = Some (depth + 1)

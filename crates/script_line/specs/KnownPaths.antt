@@ -1,6 +1,6 @@
 -- Lines whose paths have names in the tables.
 use Rattle.std.specs.Prelude.{List, [], ◌∷◌, ◌<◌, length}
-use Rattle.dk_base.specs.declared.number.PathId.{PathId}
+use Rattle.script_text.specs.Types.{PathId}
 use Rattle.script_line.specs.declared.line.Line.{Line}
 use Rattle.script_line.specs.Tables.{Tables}
 use Rattle.script_line.specs.Uses.{paths_of}

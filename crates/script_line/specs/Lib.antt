@@ -1,5 +1,6 @@
+pub mod GreatestNumbers
 pub mod Tables
-pub mod Numbered
+pub mod TableLimits
 pub mod PathNames
 pub mod TableChanges
 pub mod DistinctTables
@@ -8,17 +9,11 @@ pub mod FlagWords
 pub mod Enumerated
 pub mod Keywords
 pub mod Kinds
-pub mod Readers
-pub mod Reads
-pub mod Operands
-pub mod ItemReads
-pub mod Commands
 pub mod Uses
 pub mod KnownPaths
 pub mod LineKeyword
-pub mod Words
+pub mod CanonicalWords
 pub mod Spelled
-pub mod LineLaws
-pub mod Written
 pub mod ReasonWords
 pub mod SameLine
+pub mod Words

@@ -3,8 +3,7 @@ use Rattle.std.specs.Prelude.{◌≡◌, List}
 use Rattle.std.specs.Bool.{Decides}
 use Rattle.std.specs.Cmp.Lexicographic.{pointwise}
 use Rattle.std.proofs.Common.{rules}
-use Rattle.dk_base.specs.Exact.{lists_exact, enum_exact, none_exact, last_exact, field_exact}
-use Rattle.dk_base.specs.ExactParts.{number_exact, bytes_exact, flag_exact, path_exact, process_exact, thread_exact, mode_exact, op_exact, param_exact, attrs_exact, poll_exact}
+use Rattle.dk_base.specs.Words.{attrs_exact, bytes_exact, enum_exact, field_exact, flag_exact, last_exact, lists_exact, mode_exact, none_exact, number_exact, op_exact, param_exact, path_exact, poll_exact, process_exact, thread_exact}
 use Rattle.script_line.specs.declared.line.Cond.{Cond}
 use Rattle.script_line.specs.declared.line.FdArg.{FdArg}
 use Rattle.script_line.specs.declared.line.Line.{Line}

@@ -1,7 +1,6 @@
 -- The sets of a door's attributes, and of the events of a poll.
 use Rattle.std.specs.Prelude.{ℕ, Bool, ◌==◌, not, bit_and, bit_or, List, [], ◌∷◌, filter, Option, Some, None, option_map, option_and_then, find, map, bytes_eq, codes, if◌then◌else◌}
-use Rattle.dk_base.specs.declared.set.Attrs.{Attrs}
-use Rattle.dk_base.specs.declared.set.PollSet.{PollSet}
+use Rattle.script_text.specs.Types.{Attrs, PollSet}
 
 -- a word, and the bits that it is
 pub record Flag : Type 0 where
@@ -12,8 +11,8 @@ abbrev pub flag : List ℕ → ℕ → Flag
 flag word bits = record { word = word; bits = bits }
 
 -- ATTR
-abbrev pub attributes : List Flag
-attributes =
+abbrev pub attribute_flags : List Flag
+attribute_flags =
     flag (codes "unref") 1
     ∷ flag (codes "private") 2
     ∷ flag (codes "local") 4
@@ -25,8 +24,8 @@ attributes =
     ∷ []
 
 -- POLL: `none`, or some of `in`, `out`, `err`, `hup` in this order, joined by `+`
-abbrev pub polls : List Flag
-polls =
+abbrev pub poll_flags : List Flag
+poll_flags =
     flag (codes "none") 0
     ∷ flag (codes "in") 1
     ∷ flag (codes "out") 4
@@ -57,7 +56,7 @@ with_bits set bits = if bit_and set bits == 0 then Some (bit_or set bits) else N
 
 abbrev pub set_from : ℕ → List (List ℕ) → Option ℕ
 set_from set [] = Some set
-set_from set (word ∷ words) = option_and_then (λ more. set_from more words) (option_and_then (with_bits set) (bits_of_word attributes word))
+set_from set (word ∷ words) = option_and_then (λ more. set_from more words) (option_and_then (with_bits set) (bits_of_word attribute_flags word))
 
 -- the attributes that these words name, each at most once, in any order
 abbrev pub attributes_of : List (List ℕ) → Option Attrs
@@ -68,17 +67,17 @@ is_in_set set f = not (bit_and set f.bits == 0)
 
 -- the words of a set, in the table's order
 abbrev pub attribute_words : Attrs → List (List ℕ)
-attribute_words set = map (λ f. f.word) (filter (is_in_set set.0) attributes)
+attribute_words set = map (λ f. f.word) (filter (is_in_set set.0) attribute_flags)
 
 abbrev pub poll_of : List ℕ → Option PollSet
-poll_of word = option_map (λ bits. record { 0 = bits }) (bits_of_word polls word)
+poll_of word = option_map (λ bits. record { 0 = bits }) (bits_of_word poll_flags word)
 
 abbrev pub has_bits : ℕ → Flag → Bool
 has_bits bits f = f.bits == bits
 
-abbrev pub word_in : Option Flag → List ℕ
-word_in None = []
-word_in (Some f) = f.word
+abbrev pub word_or_empty : Option Flag → List ℕ
+word_or_empty None = []
+word_or_empty (Some f) = f.word
 
 abbrev pub poll_word : PollSet → List ℕ
-poll_word set = word_in (find (has_bits set.0) polls)
+poll_word set = word_or_empty (find (has_bits set.0) poll_flags)

@@ -1,16 +1,8 @@
 -- Which words spell a line: from the line's values to words, one row for each command, with no reader. Two rows cite the
 -- tables of Sets.antt, which the reader cites as well: a set of attributes, and a set of events of a poll.
 use Rattle.std.specs.Prelude.{ℕ, ◌≡◌, ◌≤◌, ◌⊎◌, Bool, true, false, List, [], ◌∷◌, ◌++◌, Some, length, slice_get, codes, decimal}
-use Rattle.dk_base.specs.declared.number.PathId.{PathId}
-use Rattle.dk_base.specs.declared.number.Pid.{Pid}
-use Rattle.dk_base.specs.declared.number.Tid.{Tid}
-use Rattle.dk_base.specs.declared.request.AlertMode.{AlertMode}
-use Rattle.dk_base.specs.declared.request.Op.{Op}
-use Rattle.dk_base.specs.declared.request.Param.{Param}
-use Rattle.dk_base.specs.declared.set.Attrs.{Attrs}
-use Rattle.dk_base.specs.declared.set.PollSet.{PollSet}
-use Rattle.script_text.specs.Names.{is_name}
-use Rattle.script_text.specs.Spelled.{SpellsName, SpellsNumber, SpellsString}
+use Rattle.script_text.specs.Types.{AlertMode, Attrs, Op, Param, PathId, Pid, PollSet, Tid}
+use Rattle.script_text.specs.Words.{SpellsName, SpellsNumber, SpellsString, is_name}
 use Rattle.script_line.specs.declared.line.Cond.{Cond}
 use Rattle.script_line.specs.declared.line.FdArg.{FdArg}
 use Rattle.script_line.specs.declared.line.FdArg.TheVariants.{Number, Of as OfFd}
@@ -19,11 +11,12 @@ use Rattle.script_line.specs.declared.line.Piece.{Piece}
 use Rattle.script_line.specs.declared.line.Piece.TheVariants.{Text, Of, Fill}
 use Rattle.script_line.specs.declared.line.Line.{Line}
 use Rattle.script_line.specs.declared.line.Line.TheVariants.{Create, Call, Return, Serve, Revoke, Bind, Unbind, Info, InfoQuery, GetParam, SetParam, Cred, TestCancel, Exit, Close, Dup, Attach, Detach, Open, Await, Pipe, Write, Read, PortCreate, Associate, Dissociate, Get, GetN, Send, SendN, Alert, Interrupt, Kill, Work, Repeat, If, End}
-use Rattle.script_line.specs.Tables.{Tables, ProcedureName, numbered}
-use Rattle.script_line.specs.Sets.{attributes_of, bits_of_word, polls}
+use Rattle.dk_base.specs.ByNumber.{at_number}
+use Rattle.script_line.specs.Tables.{Tables, ProcedureName}
+use Rattle.script_line.specs.Sets.{attributes_of, bits_of_word, poll_flags}
 use Rattle.script_line.specs.Enumerated.{param_word, mode_word, op_word, cond_word}
-use Rattle.script_line.specs.Operands.{greatest_32, greatest_64}
-use Rattle.script_line.specs.Words.{release_mark}
+use Rattle.script_line.specs.GreatestNumbers.{greatest_32, greatest_64}
+use Rattle.script_line.specs.CanonicalWords.{release_mark}
 
 -- words
 
@@ -52,17 +45,17 @@ Each Spells (x ∷ xs) Next = First (Spells x) (Each Spells xs Next)
 -- operands
 
 abbrev pub SpellsProcess : Tables → Pid → List ℕ → Type 0
-SpellsProcess tables process word = (is_name word ≡ true) × (numbered tables.processes process.0 ≡ Some word)
+SpellsProcess tables process word = (is_name word ≡ true) × (at_number tables.processes process.0 ≡ Some word)
 
 abbrev pub SpellsThread : Tables → Tid → List ℕ → Type 0
-SpellsThread tables thread word = (is_name word ≡ true) × (numbered tables.threads thread.0 ≡ Some word)
+SpellsThread tables thread word = (is_name word ≡ true) × (at_number tables.threads thread.0 ≡ Some word)
 
-abbrev pub procedure_name : ℕ → List ℕ → ProcedureName
-procedure_name process name = record { process = process; name = name }
+abbrev pub qualified_name : ℕ → List ℕ → ProcedureName
+qualified_name process name = record { process = process; name = name }
 
 -- a procedure of this process
 abbrev pub SpellsProcedure : Tables → ℕ → ℕ → List ℕ → Type 0
-SpellsProcedure tables process entry word = (is_name word ≡ true) × (slice_get tables.procedures entry ≡ Some (procedure_name process word))
+SpellsProcedure tables process entry word = (is_name word ≡ true) × (slice_get tables.procedures entry ≡ Some (qualified_name process word))
 
 abbrev pub SpellsPath : Tables → PathId → List ℕ → Type 0
 SpellsPath tables path word = (is_name word ≡ true) × (slice_get tables.paths path.0 ≡ Some word)
@@ -80,7 +73,7 @@ abbrev pub SpellsFd : FdArg → List ℕ → Type 0
 SpellsFd (Number n) word = SpellsNumber 0 255 n word
 SpellsFd (OfFd variable k) word = ((k ≡ 0) × SpellsVariable variable word) ⊎ SpellsIndexed variable k word
 
--- PASS: an FD, with `!` at once behind it for a release
+-- PASS: an FD, with `!` at once after it for a release
 pub record SpellsPass (pass : PassArg) (word : List ℕ) : Type 0 where
   pub front : List ℕ
   pub spells_fd : SpellsFd pass.fd front
@@ -92,35 +85,35 @@ SpellsPiece (Text text) word = SpellsString text word
 SpellsPiece (Of variable) word = SpellsVariable variable word
 SpellsPiece (Fill n) word = (n ≤ 8192) × (word ≡ codes "fill:" ++ decimal n)
 
-abbrev pub MorePieces : List Piece → Spelling → Spelling
-MorePieces [] Next = Next
-MorePieces (piece ∷ pieces) Next = Then (codes "+") (First (SpellsPiece piece) (MorePieces pieces Next))
+abbrev pub SpellsMorePieces : List Piece → Spelling → Spelling
+SpellsMorePieces [] Next = Next
+SpellsMorePieces (piece ∷ pieces) Next = Then (codes "+") (First (SpellsPiece piece) (SpellsMorePieces pieces Next))
 
 -- DATA: one or more pieces, joined by the word `+`
-abbrev pub Pieces : List Piece → Spelling → Spelling
-Pieces [] Next words = ⊥
-Pieces (piece ∷ pieces) Next words = First (SpellsPiece piece) (MorePieces pieces Next) words
+abbrev pub SpellsPieces : List Piece → Spelling → Spelling
+SpellsPieces [] Next words = ⊥
+SpellsPieces (piece ∷ pieces) Next words = First (SpellsPiece piece) (SpellsMorePieces pieces Next) words
 
 -- nothing, or `desc PASS ..` (1 to 32)
-abbrev pub Passes : List PassArg → Spelling → Spelling
-Passes [] Next words = Next words
-Passes (pass ∷ passes) Next words = (length (pass ∷ passes) ≤ 32) × Then (codes "desc") (Each SpellsPass (pass ∷ passes) Next) words
+abbrev pub SpellsPassList : List PassArg → Spelling → Spelling
+SpellsPassList [] Next words = Next words
+SpellsPassList (pass ∷ passes) Next words = (length (pass ∷ passes) ≤ 32) × Then (codes "desc") (Each SpellsPass (pass ∷ passes) Next) words
 
 -- nothing for 4096, or `rsize N`
-abbrev pub Rsize : ℕ → Spelling → Spelling
-Rsize rsize Next words = ((rsize ≡ 4096) × Next words) ⊎ Then (codes "rsize") (First (SpellsNumber 0 greatest_64 rsize) Next) words
+abbrev pub SpellsRsize : ℕ → Spelling → Spelling
+SpellsRsize rsize Next words = ((rsize ≡ 4096) × Next words) ⊎ Then (codes "rsize") (First (SpellsNumber 0 greatest_64 rsize) Next) words
 
 -- FD .. (1 to 16) to the line's end
-abbrev pub Ports : List FdArg → Spelling
-Ports fds words = (1 ≤ length fds) × (length fds ≤ 16) × Each SpellsFd fds Ends words
+abbrev pub SpellsPorts : List FdArg → Spelling
+SpellsPorts fds words = (1 ≤ length fds) × (length fds ≤ 16) × Each SpellsFd fds Ends words
 
 -- ATTR .. to the line's end: each names an attribute, each at most once, and together they are the set
-abbrev pub Attributes : Attrs → Spelling
-Attributes set words = attributes_of words ≡ Some set
+abbrev pub SpellsAttributes : Attrs → Spelling
+SpellsAttributes set words = attributes_of words ≡ Some set
 
 -- POLL
 abbrev pub SpellsPoll : PollSet → List ℕ → Type 0
-SpellsPoll set word = bits_of_word polls word ≡ Some set.0
+SpellsPoll set word = bits_of_word poll_flags word ≡ Some set.0
 
 -- PARAM
 abbrev pub SpellsParam : Param → List ℕ → Type 0
@@ -143,17 +136,17 @@ abbrev pub SpellsValue : ℕ → List ℕ → Type 0
 SpellsValue value word = ((value ≡ greatest_64) × (word ≡ codes "max")) ⊎ SpellsNumber 0 greatest_64 value word
 
 -- nothing, or `nowait`
-abbrev pub Waits : Bool → Spelling
-Waits true = Ends
-Waits false = Then (codes "nowait") Ends
+abbrev pub SpellsWait : Bool → Spelling
+SpellsWait true = Ends
+SpellsWait false = Then (codes "nowait") Ends
 
 -- lines
 
 -- these words spell the line, in a body of this process
 abbrev pub SpellsLine : Tables → ℕ → Line → Spelling
-SpellsLine tables process (Create var entry cookie attrs) = Then (codes "create") (First (SpellsName var) (First (SpellsProcedure tables process entry) (First (SpellsNumber 0 greatest_64 cookie) (Attributes attrs))))
-SpellsLine tables process (Call var fd bytes pass rsize) = Then (codes "call") (First (SpellsName var) (First (SpellsFd fd) (Pieces bytes (Passes pass (Rsize rsize Ends)))))
-SpellsLine tables process (Return bytes pass) = Then (codes "return") (Pieces bytes (Passes pass Ends))
+SpellsLine tables process (Create var entry cookie attrs) = Then (codes "create") (First (SpellsName var) (First (SpellsProcedure tables process entry) (First (SpellsNumber 0 greatest_64 cookie) (SpellsAttributes attrs))))
+SpellsLine tables process (Call var fd bytes pass rsize) = Then (codes "call") (First (SpellsName var) (First (SpellsFd fd) (SpellsPieces bytes (SpellsPassList pass (SpellsRsize rsize Ends)))))
+SpellsLine tables process (Return bytes pass) = Then (codes "return") (SpellsPieces bytes (SpellsPassList pass Ends))
 SpellsLine tables process Serve = Then (codes "serve") Ends
 SpellsLine tables process (Revoke fd) = Then (codes "revoke") (First (SpellsFd fd) Ends)
 SpellsLine tables process (Bind fd) = Then (codes "bind") (First (SpellsFd fd) Ends)
@@ -172,19 +165,19 @@ SpellsLine tables process (Detach path) = Then (codes "detach") (First (SpellsPa
 SpellsLine tables process (Open var path) = Then (codes "open") (First (SpellsName var) (First (SpellsPath tables path) Ends))
 SpellsLine tables process (Await path) = Then (codes "await") (First (SpellsPath tables path) Ends)
 SpellsLine tables process (Pipe reading writing) = Then (codes "pipe") (First (SpellsName reading) (First (SpellsName writing) Ends))
-SpellsLine tables process (Write fd bytes) = Then (codes "write") (First (SpellsFd fd) (Pieces bytes Ends))
+SpellsLine tables process (Write fd bytes) = Then (codes "write") (First (SpellsFd fd) (SpellsPieces bytes Ends))
 SpellsLine tables process (Read var fd most) = Then (codes "read") (First (SpellsName var) (First (SpellsFd fd) (First (SpellsNumber 1 4096 most) Ends)))
 SpellsLine tables process (PortCreate var) = Then (codes "pcreate") (First (SpellsName var) Ends)
 SpellsLine tables process (Associate port object events user) = Then (codes "associate") (First (SpellsFd port) (First (SpellsFd object) (First (SpellsPoll events) (First (SpellsNumber 0 greatest_64 user) Ends))))
 SpellsLine tables process (Dissociate port object) = Then (codes "dissociate") (First (SpellsFd port) (First (SpellsFd object) Ends))
-SpellsLine tables process (Get port wait) = Then (codes "get") (First (SpellsFd port) (Waits wait))
-SpellsLine tables process (GetN port most least wait) = Then (codes "getn") (First (SpellsFd port) (First (SpellsNumber 0 64 most) (First (SpellsNumber 0 64 least) (Waits wait))))
+SpellsLine tables process (Get port wait) = Then (codes "get") (First (SpellsFd port) (SpellsWait wait))
+SpellsLine tables process (GetN port most least wait) = Then (codes "getn") (First (SpellsFd port) (First (SpellsNumber 0 64 most) (First (SpellsNumber 0 64 least) (SpellsWait wait))))
 SpellsLine tables process (Send port events user) = Then (codes "send") (First (SpellsFd port) (First (SpellsNumber 0 greatest_32 events) (First (SpellsNumber 0 greatest_64 user) Ends)))
-SpellsLine tables process (SendN events user ports) = Then (codes "sendn") (First (SpellsNumber 0 greatest_32 events) (First (SpellsNumber 0 greatest_64 user) (Ports ports)))
+SpellsLine tables process (SendN events user ports) = Then (codes "sendn") (First (SpellsNumber 0 greatest_32 events) (First (SpellsNumber 0 greatest_64 user) (SpellsPorts ports)))
 SpellsLine tables process (Alert port mode events user) = Then (codes "alert") (First (SpellsFd port) (First (SpellsMode mode) (First (SpellsNumber 0 greatest_32 events) (First (SpellsNumber 0 greatest_64 user) Ends))))
 SpellsLine tables process (Interrupt thread) = Then (codes "interrupt") (First (SpellsThread tables thread) Ends)
 SpellsLine tables process (Kill whom) = Then (codes "kill") (First (SpellsProcess tables whom) Ends)
-SpellsLine tables process (Work var op bytes) = Then (codes "work") (First (SpellsName var) (First (SpellsOp op) (Pieces bytes Ends)))
+SpellsLine tables process (Work var op bytes) = Then (codes "work") (First (SpellsName var) (First (SpellsOp op) (SpellsPieces bytes Ends)))
 SpellsLine tables process (Repeat times) = Then (codes "repeat") (First (SpellsNumber 1 1000000 times) Ends)
 SpellsLine tables process (If cond) = Then (codes "if") (First (SpellsCond cond) Ends)
 SpellsLine tables process End = Then (codes "end") Ends

@@ -1,5 +1,5 @@
 -- The names of a script with their numbers.
-use Rattle.std.specs.Prelude.{ℕ, Bool, ◌+◌, ◌-◌, ◌==◌, ◌&&◌, List, Option, None, option_map, bytes_eq, position, slice_get, if◌then◌else◌}
+use Rattle.std.specs.Prelude.{ℕ, Bool, ◌+◌, ◌==◌, ◌&&◌, List, Option, option_map, bytes_eq, position}
 use Rattle.std.specs.List.{position_or_len}
 
 -- a procedure's name, and the number of its process
@@ -38,7 +38,3 @@ entry_number tables process name = position (is_procedure process name) tables.p
 -- each path of a text has a number
 abbrev pub path_number : Tables → List ℕ → ℕ
 path_number tables name = position_or_len (is_same name) tables.paths
-
--- the item of a list that is numbered from 1
-abbrev pub numbered : {X : Type 0} → List X → ℕ → Option X
-numbered xs n = if n == 0 then None else slice_get xs (n - 1)

@@ -1,6 +1,6 @@
 -- The variables and the paths that a line names, in their order.
 use Rattle.std.specs.Prelude.{ℕ, List, [], ◌∷◌, ◌++◌, flat_map}
-use Rattle.dk_base.specs.declared.number.PathId.{PathId}
+use Rattle.script_text.specs.Types.{PathId}
 use Rattle.script_line.specs.declared.line.FdArg.{FdArg}
 use Rattle.script_line.specs.declared.line.FdArg.TheVariants.{Number, Of as OfFd}
 use Rattle.script_line.specs.declared.line.PassArg.{PassArg}

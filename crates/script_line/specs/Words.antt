@@ -1,109 +1,18 @@
--- The words of a line in the canonical text.
-use Rattle.std.specs.Prelude.{ℕ, Bool, true, false, ◌==◌, ◌++◌, List, [], ◌∷◌, unwrap_or, option_map, map, flat_map, slice_get, codes, decimal, if◌then◌else◌}
-use Rattle.dk_base.specs.declared.number.PathId.{PathId}
-use Rattle.dk_base.specs.declared.number.Pid.{Pid}
-use Rattle.dk_base.specs.declared.number.Tid.{Tid}
-use Rattle.script_text.specs.Strings.{quoted}
-use Rattle.script_line.specs.declared.line.FdArg.{FdArg}
-use Rattle.script_line.specs.declared.line.FdArg.TheVariants.{Number, Of as OfFd}
-use Rattle.script_line.specs.declared.line.PassArg.{PassArg}
-use Rattle.script_line.specs.declared.line.Piece.{Piece}
-use Rattle.script_line.specs.declared.line.Piece.TheVariants.{Text, Of, Fill}
-use Rattle.script_line.specs.declared.line.Line.{Line}
-use Rattle.script_line.specs.declared.line.Line.TheVariants.{Create, Call, Return, Serve, Revoke, Bind, Unbind, Info, InfoQuery, GetParam, SetParam, Cred, TestCancel, Exit, Close, Dup, Attach, Detach, Open, Await, Pipe, Write, Read, PortCreate, Associate, Dissociate, Get, GetN, Send, SendN, Alert, Interrupt, Kill, Work, Repeat, If, End}
-use Rattle.script_line.specs.Tables.{Tables, numbered}
-use Rattle.script_line.specs.Sets.{attribute_words, poll_word}
-use Rattle.script_line.specs.Enumerated.{param_word, mode_word, op_word, cond_word}
-use Rattle.script_line.specs.Operands.{greatest_64}
-
-abbrev pub process_word : Tables → Pid → List ℕ
-process_word tables process = unwrap_or (numbered tables.processes process.0) []
-
-abbrev pub thread_word : Tables → Tid → List ℕ
-thread_word tables thread = unwrap_or (numbered tables.threads thread.0) []
-
-abbrev pub procedure_word : Tables → ℕ → List ℕ
-procedure_word tables entry = unwrap_or (option_map (λ procedure. procedure.name) (slice_get tables.procedures entry)) []
-
-abbrev pub path_word : Tables → PathId → List ℕ
-path_word tables path = unwrap_or (slice_get tables.paths path.0) []
-
--- $VAR; 36 is `$`
-abbrev pub variable_word : List ℕ → List ℕ
-variable_word variable = 36 ∷ variable
-
--- $VAR.0 is written $VAR; 46 is `.`
-abbrev pub fd_word : FdArg → List ℕ
-fd_word (Number n) = decimal n
-fd_word (OfFd variable k) = if k == 0 then variable_word variable else variable_word variable ++ 46 ∷ decimal k
-
--- 33 is `!`
-abbrev pub release_mark : Bool → List ℕ
-release_mark true = 33 ∷ []
-release_mark false = []
-
-abbrev pub pass_word : PassArg → List ℕ
-pass_word pass = fd_word pass.fd ++ release_mark pass.release
-
-abbrev pub piece_word : Piece → List ℕ
-piece_word (Text text) = quoted text
-piece_word (Of variable) = variable_word variable
-piece_word (Fill n) = codes "fill:" ++ decimal n
-
-abbrev pub joined_piece : Piece → List (List ℕ)
-joined_piece piece = codes "+" ∷ piece_word piece ∷ []
-
-abbrev pub data_words : List Piece → List (List ℕ)
-data_words [] = []
-data_words (piece ∷ pieces) = piece_word piece ∷ flat_map joined_piece pieces
-
-abbrev pub desc_words : List PassArg → List (List ℕ)
-desc_words [] = []
-desc_words (pass ∷ passes) = codes "desc" ∷ map pass_word (pass ∷ passes)
-
--- the greatest number of `setparam` is written `max`
-abbrev pub value_word : ℕ → List ℕ
-value_word value = if value == greatest_64 then codes "max" else decimal value
-
-abbrev pub wait_words : Bool → List (List ℕ)
-wait_words true = []
-wait_words false = codes "nowait" ∷ []
-
-abbrev pub line_words : Tables → Line → List (List ℕ)
-line_words tables (Create var entry cookie attrs) = codes "create" ∷ var ∷ procedure_word tables entry ∷ decimal cookie ∷ attribute_words attrs
-line_words tables (Call var fd bytes pass rsize) = codes "call" ∷ var ∷ fd_word fd ∷ data_words bytes ++ desc_words pass ++ codes "rsize" ∷ decimal rsize ∷ []
-line_words tables (Return bytes pass) = codes "return" ∷ data_words bytes ++ desc_words pass
-line_words tables Serve = codes "serve" ∷ []
-line_words tables (Revoke fd) = codes "revoke" ∷ fd_word fd ∷ []
-line_words tables (Bind fd) = codes "bind" ∷ fd_word fd ∷ []
-line_words tables Unbind = codes "unbind" ∷ []
-line_words tables (Info fd) = codes "info" ∷ fd_word fd ∷ []
-line_words tables InfoQuery = codes "info" ∷ codes "query" ∷ []
-line_words tables (GetParam fd param) = codes "getparam" ∷ fd_word fd ∷ param_word param ∷ []
-line_words tables (SetParam fd param value) = codes "setparam" ∷ fd_word fd ∷ param_word param ∷ value_word value ∷ []
-line_words tables Cred = codes "cred" ∷ []
-line_words tables TestCancel = codes "testcancel" ∷ []
-line_words tables Exit = codes "exit" ∷ []
-line_words tables (Close fd) = codes "close" ∷ fd_word fd ∷ []
-line_words tables (Dup var fd) = codes "dup" ∷ var ∷ fd_word fd ∷ []
-line_words tables (Attach fd path) = codes "attach" ∷ fd_word fd ∷ path_word tables path ∷ []
-line_words tables (Detach path) = codes "detach" ∷ path_word tables path ∷ []
-line_words tables (Open var path) = codes "open" ∷ var ∷ path_word tables path ∷ []
-line_words tables (Await path) = codes "await" ∷ path_word tables path ∷ []
-line_words tables (Pipe reading writing) = codes "pipe" ∷ reading ∷ writing ∷ []
-line_words tables (Write fd bytes) = codes "write" ∷ fd_word fd ∷ data_words bytes
-line_words tables (Read var fd max) = codes "read" ∷ var ∷ fd_word fd ∷ decimal max ∷ []
-line_words tables (PortCreate var) = codes "pcreate" ∷ var ∷ []
-line_words tables (Associate port object events user) = codes "associate" ∷ fd_word port ∷ fd_word object ∷ poll_word events ∷ decimal user ∷ []
-line_words tables (Dissociate port object) = codes "dissociate" ∷ fd_word port ∷ fd_word object ∷ []
-line_words tables (Get port wait) = codes "get" ∷ fd_word port ∷ wait_words wait
-line_words tables (GetN port max nget wait) = codes "getn" ∷ fd_word port ∷ decimal max ∷ decimal nget ∷ wait_words wait
-line_words tables (Send port events user) = codes "send" ∷ fd_word port ∷ decimal events ∷ decimal user ∷ []
-line_words tables (SendN events user ports) = codes "sendn" ∷ decimal events ∷ decimal user ∷ map fd_word ports
-line_words tables (Alert port mode events user) = codes "alert" ∷ fd_word port ∷ mode_word mode ∷ decimal events ∷ decimal user ∷ []
-line_words tables (Interrupt thread) = codes "interrupt" ∷ thread_word tables thread ∷ []
-line_words tables (Kill process) = codes "kill" ∷ process_word tables process ∷ []
-line_words tables (Work var op bytes) = codes "work" ∷ var ∷ op_word op ∷ data_words bytes
-line_words tables (Repeat times) = codes "repeat" ∷ decimal times ∷ []
-line_words tables (If cond) = codes "if" ∷ cond_word cond ∷ []
-line_words tables End = codes "end" ∷ []
+-- The words of this crate's specs, from one place, for the crates above.
+pub use Rattle.script_line.specs.CanonicalWords.{data_words, desc_words, fd_word, joined_piece, line_words, operand_words, pass_word, path_word, piece_word, procedure_word, process_word, release_mark, thread_word, value_word, variable_word, wait_words, words_after_first}
+pub use Rattle.script_line.specs.DistinctTables.{AreDistinct, is_same_procedure}
+pub use Rattle.script_line.specs.Enumerated.{cond_of, cond_word, errno_of, errnos, mode_of, mode_word, modes, op_of, op_word, ops, param_of, param_word, params, value_of_word}
+pub use Rattle.script_line.specs.FlagWords.{attribute_if, bits_of_flags, flag_word}
+pub use Rattle.script_line.specs.GreatestNumbers.{greatest_32, greatest_64}
+pub use Rattle.script_line.specs.Keywords.{keyword_of, keyword_word, keywords_create_to_info, keywords_getn_to_end, keywords_getparam_to_detach, keywords_open_to_get}
+unfoldable pub use Rattle.script_line.specs.Keywords.{keyword_create_to_info, keyword_getn_to_end, keyword_getparam_to_detach, keyword_open_to_get}
+pub use Rattle.script_line.specs.Kinds.{depth_after, kind_of}
+pub use Rattle.script_line.specs.KnownPaths.{ArePaths, HasPaths}
+pub use Rattle.script_line.specs.LineKeyword.{keyword_of_line}
+pub use Rattle.script_line.specs.ReasonWords.{reason_word}
+pub use Rattle.script_line.specs.SameLine.{line_exact}
+pub use Rattle.script_line.specs.Sets.{Flag, attribute_flags, attribute_words, attributes_of, bits_of_word, is_in_set, is_word_of, poll_flags, poll_of, poll_word, set_from, with_bits}
+pub use Rattle.script_line.specs.Spelled.{Each, Ends, First, Spelling, SpellsAttributes, SpellsCond, SpellsFd, SpellsIndexed, SpellsLine, SpellsMode, SpellsMorePieces, SpellsOp, SpellsParam, SpellsPass, SpellsPassList, SpellsPath, SpellsPiece, SpellsPieces, SpellsPoll, SpellsPorts, SpellsProcedure, SpellsProcess, SpellsRsize, SpellsThread, SpellsValue, SpellsVariable, SpellsWait, Then, qualified_name}
+pub use Rattle.script_line.specs.TableChanges.{no_names}
+pub use Rattle.script_line.specs.Tables.{ProcedureName, Tables, entry_number, from_one, is_same, path_number, process_number, thread_number}
+pub use Rattle.script_line.specs.Uses.{fd_variables, pass_variables, paths_of, piece_variables, variables_of}

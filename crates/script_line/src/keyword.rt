@@ -1,5 +1,5 @@
 /// The first word of a body's line.
-#[derive(Clone, Copy, Debug, PartialEq, Eq)]
+#[derive(Clone, Copy, PartialEq, Eq)]
 pub enum Keyword {
     Create,
     Call,

@@ -1,5 +1,5 @@
 ghost use Rattle.std.specs.Prelude.{◌≡◌};
-ghost use Rattle.script_line.specs.Keywords.{keyword_word, door_keyword as door_spelled, descriptor_keyword as descriptor_spelled, port_keyword as port_spelled, other_keyword as other_spelled, keyword_of as keyword_spelled};
+ghost use Rattle.script_line.specs.Keywords.{keyword_word, keyword_create_to_info as create_to_info_spelled, keyword_getparam_to_detach as getparam_to_detach_spelled, keyword_open_to_get as open_to_get_spelled, keyword_getn_to_end as getn_to_end_spelled, keyword_of as keyword_spelled};
 
 use crate::keyword::Keyword;
 
@@ -58,9 +58,9 @@ const DOOR_KEYWORDS: [Keyword; 8] = [
     Keyword::Info,
 ];
 
-#[tactic(auto, unfolding(crate::specs::Keywords::door_keyword))]
-fn door_keyword(word: &[u8]) -> Option<Keyword>
-    ensures { result ≡ door_spelled word.now }
+#[tactic(auto, unfolding(crate::specs::Keywords::keyword_create_to_info))]
+fn keyword_create_to_info(word: &[u8]) -> Option<Keyword>
+    ensures { result ≡ create_to_info_spelled word.now }
 {
     DOOR_KEYWORDS
         .iter()
@@ -80,9 +80,9 @@ const DESCRIPTOR_KEYWORDS: [Keyword; 9] = [
     Keyword::Detach,
 ];
 
-#[tactic(auto, unfolding(crate::specs::Keywords::descriptor_keyword))]
-fn descriptor_keyword(word: &[u8]) -> Option<Keyword>
-    ensures { result ≡ descriptor_spelled word.now }
+#[tactic(auto, unfolding(crate::specs::Keywords::keyword_getparam_to_detach))]
+fn keyword_getparam_to_detach(word: &[u8]) -> Option<Keyword>
+    ensures { result ≡ getparam_to_detach_spelled word.now }
 {
     DESCRIPTOR_KEYWORDS
         .iter()
@@ -102,9 +102,9 @@ const PORT_KEYWORDS: [Keyword; 9] = [
     Keyword::Get,
 ];
 
-#[tactic(auto, unfolding(crate::specs::Keywords::port_keyword))]
-fn port_keyword(word: &[u8]) -> Option<Keyword>
-    ensures { result ≡ port_spelled word.now }
+#[tactic(auto, unfolding(crate::specs::Keywords::keyword_open_to_get))]
+fn keyword_open_to_get(word: &[u8]) -> Option<Keyword>
+    ensures { result ≡ open_to_get_spelled word.now }
 {
     PORT_KEYWORDS
         .iter()
@@ -125,9 +125,9 @@ const OTHER_KEYWORDS: [Keyword; 10] = [
     Keyword::End,
 ];
 
-#[tactic(auto, unfolding(crate::specs::Keywords::other_keyword))]
-fn other_keyword(word: &[u8]) -> Option<Keyword>
-    ensures { result ≡ other_spelled word.now }
+#[tactic(auto, unfolding(crate::specs::Keywords::keyword_getn_to_end))]
+fn keyword_getn_to_end(word: &[u8]) -> Option<Keyword>
+    ensures { result ≡ getn_to_end_spelled word.now }
 {
     OTHER_KEYWORDS
         .iter()
@@ -139,8 +139,8 @@ fn other_keyword(word: &[u8]) -> Option<Keyword>
 pub fn keyword_of(version: u32, word: &[u8]) -> Option<Keyword>
     ensures { result ≡ keyword_spelled version word.now }
 {
-    door_keyword(word)
-        .or(descriptor_keyword(word))
-        .or(port_keyword(word))
-        .or(other_keyword(word))
+    keyword_create_to_info(word)
+        .or(keyword_getparam_to_detach(word))
+        .or(keyword_open_to_get(word))
+        .or(keyword_getn_to_end(word))
 }

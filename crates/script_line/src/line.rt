@@ -5,7 +5,7 @@ use dk_base::request::{AlertMode, Op, Param};
 use dk_base::set::{Attrs, PollSet};
 
 /// A descriptor as a line names it.
-#[derive(Debug, Drop, PartialEq)]
+#[derive(Drop, PartialEq)]
 pub enum FdArg {
     /// At most 255.
     Number(u32),
@@ -16,7 +16,7 @@ pub enum FdArg {
 pub type FdArgList = Sequence<FdArg>;
 
 /// A descriptor to be passed. `release` is `!`, DOOR_RELEASE (door_call(3C)).
-#[derive(Debug, Drop, PartialEq)]
+#[derive(Drop, PartialEq)]
 pub struct PassArg {
     pub fd: FdArg,
     pub release: bool,
@@ -25,7 +25,7 @@ pub struct PassArg {
 pub type PassArgList = Sequence<PassArg>;
 
 /// A piece of data.
-#[derive(Debug, Drop, PartialEq)]
+#[derive(Drop, PartialEq)]
 pub enum Piece {
     /// A string's bytes.
     Text(Bytes),
@@ -38,7 +38,7 @@ pub enum Piece {
 pub type PieceList = Sequence<Piece>;
 
 /// What an `if` tests.
-#[derive(Clone, Copy, Debug, PartialEq, Eq)]
+#[derive(Clone, Copy, PartialEq, Eq)]
 pub enum Cond {
     /// `ok`: the last answer is no errno.
     Good,
@@ -49,7 +49,7 @@ pub enum Cond {
 
 /// A line of a body. The fields of a command are its operands in their order; variables are named by their bytes,
 /// procedures, paths, threads and processes by their numbers.
-#[derive(Debug, Drop, PartialEq)]
+#[derive(Drop, PartialEq)]
 pub enum Line {
     /// `create VAR PROC COOKIE ATTR ..` (door_create(3C))
     Create {
@@ -226,7 +226,7 @@ pub enum Line {
 pub type Body = Sequence<Line>;
 
 /// What a line does to the blocks of its body.
-#[derive(Clone, Copy, Debug, PartialEq, Eq)]
+#[derive(Clone, Copy, PartialEq, Eq)]
 pub enum Kind {
     /// A command, which makes a request.
     Act,

@@ -11,11 +11,11 @@ pub struct PathTable {
 
 impl Model for PathTable {
     ghost use Rattle.std.specs.Prelude.{List, ℕ, length, ◌<◌};
-    ghost use Rattle.script_line.specs.PathNames.{bytes_of};
+    ghost use Rattle.script_line.specs.PathNames.{names_as_bytes};
 
     ghost Value = { List (List ℕ) };
 
-    ghost view = { λ paths. bytes_of paths.names.keys };
+    ghost view = { λ paths. names_as_bytes paths.names.keys };
 
     ghost invariant = { λ paths. length paths.names.keys < 4294967295 };
 }
@@ -23,7 +23,7 @@ impl Model for PathTable {
 impl PathTable {
     ghost use Rattle.std.specs.Prelude.{◌≡◌, ◌<◌, ◌↔◌, [], length, IfOk, IsTrue, OnOk, OnErr, slice_get, unwrap_or};
     ghost use Rattle.std.specs.List.{position_or_len};
-    ghost use Rattle.script_text.specs.Names.{with_name};
+    ghost use Rattle.script_text.specs.Words.{with_distinct_name};
     ghost use Rattle.script_line.specs.Tables.{is_same};
 
     /// No path.
@@ -48,7 +48,7 @@ impl PathTable {
     /// Gives a path that is not there the next number. Want of memory leaves all as it was.
     pub fn add(&mut self, alloc: Global, name: &[u8]) -> Result<(), NoMemory>
         requires { length self.old < 4294967294 }
-        ensures ok { OnOk result (self.new ≡ with_name self.old name.now) }
+        ensures ok { OnOk result (self.new ≡ with_distinct_name self.old name.now) }
         ensures err { OnErr result (self.new ≡ self.old) }
     {
         let Ok(name) = Vec::from_slice(alloc, name) else {

@@ -1,3 +1,5 @@
+use std::fmt;
+
 /// Why a line is bad. Of several that apply to a line it is the first.
 #[derive(Clone, Copy, Debug, PartialEq, Eq)]
 pub enum Reason {
@@ -49,5 +51,16 @@ impl Reason {
             Reason::Size => "size",
             Reason::Trace => "trace",
         }
+    }
+}
+
+impl fmt::Display for Reason {
+    ghost use Rattle.std.specs.Prelude.{Some};
+    ghost use Rattle.script_line.specs.ReasonWords.{reason_word};
+
+    ghost output = { λ reason. Some (reason_word reason) };
+
+    fn fmt<W: fmt::Write>(&self, f: &mut fmt::Formatter<W>) -> fmt::Result {
+        f.write_str(self.word())
     }
 }

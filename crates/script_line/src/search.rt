@@ -1,5 +1,6 @@
 ghost use Rattle.std.specs.Prelude.{◌≡◌, [], position, slice_get, unwrap_or, option_map};
-ghost use Rattle.script_line.specs.Tables.{is_same, is_procedure, numbered};
+ghost use Rattle.dk_base.specs.ByNumber.{at_number};
+ghost use Rattle.script_line.specs.Tables.{is_same, is_procedure};
 
 use dk_base::duplicate::Duplicate;
 use dk_base::error::NoMemory;
@@ -69,7 +70,7 @@ pub fn place_of_procedure(names: &[ProcedureName], process: u32, name: &[u8]) ->
 
 /// The name that is numbered from 1, or nothing where there is none.
 pub fn name_at(names: &[Bytes], number: u32) -> &[u8]
-    ensures { result.now ≡ unwrap_or (numbered names.now number) [] }
+    ensures { result.now ≡ unwrap_or (at_number names.now number) [] }
 {
     if number == 0 {
         return &[];

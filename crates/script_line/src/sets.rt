@@ -3,7 +3,7 @@
 ghost use Rattle.std.specs.Prelude.{◌≡◌, option_and_then};
 ghost use Rattle.script_line.specs.Enumerated.{value_of_word};
 ghost use Rattle.script_line.specs.FlagWords.{flag_word, bits_of_flags};
-ghost use Rattle.script_line.specs.Sets.{attributes, polls, bits_of_word, with_bits as with_bits_of, poll_of as poll_spelled, poll_word as poll_spelling};
+ghost use Rattle.script_line.specs.Sets.{attribute_flags, poll_flags, bits_of_word, with_bits as with_bits_of, poll_of as poll_spelled, poll_word as poll_spelling};
 
 use dk_base::set::PollSet;
 
@@ -12,7 +12,7 @@ pub const ATTRIBUTES: [u32; 8] = [1, 2, 4, 8, 16, 32, 64, 128];
 
 /// The word of an attribute.
 pub fn attribute_word(bits: u32) -> &'static str
-    ensures { result.now ≡ flag_word attributes bits }
+    ensures { result.now ≡ flag_word attribute_flags bits }
 {
     match bits {
         1 => "unref",
@@ -28,7 +28,7 @@ pub fn attribute_word(bits: u32) -> &'static str
 }
 
 fn attribute_of(word: &[u8]) -> Option<u32>
-    ensures { result ≡ value_of_word (flag_word attributes) (bits_of_flags attributes) word.now }
+    ensures { result ≡ value_of_word (flag_word attribute_flags) (bits_of_flags attribute_flags) word.now }
 {
     ATTRIBUTES
         .iter()
@@ -39,7 +39,7 @@ fn attribute_of(word: &[u8]) -> Option<u32>
 /// The bits of the attribute that a word names.
 #[tactic(auto, using(crate::proofs::FlagSearch::attribute_found))]
 fn attribute_bits(word: &[u8]) -> Option<u32>
-    ensures { result ≡ bits_of_word attributes word.now }
+    ensures { result ≡ bits_of_word attribute_flags word.now }
 {
     attribute_of(word)
 }
@@ -57,7 +57,7 @@ fn with_bits(set: u32, bits: u32) -> Option<u32>
 
 /// A set with the attribute that a word names more.
 pub fn with_attribute(set: u32, word: &[u8]) -> Option<u32>
-    ensures { result ≡ option_and_then (with_bits_of set) (bits_of_word attributes word.now) }
+    ensures { result ≡ option_and_then (with_bits_of set) (bits_of_word attribute_flags word.now) }
 {
     let bits = attribute_bits(word)?;
     with_bits(set, bits)
@@ -68,7 +68,7 @@ const POLLS: [u32; 16] = [0, 1, 4, 5, 8, 9, 12, 13, 16, 17, 20, 21, 24, 25, 28, 
 
 /// The word of a set of events.
 fn poll_bits_word(bits: u32) -> &'static str
-    ensures { result.now ≡ flag_word polls bits }
+    ensures { result.now ≡ flag_word poll_flags bits }
 {
     match bits {
         0 => "none",
@@ -99,7 +99,7 @@ pub fn poll_word(set: PollSet) -> &'static str
 }
 
 fn poll_bits(word: &[u8]) -> Option<u32>
-    ensures { result ≡ value_of_word (flag_word polls) (bits_of_flags polls) word.now }
+    ensures { result ≡ value_of_word (flag_word poll_flags) (bits_of_flags poll_flags) word.now }
 {
     POLLS
         .iter()

@@ -23,7 +23,7 @@ impl Model for Tables {
 
     ghost Value = { Names };
 
-    ghost use Rattle.script_line.specs.Numbered.{HasNumbers};
+    ghost use Rattle.script_line.specs.TableLimits.{HasNumbers};
 
     ghost view = { λ tables. record { processes = tables.processes; threads = tables.threads; procedures = tables.procedures; paths = tables.paths } };
 
@@ -32,10 +32,10 @@ impl Model for Tables {
 
 impl Tables {
     ghost use Rattle.std.specs.Prelude.{◌≡◌, ◌<◌, ◌↔◌, ◌∷◌, ◌++◌, [], length, IfOk, IsTrue, OnOk, OnErr};
-    ghost use Rattle.script_text.specs.Names.{with_name};
+    ghost use Rattle.script_text.specs.Words.{with_distinct_name};
     ghost use Rattle.script_line.specs.Tables.{process_number as process_numbered, thread_number as thread_numbered, entry_number as entry_numbered, path_number as path_numbered};
-    ghost use Rattle.script_line.specs.Words.{process_word, thread_word, procedure_word, path_word};
-    ghost use Rattle.script_line.specs.TableChanges.{no_names, with_process, with_thread, with_procedure, with_path};
+    ghost use Rattle.script_line.specs.CanonicalWords.{process_word, thread_word, procedure_word, path_word};
+    ghost use Rattle.script_line.specs.TableChanges.{no_names, tables_with_process, tables_with_thread, tables_with_procedure, tables_with_path};
 
     /// No name.
     pub fn new(alloc: Global) -> Self
@@ -52,7 +52,7 @@ impl Tables {
     /// Gives a process the next number. Want of memory leaves all as it was.
     pub fn add_process(&mut self, alloc: Global, name: &[u8]) -> Result<(), NoMemory>
         requires { length self.old.processes < 4294967294 }
-        ensures ok { OnOk result (self.new ≡ with_process self.old name.now) }
+        ensures ok { OnOk result (self.new ≡ tables_with_process self.old name.now) }
         ensures err { OnErr result (self.new ≡ self.old) }
     {
         self.processes.push(Sequence::from_slice(alloc, name)?)
@@ -61,7 +61,7 @@ impl Tables {
     /// Gives a thread or a spare the next number. Want of memory leaves all as it was.
     pub fn add_thread(&mut self, alloc: Global, name: &[u8]) -> Result<(), NoMemory>
         requires { length self.old.threads < 4294967294 }
-        ensures ok { OnOk result (self.new ≡ with_thread self.old name.now) }
+        ensures ok { OnOk result (self.new ≡ tables_with_thread self.old name.now) }
         ensures err { OnErr result (self.new ≡ self.old) }
     {
         self.threads.push(Sequence::from_slice(alloc, name)?)
@@ -75,7 +75,7 @@ impl Tables {
         name: &[u8],
     ) -> Result<(), NoMemory>
         requires { length self.old.procedures < 4294967294 }
-        ensures ok { OnOk result (self.new ≡ with_procedure self.old process name.now) }
+        ensures ok { OnOk result (self.new ≡ tables_with_procedure self.old process name.now) }
         ensures err { OnErr result (self.new ≡ self.old) }
     {
         let name = Sequence::from_slice(alloc, name)?;
@@ -85,7 +85,7 @@ impl Tables {
     /// Gives a path that is not there the next number. Want of memory leaves all as it was.
     pub fn add_path(&mut self, alloc: Global, name: &[u8]) -> Result<(), NoMemory>
         requires { length self.old.paths < 4294967294 }
-        ensures ok { OnOk result (self.new ≡ with_path self.old name.now) }
+        ensures ok { OnOk result (self.new ≡ tables_with_path self.old name.now) }
         ensures err { OnErr result (self.new ≡ self.old) }
     {
         self.paths.add(alloc, name)

@@ -8,8 +8,8 @@ use Rattle.std.proofs.lemmas.Str.Parse.{IsNumeralModel, numerals_by_fold}
 use Rattle.std.proofs.lemmas.Fmt.{digits_decimal, digits_value-decimal, decimal-digits_value, decimal_digit, decimal_nonempty, first_decimal}
 use Rattle.std.proofs.lemmas.Grind.{common_steps}
 use Rattle.script_text.specs.declared.number.Number.TheVariants.{Found, NoNumber}
-use Rattle.script_text.specs.Numbers.{is_digit, is_decimal, value_from, value_of, in_range, number_of}
-use Rattle.script_text.specs.Words.{is_plain_byte, is_plain}
+use Rattle.script_text.specs.Numbers.{is_digit, is_decimal, value_from, value_of, number_in_range, bounded_number}
+use Rattle.script_text.specs.LineWords.{is_plain_byte, is_plain}
 use Rattle.script_text.specs.Spelled.{SpellsNumber}
 use Rattle.script_text.proofs.Digits.{digits_of_decimal}
 
@@ -47,7 +47,7 @@ pub decimal-value_of : (ds : List ℕ) → is_decimal ds ≡ true → value_of d
 decimal-value_of ds h small = decimal-digits_value own ds (digits_of_decimal ds h) (some_digits ds h) (no_zero_first ds h) small
 
 -- a number that is written is read again
-pub number_again : (low high n : ℕ) → low ≤ n → n ≤ high → high < 2 ^ 64 → number_of low high (decimal n) ≡ Found n
+pub number_again : (low high n : ℕ) → low ≤ n → n ≤ high → high < 2 ^ 64 → bounded_number low high (decimal n) ≡ Found n
 number_again low high n least most small =
     let below : n < 2 ^ 64 = omega arith in
     rw (is_decimal-decimal n below, value_of-decimal n below) (grind (arith, nat_tests))
@@ -58,27 +58,27 @@ pub record IsFound (low high : ℕ) (word : List ℕ) (n : ℕ) : Type 0 where
   pub most : n ≤ high
   pub spelled : word ≡ decimal n
 
-in_range-found : (low high m n : ℕ) → in_range low high m ≡ Found n → (low ≤ n) × (n ≤ high) × (m ≡ n)
-in_range-found low high m n h = grind (arith, nat_tests)
+number_in_range-found : (low high m n : ℕ) → number_in_range low high m ≡ Found n → (low ≤ n) × (n ≤ high) × (m ≡ n)
+number_in_range-found low high m n h = grind (arith, nat_tests)
 
 found_decimal : (low high : ℕ) (word : List ℕ) (n : ℕ) → high < 2 ^ 64 → is_decimal word ≡ true → (low ≤ n) × (n ≤ high) × (value_of word ≡ n) → IsFound low high word n
 found_decimal low high word n small h p =
     let below : value_of word < 2 ^ 64 = omega arith in
     record { least = p.0; most = p.1; spelled = sym (ap decimal (sym p.2) ∙ decimal-value_of word h below) }
 
-found_cases : (low high : ℕ) (word : List ℕ) (n : ℕ) (b : Bool) → high < 2 ^ 64 → is_decimal word ≡ b → cond b (in_range low high (value_of word)) NoNumber ≡ Found n → IsFound low high word n
-found_cases low high word n true small e h = found_decimal low high word n small e (in_range-found low high (value_of word) n h)
+found_cases : (low high : ℕ) (word : List ℕ) (n : ℕ) (b : Bool) → high < 2 ^ 64 → is_decimal word ≡ b → cond b (number_in_range low high (value_of word)) NoNumber ≡ Found n → IsFound low high word n
+found_cases low high word n true small e h = found_decimal low high word n small e (number_in_range-found low high (value_of word) n h)
 found_cases low high word n false small e h = cc
 
 -- a number that was read is spelled so
-pub number_found : (low high : ℕ) (word : List ℕ) (n : ℕ) → high < 2 ^ 64 → number_of low high word ≡ Found n → IsFound low high word n
+pub number_found : (low high : ℕ) (word : List ℕ) (n : ℕ) → high < 2 ^ 64 → bounded_number low high word ≡ Found n → IsFound low high word n
 number_found low high word n small h = found_cases low high word n (is_decimal word) small refl h
 
 -- a number is read exactly where it is spelled
-pub number_spelled : (low high n : ℕ) (word : List ℕ) → high < 2 ^ 64 → SpellsNumber low high n word → number_of low high word ≡ Found n
+pub number_spelled : (low high n : ℕ) (word : List ℕ) → high < 2 ^ 64 → SpellsNumber low high n word → bounded_number low high word ≡ Found n
 number_spelled low high n word small h = rw h.2 (number_again low high n h.0 h.1 small)
 
-pub number_spells : (low high n : ℕ) (word : List ℕ) → high < 2 ^ 64 → number_of low high word ≡ Found n → SpellsNumber low high n word
+pub number_spells : (low high n : ℕ) (word : List ℕ) → high < 2 ^ 64 → bounded_number low high word ≡ Found n → SpellsNumber low high n word
 number_spells low high n word small h = let found = number_found low high word n small h in (found.least, found.most, found.spelled)
 
 digit_is_plain : (b : ℕ) → is_digit b ≡ true → is_plain_byte b ≡ true

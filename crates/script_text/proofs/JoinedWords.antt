@@ -6,7 +6,7 @@ use Rattle.std.proofs.lemmas.List.{append_assoc}
 use Rattle.std.proofs.lemmas.Grind.{common_steps}
 use Rattle.script_text.specs.declared.mode.Mode.{Mode}
 use Rattle.script_text.specs.declared.mode.Mode.TheVariants.{Between, Word, Text, Escape}
-use Rattle.script_text.specs.Words.{mode_after, words_with, words_from, words_of, is_in_word, is_word_from, is_word, is_plain_byte, is_plain, joined, spaced}
+use Rattle.script_text.specs.LineWords.{mode_after, words_with, words_from, words_of, is_in_word, is_word_from, is_word, is_plain_byte, is_plain, joined_words, spaced_words}
 use Rattle.script_text.proofs.WordEnd.{word_with, words_from-cons}
 
 is_word_from-cons : (mode : Mode) (b : ℕ) (bs : List ℕ) → is_word_from mode (b ∷ bs) ≡ (is_in_word (mode_after mode b) && is_word_from (mode_after mode b) bs)
@@ -43,12 +43,12 @@ word_last mode (b ∷ bs) h =
     ∙ word_with b mode (mode_after mode b) bs [] p.0
 
 -- joined words are these words
-pub words_of-joined : (words : List (List ℕ)) → list_all is_word words ≡ true → words_of (joined words) ≡ words
-words_of-joined [] h = refl
-words_of-joined (word ∷ []) h = word_last Between word (and_parts _ _ h).0
-words_of-joined (word ∷ next ∷ words) h =
+pub words_of-joined_words : (words : List (List ℕ)) → list_all is_word words ≡ true → words_of (joined_words words) ≡ words
+words_of-joined_words [] h = refl
+words_of-joined_words (word ∷ []) h = word_last Between word (and_parts _ _ h).0
+words_of-joined_words (word ∷ next ∷ words) h =
     let p = and_parts (is_word word) (list_all is_word (next ∷ words)) h in
-    word_before Between word (joined (next ∷ words)) p.0 ∙ ap (λ others. word ∷ others) (words_of-joined (next ∷ words) p.1)
+    word_before Between word (joined_words (next ∷ words)) p.0 ∙ ap (λ others. word ∷ others) (words_of-joined_words (next ∷ words) p.1)
 
 plain_rest : (word : List ℕ) → list_all is_plain_byte word ≡ true → is_word_from Word word ≡ true
 plain_rest [] h = refl
@@ -70,11 +70,11 @@ is_word-plain (b ∷ bs) h =
     let q = and_parts (is_plain_byte b) (list_all is_plain_byte bs) p.1 in
     plain_first b bs p.0 q.0 (plain_rest bs q.1)
 
--- joined words are the first, and the others each behind a space
-pub joined_first : (word : List ℕ) (words : List (List ℕ)) → joined (word ∷ words) ≡ word ++ spaced words
+-- joined words are the first, and the others each after a space
+pub joined_first : (word : List ℕ) (words : List (List ℕ)) → joined_words (word ∷ words) ≡ word ++ spaced_words words
 joined_first word [] = grind (arith, common_steps)
 joined_first word (next ∷ words) = ap (λ rest. word ++ 32 ∷ rest) (joined_first next words)
 
-pub spaced-append : (words others : List (List ℕ)) → spaced (words ++ others) ≡ spaced words ++ spaced others
-spaced-append [] others = refl
-spaced-append (word ∷ words) others = ap (λ rest. 32 ∷ (word ++ rest)) (spaced-append words others) ∙ ap (λ rest. 32 ∷ rest) (sym (append_assoc word (spaced words) (spaced others)))
+pub spaced_words-append : (words others : List (List ℕ)) → spaced_words (words ++ others) ≡ spaced_words words ++ spaced_words others
+spaced_words-append [] others = refl
+spaced_words-append (word ∷ words) others = ap (λ rest. 32 ∷ (word ++ rest)) (spaced_words-append words others) ∙ ap (λ rest. 32 ∷ rest) (sym (append_assoc word (spaced_words words) (spaced_words others)))

@@ -9,5 +9,5 @@ pub mod StringWords
 pub mod DecimalWords
 pub mod JoinedWords
 pub mod TextLines
-pub mod Behind
+pub mod AfterFront
 pub mod PartsAt

@@ -3,9 +3,9 @@ use Rattle.std.proofs.Common.{◌≡◌, ℕ, Bool, true, false, cond, ◌&&◌,
 use Rattle.std.specs.List.{list_any, list_all}
 use Rattle.std.proofs.lemmas.Bool.{false≢true, or_parts, eqb-true, eq-eqb, ne_eqb, and_parts}
 use Rattle.std.proofs.lemmas.Bool.Decides.{nat_tests}
-use Rattle.script_text.specs.Parts.{with_first, parts_at, before_last}
+use Rattle.script_text.specs.Parts.{with_first, parts_at, part_before_last}
 use Rattle.script_text.specs.Names.{is_name, is_name_byte, is_letter}
-use Rattle.script_text.specs.Words.{is_plain_byte, is_plain}
+use Rattle.script_text.specs.LineWords.{is_plain_byte, is_plain}
 use Rattle.script_text.proofs.PartsAt.{ends_with}
 
 -- parts at a byte
@@ -14,7 +14,7 @@ use Rattle.script_text.proofs.PartsAt.{ends_with}
 abbrev pub has : ℕ → List ℕ → Bool
 has mark word = list_any (λ b. b == mark) word
 
--- what was put before and behind a byte that does not stand before
+-- what was put before and after a byte that does not stand before
 pub parts_again : (mark : ℕ) (front rest : List ℕ) → has mark front ≡ false → parts_at mark (front ++ mark ∷ rest) ≡ Some (front, rest)
 parts_again mark [] rest h = grind (arith, nat_tests)
 parts_again mark (b ∷ front) rest h =
@@ -70,11 +70,11 @@ none_parted mark (b ∷ word) h = whole_cases mark b word (parts_at mark word) _
 
 -- the last byte
 
-pub front_again : (mark : ℕ) (front : List ℕ) → before_last mark (front ++ mark ∷ []) ≡ Some front
+pub front_again : (mark : ℕ) (front : List ℕ) → part_before_last mark (front ++ mark ∷ []) ≡ Some front
 front_again mark front = ends_with mark front mark ∙ rw (eq-eqb mark mark refl) refl
 
 -- what stands before a last byte is the word without it
-pub front_found : (mark : ℕ) (word front : List ℕ) → before_last mark word ≡ Some front → word ≡ front ++ mark ∷ []
+pub front_found : (mark : ℕ) (word front : List ℕ) → part_before_last mark word ≡ Some front → word ≡ front ++ mark ∷ []
 front_found mark [] front h = cc
 front_found mark (b ∷ []) front h = alone _ refl h
   where
@@ -88,7 +88,7 @@ front_found mark (b ∷ c ∷ word) front h = longer _ (front_found mark (c ∷ 
     longer (Some f) found h = let same : b ∷ f ≡ front = cc in rw (← same) (ap (λ rest. b ∷ rest) (found f refl))
 
 -- a word that ends with another byte, or with none
-pub front_none : (mark : ℕ) (front : List ℕ) (last : ℕ) → (last == mark) ≡ false → before_last mark (front ++ last ∷ []) ≡ None
+pub front_none : (mark : ℕ) (front : List ℕ) (last : ℕ) → (last == mark) ≡ false → part_before_last mark (front ++ last ∷ []) ≡ None
 front_none mark front last other = ends_with mark front last ∙ rw other refl
 
 -- names

@@ -3,7 +3,7 @@ use Rattle.std.proofs.Common.{◌≡◌, ℕ, ◌+◌, ◌-◌, ◌<◌, ◌≤�
 use Rattle.std.specs.List.{position_or_len}
 use Rattle.std.proofs.lemmas.List.{take_rest}
 use Rattle.std.proofs.lemmas.Grind.{common_steps}
-use Rattle.script_text.specs.Parts.{parts_at, before_last}
+use Rattle.script_text.specs.Parts.{parts_at, part_before_last}
 
 abbrev place : ℕ → List ℕ → ℕ
 place mark word = position_or_len (λ b. b == mark) word
@@ -35,7 +35,7 @@ pub not_parted : (mark : ℕ) (word : List ℕ) → position (λ b. b == mark) w
 not_parted mark word h = grind (arith, whole mark word, common_steps)
 
 -- the last byte
-pub ends_with : (mark : ℕ) (front : List ℕ) (last : ℕ) → before_last mark (front ++ last ∷ []) ≡ cond (last == mark) (Some front) None
+pub ends_with : (mark : ℕ) (front : List ℕ) (last : ℕ) → part_before_last mark (front ++ last ∷ []) ≡ cond (last == mark) (Some front) None
 ends_with mark [] last = refl
 ends_with mark (b ∷ []) last = grind (arith, common_steps)
 ends_with mark (b ∷ c ∷ front) last = rw (ends_with mark (c ∷ front) last) (grind (arith, common_steps))

@@ -9,7 +9,7 @@ use Rattle.std.proofs.lemmas.Fmt.{digits_decimal}
 use Rattle.script_text.specs.Lines.{is_printable, is_one_line}
 use Rattle.script_text.specs.Numbers.{is_digit}
 use Rattle.script_text.specs.Names.{is_name, is_name_byte}
-use Rattle.script_text.specs.Words.{joined}
+use Rattle.script_text.specs.LineWords.{joined_words}
 use Rattle.script_text.specs.Strings.{is_marked, hex_digit}
 use Rattle.script_text.specs.Spelled.{SpellsByte, SpellsText, SpellsString}
 use Rattle.script_text.proofs.DecimalWords.{own}
@@ -35,12 +35,12 @@ pub are_printable-append : (front rest : List ℕ) → are_printable front ≡ t
 are_printable-append front rest f r = list_all-append is_printable front rest ∙ and_from _ _ f r
 
 -- words that are printable, joined
-pub are_printable-joined : (words : List (List ℕ)) → list_all are_printable words ≡ true → are_printable (joined words) ≡ true
-are_printable-joined [] h = refl
-are_printable-joined (word ∷ []) h = (and_parts _ _ h).0
-are_printable-joined (word ∷ next ∷ words) h =
+pub are_printable-joined_words : (words : List (List ℕ)) → list_all are_printable words ≡ true → are_printable (joined_words words) ≡ true
+are_printable-joined_words [] h = refl
+are_printable-joined_words (word ∷ []) h = (and_parts _ _ h).0
+are_printable-joined_words (word ∷ next ∷ words) h =
     let p = and_parts (are_printable word) (list_all are_printable (next ∷ words)) h in
-    are_printable-append word (32 ∷ joined (next ∷ words)) p.0 (are_printable-joined (next ∷ words) p.1)
+    are_printable-append word (32 ∷ joined_words (next ∷ words)) p.0 (are_printable-joined_words (next ∷ words) p.1)
 
 digit_is_printable : (b : ℕ) → is_digit b ≡ true → is_printable b ≡ true
 digit_is_printable b h = grind (arith, nat_tests)

@@ -4,8 +4,8 @@ use Rattle.std.proofs.lemmas.Bool.{or_parts, eqb-true, lt-ltb}
 use Rattle.std.proofs.lemmas.Bool.Decides.{nat_tests}
 use Rattle.script_text.specs.declared.mode.Mode.TheVariants.{Text}
 use Rattle.script_text.specs.Lines.{is_printable}
-use Rattle.script_text.specs.Words.{is_word_from, is_word}
-use Rattle.script_text.specs.Strings.{Place, Plain, Escaped, High, Low, is_hex, hex_value, is_marked, before_text, closed, text_from, string_of, hex_digit, are_bytes}
+use Rattle.script_text.specs.LineWords.{is_word_from, is_word}
+use Rattle.script_text.specs.Strings.{StringPlace, Plain, Escaped, High, Low, is_hex, hex_value, is_marked, text_with_first, text_after_quote, text_from, string_of, hex_digit, are_bytes}
 use Rattle.script_text.specs.Spelled.{SpellsHex, SpellsByte, SpellsText, SpellsString}
 use Rattle.script_text.proofs.StringWords.{hex_digit-value, hex_value-small}
 
@@ -15,7 +15,7 @@ record Begins (b : ℕ) (o : Option (List ℕ)) (text : List ℕ) : Type 0 where
   is : o ≡ Some rest
   split : b ∷ rest ≡ text
 
-begins : (b : ℕ) (o : Option (List ℕ)) (text : List ℕ) → before_text b o ≡ Some text → Begins b o text
+begins : (b : ℕ) (o : Option (List ℕ)) (text : List ℕ) → text_with_first b o ≡ Some text → Begins b o text
 begins b None text h = cc
 begins b (Some rest) text h = record { rest = rest; is = refl; split = cc }
 
@@ -24,16 +24,16 @@ spells_first b first others rest text spelled h e =
     rw (← e) (record { first = first; others = others; split = refl; spells_first = spelled; spells_others = h })
 
 -- what the bytes of a string's rest spell, at each place
-abbrev FoundText : Place → List ℕ → List ℕ → Type 0
+abbrev FoundText : StringPlace → List ℕ → List ℕ → Type 0
 FoundText Plain bytes text = SpellsText text bytes
 FoundText Escaped bytes text = SpellsText text (92 ∷ bytes)
 FoundText High bytes text = SpellsText text (92 ∷ 120 ∷ bytes)
 FoundText (Low n) bytes text = n < 16 → SpellsText text (92 ∷ 120 ∷ hex_digit n ∷ bytes)
 
-abbrev Finds : Place → List ℕ → Type 0
+abbrev Finds : StringPlace → List ℕ → Type 0
 Finds place bytes = (text : List ℕ) → text_from place bytes ≡ Some text → FoundText place bytes text
 
-closed_found : (b : ℕ) (bs text : List ℕ) → b ≡ 34 → closed bs ≡ Some text → SpellsText text (b ∷ bs)
+closed_found : (b : ℕ) (bs text : List ℕ) → b ≡ 34 → text_after_quote bs ≡ Some text → SpellsText text (b ∷ bs)
 closed_found b [] [] e h = ap (λ c. c ∷ []) e
 closed_found b [] (c ∷ text) e h = cc
 closed_found b (c ∷ bs) text e h = cc
@@ -41,7 +41,7 @@ closed_found b (c ∷ bs) text e h = cc
 escaped_found : (b : ℕ) (bs text : List ℕ) → b ≡ 92 → SpellsText text (92 ∷ bs) → SpellsText text (b ∷ bs)
 escaped_found b bs text e h = rw e h
 
-plain_byte_found : (b : ℕ) (bs text : List ℕ) → is_printable b ≡ true → is_marked b ≡ false → Finds Plain bs → before_text b (text_from Plain bs) ≡ Some text → SpellsText text (b ∷ bs)
+plain_byte_found : (b : ℕ) (bs text : List ℕ) → is_printable b ≡ true → is_marked b ≡ false → Finds Plain bs → text_with_first b (text_from Plain bs) ≡ Some text → SpellsText text (b ∷ bs)
 plain_byte_found b bs text printable unmarked found h =
     let begun = begins b (text_from Plain bs) text h in
     spells_first b (b ∷ []) bs begun.rest text (inl (printable, unmarked, refl)) (found begun.rest begun.is) begun.split
@@ -50,13 +50,13 @@ unmarked_from : (b : ℕ) → (b == 34) ≡ false → (b == 92) ≡ false → is
 unmarked_from b quote slash = rw (quote, slash) refl
 
 plain_found : (b : ℕ) (bs text : List ℕ) (quote slash printable : Bool) → (b == 34) ≡ quote → (b == 92) ≡ slash → is_printable b ≡ printable → Finds Plain bs → Finds Escaped bs
-    → cond quote (closed bs) (cond slash (text_from Escaped bs) (cond printable (before_text b (text_from Plain bs)) None)) ≡ Some text → SpellsText text (b ∷ bs)
+    → cond quote (text_after_quote bs) (cond slash (text_from Escaped bs) (cond printable (text_with_first b (text_from Plain bs)) None)) ≡ Some text → SpellsText text (b ∷ bs)
 plain_found b bs text true slash printable q s p plain escaped h = closed_found b bs text (eqb-true b 34 q) h
 plain_found b bs text false true printable q s p plain escaped h = escaped_found b bs text (eqb-true b 92 s) (escaped text h)
 plain_found b bs text false false true q s p plain escaped h = plain_byte_found b bs text p (unmarked_from b q s) plain h
 plain_found b bs text false false false q s p plain escaped h = cc
 
-marked_found : (b : ℕ) (bs text : List ℕ) → is_marked b ≡ true → Finds Plain bs → before_text b (text_from Plain bs) ≡ Some text → SpellsText text (92 ∷ b ∷ bs)
+marked_found : (b : ℕ) (bs text : List ℕ) → is_marked b ≡ true → Finds Plain bs → text_with_first b (text_from Plain bs) ≡ Some text → SpellsText text (92 ∷ b ∷ bs)
 marked_found b bs text marked found h =
     let begun = begins b (text_from Plain bs) text h in
     spells_first b (92 ∷ b ∷ []) bs begun.rest text (inr (inl (marked, refl))) (found begun.rest begun.is) begun.split
@@ -65,7 +65,7 @@ letter_found : (b : ℕ) (bs text : List ℕ) → b ≡ 120 → SpellsText text 
 letter_found b bs text e h = rw e h
 
 escape_found : (b : ℕ) (bs text : List ℕ) (marked letter : Bool) → is_marked b ≡ marked → (b == 120) ≡ letter → Finds Plain bs → Finds High bs
-    → cond marked (before_text b (text_from Plain bs)) (cond letter (text_from High bs) None) ≡ Some text → SpellsText text (92 ∷ b ∷ bs)
+    → cond marked (text_with_first b (text_from Plain bs)) (cond letter (text_from High bs) None) ≡ Some text → SpellsText text (92 ∷ b ∷ bs)
 escape_found b bs text true letter m l plain high h = marked_found b bs text m plain h
 escape_found b bs text false true m l plain high h = letter_found b bs text (eqb-true b 120 l) (high text h)
 escape_found b bs text false false m l plain high h = cc
@@ -80,17 +80,17 @@ hex_spelled high low h l =
     let back : (16 * high + low) % 16 ≡ low = omega arith in
     (omega arith, rw (front, back) refl)
 
-digits_found : (n b : ℕ) (bs text : List ℕ) → is_hex b ≡ true → n < 16 → Finds Plain bs → before_text (16 * n + hex_value b) (text_from Plain bs) ≡ Some text → SpellsText text (92 ∷ 120 ∷ hex_digit n ∷ b ∷ bs)
+digits_found : (n b : ℕ) (bs text : List ℕ) → is_hex b ≡ true → n < 16 → Finds Plain bs → text_with_first (16 * n + hex_value b) (text_from Plain bs) ≡ Some text → SpellsText text (92 ∷ 120 ∷ hex_digit n ∷ b ∷ bs)
 digits_found n b bs text hex small found h =
     let begun = begins (16 * n + hex_value b) (text_from Plain bs) text h in
     let spelled : SpellsHex (16 * n + hex_value b) (92 ∷ 120 ∷ hex_digit n ∷ b ∷ []) = rw (hex_digit-value b hex) at (hex_spelled n (hex_value b) small (hex_value-small b hex)) in
     spells_first (16 * n + hex_value b) (92 ∷ 120 ∷ hex_digit n ∷ b ∷ []) bs begun.rest text (inr (inr spelled)) (found begun.rest begun.is) begun.split
 
-low_found : (n b : ℕ) (bs text : List ℕ) (hex : Bool) → is_hex b ≡ hex → n < 16 → Finds Plain bs → cond hex (before_text (16 * n + hex_value b) (text_from Plain bs)) None ≡ Some text → SpellsText text (92 ∷ 120 ∷ hex_digit n ∷ b ∷ bs)
+low_found : (n b : ℕ) (bs text : List ℕ) (hex : Bool) → is_hex b ≡ hex → n < 16 → Finds Plain bs → cond hex (text_with_first (16 * n + hex_value b) (text_from Plain bs)) None ≡ Some text → SpellsText text (92 ∷ 120 ∷ hex_digit n ∷ b ∷ bs)
 low_found n b bs text true e small found h = digits_found n b bs text e small found h
 low_found n b bs text false e small found h = cc
 
-text_found : (place : Place) (bytes text : List ℕ) → text_from place bytes ≡ Some text → FoundText place bytes text
+text_found : (place : StringPlace) (bytes text : List ℕ) → text_from place bytes ≡ Some text → FoundText place bytes text
 text_found Plain [] text h = cc
 text_found Escaped [] text h = cc
 text_found High [] text h = cc

@@ -6,9 +6,9 @@ use Rattle.std.proofs.lemmas.Bool.{false≢true}
 use Rattle.std.proofs.lemmas.Grind.{common_steps}
 use Rattle.script_text.specs.declared.mode.Mode.{Mode}
 use Rattle.script_text.specs.declared.mode.Mode.TheVariants.{Between, Word, Text, Escape}
-use Rattle.script_text.specs.Words.{mode_after, words_with, words_from, words_of}
+use Rattle.script_text.specs.LineWords.{mode_after, words_with, words_from, words_of}
 use Rattle.script_text.proofs.Places.{drop_cons_at}
-use Rattle.script_text.specs.Words.{is_in_word}
+use Rattle.script_text.specs.LineWords.{is_in_word}
 
 -- the word goes on at place len with the word that the rest begins with
 abbrev pub Continues : Mode → List ℕ → Mode → ℕ → Type 0

@@ -1,7 +1,9 @@
+pub mod Types
 pub mod Lines
-pub mod Words
+pub mod LineWords
 pub mod Numbers
 pub mod Names
 pub mod Parts
 pub mod Strings
 pub mod Spelled
+pub mod Words

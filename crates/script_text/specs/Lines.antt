@@ -12,9 +12,9 @@ abbrev pub is_printable : ℕ → Bool
 is_printable b = nat_le 32 b && nat_le b 126
 
 -- the text of these lines, each with its line feed
-abbrev pub text_of : List (List ℕ) → List ℕ
-text_of [] = []
-text_of (line ∷ lines) = line ++ 10 ∷ text_of lines
+abbrev pub text_of_lines : List (List ℕ) → List ℕ
+text_of_lines [] = []
+text_of_lines (line ∷ lines) = line ++ 10 ∷ text_of_lines lines
 
 -- no line feed stands in it
 abbrev pub is_one_line : List ℕ → Bool

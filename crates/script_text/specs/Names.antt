@@ -20,18 +20,18 @@ is_name (b ∷ bs) = is_letter b && nat_le (length bs) 15 && list_all is_name_by
 abbrev pub has_name : List (List ℕ) → List ℕ → Bool
 has_name names name = list_any (λ other. bytes_eq other name) names
 
--- these names and, unless it is among them, this one behind them
-abbrev pub with_name : List (List ℕ) → List ℕ → List (List ℕ)
-with_name names name = if has_name names name then names else names ++ name ∷ []
+-- these names and, unless it is among them, this one after them
+abbrev pub with_distinct_name : List (List ℕ) → List ℕ → List (List ℕ)
+with_distinct_name names name = if has_name names name then names else names ++ name ∷ []
 
--- these names and, behind them, each further one in the order of its first use
-abbrev pub with_names : List (List ℕ) → List (List ℕ) → List (List ℕ)
-with_names names [] = names
-with_names names (used ∷ uses) = with_names (with_name names used) uses
+-- these names and, after them, each further one in the order of its first use
+abbrev pub with_distinct_names : List (List ℕ) → List (List ℕ) → List (List ℕ)
+with_distinct_names names [] = names
+with_distinct_names names (used ∷ uses) = with_distinct_names (with_distinct_name names used) uses
 
 -- the different ones of these uses, in the order of their first uses
 abbrev pub first_uses : List (List ℕ) → List (List ℕ)
-first_uses uses = with_names [] uses
+first_uses uses = with_distinct_names [] uses
 
 -- no two of these are the same
 abbrev pub are_distinct : {X : Type 0} → (X → X → Bool) → List X → Bool

@@ -13,7 +13,7 @@ is_decimal [] = false
 is_decimal (b ∷ []) = is_digit b
 is_decimal (b ∷ c ∷ bs) = is_digit b && not (b == 48) && list_all is_digit (c ∷ bs)
 
--- what digits spell behind those that spell n
+-- what digits spell after those that spell n
 abbrev pub value_from : ℕ → List ℕ → ℕ
 value_from n [] = n
 value_from n (b ∷ bs) = value_from (10 * n + (b - 48)) bs
@@ -23,13 +23,13 @@ abbrev pub value_of : List ℕ → ℕ
 value_of digits = value_from 0 digits
 
 -- a number of at most 64 bits
-abbrev pub in_64_bits : ℕ → Option ℕ
-in_64_bits n = if nat_le n 18446744073709551615 then Some n else None
+abbrev pub number_in_64_bits : ℕ → Option ℕ
+number_in_64_bits n = if nat_le n 18446744073709551615 then Some n else None
 
 -- a number between two
-abbrev pub in_range : ℕ → ℕ → ℕ → Number
-in_range low high n = if nat_le low n && nat_le n high then Found n else OutOfRange
+abbrev pub number_in_range : ℕ → ℕ → ℕ → Number
+number_in_range low high n = if nat_le low n && nat_le n high then Found n else OutOfRange
 
 -- what a word is as a number from low to high: a run of digits is a number, however long
-abbrev pub number_of : ℕ → ℕ → List ℕ → Number
-number_of low high word = if is_decimal word then in_range low high (value_of word) else NoNumber
+abbrev pub bounded_number : ℕ → ℕ → List ℕ → Number
+bounded_number low high word = if is_decimal word then number_in_range low high (value_of word) else NoNumber

@@ -16,7 +16,7 @@ SpellsNumber low high n word = (low ≤ n) × (n ≤ high) × (word ≡ decimal 
 abbrev pub SpellsPlain : ℕ → List ℕ → Type 0
 SpellsPlain b bytes = (is_printable b ≡ true) × (is_marked b ≡ false) × (bytes ≡ b ∷ [])
 
--- a quote or a backslash stands behind a backslash, which is 92
+-- a quote or a backslash stands after a backslash, which is 92
 abbrev pub SpellsMarked : ℕ → List ℕ → Type 0
 SpellsMarked b bytes = (is_marked b ≡ true) × (bytes ≡ 92 ∷ b ∷ [])
 

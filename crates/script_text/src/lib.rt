@@ -8,7 +8,5 @@ pub mod names;
 pub mod number;
 pub mod parts;
 pub mod string;
-#[cfg(test)]
-mod tests;
 pub mod words;
 pub mod writer;

@@ -1,9 +1,9 @@
 /// Where a place in a line stands.
-#[derive(Clone, Copy, Debug)]
+#[derive(Clone, Copy)]
 pub enum Mode {
     Between,
     Word,
     Text,
-    /// Behind a backslash in a string.
+    /// After a backslash in a string.
     Escape,
 }

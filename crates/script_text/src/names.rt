@@ -1,6 +1,6 @@
 ghost use Rattle.std.specs.Prelude.{◌≡◌, ◌≤◌, ◌+◌, OnOk, OnErr, length};
 ghost use Rattle.std.specs.List.{list_all};
-ghost use Rattle.script_text.specs.Names.{is_letter as is_letter_byte, is_name_byte as is_name_byte_of, is_name as is_name_word, has_name as has_such_name, with_name};
+ghost use Rattle.script_text.specs.Names.{is_letter as is_letter_byte, is_name_byte as is_name_byte_of, is_name as is_name_word, has_name as has_such_name, with_distinct_name};
 
 use crate::number::is_digit;
 use dk_base::error::NoMemory;
@@ -41,9 +41,9 @@ fn has_name(names: &[Bytes], name: &[u8]) -> bool
     names.iter().any(|other| other.slice() == name)
 }
 
-/// Puts a name behind these, unless it is among them. Want of memory leaves them as they were.
+/// Puts a name after these, unless it is among them. Want of memory leaves them as they were.
 pub fn add_name(alloc: Global, names: &mut Sequence<Bytes>, name: &[u8]) -> Result<(), NoMemory>
-    ensures ok { OnOk result (names.new ≡ with_name names.old name.now) }
+    ensures ok { OnOk result (names.new ≡ with_distinct_name names.old name.now) }
     ensures few { OnOk result (length names.new ≤ length names.old + 1) }
     ensures err { OnErr result (names.new ≡ names.old) }
 {

@@ -1,9 +1,9 @@
 ghost use Rattle.std.specs.Prelude.{◌≡◌, ◌+◌, ◌-◌, ◌*◌, true};
 ghost use Rattle.std.specs.List.{list_all};
-ghost use Rattle.script_text.specs.Numbers.{is_digit as is_digit_byte, is_decimal as is_decimal_word, value_of, in_64_bits, number_of as number_of_word};
+ghost use Rattle.script_text.specs.Numbers.{is_digit as is_digit_byte, is_decimal as is_decimal_word, value_of, number_in_64_bits, bounded_number as number_of_word};
 
 /// What a word is as a number between two.
-#[derive(Clone, Copy, Debug)]
+#[derive(Clone, Copy)]
 pub enum Number {
     Found(u64),
     /// It is a number, but none between the two.
@@ -34,10 +34,10 @@ fn is_decimal(word: &[u8]) -> bool
     }
 }
 
-/// A number with a digit behind it, if that has at most 64 bits.
+/// A number with a digit after it, if that has at most 64 bits.
 fn with_digit(number: u64, digit: u8) -> Option<u64>
     requires { is_digit_byte digit ≡ true }
-    ensures { result ≡ in_64_bits (10 * number + (digit - 48)) }
+    ensures { result ≡ number_in_64_bits (10 * number + (digit - 48)) }
 {
     number.checked_mul(10)?.checked_add(u64::from(digit - b'0'))
 }
@@ -45,7 +45,7 @@ fn with_digit(number: u64, digit: u8) -> Option<u64>
 /// The number that digits spell, if it has at most 64 bits.
 fn value(digits: &[u8]) -> Option<u64>
     requires { list_all is_digit_byte digits.now ≡ true }
-    ensures { result ≡ in_64_bits (value_of digits.now) }
+    ensures { result ≡ number_in_64_bits (value_of digits.now) }
 {
     let mut value: u64 = 0;
     for digit in digits {
@@ -57,7 +57,7 @@ fn value(digits: &[u8]) -> Option<u64>
 /// What a word is as a number from `low` to `high`, in decimal without leading zeros. A run of digits is a number however
 /// long it is.
 #[tactic(auto, using(crate::proofs::Digits::digits_of_decimal))]
-pub fn number_of(word: &[u8], low: u64, high: u64) -> Number
+pub fn bounded_number(word: &[u8], low: u64, high: u64) -> Number
     ensures { result ≡ number_of_word low high word.now }
 {
     if !is_decimal(word) {

@@ -1,7 +1,7 @@
 //! Words that are made of parts.
 
 ghost use Rattle.std.specs.Prelude.{◌≡◌, ◌==◌, Some, None, MatchOption, option_copied, position};
-ghost use Rattle.script_text.specs.Parts.{parts_at as parts_of_word, before_last as front_of_word};
+ghost use Rattle.script_text.specs.Parts.{parts_at as parts_of_word, part_before_last as front_of_word};
 
 /// Where a byte first stands.
 fn place_of(mark: u8, word: &[u8]) -> Option<usize>
@@ -10,7 +10,7 @@ fn place_of(mark: u8, word: &[u8]) -> Option<usize>
     word.iter().position(|byte| *byte == mark)
 }
 
-/// What stands before and behind the first byte that is this one.
+/// What stands before and after the first byte that is this one.
 #[tactic(auto, using(crate::proofs::PartsAt::parted_at, crate::proofs::PartsAt::not_parted))]
 pub fn parts_at(mark: u8, word: &[u8]) -> Option<(&[u8], &[u8])>
     ensures { MatchOption result (parts_of_word mark word.now ≡ None) (λ parts. parts_of_word mark word.now ≡ Some (parts.0.now, parts.1.now)) }
@@ -21,7 +21,7 @@ pub fn parts_at(mark: u8, word: &[u8]) -> Option<(&[u8], &[u8])>
 
 /// What stands before the last byte, where that is this one.
 #[tactic(auto, using(crate::proofs::PartsAt::ends_with))]
-pub fn before_last(mark: u8, word: &[u8]) -> Option<&[u8]>
+pub fn part_before_last(mark: u8, word: &[u8]) -> Option<&[u8]>
     ensures { option_copied result ≡ front_of_word mark word.now }
 {
     let (last, front) = word.split_last()?;

@@ -1,6 +1,6 @@
 ghost use Rattle.std.specs.Prelude.{◌≡◌, ◌<◌, ◌++◌, [], Some, None, true, length, MatchOption, IfOk, IfSome, OnOk, if◌then◌else◌};
 ghost use Rattle.script_text.specs.Lines.{is_printable as is_printable_byte};
-ghost use Rattle.script_text.specs.Strings.{Plain, Escaped, High, is_hex as is_hex_byte, hex_value as value_of_hex, is_marked as is_marked_byte, before_text, text_at_end, text_from, string_of as text_of_string, hex_digit as digit_of_hex, quoted_byte, quoted as quoted_bytes};
+ghost use Rattle.script_text.specs.Strings.{Plain, Escaped, High, is_hex as is_hex_byte, hex_value as value_of_hex, is_marked as is_marked_byte, text_with_first, text_at_end, text_from, string_of as text_of_string, hex_digit as digit_of_hex, quoted_byte, quoted_text as quoted_bytes};
 
 use crate::number::is_digit;
 use dk_base::error::NoMemory;
@@ -33,7 +33,7 @@ fn hex_value(digit: u8) -> u8
     }
 }
 
-/// Whether a byte stands in a string behind a backslash.
+/// Whether a byte stands in a string after a backslash.
 fn is_marked(byte: u8) -> bool
     ensures { result ≡ is_marked_byte byte }
 {
@@ -42,7 +42,7 @@ fn is_marked(byte: u8) -> bool
 
 /// The byte of two hexadecimal digits, and what follows them.
 fn hex_byte(bytes: &[u8]) -> Option<(u8, &[u8])>
-    ensures byte { MatchOption result (text_from High bytes.now ≡ None) (λ found. text_from High bytes.now ≡ before_text found.0 (text_from Plain found.1.now)) }
+    ensures byte { MatchOption result (text_from High bytes.now ≡ None) (λ found. text_from High bytes.now ≡ text_with_first found.0 (text_from Plain found.1.now)) }
     ensures shorter { IfSome result (λ found. length found.1.now < length bytes.now) }
 {
     let (high, rest) = bytes.split_first()?;
@@ -53,9 +53,9 @@ fn hex_byte(bytes: &[u8]) -> Option<(u8, &[u8])>
     Some((16 * hex_value(*high) + hex_value(*low), rest))
 }
 
-/// The byte that is spelled behind a backslash, and what follows it.
+/// The byte that is spelled after a backslash, and what follows it.
 fn escaped_byte(bytes: &[u8]) -> Option<(u8, &[u8])>
-    ensures byte { MatchOption result (text_from Escaped bytes.now ≡ None) (λ found. text_from Escaped bytes.now ≡ before_text found.0 (text_from Plain found.1.now)) }
+    ensures byte { MatchOption result (text_from Escaped bytes.now ≡ None) (λ found. text_from Escaped bytes.now ≡ text_with_first found.0 (text_from Plain found.1.now)) }
     ensures shorter { IfSome result (λ found. length found.1.now < length bytes.now) }
 {
     let (first, rest) = bytes.split_first()?;
@@ -68,7 +68,7 @@ fn escaped_byte(bytes: &[u8]) -> Option<(u8, &[u8])>
 /// The next byte of a string's text, and what follows it. There is none at the closing quote, and where the spelling is
 /// wrong.
 fn next_byte(bytes: &[u8]) -> Option<(u8, &[u8])>
-    ensures byte { MatchOption result (text_from Plain bytes.now ≡ text_at_end bytes.now) (λ found. text_from Plain bytes.now ≡ before_text found.0 (text_from Plain found.1.now)) }
+    ensures byte { MatchOption result (text_from Plain bytes.now ≡ text_at_end bytes.now) (λ found. text_from Plain bytes.now ≡ text_with_first found.0 (text_from Plain found.1.now)) }
     ensures shorter { IfSome result (λ found. length found.1.now < length bytes.now) }
 {
     let (first, rest) = bytes.split_first()?;
@@ -90,8 +90,8 @@ fn is_closing(bytes: &[u8]) -> bool
     }
 }
 
-/// The bytes that a string spells from behind its first quote.
-#[tactic(auto, using(crate::proofs::Behind::behind_byte))]
+/// The bytes that a string spells from after its first quote.
+#[tactic(auto, using(crate::proofs::AfterFront::after_front_byte))]
 fn text_of(alloc: Global, bytes: &[u8]) -> Result<Option<Bytes>, NoMemory>
     ensures { IfOk result (λ text. text ≡ text_from Plain bytes.now) }
 {
@@ -127,7 +127,7 @@ pub fn hex_digit(value: u8) -> u8
     }
 }
 
-/// Puts a byte as a string spells it behind a text. Want of memory may leave a part of it there.
+/// Puts a byte as a string spells it after a text. Want of memory may leave a part of it there.
 fn push_quoted_byte(text: &mut Bytes, byte: u8) -> Result<(), NoMemory>
     ensures { OnOk result (text.new ≡ text.old ++ quoted_byte byte) }
 {
@@ -147,7 +147,7 @@ fn push_quoted_byte(text: &mut Bytes, byte: u8) -> Result<(), NoMemory>
 /// The string that spells these bytes: it has `\"`, `\\` and `\xHH` only for a quote, a backslash and bytes that are not
 /// printable.
 #[tactic(auto, using(std::proofs::lemmas::List::flat_map_more))]
-pub fn quoted(alloc: Global, bytes: &[u8]) -> Result<Bytes, NoMemory>
+pub fn quoted_text(alloc: Global, bytes: &[u8]) -> Result<Bytes, NoMemory>
     ensures { IfOk result (λ text. text ≡ quoted_bytes bytes.now) }
 {
     let mut text = Sequence::new(alloc);

@@ -1,11 +1,11 @@
 ghost use Rattle.std.specs.Prelude.{◌≡◌, ◌∷◌, [], ◌<◌, ◌≤◌, true, length, take, drop, MatchOption, IfSome};
-ghost use Rattle.script_text.specs.Words.{is_in_word, is_unindented, mode_after as mode_behind, words_from, words_of};
+ghost use Rattle.script_text.specs.LineWords.{is_in_word, is_unindented, mode_after as mode_after_byte, words_from, words_of};
 
 use crate::mode::Mode;
 
-/// Where the place behind a byte stands.
+/// Where the place after a byte stands.
 fn mode_after(mode: Mode, byte: u8) -> Mode
-    ensures { result ≡ mode_behind mode byte }
+    ensures { result ≡ mode_after_byte mode byte }
 {
     match (mode, byte) {
         (Mode::Between | Mode::Word, b' ') => Mode::Between,

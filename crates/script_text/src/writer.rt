@@ -1,13 +1,13 @@
 ghost use Rattle.std.specs.Prelude.{◌≡◌, ◌≤◌, ◌+◌, [], ◌∷◌, ◌++◌, length, decimal, IfOk, OnOk, OnErr};
-ghost use Rattle.script_text.specs.Strings.{quoted as quoted_bytes};
+ghost use Rattle.script_text.specs.Strings.{quoted_text as quoted_bytes};
 
-use crate::string::quoted;
+use crate::string::quoted_text;
 use dk_base::error::NoMemory;
 use dk_base::list::{Bytes, Room};
 use std::alloc::Global;
 use std::marker::Model;
 
-/// Puts bytes behind a text that has room for them.
+/// Puts bytes after a text that has room for them.
 fn append(text: &mut Room<u8>, bytes: &[u8])
     requires { length bytes.now ≤ text.old.spare }
     ensures items { text.new.items ≡ text.old.items ++ bytes.now }
@@ -18,8 +18,8 @@ fn append(text: &mut Room<u8>, bytes: &[u8])
     }
 }
 
-/// A text that is written word by word. Clauses see its bytes so far. Want of memory leaves it as it was.
-#[derive(Debug, Drop)]
+/// A text that is written word by word. Clauses see its bytes so far. Want of memory leaves it was.
+#[derive(Drop)]
 pub struct Writer {
     text: Room<u8>,
 }
@@ -87,7 +87,7 @@ impl Writer {
         ensures ok { OnOk result (self.new ≡ self.old ++ 32 ∷ quoted_bytes bytes.now) }
         ensures err { OnErr result (self.new ≡ self.old) }
     {
-        let word = quoted(alloc, bytes)?;
+        let word = quoted_text(alloc, bytes)?;
         self.word(word.slice())
     }
 

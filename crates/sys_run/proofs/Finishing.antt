@@ -4,39 +4,37 @@ use Rattle.std.specs.Prelude.{nat_lt, if◌then◌else◌}
 use Rattle.std.proofs.lemmas.Bool.{ltb-false, ltb-true}
 use native.Mathlib.Numerals.{unary_clauses}
 use Rattle.std.specs.Option.{option_map_or}
-use Rattle.written_kernel.specs.State.{State}
-use Rattle.written_kernel.specs.Turns.{runnable, least_runnable, least_among, least_or}
-use Rattle.script_lang.specs.Value.{ScriptValue}
-use Rattle.written_script.specs.ScriptRuns.{History, beginning, asked, turn, run, run_from, least_first, threads_of}
-use Rattle.written_kernel.specs.Step.{event_of}
-use Rattle.written_script.proofs.Histories.{threads_of-append}
+use Rattle.written_kernel.specs.Words.{State, event_of, is_runnable, least_among, least_or, least_runnable}
+use Rattle.script_lang.specs.Words.{ScriptValue}
+use Rattle.written_script.specs.Words.{History, first_history, history_after, least_runnable_turns, request_at_turn, run, run_from, threads_of_events}
+use Rattle.written_script.proofs.Histories.{threads_of_events-append}
 use Rattle.sys_run.specs.Sys.{SysValue, with_journal, history, state_of_run, with_turn, with_turns, turns_left, next_turn}
 use Rattle.sys_run.proofs.Journals.{history-with_turn}
 
 -- the least runnable thread is runnable
-least-runnable : (m : State) (n t : ℕ) → least_among m n ≡ Some t → runnable m t ≡ true
-least-runnable m zero t h = cc
-least-runnable m (suc n) t h = by_least (λ u e. least-runnable m n u e) (least_among m n) (runnable m (suc n)) refl refl h
+least-is_runnable : (m : State) (n t : ℕ) → least_among m n ≡ Some t → is_runnable m t ≡ true
+least-is_runnable m zero t h = cc
+least-is_runnable m (suc n) t h = by_least (λ u e. least-is_runnable m n u e) (least_among m n) (is_runnable m (suc n)) refl refl h
   where
     by_least :
-        ((u : ℕ) → least_among m n ≡ Some u → runnable m u ≡ true) → (o : Option ℕ) (b : Bool) → least_among m n ≡ o → runnable m (suc n) ≡ b → least_or o b (suc n) ≡ Some t →
-        runnable m t ≡ true
-    by_least below (Some u) b e f g = let same : u ≡ t = cc in subst (λ v. runnable m v ≡ true) same (below u e)
-    by_least below None true e f g = let same : suc n ≡ t = cc in subst (λ v. runnable m v ≡ true) same f
+        ((u : ℕ) → least_among m n ≡ Some u → is_runnable m u ≡ true) → (o : Option ℕ) (b : Bool) → least_among m n ≡ o → is_runnable m (suc n) ≡ b → least_or o b (suc n) ≡ Some t →
+        is_runnable m t ≡ true
+    by_least below (Some u) b e f g = let same : u ≡ t = cc in subst (λ v. is_runnable m v ≡ true) same (below u e)
+    by_least below None true e f g = let same : suc n ≡ t = cc in subst (λ v. is_runnable m v ≡ true) same f
     by_least below None false e f g = cc
 
-least_first-none : (script : ScriptValue) (n : ℕ) (h : History) → least_runnable h.state ≡ None → least_first script n h ≡ []
-least_first-none script zero h none = refl
-least_first-none script (suc n) h none = rw none refl
+least_runnable_turns-none : (script : ScriptValue) (n : ℕ) (h : History) → least_runnable h.state ≡ None → least_runnable_turns script n h ≡ []
+least_runnable_turns-none script zero h none = refl
+least_runnable_turns-none script (suc n) h none = rw none refl
 
-least_first-some :
+least_runnable_turns-some :
     (script : ScriptValue) (n : ℕ) (h : History) (t : ℕ) → least_runnable h.state ≡ Some t →
-    least_first script (suc n) h ≡ t ∷ least_first script n (turn script h t)
-least_first-some script n h t some = rw some refl
+    least_runnable_turns script (suc n) h ≡ t ∷ least_runnable_turns script n (history_after script h t)
+least_runnable_turns-some script n h t some = rw some refl
 
 -- no thread is runnable
 pub turns_left-none : (p : SysValue) → least_runnable (state_of_run p) ≡ None → turns_left p ≡ []
-turns_left-none p none = least_first-none p.script (p.script.budget - length p.journal) (history p) none
+turns_left-none p none = least_runnable_turns-none p.script (p.script.budget - length p.journal) (history p) none
 
 -- the budget is used up
 pub turns_left-used : (p : SysValue) → p.script.budget ≤ length p.journal → turns_left p ≡ []
@@ -50,7 +48,7 @@ pub turns_left-some :
 turns_left-some p t some left =
     let one : length (with_turn p t).journal ≡ length p.journal + 1 = simp length-append refl
     in let more : p.script.budget - length p.journal ≡ suc (p.script.budget - length (with_turn p t).journal) = omega arith
-    in rw (more, history-with_turn p t) (least_first-some p.script (p.script.budget - length (with_turn p t).journal) (history p) t some)
+    in rw (more, history-with_turn p t) (least_runnable_turns-some p.script (p.script.budget - length (with_turn p t).journal) (history p) t some)
 
 pub with_turns-append :
     (ts : List ℕ) (p : SysValue) (t : ℕ) → with_turns p (ts ++ t ∷ []) ≡ with_turn (with_turns p ts) t
@@ -66,7 +64,7 @@ pub script-with_turns : (ts : List ℕ) (p : SysValue) → (with_turns p ts).scr
 script-with_turns [] p = refl
 script-with_turns (u ∷ us) p = script-with_turns us (with_turn p u)
 
-pub history-new : (script : ScriptValue) → history (with_journal script []) ≡ beginning script
+pub history-new : (script : ScriptValue) → history (with_journal script []) ≡ first_history script
 unfolding history run
 history-new script = refl
 
@@ -77,11 +75,11 @@ history-from_new script ts = history-with_turns ts (with_journal script []) ∙ 
 
 run_from-then : (script : ScriptValue) (ts us : List ℕ) (h : History) → run_from script h (ts ++ us) ≡ run_from script (run_from script h ts) us
 run_from-then script [] us h = refl
-run_from-then script (t ∷ ts) us h = run_from-then script ts us (turn script h t)
+run_from-then script (t ∷ ts) us h = run_from-then script ts us (history_after script h t)
 
 pub run-then : (script : ScriptValue) (ts us : List ℕ) → run script (ts ++ us) ≡ run_from script (run script ts) us
 unfolding run
-run-then script ts us = run_from-then script ts us (beginning script)
+run-then script ts us = run_from-then script ts us (first_history script)
 
 if_some : (b : Bool) (o : Option ℕ) (t : ℕ) → (if b then o else None) ≡ Some t → (b ≡ true) × (o ≡ Some t)
 if_some true o t h = (refl, h)
@@ -104,7 +102,7 @@ turns_left-over p h = by_cause (if_none (nat_lt (length p.journal) p.script.budg
 pub record IsNext (p : SysValue) (t : ℕ) : Type 0 where
   pub left : length p.journal < p.script.budget
   pub least : least_runnable (state_of_run p) ≡ Some t
-  pub can : runnable (state_of_run p) t ≡ true
+  pub can : is_runnable (state_of_run p) t ≡ true
   pub turns : turns_left p ≡ t ∷ turns_left (with_turn p t)
 
 pub next : (p : SysValue) (t : ℕ) → next_turn p ≡ Some t → IsNext p t
@@ -115,22 +113,22 @@ next p t h =
     in record {
       left = left;
       least = both.1;
-      can = least-runnable (state_of_run p) (length (state_of_run p).threads) t both.1;
+      can = least-is_runnable (state_of_run p) (length (state_of_run p).threads) t both.1;
       turns = turns_left-some p t both.1 left;
     }
 
-least_first-few : (script : ScriptValue) (n : ℕ) (h : History) → length (least_first script n h) ≤ n
-least_first-few script zero h = omega arith
-least_first-few script (suc n) h = by_next (λ t. least_first-few script n (turn script h t)) (least_runnable h.state) refl
+least_runnable_turns-few : (script : ScriptValue) (n : ℕ) (h : History) → length (least_runnable_turns script n h) ≤ n
+least_runnable_turns-few script zero h = omega arith
+least_runnable_turns-few script (suc n) h = by_next (λ t. least_runnable_turns-few script n (history_after script h t)) (least_runnable h.state) refl
   where
-    by_next : ((t : ℕ) → length (least_first script n (turn script h t)) ≤ n) → (o : Option ℕ) → least_runnable h.state ≡ o → length (option_map_or (λ t. t ∷ least_first script n (turn script h t)) o []) ≤ suc n
+    by_next : ((t : ℕ) → length (least_runnable_turns script n (history_after script h t)) ≤ n) → (o : Option ℕ) → least_runnable h.state ≡ o → length (option_map_or (λ t. t ∷ least_runnable_turns script n (history_after script h t)) o []) ≤ suc n
     by_next few None e = omega arith
-    by_next few (Some t) e = let rest : length (least_first script n (turn script h t)) ≤ n = few t in omega arith
+    by_next few (Some t) e = let rest : length (least_runnable_turns script n (history_after script h t)) ≤ n = few t in omega arith
 
 pub turns_left-few : (p : SysValue) → length (turns_left p) ≤ p.script.budget
 turns_left-few p =
     let few : length (turns_left p) ≤ p.script.budget - length p.journal =
-    least_first-few p.script (p.script.budget - length p.journal) (history p)
+    least_runnable_turns-few p.script (p.script.budget - length p.journal) (history p)
     in omega arith
 
 -- so many of the turns that were left were taken
@@ -196,11 +194,11 @@ finished old now n h e =
     in let few : n ≤ length (turns_left old) = h.few
     in record { taken = h.taken ∙ ap (with_turns old) (take-all n (turns_left old) none); count = omega arith }
 
-pub threads-with_turns : (ts : List ℕ) (p : SysValue) → threads_of (with_turns p ts).journal ≡ threads_of p.journal ++ ts
-threads-with_turns [] p = sym (append-nil (threads_of p.journal))
+pub threads-with_turns : (ts : List ℕ) (p : SysValue) → threads_of_events (with_turns p ts).journal ≡ threads_of_events p.journal ++ ts
+threads-with_turns [] p = sym (append-nil (threads_of_events p.journal))
 threads-with_turns (t ∷ ts) p =
     threads-with_turns ts (with_turn p t)
     ∙ ap
     (λ us. us ++ ts)
-    (threads_of-append p.journal (event_of (history p).state t (asked p.script (history p) t) ∷ []))
-    ∙ append_assoc (threads_of p.journal) (t ∷ []) ts
+    (threads_of_events-append p.journal (event_of (history p).state t (request_at_turn p.script (history p) t) ∷ []))
+    ∙ append_assoc (threads_of_events p.journal) (t ∷ []) ts

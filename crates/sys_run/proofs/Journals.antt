@@ -2,35 +2,32 @@
 use Rattle.std.proofs.Common.{◌≡◌, ℕ, ◌+◌, ◌≤◌, ◌<◌, List, [], ◌∷◌, ◌++◌, length, true, arith, refl, ap, ◌∙◌, length-append, zero-add}
 use Rattle.std.specs.Prelude.{nat_le, nat_lt, not}
 use Rattle.std.proofs.lemmas.Bool.Decides.{nat_tests}
-use Rattle.written_kernel.specs.Step.{event_of}
-use Rattle.written_kernel.specs.Turns.{runnable}
-use Rattle.written_kernel.specs.Legal.{MayTurn}
-use Rattle.script_lang.specs.Value.{ScriptValue}
-use Rattle.written_script.specs.DeclaredNames.{IsDeclared}
-use Rattle.written_script.specs.ScriptRuns.{History, beginning, asked, turn, run, run_from, threads_of, IsAllowed}
-use Rattle.written_script.proofs.Histories.{run-append, AreRunnableFrom-append, threads_of-append, length-threads_of, events-run}
+use Rattle.written_kernel.specs.Words.{MayTurn, event_of, is_runnable}
+use Rattle.script_lang.specs.Words.{ScriptValue}
+use Rattle.written_script.specs.Words.{History, IsAllowed, IsDeclared, first_history, history_after, request_at_turn, run, run_from, threads_of_events}
+use Rattle.written_script.proofs.Histories.{run-append, AreRunnableFrom-append, threads_of_events-append, length-threads_of_events, events-run}
 use Rattle.written_script.proofs.RunTurns.{IsKnownHistory, run-known, declared-known, may_turn}
 use Rattle.sys_run.specs.Sys.{SysValue, history, state_of_run, IsJournal, with_turn}
 
-pub history-with_turn : (p : SysValue) (t : ℕ) → history (with_turn p t) ≡ turn p.script (history p) t
+pub history-with_turn : (p : SysValue) (t : ℕ) → history (with_turn p t) ≡ history_after p.script (history p) t
 unfolding history
 history-with_turn p t =
-    ap (run p.script) (threads_of-append p.journal (event_of (history p).state t (asked p.script (history p) t) ∷ []))
-    ∙ run-append p.script (threads_of p.journal) t
+    ap (run p.script) (threads_of_events-append p.journal (event_of (history p).state t (request_at_turn p.script (history p) t) ∷ []))
+    ∙ run-append p.script (threads_of_events p.journal) t
 
 pub events-history : (p : SysValue) → (history p).state.events ≡ length p.journal
 unfolding history
-events-history p = events-run p.script (threads_of p.journal) ∙ length-threads_of p.journal
+events-history p = events-run p.script (threads_of_events p.journal) ∙ length-threads_of_events p.journal
 
 -- what a journal's history keeps
 pub known-history : (p : SysValue) → IsJournal p → IsKnownHistory p.script (history p)
 unfolding history
-known-history p is = run-known p.script (threads_of p.journal) is.script.sound is.allowed
+known-history p is = run-known p.script (threads_of_events p.journal) is.script.sound is.allowed
 
 pub declared-history : (p : SysValue) → IsJournal p → IsDeclared p.script (history p)
 declared-history p is = declared-known p.script (history p) (known-history p is)
 
-pub may_turn-of : (p : SysValue) (t : ℕ) → IsJournal p → runnable (state_of_run p) t ≡ true → length p.journal < p.script.budget → MayTurn (history p).state t (asked p.script (history p) t)
+pub may_turn-of : (p : SysValue) (t : ℕ) → IsJournal p → is_runnable (state_of_run p) t ≡ true → length p.journal < p.script.budget → MayTurn (history p).state t (request_at_turn p.script (history p) t)
 may_turn-of p t is can left =
     let small : p.script.budget ≤ 100000 = is.script.sound.small_budget
     in let events : (history p).state.events ≡ length p.journal = events-history p
@@ -38,21 +35,21 @@ may_turn-of p t is can left =
 
 allowed_more :
     (script : ScriptValue) (ts : List ℕ) (t : ℕ) →
-    IsAllowed script ts → runnable (run script ts).state t ≡ true → length ts < script.budget → IsAllowed script (ts ++ t ∷ [])
+    IsAllowed script ts → is_runnable (run script ts).state t ≡ true → length ts < script.budget → IsAllowed script (ts ++ t ∷ [])
 unfolding run
 allowed_more script ts t h can left =
     let one : length (ts ++ t ∷ []) ≡ length ts + 1 = simp length-append refl
-    in record { runnable = AreRunnableFrom-append script ts (beginning script) t h.runnable can; within = omega arith }
+    in record { runnable = AreRunnableFrom-append script ts (first_history script) t h.runnable can; within = omega arith }
 
 pub IsJournal-with_turn :
-    (p : SysValue) (t : ℕ) → IsJournal p → runnable (state_of_run p) t ≡ true → length p.journal < p.script.budget →
+    (p : SysValue) (t : ℕ) → IsJournal p → is_runnable (state_of_run p) t ≡ true → length p.journal < p.script.budget →
     IsJournal (with_turn p t)
 unfolding history run
 IsJournal-with_turn p t is can left =
     record {
       script = is.script;
-      events = rw (history-with_turn p t) (ap (λ es. es ++ event_of (history p).state t (asked p.script (history p) t) ∷ []) is.events);
-      allowed = rw (threads_of-append p.journal (event_of (history p).state t (asked p.script (history p) t) ∷ [])) (allowed_more p.script (threads_of p.journal) t is.allowed can (rw (length-threads_of p.journal) left));
+      events = rw (history-with_turn p t) (ap (λ es. es ++ event_of (history p).state t (request_at_turn p.script (history p) t) ∷ []) is.events);
+      allowed = rw (threads_of_events-append p.journal (event_of (history p).state t (request_at_turn p.script (history p) t) ∷ [])) (allowed_more p.script (threads_of_events p.journal) t is.allowed can (rw (length-threads_of_events p.journal) left));
     }
 
 pub le-not_lt : (a b : ℕ) → nat_le a b ≡ not (nat_lt b a)
@@ -61,14 +58,14 @@ le-not_lt a b = grind (arith, nat_tests)
 events-run_from : (script : ScriptValue) (ts : List ℕ) (h : History) → length (run_from script h ts).events ≡ length h.events + length ts
 events-run_from script [] h = omega arith
 events-run_from script (u ∷ us) h =
-    let one : length (turn script h u).events ≡ length h.events + 1 = simp length-append refl
-    in let rest : length (run_from script (turn script h u) us).events ≡ length (turn script h u).events + length us =
-    events-run_from script us (turn script h u)
+    let one : length (history_after script h u).events ≡ length h.events + 1 = simp length-append refl
+    in let rest : length (run_from script (history_after script h u) us).events ≡ length (history_after script h u).events + length us =
+    events-run_from script us (history_after script h u)
     in omega arith
 
 pub length-history : (p : SysValue) → length (history p).events ≡ length p.journal
 unfolding history run
 length-history p =
-    let rest : length (run_from p.script (beginning p.script) (threads_of p.journal)).events ≡ length (threads_of p.journal) =
-    events-run_from p.script (threads_of p.journal) (beginning p.script) ∙ zero-add (length (threads_of p.journal))
-    in rest ∙ length-threads_of p.journal
+    let rest : length (run_from p.script (first_history p.script) (threads_of_events p.journal)).events ≡ length (threads_of_events p.journal) =
+    events-run_from p.script (threads_of_events p.journal) (first_history p.script) ∙ zero-add (length (threads_of_events p.journal))
+    in rest ∙ length-threads_of_events p.journal

@@ -1,23 +1,16 @@
 -- What the kernel's threads say of the run.
 use Rattle.std.proofs.Common.{◌≡◌, ℕ, List, [], ◌∷◌, length, Option, Some, None, Bool, true, false, refl, ap, sym, ◌∙◌, subst}
 use Rattle.std.specs.Prelude.{nat_lt, nat_le, is_none, option_map, not, All, slice_get, ◌||◌, if◌then◌else◌}
-use Rattle.dk_base.specs.declared.number.Tid.{Tid}
-use Rattle.written_kernel.specs.State.{State}
-use Rattle.written_kernel.specs.Kept.{StandsFor}
-use Rattle.written_kernel.specs.Turns.{least_runnable, waiting_threads}
+use Rattle.written_kernel.specs.Types.{Event, Tid}
+use Rattle.written_kernel.specs.Words.{IsOpening, IsRun, StandsFor, State, Turn, least_runnable, waiting_threads}
 use Rattle.written_script.specs.declared.ending.Ending.TheVariants.{Complete, Stalled, Budget}
-use Rattle.written_script.specs.Endings.{ending_of, ending_with, ending_waiting}
-use Rattle.written_script.specs.ScriptRuns.{opening_of, turns_of, threads_of, is_over}
-use Rattle.written_script.specs.DeclaredNames.{IsDeclaredEvent, IsDeclaredThread}
+use Rattle.written_script.specs.Words.{IsDeclaredEvent, IsDeclaredThread, ending_of, ending_waiting, ending_with, is_over, opening_of, threads_of_events, tid_number, turns_of}
 use Rattle.written_script.proofs.Elements.{All-slice_get}
 use Rattle.written_script.proofs.Histories.{IsOpening-opening_of}
 use Rattle.written_script.proofs.RunTurns.{turns_of-run}
-use Rattle.dk_base.specs.declared.event.Event.{Event}
-use Rattle.kernel_laws.specs.Laws.{Laws}
-use Rattle.written_kernel.specs.Opening.{IsOpening}
-use Rattle.written_kernel.specs.Runs.{Turn, IsRun}
+use Rattle.kernel_laws.specs.Words.{Laws}
 use Rattle.sys_run.specs.Sys.{SysValue, history, state_of_run, next_turn, LawsOf, IsJournal}
-use Rattle.sys_run.specs.Threads.{is_any, number_of}
+use Rattle.sys_run.specs.Threads.{is_any}
 use Rattle.sys_run.proofs.Journals.{length-history, le-not_lt, declared-history}
 use Rattle.sys_run.proofs.Systems.{least_runnable-kept, waiting_threads-kept}
 
@@ -69,9 +62,9 @@ pub laws-journal : (p : SysValue) → EveryRun → IsJournal p → LawsOf p
 laws-journal p every is =
     every
     (opening_of p.script)
-    (turns_of p.script (threads_of p.journal))
+    (turns_of p.script (threads_of_events p.journal))
     (IsOpening-opening_of p.script)
-    (turns_of-run p.script (threads_of p.journal) is.script is.allowed)
+    (turns_of-run p.script (threads_of_events p.journal) is.script is.allowed)
 
 -- whatever the journal's events and the waiting threads name is declared
 
@@ -108,9 +101,9 @@ over-next p =
     (least_runnable (state_of_run p))
     tests
 
-is_none-map : (o : Option Tid) → is_none o ≡ is_none (option_map number_of o)
+is_none-map : (o : Option Tid) → is_none o ≡ is_none (option_map tid_number o)
 is_none-map None = refl
 is_none-map (Some t) = refl
 
-pub is_none-next : (p : SysValue) (o : Option Tid) → option_map number_of o ≡ next_turn p → is_none o ≡ is_over p.script (history p)
+pub is_none-next : (p : SysValue) (o : Option Tid) → option_map tid_number o ≡ next_turn p → is_none o ≡ is_over p.script (history p)
 is_none-next p o h = is_none-map o ∙ ap is_none h ∙ over-next p

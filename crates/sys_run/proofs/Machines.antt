@@ -2,14 +2,12 @@
 use Rattle.std.proofs.Common.{◌≡◌, ℕ, ◌+◌, ◌<◌, List, [], ◌∷◌, ◌++◌, length, Some, true, false, arith, refl, sym, subst, ◌∙◌, zero, suc, ◌⊎◌, inl, inr, eq-eqb}
 use Rattle.std.specs.Prelude.{slice_get, slice_set, ◌==◌}
 use Rattle.std.proofs.lemmas.Bool.Decides.{nat_tests}
-use Rattle.dk_base.specs.declared.answer.Answer.{Answer}
+use Rattle.written_kernel.specs.Types.{Answer, Event}
 use Rattle.dk_base.specs.declared.answer.Answer.TheVariants as answer
-use Rattle.dk_base.specs.declared.event.Event.{Event}
-use Rattle.script_lang.specs.Value.{ScriptValue}
+use Rattle.script_lang.specs.Words.{ScriptValue}
 use Rattle.thread_machine.specs.declared.machine.Machine.{Machine}
-use Rattle.thread_machine.specs.Machines.{IsMachine, Stands, IsEntered}
-use Rattle.written_script.specs.DeclaredNames.{IsDeclaredAnswer}
-use Rattle.written_script.specs.Requests.{first_frame, frame_of, taken}
+use Rattle.thread_machine.specs.Words.{HasDeclaredEntry, IsMachine, Stands}
+use Rattle.written_script.specs.Words.{IsDeclaredAnswer, first_frame, frame_after_answer, frame_of}
 use Rattle.written_script.proofs.Histories.{frame_of-append}
 use Rattle.sys_run.specs.Sys.{MachineStands, AllStandFrom}
 
@@ -85,18 +83,18 @@ AllStandFrom-same script es (y ∷ ys) t zero x h new =
 AllStandFrom-same script es (y ∷ ys) t (suc k) x h new =
     let next : t + suc k ≡ suc t + k = omega arith in (h.0, AllStandFrom-same script es ys (suc t) k x h.1 (rw next at new))
 
--- a machine that takes an event of its thread stands behind it
-pub stands-taken :
+-- a machine that takes an event of its thread stands after it
+pub stands-frame_after_answer :
     (script : ScriptValue) (es : List Event) (e : Event) (t : ℕ) (x : Machine) →
-    e.thread.0 ≡ t → IsMachine script x → Stands script x (taken script (frame_of script t es) e.answer) →
+    e.thread.0 ≡ t → IsMachine script x → Stands script x (frame_after_answer script (frame_of script t es) e.answer) →
     MachineStands script (es ++ e ∷ []) t x
-stands-taken script es e t x own machine stands =
+stands-frame_after_answer script es e t x own machine stands =
     let test : (e.thread.0 == t) ≡ true = eq-eqb e.thread.0 t own
-    in let same : frame_of script t (es ++ e ∷ []) ≡ taken script (frame_of script t es) e.answer = frame_of-append script t es e ∙ rw test refl
+    in let same : frame_of script t (es ++ e ∷ []) ≡ frame_after_answer script (frame_of script t es) e.answer = frame_of-append script t es e ∙ rw test refl
     in record { machine = machine; stands = subst (Stands script x) (sym same) stands }
 
 -- the procedure of a declared answer is declared
-pub entered-declared : (script : ScriptValue) (a : Answer) → IsDeclaredAnswer script a → IsEntered script a
+pub entered-declared : (script : ScriptValue) (a : Answer) → IsDeclaredAnswer script a → HasDeclaredEntry script a
 entered-declared script (answer.Entered call entry cookie bytes fds) h = h
 entered-declared script (answer.EnteredNotice notice entry cookie) h = h
 entered-declared script a h = tt

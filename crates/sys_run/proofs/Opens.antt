@@ -3,18 +3,16 @@ use Rattle.std.proofs.Common.{◌≡◌, ℕ, ◌+◌, List, [], ◌∷◌, ◌+
 use Rattle.std.proofs.Common.{Result, Ok, Err}
 use Rattle.std.specs.Prelude.{slice_get, OnOk}
 use Rattle.std.specs.Result.{is_err}
-use Rattle.dk_base.specs.declared.number.Pid.{Pid}
-use Rattle.written_kernel.specs.Opening.{with_new_thread}
-use Rattle.written_kernel.specs.State.{State}
-use Rattle.written_kernel.proofs.Lists.{numbered-suc}
-use Rattle.script_line.specs.Tables.{numbered}
-use Rattle.script_lang.specs.declared.script.ScriptProcess.{ScriptProcess}
-use Rattle.script_lang.specs.declared.script.ScriptThread.{ScriptThread}
-use Rattle.written_script.specs.ScriptRuns.{limit_of, with_script_threads}
+use Rattle.written_kernel.specs.Types.{Pid}
+use Rattle.written_kernel.specs.Words.{State, with_new_thread}
+use Rattle.written_kernel.proofs.Lists.{at_number-suc}
+use Rattle.dk_base.specs.ByNumber.{at_number}
+use Rattle.written_script.specs.Types.{ScriptProcess, ScriptThread}
+use Rattle.written_script.specs.Words.{limit_of, with_script_threads}
 
-numbered-at : {X Y : Type 0} (f : X → Y) (xs : List X) (k : ℕ) (y : Y) → option_map f (numbered xs (k + 1)) ≡ Some y → option_map f (slice_get xs k) ≡ Some y
-numbered-at f xs k y e =
-    let more : k + 1 ≡ suc k = omega arith in sym (ap (option_map f) (ap (numbered xs) more ∙ numbered-suc xs k)) ∙ e
+at_number-at : {X Y : Type 0} (f : X → Y) (xs : List X) (k : ℕ) (y : Y) → option_map f (at_number xs (k + 1)) ≡ Some y → option_map f (slice_get xs k) ≡ Some y
+at_number-at f xs k y e =
+    let more : k + 1 ≡ suc k = omega arith in sym (ap (option_map f) (ap (at_number xs) more ∙ at_number-suc xs k)) ∙ e
 
 take-map : {X Y : Type 0} (f : X → Y) (xs : List X) (k : ℕ) (y : Y) → option_map f (slice_get xs k) ≡ Some y → map f (take (suc k) xs) ≡ map f (take k xs) ++ y ∷ []
 take-map f [] k y e = cc
@@ -25,11 +23,11 @@ take-map f (x ∷ xs) (suc k) y e = ap (λ ys. f x ∷ ys) (take-map f xs k y e)
 -- one process more
 pub limits_more :
     (processes : List ScriptProcess) (k : ℕ) (limit : ℕ) (limits : List ℕ) → limits ≡ map limit_of (take k processes) →
-    option_map (λ (of : ScriptProcess). of.limit) (numbered processes (k + 1)) ≡ Some limit →
+    option_map (λ (of : ScriptProcess). of.limit) (at_number processes (k + 1)) ≡ Some limit →
     limits ++ limit ∷ [] ≡ map limit_of (take (k + 1) processes)
 limits_more processes k limit limits h e =
     let more : k + 1 ≡ suc k = omega arith
-    in rw (h, more) (sym (take-map limit_of processes k limit (numbered-at limit_of processes k limit e)))
+    in rw (h, more) (sym (take-map limit_of processes k limit (at_number-at limit_of processes k limit e)))
 
 at_thread :
     (xs : List ScriptThread) (m : State) (k : ℕ) (process : Pid) (spare : Bool) → option_map (λ (x : ScriptThread). x.process) (slice_get xs k) ≡ Some process →
@@ -46,13 +44,13 @@ at_thread (x ∷ xs) m (suc k) process spare p s = at_thread xs m k process spar
 pub threads_more :
     (xs : List ScriptThread) (opening old new : State) (k : ℕ) (process : Pid) (spare : Bool) →
     with_script_threads opening xs ≡ with_script_threads old (drop k xs) →
-    option_map (λ (x : ScriptThread). x.process) (numbered xs (k + 1)) ≡ Some process →
-    option_map (λ (x : ScriptThread). x.spare) (numbered xs (k + 1)) ≡ Some spare → new ≡ with_new_thread old process.0 spare →
+    option_map (λ (x : ScriptThread). x.process) (at_number xs (k + 1)) ≡ Some process →
+    option_map (λ (x : ScriptThread). x.spare) (at_number xs (k + 1)) ≡ Some spare → new ≡ with_new_thread old process.0 spare →
     with_script_threads opening xs ≡ with_script_threads new (drop (k + 1) xs)
 threads_more xs opening old new k process spare h p s e =
     let more : k + 1 ≡ suc k = omega arith
-    in let of : option_map (λ (x : ScriptThread). x.process) (slice_get xs k) ≡ Some process = numbered-at (λ (x : ScriptThread). x.process) xs k process p
-    in let kind : option_map (λ (x : ScriptThread). x.spare) (slice_get xs k) ≡ Some spare = numbered-at (λ (x : ScriptThread). x.spare) xs k spare s
+    in let of : option_map (λ (x : ScriptThread). x.process) (slice_get xs k) ≡ Some process = at_number-at (λ (x : ScriptThread). x.process) xs k process p
+    in let kind : option_map (λ (x : ScriptThread). x.spare) (slice_get xs k) ≡ Some spare = at_number-at (λ (x : ScriptThread). x.spare) xs k spare s
     in rw (e, more) (h ∙ at_thread xs old k process spare of kind)
 
 -- a result that is no error

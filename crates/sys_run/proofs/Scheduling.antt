@@ -3,32 +3,31 @@ use Rattle.std.proofs.Common.{◌≡◌, ℕ, ◌+◌, ◌-◌, ◌≤◌, ◌<�
 use Rattle.std.specs.Prelude.{nat_lt, slice_get, if◌then◌else◌}
 use Rattle.std.proofs.lemmas.Bool.{ltb-false, ltb-true}
 use Rattle.std.proofs.lemmas.Option.{slice_get-map}
-use Rattle.dk_base.specs.declared.number.Tid.{Tid}
-use Rattle.written_kernel.specs.Turns.{runnable}
-use Rattle.script_lang.specs.Value.{ScriptValue}
-use Rattle.written_script.specs.DeclaredNames.{IsThread, IsDeclaredThread}
-use Rattle.written_script.specs.ScriptRuns.{History, beginning, turn, refusal_from, refusal, scheduled, number_of_turn}
+use Rattle.written_kernel.specs.Types.{Tid}
+use Rattle.written_kernel.specs.Words.{is_runnable}
+use Rattle.script_lang.specs.Words.{ScriptValue}
+use Rattle.written_script.specs.Words.{History, IsDeclaredThread, IsThread, first_history, history_after, refusal, refusal_from, scheduled_turns, tid_number}
 use Rattle.written_script.proofs.Elements.{All-slice_get}
-use Rattle.sys_run.specs.Schedules.{refused_at, HasPlayed, IsRefused}
+use Rattle.sys_run.specs.Schedules.{refusal_at, HasPlayed, IsRefused}
 use Rattle.sys_run.specs.Sys.{SysValue, with_journal, history, state_of_run, with_turn, with_turns, scheduled_turn, IsJournal}
 use Rattle.sys_run.proofs.Finishing.{with_turns-append, script-with_turns, history-new, take_more-at, take-all}
 use Rattle.sys_run.proofs.Journals.{history-with_turn}
 
 -- so many of the schedule's turns were taken as the journal has events
 pub record HasScheduled (old now : SysValue) : Type 0 where
-  pub taken : now ≡ with_turns old (take (length now.journal) (scheduled old.script))
+  pub taken : now ≡ with_turns old (take (length now.journal) (scheduled_turns old.script))
   pub ahead :
-      refusal_from old.script (history now) (length now.journal) (drop (length now.journal) (scheduled old.script))
+      refusal_from old.script (history now) (length now.journal) (drop (length now.journal) (scheduled_turns old.script))
       ≡ refusal old.script
 
 pub HasScheduled-none : (p : SysValue) → p.journal ≡ [] → HasScheduled p p
 unfolding refusal
 HasScheduled-none p none =
     let count : length p.journal ≡ 0 = ap length none
-    in let new : history p ≡ beginning p.script = ap (λ es. history (with_journal p.script es)) none ∙ history-new p.script
+    in let new : history p ≡ first_history p.script = ap (λ es. history (with_journal p.script es)) none ∙ history-new p.script
     in record {
-      taken = rw count (taken_none (scheduled p.script));
-      ahead = rw (count, new) (ap (refusal_from p.script (beginning p.script) 0) (drop_none (scheduled p.script)));
+      taken = rw count (taken_none (scheduled_turns p.script));
+      ahead = rw (count, new) (ap (refusal_from p.script (first_history p.script) 0) (drop_none (scheduled_turns p.script)));
     }
   where
     taken_none : (ts : List ℕ) → p ≡ with_turns p (take 0 ts)
@@ -64,10 +63,10 @@ drop-past (x ∷ xs) (suc k) h = drop-past xs k h
 pub record IsNextScheduled (p : SysValue) (t : Tid) : Type 0 where
   pub left : length p.journal < p.script.budget
   pub turn : slice_get p.script.schedule (length p.journal) ≡ Some t
-  pub ahead : drop (length p.journal) (scheduled p.script) ≡ t.0 ∷ drop (length p.journal + 1) (scheduled p.script)
+  pub ahead : drop (length p.journal) (scheduled_turns p.script) ≡ t.0 ∷ drop (length p.journal + 1) (scheduled_turns p.script)
 
-scheduled-at : (script : ScriptValue) (k : ℕ) → k < script.budget → slice_get (scheduled script) k ≡ option_map number_of_turn (slice_get script.schedule k)
-scheduled-at script k left = slice_get-take script.budget k (map number_of_turn script.schedule) left ∙ slice_get-map number_of_turn script.schedule k
+scheduled_turns-at : (script : ScriptValue) (k : ℕ) → k < script.budget → slice_get (scheduled_turns script) k ≡ option_map tid_number (slice_get script.schedule k)
+scheduled_turns-at script k left = slice_get-take script.budget k (map tid_number script.schedule) left ∙ slice_get-map tid_number script.schedule k
 
 pub next_scheduled : (p : SysValue) (t : Tid) → Some t ≡ scheduled_turn p → IsNextScheduled p t
 next_scheduled p t e = by_test (nat_lt (length p.journal) p.script.budget) refl e
@@ -83,10 +82,10 @@ next_scheduled p t e = by_test (nat_lt (length p.journal) p.script.budget) refl 
           turn = sym h;
           ahead =
               drop-slice_get
-              (scheduled p.script)
+              (scheduled_turns p.script)
               (length p.journal)
               t.0
-              (scheduled-at p.script (length p.journal) left ∙ ap (option_map number_of_turn) (sym h));
+              (scheduled_turns-at p.script (length p.journal) left ∙ ap (option_map tid_number) (sym h));
         }
 
 length-take-few : {X : Type 0} (n : ℕ) (xs : List X) → length (take n xs) ≤ n
@@ -102,60 +101,60 @@ drop-all (suc k) [] h = refl
 drop-all (suc k) (x ∷ xs) h = drop-all k xs (omega arith)
 
 -- no turn of the schedule is left
-pub none_scheduled : (p : SysValue) → None ≡ scheduled_turn p → drop (length p.journal) (scheduled p.script) ≡ []
+pub none_scheduled : (p : SysValue) → None ≡ scheduled_turn p → drop (length p.journal) (scheduled_turns p.script) ≡ []
 none_scheduled p e = by_test (nat_lt (length p.journal) p.script.budget) refl e
   where
     by_test :
         (b : Bool) → nat_lt (length p.journal) p.script.budget ≡ b →
         None ≡ (if b then slice_get p.script.schedule (length p.journal) else None) →
-        drop (length p.journal) (scheduled p.script) ≡ []
+        drop (length p.journal) (scheduled_turns p.script) ≡ []
     by_test false test h =
         let used : p.script.budget ≤ length p.journal = ltb-false (length p.journal) p.script.budget test
-        in let few : length (scheduled p.script) ≤ p.script.budget = length-take-few p.script.budget (map number_of_turn p.script.schedule)
-        in drop-all (length p.journal) (scheduled p.script) (omega arith)
+        in let few : length (scheduled_turns p.script) ≤ p.script.budget = length-take-few p.script.budget (map tid_number p.script.schedule)
+        in drop-all (length p.journal) (scheduled_turns p.script) (omega arith)
     by_test true test h =
         let left : length p.journal < p.script.budget = ltb-true (length p.journal) p.script.budget test
         in drop-past
-        (scheduled p.script)
+        (scheduled_turns p.script)
         (length p.journal)
-        (scheduled-at p.script (length p.journal) left ∙ ap (option_map number_of_turn) (sym h))
+        (scheduled_turns-at p.script (length p.journal) left ∙ ap (option_map tid_number) (sym h))
 
 -- the script stays
-pub script-scheduled : (old now : SysValue) → HasScheduled old now → now.script ≡ old.script
-script-scheduled old now h = ap (λ (p : SysValue). p.script) h.taken ∙ script-with_turns (take (length now.journal) (scheduled old.script)) old
+pub script-scheduled_turns : (old now : SysValue) → HasScheduled old now → now.script ≡ old.script
+script-scheduled_turns old now h = ap (λ (p : SysValue). p.script) h.taken ∙ script-with_turns (take (length now.journal) (scheduled_turns old.script)) old
 
 -- a turn that is taken
 
-refusal-runnable :
-    (script : ScriptValue) (h : History) (n t : ℕ) (ts : List ℕ) → runnable h.state t ≡ true →
-    refusal_from script h n (t ∷ ts) ≡ refusal_from script (turn script h t) (n + 1) ts
-refusal-runnable script h n t ts can = rw can refl
+refusal-is_runnable :
+    (script : ScriptValue) (h : History) (n t : ℕ) (ts : List ℕ) → is_runnable h.state t ≡ true →
+    refusal_from script h n (t ∷ ts) ≡ refusal_from script (history_after script h t) (n + 1) ts
+refusal-is_runnable script h n t ts can = rw can refl
 
 refusal-refused :
-    (script : ScriptValue) (h : History) (n t : ℕ) (ts : List ℕ) → runnable h.state t ≡ false →
-    refusal_from script h n (t ∷ ts) ≡ Some (refused_at (n + 1) t)
+    (script : ScriptValue) (h : History) (n t : ℕ) (ts : List ℕ) → is_runnable h.state t ≡ false →
+    refusal_from script h n (t ∷ ts) ≡ Some (refusal_at (n + 1) t)
 refusal-refused script h n t ts can = rw can refl
 
 pub HasScheduled-more :
-    (old now : SysValue) (t : Tid) → HasScheduled old now → Some t ≡ scheduled_turn now → runnable (state_of_run now) t.0 ≡ true →
+    (old now : SysValue) (t : Tid) → HasScheduled old now → Some t ≡ scheduled_turn now → is_runnable (state_of_run now) t.0 ≡ true →
     HasScheduled old (with_turn now t.0)
 HasScheduled-more old now t h e can =
-    let same : now.script ≡ old.script = script-scheduled old now h
+    let same : now.script ≡ old.script = script-scheduled_turns old now h
     in let one : length (with_turn now t.0).journal ≡ length now.journal + 1 = simp length-append refl
-    in let ahead : drop (length now.journal) (scheduled old.script) ≡ t.0 ∷ drop (length now.journal + 1) (scheduled old.script) =
-    subst (λ (s : ScriptValue). drop (length now.journal) (scheduled s) ≡ t.0 ∷ drop (length now.journal + 1) (scheduled s)) same (next_scheduled now t e).ahead
-    in let here : history (with_turn now t.0) ≡ turn old.script (history now) t.0 =
-    history-with_turn now t.0 ∙ ap (λ (s : ScriptValue). turn s (history now) t.0) same
+    in let ahead : drop (length now.journal) (scheduled_turns old.script) ≡ t.0 ∷ drop (length now.journal + 1) (scheduled_turns old.script) =
+    subst (λ (s : ScriptValue). drop (length now.journal) (scheduled_turns s) ≡ t.0 ∷ drop (length now.journal + 1) (scheduled_turns s)) same (next_scheduled now t e).ahead
+    in let here : history (with_turn now t.0) ≡ history_after old.script (history now) t.0 =
+    history-with_turn now t.0 ∙ ap (λ (s : ScriptValue). history_after s (history now) t.0) same
     in record {
       taken =
           rw one
           (ap (λ p. with_turn p t.0) h.taken
           ∙ sym
-          (ap (with_turns old) (take_more-at (length now.journal) (scheduled old.script) t.0 _ ahead)
-          ∙ with_turns-append (take (length now.journal) (scheduled old.script)) old t.0));
+          (ap (with_turns old) (take_more-at (length now.journal) (scheduled_turns old.script) t.0 _ ahead)
+          ∙ with_turns-append (take (length now.journal) (scheduled_turns old.script)) old t.0));
       ahead =
           rw (one, here)
-          (sym (refusal-runnable old.script (history now) (length now.journal) t.0 (drop (length now.journal + 1) (scheduled old.script)) can)
+          (sym (refusal-is_runnable old.script (history now) (length now.journal) t.0 (drop (length now.journal + 1) (scheduled_turns old.script)) can)
           ∙ ap (refusal_from old.script (history now) (length now.journal)) (sym ahead)
           ∙ h.ahead);
     }
@@ -163,29 +162,29 @@ HasScheduled-more old now t h e can =
 -- all were taken
 pub HasPlayed-all : (old now : SysValue) → HasScheduled old now → None ≡ scheduled_turn now → HasPlayed old now
 HasPlayed-all old now h e =
-    let same : now.script ≡ old.script = script-scheduled old now h
-    in let none : drop (length now.journal) (scheduled old.script) ≡ [] =
-    subst (λ (s : ScriptValue). drop (length now.journal) (scheduled s) ≡ []) same (none_scheduled now e)
+    let same : now.script ≡ old.script = script-scheduled_turns old now h
+    in let none : drop (length now.journal) (scheduled_turns old.script) ≡ [] =
+    subst (λ (s : ScriptValue). drop (length now.journal) (scheduled_turns s) ≡ []) same (none_scheduled now e)
     in record {
       not_refused = sym h.ahead ∙ ap (refusal_from old.script (history now) (length now.journal)) none;
-      turns = h.taken ∙ ap (with_turns old) (take-all (length now.journal) (scheduled old.script) none);
+      turns = h.taken ∙ ap (with_turns old) (take-all (length now.journal) (scheduled_turns old.script) none);
     }
 
 -- one is refused
 pub IsRefused-here :
     (old now : SysValue) (t : Tid) → HasScheduled old now → IsJournal now → Some t ≡ scheduled_turn now →
-    runnable (state_of_run now) t.0 ≡ false → IsRefused old now (refused_at (length now.journal + 1) t.0)
+    is_runnable (state_of_run now) t.0 ≡ false → IsRefused old now (refusal_at (length now.journal + 1) t.0)
 IsRefused-here old now t h is e cannot =
-    let same : now.script ≡ old.script = script-scheduled old now h
+    let same : now.script ≡ old.script = script-scheduled_turns old now h
     in let next : IsNextScheduled now t = next_scheduled now t e
-    in let ahead : drop (length now.journal) (scheduled old.script) ≡ t.0 ∷ drop (length now.journal + 1) (scheduled old.script) =
-    subst (λ (s : ScriptValue). drop (length now.journal) (scheduled s) ≡ t.0 ∷ drop (length now.journal + 1) (scheduled s)) same next.ahead
+    in let ahead : drop (length now.journal) (scheduled_turns old.script) ≡ t.0 ∷ drop (length now.journal + 1) (scheduled_turns old.script) =
+    subst (λ (s : ScriptValue). drop (length now.journal) (scheduled_turns s) ≡ t.0 ∷ drop (length now.journal + 1) (scheduled_turns s)) same next.ahead
     in let before : length now.journal + 1 - 1 ≡ length now.journal = omega arith
     in record {
       refusal =
           sym h.ahead
           ∙ ap (refusal_from old.script (history now) (length now.journal)) ahead
-          ∙ refusal-refused old.script (history now) (length now.journal) t.0 (drop (length now.journal + 1) (scheduled old.script)) cannot;
+          ∙ refusal-refused old.script (history now) (length now.journal) t.0 (drop (length now.journal + 1) (scheduled_turns old.script)) cannot;
       turns = rw before h.taken;
       thread =
           subst

@@ -2,19 +2,15 @@
 use Rattle.std.proofs.Common.{◌≡◌, ℕ, ◌+◌, ◌-◌, ◌≤◌, ◌<◌, List, [], length, Some, true, arith, refl, ap, sym, ◌∙◌, subst, zero, suc}
 use Rattle.std.specs.Prelude.{slice_get, slice_set}
 use Rattle.std.proofs.Math.ListN.{length-set}
-use Rattle.dk_base.specs.declared.event.Event.{Event}
-use Rattle.script_lang.specs.Value.{ScriptValue}
+use Rattle.written_kernel.specs.Types.{Event}
+use Rattle.script_lang.specs.Words.{ScriptValue}
 use Rattle.thread_machine.specs.declared.machine.Machine.{Machine}
-use Rattle.written_kernel.specs.State.{State}
-use Rattle.written_kernel.specs.Kept.{forget, StandsFor}
-use Rattle.written_kernel.specs.Turns.{runnable, least_runnable, least_among, waiting_threads}
-use Rattle.written_kernel.proofs.Forget.{runnable-forget}
+use Rattle.written_kernel.specs.Words.{StandsFor, State, forget, is_runnable, least_among, least_runnable, waiting_threads}
+use Rattle.written_kernel.proofs.Forget.{is_runnable-forget}
 use Rattle.written_kernel.proofs.Opening.{forget-opening}
-use Rattle.written_script.specs.DeclaredNames.{IsThread}
-use Rattle.written_script.specs.ScriptRuns.{History, opening_of}
-use Rattle.written_script.specs.Sound.{IsPlayable}
+use Rattle.written_script.specs.Words.{History, IsPlayable, IsThread, opening_of}
 use Rattle.written_script.proofs.Histories.{IsOpening-opening_of}
-use Rattle.written_script.proofs.RunTurns.{turn-thread}
+use Rattle.written_script.proofs.RunTurns.{history_after-thread}
 use Rattle.sys_run.specs.Sys.{SysValue, with_journal, history, state_of_run, with_turn, MachineStands, AllStandFrom, IsJournal, IsSys}
 use Rattle.sys_run.proofs.Journals.{known-history, IsJournal-with_turn}
 use Rattle.sys_run.proofs.Finishing.{history-new}
@@ -51,10 +47,10 @@ pub record HasMachine (t : ℕ) (machines : List Machine) : Type 0 where
 
 pub has_machine :
     (script : ScriptValue) (es : List Event) (kernel : State) (machines : List Machine) (t : ℕ) →
-    IsSys script es kernel machines → runnable (state_of_run (with_journal script es)) t ≡ true → HasMachine t machines
+    IsSys script es kernel machines → is_runnable (state_of_run (with_journal script es)) t ≡ true → HasMachine t machines
 has_machine script es kernel machines t is can =
     let thread : IsThread script t =
-    turn-thread script (history (with_journal script es)) t (known-history (with_journal script es) is.journal_is_run) can
+    history_after-thread script (history (with_journal script es)) t (known-history (with_journal script es) is.journal_is_run) can
     in let first : 0 < t = thread.0
     in let last : t ≤ length script.threads = thread.1
     in let machines_there : length machines ≡ length script.threads = is.machines_there
@@ -72,7 +68,7 @@ machine-stands script es kernel machines t x is has e =
 -- after a turn
 pub IsSys-turn :
     (script : ScriptValue) (es es' : List Event) (kernel kernel' : State) (machines : List Machine) (t : ℕ) (x : Machine) →
-    IsSys script es kernel machines → HasMachine t machines → runnable (state_of_run (with_journal script es)) t ≡ true →
+    IsSys script es kernel machines → HasMachine t machines → is_runnable (state_of_run (with_journal script es)) t ≡ true →
     length es < script.budget → with_journal script es' ≡ with_turn (with_journal script es) t →
     StandsFor kernel' (state_of_run (with_turn (with_journal script es) t)) → MachineStands script es' t x →
     IsSys script es' kernel' (slice_set machines (t - 1) x)
@@ -119,7 +115,7 @@ IsSys-same script es es' kernel kernel' machines t x is has hes hk machine =
 
 least_among-forget : (m : State) (n : ℕ) → least_among (forget m) n ≡ least_among m n
 least_among-forget m zero = refl
-least_among-forget m (suc n) = rw (least_among-forget m n, runnable-forget m (suc n)) refl
+least_among-forget m (suc n) = rw (least_among-forget m n, is_runnable-forget m (suc n)) refl
 
 pub least_runnable-kept : (kept m : State) → StandsFor kept m → least_runnable kept ≡ least_runnable m
 least_runnable-kept kept m stands =

@@ -1,18 +1,10 @@
 -- What a turn needs of the kernel.
 use Rattle.std.proofs.Common.{◌≡◌, ℕ, ◌+◌, ◌∙◌, length, Option, Some, None, refl, ap, sym, subst}
-use Rattle.dk_base.specs.declared.answer.Answer.{Answer}
-use Rattle.dk_base.specs.declared.event.Event.{Event}
-use Rattle.dk_base.specs.declared.event.What.{What}
-use Rattle.dk_base.specs.declared.number.Tid.{Tid}
-use Rattle.dk_base.specs.declared.request.Request.{Request}
+use Rattle.written_kernel.specs.Types.{Answer, Event, Request, Tid, What}
 use Rattle.dk_base.specs.declared.request.Request.TheVariants as request
-use Rattle.written_kernel.specs.Kept.{forget, StandsFor}
-use Rattle.written_kernel.specs.Legal.{IsFit, MayEnter, MayGoOn, MayTurn}
-use Rattle.written_kernel.specs.State.{State, tid}
-use Rattle.written_kernel.specs.Step.{step, what_of, event_of}
-use Rattle.written_kernel.specs.Walks.{root}
-use Rattle.written_kernel.proofs.Forget.{runnable-forget}
-use Rattle.written_script.specs.ScriptRuns.{asked}
+use Rattle.written_kernel.specs.Words.{IsFit, MayEnter, MayGoOn, MayTurn, StandsFor, State, event_of, forget, root, step, tid, what_of}
+use Rattle.written_kernel.proofs.Forget.{is_runnable-forget}
+use Rattle.written_script.specs.Words.{request_at_turn}
 use Rattle.sys_run.specs.Sys.{SysValue, history}
 use Rattle.sys_run.proofs.Journals.{events-history}
 
@@ -28,7 +20,7 @@ MayEnter-forget m t r h =
     record { running = h.running; fit = IsFit-forget m r h.fit; built = h.built; inside = h.inside; few = h.few }
 
 MayGoOn-forget : (m : State) (t : ℕ) → MayGoOn m t → MayGoOn (forget m) t
-MayGoOn-forget m t h = record { runnable = runnable-forget m t ∙ h.runnable; waits = h.waits; few = h.few }
+MayGoOn-forget m t h = record { runnable = is_runnable-forget m t ∙ h.runnable; waits = h.waits; few = h.few }
 
 -- what may be entered in a state may be entered in a kernel that stands for it
 pub may_enter-kept : (kept m : State) (t : ℕ) (r : Request) → StandsFor kept m → MayTurn m t (Some r) → MayEnter kept t r
@@ -43,9 +35,9 @@ event_from n t r w a = record { number = n; thread = t; root = r; what = w; answ
 -- the event that a turn appends, from its parts
 pub turn-event :
     (p : SysValue) (t : Tid) (r : Tid) (w : What) (a : Answer) (q : Option Request) →
-    r.0 ≡ root (history p).state t.0 → q ≡ asked p.script (history p) t.0 → w ≡ what_of (history p).state t.0 q →
+    r.0 ≡ root (history p).state t.0 → q ≡ request_at_turn p.script (history p) t.0 → w ≡ what_of (history p).state t.0 q →
     a ≡ (step (history p).state t.0 q).answer →
-    event_from (length p.journal + 1) t r w a ≡ event_of (history p).state t.0 (asked p.script (history p) t.0)
+    event_from (length p.journal + 1) t r w a ≡ event_of (history p).state t.0 (request_at_turn p.script (history p) t.0)
 turn-event p t r w a q hr hq hw ha =
     let events : (history p).state.events + 1 ≡ length p.journal + 1 = ap (λ n. n + 1) (events-history p)
     in let root_is : r ≡ tid (root (history p).state t.0) = ap tid hr

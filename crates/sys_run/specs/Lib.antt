@@ -1,4 +1,5 @@
 pub mod Sys
 pub mod Schedules
-pub mod Turns
+pub mod TurnRequests
 pub mod Threads
+pub mod Words

@@ -1,18 +1,12 @@
 -- A script with the journal of its events so far.
 use Rattle.std.specs.Prelude.{ℕ, ◌≡◌, ◌-◌, ◌∷◌, ◌++◌, [], List, Option, None, if◌then◌else◌, nat_lt, slice_get, suc, length}
-use Rattle.dk_base.specs.declared.number.Tid.{Tid}
-use Rattle.dk_base.specs.declared.event.Event.{Event}
-use Rattle.written_kernel.specs.State.{State}
-use Rattle.written_kernel.specs.Turns.{least_runnable}
-use Rattle.written_kernel.specs.Step.{step, event_of}
-use Rattle.written_kernel.specs.Kept.{StandsFor}
-use Rattle.kernel_laws.specs.Laws.{Laws}
-use Rattle.script_lang.specs.Value.{ScriptValue}
-use Rattle.written_script.specs.Requests.{frame_of}
-use Rattle.written_script.specs.ScriptRuns.{History, run, turns_of, threads_of, opening_of, IsAllowed, asked, least_first}
-use Rattle.written_script.specs.Sound.{IsPlayable}
+use Rattle.written_kernel.specs.Types.{Event, Tid}
+use Rattle.written_kernel.specs.Words.{StandsFor, State, event_of, least_runnable, step}
+use Rattle.kernel_laws.specs.Words.{Laws}
+use Rattle.script_lang.specs.Words.{ScriptValue}
+use Rattle.written_script.specs.Words.{History, IsAllowed, IsPlayable, frame_of, least_runnable_turns, opening_of, request_at_turn, run, threads_of_events, turns_of}
 use Rattle.thread_machine.specs.declared.machine.Machine.{Machine}
-use Rattle.thread_machine.specs.Machines.{IsMachine, Stands}
+use Rattle.thread_machine.specs.Words.{IsMachine, Stands}
 
 -- The value of a `Sys`: clauses see each `Sys` as this record.
 pub record SysValue : Type 0 where
@@ -24,14 +18,14 @@ with_journal script journal = record { script = script; journal = journal }
 
 -- the history that a journal tells: the run of its script in which its threads take turns
 unfoldable pub history : SysValue → History
-history p = run p.script (threads_of p.journal)
+history p = run p.script (threads_of_events p.journal)
 
 abbrev pub state_of_run : SysValue → State
 state_of_run p = (history p).state
 
 -- the laws of the journal's run
 abbrev pub LawsOf : SysValue → Type 0
-LawsOf p = Laws (opening_of p.script) (turns_of p.script (threads_of p.journal))
+LawsOf p = Laws (opening_of p.script) (turns_of p.script (threads_of_events p.journal))
 
 -- the machine of thread t stands where the journal leads
 pub record MachineStands (script : ScriptValue) (events : List Event) (t : ℕ) (x : Machine) : Type 0 where
@@ -47,19 +41,19 @@ AllStandFrom script events t (x ∷ xs) = MachineStands script events t x × All
 pub record IsJournal (p : SysValue) : Type 0 where
   pub script : IsPlayable p.script
   pub events : p.journal ≡ (history p).events
-  pub allowed : IsAllowed p.script (threads_of p.journal)
+  pub allowed : IsAllowed p.script (threads_of_events p.journal)
 
 -- the journal with the event of a turn of t
 abbrev pub with_turn : SysValue → ℕ → SysValue
-with_turn p t = with_journal p.script (p.journal ++ event_of (history p).state t (asked p.script (history p) t) ∷ [])
+with_turn p t = with_journal p.script (p.journal ++ event_of (history p).state t (request_at_turn p.script (history p) t) ∷ [])
 
 abbrev pub with_turns : SysValue → List ℕ → SysValue
 with_turns p [] = p
 with_turns p (t ∷ ts) = with_turns (with_turn p t) ts
 
 -- the threads that a turn of t wakes
-abbrev pub woken_by : SysValue → ℕ → List Tid
-woken_by p t = (step (history p).state t (asked p.script (history p) t)).woken
+abbrev pub threads_woken_by : SysValue → ℕ → List Tid
+threads_woken_by p t = (step (history p).state t (request_at_turn p.script (history p) t)).woken
 
 -- the thread that `finish` lets take the next turn, if the run is not over
 abbrev pub next_turn : SysValue → Option ℕ
@@ -67,9 +61,9 @@ next_turn p = if nat_lt (length p.journal) p.script.budget then least_runnable (
 
 -- the turns that are left: the least runnable thread, until the run is over
 abbrev pub turns_left : SysValue → List ℕ
-turns_left p = least_first p.script (p.script.budget - length p.journal) (history p)
+turns_left p = least_runnable_turns p.script (p.script.budget - length p.journal) (history p)
 
--- the schedule's turn behind those of the journal, where the budget reaches it
+-- the schedule's turn after those of the journal, where the budget reaches it
 abbrev pub scheduled_turn : SysValue → Option Tid
 scheduled_turn p = if nat_lt (length p.journal) p.script.budget then slice_get p.script.schedule (length p.journal) else None
 

@@ -1,9 +1,6 @@
--- Threads by number, and whether a list has some.
-use Rattle.std.specs.Prelude.{ℕ, Bool, true, false, List, [], ◌∷◌}
-use Rattle.dk_base.specs.declared.number.Tid.{Tid}
-
-abbrev pub number_of : Tid → ℕ
-number_of t = t.0
+-- Whether a list has some thread.
+use Rattle.std.specs.Prelude.{Bool, true, false, List, [], ◌∷◌}
+use Rattle.written_kernel.specs.Types.{Tid}
 
 abbrev pub is_any : List Tid → Bool
 is_any [] = false

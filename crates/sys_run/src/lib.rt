@@ -1,8 +1,8 @@
 //! A script, the kernel and the journal of its events.
 #![tactic(auto)]
 
+pub mod laws;
 mod opening;
-pub mod plays;
 pub mod sys;
 mod threads;
 mod turn;

@@ -1,7 +1,7 @@
 //! What a script opens with.
 ghost use Rattle.std.specs.Prelude.{◌≡◌, ◌≤◌, [], length, map, IfOk, OnOk};
-ghost use Rattle.written_script.specs.ScriptRuns.{limit_of, opening_of, with_script_threads};
-ghost use Rattle.written_script.specs.Sound.{IsSound};
+ghost use Rattle.dk_base.specs.declared.limits.TheConstants.{PROCESSES_MAX, THREADS_MAX};
+ghost use Rattle.written_script.specs.Words.{IsSound, limit_of, opening_of, with_script_threads};
 ghost use Rattle.sys_run.specs.Sys.{AllStandFrom};
 
 use dk_base::error::NoMemory;
@@ -13,7 +13,7 @@ use std::alloc::Global;
 use thread_machine::machine::Machine;
 
 pub(crate) fn limits_of(alloc: Global, script: &Script) -> Result<IdList, NoMemory>
-    requires { length script.now.processes ≤ 64 }
+    requires { length script.now.processes ≤ PROCESSES_MAX }
     ensures { IfOk result (λ limits. limits ≡ map limit_of script.now.processes) }
 {
     let mut limits = IdList::new(alloc);
@@ -25,7 +25,7 @@ pub(crate) fn limits_of(alloc: Global, script: &Script) -> Result<IdList, NoMemo
 
 /// A machine at the first command of each thread.
 pub(crate) fn first_machines(alloc: Global, script: &Script) -> Result<Vec<Machine>, NoMemory>
-    requires { length script.now.threads ≤ 64 }
+    requires { length script.now.threads ≤ THREADS_MAX }
     ensures stand { IfOk result (λ machines. AllStandFrom script.now [] 1 machines.items) }
     ensures count { IfOk result (λ machines. length machines.items ≡ length script.now.threads) }
 {
@@ -42,7 +42,7 @@ pub(crate) fn first_machines(alloc: Global, script: &Script) -> Result<Vec<Machi
 
 fn add_threads(kernel: &mut Kernel, script: &Script) -> Result<(), NoMemory>
     requires opening { kernel.old.events ≡ 0 }
-    requires few { length script.now.threads ≤ 64 }
+    requires few { length script.now.threads ≤ THREADS_MAX }
     ensures { OnOk result (kernel.new ≡ with_script_threads kernel.old script.now.threads) }
 {
     for below in 0..script.threads() {

@@ -1,11 +1,8 @@
 ghost use Rattle.std.specs.Prelude.{◌≡◌, ℕ, ◌+◌, ◌<◌, ◌≤◌, ◌∷◌, ◌++◌, [], length, slice_get, Some, IfOk, option_map, OnOk, OnErr, take, true, false, nat_lt, All};
-ghost use Rattle.written_kernel.specs.Turns.{runnable, waiting_threads};
-ghost use Rattle.written_script.specs.DeclaredNames.{IsDeclaredEvent, IsDeclaredThread};
-ghost use Rattle.written_script.specs.Endings.{ending_of};
-ghost use Rattle.written_script.specs.Later.{later};
-ghost use Rattle.written_script.specs.ScriptRuns.{is_over, scheduled};
-ghost use Rattle.sys_run.specs.Sys.{with_journal, history, state_of_run, with_turn, with_turns, turns_left, next_turn, scheduled_turn, woken_by, LawsOf, IsJournal};
-ghost use Rattle.sys_run.specs.Threads.{number_of};
+ghost use Rattle.dk_base.specs.declared.limits.TheConstants.{BUDGET_MAX};
+ghost use Rattle.written_kernel.specs.Words.{is_runnable, waiting_threads};
+ghost use Rattle.written_script.specs.Words.{IsDeclaredEvent, IsDeclaredThread, ending_of, has_later_parts, is_over, scheduled_turns, tid_number};
+ghost use Rattle.sys_run.specs.Sys.{with_journal, history, state_of_run, with_turn, with_turns, turns_left, next_turn, scheduled_turn, threads_woken_by, LawsOf, IsJournal};
 
 use crate::opening::{first_machines, open};
 use crate::threads::{all_waiting, first_runnable, is_any_waiting};
@@ -15,13 +12,11 @@ use dk_base::event::Event;
 use dk_base::list::TidList;
 use dk_base::number::Tid;
 use kernel_core::kernel::Kernel;
-use kernel_laws::every_run;
 use script_lang::script::Script;
 use std::alloc::Global;
 use std::marker::Model;
 use thread_machine::machine::Machine;
 use written_script::ending::Ending;
-use written_script::runs::sound_scripts;
 
 /// How playing a schedule ends.
 #[derive(Clone, Copy, Debug, PartialEq, Eq)]
@@ -58,11 +53,11 @@ impl Sys {
 
     /// No event yet.
     pub fn new(alloc: Global, script: Script) -> Result<Self, NoMemory>
-        requires { later script ≡ false }
+        requires { has_later_parts script ≡ false }
         ensures { IfOk result (λ sys. sys ≡ with_journal script []) }
     {
         script.is_spelled();
-        sound_scripts();
+        written_script::laws::sound_scripts();
         let kernel = open(alloc, &script)?;
         let machines = first_machines(alloc, &script)?;
         Ok(Sys {
@@ -77,10 +72,10 @@ impl Sys {
     /// One turn of a thread: exactly its event is appended. Answers, in order, the threads that were not runnable before
     /// and are now. Want of memory leaves all as it was.
     pub fn step(&mut self, t: Tid) -> Result<TidList, NoMemory>
-        requires can { runnable (state_of_run self.old) t.0 ≡ true }
+        requires can { is_runnable (state_of_run self.old) t.0 ≡ true }
         requires left { length self.old.journal < self.old.script.budget }
         ensures event { OnOk result (self.new ≡ with_turn self.old t.0) }
-        ensures woken { IfOk result (λ woken. woken ≡ woken_by self.old t.0) }
+        ensures woken { IfOk result (λ woken. woken ≡ threads_woken_by self.old t.0) }
         ensures laws { OnOk result (LawsOf self.new) }
         ensures err { OnErr result (self.new ≡ self.old) }
     {
@@ -93,7 +88,7 @@ impl Sys {
             &mut self.journal,
             t,
         )?;
-        every_run();
+        kernel_laws::laws::every_run();
         Ok(woken)
     }
 
@@ -103,7 +98,7 @@ impl Sys {
         requires { self.old.journal ≡ [] }
         ensures played { IfOk result (λ played. PlaysSchedule self.old self.new played) }
         ensures laws { LawsOf self.new }
-        ensures err { OnErr result ((k : ℕ) × (self.new ≡ with_turns self.old (take k (scheduled self.old.script)))) }
+        ensures err { OnErr result ((k : ℕ) × (self.new ≡ with_turns self.old (take k (scheduled_turns self.old.script)))) }
     {
         self.laws();
         while let Some(t) = self.next_scheduled() {
@@ -144,10 +139,10 @@ impl Sys {
     fn laws(&self)
         ensures run { IsJournal self.now }
         ensures laws { LawsOf self.now }
-        ensures small { self.now.script.budget ≤ 100000 }
+        ensures small { self.now.script.budget ≤ BUDGET_MAX }
     {
         let _journal = &self.journal;
-        every_run();
+        kernel_laws::laws::every_run();
     }
 
     // Whether another event may be made.
@@ -159,7 +154,7 @@ impl Sys {
 
     // The thread that `finish` lets take the next turn.
     fn next_thread(&self) -> Option<Tid>
-        ensures { option_map number_of result ≡ next_turn self.now }
+        ensures { option_map tid_number result ≡ next_turn self.now }
     {
         if self.has_budget() {
             first_runnable(&self.kernel)
@@ -185,7 +180,7 @@ impl Sys {
 
     /// Whether a thread can take a turn; false for a thread that the script does not declare.
     pub fn runnable(&self, t: Tid) -> bool
-        ensures { result ≡ runnable (state_of_run self.now) t.0 }
+        ensures { result ≡ is_runnable (state_of_run self.now) t.0 }
     {
         self.kernel.runnable(t)
     }
@@ -241,7 +236,7 @@ impl Sys {
         ensures declared { All (IsDeclaredEvent self.now.script) result.now }
         ensures laws { LawsOf self.now }
     {
-        every_run();
+        kernel_laws::laws::every_run();
         self.journal.as_slice()
     }
 
@@ -253,6 +248,3 @@ impl Sys {
         all_waiting(self.alloc, &self.kernel)
     }
 }
-
-#[cfg(test)]
-mod tests;

@@ -1,7 +1,8 @@
 //! What the threads of a kernel are at, all together.
 ghost use Rattle.std.specs.Prelude.{◌≡◌, IfOk, option_map};
-ghost use Rattle.written_kernel.specs.Turns.{least_runnable, is_waiting_state, waiting_threads};
-ghost use Rattle.sys_run.specs.Threads.{number_of, is_any};
+ghost use Rattle.written_kernel.specs.Words.{is_waiting_state, least_or as least_of, least_runnable, waiting_threads};
+ghost use Rattle.written_script.specs.Words.{tid_number};
+ghost use Rattle.sys_run.specs.Threads.{is_any};
 
 use dk_base::error::NoMemory;
 use dk_base::list::TidList;
@@ -12,7 +13,7 @@ use std::alloc::Global;
 
 /// The least thread that can take a turn.
 pub(crate) fn first_runnable(kernel: &Kernel) -> Option<Tid>
-    ensures { option_map number_of result ≡ least_runnable kernel.now }
+    ensures { option_map tid_number result ≡ least_runnable kernel.now }
 {
     let mut least = None;
     for below in 0..kernel.threads() {
@@ -22,7 +23,7 @@ pub(crate) fn first_runnable(kernel: &Kernel) -> Option<Tid>
 }
 
 fn least_or(least: Option<Tid>, here: bool, t: Tid) -> Option<Tid>
-    ensures { option_map number_of result ≡ Rattle.written_kernel.specs.Turns.least_or (option_map number_of least) here t.0 }
+    ensures { option_map tid_number result ≡ least_of (option_map tid_number least) here t.0 }
 {
     match least {
         Some(least) => Some(least),

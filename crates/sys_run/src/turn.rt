@@ -1,15 +1,11 @@
 //! One turn of a thread: its request or the end of its wait, the kernel's step, and the event.
 ghost use Rattle.std.specs.Prelude.{◌≡◌, ◌+◌, ◌<◌, ◌≤◌, ◌∷◌, ◌++◌, [], length, IfOk, OnOk, OnErr, true, vec_len, vec_capacity};
-ghost use Rattle.written_kernel.specs.Kept.{StandsFor};
-ghost use Rattle.written_kernel.specs.Legal.{MayTurn};
-ghost use Rattle.written_kernel.specs.Turns.{runnable};
-ghost use Rattle.written_kernel.specs.State.{State};
-ghost use Rattle.written_kernel.specs.Kept.{IsStep};
-ghost use Rattle.written_kernel.specs.Step.{step, what_of};
-ghost use Rattle.written_script.specs.Requests.{Frame};
-ghost use Rattle.thread_machine.specs.Machines.{IsMachine, Stands, HasRoom};
-ghost use Rattle.sys_run.specs.Sys.{with_journal, state_of_run, with_turn, woken_by, MachineStands, IsJournal};
-ghost use Rattle.sys_run.specs.Turns.{asked_in};
+ghost use Rattle.dk_base.specs.declared.limits.TheConstants.{EVENTS_MAX};
+ghost use Rattle.written_kernel.specs.Words.{IsStep, MayTurn, StandsFor, State, is_runnable, step, what_of};
+ghost use Rattle.written_script.specs.Words.{Frame};
+ghost use Rattle.thread_machine.specs.Words.{HasRoomForAnswer, IsMachine, Stands};
+ghost use Rattle.sys_run.specs.Sys.{with_journal, state_of_run, with_turn, threads_woken_by, MachineStands, IsJournal};
+ghost use Rattle.sys_run.specs.TurnRequests.{request_if_running};
 
 use crate::what;
 use dk_base::error::NoMemory;
@@ -31,7 +27,7 @@ fn ask(
     t: Tid,
 ) -> Result<Option<Request>, NoMemory>
     requires { IsMachine script.now machine.now }
-    ensures { IfOk result (λ r. (m : State) (f : Frame) → StandsFor kernel.now m → Stands script.now machine.now f → r ≡ asked_in m t.0 f) }
+    ensures { IfOk result (λ r. (m : State) (f : Frame) → StandsFor kernel.now m → Stands script.now machine.now f → r ≡ request_if_running m t.0 f) }
 {
     if kernel.is_running(t) {
         let request = machine.next(alloc, script)?;
@@ -46,8 +42,8 @@ fn what_of(kernel: &Kernel, t: Tid, request: &Option<Request>) -> What
     ensures { (m : State) → StandsFor kernel.now m → result ≡ what_of m t.0 request.now }
 {
     match request {
-        Some(request) => what::entered(request),
-        None => what::ended(kernel.state(t)),
+        Some(request) => what::of_entry(request),
+        None => what::of_wait(kernel.state(t)),
     }
 }
 
@@ -73,16 +69,16 @@ fn turn(
     t: Tid,
 ) -> Result<TidList, NoMemory>
     requires room { vec_len journal.old < vec_capacity journal.old }
-    requires machine_room { HasRoom machine.old }
+    requires machine_room { HasRoomForAnswer machine.old }
     requires run { IsJournal (with_journal script.now journal.old.items) }
     requires kernel { StandsFor kernel.old (state_of_run (with_journal script.now journal.old.items)) }
     requires machine { MachineStands script.now journal.old.items t.0 machine.old }
-    requires can { runnable (state_of_run (with_journal script.now journal.old.items)) t.0 ≡ true }
+    requires can { is_runnable (state_of_run (with_journal script.now journal.old.items)) t.0 ≡ true }
     requires left { length journal.old.items < script.now.budget }
     ensures journal { OnOk result (with_journal script.now journal.new.items ≡ with_turn (with_journal script.now journal.old.items) t.0) }
     ensures kernel { OnOk result (StandsFor kernel.new (state_of_run (with_turn (with_journal script.now journal.old.items) t.0))) }
     ensures machine { OnOk result (MachineStands script.now journal.new.items t.0 machine.new) }
-    ensures woken { IfOk result (λ woken. woken ≡ woken_by (with_journal script.now journal.old.items) t.0) }
+    ensures woken { IfOk result (λ woken. woken ≡ threads_woken_by (with_journal script.now journal.old.items) t.0) }
     ensures journal_err { OnErr result (journal.new.items ≡ journal.old.items) }
     ensures kernel_err { OnErr result (kernel.new ≡ kernel.old) }
     ensures machine_err { OnErr result (machine.new ≡ machine.old) }
@@ -92,13 +88,13 @@ fn turn(
     let root = kernel.root(t);
     let stepped = step(kernel, t, request)?;
     machine.take(script, &stepped.answer);
-    Ok(appended(journal, t, root, what, stepped))
+    Ok(push_event(journal, t, root, what, stepped))
 }
 
 // Appends the event of a step, and answers the threads that it woke.
-fn appended(journal: &mut Vec<Event>, t: Tid, root: Tid, what: What, stepped: Stepped) -> TidList
+fn push_event(journal: &mut Vec<Event>, t: Tid, root: Tid, what: What, stepped: Stepped) -> TidList
     requires room { vec_len journal.old < vec_capacity journal.old }
-    requires few { length journal.old.items < 1000000 }
+    requires few { length journal.old.items < EVENTS_MAX }
     ensures journal { journal.new.items ≡ journal.old.items ++ record { number = length journal.old.items + 1; thread = t; root = root; what = what; answer = stepped.answer } ∷ [] }
     ensures woken { result ≡ stepped.woken }
 {
@@ -126,12 +122,12 @@ pub(crate) fn take_turn(
     requires run { IsJournal (with_journal script.now journal.old.items) }
     requires kernel { StandsFor kernel.old (state_of_run (with_journal script.now journal.old.items)) }
     requires machine { MachineStands script.now journal.old.items t.0 machine.old }
-    requires can { runnable (state_of_run (with_journal script.now journal.old.items)) t.0 ≡ true }
+    requires can { is_runnable (state_of_run (with_journal script.now journal.old.items)) t.0 ≡ true }
     requires left { length journal.old.items < script.now.budget }
     ensures journal { OnOk result (with_journal script.now journal.new.items ≡ with_turn (with_journal script.now journal.old.items) t.0) }
     ensures kernel { OnOk result (StandsFor kernel.new (state_of_run (with_turn (with_journal script.now journal.old.items) t.0))) }
     ensures machine { MachineStands script.now journal.new.items t.0 machine.new }
-    ensures woken { IfOk result (λ woken. woken ≡ woken_by (with_journal script.now journal.old.items) t.0) }
+    ensures woken { IfOk result (λ woken. woken ≡ threads_woken_by (with_journal script.now journal.old.items) t.0) }
     ensures journal_err { OnErr result (journal.new.items ≡ journal.old.items) }
     ensures kernel_err { OnErr result (kernel.new ≡ kernel.old) }
 {

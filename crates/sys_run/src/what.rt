@@ -1,13 +1,13 @@
 //! Which entry, or which end of a wait, an event is.
 ghost use Rattle.std.specs.Prelude.{◌≡◌};
-ghost use Rattle.written_kernel.specs.Step.{what_entered, what_ended};
+ghost use Rattle.written_kernel.specs.Words.{what_of_entry, what_of_wait};
 
 use dk_base::event::What;
 use dk_base::record::ThreadState;
 use dk_base::request::Request;
 
-pub(crate) fn entered(request: &Request) -> What
-    ensures { result ≡ what_entered request.now }
+pub(crate) fn of_entry(request: &Request) -> What
+    ensures { result ≡ what_of_entry request.now }
 {
     match request {
         Request::Create { .. } => What::Create,
@@ -45,8 +45,8 @@ pub(crate) fn entered(request: &Request) -> What
     }
 }
 
-pub(crate) fn ended(state: &ThreadState) -> What
-    ensures { result ≡ what_ended state.now }
+pub(crate) fn of_wait(state: &ThreadState) -> What
+    ensures { result ≡ what_of_wait state.now }
 {
     match state {
         ThreadState::Given { .. } => What::Accept,

@@ -22,7 +22,7 @@ take-take (suc n) (suc m) [] h = refl
 take-take (suc n) (suc m) (x ∷ xs) h =
     let few : n ≤ m = omega arith in ap (λ (zs : List _). x ∷ zs) (take-take n m xs few)
 
--- what is appended to a cut list is cut as it were behind the whole
+-- what is appended to a cut list is cut as it were after the whole
 pub take-cut : {A : Type 0} (n : ℕ) (xs ys : List A) → take n (take n xs ++ ys) ≡ take n (xs ++ ys)
 take-cut zero xs ys = refl
 take-cut (suc n) [] ys = refl

@@ -1,17 +1,16 @@
--- From inside a block to the lines behind it.
+-- From inside a block to the lines after it.
 use Rattle.std.proofs.Common.{◌≡◌, ℕ, ◌+◌, ◌-◌, ◌<◌, ◌≤◌, List, length, drop, Some, refl, ap, ◌∙◌, sym, subst, arith, zero, suc}
 use Rattle.std.specs.Prelude.{slice_get}
-use Rattle.script_line.specs.declared.line.Kind.{Kind}
+use Rattle.script_lang.specs.Types.{Kind, Line}
 use Rattle.script_line.specs.declared.line.Kind.TheVariants.{Act, Loop, Test, Closing}
-use Rattle.script_line.specs.declared.line.Line.{Line}
-use Rattle.script_line.specs.Kinds.{kind_of}
-use Rattle.written_script.specs.Steps.{Step, outer_blocks, line_before}
-use Rattle.thread_machine.specs.Places.{blocks_at, IsNested, IsNestedLine, Leaves, depth_behind_line}
+use Rattle.script_line.specs.Words.{kind_of}
+use Rattle.written_script.specs.Words.{BodyStep, line_before, outer_blocks}
+use Rattle.thread_machine.specs.Places.{blocks_at, IsNested, IsNestedLine, Leaves, depth_after_line}
 use Rattle.thread_machine.proofs.Positions.{drop-past}
 use Rattle.thread_machine.proofs.Walks.{LineAt, line-at, nested-here}
 
 -- the blocks around so many inner ones
-abbrev pub around : ℕ → List (List Step) → List (List Step)
+abbrev pub around : ℕ → List (List BodyStep) → List (List BodyStep)
 around zero blocks = blocks
 around (suc n) blocks = around n (outer_blocks blocks)
 
@@ -42,13 +41,13 @@ pub record IsMet (line : Line) (count : ℕ) : Type 0 where
   pub few : count < 9
 
 met-kind :
-    (line : Line) (kind : Kind) (count : ℕ) (lines : List Line) (Behind : ℕ → Type 0) → IsNestedLine kind count line lines Behind →
+    (line : Line) (kind : Kind) (count : ℕ) (lines : List Line) (After : ℕ → Type 0) → IsNestedLine kind count line lines After →
     kind ≡ Closing → 0 < count
-met-kind line Closing zero lines Behind h e = absurd h
-met-kind line Closing (suc count) lines Behind h e = omega arith
-met-kind line Act count lines Behind h e = cc
-met-kind line Loop count lines Behind h e = cc
-met-kind line Test count lines Behind h e = cc
+met-kind line Closing zero lines After h e = absurd h
+met-kind line Closing (suc count) lines After h e = omega arith
+met-kind line Act count lines After h e = cc
+met-kind line Loop count lines After h e = cc
+met-kind line Test count lines After h e = cc
 
 pub closes-met :
     (body : List Line) (depth from at count : ℕ) (line : Line) → OnTheWay body depth from at count →
@@ -59,29 +58,29 @@ closes-met body depth from at count line h there e =
     (kind_of line)
     count
     (drop (at + 1) body)
-    (λ behind. IsNested behind (drop (at + 1) body))
+    (λ after. IsNested after (drop (at + 1) body))
     (nested-here body at count line (line-at body at line there) h.nested)
     e
 
--- behind one line more, still on the way or behind the block
+-- after one line more, still on the way or after the block
 pub record Next (body : List Line) (depth from at count : ℕ) : Type 0 where
-  pub behind : count ≡ depth → Leaves body depth from at
+  pub after : count ≡ depth → Leaves body depth from at
   pub inside : (count ≡ depth → ⊥) → OnTheWay body depth from at count
 
 next-kind :
     (body : List Line) (depth from at inner : ℕ) (line : Line) (kind : Kind) →
     around (suc inner) (line_before line kind (blocks_at body (at + 1))) ≡ outer_blocks (blocks_at body from) →
-    IsNestedLine kind (depth + suc inner) line (drop (at + 1) body) (λ behind. IsNested behind (drop (at + 1) body)) →
-    depth + suc inner ≤ 8 → from ≤ at → Next body depth from (at + 1) (depth_behind_line (depth + suc inner) kind)
+    IsNestedLine kind (depth + suc inner) line (drop (at + 1) body) (λ after. IsNested after (drop (at + 1) body)) →
+    depth + suc inner ≤ 8 → from ≤ at → Next body depth from (at + 1) (depth_after_line (depth + suc inner) kind)
 next-kind body depth from at inner line Act blocks nested few later =
     record {
-      behind = λ e. absurd (omega arith);
+      after = λ e. absurd (omega arith);
       inside = λ other. record { inner = inner; is = refl; few = few; nested = nested; blocks = blocks; later = omega arith };
     }
 next-kind body depth from at inner line Loop blocks nested few later =
     let e : suc (depth + suc inner) ≡ depth + suc inner + 1 = omega arith
     in record {
-      behind = λ e. absurd (omega arith);
+      after = λ e. absurd (omega arith);
       inside =
           λ other. record {
             inner = suc inner;
@@ -95,7 +94,7 @@ next-kind body depth from at inner line Loop blocks nested few later =
 next-kind body depth from at inner line Test blocks nested few later =
     let e : suc (depth + suc inner) ≡ depth + suc inner + 1 = omega arith
     in record {
-      behind = λ e. absurd (omega arith);
+      after = λ e. absurd (omega arith);
       inside =
           λ other. record {
             inner = suc inner;
@@ -110,11 +109,11 @@ next-kind body depth from at zero line Closing blocks nested few later =
     let e : depth + 1 ≡ suc depth = omega arith
     in let inside : IsNested depth (drop (at + 1) body) =
     subst
-    (λ (n : ℕ). IsNestedLine Closing n line (drop (at + 1) body) (λ behind. IsNested behind (drop (at + 1) body)))
+    (λ (n : ℕ). IsNestedLine Closing n line (drop (at + 1) body) (λ after. IsNested after (drop (at + 1) body)))
     e
     nested
     in record {
-      behind = λ same. record { blocks = blocks; nested = inside; later = omega arith };
+      after = λ same. record { blocks = blocks; nested = inside; later = omega arith };
       inside = λ other. absurd (other (omega arith));
     }
 next-kind body depth from at (suc inner) line Closing blocks nested few later =
@@ -122,11 +121,11 @@ next-kind body depth from at (suc inner) line Closing blocks nested few later =
     in let less : depth + suc (suc inner) - 1 ≡ depth + suc inner = omega arith
     in let inside : IsNested (depth + suc inner) (drop (at + 1) body) =
     subst
-    (λ (n : ℕ). IsNestedLine Closing n line (drop (at + 1) body) (λ behind. IsNested behind (drop (at + 1) body)))
+    (λ (n : ℕ). IsNestedLine Closing n line (drop (at + 1) body) (λ after. IsNested after (drop (at + 1) body)))
     e
     nested
     in record {
-      behind = λ same. absurd (omega arith);
+      after = λ same. absurd (omega arith);
       inside =
           λ other. record {
             inner = inner;
@@ -139,11 +138,11 @@ next-kind body depth from at (suc inner) line Closing blocks nested few later =
     }
 
 pub next-line :
-    (body : List Line) (depth from at count behind : ℕ) (line : Line) → OnTheWay body depth from at count →
-    slice_get body at ≡ Some line → behind ≡ depth_behind_line count (kind_of line) → Next body depth from (at + 1) behind
-next-line body depth from at count behind line h there e =
+    (body : List Line) (depth from at count after : ℕ) (line : Line) → OnTheWay body depth from at count →
+    slice_get body at ≡ Some line → after ≡ depth_after_line count (kind_of line) → Next body depth from (at + 1) after
+next-line body depth from at count after line h there e =
     let l : LineAt body at line = line-at body at line there
-    in let here : behind ≡ depth_behind_line (depth + suc h.inner) (kind_of line) = e ∙ ap (λ (n : ℕ). depth_behind_line n (kind_of line)) h.is
+    in let here : after ≡ depth_after_line (depth + suc h.inner) (kind_of line) = e ∙ ap (λ (n : ℕ). depth_after_line n (kind_of line)) h.is
     in subst
     (λ (n : ℕ). Next body depth from (at + 1) n)
     (sym here)
@@ -155,7 +154,7 @@ next-line body depth from at count behind line h there e =
     h.inner
     line
     (kind_of line)
-    (subst (λ (blocks : List (List Step)). around (suc h.inner) blocks ≡ outer_blocks (blocks_at body from)) l.blocks h.blocks)
+    (subst (λ (blocks : List (List BodyStep)). around (suc h.inner) blocks ≡ outer_blocks (blocks_at body from)) l.blocks h.blocks)
     (subst
     (λ (n : ℕ). IsNestedLine (kind_of line) n line (drop (at + 1) body) (λ inner. IsNested inner (drop (at + 1) body)))
     h.is

@@ -1,22 +1,16 @@
 -- A command makes the same request by what a machine holds of the variables.
 use Rattle.std.proofs.Common.{◌≡◌, ℕ, ◌<◌, ◌≤◌, List, [], ◌∷◌, take, refl, ap, ◌∙◌, arith}
 use Rattle.std.specs.Prelude.{map, slice_get, codes}
-use Rattle.dk_base.specs.declared.number.Fd.{Fd}
-use Rattle.dk_base.specs.declared.object.Pass.{Pass}
+use Rattle.script_text.specs.Types.{Fd, Pass}
 use Rattle.dk_base.specs.declared.request.Request.TheVariants as request
-use Rattle.script_line.specs.declared.line.FdArg.{FdArg}
+use Rattle.script_lang.specs.Types.{FdArg, Line, PassArg, Piece}
 use Rattle.script_line.specs.declared.line.FdArg.TheVariants.{Number, Of as OfFd}
-use Rattle.script_line.specs.declared.line.Line.{Line}
 use Rattle.script_line.specs.declared.line.Line.TheVariants as line
-use Rattle.script_line.specs.declared.line.PassArg.{PassArg}
-use Rattle.script_line.specs.declared.line.Piece.{Piece}
 use Rattle.script_line.specs.declared.line.Piece.TheVariants.{Text, Of, Fill}
-use Rattle.script_line.specs.Spelled.{SpellsLine, Spelling, First, Then, Pieces, MorePieces, Passes}
-use Rattle.script_line.specs.Tables.{Tables}
-use Rattle.written_script.specs.Requests.{request_at}
-use Rattle.written_script.specs.Variables.{Value, Variables, fd_of, pass_of, bytes_of, data_of, or_no_descriptor, greatest_data}
+use Rattle.script_line.specs.Words.{First, Spelling, SpellsLine, SpellsMorePieces, SpellsPassList, SpellsPieces, Tables, Then}
+use Rattle.written_script.specs.Words.{Value, Variables, data_of, fd_of, greatest_data, or_no_descriptor, pass_of, piece_bytes, request_at}
 use Rattle.thread_machine.specs.Bodies.{IsSpelledLine}
-use Rattle.thread_machine.specs.Slots.{Slot, held, Holds, greatest_descriptors}
+use Rattle.thread_machine.specs.Slots.{Slot, slot_value, Holds, greatest_descriptors}
 use Rattle.thread_machine.proofs.Cuts.{take-take, take-flat_map, slice_get-take}
 use Rattle.thread_machine.proofs.SpelledLines.{IsInRange, AreInRange, ArePassesInRange, each-fd, each-pass, fd-first, fd-second}
 
@@ -26,7 +20,7 @@ few-descriptors : (k : ℕ) → k ≤ 15 → k < greatest_descriptors
 unfolding greatest_descriptors
 few-descriptors k h = omega arith
 
-pub fd-same : (slots : List Slot) (values : Variables) (fd : FdArg) → Holds slots values → IsInRange fd → fd_of (held slots) fd ≡ fd_of values fd
+pub fd-same : (slots : List Slot) (values : Variables) (fd : FdArg) → Holds slots values → IsInRange fd → fd_of (slot_value slots) fd ≡ fd_of values fd
 fd-same slots values (Number n) h r = refl
 fd-same slots values (OfFd var k) h r =
     let few : k < greatest_descriptors = few-descriptors k r
@@ -35,48 +29,48 @@ fd-same slots values (OfFd var k) h r =
 
 pub fds-same :
     (slots : List Slot) (values : Variables) (fds : List FdArg) → Holds slots values → AreInRange fds →
-    map (fd_of (held slots)) fds ≡ map (fd_of values) fds
+    map (fd_of (slot_value slots)) fds ≡ map (fd_of values) fds
 fds-same slots values [] h r = refl
 fds-same slots values (fd ∷ fds) h r =
-    let first : fd_of (held slots) fd ≡ fd_of values fd = fd-same slots values fd h r.0
-    in let others : map (fd_of (held slots)) fds ≡ map (fd_of values) fds = fds-same slots values fds h r.1
-    in ap (λ (x : Fd). x ∷ map (fd_of (held slots)) fds) first ∙ ap (λ (xs : List Fd). fd_of values fd ∷ xs) others
+    let first : fd_of (slot_value slots) fd ≡ fd_of values fd = fd-same slots values fd h r.0
+    in let others : map (fd_of (slot_value slots)) fds ≡ map (fd_of values) fds = fds-same slots values fds h r.1
+    in ap (λ (x : Fd). x ∷ map (fd_of (slot_value slots)) fds) first ∙ ap (λ (xs : List Fd). fd_of values fd ∷ xs) others
 
 pub passes-same :
     (slots : List Slot) (values : Variables) (passes : List PassArg) → Holds slots values → ArePassesInRange passes →
-    map (pass_of (held slots)) passes ≡ map (pass_of values) passes
+    map (pass_of (slot_value slots)) passes ≡ map (pass_of values) passes
 passes-same slots values [] h r = refl
 passes-same slots values (pass ∷ passes) h r =
-    let first : fd_of (held slots) pass.fd ≡ fd_of values pass.fd = fd-same slots values pass.fd h r.0
-    in let others : map (pass_of (held slots)) passes ≡ map (pass_of values) passes = passes-same slots values passes h r.1
+    let first : fd_of (slot_value slots) pass.fd ≡ fd_of values pass.fd = fd-same slots values pass.fd h r.0
+    in let others : map (pass_of (slot_value slots)) passes ≡ map (pass_of values) passes = passes-same slots values passes h r.1
     in ap
-    (λ (x : Fd). let p : Pass = record { fd = x; release = pass.release } in p ∷ map (pass_of (held slots)) passes)
+    (λ (x : Fd). let p : Pass = record { fd = x; release = pass.release } in p ∷ map (pass_of (slot_value slots)) passes)
     first
     ∙ ap (λ (xs : List Pass). pass_of values pass ∷ xs) others
 
 piece-same :
     (slots : List Slot) (values : Variables) → Holds slots values → (piece : Piece) →
-    take greatest_data (bytes_of (held slots) piece) ≡ take greatest_data (bytes_of values piece)
+    take greatest_data (piece_bytes (slot_value slots) piece) ≡ take greatest_data (piece_bytes values piece)
 piece-same slots values h (Text bytes) = refl
 piece-same slots values h (Of var) =
     ap (λ (value : Value). take greatest_data value.bytes) (h var)
     ∙ take-take greatest_data greatest_data (values var).bytes (omega arith)
 piece-same slots values h (Fill n) = refl
 
-pub data-same : (slots : List Slot) (values : Variables) (pieces : List Piece) → Holds slots values → data_of (held slots) pieces ≡ data_of values pieces
+pub data-same : (slots : List Slot) (values : Variables) (pieces : List Piece) → Holds slots values → data_of (slot_value slots) pieces ≡ data_of values pieces
 data-same slots values pieces h =
-    take-flat_map greatest_data (bytes_of (held slots)) (bytes_of values) pieces (piece-same slots values h)
+    take-flat_map greatest_data (piece_bytes (slot_value slots)) (piece_bytes values) pieces (piece-same slots values h)
 
--- what may be passed stands behind data
+-- what may be passed stands after data
 
-passes-in : (passes : List PassArg) (Next : Spelling) (words : List (List ℕ)) → Passes passes Next words → ArePassesInRange passes
+passes-in : (passes : List PassArg) (Next : Spelling) (words : List (List ℕ)) → SpellsPassList passes Next words → ArePassesInRange passes
 passes-in [] Next words h = tt
 passes-in (pass ∷ passes) Next [] h = absurd h.1
 passes-in (pass ∷ passes) Next (w ∷ words) h = each-pass (pass ∷ passes) Next words h.1.1
 
 more-pieces-then :
     (pieces : List Piece) (passes : List PassArg) (Next : Spelling) (words : List (List ℕ)) →
-    MorePieces pieces (Passes passes Next) words → ArePassesInRange passes
+    SpellsMorePieces pieces (SpellsPassList passes Next) words → ArePassesInRange passes
 more-pieces-then [] passes Next words h = passes-in passes Next words h
 more-pieces-then (piece ∷ pieces) passes Next [] h = absurd h
 more-pieces-then (piece ∷ pieces) passes Next (k ∷ []) h = absurd h.1
@@ -84,14 +78,14 @@ more-pieces-then (piece ∷ pieces) passes Next (k ∷ w ∷ words) h = more-pie
 
 pieces-then :
     (pieces : List Piece) (passes : List PassArg) (Next : Spelling) (words : List (List ℕ)) →
-    Pieces pieces (Passes passes Next) words → ArePassesInRange passes
+    SpellsPieces pieces (SpellsPassList passes Next) words → ArePassesInRange passes
 pieces-then [] passes Next words h = absurd h
 pieces-then (piece ∷ pieces) passes Next [] h = absurd h
 pieces-then (piece ∷ pieces) passes Next (w ∷ words) h = more-pieces-then pieces passes Next words h.1
 
 call-passes :
     (keyword : List ℕ) (P Q : List ℕ → Type 0) (pieces : List Piece) (passes : List PassArg) (Next : Spelling) (words : List (List ℕ)) →
-    Then keyword (First P (First Q (Pieces pieces (Passes passes Next)))) words → ArePassesInRange passes
+    Then keyword (First P (First Q (SpellsPieces pieces (SpellsPassList passes Next)))) words → ArePassesInRange passes
 call-passes keyword P Q pieces passes Next [] h = absurd h
 call-passes keyword P Q pieces passes Next (k ∷ []) h = absurd h.1
 call-passes keyword P Q pieces passes Next (k ∷ w ∷ []) h = absurd h.1.1
@@ -99,7 +93,7 @@ call-passes keyword P Q pieces passes Next (k ∷ w ∷ v ∷ words) h = pieces-
 
 return-passes :
     (keyword : List ℕ) (pieces : List Piece) (passes : List PassArg) (Next : Spelling) (words : List (List ℕ)) →
-    Then keyword (Pieces pieces (Passes passes Next)) words → ArePassesInRange passes
+    Then keyword (SpellsPieces pieces (SpellsPassList passes Next)) words → ArePassesInRange passes
 return-passes keyword pieces passes Next [] h = absurd h
 return-passes keyword pieces passes Next (k ∷ words) h = pieces-then pieces passes Next words h.1
 
@@ -113,7 +107,7 @@ sendn-ports events user ports tables process (k ∷ w ∷ v ∷ words) h = each-
 
 spelled-same :
     (slots : List Slot) (values : Variables) (x : Line) (tables : Tables) (process : ℕ) (words : List (List ℕ)) →
-    Holds slots values → SpellsLine tables process x words → request_at (held slots) x ≡ request_at values x
+    Holds slots values → SpellsLine tables process x words → request_at (slot_value slots) x ≡ request_at values x
 spelled-same slots values (line.Call var fd bytes pass rsize) tables process words h s =
     rw (
       fd-same slots values fd h (fd-second (codes "call") _ fd _ words s),
@@ -175,5 +169,5 @@ spelled-same slots values x tables process words h s = refl
 
 pub request-same :
     (slots : List Slot) (values : Variables) (x : Line) → Holds slots values → IsSpelledLine x →
-    request_at (held slots) x ≡ request_at values x
+    request_at (slot_value slots) x ≡ request_at values x
 request-same slots values x h s = spelled-same slots values x s.tables s.process s.words h s.spells

@@ -5,11 +5,10 @@ use Rattle.std.proofs.lemmas.Bool.{false≢true}
 use Rattle.std.proofs.lemmas.Slice.Eq.{bytes_eq-Decides}
 use Rattle.std.specs.Prelude.{slice_get, bytes_eq, position, if◌then◌else◌, not}
 use Rattle.std.specs.List.{position_or_len}
-use Rattle.dk_base.specs.declared.answer.Answer.{Answer}
-use Rattle.dk_base.specs.declared.number.Fd.{Fd}
+use Rattle.script_text.specs.Types.{Answer, Fd}
 use Rattle.script_line.proofs.PathSearch.{bytes_eq_comm, place_found, place_missing}
-use Rattle.written_script.specs.Variables.{Value, Variables, unset, set_variable, set_each, values_of, with_both, no_variables, greatest_data}
-use Rattle.thread_machine.specs.Slots.{Slot, cut, held, place_of, is_named, Holds, set_some, greatest_descriptors}
+use Rattle.written_script.specs.Words.{Value, Variables, empty_value, greatest_data, no_variables, set_each, set_variable, values_of, with_both}
+use Rattle.thread_machine.specs.Slots.{Slot, visible_value, slot_value, place_of, is_named, Holds, set_some, greatest_descriptors}
 use Rattle.thread_machine.proofs.Cuts.{take-nil}
 use Rattle.thread_machine.proofs.Positions.{slice_get-index, slice_get-past}
 
@@ -31,19 +30,19 @@ place-none slots name e = place_missing (is_named name) slots e ∙ sym (place-n
 
 -- what is at the place of a name
 abbrev pub value_at : Option Slot → Value
-value_at None = unset
+value_at None = empty_value
 value_at (Some slot) = slot.value
 
-held-if :
-    (test : Bool) (slot : Slot) (slots : List Slot) (name : List ℕ) → held slots name ≡ value_at (slice_get slots (place_of slots name)) →
-    (if test then slot.value else held slots name)
+slot_value-if :
+    (test : Bool) (slot : Slot) (slots : List Slot) (name : List ℕ) → slot_value slots name ≡ value_at (slice_get slots (place_of slots name)) →
+    (if test then slot.value else slot_value slots name)
     ≡ value_at (slice_get (slot ∷ slots) (if test then zero else suc (place_of slots name)))
-held-if true slot slots name e = refl
-held-if false slot slots name e = e
+slot_value-if true slot slots name e = refl
+slot_value-if false slot slots name e = e
 
-pub held-at : (slots : List Slot) (name : List ℕ) → held slots name ≡ value_at (slice_get slots (place_of slots name))
-held-at [] name = refl
-held-at (slot ∷ slots) name = held-if (bytes_eq name slot.name) slot slots name (held-at slots name)
+pub slot_value-at : (slots : List Slot) (name : List ℕ) → slot_value slots name ≡ value_at (slice_get slots (place_of slots name))
+slot_value-at [] name = refl
+slot_value-at (slot ∷ slots) name = slot_value-if (bytes_eq name slot.name) slot slots name (slot_value-at slots name)
 
 place-if-le : (test : Bool) (m n : ℕ) → m ≤ n → (if test then zero else suc m) ≤ suc n
 place-if-le true m n h = omega arith
@@ -98,80 +97,80 @@ same-names name a b v w r same =
 
 -- one slot more
 
-pub held-next :
+pub slot_value-next :
     (slots : List Slot) (count : ℕ) (new : Slot) (name : List ℕ) → count < length slots →
     count ≡ place_of (take count slots) new.name →
-    held (take (suc count) (set slots count new)) name ≡ set_variable (held (take count slots)) new.name new.value name
-held-next [] count new name few at = absurd (omega arith)
-held-next (slot ∷ slots) zero new name few at = refl
-held-next (slot ∷ slots) (suc count) new name few at =
+    slot_value (take (suc count) (set slots count new)) name ≡ set_variable (slot_value (take count slots)) new.name new.value name
+slot_value-next [] count new name few at = absurd (omega arith)
+slot_value-next (slot ∷ slots) zero new name few at = refl
+slot_value-next (slot ∷ slots) (suc count) new name few at =
     by_test
     (bytes_eq new.name slot.name)
     refl
     at
-    (λ here. let fewer : count < length slots = omega arith in held-next slots count new name fewer here)
+    (λ here. let fewer : count < length slots = omega arith in slot_value-next slots count new name fewer here)
   where
     by_test :
         (test : Bool) → bytes_eq new.name slot.name ≡ test →
         suc count ≡ (if test then zero else suc (place_of (take count slots) new.name)) →
         (count ≡ place_of (take count slots) new.name →
-        held (take (suc count) (set slots count new)) name
-        ≡ set_variable (held (take count slots)) new.name new.value name) →
-        held (slot ∷ take (suc count) (set slots count new)) name
-        ≡ set_variable (held (slot ∷ take count slots)) new.name new.value name
+        slot_value (take (suc count) (set slots count new)) name
+        ≡ set_variable (slot_value (take count slots)) new.name new.value name) →
+        slot_value (slot ∷ take (suc count) (set slots count new)) name
+        ≡ set_variable (slot_value (slot ∷ take count slots)) new.name new.value name
     by_test true same there next = absurd (omega arith)
     by_test false same there next =
         let here : count ≡ place_of (take count slots) new.name = omega arith
         in ap (λ value. if bytes_eq name slot.name then slot.value else value) (next here)
-        ∙ apart-names name new.name slot.name new.value slot.value (held (take count slots) name) same
+        ∙ apart-names name new.name slot.name new.value slot.value (slot_value (take count slots) name) same
 
 -- a slot that is there
-pub held-there :
+pub slot_value-there :
     (slots : List Slot) (count place : ℕ) (new : Slot) (name : List ℕ) → count ≤ length slots → place < count →
     place ≡ place_of (take count slots) new.name →
-    held (take count (set slots place new)) name ≡ set_variable (held (take count slots)) new.name new.value name
-held-there slots zero place new name few less at = absurd (omega arith)
-held-there [] (suc count) place new name few less at = absurd (omega arith)
-held-there (slot ∷ slots) (suc count) place new name few less at =
+    slot_value (take count (set slots place new)) name ≡ set_variable (slot_value (take count slots)) new.name new.value name
+slot_value-there slots zero place new name few less at = absurd (omega arith)
+slot_value-there [] (suc count) place new name few less at = absurd (omega arith)
+slot_value-there (slot ∷ slots) (suc count) place new name few less at =
     by_test
     (bytes_eq new.name slot.name)
     refl
     place
     less
     at
-    (λ p fewer here. let room : count ≤ length slots = omega arith in held-there slots count p new name room fewer here)
+    (λ p fewer here. let room : count ≤ length slots = omega arith in slot_value-there slots count p new name room fewer here)
   where
     by_test :
         (test : Bool) → bytes_eq new.name slot.name ≡ test → (p : ℕ) → p < suc count →
         p ≡ (if test then zero else suc (place_of (take count slots) new.name)) →
         ((q : ℕ) → q < count → q ≡ place_of (take count slots) new.name →
-        held (take count (set slots q new)) name ≡ set_variable (held (take count slots)) new.name new.value name) →
-        held (take (suc count) (set (slot ∷ slots) p new)) name
-        ≡ set_variable (held (slot ∷ take count slots)) new.name new.value name
+        slot_value (take count (set slots q new)) name ≡ set_variable (slot_value (take count slots)) new.name new.value name) →
+        slot_value (take (suc count) (set (slot ∷ slots) p new)) name
+        ≡ set_variable (slot_value (slot ∷ take count slots)) new.name new.value name
     by_test true same zero fewer there inner =
-        same-names name new.name slot.name new.value slot.value (held (take count slots) name) same
+        same-names name new.name slot.name new.value slot.value (slot_value (take count slots) name) same
     by_test true same (suc p) fewer there inner = absurd (omega arith)
     by_test false same zero fewer there inner = absurd (omega arith)
     by_test false same (suc p) fewer there inner =
         let less : p < count = omega arith
         in let here : p ≡ place_of (take count slots) new.name = omega arith
         in ap (λ value. if bytes_eq name slot.name then slot.value else value) (inner p less here)
-        ∙ apart-names name new.name slot.name new.value slot.value (held (take count slots) name) same
+        ∙ apart-names name new.name slot.name new.value slot.value (slot_value (take count slots) name) same
 
 -- what was set is held
 
 pub Holds-with :
     (old now : List Slot) (values : Variables) (new : Slot) (value : Value) (name : List ℕ) → Holds old values →
-    new.value ≡ cut value → held now name ≡ set_variable (held old) new.name new.value name →
-    held now name ≡ cut (set_variable values new.name value name)
+    new.value ≡ visible_value value → slot_value now name ≡ set_variable (slot_value old) new.name new.value name →
+    slot_value now name ≡ visible_value (set_variable values new.name value name)
 Holds-with old now values new value name h e is = is ∙ by_test (bytes_eq name new.name)
   where
-    by_test : (test : Bool) → (if test then new.value else held old name) ≡ cut (if test then value else values name)
+    by_test : (test : Bool) → (if test then new.value else slot_value old name) ≡ visible_value (if test then value else values name)
     by_test true = e
     by_test false = h name
 
-pub cut-unset : cut unset ≡ unset
-cut-unset =
+pub visible_value-empty_value : visible_value empty_value ≡ empty_value
+visible_value-empty_value =
     let no_bytes : List ℕ = []
     in let no_fds : List Fd = []
     in let bytes : take greatest_data no_bytes ≡ no_bytes = take-nil greatest_data no_bytes refl
@@ -180,19 +179,19 @@ cut-unset =
     ∙ ap (λ (xs : List Fd). with_both no_bytes xs) fds
 
 pub Holds-none : Holds [] no_variables
-Holds-none name = sym cut-unset
+Holds-none name = sym visible_value-empty_value
 
 -- what setting a variable gives, where the slots that are set are the first of a list
 
 pub set-next :
     (slots seen : List Slot) (count place : ℕ) (new : Slot) (var : List ℕ) (value : Value) (values : Variables) (name : List ℕ) →
     take count slots ≡ seen → count < length slots → place ≡ place_of seen var → place ≡ count → new.name ≡ var →
-    new.value ≡ cut value → Holds seen values →
-    held (take (count + 1) (set slots place new)) name ≡ cut (set_variable values var value name)
+    new.value ≡ visible_value value → Holds seen values →
+    slot_value (take (count + 1) (set slots place new)) name ≡ visible_value (set_variable values var value name)
 set-next slots seen count place new var value values name is few at same named valued h =
     let here : count ≡ place_of (take count slots) new.name = cc
     in let more : count + 1 ≡ suc count = omega arith
-    in let all : held (take (suc count) (set slots count new)) name ≡ cut (set_variable values new.name value name) =
+    in let all : slot_value (take (suc count) (set slots count new)) name ≡ visible_value (set_variable values new.name value name) =
     Holds-with
     (take count slots)
     (take (suc count) (set slots count new))
@@ -202,19 +201,19 @@ set-next slots seen count place new var value values name is few at same named v
     name
     (subst (λ (known : List Slot). Holds known values) (sym is) h)
     valued
-    (held-next slots count new name few here)
+    (slot_value-next slots count new name few here)
     in rw (same, more, ← named) all
 
 pub set-there :
     (slots seen : List Slot) (count place : ℕ) (new : Slot) (var : List ℕ) (value : Value) (values : Variables) (name : List ℕ) →
     take count slots ≡ seen → count ≤ length slots → place ≡ place_of seen var → (place ≡ count → ⊥) → new.name ≡ var →
-    new.value ≡ cut value → Holds seen values →
-    held (take count (set slots place new)) name ≡ cut (set_variable values var value name)
+    new.value ≡ visible_value value → Holds seen values →
+    slot_value (take count (set slots place new)) name ≡ visible_value (set_variable values var value name)
 set-there slots seen count place new var value values name is few at other named valued h =
     let here : place ≡ place_of (take count slots) new.name = cc
     in let le : place_of (take count slots) new.name ≤ count = place-within slots count new.name few
     in let less : place < count = omega arith
-    in let all : held (take count (set slots place new)) name ≡ cut (set_variable values new.name value name) =
+    in let all : slot_value (take count (set slots place new)) name ≡ visible_value (set_variable values new.name value name) =
     Holds-with
     (take count slots)
     (take count (set slots place new))
@@ -224,20 +223,20 @@ set-there slots seen count place new var value values name is few at other named
     name
     (subst (λ (known : List Slot). Holds known values) (sym is) h)
     valued
-    (held-there slots count place new name few less here)
+    (slot_value-there slots count place new name few less here)
     in rw (← named) all
 
 -- what is found by a name
 
-pub held-index :
+pub slot_value-index :
     (slots : List Slot) (name : List ℕ) (k : ℕ) (slot : Slot) → k ≡ place_of slots name → k < length slots →
-    slot ≡ get_or slots k slot → held slots name ≡ slot.value
-held-index slots name k slot at few is =
-    held-at slots name ∙ ap (λ (n : ℕ). value_at (slice_get slots n)) (sym at) ∙ ap value_at (slice_get-index slots k slot few is)
+    slot ≡ get_or slots k slot → slot_value slots name ≡ slot.value
+slot_value-index slots name k slot at few is =
+    slot_value-at slots name ∙ ap (λ (n : ℕ). value_at (slice_get slots n)) (sym at) ∙ ap value_at (slice_get-index slots k slot few is)
 
-pub held-past : (slots : List Slot) (name : List ℕ) (k : ℕ) → k ≡ place_of slots name → length slots ≤ k → held slots name ≡ unset
-held-past slots name k at past =
-    held-at slots name ∙ ap (λ (n : ℕ). value_at (slice_get slots n)) (sym at) ∙ ap value_at (slice_get-past slots k past)
+pub slot_value-past : (slots : List Slot) (name : List ℕ) (k : ℕ) → k ≡ place_of slots name → length slots ≤ k → slot_value slots name ≡ empty_value
+slot_value-past slots name k at past =
+    slot_value-at slots name ∙ ap (λ (n : ℕ). value_at (slice_get slots n)) (sym at) ∙ ap value_at (slice_get-past slots k past)
 
 -- the variables of a command, one after another
 

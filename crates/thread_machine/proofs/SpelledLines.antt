@@ -4,19 +4,13 @@ use Rattle.std.specs.Prelude.{◌&&◌, nat_le, slice_get, codes}
 use Rattle.std.proofs.lemmas.Bool.{false≢true}
 use Rattle.std.proofs.lemmas.Bool.Decides.{nat_tests}
 use Rattle.std.specs.List.{list_all}
-use Rattle.script_text.specs.Names.{is_name, is_letter, is_name_byte}
-use Rattle.script_text.specs.Spelled.{SpellsName}
-use Rattle.script_line.specs.declared.line.FdArg.{FdArg}
+use Rattle.script_text.specs.Words.{SpellsName, is_letter, is_name, is_name_byte}
+use Rattle.script_lang.specs.Types.{FdArg, Line, PassArg}
 use Rattle.script_line.specs.declared.line.FdArg.TheVariants.{Number, Of as OfFd}
 use Rattle.script_line.specs.declared.line.Kind.TheVariants.{Loop}
-use Rattle.script_line.specs.declared.line.Line.{Line}
 use Rattle.script_line.specs.declared.line.Line.TheVariants as line
-use Rattle.script_line.specs.declared.line.PassArg.{PassArg}
-use Rattle.script_line.specs.Kinds.{kind_of}
-use Rattle.script_line.specs.Spelled.{Spelling, First, Then, Each, SpellsFd, SpellsPass, SpellsLine}
-use Rattle.script_line.specs.Tables.{Tables}
-use Rattle.written_script.specs.Steps.{times_of}
-use Rattle.written_script.specs.Variables.{vars_of}
+use Rattle.script_line.specs.Words.{Each, First, Spelling, SpellsFd, SpellsLine, SpellsPass, Tables, Then, kind_of}
+use Rattle.written_script.specs.Words.{times_of, vars_of}
 use Rattle.thread_machine.specs.Bodies.{IsSpelledLine}
 use Rattle.thread_machine.specs.Slots.{IsShort, greatest_name}
 
@@ -131,7 +125,7 @@ each-pass [] Next words h = tt
 each-pass (pass ∷ passes) Next [] h = absurd h
 each-pass (pass ∷ passes) Next (w ∷ words) h = (fd-in-range pass.fd h.0.front h.0.spells_fd, each-pass passes Next words h.1)
 
--- the descriptor of a command is its first operand, or stands behind its variable
+-- the descriptor of a command is its first operand, or stands after its variable
 pub fd-first :
     (keyword : List ℕ) (fd : FdArg) (Next : Spelling) (words : List (List ℕ)) → Then keyword (First (SpellsFd fd) Next) words →
     IsInRange fd

@@ -1,5 +1,6 @@
-pub mod Kept
+pub mod LastAnswers
 pub mod Places
 pub mod Slots
 pub mod Bodies
 pub mod Machines
+pub mod Words

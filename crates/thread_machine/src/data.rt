@@ -1,6 +1,6 @@
 ghost use Rattle.std.specs.Prelude.{◌≡◌, ◌≤◌, ◌-◌, ◌++◌, length, map, take, replicate, IfOk, OnOk};
-ghost use Rattle.written_script.specs.Variables.{greatest_data as greatest_data_of, fd_of, pass_of, bytes_of, data_of};
-ghost use Rattle.thread_machine.specs.Slots.{held};
+ghost use Rattle.written_script.specs.Words.{data_of, fd_of, greatest_data as greatest_data_of, pass_of, piece_bytes};
+ghost use Rattle.thread_machine.specs.Slots.{slot_value};
 
 use crate::fill::first_items;
 use crate::variable::greatest_data;
@@ -42,7 +42,7 @@ fn append_fill(bytes: &mut Bytes, count: u32) -> Result<(), NoMemory>
 impl Variables {
     /// The number that an operand names.
     pub fn fd(&self, fd: &FdArg) -> Fd
-        ensures { result ≡ fd_of (held self.now.set) fd.now }
+        ensures { result ≡ fd_of (slot_value self.now.set) fd.now }
     {
         match fd {
             FdArg::Number(number) => Fd(*number),
@@ -57,7 +57,7 @@ impl Variables {
     }
 
     pub fn fds(&self, alloc: Global, fds: &[FdArg]) -> Result<FdList, NoMemory>
-        ensures { IfOk result (λ list. list ≡ map (fd_of (held self.now.set)) fds.now) }
+        ensures { IfOk result (λ list. list ≡ map (fd_of (slot_value self.now.set)) fds.now) }
     {
         let mut list = FdList::new(alloc);
         for fd in fds {
@@ -67,7 +67,7 @@ impl Variables {
     }
 
     pub fn passes(&self, alloc: Global, passes: &[PassArg]) -> Result<PassList, NoMemory>
-        ensures { IfOk result (λ list. list ≡ map (pass_of (held self.now.set)) passes.now) }
+        ensures { IfOk result (λ list. list ≡ map (pass_of (slot_value self.now.set)) passes.now) }
     {
         let mut list = PassList::new(alloc);
         for pass in passes {
@@ -82,7 +82,7 @@ impl Variables {
     /// Appends the bytes of a piece, as many as data has room for.
     fn append_piece(&self, bytes: &mut Bytes, piece: &Piece) -> Result<(), NoMemory>
         requires { length bytes.old ≤ greatest_data_of }
-        ensures { OnOk result (bytes.new ≡ take greatest_data_of (bytes.old ++ bytes_of (held self.now.set) piece.now)) }
+        ensures { OnOk result (bytes.new ≡ take greatest_data_of (bytes.old ++ piece_bytes (slot_value self.now.set) piece.now)) }
     {
         match piece {
             Piece::Text(text) => append(bytes, text.slice()),
@@ -96,7 +96,7 @@ impl Variables {
 
     /// The bytes of a data expression.
     pub fn data(&self, alloc: Global, pieces: &[Piece]) -> Result<Bytes, NoMemory>
-        ensures { IfOk result (λ bytes. bytes ≡ data_of (held self.now.set) pieces.now) }
+        ensures { IfOk result (λ bytes. bytes ≡ data_of (slot_value self.now.set) pieces.now) }
     {
         let mut bytes = Bytes::new(alloc);
         for piece in pieces {

@@ -1,5 +1,5 @@
 ghost use Rattle.std.specs.Prelude.{◌≡◌, ◌+◌, ◌≤◌, length, take};
-ghost use Rattle.dk_base.specs.Spare.{Roomy};
+ghost use Rattle.dk_base.specs.Words.{RoomValue};
 
 use dk_base::list::Room;
 

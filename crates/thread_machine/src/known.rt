@@ -1,5 +1,5 @@
 ghost use Rattle.std.specs.Prelude.{◌≡◌};
-ghost use Rattle.thread_machine.specs.Kept.{test, last_of as last_of_answer};
+ghost use Rattle.thread_machine.specs.LastAnswers.{is_met_in, last_answer as last_answer_of};
 
 use dk_base::answer::Answer;
 use dk_base::error::Errno;
@@ -7,7 +7,7 @@ use script_line::line::Cond;
 
 /// What a test asks of the last answer.
 #[derive(Clone, Copy, Debug, PartialEq, Eq)]
-pub enum Last {
+pub enum LastAnswer {
     Good,
     /// Cancel with yes.
     Yes,
@@ -16,29 +16,29 @@ pub enum Last {
 
 /// What a frame's tests ask.
 #[derive(Clone, Copy, Debug, PartialEq, Eq)]
-pub struct Known {
-    pub last: Last,
+pub struct TestContext {
+    pub last: LastAnswer,
     /// Whether a notice began the frame.
     pub notice: bool,
 }
 
-impl Known {
+impl TestContext {
     /// Whether a test holds.
-    pub fn holds(self, cond: Cond) -> bool
-        ensures { result ≡ test self cond }
+    pub fn is_met(self, cond: Cond) -> bool
+        ensures { result ≡ is_met_in self cond }
     {
         match cond {
             Cond::Good => match self.last {
-                Last::Failed { .. } => false,
+                LastAnswer::Failed { .. } => false,
                 _ => true,
             },
             Cond::Yes => match self.last {
-                Last::Yes => true,
+                LastAnswer::Yes => true,
                 _ => false,
             },
             Cond::Unref => self.notice,
             Cond::Errno(errno) => match self.last {
-                Last::Failed { errno: other } => other.name() == errno.name(),
+                LastAnswer::Failed { errno: other } => other.name() == errno.name(),
                 _ => false,
             },
         }
@@ -46,12 +46,12 @@ impl Known {
 }
 
 /// What a test asks of this answer.
-pub fn last_of(answer: &Answer) -> Last
-    ensures { result ≡ last_of_answer answer.now }
+pub fn last_answer(answer: &Answer) -> LastAnswer
+    ensures { result ≡ last_answer_of answer.now }
 {
     match answer {
-        Answer::Failure(errno) => Last::Failed { errno: *errno },
-        Answer::Cancel { yes: true } => Last::Yes,
-        _ => Last::Good,
+        Answer::Failure(errno) => LastAnswer::Failed { errno: *errno },
+        Answer::Cancel { yes: true } => LastAnswer::Yes,
+        _ => LastAnswer::Good,
     }
 }

@@ -1,36 +1,43 @@
 //! Which scripts need a capability that is not built yet.
 
-ghost use Rattle.std.specs.Prelude.{◌≡◌};
+ghost use Rattle.std.specs.Prelude.{◌≡◌, map, max, if◌then◌else◌};
 ghost use Rattle.std.specs.List.{list_any};
-ghost use Rattle.written_script.specs.Later.{later as is_later_script, form_of_line as form_of_line_in, form_of_call, form_with, form_of_spare, is_later_form as is_later, is_later_line as is_later_line_in, is_later_thread as is_later_thread_of, is_later_procedure as is_later_procedure_of};
+ghost use Rattle.capabilities.specs.Words.{capability_of_pass};
+ghost use Rattle.written_script.specs.Words.{capability_of_line as capability_of_line_in, capability_of_spare, has_later_parts as is_later_script, is_later, is_later_line as is_later_line_in, is_later_procedure as is_later_procedure_of, is_later_thread as is_later_thread_of, no_variables, pass_of};
 
-use dk_base::built::{BUILT, form_of_attributes};
+use capabilities::table::{BUILT, capability_of_attributes};
 use script_lang::script::{Procedure, Script, ScriptThread};
 use script_line::line::{Line, PassArg};
 
-/// With descriptors at least 5.
-fn with_descriptors(pass: &[PassArg], form: u32) -> u32
-    ensures { result ≡ form_with pass.now form }
+fn capability_of_descriptors(pass: &[PassArg]) -> u32
+    ensures { result ≡ capability_of_pass (map (pass_of no_variables) pass.now) }
 {
-    if pass.is_empty() || form >= 5 {
-        form
-    } else {
-        5
-    }
+    if pass.is_empty() { 1 } else { 5 }
+}
+
+/// The number of the latest capability that a call needs, in a procedure or in a thread.
+fn capability_of_call(in_procedure: bool, pass: &[PassArg]) -> u32
+    ensures { result ≡ max (capability_of_pass (map (pass_of no_variables) pass.now)) (if in_procedure then 7 else 1) }
+{
+    let of_descriptors = capability_of_descriptors(pass);
+    if in_procedure { 7 } else { of_descriptors }
 }
 
 /// The number of the latest capability that a line needs, in a procedure or in a thread.
-fn form_of_line(in_procedure: bool, line: &Line) -> u32
-    ensures { result ≡ form_of_line_in in_procedure line.now }
+fn capability_of_line(in_procedure: bool, line: &Line) -> u32
+    ensures { result ≡ capability_of_line_in in_procedure line.now }
 {
     match line {
-        Line::Create { attrs, .. } => form_of_attributes(*attrs),
-        Line::Attach { .. } | Line::Open { .. } | Line::Await { .. } | Line::Serve => 1,
-        Line::Return { pass, .. } => with_descriptors(pass.slice(), 2),
-        Line::Call { pass, .. } => {
-            with_descriptors(pass.slice(), if in_procedure { 7 } else { 2 })
-        }
-        Line::Repeat { .. } | Line::If { .. } | Line::End => 2,
+        Line::Create { attrs, .. } => capability_of_attributes(*attrs),
+        Line::Attach { .. }
+        | Line::Open { .. }
+        | Line::Await { .. }
+        | Line::Serve
+        | Line::Repeat { .. }
+        | Line::If { .. }
+        | Line::End => 1,
+        Line::Return { pass, .. } => capability_of_descriptors(pass.slice()),
+        Line::Call { pass, .. } => capability_of_call(in_procedure, pass.slice()),
         Line::Close { .. } | Line::Dup { .. } | Line::Detach { .. } => 3,
         Line::Info { .. } | Line::GetParam { .. } | Line::SetParam { .. } | Line::Cred => 4,
         Line::Bind { .. } | Line::Unbind | Line::InfoQuery => 6,
@@ -55,7 +62,7 @@ fn form_of_line(in_procedure: bool, line: &Line) -> u32
 fn is_later_line(in_procedure: bool, line: &Line) -> bool
     ensures { result ≡ is_later_line_in in_procedure line.now }
 {
-    BUILT < form_of_line(in_procedure, line)
+    BUILT < capability_of_line(in_procedure, line)
 }
 
 /// Whether some line needs a capability that is not built yet.
@@ -65,8 +72,8 @@ fn is_any_later(in_procedure: bool, lines: &[Line]) -> bool
     lines.iter().any(|line| is_later_line(in_procedure, line))
 }
 
-fn form_of_member(spare: bool) -> u32
-    ensures { result ≡ form_of_spare spare }
+fn capability_of_member(spare: bool) -> u32
+    ensures { result ≡ capability_of_spare spare }
 {
     if spare { 6 } else { 1 }
 }
@@ -74,7 +81,7 @@ fn form_of_member(spare: bool) -> u32
 fn is_later_thread(thread: &ScriptThread) -> bool
     ensures { result ≡ is_later_thread_of thread.now }
 {
-    BUILT < form_of_member(thread.spare) || is_any_later(false, thread.body.slice())
+    BUILT < capability_of_member(thread.spare) || is_any_later(false, thread.body.slice())
 }
 
 fn is_later_procedure(procedure: &Procedure) -> bool

@@ -10,7 +10,5 @@ pub mod machine;
 mod place;
 mod request;
 mod stack;
-#[cfg(test)]
-mod tests;
 mod variable;
 mod variables;

@@ -1,6 +1,5 @@
 ghost use Rattle.std.specs.Prelude.{◌≡◌, option_copied, slice_get};
-ghost use Rattle.written_script.specs.Steps.{times_of as times_of_line, cond_of as cond_of_line};
-ghost use Rattle.written_script.specs.Variables.{vars_of};
+ghost use Rattle.written_script.specs.Words.{tested_condition as tested_condition_of, times_of as times_of_line, vars_of};
 
 use script_line::line::{Cond, Line};
 
@@ -15,8 +14,8 @@ pub fn times_of(line: &Line) -> u32
 }
 
 /// What an `if` tests.
-pub fn cond_of(line: &Line) -> Cond
-    ensures { result ≡ cond_of_line line.now }
+pub fn tested_condition(line: &Line) -> Cond
+    ensures { result ≡ tested_condition_of line.now }
 {
     match line {
         Line::If { cond } => *cond,

@@ -1,11 +1,10 @@
 ghost use Rattle.std.specs.Prelude.{◌≡◌, ◌<◌, ◌≤◌, length, IfOk, OnOk, [], Some};
-ghost use Rattle.script_lang.specs.Value.{ScriptValue};
-ghost use Rattle.written_script.specs.Requests.{Frame, first_frame, request_of, taken, arguments, behind, vars_ahead};
-ghost use Rattle.written_script.specs.Variables.{with_both, set_each, values_of};
-ghost use Rattle.thread_machine.specs.declared.known.Last.TheVariants.{Good};
-ghost use Rattle.thread_machine.specs.Machines.{HasRoom, IsMachine, IsPlaced, Stands, IsEntered, IsEntry, Settles, Precedes, Begins, Argues, Enters, body_of, is_procedure as is_procedure_of, role_of as role_of_answer};
+ghost use Rattle.script_lang.specs.Words.{ScriptValue};
+ghost use Rattle.written_script.specs.Words.{Frame, arguments, first_frame, frame_after_answer, request_of, set_each, steps_after, values_of, vars_ahead, with_both};
+ghost use Rattle.thread_machine.specs.declared.known.LastAnswer.TheVariants.{Good};
+ghost use Rattle.thread_machine.specs.Machines.{HasRoomForAnswer, IsMachine, IsPlaced, Stands, HasDeclaredEntry, IsEntryOrNone, Settles, Precedes, Begins, SetsArguments, StartsFrameOf, body_of, is_in_procedure as is_in_procedure_of, effect_of as effect_of_answer};
 
-use crate::known::{Known, Last, last_of};
+use crate::known::{LastAnswer, TestContext, last_answer};
 use crate::place::Place;
 use crate::stack::Stack;
 use crate::variables::Variables;
@@ -26,46 +25,47 @@ pub struct Machine {
     /// The procedure of its frame; none for the thread's own lines.
     entry: Option<u32>,
     place: Place,
-    known: Known,
+    known: TestContext,
     variables: Variables,
 }
 
 /// What an answer does to a frame.
 #[derive(Clone, Copy, Debug, PartialEq, Eq)]
-pub enum Role {
+pub enum AnswerEffect {
     /// A procedure's frame begins.
-    Enters,
+    BeginsFrame,
     /// The thread waits, or an accept failed.
-    Waits,
+    KeepsFrame,
     /// The command ends.
-    Ends,
+    EndsCommand,
 }
 
-fn role_of(answer: &Answer) -> Role
-    ensures { result ≡ role_of_answer answer.now }
+fn effect_of(answer: &Answer) -> AnswerEffect
+    ensures { result ≡ effect_of_answer answer.now }
 {
     match answer {
-        Answer::Entered { .. } | Answer::EnteredNotice { .. } => Role::Enters,
-        Answer::Wait | Answer::WaitCall { .. } | Answer::EnterFailed { .. } => Role::Waits,
-        _ => Role::Ends,
+        Answer::Entered { .. } | Answer::EnteredNotice { .. } => AnswerEffect::BeginsFrame,
+        Answer::Wait | Answer::WaitCall { .. } | Answer::EnterFailed { .. } =>
+            AnswerEffect::KeepsFrame,
+        _ => AnswerEffect::EndsCommand,
     }
 }
 
 /// The start of a frame, with the last answer `ok`.
-fn start(notice: bool) -> Known
+fn start(notice: bool) -> TestContext
     ensures last { result.last ≡ Good }
     ensures notice { result.notice ≡ notice }
 {
-    Known {
-        last: Last::Good,
+    TestContext {
+        last: LastAnswer::Good,
         notice,
     }
 }
 
-fn lines_of(script: &Script, thread: Tid, entry: Option<u32>) -> &[Line]
+fn machine_lines(script: &Script, thread: Tid, entry: Option<u32>) -> &[Line]
     requires first { 1 ≤ thread.0 }
     requires declared { thread.0 ≤ length script.now.threads }
-    requires entry { IsEntry script.now entry }
+    requires entry { IsEntryOrNone script.now entry }
     ensures { result.now ≡ body_of script.now thread.0 entry }
 {
     match entry {
@@ -88,7 +88,7 @@ impl Machine {
         ensures machine { IfOk result (λ machine. IsMachine script.now machine) }
         ensures stands { IfOk result (λ machine. Stands script.now machine (first_frame script.now thread.0)) }
         ensures thread { IfOk result (λ machine. machine.thread ≡ thread) }
-        ensures room { IfOk result HasRoom }
+        ensures room { IfOk result HasRoomForAnswer }
     {
         script.is_spelled();
         let mut variables = Variables::new(alloc);
@@ -109,14 +109,14 @@ impl Machine {
         requires { IsPlaced script.now self.old }
         ensures { Settles script.now self.old self.new }
     {
-        let lines = lines_of(script, self.thread, self.entry);
+        let lines = machine_lines(script, self.thread, self.entry);
         self.place.settle(lines, self.known);
     }
 
     /// Whether its frame is a procedure's, as a spare's is.
-    fn is_procedure(&self, script: &Script) -> bool
+    fn is_in_procedure(&self, script: &Script) -> bool
         requires { IsMachine script.now self.now }
-        ensures { result ≡ is_procedure_of script.now self.now.thread.0 self.now.entry }
+        ensures { result ≡ is_in_procedure_of script.now self.now.thread.0 self.now.entry }
     {
         match self.entry {
             Some(_) => true,
@@ -130,12 +130,12 @@ impl Machine {
         ensures { IfOk result (λ request. (f : Frame) → Stands script.now self.now f → request ≡ request_of f) }
     {
         script.is_spelled();
-        let lines = lines_of(script, self.thread, self.entry);
+        let lines = machine_lines(script, self.thread, self.entry);
         if self.place.position < lines.len() {
             let request = self.variables.request(alloc, &lines[self.place.position])?;
             return Ok(request);
         }
-        if self.is_procedure(script) {
+        if self.is_in_procedure(script) {
             return Ok(Request::Return {
                 bytes: Bytes::new(alloc),
                 pass: PassList::new(alloc),
@@ -149,7 +149,7 @@ impl Machine {
         ensures machine { (script : ScriptValue) → IsMachine script self.old → IsMachine script self.new }
         ensures stands { (script : ScriptValue) (f : Frame) → Stands script self.old f → Stands script self.new f }
         ensures thread { self.new.thread ≡ self.old.thread }
-        ensures room { OnOk result (HasRoom self.new) }
+        ensures room { OnOk result (HasRoomForAnswer self.new) }
     {
         self.variables.make_room(alloc)
     }
@@ -157,20 +157,20 @@ impl Machine {
     /// Takes the answer of the thread's next event. It takes no memory.
     pub fn take(&mut self, script: &Script, answer: &Answer)
         requires machine { IsMachine script.now self.old }
-        requires room { HasRoom self.old }
-        requires declared { IsEntered script.now answer.now }
+        requires room { HasRoomForAnswer self.old }
+        requires declared { HasDeclaredEntry script.now answer.now }
         ensures machine { IsMachine script.now self.new }
-        ensures stands { (f : Frame) → Stands script.now self.old f → Stands script.now self.new (taken script.now f answer.now) }
+        ensures stands { (f : Frame) → Stands script.now self.old f → Stands script.now self.new (frame_after_answer script.now f answer.now) }
         ensures thread { self.new.thread ≡ self.old.thread }
     {
         script.is_spelled();
-        match role_of(answer) {
-            Role::Enters => {
+        match effect_of(answer) {
+            AnswerEffect::BeginsFrame => {
                 self.enter(answer);
                 self.settle(script);
             }
-            Role::Waits => {}
-            Role::Ends => {
+            AnswerEffect::KeepsFrame => {}
+            AnswerEffect::EndsCommand => {
                 self.end(script, answer);
                 self.settle(script);
             }
@@ -179,9 +179,9 @@ impl Machine {
 
     /// Before the first line of the procedure that the answer enters.
     fn enter(&mut self, answer: &Answer)
-        requires room { HasRoom self.old }
+        requires room { HasRoomForAnswer self.old }
         ensures thread { self.new.thread ≡ self.old.thread }
-        ensures entered { Enters answer.now self.new }
+        ensures entered { StartsFrameOf answer.now self.new }
     {
         match answer {
             Answer::Entered {
@@ -215,8 +215,8 @@ impl Machine {
     /// What an accept that enters sets.
     fn set_arguments(&mut self, bytes: &[u8], fds: &[Fd], cookie: u64)
         requires none { self.old.variables.set ≡ [] }
-        requires room { HasRoom self.old }
-        ensures { Argues self.old (arguments (with_both bytes.now fds.now) cookie) self.new }
+        requires room { HasRoomForAnswer self.old }
+        ensures { SetsArguments self.old (arguments (with_both bytes.now fds.now) cookie) self.new }
     {
         self.variables.set(b"arg", bytes, fds);
         let mut buffer = Buffer::new();
@@ -224,17 +224,17 @@ impl Machine {
         self.variables.set(b"cookie", text.as_bytes(), &[]);
     }
 
-    /// Behind the command that the answer ends.
+    /// After the command that the answer ends.
     fn end(&mut self, script: &Script, answer: &Answer)
         requires machine { IsMachine script.now self.old }
-        requires room { HasRoom self.old }
+        requires room { HasRoomForAnswer self.old }
         ensures thread { self.new.thread ≡ self.old.thread }
-        ensures ends { (f : Frame) → Stands script.now self.old f → Precedes script.now self.new (behind f.steps) (set_each f.variables (vars_ahead f.steps) (values_of answer.now)) answer.now f.notice f.procedure }
+        ensures ends { (f : Frame) → Stands script.now self.old f → Precedes script.now self.new (steps_after f.steps) (set_each f.variables (vars_ahead f.steps) (values_of answer.now)) answer.now f.notice f.procedure }
         ensures placed { IsPlaced script.now self.new }
     {
         script.is_spelled();
-        let lines = lines_of(script, self.thread, self.entry);
-        self.known.last = last_of(answer);
+        let lines = machine_lines(script, self.thread, self.entry);
+        self.known.last = last_answer(answer);
         if self.place.position >= lines.len() {
             return;
         }

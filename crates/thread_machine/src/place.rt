@@ -1,21 +1,21 @@
 ghost use Rattle.std.specs.Prelude.{◌≡◌, ◌<◌, ◌≤◌, ◌^◌, suc, length, drop, slice_get, Some};
 ghost use Rattle.script_line.specs.declared.line.Kind.TheVariants.{Closing};
-ghost use Rattle.script_line.specs.Kinds.{kind_of as kind_of_line};
-ghost use Rattle.written_script.specs.Steps.{upcoming};
-ghost use Rattle.thread_machine.specs.Places.{IsNested, StandsAt, AtCommand, ahead, Passes, Leaves, depth_behind_line, entered, closed, is_left, first_place};
-ghost use Rattle.thread_machine.specs.Kept.{test};
+ghost use Rattle.script_line.specs.Words.{kind_of as kind_of_line};
+ghost use Rattle.written_script.specs.Words.{next_steps};
+ghost use Rattle.thread_machine.specs.Places.{IsNested, StandsAt, AtCommand, steps_from, PassesLine, Leaves, depth_after_line, place_in_block, place_after_end, is_left, first_place};
+ghost use Rattle.thread_machine.specs.LastAnswers.{is_met_in};
 
-use crate::known::Known;
-use crate::lines::{cond_of, times_of};
+use crate::known::TestContext;
+use crate::lines::{tested_condition, times_of};
 use crate::stack::{Stack, Turns};
 use script_lang::blocks::kind_of;
 use script_line::line::{Kind, Line};
 
-/// How many blocks are open behind a line, where so many are before it.
-fn depth_behind(depth: usize, line: &Line) -> usize
+/// How many blocks are open after a line, where so many are before it.
+fn new_depth(depth: usize, line: &Line) -> usize
     requires open { kind_of_line line.now ≡ Closing → 0 < depth }
     requires few { depth < 9 }
-    ensures { result ≡ depth_behind_line depth (kind_of_line line.now) }
+    ensures { result ≡ depth_after_line depth (kind_of_line line.now) }
 {
     match kind_of(line) {
         Kind::Act => depth,
@@ -24,8 +24,8 @@ fn depth_behind(depth: usize, line: &Line) -> usize
     }
 }
 
-/// The position behind the innermost block that is open at this one, where it is inside so many others.
-fn behind_block(body: &[Line], position: usize, depth: usize) -> usize
+/// The position after the innermost block that is open at this one, where it is inside so many others.
+fn position_after_block(body: &[Line], position: usize, depth: usize) -> usize
     requires few { depth < 8 }
     requires nested { IsNested (suc depth) (drop position body.now) }
     ensures { Leaves body.now depth position result }
@@ -33,7 +33,7 @@ fn behind_block(body: &[Line], position: usize, depth: usize) -> usize
     let mut at = position;
     let mut open = depth + 1;
     while at < body.len() {
-        open = depth_behind(open, &body[at]);
+        open = new_depth(open, &body[at]);
         at += 1;
         if open == depth {
             return at;
@@ -60,11 +60,11 @@ impl Place {
         }
     }
 
-    /// Into the block that begins here, of which so many turns are left behind this one.
+    /// Into the block that begins here, of which so many turns are left after this one.
     fn enter(&mut self, left: u32)
         requires few { length self.old.blocks < 8 }
         requires inside { self.old.position < 2 ^ 63 }
-        ensures { self.new ≡ entered self.old left }
+        ensures { self.new ≡ place_in_block self.old left }
     {
         self.position += 1;
         self.blocks.push(Turns {
@@ -73,11 +73,11 @@ impl Place {
         });
     }
 
-    /// At a block's end: to the start of its next turn, or behind it. Whether it is left behind.
+    /// At a block's end: to the start of its next turn, or after it. Whether it is left behind.
     fn close(&mut self) -> bool
         requires few { length self.old.blocks ≤ 8 }
         requires inside { self.old.position < 2 ^ 63 }
-        ensures moved { self.new ≡ closed self.old }
+        ensures moved { self.new ≡ place_after_end self.old }
         ensures left { result ≡ is_left self.old.blocks }
     {
         match self.blocks.pop() {
@@ -98,11 +98,11 @@ impl Place {
     }
 
     /// Goes over this line, unless it is a command. Whether another that is none may follow.
-    fn pass_line(&mut self, body: &[Line], line: &Line, known: Known) -> bool
+    fn pass_line(&mut self, body: &[Line], line: &Line, known: TestContext) -> bool
         requires stands { StandsAt body.now self.old }
         requires there { slice_get body.now self.old.position ≡ Some line.now }
         requires inside { self.old.position < 2 ^ 63 }
-        ensures { Passes body.now (test known) self.old result self.new }
+        ensures { PassesLine body.now (is_met_in known) self.old result self.new }
     {
         match kind_of(line) {
             Kind::Act => false,
@@ -111,10 +111,14 @@ impl Place {
                 false
             }
             Kind::Test => {
-                if known.holds(cond_of(line)) {
+                if known.is_met(tested_condition(line)) {
                     self.enter(0);
                 } else {
-                    self.position = behind_block(body, self.position + 1, self.blocks.len());
+                    self.position = position_after_block(
+                        body,
+                        self.position + 1,
+                        self.blocks.len(),
+                    );
                 }
                 true
             }
@@ -123,9 +127,9 @@ impl Place {
     }
 
     /// Goes over a line that is no command, if one is there. Whether another may follow.
-    fn pass(&mut self, body: &[Line], known: Known) -> bool
+    fn pass(&mut self, body: &[Line], known: TestContext) -> bool
         requires { StandsAt body.now self.old }
-        ensures { Passes body.now (test known) self.old result self.new }
+        ensures { PassesLine body.now (is_met_in known) self.old result self.new }
     {
         if self.position < body.len() {
             self.pass_line(body, &body[self.position], known)
@@ -135,11 +139,11 @@ impl Place {
     }
 
     /// Goes on to the next command, or to the body's end.
-    pub fn settle(&mut self, body: &[Line], known: Known)
+    pub fn settle(&mut self, body: &[Line], known: TestContext)
         requires { StandsAt body.now self.old }
         ensures stands { StandsAt body.now self.new }
         ensures command { AtCommand (drop self.new.position body.now) }
-        ensures ahead { upcoming (test known) 0 (ahead body.now self.old) ≡ ahead body.now self.new }
+        ensures ahead { next_steps (is_met_in known) 0 (steps_from body.now self.old) ≡ steps_from body.now self.new }
     {
         while self.pass(body, known) {}
     }

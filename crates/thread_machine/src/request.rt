@@ -1,6 +1,6 @@
 ghost use Rattle.std.specs.Prelude.{◌≡◌, IfOk};
-ghost use Rattle.written_script.specs.Requests.{request_at};
-ghost use Rattle.thread_machine.specs.Slots.{held};
+ghost use Rattle.written_script.specs.Words.{request_at};
+ghost use Rattle.thread_machine.specs.Slots.{slot_value};
 
 use crate::variables::Variables;
 use dk_base::error::NoMemory;
@@ -12,7 +12,7 @@ use std::alloc::Global;
 impl Variables {
     /// The request of a command.
     pub fn request(&self, alloc: Global, line: &Line) -> Result<Request, NoMemory>
-        ensures { IfOk result (λ request. request ≡ request_at (held self.now.set) line.now) }
+        ensures { IfOk result (λ request. request ≡ request_at (slot_value self.now.set) line.now) }
     {
         Ok(match line {
             Line::Create {

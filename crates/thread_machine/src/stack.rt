@@ -3,7 +3,7 @@ ghost use Rattle.std.specs.Prelude.{◌≡◌, ◌<◌, [], ◌∷◌, length, M
 use arrayvec::ArrayVec;
 use std::marker::Model;
 
-/// An open block: where the lines in it begin, and how many turns of it are left behind this one. An `if` is a loop with
+/// An open block: where the lines in it begin, and how many turns of it are left after this one. An `if` is a loop with
 /// none left.
 #[derive(Clone, Copy, Debug, Default, PartialEq, Eq)]
 pub struct Turns {

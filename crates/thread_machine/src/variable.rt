@@ -1,6 +1,6 @@
 ghost use Rattle.std.specs.Prelude.{◌≡◌, ◌≤◌, length, IfOk, MatchOption, slice_get};
-ghost use Rattle.written_script.specs.Variables.{greatest_data as greatest_data_of, with_both};
-ghost use Rattle.thread_machine.specs.Slots.{greatest_descriptors as greatest_descriptors_of, greatest_name as greatest_name_of, cut};
+ghost use Rattle.written_script.specs.Words.{greatest_data as greatest_data_of, with_both};
+ghost use Rattle.thread_machine.specs.Slots.{greatest_descriptors as greatest_descriptors_of, greatest_name as greatest_name_of, visible_value};
 
 use crate::fill::{fill, first_items};
 use dk_base::error::NoMemory;
@@ -44,7 +44,7 @@ pub struct Variable {
 impl Model for Variable {
     ghost use Rattle.std.specs.Prelude.{◌+◌, ◌≤◌, length};
     ghost use Rattle.thread_machine.specs.Slots.{Slot, greatest_name, greatest_descriptors};
-    ghost use Rattle.written_script.specs.Variables.{greatest_data};
+    ghost use Rattle.written_script.specs.Words.{greatest_data};
 
     ghost Value = { Slot };
 
@@ -84,7 +84,7 @@ impl Variable {
     pub fn set(&mut self, name: &[u8], bytes: &[u8], descriptors: &[Fd])
         requires { length name.now ≤ greatest_name_of }
         ensures name { self.new.name ≡ name.now }
-        ensures value { self.new.value ≡ cut (with_both bytes.now descriptors.now) }
+        ensures value { self.new.value ≡ visible_value (with_both bytes.now descriptors.now) }
     {
         fill(&mut self.name, name);
         fill(&mut self.bytes, first_items(bytes, greatest_data()));

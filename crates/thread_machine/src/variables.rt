@@ -1,7 +1,7 @@
 ghost use Rattle.std.specs.Prelude.{◌≡◌, ◌+◌, ◌<◌, ◌≤◌, [], length, slice_get, Some, OnOk, IfOk, MatchOption, option_copied, position};
-ghost use Rattle.written_script.specs.Variables.{Variables as Values, set_variable, set_each, with_both, unset, vars_of, values_of};
+ghost use Rattle.written_script.specs.Words.{Variables as Values, empty_value, set_each, set_variable, values_of, vars_of, with_both};
 ghost use Rattle.thread_machine.specs.Bodies.{IsSpelledLine};
-ghost use Rattle.thread_machine.specs.Slots.{Slot, Holds, held, place_of, is_named, greatest_name, set_some, IsShort};
+ghost use Rattle.thread_machine.specs.Slots.{Slot, Holds, slot_value, place_of, is_named, greatest_name, set_some, IsShort};
 
 use crate::lines::{first_var, second_var};
 use crate::variable::Variable;
@@ -79,7 +79,7 @@ impl Variables {
         self.set = 0;
     }
 
-    /// The place of a variable, or the one behind all.
+    /// The place of a variable, or the one after all.
     fn place(&self, name: &[u8]) -> usize
         ensures { result ≡ place_of self.now.set name.now }
     {
@@ -91,7 +91,7 @@ impl Variables {
 
     /// What a variable has, if it is set.
     pub fn get(&self, name: &[u8]) -> Option<&Variable>
-        ensures { MatchOption result (held self.now.set name.now ≡ unset) (λ variable. held self.now.set name.now ≡ variable.now.value) }
+        ensures { MatchOption result (slot_value self.now.set name.now ≡ empty_value) (λ variable. slot_value self.now.set name.now ≡ variable.now.value) }
     {
         let place = self.place(name);
         let set_ones = self.set_ones();

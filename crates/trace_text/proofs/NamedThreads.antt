@@ -6,13 +6,13 @@ use Rattle.std.proofs.lemmas.Bool.{false≢true}
 use Rattle.std.proofs.lemmas.Slice.Eq.{bytes_eq-Decides}
 use Rattle.std.proofs.lemmas.List.Sums.{fails_before_first}
 use Rattle.std.proofs.lemmas.Option.{slice_get_within, get_or_from_slice_get}
-use Rattle.dk_base.specs.declared.number.Tid.{Tid}
-use Rattle.script_line.specs.Tables.{is_same, from_one, numbered}
+use Rattle.script_text.specs.Types.{Tid}
+use Rattle.dk_base.specs.ByNumber.{at_number}
+use Rattle.script_line.specs.Words.{from_one, is_same}
 use Rattle.script_line.proofs.Numbering.{name_of_number, same_some, no_value}
 use Rattle.script_line.proofs.PathSearch.{place_missing}
-use Rattle.script_lang.specs.Scripts.{tables_of}
-use Rattle.script_lang.specs.Value.{ScriptValue}
-use Rattle.written_script.specs.TraceNames.{second_word, thread_named, NamesThread}
+use Rattle.script_lang.specs.Words.{ScriptValue, tables_of}
+use Rattle.written_script.specs.Words.{NamesThread, second_word, thread_named}
 
 -- a name that has no place stands nowhere
 nowhere : (names : List (List ℕ)) (name : List ℕ) (i : ℕ) → position (is_same name) names ≡ None → slice_get names i ≡ Some name → ⊥
@@ -31,7 +31,7 @@ at_place true found name e = absurd (no_value e)
 at_place false found name e = e
 
 -- a name that has no number is that of no number
-unnumbered : (names : List (List ℕ)) (name : List ℕ) (n : ℕ) → from_one (position (is_same name) names) ≡ None → numbered names n ≡ Some name → ⊥
+unnumbered : (names : List (List ℕ)) (name : List ℕ) (n : ℕ) → from_one (position (is_same name) names) ≡ None → at_number names n ≡ Some name → ⊥
 unnumbered names name n none at = nowhere names name (n - 1) (no_place (position (is_same name) names) none) (at_place (n == 0) (slice_get names (n - 1)) name at)
 
 -- the number that is found for a line's second word

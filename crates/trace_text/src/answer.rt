@@ -2,7 +2,7 @@
 
 ghost use Rattle.std.specs.Prelude.{◌≡◌, ◌++◌, flat_map, decimal, OnOk};
 ghost use Rattle.script_line.specs.Words.{value_word};
-ghost use Rattle.written_script.specs.AnswerText.{spaced_fd, fds_text, grown_text, target_text, made_text, info_text, source_text, event_text, spaced_event, spaced_error, begun_text, entered_text, notice_text, results_text, answer_text};
+ghost use Rattle.written_script.specs.Words.{answer_text, entered_text, event_text, fds_text, grown_text, info_text, invocation_text, made_text, notice_text, results_text, source_text, spaced_error, spaced_event, spaced_fd, target_text};
 
 use super::append::{push_counted, push_number, push_word};
 use super::attributes::push_attributes;
@@ -126,7 +126,7 @@ fn push_errors(text: &mut Writer, errors: &[Option<Errno>]) -> Result<(), NoMemo
 }
 
 /// How an invocation begins; `item` is the letter of what it serves.
-fn push_begun(
+fn push_invocation(
     text: &mut Writer,
     script: &Script,
     item: &str,
@@ -134,7 +134,7 @@ fn push_begun(
     entry: u32,
     cookie: u64,
 ) -> Result<(), NoMemory>
-    ensures { OnOk result (text.new ≡ text.old ++ begun_text script.now item.now number entry cookie) }
+    ensures { OnOk result (text.new ≡ text.old ++ invocation_text script.now item.now number entry cookie) }
 {
     push_word(text, "enter ")?;
     push_counted(text, item, u64::from(number))?;
@@ -154,7 +154,7 @@ fn push_entered(
 ) -> Result<(), NoMemory>
     ensures { OnOk result (text.new ≡ text.old ++ entered_text script.now call entry cookie bytes.now fds.now) }
 {
-    push_begun(text, script, "c", call, entry, cookie)?;
+    push_invocation(text, script, "c", call, entry, cookie)?;
     push_word(text, " ")?;
     push_data(alloc, text, bytes)?;
     push_fds(text, fds)
@@ -169,7 +169,7 @@ fn push_notice(
 ) -> Result<(), NoMemory>
     ensures { OnOk result (text.new ≡ text.old ++ notice_text script.now notice entry cookie) }
 {
-    push_begun(text, script, "n", notice, entry, cookie)?;
+    push_invocation(text, script, "n", notice, entry, cookie)?;
     push_word(text, " unref")
 }
 

@@ -20,7 +20,7 @@ pub fn push_number(text: &mut Writer, number: u64) -> Result<(), NoMemory>
     push_word(text, Buffer::new().format(number))
 }
 
-/// A word, and a number behind it.
+/// A word, and a number after it.
 pub fn push_counted(text: &mut Writer, word: &str, number: u64) -> Result<(), NoMemory>
     ensures { OnOk result (text.new ≡ text.old ++ word.now ++ decimal number) }
 {

@@ -1,10 +1,8 @@
 //! A door's attributes as a trace shows them. Want of memory may leave a part of what was to be added.
 
 ghost use Rattle.std.specs.Prelude.{◌≡◌, if◌then◌else◌, ◌∷◌, ◌++◌, flat_map, OnOk};
-ghost use Rattle.script_line.specs.FlagWords.{bits_of_flags};
-ghost use Rattle.script_line.specs.Sets.{attributes};
-ghost use Rattle.script_line.specs.Written.{attribute_if};
-ghost use Rattle.written_script.specs.AnswerText.{plus_joined, attributes_text};
+ghost use Rattle.script_line.specs.Words.{attribute_flags, attribute_if, bits_of_flags};
+ghost use Rattle.written_script.specs.Words.{attributes_text, plus_joined_words};
 
 use super::append::push_word;
 use dk_base::error::NoMemory;
@@ -23,7 +21,7 @@ fn push_joined(text: &mut Writer, word: &str, first: bool) -> Result<(), NoMemor
 }
 
 fn push_set(text: &mut Writer, set: u32) -> Result<(), NoMemory>
-    ensures { OnOk result (text.new ≡ text.old ++ plus_joined (flat_map (attribute_if set) (bits_of_flags attributes))) }
+    ensures { OnOk result (text.new ≡ text.old ++ plus_joined_words (flat_map (attribute_if set) (bits_of_flags attribute_flags))) }
 {
     let mut first = true;
     for bits in ATTRIBUTES {
@@ -39,7 +37,7 @@ fn push_set(text: &mut Writer, set: u32) -> Result<(), NoMemory>
 }
 
 /// Joined by `+`, or `none`.
-#[tactic(auto, using(script_line::proofs::SpacedWords::attribute_words_put))]
+#[tactic(auto, using(script_line::proofs::FlagsOfSet::attribute_words_put))]
 pub fn push_attributes(text: &mut Writer, attributes: Attrs) -> Result<(), NoMemory>
     ensures { OnOk result (text.new ≡ text.old ++ attributes_text attributes) }
 {

@@ -1,12 +1,11 @@
 //! Data as a trace shows it. Want of memory may leave a part of what was to be added.
 
 ghost use Rattle.std.specs.Prelude.{◌≡◌, ◌++◌, OnOk};
-ghost use Rattle.written_script.specs.DataText.{digest_text, data_text};
-ghost use Rattle.written_script.specs.Digest.{hex_byte, hex_text};
+ghost use Rattle.written_script.specs.Words.{data_text, digest_text, hex_byte, hex_text};
 
 use super::append::{push_counted, push_word};
 use dk_base::error::NoMemory;
-use script_text::string::{hex_digit, quoted};
+use script_text::string::{hex_digit, quoted_text};
 use script_text::writer::Writer;
 use sha2::{Digest, Sha256};
 use std::alloc::Global;
@@ -43,7 +42,7 @@ pub fn push_data(alloc: Global, text: &mut Writer, bytes: &[u8]) -> Result<(), N
     ensures { OnOk result (text.new ≡ text.old ++ data_text bytes.now) }
 {
     if bytes.len() <= SHOWN {
-        let string = quoted(alloc, bytes)?;
+        let string = quoted_text(alloc, bytes)?;
         text.bytes(string.slice())
     } else {
         push_digest(text, bytes)

@@ -1,7 +1,7 @@
 //! Event lines. Want of memory may leave a part of what was to be added.
 
 ghost use Rattle.std.specs.Prelude.{◌≡◌, [], ◌∷◌, ◌++◌, OnOk};
-ghost use Rattle.written_script.specs.TraceText.{line_of, lines_text};
+ghost use Rattle.written_script.specs.Words.{line_of, lines_text};
 
 use super::answer::push_answer;
 use super::append::{push_number, push_word};

@@ -1,7 +1,7 @@
 //! The last lines of traces. Want of memory may leave a part of what was to be added.
 
 ghost use Rattle.std.specs.Prelude.{◌≡◌, ◌++◌, flat_map, OnOk};
-ghost use Rattle.written_script.specs.TraceText.{spaced_name, ending_word, waiting_text, end_line_of, refused_line_of};
+ghost use Rattle.written_script.specs.Words.{end_line_of, ending_word, refused_line_of, spaced_name, waiting_text};
 
 use super::append::{push_counted, push_word};
 use dk_base::error::NoMemory;

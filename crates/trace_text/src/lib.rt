@@ -7,8 +7,6 @@ mod attributes;
 mod data_text;
 mod event_line;
 mod last_line;
-#[cfg(test)]
-mod tests;
 mod trace;
 mod turn;
 mod what_word;

@@ -1,7 +1,7 @@
 //! Lines and whole texts of traces.
 
 ghost use Rattle.std.specs.Prelude.{◌≡◌, IfOk};
-ghost use Rattle.written_script.specs.TraceText.{line_of, end_line_of, trace_text, refused_text};
+ghost use Rattle.written_script.specs.Words.{end_line_of, line_of, refused_text, trace_text};
 
 use super::event_line::{push_line, push_lines};
 use super::last_line::{push_end_line, push_refused_line};

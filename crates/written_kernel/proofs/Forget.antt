@@ -3,41 +3,24 @@ use Rattle.std.proofs.Common.{◌≡◌, ℕ, zero, suc, Bool, true, false, if�
 use Rattle.std.specs.Option.{option_map_or}
 use Rattle.std.proofs.lemmas.List.Sums.{length-filter}
 use Rattle.std.proofs.lemmas.List.Elements.{filter-append}
-use Rattle.dk_base.specs.declared.number.Fd.{Fd}
-use Rattle.dk_base.specs.declared.number.PathId.{PathId}
-use Rattle.dk_base.specs.declared.set.Attrs.{Attrs}
-use Rattle.dk_base.specs.declared.error.Errno.{Errno}
+use Rattle.written_kernel.specs.Types.{Answer, Attrs, Call, CallStage, Door, Errno, Fd, Inv, Item, Name, Notice, Obj, PathId, Process, Request, Stepped, Thread, ThreadState}
 use Rattle.dk_base.specs.declared.error.Errno.TheVariants.{EBADF}
-use Rattle.dk_base.specs.declared.object.Obj.{Obj}
 use Rattle.dk_base.specs.declared.object.Obj.TheVariants as obj
-use Rattle.dk_base.specs.declared.object.Item.{Item}
 use Rattle.dk_base.specs.declared.object.Item.TheVariants as item
-use Rattle.dk_base.specs.declared.object.Inv.{Inv}
-use Rattle.dk_base.specs.declared.request.Request.{Request}
 use Rattle.dk_base.specs.declared.request.Request.TheVariants as request
-use Rattle.dk_base.specs.declared.answer.Answer.{Answer}
-use Rattle.dk_base.specs.declared.event.Stepped.{Stepped}
-use Rattle.dk_base.specs.declared.record.ThreadState.{ThreadState}
 use Rattle.dk_base.specs.declared.record.ThreadState.TheVariants as is
-use Rattle.dk_base.specs.declared.record.Process.{Process}
-use Rattle.dk_base.specs.declared.record.Thread.{Thread}
-use Rattle.dk_base.specs.declared.record.Door.{Door}
-use Rattle.dk_base.specs.declared.record.Name.{Name}
-use Rattle.dk_base.specs.declared.record.Notice.{Notice}
-use Rattle.dk_base.specs.declared.record.Call.{Call}
-use Rattle.dk_base.specs.declared.record.CallStage.{CallStage}
 use Rattle.dk_base.specs.declared.record.CallStage.TheVariants as stage
-use Rattle.written_kernel.specs.Numbered.{numbered}
-use Rattle.written_kernel.specs.State.{State, tid, now, process_of, thread_of, state_of, invocation_of, table_of, object_at, with_row, name_of, with_state, with_state_in, with_invocation, with_invocation_in, with_call, moved_on, at_stage, call_of, is_call, replaced, is_live, is_queued}
-use Rattle.written_kernel.specs.Pools.{Pool, Parked, Waiting, is_queued_call, is_queued_in, queue_length, waits, with_notices, waiting_call, waiting_notice, is_waiting_notice, pool_of, pick_among, pick}
+use Rattle.dk_base.specs.ByNumber.{at_number}
+use Rattle.written_kernel.specs.State.{State, tid, now, process_of, thread_of, state_of, invocation_of, table_of, object_at, with_row, name_of, with_state, with_state_in, with_invocation, with_invocation_in, with_call, without_arguments_at, at_stage, call_of, is_call, with_live_call, is_live, is_queued}
+use Rattle.written_kernel.specs.Pools.{Pool, Parked, Waiting, is_queued_call, is_queued_in, queue_length, waiting_items, with_notices, waiting_call, waiting_notice, is_waiting_notice, pool_of, pick_among, pick}
 use Rattle.written_kernel.specs.Walks.{is_with, is_served_by, served_by, caller_in, caller_of, walk, root}
-use Rattle.written_kernel.specs.Turns.{has_answer, can_go_on, runnable, is_running, woken_among, woken}
-use Rattle.written_kernel.specs.Acts.{Acted, lowest_free}
-use Rattle.written_kernel.specs.Descriptors.{new_name, with_name, attach_unless, attach_object, attach, open_at, open_name, open_path, await_name, await, found}
-use Rattle.written_kernel.specs.Doors.{new_door, with_door, created, create, call_refusal, new_call, with_new_call, called, call_unless, call_object, call, client_call, client_item, client_in, client, parked, returned_to, return_for, return, invocation, entered, accept_call, accept, answered, collect_at, collect_call, collect}
+use Rattle.written_kernel.specs.Turns.{has_answer, can_go_on, is_runnable, is_running, woken_among, woken_threads}
+use Rattle.written_kernel.specs.Acts.{ActResult, lowest_free}
+use Rattle.written_kernel.specs.Descriptors.{new_name, with_name, attach_unless, attach_object, attach, open_at, open_name, open_path, await_name, await, end_await}
+use Rattle.written_kernel.specs.Doors.{new_door, with_door, create_at, create, call_refusal, new_call, with_new_call, open_call, call_unless, call_object, call, client_call, client_item, client_in, client, park, return_to, return_for, return, new_invocation, enter_call, accept_call, accept, answer_call, collect_at, collect_call, collect}
 use Rattle.written_kernel.specs.Leaving.{is_last, end_thread, end_process, exit, is_owned, ended_call, dropped_notice, with_ended, with_ended_calls, with_closed_table, with_ended_process, with_ended_threads}
 use Rattle.written_kernel.specs.Settle.{give_call, give_notice, give_item, give_one, give_to, give_each, settle}
-use Rattle.written_kernel.specs.Step.{enter, go_on, act, counted, Step, after, step}
+use Rattle.written_kernel.specs.Step.{enter, go_on, act, with_event_counted, Step, step_after, step}
 use Rattle.written_kernel.specs.Kept.{forget, is_live_call, StandsFor, IsStep}
 
 -- lists of calls
@@ -57,7 +40,7 @@ module _ (p : Call → Bool) (dead_fail : (r : Call) → is_live_call r ≡ fals
 live_twice : (xs : List Call) → filter is_live_call (filter is_live_call xs) ≡ filter is_live_call xs
 live_twice = filter-live is_live_call (λ r e. e)
 
-live_replaced : (xs : List Call) (c : ℕ) (x : Call) → filter is_live_call (replaced (filter is_live_call xs) c x) ≡ filter is_live_call (replaced xs c x)
+live_replaced : (xs : List Call) (c : ℕ) (x : Call) → filter is_live_call (with_live_call (filter is_live_call xs) c x) ≡ filter is_live_call (with_live_call xs c x)
 live_replaced [] c x = refl
 live_replaced (r ∷ rs) c x = grind (arith, live_replaced rs c x, live_twice rs)
 
@@ -109,8 +92,8 @@ with_invocation-forget t v m = go (thread_of m t)
     go None = refl
     go (Some x) = refl
 
-parked-forget : (t : ℕ) → Commutes (λ m. parked m t)
-parked-forget t m =
+park-forget : (t : ℕ) → Commutes (λ m. park m t)
+park-forget t m =
     ap (λ n. with_state n t (is.Idle (now m))) (with_invocation-forget t None m) ∙ with_state-forget t (is.Idle (now m)) (with_invocation m t None)
 
 -- calls
@@ -136,8 +119,8 @@ with_new_call-forget r m = ap (λ xs. record m { calls_made = r.number; calls = 
 pub queue_length-forget : (m : State) (pool : Pool) → queue_length (forget m) pool ≡ queue_length m pool
 queue_length-forget m pool = count_by-live (is_queued_in m pool) (λ r e. grind (arith, queued_is_live r.stage e)) m.calls
 
-pub waits-forget : (m : State) → waits (forget m) ≡ waits m
-waits-forget m =
+pub waiting_items-forget : (m : State) → waiting_items (forget m) ≡ waiting_items m
+waiting_items-forget m =
     ap
     (λ xs. with_notices (map waiting_call xs) (map waiting_notice (filter is_waiting_notice m.notices)))
     (filter-live is_queued_call (λ r e. queued_is_live r.stage e) m.calls)
@@ -157,22 +140,22 @@ can_go_on-forget : (m : State) (s : ThreadState) → can_go_on (forget m) s ≡ 
 can_go_on-forget m (is.Calling c) = ap has_answer (call_of-forget m c)
 can_go_on-forget m _ = refl
 
-pub runnable-forget : (m : State) (t : ℕ) → runnable (forget m) t ≡ runnable m t
-runnable-forget m t = can_go_on-forget m (state_of m t)
+pub is_runnable-forget : (m : State) (t : ℕ) → is_runnable (forget m) t ≡ is_runnable m t
+is_runnable-forget m t = can_go_on-forget m (state_of m t)
 
 woken_among-forget : (m n : State) (k : ℕ) → woken_among (forget m) (forget n) k ≡ woken_among m n k
 woken_among-forget m n zero = refl
-woken_among-forget m n (suc k) = rw (woken_among-forget m n k, runnable-forget m (suc k), runnable-forget n (suc k))
+woken_among-forget m n (suc k) = rw (woken_among-forget m n k, is_runnable-forget m (suc k), is_runnable-forget n (suc k))
 
-woken_among-after : (m n : State) (k : ℕ) → woken_among m n k ≡ woken_among m (forget n) k
-woken_among-after m n zero = refl
-woken_among-after m n (suc k) = rw (woken_among-after m n k, runnable-forget n (suc k))
+woken_among-step_after : (m n : State) (k : ℕ) → woken_among m n k ≡ woken_among m (forget n) k
+woken_among-step_after m n zero = refl
+woken_among-step_after m n (suc k) = rw (woken_among-step_after m n k, is_runnable-forget n (suc k))
 
-woken-after : (m n : State) → woken m n ≡ woken m (forget n)
-woken-after m n = woken_among-after m n (length n.threads)
+woken_threads-step_after : (m n : State) → woken_threads m n ≡ woken_threads m (forget n)
+woken_threads-step_after m n = woken_among-step_after m n (length n.threads)
 
-pub woken-forget : (m n : State) → woken (forget m) (forget n) ≡ woken m n
-woken-forget m n = woken_among-forget m n (length n.threads)
+pub woken_threads-forget : (m n : State) → woken_threads (forget m) (forget n) ≡ woken_threads m n
+woken_threads-forget m n = woken_among-forget m n (length n.threads)
 
 walk-forget : (n : ℕ) (m : State) (t : ℕ) → walk n (forget m) t ≡ walk n m t
 walk-forget zero m t = refl
@@ -191,7 +174,7 @@ root-forget m t = walk-forget m.calls_made m t
 
 -- acts
 
-record SameAct (a b : Acted) : Type 0 where
+record SameAct (a b : ActResult) : Type 0 where
   state : AreAlike a.state b.state
   answer : a.answer ≡ b.answer
 
@@ -199,7 +182,7 @@ record SameAct (a b : Acted) : Type 0 where
 alike_act : (m n : State) (a : Answer) → AreAlike m n → SameAct (record { state = m; answer = a }) (record { state = n; answer = a })
 alike_act m n a e = record { state = e; answer = refl }
 
-same_act : (a b : Acted) → a ≡ b → SameAct a b
+same_act : (a b : ActResult) → a ≡ b → SameAct a b
 same_act a b e = record { state = ap (λ x. forget x.state) e; answer = ap (λ x. x.answer) e }
 
 -- the same state with one refusal or another answer
@@ -236,21 +219,21 @@ await-forget m t path = go (name_of m path)
     go (Some n) = act_on m _
     go None = alike_act _ _ _ (absorbs (λ n. with_state n t (is.Awaiting path)) (with_state-forget t (is.Awaiting path)) m)
 
-found-forget : (m : State) (t : ℕ) → SameAct (found (forget m) t) (found m t)
-found-forget m t = alike_act _ _ _ (absorbs (λ n. with_state n t is.Running) (with_state-forget t is.Running) m)
+end_await-forget : (m : State) (t : ℕ) → SameAct (end_await (forget m) t) (end_await m t)
+end_await-forget m t = alike_act _ _ _ (absorbs (λ n. with_state n t is.Running) (with_state-forget t is.Running) m)
 
 create-forget : (m : State) (p entry cookie : ℕ) (attrs : Attrs) → SameAct (create (forget m) p entry cookie attrs) (create m p entry cookie attrs)
 create-forget m p entry cookie attrs = go (new_door m p entry cookie attrs) (lowest_free (table_of m p))
   where
-    go : (d : Door) (o : Option ℕ) → SameAct (created (forget m) p d o) (created m p d o)
+    go : (d : Door) (o : Option ℕ) → SameAct (create_at (forget m) p d o) (create_at m p d o)
     go d None = act_on m _
     go d (Some place) = act_on (with_row (with_door m d) p place (obj.Door d.number)) _
 
 call_refusal-forget : (m : State) (d : ℕ) (bytes : List ℕ) → call_refusal (forget m) d bytes ≡ call_refusal m d bytes
 call_refusal-forget m d bytes = rw (queue_length-forget m (pool_of m d))
 
-called-forget : (m : State) (t : ℕ) (r : Call) → SameAct (called (forget m) t r) (called m t r)
-called-forget m t r =
+open_call-forget : (m : State) (t : ℕ) (r : Call) → SameAct (open_call (forget m) t r) (open_call m t r)
+open_call-forget m t r =
     alike_act _ _ _
     (respects
     (λ n. with_state n t (is.Calling r.number))
@@ -266,7 +249,7 @@ call-forget m t p fd bytes rsize = go (object_at m p fd)
   where
     unless : (r : Call) (o : Option Errno) → SameAct (call_unless (forget m) t r o) (call_unless m t r o)
     unless r (Some e) = act_on m _
-    unless r None = called-forget m t r
+    unless r None = open_call-forget m t r
 
     go : (o : Option Obj) → SameAct (call_object (forget m) t bytes rsize o) (call_object m t bytes rsize o)
     go None = act_on m _
@@ -285,41 +268,41 @@ client-forget m t = go (invocation_of m t)
     go (Some v) = item_of v.item
 
 same_if :
-    (test : Bool) (a b c d : Acted) → SameAct a c → SameAct b d →
+    (test : Bool) (a b c d : ActResult) → SameAct a c → SameAct b d →
     SameAct (if test then a else b) (if test then c else d)
 same_if true a b c d h k = h
 same_if false a b c d h k = k
 
-returned_to-forget :
-    (m : State) (t : ℕ) (bytes : List ℕ) (r : Call) → SameAct (returned_to (forget m) t bytes r) (returned_to m t bytes r)
-returned_to-forget m t bytes r =
+return_to-forget :
+    (m : State) (t : ℕ) (bytes : List ℕ) (r : Call) → SameAct (return_to (forget m) t bytes r) (return_to m t bytes r)
+return_to-forget m t bytes r =
     alike_act _ _ _
     (absorbs_then
-    (λ n. with_call n r.number (moved_on r (stage.Returned bytes [])))
-    (λ n. parked n t)
-    (with_call-forget r.number (moved_on r (stage.Returned bytes [])))
-    (absorbs (λ n. parked n t) (parked-forget t))
+    (λ n. with_call n r.number (without_arguments_at r (stage.Returned bytes [])))
+    (λ n. park n t)
+    (with_call-forget r.number (without_arguments_at r (stage.Returned bytes [])))
+    (absorbs (λ n. park n t) (park-forget t))
     m)
 
 return-forget : (m : State) (t : ℕ) (bytes : List ℕ) → SameAct (return (forget m) t bytes) (return m t bytes)
 return-forget m t bytes = rw (client-forget m t) (go (client m t))
   where
     go : (o : Option Call) → SameAct (return_for (forget m) t bytes o) (return_for m t bytes o)
-    go (Some r) = same_if (nat_lt 4096 (length bytes)) _ _ _ _ (act_on m _) (returned_to-forget m t bytes r)
-    go None = alike_act _ _ _ (absorbs (λ n. parked n t) (parked-forget t) m)
+    go (Some r) = same_if (nat_lt 4096 (length bytes)) _ _ _ _ (act_on m _) (return_to-forget m t bytes r)
+    go None = alike_act _ _ _ (absorbs (λ n. park n t) (park-forget t) m)
 
-entered-forget : (t : ℕ) (r : Call) → Absorbs (λ m. entered m t r)
-entered-forget t r =
+enter_call-forget : (t : ℕ) (r : Call) → Absorbs (λ m. enter_call m t r)
+enter_call-forget t r =
     absorbs_then
-    (λ n. with_invocation (with_call n r.number (moved_on r (stage.Entered (tid t)))) t (Some (invocation (item.Call r.number))))
+    (λ n. with_invocation (with_call n r.number (without_arguments_at r (stage.Entered (tid t)))) t (Some (new_invocation (item.Call r.number))))
     (λ n. with_state n t is.Running)
     (absorbs_then
-    (λ n. with_call n r.number (moved_on r (stage.Entered (tid t))))
-    (λ n. with_invocation n t (Some (invocation (item.Call r.number))))
-    (with_call-forget r.number (moved_on r (stage.Entered (tid t))))
+    (λ n. with_call n r.number (without_arguments_at r (stage.Entered (tid t))))
+    (λ n. with_invocation n t (Some (new_invocation (item.Call r.number))))
+    (with_call-forget r.number (without_arguments_at r (stage.Entered (tid t))))
     (absorbs
-    (λ n. with_invocation n t (Some (invocation (item.Call r.number))))
-    (with_invocation-forget t (Some (invocation (item.Call r.number))))))
+    (λ n. with_invocation n t (Some (new_invocation (item.Call r.number))))
+    (with_invocation-forget t (Some (new_invocation (item.Call r.number))))))
     (absorbs (λ n. with_state n t is.Running) (with_state-forget t is.Running))
 
 accept-forget : (m : State) (t : ℕ) (i : Item) → SameAct (accept (forget m) t i) (accept m t i)
@@ -327,15 +310,15 @@ accept-forget m t (item.Call c) = rw (call_of-forget m c) (go (call_of m c))
   where
     go : (o : Option Call) → SameAct (accept_call (forget m) t o) (accept_call m t o)
     go None = act_on m _
-    go (Some r) = alike_act _ _ _ (entered-forget t r m)
+    go (Some r) = alike_act _ _ _ (enter_call-forget t r m)
 accept-forget m t (item.Notice n) = act_on m _
 
-answered-forget : (m : State) (t : ℕ) (r : Call) → AreAlike (answered (forget m) t r) (answered m t r)
-answered-forget m t r =
+answer_call-forget : (m : State) (t : ℕ) (r : Call) → AreAlike (answer_call (forget m) t r) (answer_call m t r)
+answer_call-forget m t r =
     absorbs_then
-    (λ n. with_call n r.number (moved_on r (stage.Answered (now m))))
+    (λ n. with_call n r.number (without_arguments_at r (stage.Answered (now m))))
     (λ n. with_state n t is.Running)
-    (with_call-forget r.number (moved_on r (stage.Answered (now m))))
+    (with_call-forget r.number (without_arguments_at r (stage.Answered (now m))))
     (absorbs (λ n. with_state n t is.Running) (with_state-forget t is.Running))
     m
 
@@ -343,8 +326,8 @@ collect-forget : (m : State) (t c : ℕ) → SameAct (collect (forget m) t c) (c
 collect-forget m t c = rw (call_of-forget m c) (go (call_of m c))
   where
     at : (r : Call) (s : CallStage) → SameAct (collect_at (forget m) t r s) (collect_at m t r s)
-    at r (stage.Returned bytes objects) = alike_act _ _ _ (answered-forget m t r)
-    at r (stage.Ended e) = alike_act _ _ _ (answered-forget m t r)
+    at r (stage.Returned bytes objects) = alike_act _ _ _ (answer_call-forget m t r)
+    at r (stage.Ended e) = alike_act _ _ _ (answer_call-forget m t r)
     at r _ = act_on m _
 
     go : (o : Option Call) → SameAct (collect_call (forget m) t o) (collect_call m t o)
@@ -354,9 +337,9 @@ collect-forget m t c = rw (call_of-forget m c) (go (call_of m c))
 -- leaving
 
 ended_call_is_live : (doors : List Door) (p : ℕ) (r : Call) → is_live_call (ended_call doors p r) ≡ is_live_call r
-ended_call_is_live doors p r = go (is_owned p (numbered doors r.door)) r.stage
+ended_call_is_live doors p r = go (is_owned p (at_number doors r.door)) r.stage
   where
-    go : (b : Bool) (s : CallStage) → is_live_call (if is_queued s && b then moved_on r (stage.Ended EBADF) else (record r { stage = s })) ≡ is_live s
+    go : (b : Bool) (s : CallStage) → is_live_call (if is_queued s && b then without_arguments_at r (stage.Ended EBADF) else (record r { stage = s })) ≡ is_live s
     go true stage.Queued = refl
     go false stage.Queued = refl
     go b _ = refl
@@ -368,7 +351,7 @@ with_ended_calls-forget p m =
     (sym (live_map (ended_call m.doors p) (ended_call_is_live m.doors p) m.calls))
 
 with_ended_process-forget : (p : ℕ) → Commutes (λ m. with_ended_process m p)
-with_ended_process-forget p m = go (numbered m.processes p)
+with_ended_process-forget p m = go (at_number m.processes p)
   where
     go : (o : Option Process) → with_ended (forget m) p o ≡ forget (with_ended m p o)
     go None = refl
@@ -400,7 +383,7 @@ give_item-forget (item.Call c) u m = ap (λ o. forget (give_call (forget m) u o)
     go : (o : Option Call) → AreAlike (give_call (forget m) u o) (give_call m u o)
     go None = forget-forget m
     go (Some r) = with_call-forget r.number (at_stage r (stage.Given (tid u))) m
-give_item-forget (item.Notice n) u m = go (numbered m.notices n)
+give_item-forget (item.Notice n) u m = go (at_number m.notices n)
   where
     go : (o : Option Notice) → AreAlike (give_notice (forget m) n u o) (give_notice m n u o)
     go None = forget-forget m
@@ -429,7 +412,7 @@ give_each-forget (w ∷ ws) m =
     (give_to-forget w (pick m (pool_of m w.door)) m)
 
 settle-forget : Absorbs settle
-settle-forget m = ap (λ ws. forget (give_each (forget m) ws)) (waits-forget m) ∙ give_each-forget (waits m) m
+settle-forget m = ap (λ ws. forget (give_each (forget m) ws)) (waiting_items-forget m) ∙ give_each-forget (waiting_items m) m
 
 -- steps
 
@@ -446,7 +429,7 @@ enter-forget m t p _ = act_on m _
 go_on-forget : (m : State) (t : ℕ) (s : ThreadState) → SameAct (go_on (forget m) t s) (go_on m t s)
 go_on-forget m t (is.Given i) = accept-forget m t i
 go_on-forget m t (is.Calling c) = collect-forget m t c
-go_on-forget m t (is.Awaiting path) = found-forget m t
+go_on-forget m t (is.Awaiting path) = end_await-forget m t
 go_on-forget m t _ = act_on m _
 
 act-forget : (m : State) (t : ℕ) (r : Option Request) → SameAct (act (forget m) t r) (act m t r)
@@ -458,23 +441,23 @@ pub record SameStep (s n : Step) : Type 0 where
   pub answer : s.answer ≡ n.answer
   pub woken : s.woken ≡ n.woken
 
-after-forget : (m : State) (a b : Acted) → SameAct a b → SameStep (after (forget m) a) (after m b)
-after-forget m a b h =
+step_after-forget : (m : State) (a b : ActResult) → SameAct a b → SameStep (step_after (forget m) a) (step_after m b)
+step_after-forget m a b h =
     record {
       state = settled;
       answer = h.answer;
       woken =
-          woken-after (forget m) (counted (settle a.state))
-          ∙ ap (woken (forget m)) settled
-          ∙ woken-forget m (counted (settle b.state));
+          woken_threads-step_after (forget m) (with_event_counted (settle a.state))
+          ∙ ap (woken_threads (forget m)) settled
+          ∙ woken_threads-forget m (with_event_counted (settle b.state));
     }
   where
-    settled : AreAlike (counted (settle a.state)) (counted (settle b.state))
-    settled = ap counted (respects settle settle-forget a.state b.state h.state)
+    settled : AreAlike (with_event_counted (settle a.state)) (with_event_counted (settle b.state))
+    settled = ap with_event_counted (respects settle settle-forget a.state b.state h.state)
 
 pub step-forget : (m : State) (t : ℕ) (r : Option Request) → SameStep (step (forget m) t r) (step m t r)
 unfolding step
-step-forget m t r = after-forget m (act (forget m) t r) (act m t r) (act-forget m t r)
+step-forget m t r = step_after-forget m (act (forget m) t r) (act m t r) (act-forget m t r)
 
 -- what is kept of a state takes the same steps, so a kernel that does them does those of the state
 pub IsStep-forget :

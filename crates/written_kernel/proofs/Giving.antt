@@ -2,22 +2,17 @@
 use Rattle.std.proofs.Common.{◌≡◌, ◌≤◌, ℕ, zero, suc, ◌==◌, ◌&&◌, Bool, true, false, if◌then◌else◌, nat_le, List, [], ◌∷◌, Option, None, Some, slice_get, length, map, filter, find, count_by, refl, sym, subst, eq-or-lt_of_le, ap, ◌∙◌, ◌⊎◌, inl, inr, ⊎_elim, arith}
 use Rattle.std.proofs.lemmas.Bool.Decides.{nat_tests}
 use Rattle.std.proofs.lemmas.List.Sums.{length-filter}
-use Rattle.dk_base.specs.declared.object.Item.{Item}
+use Rattle.written_kernel.specs.Types.{Call, CallStage, Item, Notice, Thread, ThreadState}
 use Rattle.dk_base.specs.declared.object.Item.TheVariants as item
-use Rattle.dk_base.specs.declared.record.Thread.{Thread}
-use Rattle.dk_base.specs.declared.record.ThreadState.{ThreadState}
 use Rattle.dk_base.specs.declared.record.ThreadState.TheVariants as is
-use Rattle.dk_base.specs.declared.record.Notice.{Notice}
-use Rattle.dk_base.specs.declared.record.Call.{Call}
-use Rattle.dk_base.specs.declared.record.CallStage.{CallStage}
 use Rattle.dk_base.specs.declared.record.CallStage.TheVariants as stage
-use Rattle.written_kernel.specs.Numbered.{numbered}
-use Rattle.written_kernel.specs.State.{State, tid, thread_of, with_state, with_state_in, at_stage, call_of, is_call, replaced, is_live, is_queued}
+use Rattle.dk_base.specs.ByNumber.{at_number}
+use Rattle.written_kernel.specs.State.{State, tid, thread_of, with_state, with_state_in, at_stage, call_of, is_call, with_live_call, is_live, is_queued}
 use Rattle.written_kernel.specs.Pools.Pool.{Common, Private}
-use Rattle.written_kernel.specs.Pools.{Pool, Parked, Waiting, is_pool, pool_in, pool_of, parked_thread, parked_at, better, later, pick_among, pick, is_queued_call, waiting_call, waiting_notice, is_waiting_notice, with_notice, with_notices, waits, is_queued_in, queue_length}
+use Rattle.written_kernel.specs.Pools.{Pool, Parked, Waiting, is_pool, pool_in, pool_of, parked_thread, parked_at, better_parked, later_parked, pick_among, pick, is_queued_call, waiting_call, waiting_notice, is_waiting_notice, with_notice, with_notices, waiting_items, is_queued_in, queue_length}
 use Rattle.written_kernel.specs.Settle.{give_call, give_notice, give_item, give_one, give_to, give_each, settle}
 use Rattle.written_kernel.specs.Kept.{is_live_call}
-use Rattle.written_kernel.proofs.Lists.{numbered-suc, numbered_within, length-renumbered, numbered-renumbered_there}
+use Rattle.written_kernel.proofs.Lists.{at_number-suc, numbered_within, length-with_at_number, at_number-renumbered_there}
 
 -- x is an item of the list
 abbrev pub IsIn : {X : Type 0} → X → List X → Type 0
@@ -30,7 +25,7 @@ pub record HasQueued (rs : List Call) (c : ℕ) (r : Call) : Type 0 where
   pub queued : is_queued r.stage ≡ true
   pub number : r.number ≡ c
 
--- no queued call stands behind a live call of its number
+-- no queued call stands after a live call of its number
 abbrev pub IsApart : List Call → Type 0
 IsApart [] = Unit {0}
 IsApart (q ∷ qs) = ((r : Call) → is_live_call q ≡ true → HasQueued qs q.number r → ⊥) × IsApart qs
@@ -39,12 +34,12 @@ IsApart (q ∷ qs) = ((r : Call) → is_live_call q ≡ true → HasQueued qs q.
 
 queued_stays :
     (rs : List Call) (c : ℕ) (x r : Call) → is_queued x.stage ≡ false → is_queued r.stage ≡ true →
-    IsIn r (replaced rs c x) → IsIn r rs
+    IsIn r (with_live_call rs c x) → IsIn r rs
 queued_stays [] c x r n q h = h
 queued_stays (y ∷ ys) c x r n q h = go (is_call c y) (queued_stays ys c x r n q) h
   where
     go :
-        (b : Bool) → (IsIn r (replaced ys c x) → IsIn r ys) → IsIn r (if b then x ∷ ys else y ∷ replaced ys c x) →
+        (b : Bool) → (IsIn r (with_live_call ys c x) → IsIn r ys) → IsIn r (if b then x ∷ ys else y ∷ with_live_call ys c x) →
         IsIn r (y ∷ ys)
     go true ih (inl e) = cc
     go true ih (inr k) = inr k
@@ -67,13 +62,13 @@ queued_is_call c r q e = grind (arith, nat_tests, queued_lives r.stage q)
 -- where a call was replaced by one that is not queued, none of its number is queued
 none_queued :
     (rs : List Call) (c : ℕ) (x r : Call) → is_queued x.stage ≡ false → IsApart rs → is_queued r.stage ≡ true →
-    r.number ≡ c → IsIn r (replaced rs c x) → ⊥
+    r.number ≡ c → IsIn r (with_live_call rs c x) → ⊥
 none_queued [] c x r n a q e h = h
 none_queued (y ∷ ys) c x r n a q e h = go (is_call c y) refl (none_queued ys c x r n a.1 q e) h
   where
     go :
-        (b : Bool) → is_call c y ≡ b → (IsIn r (replaced ys c x) → ⊥) →
-        IsIn r (if b then x ∷ ys else y ∷ replaced ys c x) → ⊥
+        (b : Bool) → is_call c y ≡ b → (IsIn r (with_live_call ys c x) → ⊥) →
+        IsIn r (if b then x ∷ ys else y ∷ with_live_call ys c x) → ⊥
     go true f ih (inl k) = cc
     go true f ih (inr k) =
         a.0 r (call_lives c y f) (record { is_in = k; queued = q; number = e ∙ sym (call_number c y f) })
@@ -81,11 +76,11 @@ none_queued (y ∷ ys) c x r n a q e h = go (is_call c y) refl (none_queued ys c
     go false f ih (inr k) = ih k
 
 still_apart :
-    (rs : List Call) (c : ℕ) (x : Call) → is_queued x.stage ≡ false → x.number ≡ c → IsApart rs → IsApart (replaced rs c x)
+    (rs : List Call) (c : ℕ) (x : Call) → is_queued x.stage ≡ false → x.number ≡ c → IsApart rs → IsApart (with_live_call rs c x)
 still_apart [] c x n e a = a
 still_apart (y ∷ ys) c x n e a = go (is_call c y) refl (still_apart ys c x n e a.1)
   where
-    go : (b : Bool) → is_call c y ≡ b → IsApart (replaced ys c x) → IsApart (if b then x ∷ ys else y ∷ replaced ys c x)
+    go : (b : Bool) → is_call c y ≡ b → IsApart (with_live_call ys c x) → IsApart (if b then x ∷ ys else y ∷ with_live_call ys c x)
     go true k ih = (
       λ r l h.
           a.0 r (call_lives c y k)
@@ -128,7 +123,7 @@ record Fewer (m n : State) : Type 0 where
   doors : n.doors ≡ m.doors
   parked : (t : ℕ) → (parked_at n t ≡ parked_at m t) ⊎ (parked_at n t ≡ None)
 
-later_some : (best : Option Parked) (x : Parked) → later best x ≡ None → ⊥
+later_some : (best : Option Parked) (x : Parked) → later_parked best x ≡ None → ⊥
 later_some None x e = cc
 later_some (Some b) x e = go (nat_le b.since x.since) e
   where
@@ -138,23 +133,23 @@ later_some (Some b) x e = go (nat_le b.since x.since) e
 
 fewer_better :
     (pool : Pool) (best best' o o' : Option Parked) → (best ≡ None → best' ≡ None) → (o' ≡ o) ⊎ (o' ≡ None) →
-    better pool best o ≡ None → better pool best' o' ≡ None
-fewer_better pool best best' o o' ih (inr none) e = ap (better pool best') none ∙ ih (go o e)
+    better_parked pool best o ≡ None → better_parked pool best' o' ≡ None
+fewer_better pool best best' o o' ih (inr none) e = ap (better_parked pool best') none ∙ ih (go o e)
   where
-    at : (x : Parked) (b : Bool) → (if b then later best x else best) ≡ None → best ≡ None
+    at : (x : Parked) (b : Bool) → (if b then later_parked best x else best) ≡ None → best ≡ None
     at x true e = absurd (later_some best x e)
     at x false e = e
 
-    go : (o : Option Parked) → better pool best o ≡ None → best ≡ None
+    go : (o : Option Parked) → better_parked pool best o ≡ None → best ≡ None
     go None e = e
     go (Some x) e = at x (is_pool pool x.pool) e
-fewer_better pool best best' o o' ih (inl same) e = ap (better pool best') same ∙ go o e
+fewer_better pool best best' o o' ih (inl same) e = ap (better_parked pool best') same ∙ go o e
   where
-    at : (x : Parked) (b : Bool) → (if b then later best x else best) ≡ None → (if b then later best' x else best') ≡ None
+    at : (x : Parked) (b : Bool) → (if b then later_parked best x else best) ≡ None → (if b then later_parked best' x else best') ≡ None
     at x true e = absurd (later_some best x e)
     at x false e = ih e
 
-    go : (o : Option Parked) → better pool best o ≡ None → better pool best' o ≡ None
+    go : (o : Option Parked) → better_parked pool best o ≡ None → better_parked pool best' o ≡ None
     go None e = ih e
     go (Some x) e = at x (is_pool pool x.pool) e
 
@@ -203,11 +198,11 @@ given_fewer m u i = go (thread_of m u) refl
     go None e = fewer_same m
     go (Some x) e =
         record {
-          threads = length-renumbered m.threads u (record x { state = is.Given i });
+          threads = length-with_at_number m.threads u (record x { state = is.Given i });
           doors = refl;
           parked =
               λ t.
-              rw (numbered-renumbered_there m.threads u t (record x { state = is.Given i }) x e) (at t x (t == u));
+              rw (at_number-renumbered_there m.threads u t (record x { state = is.Given i }) x e) (at t x (t == u));
         }
 
 give_item_fewer : (m : State) (i : Item) (u : ℕ) → Fewer m (give_item m i u)
@@ -216,7 +211,7 @@ give_item_fewer m (item.Call c) u = go (call_of m c)
     go : (o : Option Call) → Fewer m (give_call m u o)
     go None = fewer_same m
     go (Some r) = record { threads = refl; doors = refl; parked = λ t. inl refl }
-give_item_fewer m (item.Notice n) u = go (numbered m.notices n)
+give_item_fewer m (item.Notice n) u = go (at_number m.notices n)
   where
     go : (o : Option Notice) → Fewer m (give_notice m n u o)
     go None = fewer_same m
@@ -240,7 +235,7 @@ given_stays m (item.Call c) u r q h = go (call_of m c) h
     go : (o : Option Call) → IsIn r (give_call m u o).calls → IsIn r m.calls
     go None h = h
     go (Some x) h = queued_stays m.calls x.number (at_stage x (stage.Given (tid u))) r refl q h
-given_stays m (item.Notice n) u r q h = go (numbered m.notices n) h
+given_stays m (item.Notice n) u r q h = go (at_number m.notices n) h
   where
     go : (o : Option Notice) → IsIn r (give_notice m n u o).calls → IsIn r m.calls
     go None h = h
@@ -252,7 +247,7 @@ given_apart m (item.Call c) u a = go (call_of m c)
     go : (o : Option Call) → IsApart (give_call m u o).calls
     go None = a
     go (Some x) = still_apart m.calls x.number (at_stage x (stage.Given (tid u))) refl refl a
-given_apart m (item.Notice n) u a = go (numbered m.notices n)
+given_apart m (item.Notice n) u a = go (at_number m.notices n)
   where
     go : (o : Option Notice) → IsApart (give_notice m n u o).calls
     go None = a
@@ -285,7 +280,7 @@ pending_given m w ws u a h r q k = go (h r q (given_stays m w.item u r q there))
     there = subst (IsIn r) (calls-with_state (give_item m w.item u) u (is.Given w.item)) k
 
     same_pool : pool_of (give_one m w.item u) r.door ≡ pool_of m r.door
-    same_pool = ap (λ ds. pool_in (numbered ds r.door)) (give_one_fewer m w.item u).doors
+    same_pool = ap (λ ds. pool_in (at_number ds r.door)) (give_one_fewer m w.item u).doors
 
     gone : waiting_call r ≡ w → ⊥
     gone e =
@@ -360,7 +355,7 @@ in_notices : (ws ns : List Waiting) (v : Waiting) → IsIn v ws → IsIn v (with
 in_notices ws [] v h = h
 in_notices ws (n ∷ ns) v h = in_notices (with_notice ws n) ns v (in_notice ws n v h)
 
-pub in_waits : (m : State) (r : Call) → is_queued r.stage ≡ true → IsIn r m.calls → IsIn (waiting_call r) (waits m)
+pub in_waits : (m : State) (r : Call) → is_queued r.stage ≡ true → IsIn r m.calls → IsIn (waiting_call r) (waiting_items m)
 in_waits m r q h =
     in_notices
     (map waiting_call (filter is_queued_call m.calls))
@@ -374,7 +369,7 @@ pub no_idle_for :
     (m : State) → IsApart m.calls → (r : Call) → is_queued r.stage ≡ true → IsIn r (settle m).calls →
     pick (settle m) (pool_of (settle m) r.door) ≡ None
 no_idle_for m a r q h =
-    ⊎_elim (λ none. absurd none) (λ e. e) (give_each_pending m (waits m) a (λ x p k. inl (in_waits m x p k)) r q h)
+    ⊎_elim (λ none. absurd none) (λ e. e) (give_each_pending m (waiting_items m) a (λ x p k. inl (in_waits m x p k)) r q h)
 
 abbrev pub Passes : {X : Type 0} → (X → Bool) → List X → Type 0
 Passes {X} p xs = (x : X) × IsIn x xs × (p x ≡ true)
@@ -447,26 +442,26 @@ IsApart-from_unique (q ∷ qs) h = (
 
 -- where the call at each place has the place's number
 pub HasUniqueNumbers-from_places :
-    (rs : List Call) → ((k : ℕ) (r : Call) → numbered rs k ≡ Some r → r.number ≡ k) → HasUniqueNumbers rs
+    (rs : List Call) → ((k : ℕ) (r : Call) → at_number rs k ≡ Some r → r.number ≡ k) → HasUniqueNumbers rs
 HasUniqueNumbers-from_places rs h =
     record {
       same =
           λ i j r q e f a l n.
-          let x : r.number ≡ suc i = h (suc i) r (numbered-suc rs i ∙ e) in
-          let y : q.number ≡ suc j = h (suc j) q (numbered-suc rs j ∙ f) in
+          let x : r.number ≡ suc i = h (suc i) r (at_number-suc rs i ∙ e) in
+          let y : q.number ≡ suc j = h (suc j) q (at_number-suc rs j ∙ f) in
           omega arith;
     }
 
 -- whatever is idle in a pool would be picked
 
 better_none :
-    (pool : Pool) (best o : Option Parked) → better pool best o ≡ None →
+    (pool : Pool) (best o : Option Parked) → better_parked pool best o ≡ None →
     (best ≡ None) × ((x : Parked) → o ≡ Some x → is_pool pool x.pool ≡ false)
 better_none pool best None e = (e, λ x f. cc)
 better_none pool best (Some y) e = go (is_pool pool y.pool) refl e
   where
     go :
-        (b : Bool) → is_pool pool y.pool ≡ b → (if b then later best y else best) ≡ None →
+        (b : Bool) → is_pool pool y.pool ≡ b → (if b then later_parked best y else best) ≡ None →
         (best ≡ None) × ((x : Parked) → Some y ≡ Some x → is_pool pool x.pool ≡ false)
     go true f e = absurd (later_some best y e)
     go false f e = (e, λ x g. let k : y ≡ x = cc in subst (λ (z : Parked). is_pool pool z.pool ≡ false) k f)

@@ -1,39 +1,24 @@
 -- A thread gets an invocation only at an accept of its own that answers Entered.
 use Rattle.std.proofs.Common.{◌≡◌, ℕ, ◌==◌, ◌&&◌, Bool, true, false, if◌then◌else◌, nat_lt, List, [], ◌∷◌, Option, None, Some, IsSome, is_some, option_map, length, unwrap_or, refl, sym, ap, ◌∙◌, ◌⊎◌, inl, inr, ⊎_elim, arith}
 use Rattle.std.proofs.lemmas.Bool.Decides.{nat_tests}
-use Rattle.dk_base.specs.declared.number.Fd.{Fd}
-use Rattle.dk_base.specs.declared.number.PathId.{PathId}
-use Rattle.dk_base.specs.declared.set.Attrs.{Attrs}
-use Rattle.dk_base.specs.declared.error.Errno.{Errno}
+use Rattle.written_kernel.specs.Types.{Attrs, Call, CallStage, Door, Errno, Fd, Inv, Item, Name, Notice, Obj, PathId, Process, Request, Thread, ThreadState}
 use Rattle.dk_base.specs.declared.error.Errno.TheVariants.{E2BIG}
-use Rattle.dk_base.specs.declared.object.Obj.{Obj}
 use Rattle.dk_base.specs.declared.object.Obj.TheVariants as obj
-use Rattle.dk_base.specs.declared.object.Item.{Item}
 use Rattle.dk_base.specs.declared.object.Item.TheVariants as item
-use Rattle.dk_base.specs.declared.object.Inv.{Inv}
-use Rattle.dk_base.specs.declared.request.Request.{Request}
 use Rattle.dk_base.specs.declared.request.Request.TheVariants as request
-use Rattle.dk_base.specs.declared.record.ThreadState.{ThreadState}
 use Rattle.dk_base.specs.declared.record.ThreadState.TheVariants as is
-use Rattle.dk_base.specs.declared.record.Process.{Process}
-use Rattle.dk_base.specs.declared.record.Thread.{Thread}
-use Rattle.dk_base.specs.declared.record.Door.{Door}
-use Rattle.dk_base.specs.declared.record.Name.{Name}
-use Rattle.dk_base.specs.declared.record.Notice.{Notice}
-use Rattle.dk_base.specs.declared.record.Call.{Call}
-use Rattle.dk_base.specs.declared.record.CallStage.{CallStage}
 use Rattle.dk_base.specs.declared.record.CallStage.TheVariants as stage
-use Rattle.written_kernel.specs.Numbered.{numbered, renumbered}
-use Rattle.written_kernel.specs.State.{State, tid, now, process_of, thread_of, state_of, invocation_in, invocation_of, table_of, object_at, name_of, with_state, with_state_in, with_invocation, with_invocation_in, with_call, moved_on, call_of}
-use Rattle.written_kernel.specs.Pools.{Parked, Waiting, waits, pool_of, pick}
-use Rattle.written_kernel.specs.Acts.{refused, lowest_free}
+use Rattle.dk_base.specs.ByNumber.{at_number, with_at_number}
+use Rattle.written_kernel.specs.State.{State, tid, now, process_of, thread_of, state_of, invocation_in, invocation_of, table_of, object_at, name_of, with_state, with_state_in, with_invocation, with_invocation_in, with_call, without_arguments_at, call_of}
+use Rattle.written_kernel.specs.Pools.{Parked, Waiting, waiting_items, pool_of, pick}
+use Rattle.written_kernel.specs.Acts.{refused_act, lowest_free}
 use Rattle.written_kernel.specs.Answers.{IsEntering}
 use Rattle.written_kernel.specs.Descriptors.{new_name, attach_unless, attach_object, attach, open_at, open_name, open_path, await_name, await}
-use Rattle.written_kernel.specs.Doors.{new_door, created, create, call_refusal, new_call, with_new_call, call_unless, call_object, call, client, parked, returned_to, return_for, return, invocation, entered, accept_call, accept, answered, collect_at, collect_call, collect}
+use Rattle.written_kernel.specs.Doors.{new_door, create_at, create, call_refusal, new_call, with_new_call, call_unless, call_object, call, client, park, return_to, return_for, return, new_invocation, enter_call, accept_call, accept, answer_call, collect_at, collect_call, collect}
 use Rattle.written_kernel.specs.Leaving.{is_last, end_thread, end_process, exit, ended_thread, with_ended, with_ended_process, with_ended_threads}
 use Rattle.written_kernel.specs.Settle.{give_call, give_notice, give_item, give_to, give_each, settle}
 use Rattle.written_kernel.specs.Step.{enter, go_on, act, step}
-use Rattle.written_kernel.proofs.Lists.{numbered-renumbered_there, numbered-map, same_numbered, map-renumbered}
+use Rattle.written_kernel.proofs.Lists.{at_number-renumbered_there, at_number-map, same_numbered, map-with_at_number}
 
 -- no thread gets an invocation
 record NoneNew (m n : State) : Type 0 where
@@ -61,7 +46,7 @@ invocation_of-with_invocation m t u v = go (thread_of m t) refl
         invocation_of (with_invocation_in m t v o) u ≡ (if (u == t) && is_some o then v else invocation_of m u)
     go None e = grind arith
     go (Some x) e =
-        ap invocation_in (numbered-renumbered_there m.threads t u (record x { invocation = v }) x e)
+        ap invocation_in (at_number-renumbered_there m.threads t u (record x { invocation = v }) x e)
         ∙ test (u == t) (record x { invocation = v }) (thread_of m u)
 
 pub invocation_of-with_state : (m : State) (t u : ℕ) (s : ThreadState) → invocation_of (with_state m t s) u ≡ invocation_of m u
@@ -77,10 +62,10 @@ invocation_of-with_state m t u s = go (thread_of m t) refl
     go : (o : Option Thread) → thread_of m t ≡ o → invocation_of (with_state_in m t s o) u ≡ invocation_of m u
     go None e = refl
     go (Some x) e =
-        joined (numbered (renumbered m.threads t (record x { state = s })) u)
+        joined (at_number (with_at_number m.threads t (record x { state = s })) u)
         ∙ ap (λ o. unwrap_or o None)
-        (same_numbered inside (renumbered m.threads t (record x { state = s })) m.threads u
-        (map-renumbered inside m.threads t (record x { state = s }) (λ y h. let k : x ≡ y = cc in ap inside k)))
+        (same_numbered inside (with_at_number m.threads t (record x { state = s })) m.threads u
+        (map-with_at_number inside m.threads t (record x { state = s }) (λ y h. let k : x ≡ y = cc in ap inside k)))
         ∙ sym (joined (thread_of m u))
 
 with_state-none : (m : State) (t : ℕ) (s : ThreadState) → NoneNew m (with_state m t s)
@@ -99,7 +84,7 @@ with_ended_threads-none m p =
       had =
           λ u h.
           go (thread_of m u)
-          (sym (ap (λ o. is_some (invocation_in o)) (numbered-map (ended_thread p) m.threads u)) ∙ h);
+          (sym (ap (λ o. is_some (invocation_in o)) (at_number-map (ended_thread p) m.threads u)) ∙ h);
     }
   where
     at : (x : Thread) (b : Bool) → IsSome (if b then record x { invocation = None; state = is.Done } else x).invocation → IsSome x.invocation
@@ -145,7 +130,7 @@ await-none m t path = go (name_of m path)
 create-none : (m : State) (p entry cookie : ℕ) (attrs : Attrs) → NoneNew m (create m p entry cookie attrs).state
 create-none m p entry cookie attrs = go (new_door m p entry cookie attrs) (lowest_free (table_of m p))
   where
-    go : (d : Door) (o : Option ℕ) → NoneNew m (created m p d o).state
+    go : (d : Door) (o : Option ℕ) → NoneNew m (create_at m p d o).state
     go d None = none_same m
     go d (Some place) = record { had = λ u h. h }
 
@@ -161,25 +146,25 @@ call-none m t p fd bytes rsize = go (object_at m p fd)
     go (Some (obj.Door d)) = unless (new_call m t d bytes rsize) (call_refusal m d bytes)
     go (Some _) = none_same m
 
-parked-none : (m : State) (t : ℕ) → NoneNew m (parked m t)
-parked-none m t = none_then (without-none m t) (with_state-none (with_invocation m t None) t (is.Idle (now m)))
+park-none : (m : State) (t : ℕ) → NoneNew m (park m t)
+park-none m t = none_then (without-none m t) (with_state-none (with_invocation m t None) t (is.Idle (now m)))
 
 return-none : (m : State) (t : ℕ) (bytes : List ℕ) → NoneNew m (return m t bytes).state
 return-none m t bytes = go (client m t)
   where
-    unless : (r : Call) (b : Bool) → NoneNew m (if b then refused m E2BIG else returned_to m t bytes r).state
+    unless : (r : Call) (b : Bool) → NoneNew m (if b then refused_act m E2BIG else return_to m t bytes r).state
     unless r true = none_same m
-    unless r false = record { had = λ u h. (parked-none (with_call m r.number (moved_on r (stage.Returned bytes []))) t).had u h }
+    unless r false = record { had = λ u h. (park-none (with_call m r.number (without_arguments_at r (stage.Returned bytes []))) t).had u h }
 
     go : (o : Option Call) → NoneNew m (return_for m t bytes o).state
     go (Some r) = unless r (nat_lt 4096 (length bytes))
-    go None = parked-none m t
+    go None = park-none m t
 
 collect-none : (m : State) (t c : ℕ) → NoneNew m (collect m t c).state
 collect-none m t c = go (call_of m c)
   where
-    done : (r : Call) → NoneNew m (answered m t r)
-    done r = record { had = λ u h. (with_state-none (with_call m r.number (moved_on r (stage.Answered (now m)))) t is.Running).had u h }
+    done : (r : Call) → NoneNew m (answer_call m t r)
+    done r = record { had = λ u h. (with_state-none (with_call m r.number (without_arguments_at r (stage.Answered (now m)))) t is.Running).had u h }
 
     at : (r : Call) (s : CallStage) → NoneNew m (collect_at m t r s).state
     at r (stage.Returned bytes objects) = done r
@@ -191,7 +176,7 @@ collect-none m t c = go (call_of m c)
     go (Some r) = at r r.stage
 
 with_ended_process-none : (m : State) (p : ℕ) → NoneNew m (with_ended_process m p)
-with_ended_process-none m p = go (numbered m.processes p)
+with_ended_process-none m p = go (at_number m.processes p)
   where
     go : (o : Option Process) → NoneNew m (with_ended m p o)
     go None = none_same m
@@ -224,16 +209,16 @@ enter-none m t p _ = none_same m
 
 -- an accept begins one, and says so
 
-entered-one :
-    (m : State) (t u : ℕ) (r : Call) → IsSome (invocation_of (entered m t r) u) → IsSome (invocation_of m u) ⊎ (u ≡ t)
-entered-one m t u r h =
+enter_call-one :
+    (m : State) (t u : ℕ) (r : Call) → IsSome (invocation_of (enter_call m t r) u) → IsSome (invocation_of m u) ⊎ (u ≡ t)
+enter_call-one m t u r h =
     go (u == t) refl (invocation_of m u) (sym (ap is_some (invocation_of-with_state begun t u is.Running ∙ invocation_of-with_invocation moved t u v)) ∙ h)
   where
     v : Option Inv
-    v = Some (invocation (item.Call r.number))
+    v = Some (new_invocation (item.Call r.number))
 
     moved : State
-    moved = with_call m r.number (moved_on r (stage.Entered (tid t)))
+    moved = with_call m r.number (without_arguments_at r (stage.Entered (tid t)))
 
     begun : State
     begun = with_invocation moved t v
@@ -253,7 +238,7 @@ accept-one m t (item.Call c) u h = go (call_of m c) h
         (o : Option Call) → IsSome (invocation_of (accept_call m t o).state u) →
         IsSome (invocation_of m u) ⊎ ((u ≡ t) × IsEntering (accept_call m t o).answer)
     go None h = inl h
-    go (Some r) h = ⊎_elim inl (λ e. inr (e, tt)) (entered-one m t u r h)
+    go (Some r) h = ⊎_elim inl (λ e. inr (e, tt)) (enter_call-one m t u r h)
 accept-one m t (item.Notice n) u h = inl h
 
 go_on-one :
@@ -278,7 +263,7 @@ invocation_of-give_item m (item.Call c) n u = go (call_of m c)
     go : (o : Option Call) → invocation_of (give_call m n o) u ≡ invocation_of m u
     go None = refl
     go (Some r) = refl
-invocation_of-give_item m (item.Notice k) n u = go (numbered m.notices k)
+invocation_of-give_item m (item.Notice k) n u = go (at_number m.notices k)
   where
     go : (o : Option Notice) → invocation_of (give_notice m k n o) u ≡ invocation_of m u
     go None = refl
@@ -298,19 +283,19 @@ invocation_of-give_each m (w ∷ ws) u =
 
 -- what is given enters nothing yet
 pub invocation_of-settle : (m : State) (u : ℕ) → invocation_of (settle m) u ≡ invocation_of m u
-invocation_of-settle m u = invocation_of-give_each m (waits m) u
+invocation_of-settle m u = invocation_of-give_each m (waiting_items m) u
 
 -- steps
 
-pub invocation-step :
+pub new_invocation-step :
     (m : State) (t u : ℕ) (r : Option Request) → IsSome (invocation_of (step m t r).state u) →
     IsSome (invocation_of m u) ⊎ ((u ≡ t) × IsEntering (step m t r).answer)
 unfolding step
-invocation-step m t u r h = act-one m t r u (sym (ap is_some (invocation_of-settle (act m t r).state u)) ∙ h)
+new_invocation-step m t u r h = act-one m t r u (sym (ap is_some (invocation_of-settle (act m t r).state u)) ∙ h)
 
 -- no entry of a thread begins one
-pub invocation-step_entry :
+pub new_invocation-step_entry :
     (m : State) (t u : ℕ) (r : Request) → IsSome (invocation_of (step m t (Some r)).state u) → IsSome (invocation_of m u)
 unfolding step
-invocation-step_entry m t u r h =
+new_invocation-step_entry m t u r h =
     (enter-none m t (process_of m t) r).had u (sym (ap is_some (invocation_of-settle (act m t (Some r)).state u)) ∙ h)

@@ -3,7 +3,7 @@ use Rattle.std.proofs.Common.{◌≡◌, ℕ, zero, suc, ◌+◌, ◌-◌, ◌<�
 use Rattle.std.proofs.lemmas.List.{length-map}
 use Rattle.std.proofs.lemmas.Bool.Decides.{nat_tests}
 use Rattle.std.proofs.lemmas.Option.{slice_get-map}
-use Rattle.written_kernel.specs.Numbered.{numbered, renumbered}
+use Rattle.dk_base.specs.ByNumber.{at_number, with_at_number}
 
 -- places
 
@@ -34,55 +34,55 @@ is_some-slice_get (x ∷ xs) (suc k) = grind (arith, nat_tests, is_some-slice_ge
 
 -- numbers
 
-pub numbered-suc : {X : Type 0} (xs : List X) (k : ℕ) → numbered xs (suc k) ≡ slice_get xs k
-numbered-suc xs k = grind (arith, nat_tests, sub-suc-one k)
+pub at_number-suc : {X : Type 0} (xs : List X) (k : ℕ) → at_number xs (suc k) ≡ slice_get xs k
+at_number-suc xs k = grind (arith, nat_tests, sub-suc-one k)
 
-pub renumbered-suc : {X : Type 0} (xs : List X) (k : ℕ) (x : X) → renumbered xs (suc k) x ≡ slice_set xs k x
-renumbered-suc xs k x = grind (arith, nat_tests, sub-suc-one k)
+pub with_at_number-suc : {X : Type 0} (xs : List X) (k : ℕ) (x : X) → with_at_number xs (suc k) x ≡ slice_set xs k x
+with_at_number-suc xs k x = grind (arith, nat_tests, sub-suc-one k)
 
-pub length-renumbered : {X : Type 0} (xs : List X) (n : ℕ) (x : X) → length (renumbered xs n x) ≡ length xs
-length-renumbered xs zero x = refl
-length-renumbered xs (suc n) x = ap length (renumbered-suc xs n x) ∙ length-set xs n x
+pub length-with_at_number : {X : Type 0} (xs : List X) (n : ℕ) (x : X) → length (with_at_number xs n x) ≡ length xs
+length-with_at_number xs zero x = refl
+length-with_at_number xs (suc n) x = ap length (with_at_number-suc xs n x) ∙ length-set xs n x
 
-pub numbered-renumbered :
+pub at_number-with_at_number :
     {X : Type 0} (xs : List X) (n k : ℕ) (x : X) →
-    numbered (renumbered xs n x) k ≡ (if (k == n) && is_some (numbered xs n) then Some x else numbered xs k)
-numbered-renumbered xs zero k x = grind (arith, nat_tests)
-numbered-renumbered xs (suc n) zero x = grind (arith, nat_tests)
-numbered-renumbered xs (suc n) (suc k) x =
-    ap (λ ys. numbered ys (suc k)) (renumbered-suc xs n x)
-    ∙ numbered-suc (slice_set xs n x) k
+    at_number (with_at_number xs n x) k ≡ (if (k == n) && is_some (at_number xs n) then Some x else at_number xs k)
+at_number-with_at_number xs zero k x = grind (arith, nat_tests)
+at_number-with_at_number xs (suc n) zero x = grind (arith, nat_tests)
+at_number-with_at_number xs (suc n) (suc k) x =
+    ap (λ ys. at_number ys (suc k)) (with_at_number-suc xs n x)
+    ∙ at_number-suc (slice_set xs n x) k
     ∙ slice_get-slice_set xs n k x
-    ∙ grind (arith, nat_tests, numbered-suc xs n, numbered-suc xs k)
+    ∙ grind (arith, nat_tests, at_number-suc xs n, at_number-suc xs k)
 
 -- where the number is there
-pub numbered-renumbered_there :
-    {X : Type 0} (xs : List X) (n k : ℕ) (x y : X) → numbered xs n ≡ Some y →
-    numbered (renumbered xs n x) k ≡ (if k == n then Some x else numbered xs k)
-numbered-renumbered_there xs n k x y e = numbered-renumbered xs n k x ∙ grind (arith, nat_tests)
+pub at_number-renumbered_there :
+    {X : Type 0} (xs : List X) (n k : ℕ) (x y : X) → at_number xs n ≡ Some y →
+    at_number (with_at_number xs n x) k ≡ (if k == n then Some x else at_number xs k)
+at_number-renumbered_there xs n k x y e = at_number-with_at_number xs n k x ∙ grind (arith, nat_tests)
 
 pub numbered_push :
     {X : Type 0} (xs : List X) (y : X) (k : ℕ) →
-    numbered (xs ++ y ∷ []) k ≡ (if k == length xs + 1 then Some y else numbered xs k)
+    at_number (xs ++ y ∷ []) k ≡ (if k == length xs + 1 then Some y else at_number xs k)
 numbered_push xs y zero = grind (arith, nat_tests)
-numbered_push xs y (suc k) = numbered-suc (xs ++ y ∷ []) k ∙ slice_get_push xs y k ∙ grind (arith, nat_tests, numbered-suc xs k)
+numbered_push xs y (suc k) = at_number-suc (xs ++ y ∷ []) k ∙ slice_get_push xs y k ∙ grind (arith, nat_tests, at_number-suc xs k)
 
-pub numbered-map : {X Y : Type 0} (f : X → Y) (xs : List X) (k : ℕ) → numbered (map f xs) k ≡ option_map f (numbered xs k)
-numbered-map f xs zero = refl
-numbered-map f xs (suc k) = numbered-suc (map f xs) k ∙ slice_get-map f xs k ∙ ap (option_map f) (sym (numbered-suc xs k))
+pub at_number-map : {X Y : Type 0} (f : X → Y) (xs : List X) (k : ℕ) → at_number (map f xs) k ≡ option_map f (at_number xs k)
+at_number-map f xs zero = refl
+at_number-map f xs (suc k) = at_number-suc (map f xs) k ∙ slice_get-map f xs k ∙ ap (option_map f) (sym (at_number-suc xs k))
 
-pub is_some-numbered : {X : Type 0} (xs : List X) (k : ℕ) → is_some (numbered xs k) ≡ (nat_le 1 k && nat_le k (length xs))
-is_some-numbered xs zero = grind (arith, nat_tests)
-is_some-numbered xs (suc k) = ap is_some (numbered-suc xs k) ∙ is_some-slice_get xs k ∙ grind (arith, nat_tests)
+pub is_some-at_number : {X : Type 0} (xs : List X) (k : ℕ) → is_some (at_number xs k) ≡ (nat_le 1 k && nat_le k (length xs))
+is_some-at_number xs zero = grind (arith, nat_tests)
+is_some-at_number xs (suc k) = ap is_some (at_number-suc xs k) ∙ is_some-slice_get xs k ∙ grind (arith, nat_tests)
 
-pub numbered_within : {X : Type 0} (xs : List X) (k : ℕ) (x : X) → numbered xs k ≡ Some x → (1 ≤ k) × (k ≤ length xs)
-numbered_within xs k x e = grind (arith, nat_tests, is_some-numbered xs k)
+pub numbered_within : {X : Type 0} (xs : List X) (k : ℕ) (x : X) → at_number xs k ≡ Some x → (1 ≤ k) × (k ≤ length xs)
+numbered_within xs k x e = grind (arith, nat_tests, is_some-at_number xs k)
 
-pub numbered_there : {X : Type 0} (xs : List X) (k : ℕ) → 1 ≤ k → k ≤ length xs → IsSome (numbered xs k)
-numbered_there xs k l h = is_some-numbered xs k ∙ grind (arith, nat_tests)
+pub numbered_there : {X : Type 0} (xs : List X) (k : ℕ) → 1 ≤ k → k ≤ length xs → IsSome (at_number xs k)
+numbered_there xs k l h = is_some-at_number xs k ∙ grind (arith, nat_tests)
 
-pub numbered_past : {X : Type 0} (xs : List X) (k : ℕ) → length xs < k → numbered xs k ≡ None
-numbered_past xs k h = none_from_test (numbered xs k) (is_some-numbered xs k ∙ grind (arith, nat_tests))
+pub numbered_past : {X : Type 0} (xs : List X) (k : ℕ) → length xs < k → at_number xs k ≡ None
+numbered_past xs k h = none_from_test (at_number xs k) (is_some-at_number xs k ∙ grind (arith, nat_tests))
   where
     none_from_test : {X : Type 0} (o : Option X) → is_some o ≡ false → o ≡ None
     none_from_test None e = refl
@@ -90,10 +90,10 @@ numbered_past xs k h = none_from_test (numbered xs k) (is_some-numbered xs k ∙
 
 -- what is added at the end hides nothing
 pub numbered_front :
-    {X : Type 0} (xs ys : List X) (k : ℕ) (x : X) → numbered xs k ≡ Some x → numbered (xs ++ ys) k ≡ Some x
+    {X : Type 0} (xs ys : List X) (k : ℕ) (x : X) → at_number xs k ≡ Some x → at_number (xs ++ ys) k ≡ Some x
 numbered_front xs ys zero x e = e
 numbered_front xs ys (suc k) x e =
-    numbered-suc (xs ++ ys) k ∙ slice_get_front xs ys k x (sym (numbered-suc xs k) ∙ e)
+    at_number-suc (xs ++ ys) k ∙ slice_get_front xs ys k x (sym (at_number-suc xs k) ∙ e)
   where
     slice_get_front :
         {X : Type 0} (xs ys : List X) (k : ℕ) (x : X) → slice_get xs k ≡ Some x → slice_get (xs ++ ys) k ≡ Some x
@@ -110,12 +110,12 @@ map-slice_set f [] i x h = refl
 map-slice_set f (y ∷ ys) zero x h = ap (λ z. z ∷ map f ys) (h y refl)
 map-slice_set f (y ∷ ys) (suc i) x h = ap (λ zs. f y ∷ zs) (map-slice_set f ys i x h)
 
-pub map-renumbered :
-    {X Y : Type 0} (f : X → Y) (xs : List X) (n : ℕ) (x : X) → ((y : X) → numbered xs n ≡ Some y → f x ≡ f y) →
-    map f (renumbered xs n x) ≡ map f xs
-map-renumbered f xs zero x h = refl
-map-renumbered f xs (suc n) x h =
-    ap (map f) (renumbered-suc xs n x) ∙ map-slice_set f xs n x (λ y e. h y (numbered-suc xs n ∙ e))
+pub map-with_at_number :
+    {X Y : Type 0} (f : X → Y) (xs : List X) (n : ℕ) (x : X) → ((y : X) → at_number xs n ≡ Some y → f x ≡ f y) →
+    map f (with_at_number xs n x) ≡ map f xs
+map-with_at_number f xs zero x h = refl
+map-with_at_number f xs (suc n) x h =
+    ap (map f) (with_at_number-suc xs n x) ∙ map-slice_set f xs n x (λ y e. h y (at_number-suc xs n ∙ e))
 
 pub map-map_same :
     {X Y : Type 0} (f : X → Y) (g : X → X) → ((x : X) → f (g x) ≡ f x) → (xs : List X) → map f (map g xs) ≡ map f xs
@@ -129,8 +129,8 @@ same_length f xs ys e = sym (length-map xs f) ∙ ap length e ∙ length-map ys 
 
 pub same_numbered :
     {X Y : Type 0} (f : X → Y) (xs ys : List X) (k : ℕ) → map f xs ≡ map f ys →
-    option_map f (numbered xs k) ≡ option_map f (numbered ys k)
-same_numbered f xs ys k e = sym (numbered-map f xs k) ∙ ap (λ zs. numbered zs k) e ∙ numbered-map f ys k
+    option_map f (at_number xs k) ≡ option_map f (at_number ys k)
+same_numbered f xs ys k e = sym (at_number-map f xs k) ∙ ap (λ zs. at_number zs k) e ∙ at_number-map f ys k
 
 -- a list and the same with more at its end
 
@@ -148,9 +148,9 @@ pub Extends-then : {X : Type 0} {xs ys zs : List X} → Extends xs ys → Extend
 Extends-then {xs} h k =
     record { rest = h.rest ++ k.rest; is = k.is ∙ ap (λ us. us ++ k.rest) h.is ∙ append_assoc xs h.rest k.rest }
 
-pub numbered-extends :
-    {X : Type 0} {xs ys : List X} → Extends xs ys → (k : ℕ) (x : X) → numbered xs k ≡ Some x → numbered ys k ≡ Some x
-numbered-extends {xs} h k x e = ap (λ us. numbered us k) h.is ∙ numbered_front xs h.rest k x e
+pub at_number-extends :
+    {X : Type 0} {xs ys : List X} → Extends xs ys → (k : ℕ) (x : X) → at_number xs k ≡ Some x → at_number ys k ≡ Some x
+at_number-extends {xs} h k x e = ap (λ us. at_number us k) h.is ∙ numbered_front xs h.rest k x e
 
 pub find-extends :
     {X : Type 0} {xs ys : List X} → Extends xs ys → (p : X → Bool) (x : X) → find p xs ≡ Some x → find p ys ≡ Some x

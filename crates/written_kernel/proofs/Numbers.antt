@@ -2,39 +2,24 @@
 -- an idle thread.
 use Rattle.std.proofs.Common.{◌≤◌, count_by, ◌+◌, ◌++◌, subst, map, ◌≡◌, ℕ, ◌==◌, ◌&&◌, Bool, true, false, if◌then◌else◌, nat_lt, List, [], ◌∷◌, Option, None, Some, option_map, length, refl, sym, ap, ◌∙◌, ◌⊎◌, inl, arith, length-append}
 use Rattle.std.proofs.lemmas.Bool.Decides.{nat_tests}
-use Rattle.dk_base.specs.declared.number.Fd.{Fd}
-use Rattle.dk_base.specs.declared.number.PathId.{PathId}
-use Rattle.dk_base.specs.declared.set.Attrs.{Attrs}
-use Rattle.dk_base.specs.declared.error.Errno.{Errno}
+use Rattle.written_kernel.specs.Types.{Attrs, Call, CallStage, Door, Errno, Fd, Inv, Item, Name, Notice, Obj, PathId, Process, Request, Thread, ThreadState}
 use Rattle.dk_base.specs.declared.error.Errno.TheVariants.{E2BIG, EBADF}
-use Rattle.dk_base.specs.declared.object.Obj.{Obj}
 use Rattle.dk_base.specs.declared.object.Obj.TheVariants as obj
-use Rattle.dk_base.specs.declared.object.Item.{Item}
 use Rattle.dk_base.specs.declared.object.Item.TheVariants as item
-use Rattle.dk_base.specs.declared.object.Inv.{Inv}
-use Rattle.dk_base.specs.declared.request.Request.{Request}
 use Rattle.dk_base.specs.declared.request.Request.TheVariants as request
-use Rattle.dk_base.specs.declared.record.ThreadState.{ThreadState}
 use Rattle.dk_base.specs.declared.record.ThreadState.TheVariants as is
-use Rattle.dk_base.specs.declared.record.Process.{Process}
-use Rattle.dk_base.specs.declared.record.Thread.{Thread}
-use Rattle.dk_base.specs.declared.record.Door.{Door}
-use Rattle.dk_base.specs.declared.record.Name.{Name}
-use Rattle.dk_base.specs.declared.record.Notice.{Notice}
-use Rattle.dk_base.specs.declared.record.Call.{Call}
-use Rattle.dk_base.specs.declared.record.CallStage.{CallStage}
 use Rattle.dk_base.specs.declared.record.CallStage.TheVariants as stage
-use Rattle.written_kernel.specs.Numbered.{numbered}
-use Rattle.written_kernel.specs.State.{State, tid, now, process_of, thread_of, state_of, table_of, object_at, name_of, with_state, with_state_in, with_invocation, with_invocation_in, with_call, moved_on, at_stage, call_of, is_call, replaced, is_queued}
-use Rattle.written_kernel.specs.Pools.{Pool, is_queued_in, queue_length, Parked, Waiting, waits, pool_of, pick}
-use Rattle.written_kernel.specs.Acts.{refused, lowest_free}
+use Rattle.dk_base.specs.ByNumber.{at_number}
+use Rattle.written_kernel.specs.State.{State, tid, now, process_of, thread_of, state_of, table_of, object_at, name_of, with_state, with_state_in, with_invocation, with_invocation_in, with_call, without_arguments_at, at_stage, call_of, is_call, with_live_call, is_queued}
+use Rattle.written_kernel.specs.Pools.{Pool, is_queued_in, queue_length, Parked, Waiting, waiting_items, pool_of, pick}
+use Rattle.written_kernel.specs.Acts.{refused_act, lowest_free}
 use Rattle.written_kernel.specs.Descriptors.{new_name, attach_unless, attach_object, attach, open_at, open_name, open_path, await_name, await}
-use Rattle.written_kernel.specs.Doors.{new_door, created, create, call_refusal, new_call, with_new_call, call_unless, call_object, call, client, parked, returned_to, return_for, return, invocation, accept_call, accept, answered, collect_at, collect_call, collect}
+use Rattle.written_kernel.specs.Doors.{new_door, create_at, create, call_refusal, new_call, with_new_call, call_unless, call_object, call, client, park, return_to, return_for, return, new_invocation, accept_call, accept, answer_call, collect_at, collect_call, collect}
 use Rattle.written_kernel.specs.Leaving.{is_last, end_thread, end_process, exit, is_owned, ended_call, with_ended, with_ended_calls, with_closed_table, with_ended_process, with_ended_threads}
 use Rattle.written_kernel.specs.Settle.{give_call, give_notice, give_item, give_to, give_each, settle}
-use Rattle.written_kernel.specs.Step.{enter, go_on, act, counted, step}
+use Rattle.written_kernel.specs.Step.{enter, go_on, act, with_event_counted, step}
 use Rattle.written_kernel.specs.Opening.{IsOpening}
-use Rattle.written_kernel.specs.Runs.{Turn, turned, state_after}
+use Rattle.written_kernel.specs.Runs.{Turn, state_after_turn, state_after}
 use Rattle.written_kernel.proofs.Lists.{numbered_push, numbered_within, map-map_same, same_length, same_numbered}
 use Rattle.written_kernel.proofs.Steps.{ThreadIdentity, thread_identity, ProcessIdentity, process_identity, step-keeps}
 use Rattle.written_kernel.proofs.Opening.{opened}
@@ -48,19 +33,19 @@ door_number d = d.number
 
 -- each item has the number of its place
 abbrev pub IsInOrder : {X : Type 0} → (X → ℕ) → List X → Type 0
-IsInOrder {X} f xs = (k : ℕ) (x : X) → numbered xs k ≡ Some x → f x ≡ k
+IsInOrder {X} f xs = (k : ℕ) (x : X) → at_number xs k ≡ Some x → f x ≡ k
 
 order_same : {X : Type 0} (f : X → ℕ) (xs ys : List X) → map f ys ≡ map f xs → IsInOrder f xs → IsInOrder f ys
-order_same f xs ys e h k x p = go (numbered xs k) refl (sym (ap (option_map f) p) ∙ same_numbered f ys xs k e)
+order_same f xs ys e h k x p = go (at_number xs k) refl (sym (ap (option_map f) p) ∙ same_numbered f ys xs k e)
   where
-    go : (o : Option _) → numbered xs k ≡ o → Some (f x) ≡ option_map f o → f x ≡ k
+    go : (o : Option _) → at_number xs k ≡ o → Some (f x) ≡ option_map f o → f x ≡ k
     go None q r = cc
     go (Some y) q r = let same : f x ≡ f y = cc in same ∙ h k y q
 
 order_push : {X : Type 0} (f : X → ℕ) (xs : List X) (x : X) → f x ≡ length xs + 1 → IsInOrder f xs → IsInOrder f (xs ++ x ∷ [])
 order_push f xs x e h k y p = go (k == length xs + 1) refl (sym (numbered_push xs x k) ∙ p)
   where
-    go : (b : Bool) → (k == length xs + 1) ≡ b → (if b then Some x else numbered xs k) ≡ Some y → f y ≡ k
+    go : (b : Bool) → (k == length xs + 1) ≡ b → (if b then Some x else at_number xs k) ≡ Some y → f y ≡ k
     go true t q =
         let there : length xs + 1 ≡ k = grind (arith, nat_tests) in
         let same : x ≡ y = cc in
@@ -109,13 +94,13 @@ with_invocation-numbers m t v = go (thread_of m t)
     go None = same_numbers m
     go (Some x) = record { calls_made = refl; calls = refl; doors = refl }
 
-replaced_number : (rs : List Call) (c : ℕ) (x : Call) → x.number ≡ c → map call_number (replaced rs c x) ≡ map call_number rs
+replaced_number : (rs : List Call) (c : ℕ) (x : Call) → x.number ≡ c → map call_number (with_live_call rs c x) ≡ map call_number rs
 replaced_number [] c x e = refl
 replaced_number (y ∷ ys) c x e = go (is_call c y) refl (replaced_number ys c x e)
   where
     go :
-        (b : Bool) → is_call c y ≡ b → map call_number (replaced ys c x) ≡ map call_number ys →
-        map call_number (if b then x ∷ ys else y ∷ replaced ys c x) ≡ map call_number (y ∷ ys)
+        (b : Bool) → is_call c y ≡ b → map call_number (with_live_call ys c x) ≡ map call_number ys →
+        map call_number (if b then x ∷ ys else y ∷ with_live_call ys c x) ≡ map call_number (y ∷ ys)
     go true f ih =
         let here : y.number ≡ c = grind (arith, nat_tests) in
         ap (λ n. n ∷ map call_number ys) (e ∙ sym here)
@@ -156,23 +141,23 @@ await-numbers m t path = go (name_of m path)
     go (Some n) = same_numbers m
     go None = with_state-numbers m t (is.Awaiting path)
 
-parked-numbers : (m : State) (t : ℕ) → SameNumbers m (parked m t)
-parked-numbers m t =
+park-numbers : (m : State) (t : ℕ) → SameNumbers m (park m t)
+park-numbers m t =
     numbers_then (with_invocation-numbers m t None) (with_state-numbers (with_invocation m t None) t (is.Idle (now m)))
 
 return-numbers : (m : State) (t : ℕ) (bytes : List ℕ) → SameNumbers m (return m t bytes).state
 return-numbers m t bytes = go (client m t)
   where
-    unless : (r : Call) (b : Bool) → SameNumbers m (if b then refused m E2BIG else returned_to m t bytes r).state
+    unless : (r : Call) (b : Bool) → SameNumbers m (if b then refused_act m E2BIG else return_to m t bytes r).state
     unless r true = same_numbers m
     unless r false =
         numbers_then
-        (with_call-numbers m r.number (moved_on r (stage.Returned bytes [])) refl)
-        (parked-numbers (with_call m r.number (moved_on r (stage.Returned bytes []))) t)
+        (with_call-numbers m r.number (without_arguments_at r (stage.Returned bytes [])) refl)
+        (park-numbers (with_call m r.number (without_arguments_at r (stage.Returned bytes []))) t)
 
     go : (o : Option Call) → SameNumbers m (return_for m t bytes o).state
     go (Some r) = unless r (nat_lt 4096 (length bytes))
-    go None = parked-numbers m t
+    go None = park-numbers m t
 
 accept-numbers : (m : State) (t : ℕ) (i : Item) → SameNumbers m (accept m t i).state
 accept-numbers m t (item.Call c) = go (call_of m c)
@@ -182,12 +167,12 @@ accept-numbers m t (item.Call c) = go (call_of m c)
     go (Some r) =
         numbers_then
         (numbers_then
-        (with_call-numbers m r.number (moved_on r (stage.Entered (tid t))) refl)
-        (with_invocation-numbers (with_call m r.number (moved_on r (stage.Entered (tid t)))) t
-        (Some (invocation (item.Call r.number)))))
+        (with_call-numbers m r.number (without_arguments_at r (stage.Entered (tid t))) refl)
+        (with_invocation-numbers (with_call m r.number (without_arguments_at r (stage.Entered (tid t)))) t
+        (Some (new_invocation (item.Call r.number)))))
         (with_state-numbers
-        (with_invocation (with_call m r.number (moved_on r (stage.Entered (tid t)))) t
-        (Some (invocation (item.Call r.number))))
+        (with_invocation (with_call m r.number (without_arguments_at r (stage.Entered (tid t)))) t
+        (Some (new_invocation (item.Call r.number))))
         t
         is.Running)
 accept-numbers m t (item.Notice n) = same_numbers m
@@ -195,11 +180,11 @@ accept-numbers m t (item.Notice n) = same_numbers m
 collect-numbers : (m : State) (t c : ℕ) → SameNumbers m (collect m t c).state
 collect-numbers m t c = go (call_of m c)
   where
-    done : (r : Call) → SameNumbers m (answered m t r)
+    done : (r : Call) → SameNumbers m (answer_call m t r)
     done r =
         numbers_then
-        (with_call-numbers m r.number (moved_on r (stage.Answered (now m))) refl)
-        (with_state-numbers (with_call m r.number (moved_on r (stage.Answered (now m)))) t is.Running)
+        (with_call-numbers m r.number (without_arguments_at r (stage.Answered (now m))) refl)
+        (with_state-numbers (with_call m r.number (without_arguments_at r (stage.Answered (now m)))) t is.Running)
 
     at : (r : Call) (s : CallStage) → SameNumbers m (collect_at m t r s).state
     at r (stage.Returned bytes objects) = done r
@@ -211,16 +196,16 @@ collect-numbers m t c = go (call_of m c)
     go (Some r) = at r r.stage
 
 with_ended_process-numbers : (m : State) (p : ℕ) → SameNumbers m (with_ended_process m p)
-with_ended_process-numbers m p = go (numbered m.processes p)
+with_ended_process-numbers m p = go (at_number m.processes p)
   where
     go : (o : Option Process) → SameNumbers m (with_ended m p o)
     go None = same_numbers m
     go (Some x) = record { calls_made = refl; calls = refl; doors = refl }
 
 ended_number : (doors : List Door) (p : ℕ) (r : Call) → call_number (ended_call doors p r) ≡ call_number r
-ended_number doors p r = go (is_queued r.stage && is_owned p (numbered doors r.door))
+ended_number doors p r = go (is_queued r.stage && is_owned p (at_number doors r.door))
   where
-    go : (b : Bool) → call_number (if b then moved_on r (stage.Ended EBADF) else r) ≡ call_number r
+    go : (b : Bool) → call_number (if b then without_arguments_at r (stage.Ended EBADF) else r) ≡ call_number r
     go true = refl
     go false = refl
 
@@ -253,7 +238,7 @@ create-listed :
     (m : State) (p entry cookie : ℕ) (attrs : Attrs) → IsListed m → IsListed (create m p entry cookie attrs).state
 create-listed m p entry cookie attrs l = go (lowest_free (table_of m p))
   where
-    go : (o : Option ℕ) → IsListed (created m p (new_door m p entry cookie attrs) o).state
+    go : (o : Option ℕ) → IsListed (create_at m p (new_door m p entry cookie attrs) o).state
     go None = l
     go (Some place) =
         record {
@@ -314,7 +299,7 @@ give_item-numbers m (item.Call c) u = go (call_of m c)
     go : (o : Option Call) → SameNumbers m (give_call m u o)
     go None = same_numbers m
     go (Some r) = with_call-numbers m r.number (at_stage r (stage.Given (tid u))) refl
-give_item-numbers m (item.Notice n) u = go (numbered m.notices n)
+give_item-numbers m (item.Notice n) u = go (at_number m.notices n)
   where
     go : (o : Option Notice) → SameNumbers m (give_notice m n u o)
     go None = same_numbers m
@@ -335,7 +320,7 @@ give_each-numbers m (w ∷ ws) =
     (give_each-numbers (give_to m w (pick m (pool_of m w.door))) ws)
 
 pub settle-listed : (m : State) → IsListed m → IsListed (settle m)
-settle-listed m l = listed_same (give_each-numbers m (waits m)) l
+settle-listed m l = listed_same (give_each-numbers m (waiting_items m)) l
 
 -- steps and runs
 
@@ -343,7 +328,7 @@ pub step-listed : (m : State) (t : ℕ) (r : Option Request) → IsListed m → 
 unfolding step
 step-listed m t r l = listed_same counts (settle-listed (act m t r).state (act-listed m t r l))
   where
-    counts : SameNumbers (settle (act m t r).state) (counted (settle (act m t r).state))
+    counts : SameNumbers (settle (act m t r).state) (with_event_counted (settle (act m t r).state))
     counts = record { calls_made = refl; calls = refl; doors = refl }
 
 pub opening-listed : {m : State} → IsOpening m → IsListed m
@@ -354,12 +339,12 @@ opening-listed {m} h =
       doors = subst (IsInOrder door_number) (sym (opened h).doors) (λ k x e. absurd (none k x e));
     }
   where
-    none : {X : Type 0} (k : ℕ) (x : X) → numbered [] k ≡ Some x → ⊥
+    none : {X : Type 0} (k : ℕ) (x : X) → at_number [] k ≡ Some x → ⊥
     none {X} k x e = let w : (1 ≤ k) × (k ≤ 0) = numbered_within [] k x e in omega arith
 
 pub state_after-listed : (m : State) (xs : List Turn) → IsListed m → IsListed (state_after m xs)
 state_after-listed m [] l = l
-state_after-listed m (x ∷ xs) l = state_after-listed (turned m x) xs (step-listed m x.thread x.request l)
+state_after-listed m (x ∷ xs) l = state_after-listed (state_after_turn m x) xs (step-listed m x.thread x.request l)
 
 -- after every event no pool has both a waiting call and an idle thread
 pub no_pool_has_both-step :
@@ -385,9 +370,9 @@ process_number x = x.number
 order_by :
     {X Y : Type 0} (g : X → Y) (n : Y → ℕ) (xs ys : List X) → map g ys ≡ map g xs → IsInOrder (λ x. n (g x)) xs →
     IsInOrder (λ x. n (g x)) ys
-order_by g n xs ys e h k x p = go (numbered xs k) refl (sym (ap (option_map g) p) ∙ same_numbered g ys xs k e)
+order_by g n xs ys e h k x p = go (at_number xs k) refl (sym (ap (option_map g) p) ∙ same_numbered g ys xs k e)
   where
-    go : (o : Option _) → numbered xs k ≡ o → Some (g x) ≡ option_map g o → n (g x) ≡ k
+    go : (o : Option _) → at_number xs k ≡ o → Some (g x) ≡ option_map g o → n (g x) ≡ k
     go None q r = cc
     go (Some y) q r = let same : g x ≡ g y = cc in ap n same ∙ h k y q
 
@@ -418,7 +403,7 @@ still_none_has_both : (m : State) (xs : List Turn) → IsListed m → NoPoolHasB
 still_none_has_both m [] l h = h
 still_none_has_both m (x ∷ xs) l h =
     still_none_has_both
-    (turned m x)
+    (state_after_turn m x)
     xs
     (step-listed m x.thread x.request l)
     (no_pool_has_both-step m x.thread x.request l)

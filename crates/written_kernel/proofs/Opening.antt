@@ -2,21 +2,18 @@
 use Rattle.std.proofs.Common.{◌≡◌, ◌≤◌, flat_map, filter, ℕ, zero, suc, ◌+◌, ◌==◌, Bool, true, false, if◌then◌else◌, List, [], ◌∷◌, ◌++◌, Option, None, Some, option_map, unwrap_or, length, map, slice_get, refl, sym, subst, ap, ap₂, ◌∙◌, ◌⊎◌, inl, inr, ⊎_elim, arith}
 use Rattle.std.proofs.lemmas.Bool.Decides.{nat_tests}
 use Rattle.std.proofs.lemmas.List.{length-map, map-append}
-use Rattle.dk_base.specs.declared.number.Fd.{Fd}
-use Rattle.dk_base.specs.declared.object.Obj.{Obj}
-use Rattle.dk_base.specs.declared.record.Process.{Process}
+use Rattle.written_kernel.specs.Types.{Fd, Obj, Process, Thread}
 use Rattle.dk_base.specs.declared.record.ProcessStage.TheVariants.{Live}
-use Rattle.dk_base.specs.declared.record.Thread.{Thread}
 use Rattle.dk_base.specs.declared.record.ThreadState.TheVariants as is
-use Rattle.written_kernel.specs.Numbered.{numbered}
+use Rattle.dk_base.specs.ByNumber.{at_number}
 use Rattle.written_kernel.specs.State.{State, thread_of, state_in, state_of, invocation_in, invocation_of, bound_in, bound_of, object_in, object_at}
-use Rattle.written_kernel.specs.Pools.{with_notices, waiting_call, is_queued_call, waiting_notice, is_waiting_notice, waits}
+use Rattle.written_kernel.specs.Pools.{with_notices, waiting_call, is_queued_call, waiting_notice, is_waiting_notice, waiting_items}
 use Rattle.written_kernel.specs.Walks.{walk, root}
-use Rattle.written_kernel.specs.References.{in_table, named, in_call, holdings}
+use Rattle.written_kernel.specs.References.{objects_in_table, named_object, objects_in_call, holdings}
 use Rattle.written_kernel.specs.Kept.{is_live_call, forget}
 use Rattle.written_kernel.specs.Opening.{new_process, empty_table, no_process, with_new_process, with_processes, opening_state, new_thread, with_new_thread, IsOpening}
 use Rattle.written_kernel.specs.Opening.IsOpening.{processes, thread}
-use Rattle.written_kernel.proofs.Lists.{numbered_push, numbered-map, numbered_within}
+use Rattle.written_kernel.proofs.Lists.{numbered_push, at_number-map, numbered_within}
 
 pub record IsOpeningProcess (p : ℕ) (x : Process) : Type 0 where
   pub number : x.number ≡ p
@@ -36,7 +33,7 @@ abbrev pub unbound : Thread → Option ℕ
 unbound x = None
 
 pub record IsOpened (m : State) : Type 0 where
-  pub processes : (p : ℕ) (x : Process) → numbered m.processes p ≡ Some x → IsOpeningProcess p x
+  pub processes : (p : ℕ) (x : Process) → at_number m.processes p ≡ Some x → IsOpeningProcess p x
   pub tables : m.tables ≡ map opening_table m.processes
   pub threads : (t : ℕ) (x : Thread) → thread_of m t ≡ Some x → IsOpeningThread t x
   pub bound : m.bound ≡ map unbound m.threads
@@ -50,11 +47,11 @@ pub record IsOpened (m : State) : Type 0 where
 
 -- what holds of each number holds with one item more, if it holds of that
 still_each :
-    {X : Type 0} (P : ℕ → X → Type 0) (xs : List X) (y : X) → ((k : ℕ) (x : X) → numbered xs k ≡ Some x → P k x) →
-    P (length xs + 1) y → (k : ℕ) (x : X) → numbered (xs ++ y ∷ []) k ≡ Some x → P k x
+    {X : Type 0} (P : ℕ → X → Type 0) (xs : List X) (y : X) → ((k : ℕ) (x : X) → at_number xs k ≡ Some x → P k x) →
+    P (length xs + 1) y → (k : ℕ) (x : X) → at_number (xs ++ y ∷ []) k ≡ Some x → P k x
 still_each P xs y h here k x e = go (k == length xs + 1) refl (sym (numbered_push xs y k) ∙ e)
   where
-    go : (b : Bool) → (k == length xs + 1) ≡ b → (if b then Some y else numbered xs k) ≡ Some x → P k x
+    go : (b : Bool) → (k == length xs + 1) ≡ b → (if b then Some y else at_number xs k) ≡ Some x → P k x
     go true t f =
         let there : length xs + 1 ≡ k = grind (arith, nat_tests) in
         let it : y ≡ x = cc in
@@ -77,7 +74,7 @@ no_process-opened =
       events = refl;
     }
   where
-    none : {X : Type 0} (k : ℕ) (x : X) → numbered [] k ≡ Some x → ⊥
+    none : {X : Type 0} (k : ℕ) (x : X) → at_number [] k ≡ Some x → ⊥
     none {X} k x e = let w : (1 ≤ k) × (k ≤ 0) = numbered_within [] k x e in omega arith
 
 with_new_process-opened : (m : State) (limit : ℕ) → IsOpened m → IsOpened (with_new_process m limit)
@@ -157,7 +154,7 @@ state_of-opening {m} h t = go (thread_of m t) refl
     go (Some x) e = ⊎_elim inl (λ d. inr (inl d)) ((opened h).threads t x e).state
 
 pub bound_of-opening : {m : State} → IsOpening m → (t : ℕ) → bound_of m t ≡ None
-bound_of-opening {m} h t = ap (λ bs. bound_in (numbered bs t)) (opened h).bound ∙ ap bound_in (numbered-map unbound m.threads t) ∙ go (thread_of m t)
+bound_of-opening {m} h t = ap (λ bs. bound_in (at_number bs t)) (opened h).bound ∙ ap bound_in (at_number-map unbound m.threads t) ∙ go (thread_of m t)
   where
     go : (o : Option Thread) → bound_in (option_map unbound o) ≡ None
     go None = refl
@@ -170,8 +167,8 @@ empty_row (suc n) (suc k) = empty_row n k
 
 pub object_at-opening : {m : State} → IsOpening m → (p : ℕ) (fd : Fd) → object_at m p fd ≡ None
 object_at-opening {m} h p fd =
-    ap (λ ts. object_in (slice_get (unwrap_or (numbered ts p) []) fd.0)) (opened h).tables
-    ∙ ap (λ o. object_in (slice_get (unwrap_or o []) fd.0)) (numbered-map opening_table m.processes p) ∙ go (numbered m.processes p)
+    ap (λ ts. object_in (slice_get (unwrap_or (at_number ts p) []) fd.0)) (opened h).tables
+    ∙ ap (λ o. object_in (slice_get (unwrap_or o []) fd.0)) (at_number-map opening_table m.processes p) ∙ go (at_number m.processes p)
   where
     go : (o : Option Process) → object_in (slice_get (unwrap_or (option_map opening_table o) []) fd.0) ≡ None
     go None = refl
@@ -183,19 +180,19 @@ root-opening {m} h t = ap (λ n. walk n m t) (opened h).calls_made
 pub forget-opening : {m : State} → IsOpening m → forget m ≡ m
 forget-opening {m} h = ap (λ rs. record m { calls = filter is_live_call rs }) (opened h).calls ∙ sym (ap (λ rs. record m { calls = rs }) (opened h).calls)
 
-pub waits-opening : {m : State} → IsOpening m → waits m ≡ []
-waits-opening {m} h = ap₂ (λ rs ns. with_notices (map waiting_call (filter is_queued_call rs)) (map waiting_notice (filter is_waiting_notice ns))) (opened h).calls (opened h).notices
+pub waiting_items-opening : {m : State} → IsOpening m → waiting_items m ≡ []
+waiting_items-opening {m} h = ap₂ (λ rs ns. with_notices (map waiting_call (filter is_queued_call rs)) (map waiting_notice (filter is_waiting_notice ns))) (opened h).calls (opened h).notices
 
-in_empty_table : (n : ℕ) → in_table (empty_table n) ≡ []
+in_empty_table : (n : ℕ) → objects_in_table (empty_table n) ≡ []
 in_empty_table zero = refl
 in_empty_table (suc n) = in_empty_table n
 
-in_empty_tables : (ps : List Process) → flat_map in_table (map opening_table ps) ≡ []
+in_empty_tables : (ps : List Process) → flat_map objects_in_table (map opening_table ps) ≡ []
 in_empty_tables [] = refl
 in_empty_tables (x ∷ xs) = ap₂ (λ os us. os ++ us) (in_empty_table x.limit) (in_empty_tables xs)
 
 -- nothing is held
 pub holdings-opening : {m : State} → IsOpening m → holdings m ≡ []
 holdings-opening {m} h =
-    ap₂ (λ us rs. us ++ flat_map in_call rs) (ap₂ (λ ts ns. flat_map in_table ts ++ map named ns) (opened h).tables (opened h).names) (opened h).calls
+    ap₂ (λ us rs. us ++ flat_map objects_in_call rs) (ap₂ (λ ts ns. flat_map objects_in_table ts ++ map named_object ns) (opened h).tables (opened h).names) (opened h).calls
     ∙ ap (λ os. os ++ [] ++ []) (in_empty_tables m.processes)

@@ -4,7 +4,7 @@ use Rattle.std.proofs.lemmas.Option.{slice_get_within}
 use Rattle.written_kernel.specs.State.{State, process_of}
 use Rattle.written_kernel.specs.Step.{event_of}
 use Rattle.written_kernel.specs.Legal.{MayTurn}
-use Rattle.written_kernel.specs.Runs.{Turn, turned, state_after, state_at, events_of, IsRun}
+use Rattle.written_kernel.specs.Runs.{Turn, state_after_turn, state_after, state_at, events_of, IsRun}
 use Rattle.written_kernel.proofs.Lists.{Extends, Extends-same, Extends-then}
 use Rattle.written_kernel.proofs.Steps.{events-step, threads-step, process_of-step, names-step, doors-step}
 
@@ -12,28 +12,28 @@ use Rattle.written_kernel.proofs.Steps.{events-step, threads-step, process_of-st
 
 pub state_after-append : (m : State) (xs ys : List Turn) → state_after m (xs ++ ys) ≡ state_after (state_after m xs) ys
 state_after-append m [] ys = refl
-state_after-append m (x ∷ xs) ys = state_after-append (turned m x) xs ys
+state_after-append m (x ∷ xs) ys = state_after-append (state_after_turn m x) xs ys
 
 pub events_of-append :
     (m : State) (xs ys : List Turn) → events_of m (xs ++ ys) ≡ events_of m xs ++ events_of (state_after m xs) ys
 events_of-append m [] ys = refl
-events_of-append m (x ∷ xs) ys = ap (λ es. event_of m x.thread x.request ∷ es) (events_of-append (turned m x) xs ys)
+events_of-append m (x ∷ xs) ys = ap (λ es. event_of m x.thread x.request ∷ es) (events_of-append (state_after_turn m x) xs ys)
 
 pub IsRun-append : (m : State) (xs ys : List Turn) → IsRun m xs → IsRun (state_after m xs) ys → IsRun m (xs ++ ys)
 IsRun-append m [] ys h k = k
-IsRun-append m (x ∷ xs) ys h k = (h.0, IsRun-append (turned m x) xs ys h.1 k)
+IsRun-append m (x ∷ xs) ys h k = (h.0, IsRun-append (state_after_turn m x) xs ys h.1 k)
 
 pub IsRun_front : (m : State) (xs ys : List Turn) → IsRun m (xs ++ ys) → IsRun m xs
 IsRun_front m [] ys h = tt
-IsRun_front m (x ∷ xs) ys h = (h.0, IsRun_front (turned m x) xs ys h.1)
+IsRun_front m (x ∷ xs) ys h = (h.0, IsRun_front (state_after_turn m x) xs ys h.1)
 
 pub IsRun_rest : (m : State) (xs ys : List Turn) → IsRun m (xs ++ ys) → IsRun (state_after m xs) ys
 IsRun_rest m [] ys h = h
-IsRun_rest m (x ∷ xs) ys h = IsRun_rest (turned m x) xs ys h.1
+IsRun_rest m (x ∷ xs) ys h = IsRun_rest (state_after_turn m x) xs ys h.1
 
 -- one turn more
 
-pub state_after_push : (m : State) (xs : List Turn) (x : Turn) → state_after m (xs ++ x ∷ []) ≡ turned (state_after m xs) x
+pub state_after_push : (m : State) (xs : List Turn) (x : Turn) → state_after m (xs ++ x ∷ []) ≡ state_after_turn (state_after m xs) x
 state_after_push m xs x = state_after-append m xs (x ∷ [])
 
 pub events_of_push :
@@ -50,27 +50,27 @@ IsRun_push m xs x h k = IsRun-append m xs (x ∷ []) h (k, tt)
 
 pub length-events_of : (m : State) (xs : List Turn) → length (events_of m xs) ≡ length xs
 length-events_of m [] = refl
-length-events_of m (x ∷ xs) = ap suc (length-events_of (turned m x) xs)
+length-events_of m (x ∷ xs) = ap suc (length-events_of (state_after_turn m x) xs)
 
 pub events-state_after : (m : State) (xs : List Turn) → (state_after m xs).events ≡ m.events + length xs
 events-state_after m [] = omega arith
-events-state_after m (x ∷ xs) = omega (arith, events-state_after (turned m x) xs, events-step m x.thread x.request)
+events-state_after m (x ∷ xs) = omega (arith, events-state_after (state_after_turn m x) xs, events-step m x.thread x.request)
 
 pub threads-state_after : (m : State) (xs : List Turn) → length (state_after m xs).threads ≡ length m.threads
 threads-state_after m [] = refl
-threads-state_after m (x ∷ xs) = threads-state_after (turned m x) xs ∙ threads-step m x.thread x.request
+threads-state_after m (x ∷ xs) = threads-state_after (state_after_turn m x) xs ∙ threads-step m x.thread x.request
 
 pub process_of-state_after : (m : State) (xs : List Turn) (t : ℕ) → process_of (state_after m xs) t ≡ process_of m t
 process_of-state_after m [] t = refl
-process_of-state_after m (x ∷ xs) t = process_of-state_after (turned m x) xs t ∙ process_of-step m x.thread t x.request
+process_of-state_after m (x ∷ xs) t = process_of-state_after (state_after_turn m x) xs t ∙ process_of-step m x.thread t x.request
 
 pub doors-state_after : (m : State) (xs : List Turn) → Extends m.doors (state_after m xs).doors
 doors-state_after m [] = Extends-same m.doors m.doors refl
-doors-state_after m (x ∷ xs) = Extends-then (doors-step m x.thread x.request) (doors-state_after (turned m x) xs)
+doors-state_after m (x ∷ xs) = Extends-then (doors-step m x.thread x.request) (doors-state_after (state_after_turn m x) xs)
 
 pub names-state_after : (m : State) (xs : List Turn) → Extends m.names (state_after m xs).names
 names-state_after m [] = Extends-same m.names m.names refl
-names-state_after m (x ∷ xs) = Extends-then (names-step m x.thread x.request) (names-state_after (turned m x) xs)
+names-state_after m (x ∷ xs) = Extends-then (names-step m x.thread x.request) (names-state_after (state_after_turn m x) xs)
 
 -- the states on the way
 
@@ -82,14 +82,14 @@ events-state_at m xs i h = events-state_after m (take i xs) ∙ omega (arith, le
 
 state_at_suc :
     (m : State) (xs : List Turn) (i : ℕ) (x : Turn) → slice_get xs i ≡ Some x →
-    state_at m xs (suc i) ≡ turned (state_at m xs i) x
+    state_at m xs (suc i) ≡ state_after_turn (state_at m xs i) x
 state_at_suc m [] i x e = cc
-state_at_suc m (y ∷ ys) zero x e = let k : y ≡ x = cc in ap (turned m) k
-state_at_suc m (y ∷ ys) (suc i) x e = state_at_suc (turned m y) ys i x e
+state_at_suc m (y ∷ ys) zero x e = let k : y ≡ x = cc in ap (state_after_turn m) k
+state_at_suc m (y ∷ ys) (suc i) x e = state_at_suc (state_after_turn m y) ys i x e
 
 pub state_at_more :
     (m : State) (xs : List Turn) (i : ℕ) (x : Turn) → slice_get xs i ≡ Some x →
-    state_at m xs (i + 1) ≡ turned (state_at m xs i) x
+    state_at m xs (i + 1) ≡ state_after_turn (state_at m xs i) x
 state_at_more m xs i x e = ap (state_at m xs) (add-one i) ∙ state_at_suc m xs i x e
 
 pub slice_get-events_of :
@@ -97,7 +97,7 @@ pub slice_get-events_of :
     slice_get (events_of m xs) i ≡ Some (event_of (state_at m xs i) x.thread x.request)
 slice_get-events_of m [] i x e = cc
 slice_get-events_of m (y ∷ ys) zero x e = let k : y ≡ x = cc in ap (λ z. Some (event_of m z.thread z.request)) k
-slice_get-events_of m (y ∷ ys) (suc i) x e = slice_get-events_of (turned m y) ys i x e
+slice_get-events_of m (y ∷ ys) (suc i) x e = slice_get-events_of (state_after_turn m y) ys i x e
 
 -- each turn of a run is one that its thread may take then
 pub MayTurn_at :
@@ -105,7 +105,7 @@ pub MayTurn_at :
     MayTurn (state_at m xs i) x.thread x.request
 MayTurn_at m [] i x h e = absurd (cc)
 MayTurn_at m (y ∷ ys) zero x h e = let k : y ≡ x = cc in subst (λ z. MayTurn m z.thread z.request) k h.0
-MayTurn_at m (y ∷ ys) (suc i) x h e = MayTurn_at (turned m y) ys i x h.1 e
+MayTurn_at m (y ∷ ys) (suc i) x h e = MayTurn_at (state_after_turn m y) ys i x h.1 e
 
 pub IsRun-take : (m : State) (xs : List Turn) (i : ℕ) → IsRun m xs → IsRun m (take i xs)
 IsRun-take m xs i h = IsRun_front m (take i xs) (drop i xs) (subst (IsRun m) (sym (take-append-drop i xs)) h)

@@ -2,40 +2,24 @@
 -- only grow.
 use Rattle.std.proofs.Common.{◌≡◌, ℕ, ◌+◌, ◌==◌, Bool, true, false, if◌then◌else◌, nat_lt, List, [], ◌∷◌, Option, None, Some, option_map, length, map, slice_set, unwrap_or, refl, sym, ap, ◌∙◌, length-set}
 use Rattle.std.proofs.lemmas.List.{length-map}
-use Rattle.dk_base.specs.declared.number.Pid.{Pid}
-use Rattle.dk_base.specs.declared.number.Fd.{Fd}
-use Rattle.dk_base.specs.declared.number.PathId.{PathId}
-use Rattle.dk_base.specs.declared.set.Attrs.{Attrs}
-use Rattle.dk_base.specs.declared.error.Errno.{Errno}
+use Rattle.written_kernel.specs.Types.{Attrs, Call, CallStage, Door, Errno, Fd, Inv, Item, Name, Notice, Obj, PathId, Pid, Process, Request, Thread, ThreadState}
 use Rattle.dk_base.specs.declared.error.Errno.TheVariants.{E2BIG}
-use Rattle.dk_base.specs.declared.object.Obj.{Obj}
 use Rattle.dk_base.specs.declared.object.Obj.TheVariants as obj
-use Rattle.dk_base.specs.declared.object.Item.{Item}
 use Rattle.dk_base.specs.declared.object.Item.TheVariants as item
-use Rattle.dk_base.specs.declared.object.Inv.{Inv}
-use Rattle.dk_base.specs.declared.request.Request.{Request}
 use Rattle.dk_base.specs.declared.request.Request.TheVariants as request
-use Rattle.dk_base.specs.declared.record.ThreadState.{ThreadState}
 use Rattle.dk_base.specs.declared.record.ThreadState.TheVariants as is
-use Rattle.dk_base.specs.declared.record.Process.{Process}
-use Rattle.dk_base.specs.declared.record.Thread.{Thread}
-use Rattle.dk_base.specs.declared.record.Door.{Door}
-use Rattle.dk_base.specs.declared.record.Name.{Name}
-use Rattle.dk_base.specs.declared.record.Notice.{Notice}
-use Rattle.dk_base.specs.declared.record.Call.{Call}
-use Rattle.dk_base.specs.declared.record.CallStage.{CallStage}
 use Rattle.dk_base.specs.declared.record.CallStage.TheVariants as stage
-use Rattle.written_kernel.specs.Numbered.{numbered, renumbered}
-use Rattle.written_kernel.specs.State.{State, now, process_in, process_of, door_of, thread_of, state_of, table_of, object_at, with_row, is_name, name_of, with_state, with_state_in, with_invocation, with_invocation_in, with_call, call_of, ended_process}
-use Rattle.written_kernel.specs.Pools.{Parked, Waiting, waits, pool_of, pick}
-use Rattle.written_kernel.specs.Acts.{refused, lowest_free}
+use Rattle.dk_base.specs.ByNumber.{at_number, with_at_number}
+use Rattle.written_kernel.specs.State.{State, now, process_in, process_of, door_of, thread_of, state_of, table_of, object_at, with_row, has_path, name_of, with_state, with_state_in, with_invocation, with_invocation_in, with_call, call_of, ended_process}
+use Rattle.written_kernel.specs.Pools.{Parked, Waiting, waiting_items, pool_of, pick}
+use Rattle.written_kernel.specs.Acts.{refused_act, lowest_free}
 use Rattle.written_kernel.specs.Descriptors.{new_name, with_name, attach_unless, attach_object, attach, open_at, open_name, open_path, await_name, await}
-use Rattle.written_kernel.specs.Doors.{new_door, with_door, created, create, call_refusal, new_call, with_new_call, call_unless, call_object, call, client, parked, returned_to, return_for, return, accept_call, accept, answered, collect_at, collect_call, collect}
-use Rattle.written_kernel.specs.Leaving.{is_last, end_thread, end_process, exit, ended_thread, with_ended, with_closed_table, with_ended_process, with_ended_threads, closed}
+use Rattle.written_kernel.specs.Doors.{new_door, with_door, create_at, create, call_refusal, new_call, with_new_call, call_unless, call_object, call, client, park, return_to, return_for, return, accept_call, accept, answer_call, collect_at, collect_call, collect}
+use Rattle.written_kernel.specs.Leaving.{is_last, end_thread, end_process, exit, ended_thread, with_ended, with_closed_table, with_ended_process, with_ended_threads, free_row}
 use Rattle.written_kernel.specs.Settle.{give_call, give_notice, give_item, give_to, give_each, settle}
 use Rattle.written_kernel.specs.Step.{enter, go_on, act, step}
-pub use Rattle.written_kernel.proofs.Invocations.{invocation-step, invocation-step_entry}
-use Rattle.written_kernel.proofs.Lists.{same_length, same_numbered, numbered-extends, find-extends, map-renumbered, map-map_same, Extends, Extends-same, Extends-push, Extends-then}
+pub use Rattle.written_kernel.proofs.Invocations.{new_invocation-step, new_invocation-step_entry}
+use Rattle.written_kernel.proofs.Lists.{same_length, same_numbered, at_number-extends, find-extends, map-with_at_number, map-map_same, Extends, Extends-same, Extends-push, Extends-then}
 
 -- what of a thread and of a process never changes
 pub record ThreadIdentity : Type 0 where
@@ -128,10 +112,10 @@ calls_kept m n rs ns =
 
 set_thread-keeps :
     (m : State) (t : ℕ) (x z : Thread) → thread_of m t ≡ Some x → thread_identity z ≡ thread_identity x →
-    Keeps m (record m { threads = renumbered m.threads t z })
+    Keeps m (record m { threads = with_at_number m.threads t z })
 set_thread-keeps m t x z e same =
     threads_kept m _
-    (map-renumbered thread_identity m.threads t z
+    (map-with_at_number thread_identity m.threads t z
     (λ y h. let k : x ≡ y = cc in same ∙ ap thread_identity k))
 
 with_state-keeps : (m : State) (t : ℕ) (s : ThreadState) → Keeps m (with_state m t s)
@@ -151,7 +135,7 @@ with_invocation-keeps m t v = go (thread_of m t) refl
 with_row-keeps : (m : State) (p place : ℕ) (o : Obj) → Keeps m (with_row m p place o)
 with_row-keeps m p place o =
     tables_kept m _
-    (map-renumbered length m.tables p (slice_set (table_of m p) place (Some o))
+    (map-with_at_number length m.tables p (slice_set (table_of m p) place (Some o))
     (λ y h. length-set (table_of m p) place (Some o) ∙ ap (λ r. length (unwrap_or r [])) h))
 
 with_name-keeps : (m : State) (n : Name) → Keeps m (with_name m n)
@@ -216,7 +200,7 @@ await-keeps m t path = go (name_of m path)
 create-keeps : (m : State) (p entry cookie : ℕ) (attrs : Attrs) → Keeps m (create m p entry cookie attrs).state
 create-keeps m p entry cookie attrs = go (new_door m p entry cookie attrs) (lowest_free (table_of m p))
   where
-    go : (d : Door) (o : Option ℕ) → Keeps m (created m p d o).state
+    go : (d : Door) (o : Option ℕ) → Keeps m (create_at m p d o).state
     go d None = keeps_same m
     go d (Some place) = keeps_then (with_door-keeps m d) (with_row-keeps (with_door m d) p place (obj.Door d.number))
 
@@ -232,19 +216,19 @@ call-keeps m t p fd bytes rsize = go (object_at m p fd)
     go (Some (obj.Door d)) = unless (new_call m t d bytes rsize) (call_refusal m d bytes)
     go (Some _) = keeps_same m
 
-parked-keeps : (m : State) (t : ℕ) → Keeps m (parked m t)
-parked-keeps m t = keeps_then (with_invocation-keeps m t None) (with_state-keeps (with_invocation m t None) t (is.Idle (now m)))
+park-keeps : (m : State) (t : ℕ) → Keeps m (park m t)
+park-keeps m t = keeps_then (with_invocation-keeps m t None) (with_state-keeps (with_invocation m t None) t (is.Idle (now m)))
 
 return-keeps : (m : State) (t : ℕ) (bytes : List ℕ) → Keeps m (return m t bytes).state
 return-keeps m t bytes = go (client m t)
   where
-    unless : (r : Call) (b : Bool) → Keeps m (if b then refused m E2BIG else returned_to m t bytes r).state
+    unless : (r : Call) (b : Bool) → Keeps m (if b then refused_act m E2BIG else return_to m t bytes r).state
     unless r true = keeps_same m
-    unless r false = keeps_then (with_call-keeps m r.number _) (parked-keeps (with_call m r.number _) t)
+    unless r false = keeps_then (with_call-keeps m r.number _) (park-keeps (with_call m r.number _) t)
 
     go : (o : Option Call) → Keeps m (return_for m t bytes o).state
     go (Some r) = unless r (nat_lt 4096 (length bytes))
-    go None = parked-keeps m t
+    go None = park-keeps m t
 
 accept-keeps : (m : State) (t : ℕ) (i : Item) → Keeps m (accept m t i).state
 accept-keeps m t (item.Call c) = go (call_of m c)
@@ -260,7 +244,7 @@ accept-keeps m t (item.Notice n) = keeps_same m
 collect-keeps : (m : State) (t c : ℕ) → Keeps m (collect m t c).state
 collect-keeps m t c = go (call_of m c)
   where
-    done : (r : Call) → Keeps m (answered m t r)
+    done : (r : Call) → Keeps m (answer_call m t r)
     done r = keeps_then (with_call-keeps m r.number _) (with_state-keeps (with_call m r.number _) t is.Running)
 
     at : (r : Call) (s : CallStage) → Keeps m (collect_at m t r s).state
@@ -273,14 +257,14 @@ collect-keeps m t c = go (call_of m c)
     go (Some r) = at r r.stage
 
 with_ended_process-keeps : (m : State) (p : ℕ) → Keeps m (with_ended_process m p)
-with_ended_process-keeps m p = go (numbered m.processes p) refl
+with_ended_process-keeps m p = go (at_number m.processes p) refl
   where
-    go : (o : Option Process) → numbered m.processes p ≡ o → Keeps m (with_ended m p o)
+    go : (o : Option Process) → at_number m.processes p ≡ o → Keeps m (with_ended m p o)
     go None e = keeps_same m
     go (Some x) e =
         record {
           processes =
-              map-renumbered process_identity m.processes p (ended_process x)
+              map-with_at_number process_identity m.processes p (ended_process x)
               (λ y h. let k : x ≡ y = cc in ap process_identity k);
           threads = refl;
           bound = refl;
@@ -303,8 +287,8 @@ with_ended_threads-keeps m p = threads_kept m _ (map-map_same thread_identity (e
 with_closed_table-keeps : (m : State) (p : ℕ) → Keeps m (with_closed_table m p)
 with_closed_table-keeps m p =
     tables_kept m _
-    (map-renumbered length m.tables p (map closed (table_of m p))
-    (λ y h. length-map (table_of m p) closed ∙ ap (λ r. length (unwrap_or r [])) h))
+    (map-with_at_number length m.tables p (map free_row (table_of m p))
+    (λ y h. length-map (table_of m p) free_row ∙ ap (λ r. length (unwrap_or r [])) h))
 
 end_process-keeps : (m : State) (p : ℕ) → Keeps m (end_process m p)
 end_process-keeps m p =
@@ -349,7 +333,7 @@ give_item-keeps m (item.Call c) u = go (call_of m c)
     go : (o : Option Call) → Keeps m (give_call m u o)
     go None = keeps_same m
     go (Some r) = with_call-keeps m r.number _
-give_item-keeps m (item.Notice n) u = go (numbered m.notices n)
+give_item-keeps m (item.Notice n) u = go (at_number m.notices n)
   where
     go : (o : Option Notice) → Keeps m (give_notice m n u o)
     go None = keeps_same m
@@ -368,7 +352,7 @@ give_each-keeps m (w ∷ ws) =
     (give_each-keeps (give_to m w (pick m (pool_of m w.door))) ws)
 
 pub settle-keeps : (m : State) → Keeps m (settle m)
-settle-keeps m = give_each-keeps m (waits m)
+settle-keeps m = give_each-keeps m (waiting_items m)
 
 -- steps
 
@@ -429,7 +413,7 @@ thread_identity-step m t u r = same_numbered thread_identity (step m t r).state.
 
 pub process_identity-step :
     (m : State) (t p : ℕ) (r : Option Request) →
-    option_map process_identity (numbered (step m t r).state.processes p) ≡ option_map process_identity (numbered m.processes p)
+    option_map process_identity (at_number (step m t r).state.processes p) ≡ option_map process_identity (at_number m.processes p)
 process_identity-step m t p r =
     same_numbered process_identity (step m t r).state.processes m.processes p (step-keeps m t r).processes
 
@@ -449,9 +433,9 @@ process_of-step m t u r =
 
 pub door_of-step :
     (m : State) (t : ℕ) (r : Option Request) (d : ℕ) (x : Door) → door_of m d ≡ Some x → door_of (step m t r).state d ≡ Some x
-door_of-step m t r d x e = numbered-extends (doors-step m t r) d x e
+door_of-step m t r d x e = at_number-extends (doors-step m t r) d x e
 
 pub name_of-step :
     (m : State) (t : ℕ) (r : Option Request) (path : PathId) (n : Name) → name_of m path ≡ Some n →
     name_of (step m t r).state path ≡ Some n
-name_of-step m t r path n e = find-extends (names-step m t r) (is_name path) n e
+name_of-step m t r path n e = find-extends (names-step m t r) (has_path path) n e

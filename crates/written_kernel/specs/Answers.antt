@@ -1,5 +1,5 @@
 -- Answers by which an invocation begins.
-use Rattle.dk_base.specs.declared.answer.Answer.{Answer}
+use Rattle.written_kernel.specs.Types.{Answer}
 use Rattle.dk_base.specs.declared.answer.Answer.TheVariants as answer
 
 abbrev pub IsEntering : Answer → Type 0

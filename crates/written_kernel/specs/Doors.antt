@@ -1,24 +1,17 @@
 -- The acts of doors: door_create(3C), door_call(3C), door_return(3C), and the ends of the waits that a door call and a
 -- return begin.
 use Rattle.std.specs.Prelude.{ℕ, ◌+◌, ◌++◌, List, [], ◌∷◌, Option, false, if◌then◌else◌, Some, None, length, nat_le, nat_lt}
-use Rattle.dk_base.specs.declared.number.Fd.{Fd}
-use Rattle.dk_base.specs.declared.set.Attrs.{Attrs}
-use Rattle.dk_base.specs.declared.error.Errno.{Errno}
+use Rattle.written_kernel.specs.Types.{Attrs, Call, CallStage, Door, Errno, Fd, Inv, Item, Obj}
 use Rattle.dk_base.specs.declared.error.Errno.TheVariants.{E2BIG, EAGAIN, EBADF, EMFILE}
-use Rattle.dk_base.specs.declared.object.Obj.{Obj}
 use Rattle.dk_base.specs.declared.object.Obj.TheVariants as obj
-use Rattle.dk_base.specs.declared.object.Item.{Item}
 use Rattle.dk_base.specs.declared.object.Item.TheVariants as item
-use Rattle.dk_base.specs.declared.object.Inv.{Inv}
 use Rattle.dk_base.specs.declared.answer.Answer.TheVariants as answer
 use Rattle.dk_base.specs.declared.record.ThreadState.TheVariants as is
-use Rattle.dk_base.specs.declared.record.Door.{Door}
-use Rattle.dk_base.specs.declared.record.Call.{Call}
-use Rattle.dk_base.specs.declared.record.CallStage.{CallStage}
 use Rattle.dk_base.specs.declared.record.CallStage.TheVariants as stage
-use Rattle.written_kernel.specs.State.{State, now, pid, tid, descriptor, table_of, object_at, with_row, door_of, is_valid, call_of, with_call, moved_on, with_state, with_invocation, invocation_of}
+use Rattle.dk_base.specs.declared.limits.TheConstants.{DATA_MAX, QUEUE_MAX}
+use Rattle.written_kernel.specs.State.{State, now, pid, tid, descriptor, table_of, object_at, with_row, door_of, is_valid, call_of, with_call, without_arguments_at, with_state, with_invocation, invocation_of}
 use Rattle.written_kernel.specs.Pools.{pool_of, queue_length}
-use Rattle.written_kernel.specs.Acts.{Acted, refused, lowest_free, not_built}
+use Rattle.written_kernel.specs.Acts.{ActResult, refused_act, lowest_free, no_act}
 
 -- door_create: a door of the process under the next number, at the lowest descriptor that is free
 
@@ -40,20 +33,20 @@ new_door m p entry cookie attrs =
 abbrev pub with_door : State → Door → State
 with_door m d = record m { doors = m.doors ++ d ∷ [] }
 
-abbrev pub created : State → ℕ → Door → Option ℕ → Acted
-created m p d None = refused m EMFILE
-created m p d (Some place) =
+abbrev pub create_at : State → ℕ → Door → Option ℕ → ActResult
+create_at m p d None = refused_act m EMFILE
+create_at m p d (Some place) =
     record { state = with_row (with_door m d) p place (obj.Door d.number); answer = answer.NewFd (descriptor place) }
 
-abbrev pub create : State → ℕ → ℕ → ℕ → Attrs → Acted
-create m p entry cookie attrs = created m p (new_door m p entry cookie attrs) (lowest_free (table_of m p))
+abbrev pub create : State → ℕ → ℕ → ℕ → Attrs → ActResult
+create m p entry cookie attrs = create_at m p (new_door m p entry cookie attrs) (lowest_free (table_of m p))
 
 -- door_call: the refusals in order, and a call that waits for a server thread
 
 abbrev pub call_refusal : State → ℕ → List ℕ → Option Errno
 call_refusal m d bytes =
     if is_valid m d
-    then (if nat_lt 4096 (length bytes) then Some E2BIG else (if nat_le 32 (queue_length m (pool_of m d)) then Some EAGAIN else None))
+    then (if nat_lt DATA_MAX (length bytes) then Some E2BIG else (if nat_le QUEUE_MAX (queue_length m (pool_of m d)) then Some EAGAIN else None))
     else Some EBADF
 
 abbrev pub new_call : State → ℕ → ℕ → List ℕ → ℕ → Call
@@ -73,19 +66,19 @@ new_call m t d bytes rsize =
 abbrev pub with_new_call : State → Call → State
 with_new_call m r = record m { calls_made = r.number; calls = m.calls ++ r ∷ [] }
 
-abbrev pub called : State → ℕ → Call → Acted
-called m t r =
+abbrev pub open_call : State → ℕ → Call → ActResult
+open_call m t r =
     record { state = with_state (with_new_call m r) t (is.Calling r.number); answer = answer.WaitCall r.number }
 
-abbrev pub call_unless : State → ℕ → Call → Option Errno → Acted
-call_unless m t r (Some e) = refused m e
-call_unless m t r None = called m t r
+abbrev pub call_unless : State → ℕ → Call → Option Errno → ActResult
+call_unless m t r (Some e) = refused_act m e
+call_unless m t r None = open_call m t r
 
-abbrev pub call_object : State → ℕ → List ℕ → ℕ → Option Obj → Acted
+abbrev pub call_object : State → ℕ → List ℕ → ℕ → Option Obj → ActResult
 call_object m t bytes rsize (Some (obj.Door d)) = call_unless m t (new_call m t d bytes rsize) (call_refusal m d bytes)
-call_object m t bytes rsize _ = refused m EBADF
+call_object m t bytes rsize _ = refused_act m EBADF
 
-abbrev pub call : State → ℕ → ℕ → Fd → List ℕ → ℕ → Acted
+abbrev pub call : State → ℕ → ℕ → Fd → List ℕ → ℕ → ActResult
 call m t p fd bytes rsize = call_object m t bytes rsize (object_at m p fd)
 
 -- door_return: a client's call is Returned with the results, the invocation ends, and the thread is parked
@@ -106,19 +99,19 @@ client_in m (Some v) = client_item m v.item
 abbrev pub client : State → ℕ → Option Call
 client m t = client_in m (invocation_of m t)
 
-abbrev pub parked : State → ℕ → State
-parked m t = with_state (with_invocation m t None) t (is.Idle (now m))
+abbrev pub park : State → ℕ → State
+park m t = with_state (with_invocation m t None) t (is.Idle (now m))
 
-abbrev pub returned_to : State → ℕ → List ℕ → Call → Acted
-returned_to m t bytes r =
-    record { state = parked (with_call m r.number (moved_on r (stage.Returned bytes []))) t; answer = answer.Wait }
+abbrev pub return_to : State → ℕ → List ℕ → Call → ActResult
+return_to m t bytes r =
+    record { state = park (with_call m r.number (without_arguments_at r (stage.Returned bytes []))) t; answer = answer.Wait }
 
 -- results without a client are dropped
-abbrev pub return_for : State → ℕ → List ℕ → Option Call → Acted
-return_for m t bytes (Some r) = if nat_lt 4096 (length bytes) then refused m E2BIG else returned_to m t bytes r
-return_for m t bytes None = record { state = parked m t; answer = answer.Wait }
+abbrev pub return_for : State → ℕ → List ℕ → Option Call → ActResult
+return_for m t bytes (Some r) = if nat_lt DATA_MAX (length bytes) then refused_act m E2BIG else return_to m t bytes r
+return_for m t bytes None = record { state = park m t; answer = answer.Wait }
 
-abbrev pub return : State → ℕ → List ℕ → Acted
+abbrev pub return : State → ℕ → List ℕ → ActResult
 return m t bytes = return_for m t bytes (client m t)
 
 -- the end of the wait of a thread that was given a call: the invocation begins
@@ -131,42 +124,42 @@ abbrev pub cookie_of : Option Door → ℕ
 cookie_of None = 0
 cookie_of (Some d) = d.cookie
 
-abbrev pub invocation : Item → Inv
-invocation i = record { item = i; cancelled = false }
+abbrev pub new_invocation : Item → Inv
+new_invocation i = record { item = i; cancelled = false }
 
-abbrev pub entered : State → ℕ → Call → State
-entered m t r =
+abbrev pub enter_call : State → ℕ → Call → State
+enter_call m t r =
     with_state
-    (with_invocation (with_call m r.number (moved_on r (stage.Entered (tid t)))) t (Some (invocation (item.Call r.number))))
+    (with_invocation (with_call m r.number (without_arguments_at r (stage.Entered (tid t)))) t (Some (new_invocation (item.Call r.number))))
     t
     is.Running
 
-abbrev pub accept_call : State → ℕ → Option Call → Acted
-accept_call m t None = not_built m
+abbrev pub accept_call : State → ℕ → Option Call → ActResult
+accept_call m t None = no_act m
 accept_call m t (Some r) =
     record {
-      state = entered m t r;
+      state = enter_call m t r;
       answer = answer.Entered r.number (entry_of (door_of m r.door)) (cookie_of (door_of m r.door)) r.bytes [];
     }
 
-abbrev pub accept : State → ℕ → Item → Acted
+abbrev pub accept : State → ℕ → Item → ActResult
 accept m t (item.Call c) = accept_call m t (call_of m c)
-accept m t (item.Notice n) = not_built m
+accept m t (item.Notice n) = no_act m
 
 -- the end of the wait of a caller: the results, or the error that its call ended with
 
-abbrev pub answered : State → ℕ → Call → State
-answered m t r = with_state (with_call m r.number (moved_on r (stage.Answered (now m)))) t is.Running
+abbrev pub answer_call : State → ℕ → Call → State
+answer_call m t r = with_state (with_call m r.number (without_arguments_at r (stage.Answered (now m)))) t is.Running
 
-abbrev pub collect_at : State → ℕ → Call → CallStage → Acted
+abbrev pub collect_at : State → ℕ → Call → CallStage → ActResult
 collect_at m t r (stage.Returned bytes objects) =
-    record { state = answered m t r; answer = answer.Results bytes [] (nat_lt r.rsize (length bytes)) }
-collect_at m t r (stage.Ended e) = record { state = answered m t r; answer = answer.Failure e }
-collect_at m t r _ = not_built m
+    record { state = answer_call m t r; answer = answer.Results bytes [] (nat_lt r.rsize (length bytes)) }
+collect_at m t r (stage.Ended e) = record { state = answer_call m t r; answer = answer.Failure e }
+collect_at m t r _ = no_act m
 
-abbrev pub collect_call : State → ℕ → Option Call → Acted
-collect_call m t None = not_built m
+abbrev pub collect_call : State → ℕ → Option Call → ActResult
+collect_call m t None = no_act m
 collect_call m t (Some r) = collect_at m t r r.stage
 
-abbrev pub collect : State → ℕ → ℕ → Acted
+abbrev pub collect : State → ℕ → ℕ → ActResult
 collect m t c = collect_call m t (call_of m c)

@@ -1,7 +1,6 @@
 -- What a kernel keeps of a written state: it forgets the calls that were answered, or whose callers ended.
 use Rattle.std.specs.Prelude.{◌≡◌, filter, Bool}
-use Rattle.dk_base.specs.declared.record.Call.{Call}
-use Rattle.dk_base.specs.declared.event.Stepped.{Stepped}
+use Rattle.written_kernel.specs.Types.{Call, Stepped}
 use Rattle.written_kernel.specs.State.{State, is_live}
 use Rattle.written_kernel.specs.Step.{Step}
 

@@ -1,20 +1,20 @@
 -- Which turns a thread may take. The conditions on the form of a request, and on what a thread in an invocation asks, are
 -- lifted as the capabilities come.
 use Rattle.std.specs.Prelude.{ℕ, ◌≡◌, ◌≤◌, ◌<◌, Option, Some, None, true, false, length}
-use Rattle.dk_base.specs.declared.object.Inv.{Inv}
-use Rattle.dk_base.specs.declared.request.Request.{Request}
+use Rattle.written_kernel.specs.Types.{Inv, Request}
 use Rattle.dk_base.specs.declared.request.Request.TheVariants as request
-use Rattle.dk_base.specs.Form.{form_of_lem}
-use Rattle.dk_base.specs.declared.built.TheConstants.{BUILT}
+use Rattle.dk_base.specs.declared.limits.TheConstants.{DATA_MAX, ANSWER_ITEMS_MAX, EVENTS_MAX}
+use Rattle.capabilities.specs.Words.{capability_of}
+use Rattle.capabilities.specs.declared.table.TheConstants.{BUILT}
 use Rattle.written_kernel.specs.State.{State, invocation_of}
-use Rattle.written_kernel.specs.Turns.{runnable, is_running}
+use Rattle.written_kernel.specs.Turns.{is_runnable, is_running}
 
 -- the threads and processes that a request names are there, and its counts are in range
 abbrev pub IsFit : State → Request → Type 0
 IsFit m (request.Interrupt thread) = (1 ≤ thread.0) × (thread.0 ≤ length m.threads)
 IsFit m (request.Kill process) = (1 ≤ process.0) × (process.0 ≤ length m.processes)
-IsFit m (request.Read fd max) = (1 ≤ max) × (max ≤ 4096)
-IsFit m (request.GetN port max nget wait) = max ≤ 64
+IsFit m (request.Read fd max) = (1 ≤ max) × (max ≤ DATA_MAX)
+IsFit m (request.GetN port max nget wait) = max ≤ ANSWER_ITEMS_MAX
 IsFit m _ = Unit {0}
 
 -- what a thread in an invocation may ask: it makes no call and does not exit, until those capabilities come
@@ -26,14 +26,14 @@ MayInside _ _ = Unit {0}
 pub record MayEnter (m : State) (t : ℕ) (r : Request) : Type 0 where
   pub running : is_running m t ≡ true
   pub fit : IsFit m r
-  pub built : form_of_lem r ≤ BUILT
+  pub built : capability_of r ≤ BUILT
   pub inside : MayInside (invocation_of m t) r
-  pub few : m.events < 1000000
+  pub few : m.events < EVENTS_MAX
 
 pub record MayGoOn (m : State) (t : ℕ) : Type 0 where
-  pub runnable : runnable m t ≡ true
+  pub runnable : is_runnable m t ≡ true
   pub waits : is_running m t ≡ false
-  pub few : m.events < 1000000
+  pub few : m.events < EVENTS_MAX
 
 abbrev pub MayTurn : State → ℕ → Option Request → Type 0
 MayTurn m t (Some r) = MayEnter m t r

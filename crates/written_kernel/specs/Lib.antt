@@ -1,4 +1,4 @@
-pub mod Numbered
+pub mod Types
 pub mod State
 pub mod References
 pub mod Pools
@@ -15,3 +15,4 @@ pub mod Kept
 pub mod Opening
 pub mod Legal
 pub mod Runs
+pub mod Words

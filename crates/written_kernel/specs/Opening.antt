@@ -1,10 +1,7 @@
 -- The opening state: processes, and threads that run or are dormant.
 use Rattle.std.specs.Prelude.{ℕ, ◌+◌, ◌++◌, List, [], ◌∷◌, Option, Bool, if◌then◌else◌, None, length, replicate}
-use Rattle.dk_base.specs.declared.object.Obj.{Obj}
-use Rattle.dk_base.specs.declared.record.Process.{Process}
+use Rattle.written_kernel.specs.Types.{Obj, Process, Thread, ThreadState}
 use Rattle.dk_base.specs.declared.record.ProcessStage.TheVariants.{Live}
-use Rattle.dk_base.specs.declared.record.Thread.{Thread}
-use Rattle.dk_base.specs.declared.record.ThreadState.{ThreadState}
 use Rattle.dk_base.specs.declared.record.ThreadState.TheVariants as is
 use Rattle.written_kernel.specs.State.{State, pid}
 

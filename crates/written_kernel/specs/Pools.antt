@@ -1,16 +1,10 @@
 -- Server pools: which idle thread is picked, and what waits (door_create(3C), door_bind(3C); the order is this
 -- project's profile).
 use Rattle.std.specs.Prelude.{ℕ, List, [], ◌∷◌, Option, Bool, true, false, ◌==◌, ◌&&◌, if◌then◌else◌, Some, None, zero, suc, nat_le, map, filter, count_by, length, bit_and}
-use Rattle.dk_base.specs.declared.object.Item.{Item}
+use Rattle.written_kernel.specs.Types.{Attrs, Call, Door, Item, Notice, NoticeStage, Thread, ThreadState}
 use Rattle.dk_base.specs.declared.object.Item.TheVariants as item
-use Rattle.dk_base.specs.declared.set.Attrs.{Attrs}
-use Rattle.dk_base.specs.declared.record.Thread.{Thread}
-use Rattle.dk_base.specs.declared.record.ThreadState.{ThreadState}
+use Rattle.dk_base.specs.declared.set.TheConstants.Attrs.{PRIVATE}
 use Rattle.dk_base.specs.declared.record.ThreadState.TheVariants as is
-use Rattle.dk_base.specs.declared.record.Door.{Door}
-use Rattle.dk_base.specs.declared.record.Call.{Call}
-use Rattle.dk_base.specs.declared.record.Notice.{Notice}
-use Rattle.dk_base.specs.declared.record.NoticeStage.{NoticeStage}
 use Rattle.dk_base.specs.declared.record.NoticeStage.TheVariants.{Waiting as WaitingNotice}
 use Rattle.written_kernel.specs.State.{State, thread_of, bound_of, door_of, is_queued}
 
@@ -25,7 +19,7 @@ is_pool (Private d) (Private e) = d == e
 is_pool _ _ = false
 
 abbrev pub is_private : Attrs → Bool
-is_private a = bit_and a.0 2 == 2
+is_private a = bit_and a.0 PRIVATE.0 == PRIVATE.0
 
 abbrev pub pool_of_door : Door → Pool
 pool_of_door d = if is_private d.attrs then Private d.number else Common d.owner.0
@@ -60,18 +54,18 @@ abbrev pub parked_at : State → ℕ → Option Parked
 parked_at m t = parked_thread m t (thread_of m t)
 
 -- of two parked threads the one that parked later; where both parked at one event, the second
-abbrev pub later : Option Parked → Parked → Option Parked
-later None x = Some x
-later (Some best) x = if nat_le best.since x.since then Some x else Some best
+abbrev pub later_parked : Option Parked → Parked → Option Parked
+later_parked None x = Some x
+later_parked (Some best) x = if nat_le best.since x.since then Some x else Some best
 
-abbrev pub better : Pool → Option Parked → Option Parked → Option Parked
-better pool best None = best
-better pool best (Some x) = if is_pool pool x.pool then later best x else best
+abbrev pub better_parked : Pool → Option Parked → Option Parked → Option Parked
+better_parked pool best None = best
+better_parked pool best (Some x) = if is_pool pool x.pool then later_parked best x else best
 
 -- the best of the threads 1 to n
 abbrev pub pick_among : State → Pool → ℕ → Option Parked
 pick_among m pool zero = None
-pick_among m pool (suc n) = better pool (pick_among m pool n) (parked_at m (suc n))
+pick_among m pool (suc n) = better_parked pool (pick_among m pool n) (parked_at m (suc n))
 
 -- the pool's thread that parked last; of several that parked at one event, the one with the greatest number
 abbrev pub pick : State → Pool → Option Parked
@@ -110,8 +104,8 @@ with_notices ws (n ∷ ns) = with_notices (with_notice ws n) ns
 
 -- what waits, the oldest first; at one event a call comes before notices. Calls and notices are listed as they were
 -- made, the notices of one event by their doors.
-abbrev pub waits : State → List Waiting
-waits m = with_notices (map waiting_call (filter is_queued_call m.calls)) (map waiting_notice (filter is_waiting_notice m.notices))
+abbrev pub waiting_items : State → List Waiting
+waiting_items m = with_notices (map waiting_call (filter is_queued_call m.calls)) (map waiting_notice (filter is_waiting_notice m.notices))
 
 abbrev pub is_queued_in : State → Pool → Call → Bool
 is_queued_in m pool r = is_queued r.stage && is_pool pool (pool_of m r.door)

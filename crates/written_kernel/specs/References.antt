@@ -1,11 +1,8 @@
 -- The references of an object: rows of tables, names, argument objects of calls that are Queued or Given, and result
 -- objects of calls that are Returned.
 use Rattle.std.specs.Prelude.{List, [], ◌∷◌, ◌++◌, Option, Bool, false, ◌==◌, Some, None, map, filter, flat_map}
-use Rattle.dk_base.specs.declared.object.Obj.{Obj}
+use Rattle.written_kernel.specs.Types.{Call, CallStage, Name, Obj}
 use Rattle.dk_base.specs.declared.object.Obj.TheVariants as obj
-use Rattle.dk_base.specs.declared.record.Name.{Name}
-use Rattle.dk_base.specs.declared.record.Call.{Call}
-use Rattle.dk_base.specs.declared.record.CallStage.{CallStage}
 use Rattle.dk_base.specs.declared.record.CallStage.TheVariants as stage
 use Rattle.written_kernel.specs.State.{State}
 
@@ -16,28 +13,28 @@ is_object (obj.PipeIn a) (obj.PipeIn b) = a == b
 is_object (obj.PipeOut a) (obj.PipeOut b) = a == b
 is_object _ _ = false
 
-abbrev pub in_row : Option Obj → List Obj
-in_row None = []
-in_row (Some o) = o ∷ []
+abbrev pub objects_in_row : Option Obj → List Obj
+objects_in_row None = []
+objects_in_row (Some o) = o ∷ []
 
-abbrev pub in_table : List (Option Obj) → List Obj
-in_table rows = flat_map in_row rows
+abbrev pub objects_in_table : List (Option Obj) → List Obj
+objects_in_table rows = flat_map objects_in_row rows
 
-abbrev pub named : Name → Obj
-named n = obj.Door n.door
+abbrev pub named_object : Name → Obj
+named_object n = obj.Door n.door
 
-abbrev pub in_transit : Call → CallStage → List Obj
-in_transit r stage.Queued = r.objects
-in_transit r (stage.Given u) = r.objects
-in_transit r (stage.Returned bytes objects) = objects
-in_transit r _ = []
+abbrev pub objects_in_transit : Call → CallStage → List Obj
+objects_in_transit r stage.Queued = r.objects
+objects_in_transit r (stage.Given u) = r.objects
+objects_in_transit r (stage.Returned bytes objects) = objects
+objects_in_transit r _ = []
 
-abbrev pub in_call : Call → List Obj
-in_call r = in_transit r r.stage
+abbrev pub objects_in_call : Call → List Obj
+objects_in_call r = objects_in_transit r r.stage
 
 -- every object that is held, once for each holding
 abbrev pub holdings : State → List Obj
-holdings m = flat_map in_table m.tables ++ map named m.names ++ flat_map in_call m.calls
+holdings m = flat_map objects_in_table m.tables ++ map named_object m.names ++ flat_map objects_in_call m.calls
 
 abbrev pub refs : State → Obj → List Obj
 refs m o = filter (is_object o) (holdings m)

@@ -1,7 +1,6 @@
 -- Runs: lists of turns, each a thread with its request, or with none where a wait of it ends.
 use Rattle.std.specs.Prelude.{ℕ, List, [], ◌∷◌, Option, take}
-use Rattle.dk_base.specs.declared.request.Request.{Request}
-use Rattle.dk_base.specs.declared.event.Event.{Event}
+use Rattle.written_kernel.specs.Types.{Event, Request}
 use Rattle.written_kernel.specs.State.{State}
 use Rattle.written_kernel.specs.Step.{step, event_of}
 use Rattle.written_kernel.specs.Legal.{MayTurn}
@@ -11,13 +10,13 @@ pub record Turn : Type 0 where
   pub request : Option Request
 
 -- the state after a turn
-abbrev pub turned : State → Turn → State
-turned m x = (step m x.thread x.request).state
+abbrev pub state_after_turn : State → Turn → State
+state_after_turn m x = (step m x.thread x.request).state
 
 -- the state after a list of turns
 abbrev pub state_after : State → List Turn → State
 state_after m [] = m
-state_after m (x ∷ xs) = state_after (turned m x) xs
+state_after m (x ∷ xs) = state_after (state_after_turn m x) xs
 
 -- the state after the first i turns
 abbrev pub state_at : State → List Turn → ℕ → State
@@ -26,9 +25,9 @@ state_at m xs i = state_after m (take i xs)
 -- the events of a list of turns
 abbrev pub events_of : State → List Turn → List Event
 events_of m [] = []
-events_of m (x ∷ xs) = event_of m x.thread x.request ∷ events_of (turned m x) xs
+events_of m (x ∷ xs) = event_of m x.thread x.request ∷ events_of (state_after_turn m x) xs
 
 -- each turn is one that its thread may take
 abbrev pub IsRun : State → List Turn → Type 0
 IsRun m [] = Unit {0}
-IsRun m (x ∷ xs) = MayTurn m x.thread x.request × IsRun (turned m x) xs
+IsRun m (x ∷ xs) = MayTurn m x.thread x.request × IsRun (state_after_turn m x) xs

@@ -1,25 +1,11 @@
 -- The written state: plain lists of dated records, and the readers and writers of single records. Every reader is
 -- total: a number that nothing has reads as nothing, and a writer at such a number changes nothing.
 use Rattle.std.specs.Prelude.{ℕ, ◌+◌, List, [], ◌∷◌, Option, Bool, true, false, ◌==◌, ◌&&◌, not, if◌then◌else◌, Some, None, find, slice_get, slice_set, unwrap_or}
-use Rattle.dk_base.specs.declared.number.Pid.{Pid}
-use Rattle.dk_base.specs.declared.number.Tid.{Tid}
-use Rattle.dk_base.specs.declared.number.Fd.{Fd}
-use Rattle.dk_base.specs.declared.number.PathId.{PathId}
-use Rattle.dk_base.specs.declared.object.Obj.{Obj}
-use Rattle.dk_base.specs.declared.object.Inv.{Inv}
-use Rattle.dk_base.specs.declared.record.Process.{Process}
-use Rattle.dk_base.specs.declared.record.ProcessStage.{ProcessStage}
+use Rattle.written_kernel.specs.Types.{Call, CallStage, Door, Fd, Inv, Name, Notice, Obj, PathId, Pid, Process, ProcessStage, Thread, ThreadState, Tid}
 use Rattle.dk_base.specs.declared.record.ProcessStage.TheVariants.{Live, Ended}
-use Rattle.dk_base.specs.declared.record.Thread.{Thread}
-use Rattle.dk_base.specs.declared.record.ThreadState.{ThreadState}
 use Rattle.dk_base.specs.declared.record.ThreadState.TheVariants as is
-use Rattle.dk_base.specs.declared.record.Door.{Door}
-use Rattle.dk_base.specs.declared.record.Name.{Name}
-use Rattle.dk_base.specs.declared.record.Call.{Call}
-use Rattle.dk_base.specs.declared.record.CallStage.{CallStage}
 use Rattle.dk_base.specs.declared.record.CallStage.TheVariants as stage
-use Rattle.dk_base.specs.declared.record.Notice.{Notice}
-use Rattle.written_kernel.specs.Numbered.{numbered, renumbered}
+use Rattle.dk_base.specs.ByNumber.{at_number, with_at_number}
 
 -- processes, threads and doors are numbered from 1 by their places; table and binding stand at the same places as
 -- their process and thread
@@ -63,7 +49,7 @@ lives_in None = false
 lives_in (Some p) = is_live_stage p.stage
 
 abbrev pub is_live_process : State → ℕ → Bool
-is_live_process m p = lives_in (numbered m.processes p)
+is_live_process m p = lives_in (at_number m.processes p)
 
 abbrev pub ended_process : Process → Process
 ended_process p = record p { stage = Ended }
@@ -71,7 +57,7 @@ ended_process p = record p { stage = Ended }
 -- threads
 
 abbrev pub thread_of : State → ℕ → Option Thread
-thread_of m t = numbered m.threads t
+thread_of m t = at_number m.threads t
 
 abbrev pub process_in : Option Thread → ℕ
 process_in None = 0
@@ -97,7 +83,7 @@ abbrev pub invocation_of : State → ℕ → Option Inv
 invocation_of m t = invocation_in (thread_of m t)
 
 abbrev pub with_thread : State → ℕ → Thread → State
-with_thread m t x = record m { threads = renumbered m.threads t x }
+with_thread m t x = record m { threads = with_at_number m.threads t x }
 
 abbrev pub with_state_in : State → ℕ → ThreadState → Option Thread → State
 with_state_in m t s None = m
@@ -119,12 +105,12 @@ bound_in (Some b) = b
 
 -- the door that a thread is bound to
 abbrev pub bound_of : State → ℕ → Option ℕ
-bound_of m t = bound_in (numbered m.bound t)
+bound_of m t = bound_in (at_number m.bound t)
 
 -- tables
 
 abbrev pub table_of : State → ℕ → List (Option Obj)
-table_of m p = unwrap_or (numbered m.tables p) []
+table_of m p = unwrap_or (at_number m.tables p) []
 
 abbrev pub object_in : Option (Option Obj) → Option Obj
 object_in None = None
@@ -135,21 +121,21 @@ abbrev pub object_at : State → ℕ → Fd → Option Obj
 object_at m p fd = object_in (slice_get (table_of m p) fd.0)
 
 abbrev pub with_row : State → ℕ → ℕ → Obj → State
-with_row m p place o = record m { tables = renumbered m.tables p (slice_set (table_of m p) place (Some o)) }
+with_row m p place o = record m { tables = with_at_number m.tables p (slice_set (table_of m p) place (Some o)) }
 
 -- names
 
-abbrev pub is_name : PathId → Name → Bool
-is_name path n = n.path.0 == path.0
+abbrev pub has_path : PathId → Name → Bool
+has_path path n = n.path.0 == path.0
 
 -- the door attached to a path
 abbrev pub name_of : State → PathId → Option Name
-name_of m path = find (is_name path) m.names
+name_of m path = find (has_path path) m.names
 
 -- doors
 
 abbrev pub door_of : State → ℕ → Option Door
-door_of m d = numbered m.doors d
+door_of m d = at_number m.doors d
 
 abbrev pub is_valid_door : State → Option Door → Bool
 is_valid_door m None = false
@@ -179,16 +165,16 @@ abbrev pub call_of : State → ℕ → Option Call
 call_of m c = find (is_call c) m.calls
 
 -- another record for the live call of a number
-abbrev pub replaced : List Call → ℕ → Call → List Call
-replaced [] c x = []
-replaced (r ∷ rs) c x = if is_call c r then x ∷ rs else r ∷ replaced rs c x
+abbrev pub with_live_call : List Call → ℕ → Call → List Call
+with_live_call [] c x = []
+with_live_call (r ∷ rs) c x = if is_call c r then x ∷ rs else r ∷ with_live_call rs c x
 
 abbrev pub with_call : State → ℕ → Call → State
-with_call m c x = record m { calls = replaced m.calls c x }
+with_call m c x = record m { calls = with_live_call m.calls c x }
 
 -- a call that goes on to this stage, which its arguments leave
-abbrev pub moved_on : Call → CallStage → Call
-moved_on r s = record r { bytes = []; objects = []; stage = s }
+abbrev pub without_arguments_at : Call → CallStage → Call
+without_arguments_at r s = record r { bytes = []; objects = []; stage = s }
 
 -- a call that goes on to this stage with its arguments
 abbrev pub at_stage : Call → CallStage → Call

@@ -1,10 +1,7 @@
 -- Which threads can take a turn.
 use Rattle.std.specs.Prelude.{ℕ, List, [], ◌∷◌, ◌++◌, Option, Bool, true, false, ◌&&◌, not, is_some, if◌then◌else◌, Some, None, zero, suc, length}
-use Rattle.dk_base.specs.declared.number.Tid.{Tid}
-use Rattle.dk_base.specs.declared.record.ThreadState.{ThreadState}
+use Rattle.written_kernel.specs.Types.{Call, CallStage, ThreadState, Tid}
 use Rattle.dk_base.specs.declared.record.ThreadState.TheVariants as is
-use Rattle.dk_base.specs.declared.record.Call.{Call}
-use Rattle.dk_base.specs.declared.record.CallStage.{CallStage}
 use Rattle.dk_base.specs.declared.record.CallStage.TheVariants as stage
 use Rattle.written_kernel.specs.State.{State, tid, state_of, call_of, name_of}
 
@@ -30,8 +27,8 @@ can_go_on m (is.Working op input) = true
 can_go_on m is.FailedReturn = true
 can_go_on m is.Done = false
 
-abbrev pub runnable : State → ℕ → Bool
-runnable m t = can_go_on m (state_of m t)
+abbrev pub is_runnable : State → ℕ → Bool
+is_runnable m t = can_go_on m (state_of m t)
 
 abbrev pub is_running_state : ThreadState → Bool
 is_running_state is.Running = true
@@ -49,7 +46,7 @@ least_or None false n = None
 -- the least runnable of the threads 1 to n
 abbrev pub least_among : State → ℕ → Option ℕ
 least_among m zero = None
-least_among m (suc n) = least_or (least_among m n) (runnable m (suc n)) (suc n)
+least_among m (suc n) = least_or (least_among m n) (is_runnable m (suc n)) (suc n)
 
 abbrev pub least_runnable : State → Option ℕ
 least_runnable m = least_among m (length m.threads)
@@ -58,10 +55,10 @@ least_runnable m = least_among m (length m.threads)
 abbrev pub woken_among : State → State → ℕ → List Tid
 woken_among before after zero = []
 woken_among before after (suc n) =
-    woken_among before after n ++ (if not (runnable before (suc n)) && runnable after (suc n) then tid (suc n) ∷ [] else [])
+    woken_among before after n ++ (if not (is_runnable before (suc n)) && is_runnable after (suc n) then tid (suc n) ∷ [] else [])
 
-abbrev pub woken : State → State → List Tid
-woken before after = woken_among before after (length after.threads)
+abbrev pub woken_threads : State → State → List Tid
+woken_threads before after = woken_among before after (length after.threads)
 
 -- Calling, Getting or Awaiting: what a stalled run tells of
 abbrev pub is_waiting_state : ThreadState → Bool

@@ -1,8 +1,7 @@
 -- Which call a thread serves, and the walk from a thread to its root.
 use Rattle.std.specs.Prelude.{ℕ, Option, Bool, false, ◌==◌, ◌&&◌, not, Some, None, zero, suc, find}
 use Rattle.std.specs.Option.{option_map_or}
-use Rattle.dk_base.specs.declared.record.Call.{Call}
-use Rattle.dk_base.specs.declared.record.CallStage.{CallStage}
+use Rattle.written_kernel.specs.Types.{Call, CallStage}
 use Rattle.dk_base.specs.declared.record.CallStage.TheVariants as stage
 use Rattle.written_kernel.specs.State.{State}
 

@@ -2,15 +2,12 @@
 use Rattle.std.proofs.Common.{◌≡◌, [], Ok, refl}
 use Rattle.std.specs.Prelude.{codes}
 use Rattle.std.specs.Fmt.{digits}
-use Rattle.script_line.specs.Commands.{create_line, attach_line, serve_line, return_line, await_line, open_line, call_line, end_line}
-use Rattle.script_line.specs.Keywords.{door_keyword, descriptor_keyword, port_keyword, other_keyword}
-use Rattle.script_lang.specs.Items.{process_item, thread_item, procedure_item, budget_item}
-use Rattle.script_lang.specs.Reading.{reading, line_read, line_spelled}
-use Rattle.script_lang.specs.TextTables.{tables_of_lines}
-use Rattle.script_lang.specs.Value.{ScriptValue}
-use Rattle.written_kernel.specs.Step.{step}
-use Rattle.written_script.specs.Rows.{budget_script, budget_text, text_of_played, PlaysAs}
-use Rattle.written_script.specs.ScriptRuns.{run, played, refusal}
+use Rattle.line_reader.specs.Words.{attach_line, await_line, call_line, create_line, end_line, open_line, return_line, serve_line}
+use Rattle.script_line.specs.Words.{keyword_create_to_info, keyword_getn_to_end, keyword_getparam_to_detach, keyword_open_to_get}
+use Rattle.script_lang.specs.Words.{ScriptValue, budget_item, line_read, line_spelling, parse_result, procedure_item, process_item, tables_of_lines, thread_item}
+use Rattle.written_kernel.specs.Words.{step}
+use Rattle.written_script.specs.WorkedRuns.{budget_script, budget_trace, text_of_play, PlaysAs}
+use Rattle.written_script.specs.ScriptRuns.{run, turns_of_play, refusal}
 use Rattle.written_script.specs.TraceText.{trace_text, line_of, end_line_of}
 use Rattle.written_script.specs.Variables.{greatest_data}
 use Rattle.written_script.proofs.EchoScripts.{echo_with}
@@ -18,13 +15,13 @@ use Rattle.written_script.proofs.EchoScripts.{echo_with}
 abbrev budget_value : ScriptValue
 budget_value = echo_with 4 (codes "echo") 4096 []
 
-budget_reading : reading budget_script ≡ Ok budget_value
-unfolding reading line_read line_spelled tables_of_lines process_item thread_item procedure_item budget_item door_keyword descriptor_keyword port_keyword other_keyword create_line attach_line serve_line return_line await_line open_line call_line end_line
+budget_reading : parse_result budget_script ≡ Ok budget_value
+unfolding parse_result line_read line_spelling tables_of_lines process_item thread_item procedure_item budget_item keyword_create_to_info keyword_getparam_to_detach keyword_open_to_get keyword_getn_to_end create_line attach_line serve_line return_line await_line open_line call_line end_line
 budget_reading = refl
 
-budget_play : text_of_played budget_value ≡ budget_text
-unfolding played refusal run step trace_text line_of end_line_of digits greatest_data
+budget_play : text_of_play budget_value ≡ budget_trace
+unfolding turns_of_play refusal run step trace_text line_of end_line_of digits greatest_data
 budget_play = refl
 
-pub budget_row : PlaysAs budget_script budget_text
+pub budget_row : PlaysAs budget_script budget_trace
 budget_row = record { script = budget_value; spelled = budget_reading; trace = budget_play }

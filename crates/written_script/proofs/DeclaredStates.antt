@@ -3,43 +3,19 @@ use Rattle.std.proofs.Common.{◌≡◌, ℕ, ◌+◌, ◌≤◌, ◌&&◌, zero
 use Rattle.std.specs.Prelude.{All, nat_lt}
 use Rattle.std.specs.Option.{option_map_or}
 use Rattle.std.proofs.lemmas.List.Elements.{All-nil, All-cons, All-head, All-tail, All-push, All-weaker, All-map}
-use Rattle.dk_base.specs.declared.error.Errno.{Errno}
+use Rattle.written_kernel.specs.Types.{Attrs, Call, CallStage, Door, Errno, Fd, Inv, Item, Name, Notice, Obj, PathId, Process, Request, Thread, ThreadState}
 use Rattle.dk_base.specs.declared.error.Errno.TheVariants.{E2BIG, EBADF}
-use Rattle.dk_base.specs.declared.number.Fd.{Fd}
-use Rattle.dk_base.specs.declared.number.PathId.{PathId}
-use Rattle.dk_base.specs.declared.object.Inv.{Inv}
-use Rattle.dk_base.specs.declared.object.Item.{Item}
 use Rattle.dk_base.specs.declared.object.Item.TheVariants as item
-use Rattle.dk_base.specs.declared.object.Obj.{Obj}
 use Rattle.dk_base.specs.declared.object.Obj.TheVariants as obj
-use Rattle.dk_base.specs.declared.record.Call.{Call}
-use Rattle.dk_base.specs.declared.record.CallStage.{CallStage}
 use Rattle.dk_base.specs.declared.record.CallStage.TheVariants as stage
-use Rattle.dk_base.specs.declared.record.Door.{Door}
-use Rattle.dk_base.specs.declared.record.Name.{Name}
-use Rattle.dk_base.specs.declared.record.Notice.{Notice}
-use Rattle.dk_base.specs.declared.record.Process.{Process}
-use Rattle.dk_base.specs.declared.record.Thread.{Thread}
-use Rattle.dk_base.specs.declared.record.ThreadState.{ThreadState}
 use Rattle.dk_base.specs.declared.record.ThreadState.TheVariants as is
-use Rattle.dk_base.specs.declared.request.Request.{Request}
 use Rattle.dk_base.specs.declared.request.Request.TheVariants as request
-use Rattle.dk_base.specs.declared.set.Attrs.{Attrs}
-use Rattle.written_kernel.specs.Acts.{Acted, refused, lowest_free, not_built}
-use Rattle.written_kernel.specs.Descriptors.{new_name, attach_unless, attach_object, attach, open_at, open_name, open_path, await_name, await}
-use Rattle.written_kernel.specs.Doors.{new_door, with_door, created, create, call_refusal, new_call, with_new_call, call_unless, call_object, call, client_call, client_item, client_in, client, parked, returned_to, return_for, return, entry_of, accept_call, accept, answered, collect_at, collect_call, collect}
-use Rattle.written_kernel.specs.Leaving.{is_last, end_thread, end_process, exit, with_ended, with_ended_process, with_ended_threads, with_closed_table, ended_call, is_owned, with_ended_calls}
-use Rattle.written_kernel.specs.Numbered.{numbered}
-use Rattle.written_kernel.specs.Pools.{Parked, Waiting, waits, pool_of, pick}
-use Rattle.written_kernel.specs.Settle.{give_call, give_notice, give_item, give_to, give_each, settle}
-use Rattle.written_kernel.specs.State.{State, tid, now, process_of, thread_of, state_of, invocation_of, table_of, object_at, name_of, is_valid, is_valid_door, is_queued, is_call, door_of, with_row, with_state, with_state_in, with_invocation, with_invocation_in, with_call, replaced, moved_on, at_stage, call_of}
-use Rattle.written_kernel.specs.Step.{enter, go_on, act, step}
-use Rattle.written_kernel.specs.Turns.{waiting_among, waiting_threads, is_waiting_state}
-use Rattle.written_kernel.specs.Walks.{served_by, caller_in, walk, root, is_served_by}
+use Rattle.dk_base.specs.ByNumber.{at_number}
+use Rattle.written_kernel.specs.Words.{ActResult, Parked, State, Waiting, accept, accept_call, act, answer_call, at_stage, attach, attach_object, attach_unless, await, await_name, call, call_object, call_of, call_refusal, call_unless, caller_in, client, client_call, client_in, client_item, collect, collect_at, collect_call, create, create_at, door_of, end_process, end_thread, ended_call, enter, entry_of, exit, give_call, give_each, give_item, give_notice, give_to, go_on, invocation_of, is_call, is_last, is_owned, is_queued, is_served_by, is_valid, is_valid_door, is_waiting_state, lowest_free, name_of, new_call, new_door, new_name, no_act, now, object_at, open_at, open_name, open_path, park, pick, pool_of, process_of, refused_act, return, return_for, return_to, root, served_by, settle, state_of, step, table_of, thread_of, tid, waiting_among, waiting_items, waiting_threads, walk, with_call, with_closed_table, with_door, with_ended, with_ended_calls, with_ended_process, with_ended_threads, with_invocation, with_invocation_in, with_live_call, with_new_call, with_row, with_state, with_state_in, without_arguments_at}
 use Rattle.written_kernel.proofs.Lists.{numbered_within, numbered_there}
-use Rattle.script_lang.specs.Value.{ScriptValue}
+use Rattle.script_lang.specs.Words.{ScriptValue}
 use Rattle.written_script.specs.DeclaredNames.{IsNumberOf, IsThread, IsProcess, IsEntry, IsDeclaredAnswer, IsDeclaredDoor, IsDeclaredThread}
-use Rattle.written_script.proofs.Elements.{All-numbered, All-find}
+use Rattle.written_script.proofs.Elements.{All-at_number, All-find}
 
 -- a call's caller is declared, and its door was made
 pub record IsKnownCall (script : ScriptValue) (doors : ℕ) (r : Call) : Type 0 where
@@ -54,14 +30,14 @@ pub record IsKnown (script : ScriptValue) (m : State) : Type 0 where
   pub calls : AreKnownCalls script (length m.doors) m.calls
 
 -- what an act leaves and answers
-record IsKnownAct (script : ScriptValue) (a : Acted) : Type 0 where
+record IsKnownAct (script : ScriptValue) (a : ActResult) : Type 0 where
   state : IsKnown script a.state
   answer : IsDeclaredAnswer script a.answer
 
-nothing_new : (script : ScriptValue) (m : State) (e : Errno) → IsKnown script m → IsKnownAct script (refused m e)
+nothing_new : (script : ScriptValue) (m : State) (e : Errno) → IsKnown script m → IsKnownAct script (refused_act m e)
 nothing_new script m e h = record { state = h; answer = tt }
 
-nothing_built : (script : ScriptValue) (m : State) → IsKnown script m → IsKnownAct script (not_built m)
+nothing_built : (script : ScriptValue) (m : State) → IsKnown script m → IsKnownAct script (no_act m)
 nothing_built script m h = record { state = h; answer = tt }
 
 -- calls that are found
@@ -69,7 +45,7 @@ nothing_built script m h = record { state = h; answer = tt }
 found_call : (script : ScriptValue) (m : State) (c : ℕ) (r : Call) → IsKnown script m → call_of m c ≡ Some r → IsKnownCall script (length m.doors) r
 found_call script m c r h e = All-find (IsKnownCall script (length m.doors)) (is_call c) m.calls r h.calls e
 
-moved_call : (script : ScriptValue) (doors : ℕ) (r : Call) (s : CallStage) → IsKnownCall script doors r → IsKnownCall script doors (moved_on r s)
+moved_call : (script : ScriptValue) (doors : ℕ) (r : Call) (s : CallStage) → IsKnownCall script doors r → IsKnownCall script doors (without_arguments_at r s)
 moved_call script doors r s h = record { caller = h.caller; door = h.door }
 
 staged_call : (script : ScriptValue) (doors : ℕ) (r : Call) (s : CallStage) → IsKnownCall script doors r → IsKnownCall script doors (at_stage r s)
@@ -77,15 +53,15 @@ staged_call script doors r s h = record { caller = h.caller; door = h.door }
 
 replaced_calls :
     (script : ScriptValue) (doors : ℕ) (rs : List Call) (c : ℕ) (x : Call) →
-    AreKnownCalls script doors rs → IsKnownCall script doors x → AreKnownCalls script doors (replaced rs c x)
+    AreKnownCalls script doors rs → IsKnownCall script doors x → AreKnownCalls script doors (with_live_call rs c x)
 replaced_calls script doors [] c x all h = all
 replaced_calls script doors (r ∷ rs) c x all h =
     by_test (replaced_calls script doors rs c x (All-tail (IsKnownCall script doors) r rs all) h) (is_call c r)
   where
-    by_test : AreKnownCalls script doors (replaced rs c x) → (b : Bool) → AreKnownCalls script doors (if b then x ∷ rs else r ∷ replaced rs c x)
+    by_test : AreKnownCalls script doors (with_live_call rs c x) → (b : Bool) → AreKnownCalls script doors (if b then x ∷ rs else r ∷ with_live_call rs c x)
     by_test rest true = All-cons (IsKnownCall script doors) x rs h (All-tail (IsKnownCall script doors) r rs all)
     by_test rest false =
-        All-cons (IsKnownCall script doors) r (replaced rs c x) (All-head (IsKnownCall script doors) r rs all) rest
+        All-cons (IsKnownCall script doors) r (with_live_call rs c x) (All-head (IsKnownCall script doors) r rs all) rest
 
 -- writers
 
@@ -169,7 +145,7 @@ create-known :
     IsDeclaredDoor script (new_door m p entry cookie attrs) → IsKnownAct script (create m p entry cookie attrs)
 create-known script m p entry cookie attrs h here = by_place (new_door m p entry cookie attrs) here (lowest_free (table_of m p))
   where
-    by_place : (d : Door) → IsDeclaredDoor script d → (o : Option ℕ) → IsKnownAct script (created m p d o)
+    by_place : (d : Door) → IsDeclaredDoor script d → (o : Option ℕ) → IsKnownAct script (create_at m p d o)
     by_place d made None = nothing_new script m _ h
     by_place d made (Some place) =
         record {
@@ -218,8 +194,8 @@ call-known script m t p fd bytes rsize h caller = by_object (object_at m p fd)
     by_object (Some (obj.Door d)) = unless d (call_refusal m d bytes) refl
     by_object (Some _) = nothing_new script m _ h
 
-parked-known : (script : ScriptValue) (m : State) (t : ℕ) → IsKnown script m → IsKnown script (parked m t)
-parked-known script m t h =
+park-known : (script : ScriptValue) (m : State) (t : ℕ) → IsKnown script m → IsKnown script (park m t)
+park-known script m t h =
     with_state-known script (with_invocation m t None) t (is.Idle (now m)) (with_invocation-known script m t None h)
 
 client-known : (script : ScriptValue) (m : State) (t : ℕ) (r : Call) → IsKnown script m → client m t ≡ Some r → IsKnownCall script (length m.doors) r
@@ -244,14 +220,14 @@ client-known script m t r h e = by_invocation (invocation_of m t) e
 return-known : (script : ScriptValue) (m : State) (t : ℕ) (bytes : List ℕ) → IsKnown script m → IsKnownAct script (return m t bytes)
 return-known script m t bytes h = by_client (client m t) refl
   where
-    unless : (r : Call) → IsKnownCall script (length m.doors) r → (b : Bool) → IsKnownAct script (if b then refused m E2BIG else returned_to m t bytes r)
+    unless : (r : Call) → IsKnownCall script (length m.doors) r → (b : Bool) → IsKnownAct script (if b then refused_act m E2BIG else return_to m t bytes r)
     unless r here true = nothing_new script m E2BIG h
     unless r here false =
         record {
           state =
-              parked-known
+              park-known
               script
-              (with_call m r.number (moved_on r (stage.Returned bytes [])))
+              (with_call m r.number (without_arguments_at r (stage.Returned bytes [])))
               t
               (with_call-known script m r.number _ h (moved_call script (length m.doors) r (stage.Returned bytes []) here));
           answer = tt;
@@ -259,7 +235,7 @@ return-known script m t bytes h = by_client (client m t) refl
 
     by_client : (o : Option Call) → client m t ≡ o → IsKnownAct script (return_for m t bytes o)
     by_client (Some r) e = unless r (client-known script m t r h e) (nat_lt 4096 (length bytes))
-    by_client None e = record { state = parked-known script m t h; answer = tt }
+    by_client None e = record { state = park-known script m t h; answer = tt }
 
 not_missing : {X : Type 0} {o : Option X} → IsSome o → o ≡ None → ⊥
 not_missing {X} {o} some none = cc
@@ -270,7 +246,7 @@ entry-known script m r h here = by_door (door_of m r.door) refl
   where
     by_door : (o : Option Door) → door_of m r.door ≡ o → IsEntry script (entry_of o)
     by_door None e = absurd (not_missing (numbered_there m.doors r.door here.door.0 here.door.1) e)
-    by_door (Some d) e = (All-numbered (IsDeclaredDoor script) m.doors r.door d h.doors e).entry
+    by_door (Some d) e = (All-at_number (IsDeclaredDoor script) m.doors r.door d h.doors e).entry
 
 accept-known : (script : ScriptValue) (m : State) (t : ℕ) (i : Item) → IsKnown script m → IsKnownAct script (accept m t i)
 accept-known script m t (item.Call c) h = by_call (call_of m c) refl
@@ -283,12 +259,12 @@ accept-known script m t (item.Call c) h = by_call (call_of m c) refl
           state =
               with_state-known
               script
-              (with_invocation (with_call m r.number (moved_on r (stage.Entered (tid t)))) t _)
+              (with_invocation (with_call m r.number (without_arguments_at r (stage.Entered (tid t)))) t _)
               t
               is.Running
               (with_invocation-known
               script
-              (with_call m r.number (moved_on r (stage.Entered (tid t))))
+              (with_call m r.number (without_arguments_at r (stage.Entered (tid t))))
               t
               _
               (with_call-known script m r.number _ h (moved_call script (length m.doors) r (stage.Entered (tid t)) here)));
@@ -299,11 +275,11 @@ accept-known script m t (item.Notice n) h = nothing_built script m h
 collect-known : (script : ScriptValue) (m : State) (t c : ℕ) → IsKnown script m → IsKnownAct script (collect m t c)
 collect-known script m t c h = by_call (call_of m c) refl
   where
-    done : (r : Call) → IsKnownCall script (length m.doors) r → IsKnown script (answered m t r)
+    done : (r : Call) → IsKnownCall script (length m.doors) r → IsKnown script (answer_call m t r)
     done r here =
         with_state-known
         script
-        (with_call m r.number (moved_on r (stage.Answered (now m))))
+        (with_call m r.number (without_arguments_at r (stage.Answered (now m))))
         t
         is.Running
         (with_call-known script m r.number _ h (moved_call script (length m.doors) r (stage.Answered (now m)) here))
@@ -318,14 +294,14 @@ collect-known script m t c h = by_call (call_of m c) refl
     by_call (Some r) e = at r (found_call script m c r h e) r.stage
 
 ended_call-known : (script : ScriptValue) (n : ℕ) (doors : List Door) (p : ℕ) (r : Call) → IsKnownCall script n r → IsKnownCall script n (ended_call doors p r)
-ended_call-known script n doors p r h = by_test (is_queued r.stage && is_owned p (numbered doors r.door))
+ended_call-known script n doors p r h = by_test (is_queued r.stage && is_owned p (at_number doors r.door))
   where
-    by_test : (b : Bool) → IsKnownCall script n (if b then moved_on r (stage.Ended EBADF) else r)
+    by_test : (b : Bool) → IsKnownCall script n (if b then without_arguments_at r (stage.Ended EBADF) else r)
     by_test true = moved_call script n r (stage.Ended EBADF) h
     by_test false = h
 
 with_ended_process-known : (script : ScriptValue) (m : State) (p : ℕ) → IsKnown script m → IsKnown script (with_ended_process m p)
-with_ended_process-known script m p h = by_process (numbered m.processes p)
+with_ended_process-known script m p h = by_process (at_number m.processes p)
   where
     by_process : (o : Option Process) → IsKnown script (with_ended m p o)
     by_process None = h
@@ -398,7 +374,7 @@ give_item-known script m (item.Call c) u h = by_call (call_of m c) refl
     by_call None e = h
     by_call (Some r) e =
         with_call-known script m r.number _ h (staged_call script (length m.doors) r (stage.Given (tid u)) (found_call script m c r h e))
-give_item-known script m (item.Notice n) u h = by_notice (numbered m.notices n)
+give_item-known script m (item.Notice n) u h = by_notice (at_number m.notices n)
   where
     by_notice : (o : Option Notice) → IsKnown script (give_notice m n u o)
     by_notice None = h
@@ -438,7 +414,7 @@ pub step-known :
 unfolding step
 step-known script m t r h thread process made =
     let acted : IsKnownAct script (act m t r) = act-known script m t r h thread process made
-    in let settled : IsKnown script (settle (act m t r).state) = give_each-known script (act m t r).state (waits (act m t r).state) acted.state
+    in let settled : IsKnown script (settle (act m t r).state) = give_each-known script (act m t r).state (waiting_items (act m t r).state) acted.state
     in record { state = record { doors = settled.doors; calls = settled.calls }; answer = acted.answer }
 
 -- the end of a walk from a declared thread is declared

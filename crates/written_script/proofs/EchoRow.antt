@@ -2,15 +2,12 @@
 use Rattle.std.proofs.Common.{◌≡◌, [], Ok, refl}
 use Rattle.std.specs.Prelude.{codes}
 use Rattle.std.specs.Fmt.{digits}
-use Rattle.script_line.specs.Commands.{create_line, attach_line, serve_line, return_line, await_line, open_line, call_line, end_line}
-use Rattle.script_line.specs.Keywords.{door_keyword, descriptor_keyword, port_keyword, other_keyword}
-use Rattle.script_lang.specs.Items.{process_item, thread_item, procedure_item}
-use Rattle.script_lang.specs.Reading.{reading, line_read, line_spelled}
-use Rattle.script_lang.specs.TextTables.{tables_of_lines}
-use Rattle.script_lang.specs.Value.{ScriptValue}
-use Rattle.written_kernel.specs.Step.{step}
-use Rattle.written_script.specs.Rows.{echo_script, echo_text, text_of_played, PlaysAs}
-use Rattle.written_script.specs.ScriptRuns.{run, played, refusal}
+use Rattle.line_reader.specs.Words.{attach_line, await_line, call_line, create_line, end_line, open_line, return_line, serve_line}
+use Rattle.script_line.specs.Words.{keyword_create_to_info, keyword_getn_to_end, keyword_getparam_to_detach, keyword_open_to_get}
+use Rattle.script_lang.specs.Words.{ScriptValue, line_read, line_spelling, parse_result, procedure_item, process_item, tables_of_lines, thread_item}
+use Rattle.written_kernel.specs.Words.{step}
+use Rattle.written_script.specs.WorkedRuns.{echo_script, echo_trace, text_of_play, PlaysAs}
+use Rattle.written_script.specs.ScriptRuns.{run, turns_of_play, refusal}
 use Rattle.written_script.specs.TraceText.{trace_text, line_of, end_line_of}
 use Rattle.written_script.specs.Variables.{greatest_data}
 use Rattle.written_script.proofs.EchoScripts.{echo_with}
@@ -18,13 +15,13 @@ use Rattle.written_script.proofs.EchoScripts.{echo_with}
 abbrev echo_value : ScriptValue
 echo_value = echo_with 100000 (codes "path") 4096 []
 
-echo_reading : reading echo_script ≡ Ok echo_value
-unfolding reading line_read line_spelled tables_of_lines process_item thread_item procedure_item door_keyword descriptor_keyword port_keyword other_keyword create_line attach_line serve_line return_line await_line open_line call_line end_line
+echo_reading : parse_result echo_script ≡ Ok echo_value
+unfolding parse_result line_read line_spelling tables_of_lines process_item thread_item procedure_item keyword_create_to_info keyword_getparam_to_detach keyword_open_to_get keyword_getn_to_end create_line attach_line serve_line return_line await_line open_line call_line end_line
 echo_reading = refl
 
-echo_play : text_of_played echo_value ≡ echo_text
-unfolding played refusal run step trace_text line_of end_line_of digits greatest_data
+echo_play : text_of_play echo_value ≡ echo_trace
+unfolding turns_of_play refusal run step trace_text line_of end_line_of digits greatest_data
 echo_play = refl
 
-pub echo_row : PlaysAs echo_script echo_text
+pub echo_row : PlaysAs echo_script echo_trace
 echo_row = record { script = echo_value; spelled = echo_reading; trace = echo_play }

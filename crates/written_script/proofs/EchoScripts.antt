@@ -1,13 +1,13 @@
 -- The scripts of an echo door and a client as values.
 use Rattle.std.proofs.Common.{ℕ, List, [], ◌∷◌, false}
 use Rattle.std.specs.Prelude.{codes}
-use Rattle.dk_base.specs.declared.number.Tid.{Tid}
+use Rattle.written_kernel.specs.Types.{Tid}
 use Rattle.script_line.specs.declared.line.FdArg.TheVariants.{Of as OfFd}
-use Rattle.script_line.specs.declared.line.Line.{Line}
+use Rattle.script_lang.specs.Types.{Line}
 use Rattle.script_line.specs.declared.line.Line.TheVariants as line
 use Rattle.script_line.specs.declared.line.Piece.TheVariants as piece
 use Rattle.script_lang.specs.declared.script.Part.TheVariants as part
-use Rattle.script_lang.specs.Value.{ScriptValue}
+use Rattle.script_lang.specs.Words.{ScriptValue}
 
 abbrev pub server_body : List Line
 server_body =

@@ -4,13 +4,13 @@ use Rattle.std.specs.Prelude.{All, find, slice_get}
 use Rattle.std.specs.List.{list_any}
 use Rattle.std.proofs.lemmas.List.Elements.{All-nil, All-cons, All-head, All-tail}
 use Rattle.std.proofs.lemmas.Option.{slice_get_within, get_or_from_slice_get}
-use Rattle.written_kernel.specs.Numbered.{numbered}
+use Rattle.dk_base.specs.ByNumber.{at_number}
 
 pub All-slice_get : {X : Type 0} (P : X → Type 0) (xs : List X) (k : ℕ) (x : X) → All P xs → slice_get xs k ≡ Some x → P x
 All-slice_get P xs k x all e = subst P (get_or_from_slice_get xs k x x e) (all k x (slice_get_within xs k x e))
 
-pub All-numbered : {X : Type 0} (P : X → Type 0) (xs : List X) (k : ℕ) (x : X) → All P xs → numbered xs k ≡ Some x → P x
-All-numbered P xs k x all e = by_test (k == 0) e
+pub All-at_number : {X : Type 0} (P : X → Type 0) (xs : List X) (k : ℕ) (x : X) → All P xs → at_number xs k ≡ Some x → P x
+All-at_number P xs k x all e = by_test (k == 0) e
   where
     by_test : (b : Bool) → (if b then None else slice_get xs (k - 1)) ≡ Some x → P x
     by_test true h = cc

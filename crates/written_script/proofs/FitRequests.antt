@@ -1,27 +1,25 @@
 -- What a frame's request needs, by the line that it is at.
-use Rattle.std.proofs.Common.{◌≡◌, ℕ, ◌≤◌, List, [], ◌∷◌, Option, Some, None, Bool, true, false, length, arith, refl, subst, map, if◌then◌else◌, IsSome}
-use Rattle.std.specs.Prelude.{All, nat_lt}
+use Rattle.std.proofs.Common.{◌≡◌, ℕ, ◌≤◌, List, [], ◌∷◌, Option, Some, None, Bool, true, false, length, arith, refl, subst, map, IsSome}
+use Rattle.std.specs.Prelude.{All, nat_lt, max}
 use Rattle.std.proofs.lemmas.Bool.{ltb-false}
+use Rattle.std.proofs.Math.Nat.{le-max_left}
 use Rattle.std.proofs.lemmas.List.Elements.{All-head, All-weaker}
-use Rattle.dk_base.specs.Form.{form_of_lem, form_of_pass}
-use Rattle.dk_base.specs.declared.built.TheConstants.{BUILT}
-use Rattle.dk_base.specs.declared.object.Inv.{Inv}
-use Rattle.dk_base.specs.declared.request.Request.{Request}
+use Rattle.capabilities.specs.Words.{capability_of, capability_of_pass}
+use Rattle.capabilities.specs.declared.table.TheConstants.{BUILT}
+use Rattle.written_kernel.specs.Types.{Inv, Request}
 use Rattle.dk_base.specs.declared.request.Request.TheVariants as request
-use Rattle.written_kernel.specs.Legal.{IsFit, MayInside}
-use Rattle.written_kernel.specs.State.{State}
+use Rattle.written_kernel.specs.Words.{IsFit, MayInside, State}
 use Rattle.script_line.specs.declared.line.Kind.TheVariants.{Act}
-use Rattle.script_line.specs.declared.line.Line.{Line}
+use Rattle.script_lang.specs.Types.{Line, PassArg}
 use Rattle.script_line.specs.declared.line.Line.TheVariants as line
-use Rattle.script_line.specs.declared.line.PassArg.{PassArg}
-use Rattle.script_line.specs.Kinds.{kind_of}
-use Rattle.script_lang.specs.Value.{ScriptValue}
-use Rattle.written_script.specs.Later.{form_with, form_of_call, form_of_line, is_later_line}
+use Rattle.script_line.specs.Words.{kind_of}
+use Rattle.script_lang.specs.Words.{ScriptValue}
+use Rattle.written_script.specs.Later.{capability_of_line, capability_of_place, is_later_line}
 use Rattle.written_script.specs.Requests.{Frame, request_at, request_at_end, request_ahead, request_of}
 use Rattle.written_script.specs.Sound.{IsFitLine}
-use Rattle.written_script.specs.Steps.{Step}
-use Rattle.written_script.specs.Steps.Step.{Do, When}
-use Rattle.written_script.specs.Variables.{Variables, pass_of}
+use Rattle.written_script.specs.Steps.{BodyStep}
+use Rattle.written_script.specs.Steps.BodyStep.{Do, When}
+use Rattle.written_script.specs.Variables.{Variables, no_variables, pass_of}
 use Rattle.written_script.proofs.SoundFrames.{IsStep, AreSteps, IsFrame}
 
 -- a state has the script's processes and threads
@@ -54,7 +52,7 @@ fit_at_end m true = tt
 fit_at_end m false = tt
 
 fit_ahead :
-    (script : ScriptValue) (m : State) (f : Frame) (steps : List Step) → HasThreads script m → AreSteps (IsFitSomewhere script) steps →
+    (script : ScriptValue) (m : State) (f : Frame) (steps : List BodyStep) → HasThreads script m → AreSteps (IsFitSomewhere script) steps →
     IsFit m (request_ahead f steps)
 fit_ahead script m f [] has all = fit_at_end m f.procedure
 fit_ahead script m f (When cond n ∷ steps) has all = fit_at_end m f.procedure
@@ -70,48 +68,45 @@ request-fit script m f has h = fit_ahead script m f f.steps has h.steps
 
 -- a line that needs nothing later makes a request that needs nothing later
 
-pass-form : (variables : Variables) (pass : List PassArg) (form : ℕ) → 1 ≤ form → form_of_pass (map (pass_of variables) pass) ≤ form_with pass form
-pass-form variables [] form least = least
-pass-form variables (x ∷ pass) form least = by_test (nat_lt form 5) refl
-  where
-    by_test : (b : Bool) → nat_lt form 5 ≡ b → 5 ≤ (if b then 5 else form)
-    by_test true e = omega arith
-    by_test false e = ltb-false form 5 e
+-- the variables don't matter
+capability_of_pass-variables :
+    (variables : Variables) (pass : List PassArg) →
+    capability_of_pass (map (pass_of variables) pass) ≡ capability_of_pass (map (pass_of no_variables) pass)
+capability_of_pass-variables variables [] = refl
+capability_of_pass-variables variables (x ∷ pass) = refl
 
-call-form : (procedure : Bool) → 1 ≤ form_of_call procedure
-call-form true = omega arith
-call-form false = omega arith
+capability_of-variables : (variables : Variables) (x : Line) → capability_of (request_at variables x) ≡ capability_of (request_at no_variables x)
+capability_of-variables variables (line.Call var fd bytes pass rsize) = capability_of_pass-variables variables pass
+capability_of-variables variables (line.Return bytes pass) = capability_of_pass-variables variables pass
+capability_of-variables variables x = refl
 
-form_at : (procedure : Bool) (variables : Variables) (x : Line) → form_of_lem (request_at variables x) ≤ form_of_line procedure x
-form_at procedure variables (line.Create var entry cookie attrs) = omega arith
-form_at procedure variables (line.Call var fd bytes pass rsize) = pass-form variables pass (form_of_call procedure) (call-form procedure)
-form_at procedure variables (line.Return bytes pass) = pass-form variables pass 2 (omega arith)
-form_at procedure variables x = omega arith
+capability_at : (procedure : Bool) (variables : Variables) (x : Line) → capability_of (request_at variables x) ≤ capability_of_line procedure x
+capability_at procedure variables x = rw (capability_of-variables variables x) (le-max_left (capability_of (request_at no_variables x)) (capability_of_place procedure x))
 
 -- needs no capability that is not built
 abbrev pub IsBuiltLine : Bool → Line → Type 0
 IsBuiltLine procedure x = is_later_line procedure x ≡ false
 
-line-built : (procedure : Bool) (x : Line) → IsBuiltLine procedure x → form_of_line procedure x ≤ BUILT
-line-built procedure x h = ltb-false BUILT (form_of_line procedure x) h
+line-built : (procedure : Bool) (x : Line) → IsBuiltLine procedure x → capability_of_line procedure x ≤ BUILT
+line-built procedure x h = ltb-false BUILT (capability_of_line procedure x) h
 
-built_at : (procedure : Bool) (variables : Variables) (x : Line) → IsBuiltLine procedure x → form_of_lem (request_at variables x) ≤ BUILT
+built_at : (procedure : Bool) (variables : Variables) (x : Line) → IsBuiltLine procedure x → capability_of (request_at variables x) ≤ BUILT
 built_at procedure variables x h =
-    let least : form_of_lem (request_at variables x) ≤ form_of_line procedure x = form_at procedure variables x
-    in let most : form_of_line procedure x ≤ BUILT = line-built procedure x h
+    let least : capability_of (request_at variables x) ≤ capability_of_line procedure x = capability_at procedure variables x
+    in let most : capability_of_line procedure x ≤ BUILT = line-built procedure x h
     in omega arith
 
-built_at_end : (procedure : Bool) → form_of_lem (request_at_end procedure) ≤ BUILT
+built_at_end : (procedure : Bool) → capability_of (request_at_end procedure) ≤ BUILT
 built_at_end true = omega arith
 built_at_end false = omega arith
 
-built_ahead : (procedure : Bool) (f : Frame) (steps : List Step) → AreSteps (IsBuiltLine procedure) steps → form_of_lem (request_ahead f steps) ≤ BUILT
+built_ahead : (procedure : Bool) (f : Frame) (steps : List BodyStep) → AreSteps (IsBuiltLine procedure) steps → capability_of (request_ahead f steps) ≤ BUILT
 built_ahead procedure f [] all = built_at_end f.procedure
 built_ahead procedure f (When cond n ∷ steps) all = built_at_end f.procedure
 built_ahead procedure f (Do x ∷ steps) all =
     built_at procedure f.variables x (All-head (IsStep (IsBuiltLine procedure)) (Do x) steps all).1
 
-pub request-built : (f : Frame) → IsFrame IsBuiltLine f → form_of_lem (request_of f) ≤ BUILT
+pub request-built : (f : Frame) → IsFrame IsBuiltLine f → capability_of (request_of f) ≤ BUILT
 request-built f h = built_ahead f.procedure f f.steps h.steps
 
 -- a thread with an invocation makes no call and does not exit
@@ -121,7 +116,7 @@ may_outside (request.Call fd bytes pass rsize) = tt
 may_outside request.Exit = tt
 may_outside r = tt
 
-call-later : (pass : List PassArg) → nat_lt BUILT (form_with pass 7) ≡ false → ⊥
+call-later : (pass : List PassArg) → nat_lt BUILT (max (capability_of_pass (map (pass_of no_variables) pass)) 7) ≡ false → ⊥
 call-later [] h = cc
 call-later (x ∷ pass) h = cc
 
@@ -133,7 +128,7 @@ inside_at v variables (line.If cond) act h = cc
 inside_at v variables line.End act h = cc
 inside_at v variables x act h = tt
 
-inside_ahead : (v : Inv) (f : Frame) (steps : List Step) → f.procedure ≡ true → AreSteps (IsBuiltLine true) steps → MayInside (Some v) (request_ahead f steps)
+inside_ahead : (v : Inv) (f : Frame) (steps : List BodyStep) → f.procedure ≡ true → AreSteps (IsBuiltLine true) steps → MayInside (Some v) (request_ahead f steps)
 inside_ahead v f [] inside all = rw inside tt
 inside_ahead v f (When cond n ∷ steps) inside all = rw inside tt
 inside_ahead v f (Do x ∷ steps) inside all =

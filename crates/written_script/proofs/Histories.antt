@@ -1,61 +1,58 @@
 -- Runs of a script, one turn more at the end.
 use Rattle.std.proofs.Common.{◌≡◌, ℕ, ◌+◌, List, [], ◌∷◌, ◌++◌, length, true, arith, refl, ap, suc}
 use Rattle.std.specs.Prelude.{map}
-use Rattle.dk_base.specs.declared.event.Event.{Event}
-use Rattle.written_kernel.specs.State.{State}
-use Rattle.written_kernel.specs.Turns.{runnable}
-use Rattle.written_kernel.specs.Opening.{IsOpening}
+use Rattle.written_kernel.specs.Types.{Event}
+use Rattle.written_kernel.specs.Words.{IsOpening, State, Turn, is_runnable, state_after}
 use Rattle.written_kernel.specs.Opening.IsOpening.{processes, thread}
 use Rattle.written_kernel.proofs.Steps.{events-step}
 use Rattle.written_kernel.proofs.Opening.{opened}
-use Rattle.written_kernel.specs.Runs.{Turn, state_after}
-use Rattle.script_lang.specs.declared.script.ScriptThread.{ScriptThread}
-use Rattle.script_lang.specs.Value.{ScriptValue as Script}
+use Rattle.written_script.specs.Types.{ScriptThread}
+use Rattle.script_lang.specs.Words.{ScriptValue as Script}
 use Rattle.written_script.specs.Requests.{Frame, frame_from, frame_after, frame_of, first_frame}
-use Rattle.written_script.specs.ScriptRuns.{History, beginning, asked, turn, run, run_from, AreRunnableFrom, turns_from, turns_of, threads_of, opening_of, with_script_threads, limit_of, thread_number}
+use Rattle.written_script.specs.ScriptRuns.{History, first_history, request_at_turn, history_after, run, run_from, AreRunnableFrom, turns_from, turns_of, threads_of_events, opening_of, with_script_threads, limit_of, thread_of_event}
 
 pub run_from-append :
     (script : Script) (ts : List ℕ) (h : History) (t : ℕ) →
-    run_from script h (ts ++ t ∷ []) ≡ turn script (run_from script h ts) t
+    run_from script h (ts ++ t ∷ []) ≡ history_after script (run_from script h ts) t
 run_from-append script [] h t = refl
-run_from-append script (u ∷ us) h t = run_from-append script us (turn script h u) t
+run_from-append script (u ∷ us) h t = run_from-append script us (history_after script h u) t
 
-pub run-append : (script : Script) (ts : List ℕ) (t : ℕ) → run script (ts ++ t ∷ []) ≡ turn script (run script ts) t
+pub run-append : (script : Script) (ts : List ℕ) (t : ℕ) → run script (ts ++ t ∷ []) ≡ history_after script (run script ts) t
 unfolding run
-run-append script ts t = run_from-append script ts (beginning script) t
+run-append script ts t = run_from-append script ts (first_history script) t
 
 abbrev pub turn_at : Script → History → ℕ → Turn
-turn_at script h t = record { thread = t; request = asked script h t }
+turn_at script h t = record { thread = t; request = request_at_turn script h t }
 
 pub turns_from-append :
     (script : Script) (ts : List ℕ) (h : History) (t : ℕ) →
     turns_from script h (ts ++ t ∷ []) ≡ turns_from script h ts ++ turn_at script (run_from script h ts) t ∷ []
 turns_from-append script [] h t = refl
-turns_from-append script (u ∷ us) h t = ap (λ xs. turn_at script h u ∷ xs) (turns_from-append script us (turn script h u) t)
+turns_from-append script (u ∷ us) h t = ap (λ xs. turn_at script h u ∷ xs) (turns_from-append script us (history_after script h u) t)
 
 pub turns_of-append :
     (script : Script) (ts : List ℕ) (t : ℕ) →
     turns_of script (ts ++ t ∷ []) ≡ turns_of script ts ++ turn_at script (run script ts) t ∷ []
 unfolding run
-turns_of-append script ts t = turns_from-append script ts (beginning script) t
+turns_of-append script ts t = turns_from-append script ts (first_history script) t
 
 pub state_after-turns_from :
     (script : Script) (ts : List ℕ) (h : History) →
     state_after h.state (turns_from script h ts) ≡ (run_from script h ts).state
 state_after-turns_from script [] h = refl
-state_after-turns_from script (u ∷ us) h = state_after-turns_from script us (turn script h u)
+state_after-turns_from script (u ∷ us) h = state_after-turns_from script us (history_after script h u)
 
 pub state_after-turns_of :
     (script : Script) (ts : List ℕ) → state_after (opening_of script) (turns_of script ts) ≡ (run script ts).state
 unfolding run
-state_after-turns_of script ts = state_after-turns_from script ts (beginning script)
+state_after-turns_of script ts = state_after-turns_from script ts (first_history script)
 
 pub AreRunnableFrom-append :
     (script : Script) (ts : List ℕ) (h : History) (t : ℕ) →
-    AreRunnableFrom script h ts → runnable (run_from script h ts).state t ≡ true → AreRunnableFrom script h (ts ++ t ∷ [])
+    AreRunnableFrom script h ts → is_runnable (run_from script h ts).state t ≡ true → AreRunnableFrom script h (ts ++ t ∷ [])
 AreRunnableFrom-append script [] h t all here = (here, tt)
 AreRunnableFrom-append script (u ∷ us) h t all here =
-    (all.0, AreRunnableFrom-append script us (turn script h u) t all.1 here)
+    (all.0, AreRunnableFrom-append script us (history_after script h u) t all.1 here)
 
 IsOpening-with_script_threads :
     (xs : List ScriptThread) (m : State) → IsOpening m → IsOpening (with_script_threads m xs)
@@ -67,13 +64,13 @@ pub IsOpening-opening_of : (script : Script) → IsOpening (opening_of script)
 IsOpening-opening_of script =
     IsOpening-with_script_threads script.threads _ (processes (map limit_of script.processes))
 
-pub threads_of-append : (es fs : List Event) → threads_of (es ++ fs) ≡ threads_of es ++ threads_of fs
-threads_of-append [] fs = refl
-threads_of-append (e ∷ es) fs = ap (λ ts. thread_number e ∷ ts) (threads_of-append es fs)
+pub threads_of_events-append : (es fs : List Event) → threads_of_events (es ++ fs) ≡ threads_of_events es ++ threads_of_events fs
+threads_of_events-append [] fs = refl
+threads_of_events-append (e ∷ es) fs = ap (λ ts. thread_of_event e ∷ ts) (threads_of_events-append es fs)
 
-pub length-threads_of : (es : List Event) → length (threads_of es) ≡ length es
-length-threads_of [] = refl
-length-threads_of (e ∷ es) = ap suc (length-threads_of es)
+pub length-threads_of_events : (es : List Event) → length (threads_of_events es) ≡ length es
+length-threads_of_events [] = refl
+length-threads_of_events (e ∷ es) = ap suc (length-threads_of_events es)
 
 frame_from-append :
     (script : Script) (u : ℕ) (es : List Event) (f : Frame) (e : Event) →
@@ -91,9 +88,9 @@ events-run_from :
     (script : Script) (ts : List ℕ) (h : History) → (run_from script h ts).state.events ≡ h.state.events + length ts
 events-run_from script [] h = omega arith
 events-run_from script (u ∷ us) h =
-    let one : (turn script h u).state.events ≡ h.state.events + 1 = events-step h.state u (asked script h u)
-    in let rest : (run_from script (turn script h u) us).state.events ≡ (turn script h u).state.events + length us =
-    events-run_from script us (turn script h u)
+    let one : (history_after script h u).state.events ≡ h.state.events + 1 = events-step h.state u (request_at_turn script h u)
+    in let rest : (run_from script (history_after script h u) us).state.events ≡ (history_after script h u).state.events + length us =
+    events-run_from script us (history_after script h u)
     in omega arith
 
 -- a run counts its turns
@@ -101,6 +98,6 @@ pub events-run : (script : Script) (ts : List ℕ) → (run script ts).state.eve
 unfolding run
 events-run script ts =
     let none : (opening_of script).events ≡ 0 = (opened (IsOpening-opening_of script)).events
-    in let rest : (run_from script (beginning script) ts).state.events ≡ (opening_of script).events + length ts =
-    events-run_from script ts (beginning script)
+    in let rest : (run_from script (first_history script) ts).state.events ≡ (opening_of script).events + length ts =
+    events-run_from script ts (first_history script)
     in omega arith

@@ -5,18 +5,15 @@ use Rattle.std.specs.Fmt.{digits}
 use Rattle.dk_base.specs.declared.error.Errno.TheVariants.{ENOENT, EBUSY}
 use Rattle.script_line.specs.declared.line.Cond.TheVariants.{Good, Errno as Failed}
 use Rattle.script_line.specs.declared.line.FdArg.TheVariants.{Of as OfFd}
-use Rattle.script_line.specs.declared.line.Line.{Line}
+use Rattle.script_lang.specs.Types.{Line}
 use Rattle.script_line.specs.declared.line.Line.TheVariants as line
-use Rattle.script_line.specs.Commands.{create_line, attach_line, open_line, repeat_line, if_line, end_line}
-use Rattle.script_line.specs.Keywords.{door_keyword, descriptor_keyword, port_keyword, other_keyword}
+use Rattle.line_reader.specs.Words.{attach_line, create_line, end_line, if_line, open_line, repeat_line}
+use Rattle.script_line.specs.Words.{keyword_create_to_info, keyword_getn_to_end, keyword_getparam_to_detach, keyword_open_to_get}
 use Rattle.script_lang.specs.declared.script.Part.TheVariants as part
-use Rattle.script_lang.specs.Items.{process_item, thread_item, procedure_item}
-use Rattle.script_lang.specs.Reading.{reading, line_read, line_spelled}
-use Rattle.script_lang.specs.TextTables.{tables_of_lines}
-use Rattle.script_lang.specs.Value.{ScriptValue}
-use Rattle.written_kernel.specs.Step.{step}
-use Rattle.written_script.specs.Rows.{loops_script, loops_text, text_of_played, PlaysAs}
-use Rattle.written_script.specs.ScriptRuns.{run, played, refusal}
+use Rattle.script_lang.specs.Words.{ScriptValue, line_read, line_spelling, parse_result, procedure_item, process_item, tables_of_lines, thread_item}
+use Rattle.written_kernel.specs.Words.{step}
+use Rattle.written_script.specs.WorkedRuns.{loops_script, loops_trace, text_of_play, PlaysAs}
+use Rattle.written_script.specs.ScriptRuns.{run, turns_of_play, refusal}
 use Rattle.written_script.specs.TraceText.{trace_text, line_of, end_line_of}
 use Rattle.written_script.specs.Variables.{greatest_data}
 
@@ -57,13 +54,13 @@ loops_value =
       schedule = [];
     }
 
-loops_reading : reading loops_script ≡ Ok loops_value
-unfolding reading line_read line_spelled tables_of_lines process_item thread_item procedure_item door_keyword descriptor_keyword port_keyword other_keyword create_line attach_line open_line repeat_line if_line end_line
+loops_reading : parse_result loops_script ≡ Ok loops_value
+unfolding parse_result line_read line_spelling tables_of_lines process_item thread_item procedure_item keyword_create_to_info keyword_getparam_to_detach keyword_open_to_get keyword_getn_to_end create_line attach_line open_line repeat_line if_line end_line
 loops_reading = refl
 
-loops_play : text_of_played loops_value ≡ loops_text
-unfolding played refusal run step trace_text line_of end_line_of digits greatest_data
+loops_play : text_of_play loops_value ≡ loops_trace
+unfolding turns_of_play refusal run step trace_text line_of end_line_of digits greatest_data
 loops_play = refl
 
-pub loops_row : PlaysAs loops_script loops_text
+pub loops_row : PlaysAs loops_script loops_trace
 loops_row = record { script = loops_value; spelled = loops_reading; trace = loops_play }

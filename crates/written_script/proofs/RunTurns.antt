@@ -4,38 +4,29 @@ use Rattle.std.specs.Prelude.{All}
 use Rattle.std.proofs.lemmas.Bool.{false≢true}
 use Rattle.std.proofs.lemmas.List.Elements.{All-nil, All-head, All-tail, All-push, All-weaker}
 use Rattle.std.proofs.lemmas.Option.{slice_get_within}
-use Rattle.dk_base.specs.declared.event.Event.{Event}
-use Rattle.dk_base.specs.declared.record.Thread.{Thread}
-use Rattle.written_kernel.specs.Answers.{IsEntering}
-use Rattle.written_kernel.specs.Legal.{MayTurn}
-use Rattle.written_kernel.specs.Opening.{no_process, opening, with_processes, with_new_process, new_thread, with_new_thread}
-use Rattle.written_kernel.specs.Runs.{IsRun}
-use Rattle.written_kernel.specs.State.{State, thread_of, process_in, process_of, state_in, invocation_of}
-use Rattle.written_kernel.specs.Step.{step, event_of}
-use Rattle.written_kernel.specs.Turns.{runnable, can_go_on, is_running}
+use Rattle.written_kernel.specs.Types.{Event, Thread}
+use Rattle.written_kernel.specs.Words.{IsEntering, IsRun, MayTurn, State, can_go_on, event_of, invocation_of, is_runnable, is_running, new_thread, no_process, opening, process_in, process_of, state_in, step, thread_of, with_new_process, with_new_thread, with_processes}
 use Rattle.written_kernel.proofs.Lists.{numbered_within, numbered_there}
-use Rattle.written_kernel.proofs.Invocations.{invocation-step}
+use Rattle.written_kernel.proofs.Invocations.{new_invocation-step}
 use Rattle.written_kernel.proofs.Opening.{opened, invocation_of-opening}
 use Rattle.written_kernel.proofs.Steps.{events-step, threads-step, processes-step, process_of-step}
-use Rattle.script_line.specs.declared.line.Line.{Line}
+use Rattle.script_lang.specs.Types.{Line}
 use Rattle.script_line.specs.declared.line.Line.TheVariants as line
-use Rattle.script_lang.specs.declared.script.Procedure.{Procedure}
-use Rattle.script_lang.specs.declared.script.ScriptProcess.{ScriptProcess}
-use Rattle.script_lang.specs.declared.script.ScriptThread.{ScriptThread}
-use Rattle.script_lang.specs.Value.{ScriptValue}
+use Rattle.written_script.specs.Types.{Procedure, ScriptProcess, ScriptThread}
+use Rattle.script_lang.specs.Words.{ScriptValue}
 use Rattle.written_script.specs.DeclaredNames.{IsNumberOf, IsThread, IsProcess, IsDeclaredAnswer, IsDeclaredEvent, IsDeclaredDoor, IsDeclared}
-use Rattle.written_script.specs.Later.{later, is_later_form, is_later_line, is_later_thread, is_later_procedure, form_of_spare}
-use Rattle.written_script.specs.Requests.{Frame, request_at, request_at_end, request_ahead, request_after, taken, frame_after, frame_of}
-use Rattle.written_script.specs.ScriptRuns.{History, limit_of, with_script_threads, opening_of, beginning, asked, turn, run, run_from, AreRunnableFrom, IsAllowed, turns_from, turns_of}
+use Rattle.written_script.specs.Later.{has_later_parts, is_later, is_later_line, is_later_thread, is_later_procedure, capability_of_spare}
+use Rattle.written_script.specs.Requests.{Frame, request_at, request_at_end, request_ahead, request_after, frame_after_answer, frame_after, frame_of}
+use Rattle.written_script.specs.ScriptRuns.{History, limit_of, with_script_threads, opening_of, first_history, request_at_turn, history_after, run, run_from, AreRunnableFrom, IsAllowed, turns_from, turns_of}
 use Rattle.written_script.specs.Sound.{IsFitLine, IsSoundThread, IsSoundProcedure, IsSound, IsPlayable}
-use Rattle.written_script.specs.Steps.{Step}
-use Rattle.written_script.specs.Steps.Step.{Do, When}
+use Rattle.written_script.specs.Steps.{BodyStep}
+use Rattle.written_script.specs.Steps.BodyStep.{Do, When}
 use Rattle.written_script.specs.Variables.{Variables}
 use Rattle.written_script.proofs.DeclaredStates.{IsKnown, MakesDeclared, AsksDeclared, step-known, root-declared, waiting-declared}
-use Rattle.written_script.proofs.Elements.{All-numbered, All-none}
+use Rattle.written_script.proofs.Elements.{All-at_number, All-none}
 use Rattle.written_script.proofs.FitRequests.{HasThreads, IsFitSomewhere, fit-somewhere, IsBuiltLine, request-fit, request-built, request-inside}
 use Rattle.written_script.proofs.Histories.{frame_of-append, IsOpening-opening_of, events-run}
-use Rattle.written_script.proofs.SoundFrames.{IsStep, AreSteps, AreLines, IsFrame, frame_of-frame, taken-procedure, entering-procedure}
+use Rattle.written_script.proofs.SoundFrames.{IsStep, AreSteps, AreLines, IsFrame, frame_of-frame, frame_after_answer-procedure, entering-procedure}
 
 -- the lines of a sound script
 
@@ -62,16 +53,16 @@ neither : (a b : Bool) → (a || b) ≡ false → (a ≡ false) × (b ≡ false)
 neither true b h = cc
 neither false b h = (refl, h)
 
-built-lines : (script : ScriptValue) → later script ≡ false → AreLines IsBuiltLine script
+built-lines : (script : ScriptValue) → has_later_parts script ≡ false → AreLines IsBuiltLine script
 built-lines script none =
-    let bodies = (neither (is_later_form 2) _ none).1
+    let bodies = (neither (is_later 2) _ none).1
     in let both = neither _ _ bodies
     in record {
       threads =
           All-weaker
           (λ (x : ScriptThread). is_later_thread x ≡ false)
           (λ (x : ScriptThread). All (IsBuiltLine false) x.body)
-          (λ x h. All-none (is_later_line false) x.body (neither (is_later_form (form_of_spare x.spare)) _ h).1)
+          (λ x h. All-none (is_later_line false) x.body (neither (is_later (capability_of_spare x.spare)) _ h).1)
           script.threads
           (All-none is_later_thread script.threads both.0);
       procedures =
@@ -93,15 +84,15 @@ makes_at_end : (script : ScriptValue) (procedure : Bool) → MakesDeclared scrip
 makes_at_end script true = tt
 makes_at_end script false = tt
 
-makes_ahead : (script : ScriptValue) (f : Frame) (steps : List Step) → AreSteps (IsFitSomewhere script) steps → MakesDeclared script (request_ahead f steps)
+makes_ahead : (script : ScriptValue) (f : Frame) (steps : List BodyStep) → AreSteps (IsFitSomewhere script) steps → MakesDeclared script (request_ahead f steps)
 makes_ahead script f [] all = makes_at_end script f.procedure
 makes_ahead script f (When cond n ∷ steps) all = makes_at_end script f.procedure
 makes_ahead script f (Do x ∷ steps) all =
     let here = All-head (IsStep (IsFitSomewhere script)) (Do x) steps all
     in makes_at script here.1.process f.variables x here.1.fit
 
-asked-declared : (script : ScriptValue) (h : History) (t : ℕ) → IsSound script → AsksDeclared script (asked script h t)
-asked-declared script h t sound = by_test (is_running h.state t)
+request_at_turn-declared : (script : ScriptValue) (h : History) (t : ℕ) → IsSound script → AsksDeclared script (request_at_turn script h t)
+request_at_turn-declared script h t sound = by_test (is_running h.state t)
   where
     by_test : (b : Bool) → AsksDeclared script (if b then Some (request_after script t h.events) else None)
     by_test true =
@@ -113,8 +104,8 @@ asked-declared script h t sound = by_test (is_running h.state t)
     by_test false = tt
 
 -- a runnable thread is there
-pub runnable-there : (m : State) (t : ℕ) → runnable m t ≡ true → IsNumberOf (length m.threads) t
-runnable-there m t h = by_thread (thread_of m t) refl h
+pub is_runnable-there : (m : State) (t : ℕ) → is_runnable m t ≡ true → IsNumberOf (length m.threads) t
+is_runnable-there m t h = by_thread (thread_of m t) refl h
   where
     by_thread : (x : Option Thread) → thread_of m t ≡ x → can_go_on m (state_in x) ≡ true → IsNumberOf (length m.threads) t
     by_thread None e h = absurd (false≢true h)
@@ -133,8 +124,8 @@ frame_after-procedure :
     (script : ScriptValue) (u : ℕ) (f : Frame) (e : Event) → f.procedure ≡ true → (frame_after script u f e).procedure ≡ true
 frame_after-procedure script u f e h = by_test (e.thread.0 == u)
   where
-    by_test : (b : Bool) → (if b then taken script f e.answer else f).procedure ≡ true
-    by_test true = taken-procedure script f e.answer h
+    by_test : (b : Bool) → (if b then frame_after_answer script f e.answer else f).procedure ≡ true
+    by_test true = frame_after_answer-procedure script f e.answer h
     by_test false = h
 
 frame_after-entering :
@@ -143,68 +134,68 @@ frame_after-entering :
 frame_after-entering script u f e same h =
     let test : (e.thread.0 == u) ≡ true = eq-eqb e.thread.0 u same in rw test (entering-procedure script f e.answer h)
 
-inside-turn : (script : ScriptValue) (h : History) (t : ℕ) → IsKnownHistory script h → (u : ℕ) → IsSome (invocation_of (turn script h t).state u) → (frame_of script u (turn script h t).events).procedure ≡ true
-inside-turn script h t kept u some = rw frame_of-append (by_cause (invocation-step h.state t u (asked script h t) some))
+inside-history_after : (script : ScriptValue) (h : History) (t : ℕ) → IsKnownHistory script h → (u : ℕ) → IsSome (invocation_of (history_after script h t).state u) → (frame_of script u (history_after script h t).events).procedure ≡ true
+inside-history_after script h t kept u some = rw frame_of-append (by_cause (new_invocation-step h.state t u (request_at_turn script h t) some))
   where
     by_cause :
-        IsSome (invocation_of h.state u) ⊎ ((u ≡ t) × IsEntering (step h.state t (asked script h t)).answer) →
-        (frame_after script u (frame_of script u h.events) (event_of h.state t (asked script h t))).procedure ≡ true
+        IsSome (invocation_of h.state u) ⊎ ((u ≡ t) × IsEntering (step h.state t (request_at_turn script h t)).answer) →
+        (frame_after script u (frame_of script u h.events) (event_of h.state t (request_at_turn script h t))).procedure ≡ true
     by_cause (inl had) =
-        frame_after-procedure script u (frame_of script u h.events) (event_of h.state t (asked script h t)) (kept.inside u had)
+        frame_after-procedure script u (frame_of script u h.events) (event_of h.state t (request_at_turn script h t)) (kept.inside u had)
     by_cause (inr entered) =
         frame_after-entering
         script
         u
         (frame_of script u h.events)
-        (event_of h.state t (asked script h t))
+        (event_of h.state t (request_at_turn script h t))
         (sym entered.0)
         entered.1
 
 -- the thread of a turn is declared
-pub turn-thread : (script : ScriptValue) (h : History) (t : ℕ) → IsKnownHistory script h → runnable h.state t ≡ true → IsThread script t
-turn-thread script h t kept can =
-    let there : IsNumberOf (length h.state.threads) t = runnable-there h.state t can
+pub history_after-thread : (script : ScriptValue) (h : History) (t : ℕ) → IsKnownHistory script h → is_runnable h.state t ≡ true → IsThread script t
+history_after-thread script h t kept can =
+    let there : IsNumberOf (length h.state.threads) t = is_runnable-there h.state t can
     in let low : 1 ≤ t = there.0
     in let high : t ≤ length h.state.threads = there.1
     in let same : length h.state.threads ≡ length script.threads = kept.has.threads
     in let last : t ≤ length script.threads = omega arith
     in (low, last)
 
-pub IsKnownHistory-turn :
-    (script : ScriptValue) (h : History) (t : ℕ) → IsSound script → IsKnownHistory script h → runnable h.state t ≡ true →
-    IsKnownHistory script (turn script h t)
-IsKnownHistory-turn script h t sound kept can =
-    let thread : IsThread script t = turn-thread script h t kept can
-    in let after = step-known script h.state t (asked script h t) kept.known thread (kept.owners t thread) (asked-declared script h t sound)
+pub IsKnownHistory-history_after :
+    (script : ScriptValue) (h : History) (t : ℕ) → IsSound script → IsKnownHistory script h → is_runnable h.state t ≡ true →
+    IsKnownHistory script (history_after script h t)
+IsKnownHistory-history_after script h t sound kept can =
+    let thread : IsThread script t = history_after-thread script h t kept can
+    in let after = step-known script h.state t (request_at_turn script h t) kept.known thread (kept.owners t thread) (request_at_turn-declared script h t sound)
     in record {
       has = record {
-        threads = threads-step h.state t (asked script h t) ∙ kept.has.threads;
-        processes = processes-step h.state t (asked script h t) ∙ kept.has.processes;
+        threads = threads-step h.state t (request_at_turn script h t) ∙ kept.has.threads;
+        processes = processes-step h.state t (request_at_turn script h t) ∙ kept.has.processes;
       };
-      owners = λ u known. rw (process_of-step h.state t u (asked script h t)) (kept.owners u known);
+      owners = λ u known. rw (process_of-step h.state t u (request_at_turn script h t)) (kept.owners u known);
       known = after.state;
       events =
           All-push
           (IsDeclaredEvent script)
           h.events
-          (event_of h.state t (asked script h t))
+          (event_of h.state t (request_at_turn script h t))
           kept.events
           (record { thread = thread; root = root-declared script h.state t kept.known thread; answer = after.answer });
-      inside = inside-turn script h t kept;
+      inside = inside-history_after script h t kept;
     }
 
 -- what the answer of a turn names is declared
-pub turn-answer :
-    (script : ScriptValue) (h : History) (t : ℕ) → IsSound script → IsKnownHistory script h → runnable h.state t ≡ true →
-    IsDeclaredAnswer script (step h.state t (asked script h t)).answer
-turn-answer script h t sound kept can =
-    let thread : IsThread script t = turn-thread script h t kept can
-    in (step-known script h.state t (asked script h t) kept.known thread (kept.owners t thread) (asked-declared script h t sound)).answer
+pub history_after-answer :
+    (script : ScriptValue) (h : History) (t : ℕ) → IsSound script → IsKnownHistory script h → is_runnable h.state t ≡ true →
+    IsDeclaredAnswer script (step h.state t (request_at_turn script h t)).answer
+history_after-answer script h t sound kept can =
+    let thread : IsThread script t = history_after-thread script h t kept can
+    in (step-known script h.state t (request_at_turn script h t) kept.known thread (kept.owners t thread) (request_at_turn-declared script h t sound)).answer
 
 -- each runnable thread's turn is one that the kernel takes
 pub may_turn :
-    (script : ScriptValue) (h : History) (t : ℕ) → IsPlayable script → IsKnownHistory script h → runnable h.state t ≡ true →
-    h.state.events < 1000000 → MayTurn h.state t (asked script h t)
+    (script : ScriptValue) (h : History) (t : ℕ) → IsPlayable script → IsKnownHistory script h → is_runnable h.state t ≡ true →
+    h.state.events < 1000000 → MayTurn h.state t (request_at_turn script h t)
 may_turn script h t playable kept can few = by_test (is_running h.state t) refl
   where
     built : IsFrame IsBuiltLine (frame_of script t h.events)
@@ -316,10 +307,10 @@ owner-there script m u has all thread = by_thread (thread_of m u) refl
 
     by_thread : (o : Option Thread) → thread_of m u ≡ o → IsProcess script (process_in o)
     by_thread None e = absurd (false≢true (subst (λ (o : Option Thread). IsSome o) e there))
-    by_thread (Some x) e = All-numbered (OwnsProcess script) m.threads u x all e
+    by_thread (Some x) e = All-at_number (OwnsProcess script) m.threads u x all e
 
-pub IsKnownHistory-beginning : (script : ScriptValue) → IsSound script → IsKnownHistory script (beginning script)
-IsKnownHistory-beginning script sound =
+pub IsKnownHistory-first_history : (script : ScriptValue) → IsSound script → IsKnownHistory script (first_history script)
+IsKnownHistory-first_history script sound =
     let opens = opened (IsOpening-opening_of script)
     in record {
       has = opening-has script;
@@ -339,12 +330,12 @@ run_from-known :
     IsKnownHistory script (run_from script h ts)
 run_from-known script [] h sound kept can = kept
 run_from-known script (t ∷ ts) h sound kept can =
-    run_from-known script ts (turn script h t) sound (IsKnownHistory-turn script h t sound kept can.0) can.1
+    run_from-known script ts (history_after script h t) sound (IsKnownHistory-history_after script h t sound kept can.0) can.1
 
 pub run-known : (script : ScriptValue) (ts : List ℕ) → IsSound script → IsAllowed script ts → IsKnownHistory script (run script ts)
 unfolding run
 run-known script ts sound allowed =
-    run_from-known script ts (beginning script) sound (IsKnownHistory-beginning script sound) allowed.runnable
+    run_from-known script ts (first_history script) sound (IsKnownHistory-first_history script sound) allowed.runnable
 
 pub declared-known : (script : ScriptValue) (h : History) → IsKnownHistory script h → IsDeclared script h
 declared-known script h kept =
@@ -354,8 +345,8 @@ pub run-declared : (script : ScriptValue) (ts : List ℕ) → IsSound script →
 run-declared script ts sound allowed = declared-known script (run script ts) (run-known script ts sound allowed)
 
 pub run-may_turn :
-    (script : ScriptValue) (ts : List ℕ) (t : ℕ) → IsPlayable script → IsAllowed script ts → runnable (run script ts).state t ≡ true →
-    MayTurn (run script ts).state t (asked script (run script ts) t)
+    (script : ScriptValue) (ts : List ℕ) (t : ℕ) → IsPlayable script → IsAllowed script ts → is_runnable (run script ts).state t ≡ true →
+    MayTurn (run script ts).state t (request_at_turn script (run script ts) t)
 run-may_turn script ts t playable allowed can =
     let within : length ts ≤ script.budget = allowed.within
     in let small : script.budget ≤ 100000 = playable.sound.small_budget
@@ -369,12 +360,12 @@ turns_from-run :
     h.state.events + length ts < 1000000 → AreRunnableFrom script h ts → IsRun h.state (turns_from script h ts)
 turns_from-run script [] h playable kept few can = tt
 turns_from-run script (t ∷ ts) h playable kept few can =
-    let one : (turn script h t).state.events ≡ h.state.events + 1 = events-step h.state t (asked script h t)
+    let one : (history_after script h t).state.events ≡ h.state.events + 1 = events-step h.state t (request_at_turn script h t)
     in let left : h.state.events < 1000000 = omega arith
-    in let rest : (turn script h t).state.events + length ts < 1000000 = omega arith
+    in let rest : (history_after script h t).state.events + length ts < 1000000 = omega arith
     in (
       may_turn script h t playable kept can.0 left,
-      turns_from-run script ts (turn script h t) playable (IsKnownHistory-turn script h t playable.sound kept can.0) rest can.1,
+      turns_from-run script ts (history_after script h t) playable (IsKnownHistory-history_after script h t playable.sound kept can.0) rest can.1,
     )
 
 pub turns_of-run : (script : ScriptValue) (ts : List ℕ) → IsPlayable script → IsAllowed script ts → IsRun (opening_of script) (turns_of script ts)
@@ -386,8 +377,8 @@ turns_of-run script ts playable allowed =
     in turns_from-run
     script
     ts
-    (beginning script)
+    (first_history script)
     playable
-    (IsKnownHistory-beginning script playable.sound)
+    (IsKnownHistory-first_history script playable.sound)
     few
     allowed.runnable

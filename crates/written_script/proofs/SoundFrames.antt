@@ -2,47 +2,43 @@
 use Rattle.std.proofs.Common.{◌≡◌, ℕ, List, [], ◌∷◌, ◌++◌, Option, Some, None, Bool, true, false, if◌then◌else◌, refl, zero, suc}
 use Rattle.std.specs.Prelude.{All, slice_get, ◌==◌}
 use Rattle.std.proofs.lemmas.List.Elements.{All-nil, All-cons, All-head, All-tail, All-append}
-use Rattle.dk_base.specs.declared.answer.Answer.{Answer}
+use Rattle.written_kernel.specs.Types.{Answer, Event}
 use Rattle.dk_base.specs.declared.answer.Answer.TheVariants as answer
-use Rattle.dk_base.specs.declared.event.Event.{Event}
-use Rattle.written_kernel.specs.Answers.{IsEntering}
-use Rattle.written_kernel.specs.Numbered.{numbered}
-use Rattle.script_line.specs.declared.line.Cond.{Cond}
-use Rattle.script_line.specs.declared.line.Kind.{Kind}
+use Rattle.dk_base.specs.ByNumber.{at_number}
+use Rattle.written_kernel.specs.Words.{IsEntering}
+use Rattle.script_lang.specs.Types.{Cond, Kind, Line}
 use Rattle.script_line.specs.declared.line.Kind.TheVariants.{Act, Loop, Test, Closing}
-use Rattle.script_line.specs.declared.line.Line.{Line}
-use Rattle.script_line.specs.Kinds.{kind_of}
-use Rattle.script_lang.specs.declared.script.Procedure.{Procedure}
-use Rattle.script_lang.specs.declared.script.ScriptThread.{ScriptThread}
-use Rattle.script_lang.specs.Value.{ScriptValue}
-use Rattle.written_script.specs.Requests.{Frame, holds, begun, first_frame_in, first_frame, body_in, procedure_body, procedure_frame, behind, answered, taken, frame_after, frame_from, frame_of}
-use Rattle.written_script.specs.Steps.{Step, copies, innermost_block, outer_blocks, before_innermost, guarded, line_before, blocks_of, written_out, upcoming, times_of, cond_of}
-use Rattle.written_script.specs.Steps.Step.{Do, When}
+use Rattle.script_line.specs.Words.{kind_of}
+use Rattle.written_script.specs.Types.{Procedure, ScriptThread}
+use Rattle.script_lang.specs.Words.{ScriptValue}
+use Rattle.written_script.specs.Requests.{Frame, is_met, new_frame, first_frame_or_empty, first_frame, body_or_empty, procedure_body, procedure_frame, steps_after, frame_after_command, frame_after_answer, frame_after, frame_from, frame_of}
+use Rattle.written_script.specs.Steps.{BodyStep, copies, innermost_block, outer_blocks, before_innermost, tested_steps, line_before, blocks_of, steps_of_body, next_steps, times_of, tested_condition}
+use Rattle.written_script.specs.Steps.BodyStep.{Do, When}
 use Rattle.written_script.specs.Variables.{Variables}
-use Rattle.written_script.proofs.Elements.{All-slice_get, All-numbered}
+use Rattle.written_script.proofs.Elements.{All-slice_get, All-at_number}
 
 -- a step that is a command of which P holds, or a test
-abbrev pub IsStep : (Line → Type 0) → Step → Type 0
+abbrev pub IsStep : (Line → Type 0) → BodyStep → Type 0
 IsStep P (Do line) = (kind_of line ≡ Act) × P line
 IsStep P (When cond n) = Unit {0}
 
-abbrev pub AreSteps : (Line → Type 0) → List Step → Type 0
+abbrev pub AreSteps : (Line → Type 0) → List BodyStep → Type 0
 AreSteps P steps = All (IsStep P) steps
 
 -- of each block
-abbrev AreBlocks : (Line → Type 0) → List (List Step) → Type 0
+abbrev AreBlocks : (Line → Type 0) → List (List BodyStep) → Type 0
 AreBlocks P blocks = All (AreSteps P) blocks
 
-innermost_block-steps : (P : Line → Type 0) (blocks : List (List Step)) → AreBlocks P blocks → AreSteps P (innermost_block blocks)
+innermost_block-steps : (P : Line → Type 0) (blocks : List (List BodyStep)) → AreBlocks P blocks → AreSteps P (innermost_block blocks)
 innermost_block-steps P [] h = All-nil (IsStep P)
 innermost_block-steps P (block ∷ blocks) h = All-head (AreSteps P) block blocks h
 
-outer_blocks-blocks : (P : Line → Type 0) (blocks : List (List Step)) → AreBlocks P blocks → AreBlocks P (outer_blocks blocks)
+outer_blocks-blocks : (P : Line → Type 0) (blocks : List (List BodyStep)) → AreBlocks P blocks → AreBlocks P (outer_blocks blocks)
 outer_blocks-blocks P [] h = h
 outer_blocks-blocks P (block ∷ blocks) h = All-tail (AreSteps P) block blocks h
 
 before_innermost-blocks :
-    (P : Line → Type 0) (steps : List Step) (blocks : List (List Step)) →
+    (P : Line → Type 0) (steps : List BodyStep) (blocks : List (List BodyStep)) →
     AreSteps P steps → AreBlocks P blocks → AreBlocks P (before_innermost steps blocks)
 before_innermost-blocks P steps blocks first h =
     All-cons
@@ -52,15 +48,15 @@ before_innermost-blocks P steps blocks first h =
     (All-append (IsStep P) steps (innermost_block blocks) first (innermost_block-steps P blocks h))
     (outer_blocks-blocks P blocks h)
 
-copies-steps : (P : Line → Type 0) (n : ℕ) (steps : List Step) → AreSteps P steps → AreSteps P (copies n steps)
+copies-steps : (P : Line → Type 0) (n : ℕ) (steps : List BodyStep) → AreSteps P steps → AreSteps P (copies n steps)
 copies-steps P zero steps h = All-nil (IsStep P)
 copies-steps P (suc n) steps h = All-append (IsStep P) steps (copies n steps) h (copies-steps P n steps h)
 
-guarded-steps : (P : Line → Type 0) (cond : Cond) (block : List Step) → AreSteps P block → AreSteps P (guarded cond block)
-guarded-steps P cond block h = All-cons (IsStep P) (When cond _) block tt h
+tested_steps-steps : (P : Line → Type 0) (cond : Cond) (block : List BodyStep) → AreSteps P block → AreSteps P (tested_steps cond block)
+tested_steps-steps P cond block h = All-cons (IsStep P) (When cond _) block tt h
 
 line_before-blocks :
-    (P : Line → Type 0) (line : Line) (kind : Kind) (blocks : List (List Step)) → kind_of line ≡ kind →
+    (P : Line → Type 0) (line : Line) (kind : Kind) (blocks : List (List BodyStep)) → kind_of line ≡ kind →
     P line → AreBlocks P blocks → AreBlocks P (line_before line kind blocks)
 line_before-blocks P line Act blocks same here h =
     before_innermost-blocks P (Do line ∷ []) blocks (All-cons (IsStep P) (Do line) [] (same, here) (All-nil (IsStep P))) h
@@ -74,9 +70,9 @@ line_before-blocks P line Loop blocks same here h =
 line_before-blocks P line Test blocks same here h =
     before_innermost-blocks
     P
-    (guarded (cond_of line) (innermost_block blocks))
+    (tested_steps (tested_condition line) (innermost_block blocks))
     (outer_blocks blocks)
-    (guarded-steps P (cond_of line) (innermost_block blocks) (innermost_block-steps P blocks h))
+    (tested_steps-steps P (tested_condition line) (innermost_block blocks) (innermost_block-steps P blocks h))
     (outer_blocks-blocks P blocks h)
 line_before-blocks P line Closing blocks same here h = All-cons (AreSteps P) [] blocks (All-nil (IsStep P)) h
 
@@ -92,20 +88,20 @@ blocks_of-blocks P (line ∷ lines) h =
     (All-head P line lines h)
     (blocks_of-blocks P lines (All-tail P line lines h))
 
-written_out-steps : (P : Line → Type 0) (body : List Line) → All P body → AreSteps P (written_out body)
-written_out-steps P body h = innermost_block-steps P (blocks_of body) (blocks_of-blocks P body h)
+steps_of_body-steps : (P : Line → Type 0) (body : List Line) → All P body → AreSteps P (steps_of_body body)
+steps_of_body-steps P body h = innermost_block-steps P (blocks_of body) (blocks_of-blocks P body h)
 
-upcoming-steps :
-    (P : Line → Type 0) (test : Cond → Bool) (skip : ℕ) (steps : List Step) → AreSteps P steps → AreSteps P (upcoming test skip steps)
-upcoming-steps P test skip [] h = h
-upcoming-steps P test (suc skip) (step ∷ steps) h = upcoming-steps P test skip steps (All-tail (IsStep P) step steps h)
-upcoming-steps P test zero (Do line ∷ steps) h = h
-upcoming-steps P test zero (When cond n ∷ steps) h =
-    upcoming-steps P test (if test cond then 0 else n) steps (All-tail (IsStep P) (When cond n) steps h)
+next_steps-steps :
+    (P : Line → Type 0) (test : Cond → Bool) (skip : ℕ) (steps : List BodyStep) → AreSteps P steps → AreSteps P (next_steps test skip steps)
+next_steps-steps P test skip [] h = h
+next_steps-steps P test (suc skip) (step ∷ steps) h = next_steps-steps P test skip steps (All-tail (IsStep P) step steps h)
+next_steps-steps P test zero (Do line ∷ steps) h = h
+next_steps-steps P test zero (When cond n ∷ steps) h =
+    next_steps-steps P test (if test cond then 0 else n) steps (All-tail (IsStep P) (When cond n) steps h)
 
-behind-steps : (P : Line → Type 0) (steps : List Step) → AreSteps P steps → AreSteps P (behind steps)
-behind-steps P [] h = h
-behind-steps P (step ∷ steps) h = All-tail (IsStep P) step steps h
+steps_after-steps : (P : Line → Type 0) (steps : List BodyStep) → AreSteps P steps → AreSteps P (steps_after steps)
+steps_after-steps P [] h = h
+steps_after-steps P (step ∷ steps) h = All-tail (IsStep P) step steps h
 
 -- P holds of each line of the threads' bodies, and of the procedures'
 pub record AreLines (P : Bool → Line → Type 0) (script : ScriptValue) : Type 0 where
@@ -116,65 +112,65 @@ pub record AreLines (P : Bool → Line → Type 0) (script : ScriptValue) : Type
 pub record IsFrame (P : Bool → Line → Type 0) (f : Frame) : Type 0 where
   pub steps : AreSteps (P f.procedure) f.steps
 
-begun-frame :
+new_frame-frame :
     (P : Bool → Line → Type 0) (procedure notice : Bool) (variables : Variables) (body : List Line) →
-    All (P procedure) body → IsFrame P (begun procedure notice variables body)
-begun-frame P procedure notice variables body h =
+    All (P procedure) body → IsFrame P (new_frame procedure notice variables body)
+new_frame-frame P procedure notice variables body h =
     record {
       steps =
-          upcoming-steps
+          next_steps-steps
           (P procedure)
-          (holds answer.Done notice)
+          (is_met answer.Done notice)
           0
-          (written_out body)
-          (written_out-steps (P procedure) body h);
+          (steps_of_body body)
+          (steps_of_body-steps (P procedure) body h);
     }
 
 first_frame-frame : (P : Bool → Line → Type 0) (script : ScriptValue) (u : ℕ) → AreLines P script → IsFrame P (first_frame script u)
-first_frame-frame P script u h = by_thread (numbered script.threads u) refl
+first_frame-frame P script u h = by_thread (at_number script.threads u) refl
   where
-    by_spare : (x : ScriptThread) (spare : Bool) (variables : Variables) → All (P false) x.body → IsFrame P (begun spare false variables (if spare then [] else x.body))
-    by_spare x true variables all = begun-frame P true false variables [] (All-nil (P true))
-    by_spare x false variables all = begun-frame P false false variables x.body all
+    by_spare : (x : ScriptThread) (spare : Bool) (variables : Variables) → All (P false) x.body → IsFrame P (new_frame spare false variables (if spare then [] else x.body))
+    by_spare x true variables all = new_frame-frame P true false variables [] (All-nil (P true))
+    by_spare x false variables all = new_frame-frame P false false variables x.body all
 
-    by_thread : (o : Option ScriptThread) → numbered script.threads u ≡ o → IsFrame P (first_frame_in o)
-    by_thread None e = begun-frame P false false _ [] (All-nil (P false))
+    by_thread : (o : Option ScriptThread) → at_number script.threads u ≡ o → IsFrame P (first_frame_or_empty o)
+    by_thread None e = new_frame-frame P false false _ [] (All-nil (P false))
     by_thread (Some x) e =
-        by_spare x x.spare _ (All-numbered (λ (x : ScriptThread). All (P false) x.body) script.threads u x h.threads e)
+        by_spare x x.spare _ (All-at_number (λ (x : ScriptThread). All (P false) x.body) script.threads u x h.threads e)
 
 procedure_frame-frame :
     (P : Bool → Line → Type 0) (script : ScriptValue) (entry : ℕ) (notice : Bool) (variables : Variables) →
     AreLines P script → IsFrame P (procedure_frame script entry notice variables)
 procedure_frame-frame P script entry notice variables h =
-    begun-frame P true notice variables (procedure_body script entry) (by_procedure (slice_get script.procedures entry) refl)
+    new_frame-frame P true notice variables (procedure_body script entry) (by_procedure (slice_get script.procedures entry) refl)
   where
-    by_procedure : (o : Option Procedure) → slice_get script.procedures entry ≡ o → All (P true) (body_in o)
+    by_procedure : (o : Option Procedure) → slice_get script.procedures entry ≡ o → All (P true) (body_or_empty o)
     by_procedure None e = All-nil (P true)
     by_procedure (Some x) e = All-slice_get (λ (x : Procedure). All (P true) x.body) script.procedures entry x h.procedures e
 
-answered-frame : (P : Bool → Line → Type 0) (f : Frame) (a : Answer) → IsFrame P f → IsFrame P (answered f a)
-answered-frame P f a h =
+frame_after_command-frame : (P : Bool → Line → Type 0) (f : Frame) (a : Answer) → IsFrame P f → IsFrame P (frame_after_command f a)
+frame_after_command-frame P f a h =
     record {
-      steps = upcoming-steps (P f.procedure) (holds a f.notice) 0 (behind f.steps) (behind-steps (P f.procedure) f.steps h.steps);
+      steps = next_steps-steps (P f.procedure) (is_met a f.notice) 0 (steps_after f.steps) (steps_after-steps (P f.procedure) f.steps h.steps);
     }
 
-taken-frame :
+frame_after_answer-frame :
     (P : Bool → Line → Type 0) (script : ScriptValue) (f : Frame) (a : Answer) → AreLines P script → IsFrame P f →
-    IsFrame P (taken script f a)
-taken-frame P script f (answer.Entered call entry cookie bytes fds) s h = procedure_frame-frame P script entry false _ s
-taken-frame P script f (answer.EnteredNotice notice entry cookie) s h = procedure_frame-frame P script entry true _ s
-taken-frame P script f answer.Wait s h = h
-taken-frame P script f (answer.WaitCall call) s h = h
-taken-frame P script f (answer.EnterFailed call) s h = h
-taken-frame P script f a s h = answered-frame P f a h
+    IsFrame P (frame_after_answer script f a)
+frame_after_answer-frame P script f (answer.Entered call entry cookie bytes fds) s h = procedure_frame-frame P script entry false _ s
+frame_after_answer-frame P script f (answer.EnteredNotice notice entry cookie) s h = procedure_frame-frame P script entry true _ s
+frame_after_answer-frame P script f answer.Wait s h = h
+frame_after_answer-frame P script f (answer.WaitCall call) s h = h
+frame_after_answer-frame P script f (answer.EnterFailed call) s h = h
+frame_after_answer-frame P script f a s h = frame_after_command-frame P f a h
 
 frame_after-frame :
     (P : Bool → Line → Type 0) (script : ScriptValue) (u : ℕ) (f : Frame) (e : Event) → AreLines P script → IsFrame P f →
     IsFrame P (frame_after script u f e)
 frame_after-frame P script u f e s h = by_test (e.thread.0 == u)
   where
-    by_test : (b : Bool) → IsFrame P (if b then taken script f e.answer else f)
-    by_test true = taken-frame P script f e.answer s h
+    by_test : (b : Bool) → IsFrame P (if b then frame_after_answer script f e.answer else f)
+    by_test true = frame_after_answer-frame P script f e.answer s h
     by_test false = h
 
 frame_from-frame :
@@ -192,11 +188,11 @@ frame_of-frame P script u es s = frame_from-frame P script u (first_frame script
 
 -- where a frame stays or becomes a procedure's
 
-pub taken-procedure : (script : ScriptValue) (f : Frame) (a : Answer) → f.procedure ≡ true → (taken script f a).procedure ≡ true
-taken-procedure script f (answer.Entered call entry cookie bytes fds) h = refl
-taken-procedure script f (answer.EnteredNotice notice entry cookie) h = refl
-taken-procedure script f a h = h
+pub frame_after_answer-procedure : (script : ScriptValue) (f : Frame) (a : Answer) → f.procedure ≡ true → (frame_after_answer script f a).procedure ≡ true
+frame_after_answer-procedure script f (answer.Entered call entry cookie bytes fds) h = refl
+frame_after_answer-procedure script f (answer.EnteredNotice notice entry cookie) h = refl
+frame_after_answer-procedure script f a h = h
 
-pub entering-procedure : (script : ScriptValue) (f : Frame) (a : Answer) → IsEntering a → (taken script f a).procedure ≡ true
+pub entering-procedure : (script : ScriptValue) (f : Frame) (a : Answer) → IsEntering a → (frame_after_answer script f a).procedure ≡ true
 entering-procedure script f (answer.Entered call entry cookie bytes fds) h = refl
 entering-procedure script f a h = absurd h

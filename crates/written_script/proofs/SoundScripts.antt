@@ -5,36 +5,24 @@ use Rattle.std.proofs.lemmas.Bool.{false≢true}
 use Rattle.std.proofs.lemmas.List.{length-map}
 use Rattle.std.proofs.lemmas.List.Elements.{All-nil, All-cons, All-append, All-weaker}
 use Rattle.std.proofs.lemmas.Option.{slice_get-map}
-use Rattle.dk_base.specs.declared.number.Pid.{Pid}
-use Rattle.dk_base.specs.declared.number.Tid.{Tid}
-use Rattle.dk_base.specs.declared.set.Attrs.{Attrs}
-use Rattle.written_kernel.specs.Numbered.{numbered}
+use Rattle.written_kernel.specs.Types.{Attrs, Pid, Tid}
+use Rattle.dk_base.specs.ByNumber.{at_number}
 use Rattle.written_kernel.proofs.Lists.{numbered_within}
-use Rattle.script_text.specs.Lines.{lines_of}
-use Rattle.script_text.specs.Words.{words_of}
-use Rattle.script_line.specs.declared.line.FdArg.{FdArg}
-use Rattle.script_line.specs.declared.line.Kind.{Kind}
+use Rattle.script_text.specs.Words.{lines_of, words_of}
+use Rattle.script_lang.specs.Types.{FdArg, Kind, Line}
 use Rattle.script_line.specs.declared.line.Kind.TheVariants as kind
-use Rattle.script_line.specs.declared.line.Line.{Line}
 use Rattle.script_line.specs.declared.line.Line.TheVariants as line
-use Rattle.script_line.specs.Kinds.{kind_of, depth_after}
-use Rattle.script_line.specs.Spelled.{Ends, Each, SpellsThread, SpellsLine, procedure_name}
-use Rattle.script_line.specs.Tables.{Tables, ProcedureName}
-use Rattle.script_lang.specs.declared.item.Item.{Item}
-use Rattle.script_lang.specs.declared.item.Item.TheVariants.{Budget, Process, Spare, Thread, Procedure, Do, Schedule}
-use Rattle.script_lang.specs.declared.item.Place.{Place}
-use Rattle.script_lang.specs.declared.item.Place.TheVariants.{Members, Body}
+use Rattle.script_line.specs.Words.{Each, Ends, ProcedureName, SpellsLine, SpellsThread, Tables, depth_after, kind_of, qualified_name}
+use Rattle.written_script.specs.Types.{ScriptLine, ScriptPlace, ScriptThread}
+use Rattle.script_lang.specs.declared.item.ScriptLine.TheVariants.{Budget, Process, Spare, Thread, Procedure, Do, Schedule}
+use Rattle.script_lang.specs.declared.item.ScriptPlace.TheVariants.{Members, Body}
 use Rattle.script_lang.specs.declared.script.Procedure.{Procedure as ScriptProcedure}
-use Rattle.script_lang.specs.declared.script.ScriptThread.{ScriptThread}
-use Rattle.script_lang.specs.Before.{Before, nothing_before, is_closed, is_closed_place, after, with_depth, with_variables}
-use Rattle.script_lang.specs.Scripts.{budget_from, process_of, before_line, body_from, threads_from, procedures_from, turns_of, script_of, tables_of, name_of_procedure}
-use Rattle.script_lang.specs.Spelled.{SpellsItem, SpellsItems, SpellsScript, SpellsLines, is_of_place, spells}
-use Rattle.script_lang.specs.Value.{ScriptValue}
+use Rattle.script_lang.specs.Words.{ContextValue, ScriptValue, SpellsLines, SpellsScript, SpellsScriptLine, SpellsScriptLines, before_line, body_from, budget_from, context_after, context_at_depth, context_with_variables, first_context, is_closed, is_closed_place, is_of_place, name_of_procedure, procedures_from, process_of_item, script_of_items, spells, tables_of, threads_from, turns_of_item}
 use Rattle.script_lang.proofs.SpelledItems.{along}
 use Rattle.script_lang.proofs.TablesOfItems.{FewFollow, few_follow, few_before}
 use Rattle.written_script.specs.DeclaredNames.{IsNumberOf, IsDeclaredThread}
 use Rattle.written_script.specs.Sound.{IsEntryOf, IsFitLine, IsSoundThread, IsSoundProcedure, IsSound}
-use Rattle.written_script.specs.Trees.{depth_behind, IsClosed}
+use Rattle.written_script.specs.Trees.{depth_after_lines, IsClosed}
 
 -- words that spell a line in a process
 pub record HasWords (tables : Tables) (of : ℕ) (x : Line) : Type 0 where
@@ -46,7 +34,7 @@ pub record HasWords (tables : Tables) (of : ℕ) (x : Line) : Type 0 where
 -- a table's name of a procedure is that of its process
 entry-fit :
     (script : ScriptValue) (of entry : ℕ) (name : List ℕ) →
-    slice_get (map name_of_procedure script.procedures) entry ≡ Some (procedure_name of name) → IsEntryOf script of entry
+    slice_get (map name_of_procedure script.procedures) entry ≡ Some (qualified_name of name) → IsEntryOf script of entry
 entry-fit script of entry name named =
     by_found
     (slice_get script.procedures entry)
@@ -55,10 +43,10 @@ entry-fit script of entry name named =
   where
     by_found :
         (found : Option ScriptProcedure) → slice_get script.procedures entry ≡ found →
-        option_map name_of_procedure found ≡ Some (procedure_name of name) → IsEntryOf script of entry
+        option_map name_of_procedure found ≡ Some (qualified_name of name) → IsEntryOf script of entry
     by_found None there h = cc
     by_found (Some procedure) there h =
-        let same : name_of_procedure procedure ≡ procedure_name of name = cc
+        let same : name_of_procedure procedure ≡ qualified_name of name = cc
         in record { procedure = procedure; there = there; same_process = ap (λ (x : ProcedureName). x.process) same }
 
 create-fit :
@@ -88,7 +76,7 @@ getn-fit script of port most least wait (keyword ∷ from ∷ []) s = absurd s.1
 getn-fit script of port most least wait (keyword ∷ from ∷ number ∷ words) s = s.1.1.0.1
 
 -- a number that a table has a name under
-named-within : {X : Type 0} (f : X → List ℕ) (xs : List X) (n : ℕ) (name : List ℕ) → numbered (map f xs) n ≡ Some name → IsNumberOf (length xs) n
+named-within : {X : Type 0} (f : X → List ℕ) (xs : List X) (n : ℕ) (name : List ℕ) → at_number (map f xs) n ≡ Some name → IsNumberOf (length xs) n
 named-within f xs n name e = let same : length (map f xs) ≡ length xs = length-map xs f in rw same at (numbered_within (map f xs) n name e)
 
 interrupt-fit :
@@ -134,17 +122,17 @@ pub record HasName (tables : Tables) (t : Tid) : Type 0 where
   pub word : List ℕ
   pub spells : SpellsThread tables t word
 
--- members and bodies stand behind a process
-abbrev HasProcess : Place → ℕ → Type 0
+-- members and bodies stand after a process
+abbrev HasProcess : ScriptPlace → ℕ → Type 0
 HasProcess Members n = 1 ≤ n
 HasProcess Body n = 1 ≤ n
 HasProcess place n = Unit {0}
 
--- so many processes are there behind these items
-abbrev processes_with : Before → List Item → ℕ
-processes_with before items = length before.processes + length (filter_map process_of items)
+-- so many processes are there after these items
+abbrev processes_with : ContextValue → List ScriptLine → ℕ
+processes_with before items = length before.processes + length (filter_map process_of_item items)
 
-record AreSpelled (tables : Tables) (before : Before) (items : List Item) : Type 0 where
+record AreSpelled (tables : Tables) (before : ContextValue) (items : List ScriptLine) : Type 0 where
   body : (depth : ℕ) → All (HasWords tables (length before.processes)) (body_from depth items)
   threads :
       HasProcess before.place (length before.processes) →
@@ -152,11 +140,11 @@ record AreSpelled (tables : Tables) (before : Before) (items : List Item) : Type
   procedures :
       HasProcess before.place (length before.processes) →
       All (IsSpelledProcedure tables (processes_with before items)) (procedures_from (length before.processes) items)
-  schedule : All (HasName tables) (flat_map turns_of items)
+  schedule : All (HasName tables) (flat_map turns_of_item items)
   budget : (events : ℕ) → events ≤ 100000 → budget_from events items ≤ 100000
-  closed : before.place ≡ Body → depth_behind before.depth (body_from before.depth items) ≡ Some 0
+  closed : before.place ≡ Body → depth_after_lines before.depth (body_from before.depth items) ≡ Some 0
 
-none-spelled : (tables : Tables) (before : Before) → is_closed before ≡ true → AreSpelled tables before []
+none-spelled : (tables : Tables) (before : ContextValue) → is_closed before ≡ true → AreSpelled tables before []
 none-spelled tables before end =
     record {
       body = λ depth. All-nil (HasWords tables (length before.processes));
@@ -164,34 +152,34 @@ none-spelled tables before end =
       procedures = λ has. All-nil (IsSpelledProcedure tables (processes_with before []));
       schedule = All-nil (HasName tables);
       budget = λ events small. small;
-      closed = λ inside. absurd (false≢true (subst (λ (place : Place). is_closed_place place ≡ true) inside end));
+      closed = λ inside. absurd (false≢true (subst (λ (place : ScriptPlace). is_closed_place place ≡ true) inside end));
     }
 
 -- lines of a body
 
 line-spelled :
-    (tables : Tables) (of : ℕ) (x : Line) (items : List Item) (behind : Option ℕ) → HasWords tables of x →
+    (tables : Tables) (of : ℕ) (x : Line) (items : List ScriptLine) (after : Option ℕ) → HasWords tables of x →
     ((depth : ℕ) → All (HasWords tables of) (body_from depth items)) →
-    All (HasWords tables of) (before_line x behind (λ depth. body_from depth items))
+    All (HasWords tables of) (before_line x after (λ depth. body_from depth items))
 line-spelled tables of x items None here others = All-nil (HasWords tables of)
 line-spelled tables of x items (Some depth) here others = All-cons (HasWords tables of) x (body_from depth items) here (others depth)
 
--- the blocks that are open behind a line are closed, unless it ends the body
-abbrev AreClosed : Option ℕ → List Item → Type 0
+-- the blocks that are open after a line are closed, unless it ends the body
+abbrev AreClosed : Option ℕ → List ScriptLine → Type 0
 AreClosed None items = Unit {0}
-AreClosed (Some depth) items = depth_behind depth (body_from depth items) ≡ Some 0
+AreClosed (Some depth) items = depth_after_lines depth (body_from depth items) ≡ Some 0
 
 line-closed :
-    (x : Line) (items : List Item) (depth : ℕ) (k : Kind) → kind_of x ≡ k → AreClosed (depth_after depth k) items →
-    depth_behind depth (before_line x (depth_after depth k) (λ behind. body_from behind items)) ≡ Some 0
+    (x : Line) (items : List ScriptLine) (depth : ℕ) (k : Kind) → kind_of x ≡ k → AreClosed (depth_after depth k) items →
+    depth_after_lines depth (before_line x (depth_after depth k) (λ after. body_from after items)) ≡ Some 0
 line-closed x items depth kind.Act same h = rw same h
 line-closed x items depth kind.Loop same h = rw same h
 line-closed x items depth kind.Test same h = rw same h
 line-closed x items zero kind.Closing same h = refl
 line-closed x items (suc depth) kind.Closing same h = rw same h
 
--- what is behind a line is in the same process
-record AreBehindLine (tables : Tables) (before : Before) (behind : Option ℕ) (items : List Item) : Type 0 where
+-- what is after a line is in the same process
+record AreAfterLine (tables : Tables) (before : ContextValue) (after : Option ℕ) (items : List ScriptLine) : Type 0 where
   body : (depth : ℕ) → All (HasWords tables (length before.processes)) (body_from depth items)
   threads :
       1 ≤ length before.processes →
@@ -199,14 +187,14 @@ record AreBehindLine (tables : Tables) (before : Before) (behind : Option ℕ) (
   procedures :
       1 ≤ length before.processes →
       All (IsSpelledProcedure tables (processes_with before items)) (procedures_from (length before.processes) items)
-  schedule : All (HasName tables) (flat_map turns_of items)
+  schedule : All (HasName tables) (flat_map turns_of_item items)
   budget : (events : ℕ) → events ≤ 100000 → budget_from events items ≤ 100000
-  closed : AreClosed behind items
+  closed : AreClosed after items
 
-behind-line :
-    (tables : Tables) (before : Before) (items : List Item) (behind : Option ℕ) → before.place ≡ Body →
-    AreSpelled tables (with_depth before behind) items → AreBehindLine tables before behind items
-behind-line tables before items None at others =
+after-line :
+    (tables : Tables) (before : ContextValue) (items : List ScriptLine) (after : Option ℕ) → before.place ≡ Body →
+    AreSpelled tables (context_at_depth before after) items → AreAfterLine tables before after items
+after-line tables before items None at others =
     record {
       body = others.body;
       threads = others.threads;
@@ -215,7 +203,7 @@ behind-line tables before items None at others =
       budget = others.budget;
       closed = tt;
     }
-behind-line tables before items (Some depth) at others =
+after-line tables before items (Some depth) at others =
     record {
       body = others.body;
       threads = λ some. others.threads (subst (λ place. HasProcess place (length before.processes)) (sym at) some);
@@ -226,24 +214,24 @@ behind-line tables before items (Some depth) at others =
     }
 
 do-spelled :
-    (tables : Tables) (before : Before) (x : Line) (items : List Item) → before.place ≡ Body →
-    HasWords tables (length before.processes) x → AreSpelled tables (after before (Do x)) items →
+    (tables : Tables) (before : ContextValue) (x : Line) (items : List ScriptLine) → before.place ≡ Body →
+    HasWords tables (length before.processes) x → AreSpelled tables (context_after before (Do x)) items →
     AreSpelled tables before (Do x ∷ items)
 do-spelled tables before x items at here others =
-    let behind : AreBehindLine tables (with_variables before x) (depth_after before.depth (kind_of x)) items =
-    behind-line tables (with_variables before x) items (depth_after before.depth (kind_of x)) at others
+    let after : AreAfterLine tables (context_with_variables before x) (depth_after before.depth (kind_of x)) items =
+    after-line tables (context_with_variables before x) items (depth_after before.depth (kind_of x)) at others
     in record {
-      body = λ depth. line-spelled tables (length before.processes) x items (depth_after depth (kind_of x)) here behind.body;
-      threads = λ has. behind.threads (subst (λ place. HasProcess place (length before.processes)) at has);
-      procedures = λ has. behind.procedures (subst (λ place. HasProcess place (length before.processes)) at has);
-      schedule = behind.schedule;
-      budget = behind.budget;
-      closed = λ inside. line-closed x items before.depth (kind_of x) refl behind.closed;
+      body = λ depth. line-spelled tables (length before.processes) x items (depth_after depth (kind_of x)) here after.body;
+      threads = λ has. after.threads (subst (λ place. HasProcess place (length before.processes)) at has);
+      procedures = λ has. after.procedures (subst (λ place. HasProcess place (length before.processes)) at has);
+      schedule = after.schedule;
+      budget = after.budget;
+      closed = λ inside. line-closed x items before.depth (kind_of x) refl after.closed;
     }
 
 -- other items
 
-within : (place : Place) (n more : ℕ) → place ≡ Members → HasProcess place n → IsNumberOf (n + more) n
+within : (place : ScriptPlace) (n more : ℕ) → place ≡ Members → HasProcess place n → IsNumberOf (n + more) n
 within Members n more at has = (has, omega arith)
 within place n more at has = cc
 
@@ -253,46 +241,46 @@ each-named tables (thread ∷ threads) [] s = absurd s
 each-named tables (thread ∷ threads) (word ∷ words) s =
     All-cons (HasName tables) thread threads (record { word = word; spells = s.0 }) (each-named tables threads words s.1)
 
-schedule-named : (tables : Tables) (of : ℕ) (threads : List Tid) (words : List (List ℕ)) → SpellsItem tables of (Schedule threads) words → All (HasName tables) threads
+schedule-named : (tables : Tables) (of : ℕ) (threads : List Tid) (words : List (List ℕ)) → SpellsScriptLine tables of (Schedule threads) words → All (HasName tables) threads
 schedule-named tables of [] words s = absurd s
 schedule-named tables of (thread ∷ threads) [] s = absurd s
 schedule-named tables of (thread ∷ threads) (keyword ∷ words) s = each-named tables (thread ∷ threads) words s.1
 
-small-budget : (tables : Tables) (of events : ℕ) (words : List (List ℕ)) → SpellsItem tables of (Budget events) words → events ≤ 100000
+small-budget : (tables : Tables) (of events : ℕ) (words : List (List ℕ)) → SpellsScriptLine tables of (Budget events) words → events ≤ 100000
 small-budget tables of events [] s = absurd s
 small-budget tables of events (keyword ∷ []) s = absurd s.1
 small-budget tables of events (keyword ∷ number ∷ words) s = s.1.0.1
 
 -- what stands among the members of a process
-abbrev IsMember : Item → Type 0
+abbrev IsMember : ScriptLine → Type 0
 IsMember (Spare name) = Unit {0}
 IsMember (Thread name) = Unit {0}
 IsMember (Procedure name) = Unit {0}
 IsMember item = ⊥
 
-at_members : (place : Place) (item : Item) → is_of_place place item ≡ true → IsMember item → place ≡ Members
+at_members : (place : ScriptPlace) (item : ScriptLine) → is_of_place place item ≡ true → IsMember item → place ≡ Members
 at_members Members item at is = refl
 at_members place (Spare name) at is = absurd (false≢true at)
 at_members place (Thread name) at is = absurd (false≢true at)
 at_members place (Procedure name) at is = absurd (false≢true at)
 at_members place item at is = absurd is
 
-at_body : (place : Place) (x : Line) → is_of_place place (Do x) ≡ true → place ≡ Body
+at_body : (place : ScriptPlace) (x : Line) → is_of_place place (Do x) ≡ true → place ≡ Body
 at_body Body x at = refl
 at_body place x at = absurd (false≢true at)
 
-in_process : (place : Place) (n : ℕ) → place ≡ Members → HasProcess place n → 1 ≤ n
+in_process : (place : ScriptPlace) (n : ℕ) → place ≡ Members → HasProcess place n → 1 ≤ n
 in_process Members n at has = has
 in_process place n at has = cc
 
 -- in a body stand lines alone
-outside : (place : Place) (item : Item) → is_of_place Body item ≡ false → is_of_place place item ≡ true → place ≡ Body → ⊥
-outside place item not_there at inside = false≢true (sym not_there ∙ subst (λ (p : Place). is_of_place p item ≡ true) inside at)
+outside : (place : ScriptPlace) (item : ScriptLine) → is_of_place Body item ≡ false → is_of_place place item ≡ true → place ≡ Body → ⊥
+outside place item not_there at inside = false≢true (sym not_there ∙ subst (λ (p : ScriptPlace). is_of_place p item ≡ true) inside at)
 
 item-spelled :
-    (tables : Tables) (before : Before) (words : List (List ℕ)) (item : Item) (items : List Item) →
-    SpellsItem tables (length before.processes) item words → is_of_place before.place item ≡ true →
-    AreSpelled tables (after before item) items → AreSpelled tables before (item ∷ items)
+    (tables : Tables) (before : ContextValue) (words : List (List ℕ)) (item : ScriptLine) (items : List ScriptLine) →
+    SpellsScriptLine tables (length before.processes) item words → is_of_place before.place item ≡ true →
+    AreSpelled tables (context_after before item) items → AreSpelled tables before (item ∷ items)
 item-spelled tables before words (Budget events) items s at others =
     record {
       body = λ depth. All-nil (HasWords tables (length before.processes));
@@ -305,7 +293,7 @@ item-spelled tables before words (Budget events) items s at others =
 item-spelled tables before words (Process name limit) items s at others =
     let one : length (before.processes ++ name ∷ []) ≡ length before.processes + 1 = simp length-append refl
     in let some : 1 ≤ length (before.processes ++ name ∷ []) = omega arith
-    in let more : length (before.processes ++ name ∷ []) + length (filter_map process_of items) ≡ length before.processes + length (filter_map process_of (Process name limit ∷ items)) = omega arith
+    in let more : length (before.processes ++ name ∷ []) + length (filter_map process_of_item items) ≡ length before.processes + length (filter_map process_of_item (Process name limit ∷ items)) = omega arith
     in record {
       body = λ depth. All-nil (HasWords tables (length before.processes));
       threads = λ has. rw one at (rw more at (others.threads some));
@@ -323,7 +311,7 @@ item-spelled tables before words (Spare name) items s at others =
           _
           (threads_from (length before.processes) items)
           (record {
-            process = within before.place (length before.processes) (length (filter_map process_of items)) (at_members before.place (Spare name) at tt) has;
+            process = within before.place (length before.processes) (length (filter_map process_of_item items)) (at_members before.place (Spare name) at tt) has;
             body = All-nil (HasWords tables (length before.processes));
             closed = refl;
           })
@@ -343,7 +331,7 @@ item-spelled tables before words (Thread name) items s at others =
           _
           (threads_from (length before.processes) items)
           (record {
-            process = within before.place (length before.processes) (length (filter_map process_of items)) members has;
+            process = within before.place (length before.processes) (length (filter_map process_of_item items)) members has;
             body = others.body 0;
             closed = others.closed refl;
           })
@@ -364,7 +352,7 @@ item-spelled tables before words (Procedure name) items s at others =
           _
           (procedures_from (length before.processes) items)
           (record {
-            process = within before.place (length before.processes) (length (filter_map process_of items)) members has;
+            process = within before.place (length before.processes) (length (filter_map process_of_item items)) members has;
             body = others.body 0;
             closed = others.closed refl;
           })
@@ -384,14 +372,14 @@ item-spelled tables before words (Schedule threads) items s at others =
           All-append
           (HasName tables)
           threads
-          (flat_map turns_of items)
+          (flat_map turns_of_item items)
           (schedule-named tables (length before.processes) threads words s)
           others.schedule;
       budget = others.budget;
       closed = λ inside. absurd (outside before.place (Schedule threads) refl at inside);
     }
 
-items-spelled : (tables : Tables) (before : Before) (lines : List (List ℕ)) (items : List Item) → SpellsItems tables before lines items → AreSpelled tables before items
+items-spelled : (tables : Tables) (before : ContextValue) (lines : List (List ℕ)) (items : List ScriptLine) → SpellsScriptLines tables before lines items → AreSpelled tables before items
 items-spelled tables =
     along tables (λ before lines items. AreSpelled tables before items) (record {
       ends = λ before end. none-spelled tables before end;
@@ -403,13 +391,13 @@ items-spelled tables =
 
 -- the facts of a script's lines that are told by its parts
 sound-parts :
-    (script : ScriptValue) (items : List Item) → script_of script.paths items ≡ script →
-    AreSpelled (tables_of script) nothing_before items → FewFollow nothing_before items → IsSound script
+    (script : ScriptValue) (items : List ScriptLine) → script_of_items script.paths items ≡ script →
+    AreSpelled (tables_of script) first_context items → FewFollow first_context items → IsSound script
 sound-parts script items same spelled few =
-    let processes : filter_map process_of items ≡ script.processes = ap (λ (s : ScriptValue). s.processes) same
+    let processes : filter_map process_of_item items ≡ script.processes = ap (λ (s : ScriptValue). s.processes) same
     in let threads : threads_from 0 items ≡ script.threads = ap (λ (s : ScriptValue). s.threads) same
     in let procedures : procedures_from 0 items ≡ script.procedures = ap (λ (s : ScriptValue). s.procedures) same
-    in let schedule : flat_map turns_of items ≡ script.schedule = ap (λ (s : ScriptValue). s.schedule) same
+    in let schedule : flat_map turns_of_item items ≡ script.schedule = ap (λ (s : ScriptValue). s.schedule) same
     in let budget : budget_from 100000 items ≡ script.budget = ap (λ (s : ScriptValue). s.budget) same
     in let all_threads : All (IsSpelledThread (tables_of script) (length script.processes)) script.threads = rw (threads, processes, zero-add (length script.processes)) at (spelled.threads tt)
     in let all_procedures : All (IsSpelledProcedure (tables_of script) (length script.processes)) script.procedures = rw (procedures, processes, zero-add (length script.processes)) at (spelled.procedures tt)
@@ -447,8 +435,8 @@ sound-script lines script s =
     script
     s.items
     s.is_script
-    (items-spelled (tables_of script) nothing_before lines s.items s.spells)
-    (few_follow (tables_of script) nothing_before lines s.items s.spells few_before)
+    (items-spelled (tables_of script) first_context lines s.items s.spells)
+    (few_follow (tables_of script) first_context lines s.items s.spells few_before)
 
 sound-lines : (lines : List (List ℕ)) (script : ScriptValue) → SpellsLines lines script → IsSound script
 sound-lines [] script s = absurd s

@@ -1,9 +1,8 @@
 -- How the text of a run grows with its events.
 use Rattle.std.proofs.Common.{◌≡◌, ℕ, List, [], ◌∷◌, ◌++◌, length, refl, sym, append_assoc, append-nil, ap, ◌∙◌}
 use Rattle.std.proofs.lemmas.List.Concat.{flat_map-append}
-use Rattle.dk_base.specs.declared.number.Tid.{Tid}
-use Rattle.dk_base.specs.declared.event.Event.{Event}
-use Rattle.script_lang.specs.Value.{ScriptValue}
+use Rattle.written_kernel.specs.Types.{Event, Tid}
+use Rattle.script_lang.specs.Words.{ScriptValue}
 use Rattle.written_script.specs.declared.ending.Ending.{Ending}
 use Rattle.written_script.specs.TraceText.{line_of, whole_line, lines_text, end_line_of, trace_text}
 

@@ -1,20 +1,12 @@
 -- How a trace shows an answer.
 use Rattle.std.specs.Prelude.{ℕ, Bool, true, false, List, [], ◌∷◌, ◌++◌, length, flat_map, codes, decimal, Option, Some, None}
 use Rattle.std.specs.List.{join_with_byte}
-use Rattle.dk_base.specs.Errno.{errno_name}
-use Rattle.dk_base.specs.declared.number.Fd.{Fd}
-use Rattle.dk_base.specs.declared.number.Pid.{Pid}
-use Rattle.dk_base.specs.declared.error.Errno.{Errno}
-use Rattle.dk_base.specs.declared.set.Attrs.{Attrs}
-use Rattle.dk_base.specs.declared.object.EventRec.{EventRec}
-use Rattle.dk_base.specs.declared.object.Src.{Src}
+use Rattle.dk_base.specs.Words.{errno_name}
+use Rattle.written_kernel.specs.Types.{Answer, Attrs, DoorInfo, Errno, EventRec, Fd, Pid, Src}
 use Rattle.dk_base.specs.declared.object.Src.TheVariants.{Fd as FromFd, User, Alert}
-use Rattle.dk_base.specs.declared.answer.DoorInfo.{DoorInfo}
-use Rattle.dk_base.specs.declared.answer.Answer.{Answer}
 use Rattle.dk_base.specs.declared.answer.Answer.TheVariants.{Wait, WaitCall, Done, NewFd, TwoFds, Count, Available, Param, Info, Client, Cancel, Data, Entered, EnteredNotice, EnterFailed, Results, OneEvent, Events, Errors, Failure}
-use Rattle.script_line.specs.Sets.{attribute_words, poll_word}
-use Rattle.script_line.specs.Words.{value_word}
-use Rattle.script_lang.specs.Value.{ScriptValue}
+use Rattle.script_line.specs.Words.{attribute_words, poll_word, value_word}
+use Rattle.script_lang.specs.Words.{ScriptValue}
 use Rattle.written_script.specs.DataText.{data_text}
 use Rattle.written_script.specs.TraceNames.{procedure_name}
 
@@ -35,12 +27,12 @@ yes_text true = codes "yes"
 yes_text false = codes "no"
 
 -- words joined by `+`, or `none`
-abbrev pub plus_joined : List (List ℕ) → List ℕ
-plus_joined [] = codes "none"
-plus_joined (word ∷ words) = join_with_byte 43 (word ∷ words)
+abbrev pub plus_joined_words : List (List ℕ) → List ℕ
+plus_joined_words [] = codes "none"
+plus_joined_words (word ∷ words) = join_with_byte 43 (word ∷ words)
 
 abbrev pub attributes_text : Attrs → List ℕ
-attributes_text attributes = plus_joined (attribute_words attributes)
+attributes_text attributes = plus_joined_words (attribute_words attributes)
 
 abbrev pub target_text : Option Pid → List ℕ
 target_text None = codes "-1"
@@ -78,18 +70,18 @@ spaced_error None = codes " ok"
 spaced_error (Some errno) = codes " " ++ errno_name errno
 
 -- how an invocation begins: what it serves, its procedure, and the door's cookie
-abbrev pub begun_text : ScriptValue → List ℕ → ℕ → ℕ → ℕ → List ℕ
-begun_text script item number entry cookie =
+abbrev pub invocation_text : ScriptValue → List ℕ → ℕ → ℕ → ℕ → List ℕ
+invocation_text script item number entry cookie =
     codes "enter " ++ item ++ decimal number
     ++ codes " " ++ procedure_name script entry
     ++ codes " " ++ decimal cookie
 
 abbrev pub entered_text : ScriptValue → ℕ → ℕ → ℕ → List ℕ → List Fd → List ℕ
 entered_text script call entry cookie bytes fds =
-    begun_text script (codes "c") call entry cookie ++ codes " " ++ data_text bytes ++ fds_text fds
+    invocation_text script (codes "c") call entry cookie ++ codes " " ++ data_text bytes ++ fds_text fds
 
 abbrev pub notice_text : ScriptValue → ℕ → ℕ → ℕ → List ℕ
-notice_text script notice entry cookie = begun_text script (codes "n") notice entry cookie ++ codes " unref"
+notice_text script notice entry cookie = invocation_text script (codes "n") notice entry cookie ++ codes " unref"
 
 abbrev pub results_text : List ℕ → List Fd → Bool → List ℕ
 results_text bytes fds grown = codes "ok " ++ data_text bytes ++ fds_text fds ++ grown_text grown

@@ -1,6 +1,6 @@
 -- Data as a trace shows it: in quotes as in a script, or by its length and digest.
 use Rattle.std.specs.Prelude.{ℕ, nat_le, if◌then◌else◌, List, ◌++◌, length, codes, decimal}
-use Rattle.script_text.specs.Strings.{quoted}
+use Rattle.script_text.specs.Words.{quoted_text}
 use Rattle.written_script.specs.Digest.{digest_of}
 
 -- `sha256:LENGTH:DIGEST`
@@ -9,4 +9,4 @@ digest_text bytes = codes "sha256:" ++ decimal (length bytes) ++ codes ":" ++ di
 
 -- at most 64 bytes are shown, more are named by their digest
 abbrev pub data_text : List ℕ → List ℕ
-data_text bytes = if nat_le (length bytes) 64 then quoted bytes else digest_text bytes
+data_text bytes = if nat_le (length bytes) 64 then quoted_text bytes else digest_text bytes

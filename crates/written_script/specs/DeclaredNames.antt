@@ -1,13 +1,9 @@
 -- Which threads, processes and entries a script declares, and which events and doors name only such.
 use Rattle.std.specs.Prelude.{ℕ, ◌≤◌, ◌<◌, length, Option, Some, None, All}
-use Rattle.dk_base.specs.declared.answer.Answer.{Answer}
+use Rattle.written_kernel.specs.Types.{Answer, Door, Event, Pid, Tid}
 use Rattle.dk_base.specs.declared.answer.Answer.TheVariants.{Info, Client, Entered, EnteredNotice}
-use Rattle.dk_base.specs.declared.event.Event.{Event}
-use Rattle.dk_base.specs.declared.number.Pid.{Pid}
-use Rattle.dk_base.specs.declared.number.Tid.{Tid}
-use Rattle.dk_base.specs.declared.record.Door.{Door}
-use Rattle.written_kernel.specs.Turns.{waiting_threads}
-use Rattle.script_lang.specs.Value.{ScriptValue}
+use Rattle.written_kernel.specs.Words.{waiting_threads}
+use Rattle.script_lang.specs.Words.{ScriptValue}
 use Rattle.written_script.specs.ScriptRuns.{History}
 
 -- a number of one of so many, which are counted from 1

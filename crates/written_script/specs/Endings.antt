@@ -1,8 +1,7 @@
 -- How a run stands at its end.
 use Rattle.std.specs.Prelude.{List, [], ◌∷◌, Option, Some, None, ℕ}
-use Rattle.dk_base.specs.declared.number.Tid.{Tid}
-use Rattle.written_kernel.specs.State.{State}
-use Rattle.written_kernel.specs.Turns.{least_runnable, waiting_threads}
+use Rattle.written_kernel.specs.Types.{Tid}
+use Rattle.written_kernel.specs.Words.{State, least_runnable, waiting_threads}
 use Rattle.written_script.specs.declared.ending.Ending.{Ending}
 use Rattle.written_script.specs.declared.ending.Ending.TheVariants.{Complete, Stalled, Budget}
 

@@ -1,3 +1,4 @@
+pub mod Types
 pub mod Steps
 pub mod Trees
 pub mod Variables
@@ -14,4 +15,5 @@ pub mod TraceNames
 pub mod WhatWord
 pub mod AnswerText
 pub mod TraceText
-pub mod Rows
+pub mod WorkedRuns
+pub mod Words

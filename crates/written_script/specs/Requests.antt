@@ -1,28 +1,23 @@
 -- Which request a thread makes next: a function of its events so far. A frame is what is left of a body, with the
 -- variables that were set in it.
 use Rattle.std.specs.Prelude.{ℕ, ◌==◌, List, [], ◌∷◌, Option, Some, None, Bool, true, false, if◌then◌else◌, bytes_eq, codes, decimal, map, slice_get}
-use Rattle.dk_base.specs.Errno.{errno_name}
-use Rattle.dk_base.specs.declared.answer.Answer.{Answer}
+use Rattle.dk_base.specs.Words.{errno_name}
+use Rattle.written_kernel.specs.Types.{Answer, Errno, Event, Request}
 use Rattle.dk_base.specs.declared.answer.Answer.TheVariants as answer
-use Rattle.dk_base.specs.declared.error.Errno.{Errno}
-use Rattle.dk_base.specs.declared.event.Event.{Event}
-use Rattle.dk_base.specs.declared.request.Request.{Request}
 use Rattle.dk_base.specs.declared.request.Request.TheVariants as request
-use Rattle.script_line.specs.Tables.{numbered}
-use Rattle.script_line.specs.declared.line.Cond.{Cond}
+use Rattle.dk_base.specs.ByNumber.{at_number}
+use Rattle.script_lang.specs.Types.{Cond, Line}
 use Rattle.script_line.specs.declared.line.Cond.TheVariants.{Good, Yes, Unref, Errno as Failed}
-use Rattle.script_line.specs.declared.line.Line.{Line}
 use Rattle.script_line.specs.declared.line.Line.TheVariants as line
-use Rattle.script_lang.specs.declared.script.Procedure.{Procedure}
-use Rattle.script_lang.specs.declared.script.ScriptThread.{ScriptThread}
-use Rattle.script_lang.specs.Value.{ScriptValue}
-use Rattle.written_script.specs.Steps.{Step, written_out, upcoming}
-use Rattle.written_script.specs.Steps.Step.{Do}
-use Rattle.written_script.specs.Variables.{Value, Variables, unset, with_bytes, with_both, no_variables, set_variable, set_each, vars_of, values_of, fd_of, pass_of, data_of}
+use Rattle.written_script.specs.Types.{Procedure, ScriptThread}
+use Rattle.script_lang.specs.Words.{ScriptValue}
+use Rattle.written_script.specs.Steps.{BodyStep, steps_of_body, next_steps}
+use Rattle.written_script.specs.Steps.BodyStep.{Do}
+use Rattle.written_script.specs.Variables.{Value, Variables, empty_value, with_bytes, with_both, no_variables, set_variable, set_each, vars_of, values_of, fd_of, pass_of, data_of}
 
 pub record Frame : Type 0 where
   -- what is ahead, from the command on that the thread is at
-  pub steps : List Step
+  pub steps : List BodyStep
   pub variables : Variables
   -- the last answer
   pub last : Answer
@@ -46,11 +41,11 @@ abbrev pub is_failure : Errno → Answer → Bool
 is_failure errno (answer.Failure other) = bytes_eq (errno_name other) (errno_name errno)
 is_failure errno last = false
 
-abbrev pub holds : Answer → Bool → Cond → Bool
-holds last notice Good = is_good last
-holds last notice Yes = is_yes last
-holds last notice Unref = notice
-holds last notice (Failed errno) = is_failure errno last
+abbrev pub is_met : Answer → Bool → Cond → Bool
+is_met last notice Good = is_good last
+is_met last notice Yes = is_yes last
+is_met last notice Unref = notice
+is_met last notice (Failed errno) = is_failure errno last
 
 -- what a frame asks
 
@@ -101,7 +96,7 @@ abbrev pub request_at_end : Bool → Request
 request_at_end true = request.Return [] []
 request_at_end false = request.Exit
 
-abbrev pub request_ahead : Frame → List Step → Request
+abbrev pub request_ahead : Frame → List BodyStep → Request
 request_ahead f (Do line ∷ steps) = request_at f.variables line
 request_ahead f steps = request_at_end f.procedure
 
@@ -111,10 +106,10 @@ request_of f = request_ahead f f.steps
 -- what an answer makes of a frame
 
 -- A frame begins before its body's first command. The last answer is `ok` there.
-abbrev pub begun : Bool → Bool → Variables → List Line → Frame
-begun procedure notice variables body =
+abbrev pub new_frame : Bool → Bool → Variables → List Line → Frame
+new_frame procedure notice variables body =
     record {
-      steps = upcoming (holds answer.Done notice) 0 (written_out body);
+      steps = next_steps (is_met answer.Done notice) 0 (steps_of_body body);
       variables = variables;
       last = answer.Done;
       notice = notice;
@@ -125,21 +120,21 @@ begun procedure notice variables body =
 abbrev pub first_body : ScriptThread → List Line
 first_body thread = if thread.spare then [] else thread.body
 
-abbrev pub first_frame_in : Option ScriptThread → Frame
-first_frame_in None = begun false false no_variables []
-first_frame_in (Some thread) = begun thread.spare false no_variables (first_body thread)
+abbrev pub first_frame_or_empty : Option ScriptThread → Frame
+first_frame_or_empty None = new_frame false false no_variables []
+first_frame_or_empty (Some thread) = new_frame thread.spare false no_variables (first_body thread)
 
 -- a thread's frame begins with its body
 abbrev pub first_frame : ScriptValue → ℕ → Frame
-first_frame script t = first_frame_in (numbered script.threads t)
+first_frame script t = first_frame_or_empty (at_number script.threads t)
 
-abbrev pub body_in : Option Procedure → List Line
-body_in None = []
-body_in (Some procedure) = procedure.body
+abbrev pub body_or_empty : Option Procedure → List Line
+body_or_empty None = []
+body_or_empty (Some procedure) = procedure.body
 
 -- the lines of a procedure
 abbrev pub procedure_body : ScriptValue → ℕ → List Line
-procedure_body script entry = body_in (slice_get script.procedures entry)
+procedure_body script entry = body_or_empty (slice_get script.procedures entry)
 
 -- the variables in which a procedure begins: the argument, and the decimal text of the door's cookie
 abbrev pub arguments : Value → ℕ → Variables
@@ -147,41 +142,41 @@ arguments argument cookie =
     set_variable (set_variable no_variables (codes "arg") argument) (codes "cookie") (with_bytes (decimal cookie))
 
 abbrev pub procedure_frame : ScriptValue → ℕ → Bool → Variables → Frame
-procedure_frame script entry notice variables = begun true notice variables (procedure_body script entry)
+procedure_frame script entry notice variables = new_frame true notice variables (procedure_body script entry)
 
--- the steps behind the command that a frame is at
-abbrev pub behind : List Step → List Step
-behind [] = []
-behind (step ∷ steps) = steps
+-- the steps after the command that a frame is at
+abbrev pub steps_after : List BodyStep → List BodyStep
+steps_after [] = []
+steps_after (step ∷ steps) = steps
 
 -- the variables that the command sets
-abbrev pub vars_ahead : List Step → List (List ℕ)
+abbrev pub vars_ahead : List BodyStep → List (List ℕ)
 vars_ahead (Do line ∷ steps) = vars_of line
 vars_ahead steps = []
 
 -- an answer ends the command that it answers
-abbrev pub answered : Frame → Answer → Frame
-answered f a =
+abbrev pub frame_after_command : Frame → Answer → Frame
+frame_after_command f a =
     record f {
-      steps = upcoming (holds a f.notice) 0 (behind f.steps);
+      steps = next_steps (is_met a f.notice) 0 (steps_after f.steps);
       variables = set_each f.variables (vars_ahead f.steps) (values_of a);
       last = a;
     }
 
 -- an accept that enters replaces the frame; what says that a thread waits, or that an accept failed, leaves it; any
 -- other answer ends the command that made the request
-abbrev pub taken : ScriptValue → Frame → Answer → Frame
-taken script f (answer.Entered call entry cookie bytes fds) =
+abbrev pub frame_after_answer : ScriptValue → Frame → Answer → Frame
+frame_after_answer script f (answer.Entered call entry cookie bytes fds) =
     procedure_frame script entry false (arguments (with_both bytes fds) cookie)
-taken script f (answer.EnteredNotice notice entry cookie) = procedure_frame script entry true (arguments unset cookie)
-taken script f answer.Wait = f
-taken script f (answer.WaitCall call) = f
-taken script f (answer.EnterFailed call) = f
-taken script f a = answered f a
+frame_after_answer script f (answer.EnteredNotice notice entry cookie) = procedure_frame script entry true (arguments empty_value cookie)
+frame_after_answer script f answer.Wait = f
+frame_after_answer script f (answer.WaitCall call) = f
+frame_after_answer script f (answer.EnterFailed call) = f
+frame_after_answer script f a = frame_after_command f a
 
 -- a thread's frame after one event more
 abbrev pub frame_after : ScriptValue → ℕ → Frame → Event → Frame
-frame_after script t f e = if e.thread.0 == t then taken script f e.answer else f
+frame_after script t f e = if e.thread.0 == t then frame_after_answer script f e.answer else f
 
 abbrev pub frame_from : ScriptValue → ℕ → Frame → List Event → Frame
 frame_from script t f [] = f

@@ -1,17 +1,10 @@
 -- The runs of a script: a list of threads, each runnable at its turn, determines the whole run.
 use Rattle.std.specs.Prelude.{ℕ, ◌≡◌, ◌≤◌, ◌||◌, List, [], ◌∷◌, ◌++◌, Option, Some, None, Bool, true, is_none, zero, suc, ◌+◌, ◌-◌, length, map, take, nat_le, if◌then◌else◌}
 use Rattle.std.specs.Option.{option_map_or}
-use Rattle.dk_base.specs.declared.number.Tid.{Tid}
-use Rattle.dk_base.specs.declared.request.Request.{Request}
-use Rattle.dk_base.specs.declared.event.Event.{Event}
-use Rattle.written_kernel.specs.State.{State}
-use Rattle.written_kernel.specs.Turns.{runnable, is_running, least_runnable}
-use Rattle.written_kernel.specs.Step.{step, event_of}
-use Rattle.written_kernel.specs.Opening.{opening, with_new_thread}
-use Rattle.written_kernel.specs.Runs.{Turn}
-use Rattle.script_lang.specs.declared.script.ScriptProcess.{ScriptProcess}
-use Rattle.script_lang.specs.declared.script.ScriptThread.{ScriptThread}
-use Rattle.script_lang.specs.Value.{ScriptValue}
+use Rattle.written_kernel.specs.Types.{Event, Request, Tid}
+use Rattle.written_kernel.specs.Words.{State, Turn, event_of, is_runnable, is_running, least_runnable, opening, step, with_new_thread}
+use Rattle.written_script.specs.Types.{ScriptProcess, ScriptThread}
+use Rattle.script_lang.specs.Words.{ScriptValue}
 use Rattle.written_script.specs.Requests.{request_after}
 
 abbrev pub limit_of : ScriptProcess → ℕ
@@ -30,60 +23,60 @@ pub record History : Type 0 where
   pub state : State
   pub events : List Event
 
-abbrev pub beginning : ScriptValue → History
-beginning script = record { state = opening_of script; events = [] }
+abbrev pub first_history : ScriptValue → History
+first_history script = record { state = opening_of script; events = [] }
 
 -- a Running thread asks; another thread's turn ends its wait
-abbrev pub asked : ScriptValue → History → ℕ → Option Request
-asked script h t = if is_running h.state t then Some (request_after script t h.events) else None
+abbrev pub request_at_turn : ScriptValue → History → ℕ → Option Request
+request_at_turn script h t = if is_running h.state t then Some (request_after script t h.events) else None
 
 -- a thread takes a turn
-abbrev pub turn : ScriptValue → History → ℕ → History
-turn script h t =
+abbrev pub history_after : ScriptValue → History → ℕ → History
+history_after script h t =
     record {
-      state = (step h.state t (asked script h t)).state;
-      events = h.events ++ event_of h.state t (asked script h t) ∷ [];
+      state = (step h.state t (request_at_turn script h t)).state;
+      events = h.events ++ event_of h.state t (request_at_turn script h t) ∷ [];
     }
 
 abbrev pub run_from : ScriptValue → History → List ℕ → History
 run_from script h [] = h
-run_from script h (t ∷ ts) = run_from script (turn script h t) ts
+run_from script h (t ∷ ts) = run_from script (history_after script h t) ts
 
 -- the run in which these threads take turns
 unfoldable pub run : ScriptValue → List ℕ → History
-run script ts = run_from script (beginning script) ts
+run script ts = run_from script (first_history script) ts
 
 -- each of these threads is runnable at its turn
 abbrev pub AreRunnableFrom : ScriptValue → History → List ℕ → Type 0
 AreRunnableFrom script h [] = Unit {0}
-AreRunnableFrom script h (t ∷ ts) = (runnable h.state t ≡ true) × AreRunnableFrom script (turn script h t) ts
+AreRunnableFrom script h (t ∷ ts) = (is_runnable h.state t ≡ true) × AreRunnableFrom script (history_after script h t) ts
 
 -- the lists of turns that a script allows
 pub record IsAllowed (script : ScriptValue) (ts : List ℕ) : Type 0 where
-  pub runnable : AreRunnableFrom script (beginning script) ts
+  pub runnable : AreRunnableFrom script (first_history script) ts
   pub within : length ts ≤ script.budget
 
 -- the same turns with their requests
 abbrev pub turns_from : ScriptValue → History → List ℕ → List Turn
 turns_from script h [] = []
 turns_from script h (t ∷ ts) =
-    record { thread = t; request = asked script h t } ∷ turns_from script (turn script h t) ts
+    record { thread = t; request = request_at_turn script h t } ∷ turns_from script (history_after script h t) ts
 
 abbrev pub turns_of : ScriptValue → List ℕ → List Turn
-turns_of script ts = turns_from script (beginning script) ts
+turns_of script ts = turns_from script (first_history script) ts
 
 -- the least runnable thread again and again, until none is runnable or so many turns were taken
-abbrev pub least_first : ScriptValue → ℕ → History → List ℕ
-least_first script zero h = []
-least_first script (suc n) h =
-    option_map_or (λ t. t ∷ least_first script n (turn script h t)) (least_runnable h.state) []
+abbrev pub least_runnable_turns : ScriptValue → ℕ → History → List ℕ
+least_runnable_turns script zero h = []
+least_runnable_turns script (suc n) h =
+    option_map_or (λ t. t ∷ least_runnable_turns script n (history_after script h t)) (least_runnable h.state) []
 
-abbrev pub number_of_turn : Tid → ℕ
-number_of_turn t = t.0
+abbrev pub tid_number : Tid → ℕ
+tid_number t = t.0
 
 -- the turns of a schedule as far as the budget reaches
-abbrev pub scheduled : ScriptValue → List ℕ
-scheduled script = take script.budget (map number_of_turn script.schedule)
+abbrev pub scheduled_turns : ScriptValue → List ℕ
+scheduled_turns script = take script.budget (map tid_number script.schedule)
 
 -- the turn at which a thread is not runnable, from 1, and the thread
 pub record Refusal : Type 0 where
@@ -94,32 +87,32 @@ pub record Refusal : Type 0 where
 abbrev pub refusal_from : ScriptValue → History → ℕ → List ℕ → Option Refusal
 refusal_from script h n [] = None
 refusal_from script h n (t ∷ ts) =
-    if runnable h.state t
-    then refusal_from script (turn script h t) (n + 1) ts
+    if is_runnable h.state t
+    then refusal_from script (history_after script h t) (n + 1) ts
     else Some (record { turn = n + 1; thread = t })
 
 -- where `play` is refused
 unfoldable pub refusal : ScriptValue → Option Refusal
-refusal script = refusal_from script (beginning script) 0 (scheduled script)
+refusal script = refusal_from script (first_history script) 0 (scheduled_turns script)
 
 -- the turns before a refused one
 abbrev pub turns_before : ScriptValue → Refusal → List ℕ
-turns_before script refused = take (refused.turn - 1) (scheduled script)
+turns_before script refused = take (refused.turn - 1) (scheduled_turns script)
 
 -- The turns that `play` takes where none is refused: first the schedule's, as far as the budget reaches, then the least
 -- runnable thread until the run is over.
-unfoldable pub played : ScriptValue → List ℕ
-played script =
-    scheduled script
-    ++ least_first script (script.budget - length (scheduled script)) (run script (scheduled script))
+unfoldable pub turns_of_play : ScriptValue → List ℕ
+turns_of_play script =
+    scheduled_turns script
+    ++ least_runnable_turns script (script.budget - length (scheduled_turns script)) (run script (scheduled_turns script))
 
 -- the run is over where no thread is runnable, or the budget is used up
 abbrev pub is_over : ScriptValue → History → Bool
 is_over script h = is_none (least_runnable h.state) || nat_le script.budget (length h.events)
 
-abbrev pub thread_number : Event → ℕ
-thread_number e = e.thread.0
+abbrev pub thread_of_event : Event → ℕ
+thread_of_event e = e.thread.0
 
 -- the threads that took the turns of these events
-abbrev pub threads_of : List Event → List ℕ
-threads_of events = map thread_number events
+abbrev pub threads_of_events : List Event → List ℕ
+threads_of_events events = map thread_of_event events

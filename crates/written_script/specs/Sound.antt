@@ -1,13 +1,13 @@
 -- What every script that a text spells keeps, so that its requests are ones that a kernel takes.
 use Rattle.std.specs.Prelude.{ℕ, ◌≡◌, ◌≤◌, Some, false, length, slice_get, All}
-use Rattle.script_line.specs.declared.line.Line.{Line}
+use Rattle.script_lang.specs.Types.{Line}
 use Rattle.script_line.specs.declared.line.Line.TheVariants.{Create, Read, GetN, Interrupt, Kill}
-use Rattle.script_lang.specs.declared.script.Procedure.{Procedure}
-use Rattle.script_lang.specs.declared.script.ScriptThread.{ScriptThread}
-use Rattle.script_lang.specs.Value.{ScriptValue}
+use Rattle.written_script.specs.Types.{Procedure, ScriptThread}
+use Rattle.script_lang.specs.Words.{ScriptValue}
 use Rattle.written_script.specs.DeclaredNames.{IsThread, IsProcess, IsDeclaredThread}
-use Rattle.written_script.specs.Later.{later}
+use Rattle.written_script.specs.Later.{has_later_parts}
 use Rattle.written_script.specs.Trees.{IsClosed}
+use Rattle.dk_base.specs.declared.limits.TheConstants.{DATA_MAX, ANSWER_ITEMS_MAX, PROCESSES_MAX, THREADS_MAX, BUDGET_MAX}
 
 -- an entry is that of a procedure of this process
 pub record IsEntryOf (script : ScriptValue) (process entry : ℕ) : Type 0 where
@@ -19,8 +19,8 @@ pub record IsEntryOf (script : ScriptValue) (process entry : ℕ) : Type 0 where
 -- the process itself, since others may have procedures of the same name.
 abbrev pub IsFitLine : ScriptValue → ℕ → Line → Type 0
 IsFitLine script of (Create var entry cookie attrs) = IsEntryOf script of entry
-IsFitLine script of (Read var fd most) = (1 ≤ most) × (most ≤ 4096)
-IsFitLine script of (GetN port most least wait) = most ≤ 64
+IsFitLine script of (Read var fd most) = (1 ≤ most) × (most ≤ DATA_MAX)
+IsFitLine script of (GetN port most least wait) = most ≤ ANSWER_ITEMS_MAX
 IsFitLine script of (Interrupt thread) = IsThread script thread.0
 IsFitLine script of (Kill process) = IsProcess script process.0
 IsFitLine script of line = Unit {0}
@@ -38,9 +38,9 @@ pub record IsSoundProcedure (script : ScriptValue) (x : Procedure) : Type 0 wher
   pub closed : IsClosed x.body
 
 pub record IsSound (script : ScriptValue) : Type 0 where
-  pub few_processes : length script.processes ≤ 64
-  pub few_threads : length script.threads ≤ 64
-  pub small_budget : script.budget ≤ 100000
+  pub few_processes : length script.processes ≤ PROCESSES_MAX
+  pub few_threads : length script.threads ≤ THREADS_MAX
+  pub small_budget : script.budget ≤ BUDGET_MAX
   pub threads : All (IsSoundThread script) script.threads
   pub procedures : All (IsSoundProcedure script) script.procedures
   pub schedule : All (IsDeclaredThread script) script.schedule
@@ -48,4 +48,4 @@ pub record IsSound (script : ScriptValue) : Type 0 where
 -- a script that can be run: it needs no capability that is not built
 pub record IsPlayable (script : ScriptValue) : Type 0 where
   pub sound : IsSound script
-  pub built : later script ≡ false
+  pub built : has_later_parts script ≡ false

@@ -1,11 +1,10 @@
 -- The names that a trace shows, and the thread that a line of a trace names.
 use Rattle.std.specs.Prelude.{ℕ, Bool, ◌≡◌, ◌==◌, not, List, Option, Some, option_and_then, length, filter, slice_get}
 use Rattle.std.specs.List.{slice_split}
-use Rattle.dk_base.specs.declared.number.Tid.{Tid}
-use Rattle.script_line.specs.Tables.{thread_number, numbered}
-use Rattle.script_line.specs.Words.{thread_word, procedure_word}
-use Rattle.script_lang.specs.Scripts.{tables_of}
-use Rattle.script_lang.specs.Value.{ScriptValue}
+use Rattle.written_kernel.specs.Types.{Tid}
+use Rattle.dk_base.specs.ByNumber.{at_number}
+use Rattle.script_line.specs.Words.{procedure_word, thread_number, thread_word}
+use Rattle.script_lang.specs.Words.{ScriptValue, tables_of}
 
 -- a number that is no thread's has the empty name
 abbrev pub thread_name : ScriptValue → Tid → List ℕ
@@ -30,11 +29,11 @@ abbrev pub second_word : List ℕ → Option (List ℕ)
 second_word line = slice_get (words_between_spaces line) 1
 
 -- the declared thread that is a line's second word
-abbrev pub thread_of : ScriptValue → List ℕ → Option ℕ
-thread_of script line = option_and_then (thread_named script) (second_word line)
+abbrev pub thread_in_line : ScriptValue → List ℕ → Option ℕ
+thread_in_line script line = option_and_then (thread_named script) (second_word line)
 
 -- a line's second word is the name of this declared thread or spare
 pub record NamesThread (script : ScriptValue) (line : List ℕ) (thread : Tid) : Type 0 where
   pub word : List ℕ
   pub second : second_word line ≡ Some word
-  pub declared : numbered (tables_of script).threads thread.0 ≡ Some word
+  pub declared : at_number (tables_of script).threads thread.0 ≡ Some word

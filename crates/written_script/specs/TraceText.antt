@@ -1,10 +1,9 @@
 -- The text of a run: a line for each event, and the end line.
 use Rattle.std.specs.Prelude.{ℕ, List, [], ◌∷◌, ◌++◌, length, flat_map, codes, decimal}
 use Rattle.std.specs.List.{join_with_byte}
-use Rattle.dk_base.specs.declared.number.Tid.{Tid}
-use Rattle.dk_base.specs.declared.event.Event.{Event}
-use Rattle.written_kernel.specs.Turns.{waiting_threads}
-use Rattle.script_lang.specs.Value.{ScriptValue}
+use Rattle.written_kernel.specs.Types.{Event, Tid}
+use Rattle.written_kernel.specs.Words.{waiting_threads}
+use Rattle.script_lang.specs.Words.{ScriptValue}
 use Rattle.written_script.specs.declared.ending.Ending.{Ending}
 use Rattle.written_script.specs.declared.ending.Ending.TheVariants.{Complete, Stalled, Budget}
 use Rattle.written_script.specs.AnswerText.{answer_text}

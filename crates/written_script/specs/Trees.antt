@@ -1,20 +1,19 @@
 -- A body as the tree of its items, for a reader who doubts that its blocks are written out as they should be.
 use Rattle.std.specs.Prelude.{ℕ, ◌≡◌, List, [], ◌∷◌, ◌++◌, Option, Some, None}
-use Rattle.script_line.specs.declared.line.Cond.{Cond}
+use Rattle.script_lang.specs.Types.{Cond, Line}
 use Rattle.script_line.specs.declared.line.Kind.TheVariants.{Act}
-use Rattle.script_line.specs.declared.line.Line.{Line}
 use Rattle.script_line.specs.declared.line.Line.TheVariants.{Repeat, If, End}
-use Rattle.script_line.specs.Kinds.{kind_of, depth_after}
-use Rattle.written_script.specs.Steps.{Step, copies, guarded}
-use Rattle.written_script.specs.Steps.Step.{Do}
+use Rattle.script_line.specs.Words.{depth_after, kind_of}
+use Rattle.written_script.specs.Steps.{BodyStep, copies, tested_steps}
+use Rattle.written_script.specs.Steps.BodyStep.{Do}
 
--- an item, and the items behind it
+-- an item, and the items after it
 pub data Tree : Type 0 where
   NoMore : Tree
   Command : Line → Tree → Tree
-  -- how often its block is run, the block, and what is behind it
+  -- how often its block is run, the block, and what is after it
   Loop : ℕ → Tree → Tree → Tree
-  -- what it tests, the block that is run where this holds, and what is behind it
+  -- what it tests, the block that is run where this holds, and what is after it
   OnlyIf : Cond → Tree → Tree → Tree
 
 abbrev pub AreCommands : Tree → Type 0
@@ -24,36 +23,36 @@ AreCommands (Loop times block rest) = AreCommands block × AreCommands rest
 AreCommands (OnlyIf cond block rest) = AreCommands block × AreCommands rest
 
 -- its lines
-abbrev pub flat : Tree → List Line
-flat NoMore = []
-flat (Command line rest) = line ∷ flat rest
-flat (Loop times block rest) = Repeat times ∷ flat block ++ End ∷ flat rest
-flat (OnlyIf cond block rest) = If cond ∷ flat block ++ End ∷ flat rest
+abbrev pub lines_of_tree : Tree → List Line
+lines_of_tree NoMore = []
+lines_of_tree (Command line rest) = line ∷ lines_of_tree rest
+lines_of_tree (Loop times block rest) = Repeat times ∷ lines_of_tree block ++ End ∷ lines_of_tree rest
+lines_of_tree (OnlyIf cond block rest) = If cond ∷ lines_of_tree block ++ End ∷ lines_of_tree rest
 
 -- its commands and tests, with the loops copied
-abbrev pub copied : Tree → List Step
-copied NoMore = []
-copied (Command line rest) = Do line ∷ copied rest
-copied (Loop times block rest) = copies times (copied block) ++ copied rest
-copied (OnlyIf cond block rest) = guarded cond (copied block) ++ copied rest
+abbrev pub steps_of_tree : Tree → List BodyStep
+steps_of_tree NoMore = []
+steps_of_tree (Command line rest) = Do line ∷ steps_of_tree rest
+steps_of_tree (Loop times block rest) = copies times (steps_of_tree block) ++ steps_of_tree rest
+steps_of_tree (OnlyIf cond block rest) = tested_steps cond (steps_of_tree block) ++ steps_of_tree rest
 
 abbrev pub depth_with : Option ℕ → (ℕ → Option ℕ) → Option ℕ
-depth_with None behind = None
-depth_with (Some depth) behind = behind depth
+depth_with None after = None
+depth_with (Some depth) after = after depth
 
--- how many blocks are open behind these lines, where so many are before them; none where a line closes the body
-abbrev pub depth_behind : ℕ → List Line → Option ℕ
-depth_behind depth [] = Some depth
-depth_behind depth (line ∷ lines) = depth_with (depth_after depth (kind_of line)) (λ behind. depth_behind behind lines)
+-- how many blocks are open after these lines, where so many are before them; none where a line closes the body
+abbrev pub depth_after_lines : ℕ → List Line → Option ℕ
+depth_after_lines depth [] = Some depth
+depth_after_lines depth (line ∷ lines) = depth_with (depth_after depth (kind_of line)) (λ after. depth_after_lines after lines)
 
 -- every block of a body is closed in it
 abbrev pub IsClosed : List Line → Type 0
-IsClosed body = depth_behind 0 body ≡ Some 0
+IsClosed body = depth_after_lines 0 body ≡ Some 0
 
 -- the tree of a body
 pub record IsTreeOf (body : List Line) (tree : Tree) : Type 0 where
   pub commands : AreCommands tree
-  pub lines : flat tree ≡ body
+  pub lines : lines_of_tree tree ≡ body
 
 pub record HasTree (body : List Line) : Type 0 where
   pub tree : Tree

@@ -1,15 +1,10 @@
 -- The variables of a frame, and what operands are by them.
 use Rattle.std.specs.Prelude.{ℕ, List, [], ◌∷◌, Option, Some, None, if◌then◌else◌, bytes_eq, flat_map, replicate, slice_get, take}
-use Rattle.dk_base.specs.declared.answer.Answer.{Answer}
+use Rattle.written_kernel.specs.Types.{Answer, Fd, Pass}
 use Rattle.dk_base.specs.declared.answer.Answer.TheVariants as answer
-use Rattle.dk_base.specs.declared.number.Fd.{Fd}
-use Rattle.dk_base.specs.declared.object.Pass.{Pass}
-use Rattle.script_line.specs.declared.line.FdArg.{FdArg}
+use Rattle.script_lang.specs.Types.{FdArg, Line, PassArg, Piece}
 use Rattle.script_line.specs.declared.line.FdArg.TheVariants.{Number, Of as OfFd}
-use Rattle.script_line.specs.declared.line.Line.{Line}
 use Rattle.script_line.specs.declared.line.Line.TheVariants as line
-use Rattle.script_line.specs.declared.line.PassArg.{PassArg}
-use Rattle.script_line.specs.declared.line.Piece.{Piece}
 use Rattle.script_line.specs.declared.line.Piece.TheVariants.{Text, Of, Fill}
 
 -- what a variable holds
@@ -17,8 +12,8 @@ pub record Value : Type 0 where
   pub bytes : List ℕ
   pub descriptors : List Fd
 
-abbrev pub unset : Value
-unset = record { bytes = []; descriptors = [] }
+abbrev pub empty_value : Value
+empty_value = record { bytes = []; descriptors = [] }
 
 abbrev pub with_bytes : List ℕ → Value
 with_bytes bytes = record { bytes = bytes; descriptors = [] }
@@ -33,7 +28,7 @@ abbrev pub Variables : Type 0
 Variables = List ℕ → Value
 
 abbrev pub no_variables : Variables
-no_variables name = unset
+no_variables name = empty_value
 
 -- setting a variable replaces its whole value
 abbrev pub set_variable : Variables → List ℕ → Value → Variables
@@ -57,17 +52,17 @@ abbrev pub pass_of : Variables → PassArg → Pass
 pass_of variables pass = record { fd = fd_of variables pass.fd; release = pass.release }
 
 -- `fill:N` is N bytes `x`
-abbrev pub bytes_of : Variables → Piece → List ℕ
-bytes_of variables (Text bytes) = bytes
-bytes_of variables (Of var) = (variables var).bytes
-bytes_of variables (Fill n) = replicate n 120
+abbrev pub piece_bytes : Variables → Piece → List ℕ
+piece_bytes variables (Text bytes) = bytes
+piece_bytes variables (Of var) = (variables var).bytes
+piece_bytes variables (Fill n) = replicate n 120
 
 unfoldable pub greatest_data : ℕ
 greatest_data = 8192
 
 -- the bytes of DATA, cut to the first 8,192
 abbrev pub data_of : Variables → List Piece → List ℕ
-data_of variables pieces = take greatest_data (flat_map (bytes_of variables) pieces)
+data_of variables pieces = take greatest_data (flat_map (piece_bytes variables) pieces)
 
 -- what answers set
 

@@ -3,6 +3,5 @@
 #![tactic(auto)]
 
 pub mod ending;
-pub mod rows;
-pub mod runs;
-pub mod written_out;
+pub mod laws;
+pub mod worked_runs;

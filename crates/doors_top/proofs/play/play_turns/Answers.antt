@@ -1,6 +1,5 @@
 use Rattle.std.proofs.Common.{◌∙◌, ap}
-use Rattle.sys_run.specs.Schedules.{HasPlayed, IsRefused, IsPlay, IsBefore, refused_at}
-use Rattle.sys_run.specs.Sys.{with_journal}
+use Rattle.sys_run.specs.Words.{HasPlayed, IsBefore, IsPlay, IsRefused, refusal_at, with_journal}
 use Rattle.doors_top.proofs.Plays.{play_status, play_text, play_laws, before_text, before_laws}
 use Rattle.doors_top.proofs.play.play_turns.Goals as goal
 
@@ -31,17 +30,17 @@ returns-in_ok-reply-in-Over-clause-laws c =
 pub returns-in_ok-reply-in-Refused-clause-text : goal.returns-in_ok-reply-in-Refused-clause-text
 returns-in_ok-reply-in-Refused-clause-text c =
     let s = c.args.sys.now.script in
-    let refused : IsRefused c.args.sys.now c.play_schedule.new.self (refused_at c.in-Refused.turn c.in-Refused.thread.0) =
+    let refused : IsRefused c.args.sys.now c.play_schedule.new.self (refusal_at c.in-Refused.turn c.in-Refused.thread.0) =
     rw c.in-Refused.is at c.in_ok-play_schedule.ensures.played in
-    let before : IsBefore s (refused_at c.in-Refused.turn c.in-Refused.thread.0) c.play_schedule.new.self =
+    let before : IsBefore s (refusal_at c.in-Refused.turn c.in-Refused.thread.0) c.play_schedule.new.self =
     c.refused_plays.ensures s _ _ _ (ap (with_journal s) c.requires) refused in
     c.in_ok-reply-in-Refused.ensures.text ∙ before_text s c.in-Refused.turn c.in-Refused.thread _ before
 
 pub returns-in_ok-reply-in-Refused-clause-laws : goal.returns-in_ok-reply-in-Refused-clause-laws
 returns-in_ok-reply-in-Refused-clause-laws c =
     let s = c.args.sys.now.script in
-    let refused : IsRefused c.args.sys.now c.play_schedule.new.self (refused_at c.in-Refused.turn c.in-Refused.thread.0) =
+    let refused : IsRefused c.args.sys.now c.play_schedule.new.self (refusal_at c.in-Refused.turn c.in-Refused.thread.0) =
     rw c.in-Refused.is at c.in_ok-play_schedule.ensures.played in
-    let before : IsBefore s (refused_at c.in-Refused.turn c.in-Refused.thread.0) c.play_schedule.new.self =
+    let before : IsBefore s (refusal_at c.in-Refused.turn c.in-Refused.thread.0) c.play_schedule.new.self =
     c.refused_plays.ensures s _ _ _ (ap (with_journal s) c.requires) refused in
     before_laws s _ _ before c.play_schedule.ensures.laws

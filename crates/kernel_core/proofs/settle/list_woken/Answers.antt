@@ -1,6 +1,5 @@
 use Rattle.std.proofs.Common.{◌≡◌, ◌+◌, false, length, get_or, sym, ap, ◌∙◌, arith}
-use Rattle.written_kernel.specs.State.{State}
-use Rattle.written_kernel.specs.Turns.{runnable}
+use Rattle.written_kernel.specs.Words.{State, is_runnable}
 use Rattle.kernel_core.specs.Woken.{runnables}
 use Rattle.kernel_core.proofs.Readers.{runnables_at, woken_one, woken_none}
 use Rattle.kernel_core.proofs.settle.list_woken.Goals as goal
@@ -8,11 +7,11 @@ use Rattle.kernel_core.proofs.settle.list_woken.Goals.{then-is_woken, else-is_wo
 
 pub loop-i-preserved : goal.loop-i-preserved
 loop-i-preserved c =
-    let m = c.args.parts.now in
+    let m = c.args.store.now in
     let i = c.loop-i.i in
     let flags = c.args.was_runnable.now in
     let was = get_or flags i false in
-    let read : (before : State) → flags ≡ runnables before (length m.threads) → was ≡ runnable before (i + 1) =
+    let read : (before : State) → flags ≡ runnables before (length m.threads) → was ≡ is_runnable before (i + 1) =
     λ before h. ap (λ xs. get_or xs i false) h ∙ runnables_at before (length m.threads) i false (omega arith) in
     elim c.if-is_woken.branch [
       | then-is_woken w ↦ record {

@@ -1,7 +1,7 @@
 use Rattle.std.proofs.Common.{◌≡◌, None, get_or, arith}
 use Rattle.std.proofs.lemmas.Grind.{common_steps}
 use Rattle.std.proofs.lemmas.List.Edits.{map_over_more}
-use Rattle.written_kernel.specs.Leaving.{closed}
+use Rattle.written_kernel.specs.Words.{free_row}
 use Rattle.kernel_core.proofs.table.close_all.Goals as goal
 
 pub loop-row-preserved : goal.loop-row-preserved
@@ -10,4 +10,4 @@ loop-row-preserved c =
     let rows = c.loop-row.rows in
     let x = get_or rows i None in
     let read : x ≡ get_or rows i x = grind (arith, common_steps) in
-    map_over_more closed c.args.rows.now rows i x (omega arith) c.loop-row.invariant read
+    map_over_more free_row c.args.rows.now rows i x (omega arith) c.loop-row.invariant read

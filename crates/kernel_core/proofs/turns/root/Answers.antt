@@ -1,11 +1,11 @@
 use Rattle.std.proofs.Common.{◌≡◌, ◌-◌, ◌+◌, ap, sym, ◌∙◌, arith}
-use Rattle.written_kernel.specs.Walks.{walk}
+use Rattle.written_kernel.specs.Words.{walk}
 use Rattle.kernel_core.proofs.Readers.{walk_more}
 use Rattle.kernel_core.proofs.turns.root.Goals as goal
 
 pub loop-step-preserved : goal.loop-step-preserved
 loop-step-preserved c =
-    let m = c.args.parts.now in
+    let m = c.args.store.now in
     let n = m.calls_made - c.loop-step._step in
     let u = c.in-Some.caller.0 in
     let left : n - 1 ≡ m.calls_made - (c.loop-step._step + 1) = omega arith in

@@ -1,14 +1,12 @@
 use Rattle.std.proofs.Common.{rules}
-use Rattle.script_line.specs.Readers.{items_to}
-use Rattle.script_line.specs.Reads.{Fails}
-use Rattle.script_line.specs.Operands.{no_stop, thread_in}
-use Rattle.script_line.proofs.ItemByItem.{items-kept, items-ended, items-failed, items-fewer}
+use Rattle.line_reader.specs.Words.{Fails, is_no_stop, items_to, thread_from_word}
+use Rattle.line_reader.proofs.ItemByItem.{items-kept, items-ended, items-failed, items-fewer}
 use Rattle.script_lang.proofs.Turns.{turns_by_item}
 use Rattle.script_lang.proofs.items.turns.Goals as goal
 
 pub returns-in_err-thread : goal.returns-in_err-thread
 returns-in_err-thread c =
-    let fails : Fails (items_to no_stop (thread_in c.args.tables.now) c.args.operands.now) c.in_err-thread.field-0.0 =
+    let fails : Fails (items_to is_no_stop (thread_from_word c.args.tables.now) c.args.operands.now) c.in_err-thread.field-0.0 =
     λ reason is. items-failed (turns_by_item c.args.tables.now) c.loop-turns.turns c.loop-turns.operands reason _ c.loop-turns.invariant (c.in_err-thread.ensures reason is) in
     search rules
 

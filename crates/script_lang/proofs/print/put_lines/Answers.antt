@@ -1,12 +1,12 @@
 use Rattle.std.proofs.Common.{◌++◌, ◌∷◌, [], ap, ◌∙◌}
-use Rattle.script_text.specs.Words.{joined}
+use Rattle.script_text.specs.Words.{joined_words}
 use Rattle.script_line.specs.Words.{line_words}
 use Rattle.script_lang.proofs.PrintSteps.{body_more}
 use Rattle.script_lang.proofs.print.put_lines.Goals as goal
 
 pub loop-line-preserved : goal.loop-line-preserved
 loop-line-preserved c =
-    let words = joined (line_words c.args.tables.now c.line-item.result) in
+    let words = joined_words (line_words c.args.tables.now c.line-item.result) in
     c.in_ok-end_line.ensures.ok ∙
     ap (λ text. text ++ 10 ∷ []) c.in_ok-put_line.ensures ∙
     ap (λ text. (text ++ words) ++ 10 ∷ []) c.loop-line.invariant ∙

@@ -1,5 +1,5 @@
 use Rattle.std.proofs.Common.{◌≡◌, ◌++◌, take, map}
-use Rattle.script_lang.specs.declared.item.Item.TheVariants.{Do}
+use Rattle.script_lang.specs.declared.item.ScriptLine.TheVariants.{Do}
 use Rattle.script_lang.specs.Printed.{items_text}
 use Rattle.script_lang.proofs.print.put_lines.Given as goal
 

@@ -1,7 +1,7 @@
 use Rattle.std.proofs.Common.{◌≡◌, ◌++◌, ◌∷◌, [], List, refl, ap, ◌∙◌, subst}
 use Rattle.std.proofs.lemmas.Result.{on_ok_weaker}
-use Rattle.script_lang.specs.declared.item.Item.{Item}
-use Rattle.script_lang.specs.declared.item.Item.TheVariants.{Budget}
+use Rattle.script_lang.specs.declared.item.ScriptLine.{ScriptLine}
+use Rattle.script_lang.specs.declared.item.ScriptLine.TheVariants.{Budget}
 use Rattle.script_lang.specs.Printed.{items_text}
 use Rattle.script_lang.specs.Scripts.{part_items, schedule_items, items_of, tables_of}
 use Rattle.script_lang.specs.Value.{ScriptValue}
@@ -13,7 +13,7 @@ returns c =
     let i = c.script.inside in
     let tables = i.tables in
     let view : ScriptValue = record { budget = i.budget; processes = i.processes; threads = i.threads; procedures = i.procedures; order = i.order; paths = i.tables.paths; schedule = i.schedule } in
-    let parts : List Item = part_items i.order i.processes i.threads i.procedures in
+    let parts : List ScriptLine = part_items i.order i.processes i.threads i.procedures in
     let same : part_items c.slice.result.now c.slice-2.result.now c.slice-3.result.now c.slice-4.result.now ≡ parts = rw (c.slice.ensures, c.slice-2.ensures, c.slice-3.ensures, c.slice-4.ensures) refl in
     let front : c.put_parts.new.text ≡ (c.args.text.now ++ items_text tables (Budget i.budget ∷ [])) ++ items_text tables parts =
     c.in_ok-put_parts.ensures ∙

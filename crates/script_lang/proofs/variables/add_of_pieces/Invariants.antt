@@ -1,7 +1,7 @@
 use Rattle.std.proofs.Common.{◌≡◌, drop, flat_map}
-use Rattle.script_text.specs.Names.{with_names}
-use Rattle.script_line.specs.Uses.{piece_variables}
+use Rattle.script_text.specs.Words.{with_distinct_names}
+use Rattle.script_line.specs.Words.{piece_variables}
 use Rattle.script_lang.proofs.variables.add_of_pieces.Given as goal
 
 abbrev pub invariant-loop-piece : goal.invariant-loop-piece
-invariant-loop-piece l = with_names l.names (flat_map piece_variables (drop l.piece-index l.pieces)) ≡ with_names l.initial.names (flat_map piece_variables l.pieces)
+invariant-loop-piece l = with_distinct_names l.names (flat_map piece_variables (drop l.piece-index l.pieces)) ≡ with_distinct_names l.initial.names (flat_map piece_variables l.pieces)

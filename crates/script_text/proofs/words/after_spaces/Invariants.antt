@@ -1,5 +1,5 @@
 use Rattle.std.proofs.Common.{◌≡◌, ◌≤◌, length}
-use Rattle.script_text.specs.Words.{words_of}
+use Rattle.script_text.specs.LineWords.{words_of}
 use Rattle.script_text.proofs.words.after_spaces.Given as goal
 
 abbrev pub invariant-loop-later : goal.invariant-loop-later

@@ -1,5 +1,5 @@
 use Rattle.std.proofs.Common.{◌≡◌, true}
-use Rattle.script_text.specs.Words.{is_in_word}
+use Rattle.script_text.specs.LineWords.{is_in_word}
 use Rattle.script_text.proofs.WordEnd.{Continues}
 use Rattle.script_text.proofs.words.word_len.Given as goal
 

@@ -1,11 +1,9 @@
 use Rattle.std.proofs.Common.{◌≡◌, ℕ, List, Result, Ok, Err, OnOk, OnErr}
-use Rattle.dk_base.specs.declared.error.NoMemory.{NoMemory}
-use Rattle.dk_base.specs.declared.event.Event.{Event}
-use Rattle.dk_base.specs.declared.number.Tid.{Tid}
-use Rattle.script_lang.specs.Value.{ScriptValue}
+use Rattle.written_kernel.specs.Types.{Event, NoMemory, Tid}
+use Rattle.script_lang.specs.Words.{ScriptValue}
 use Rattle.thread_machine.specs.declared.machine.Machine.{Machine}
-use Rattle.thread_machine.specs.Machines.{IsMachine, Stands}
-use Rattle.written_script.specs.Requests.{Frame}
+use Rattle.thread_machine.specs.Words.{IsMachine, Stands}
+use Rattle.written_script.specs.Words.{Frame}
 use Rattle.sys_run.specs.Sys.{MachineStands}
 use Rattle.sys_run.proofs.turn.take_turn.Goals as goal
 

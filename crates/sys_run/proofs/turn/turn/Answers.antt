@@ -1,9 +1,9 @@
 use Rattle.std.proofs.Common.{◌∙◌, ap, sym, refl, ◌++◌, ◌∷◌, []}
-use Rattle.dk_base.specs.declared.event.Event.{Event}
-use Rattle.written_script.specs.Requests.{frame_of}
+use Rattle.written_kernel.specs.Types.{Event}
+use Rattle.written_script.specs.Words.{frame_of}
 use Rattle.sys_run.specs.Sys.{with_journal, state_of_run}
-use Rattle.sys_run.proofs.Machines.{stands-taken}
-use Rattle.sys_run.proofs.Turns.{asked-history, may_turn-asked, entered-turn, kernel-after}
+use Rattle.sys_run.proofs.Machines.{stands-frame_after_answer}
+use Rattle.sys_run.proofs.Turns.{request_at_turn-history, may_turn-request_at_turn, entered-turn, kernel-after}
 use Rattle.sys_run.proofs.Turning.{turn-event}
 use Rattle.sys_run.proofs.turn.turn.Goals as goal
 
@@ -11,7 +11,7 @@ pub step-requires : goal.step-requires
 step-requires c =
     let p = with_journal c.args.script.now c.args.journal.now.items
     in let asks = c.in_ok-request.ensures (state_of_run p) (frame_of c.args.script.now c.args.t.0 c.args.journal.now.items) c.requires.kernel c.requires.machine.stands
-    in (state_of_run p, c.requires.kernel, may_turn-asked p c.args.t.0 _ asks c.requires.run c.requires.can c.requires.left)
+    in (state_of_run p, c.requires.kernel, may_turn-request_at_turn p c.args.t.0 _ asks c.requires.run c.requires.can c.requires.left)
 
 pub take-requires-clause-declared : goal.take-requires-clause-declared
 take-requires-clause-declared c =
@@ -32,7 +32,7 @@ returns-clause-journal c =
     let p = with_journal c.args.script.now c.args.journal.now.items
     in let asks = c.in_ok-request.ensures (state_of_run p) (frame_of c.args.script.now c.args.t.0 c.args.journal.now.items) c.requires.kernel c.requires.machine.stands
     in ap (with_journal c.args.script.now)
-    (c.appended.ensures.journal
+    (c.push_event.ensures.journal
     ∙ ap (λ (e : Event). c.args.journal.now.items ++ e ∷ [])
     (turn-event
     p
@@ -42,7 +42,7 @@ returns-clause-journal c =
     c.in_ok-stepped.stepped.answer
     c.in_ok-request.request
     (c.root-root.ensures.stands (state_of_run p) c.requires.kernel)
-    (asks ∙ sym (asked-history p c.args.t.0 c.requires.run))
+    (asks ∙ sym (request_at_turn-history p c.args.t.0 c.requires.run))
     (c.what_of-what.ensures (state_of_run p) c.requires.kernel)
     (c.in_ok-stepped.ensures.step (state_of_run p) c.requires.kernel).answer))
 
@@ -55,13 +55,13 @@ returns-clause-kernel c =
     c.args.t.0
     c.in_ok-request.request
     _
-    (asks ∙ sym (asked-history p c.args.t.0 c.requires.run))
+    (asks ∙ sym (request_at_turn-history p c.args.t.0 c.requires.run))
     (c.in_ok-stepped.ensures.step (state_of_run p) c.requires.kernel).state
 
 pub returns-clause-machine : goal.returns-clause-machine
 returns-clause-machine c =
-    rw c.appended.ensures.journal
-    (stands-taken
+    rw c.push_event.ensures.journal
+    (stands-frame_after_answer
     c.args.script.now
     c.args.journal.now.items
     _

@@ -1,6 +1,6 @@
 use Rattle.std.proofs.Common.{refl}
-use Rattle.script_lang.specs.Canonical.{canonical}
-use Rattle.thread_machine.specs.Machines.{lines_of}
+use Rattle.script_lang.specs.Words.{canonical_text}
+use Rattle.thread_machine.specs.Machines.{machine_lines}
 use Rattle.thread_machine.proofs.Frames.{ended-line, ended-placed}
 use Rattle.thread_machine.proofs.Positions.{slice_get-seen}
 use Rattle.thread_machine.proofs.ScriptBodies.{spelled-body, spelled-at}
@@ -10,22 +10,22 @@ pub answer-requires-clause-line : goal.answer-requires-clause-line
 answer-requires-clause-line c =
     let body =
     spelled-body
-    (canonical c.args.script.now)
+    (canonical_text c.args.script.now)
     c.args.script.now
     c.args.self.now.thread.0
     c.args.self.now.entry
     c.is_spelled.ensures.spelled
     in spelled-at
-    (lines_of c.args.script.now c.args.self.now)
+    (machine_lines c.args.script.now c.args.self.now)
     c.args.self.now.place.position
     c.index-lines-self.result
     body.spelled
     (slice_get-seen
-    c.lines_of-lines.result.now
-    (lines_of c.args.script.now c.args.self.now)
+    c.machine_lines-lines.result.now
+    (machine_lines c.args.script.now c.args.self.now)
     c.args.self.now.place.position
     c.index-lines-self.result
-    c.lines_of-lines.ensures
+    c.machine_lines-lines.ensures
     c.if-self-lines.false
     c.index-lines-self.is)
 
@@ -41,17 +41,17 @@ returns-clause-ends c =
     c.requires.machine
     s
     (slice_get-seen
-    c.lines_of-lines.result.now
-    (lines_of c.args.script.now c.args.self.now)
+    c.machine_lines-lines.result.now
+    (machine_lines c.args.script.now c.args.self.now)
     c.args.self.now.place.position
     c.index-lines-self.result
-    c.lines_of-lines.ensures
+    c.machine_lines-lines.ensures
     c.if-self-lines.false
     c.index-lines-self.is)
     refl
     refl
     refl
-    c.last_of-self.ensures
+    c.last_answer-self.ensures
     refl
     (c.answer.ensures f.variables s.variables)
 
@@ -64,11 +64,11 @@ returns-clause-placed c =
     c.index-lines-self.result
     c.requires.machine
     (slice_get-seen
-    c.lines_of-lines.result.now
-    (lines_of c.args.script.now c.args.self.now)
+    c.machine_lines-lines.result.now
+    (machine_lines c.args.script.now c.args.self.now)
     c.args.self.now.place.position
     c.index-lines-self.result
-    c.lines_of-lines.ensures
+    c.machine_lines-lines.ensures
     c.if-self-lines.false
     c.index-lines-self.is)
     refl

@@ -1,5 +1,5 @@
 use Rattle.std.proofs.Common.{None}
-use Rattle.script_lang.specs.Canonical.{canonical}
+use Rattle.script_lang.specs.Words.{canonical_text}
 use Rattle.thread_machine.specs.Machines.{body_of}
 use Rattle.thread_machine.proofs.Frames.{stands-first}
 use Rattle.thread_machine.proofs.ScriptBodies.{spelled-body}
@@ -15,5 +15,5 @@ settle-requires c =
           rw (c.new.ensures)
           (stands-first
           (body_of c.args.script.now c.args.thread.0 None)
-          (spelled-body (canonical c.args.script.now) c.args.script.now c.args.thread.0 None c.is_spelled.ensures.spelled));
+          (spelled-body (canonical_text c.args.script.now) c.args.script.now c.args.thread.0 None c.is_spelled.ensures.spelled));
     }

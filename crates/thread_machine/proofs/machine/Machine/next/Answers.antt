@@ -1,8 +1,8 @@
 use Rattle.std.proofs.Common.{◌≡◌, ◌∙◌, ap, sym, Some, None}
 use Rattle.std.specs.Prelude.{slice_get}
-use Rattle.script_lang.specs.Canonical.{canonical}
-use Rattle.written_script.specs.Requests.{request_at_end}
-use Rattle.thread_machine.specs.Machines.{lines_of}
+use Rattle.script_lang.specs.Words.{canonical_text}
+use Rattle.written_script.specs.Words.{request_at_end}
+use Rattle.thread_machine.specs.Machines.{machine_lines}
 use Rattle.thread_machine.proofs.Frames.{next-command, next-end}
 use Rattle.thread_machine.proofs.Positions.{slice_get-seen, slice_get-none}
 use Rattle.thread_machine.proofs.ScriptBodies.{spelled-body, spelled-at}
@@ -10,18 +10,18 @@ use Rattle.thread_machine.proofs.machine.Machine.next.Goals as goal
 
 pub returns-then-self-lines : goal.returns-then-self-lines
 returns-then-self-lines c =
-    λ f s. let there : slice_get (lines_of c.args.script.now c.args.self.now) c.args.self.now.place.position ≡ Some c.index-lines-self.result =
+    λ f s. let there : slice_get (machine_lines c.args.script.now c.args.self.now) c.args.self.now.place.position ≡ Some c.index-lines-self.result =
     slice_get-seen
-    c.lines_of-lines.result.now
-    (lines_of c.args.script.now c.args.self.now)
+    c.machine_lines-lines.result.now
+    (machine_lines c.args.script.now c.args.self.now)
     c.args.self.now.place.position
     c.index-lines-self.result
-    c.lines_of-lines.ensures
+    c.machine_lines-lines.ensures
     c.if-self-lines.true
     c.index-lines-self.is
     in let body =
     spelled-body
-    (canonical c.args.script.now)
+    (canonical_text c.args.script.now)
     c.args.script.now
     c.args.self.now.thread.0
     c.args.self.now.entry
@@ -36,33 +36,33 @@ returns-then-self-lines c =
     s
     there
     (spelled-at
-    (lines_of c.args.script.now c.args.self.now)
+    (machine_lines c.args.script.now c.args.self.now)
     c.args.self.now.place.position
     c.index-lines-self.result
     body.spelled
     there)
 
-pub returns-then-is_procedure : goal.returns-then-is_procedure
-returns-then-is_procedure c =
-    λ f s. let there : slice_get (lines_of c.args.script.now c.args.self.now) c.args.self.now.place.position ≡ None =
+pub returns-then-is_in_procedure : goal.returns-then-is_in_procedure
+returns-then-is_in_procedure c =
+    λ f s. let there : slice_get (machine_lines c.args.script.now c.args.self.now) c.args.self.now.place.position ≡ None =
     slice_get-none
-    c.lines_of-lines.result.now
-    (lines_of c.args.script.now c.args.self.now)
+    c.machine_lines-lines.result.now
+    (machine_lines c.args.script.now c.args.self.now)
     c.args.self.now.place.position
-    c.lines_of-lines.ensures
+    c.machine_lines-lines.ensures
     c.if-self-lines.false
-    in rw (c.new.ensures, c.new-then-is_procedure.ensures)
-    (ap request_at_end c.if-is_procedure.ensures
+    in rw (c.new.ensures, c.new-then-is_in_procedure.ensures)
+    (ap request_at_end c.if-is_in_procedure.ensures
     ∙ sym (next-end c.args.script.now c.args.self.now f c.requires s there))
 
 pub returns : goal.returns
 returns c =
-    λ f s. let there : slice_get (lines_of c.args.script.now c.args.self.now) c.args.self.now.place.position ≡ None =
+    λ f s. let there : slice_get (machine_lines c.args.script.now c.args.self.now) c.args.self.now.place.position ≡ None =
     slice_get-none
-    c.lines_of-lines.result.now
-    (lines_of c.args.script.now c.args.self.now)
+    c.machine_lines-lines.result.now
+    (machine_lines c.args.script.now c.args.self.now)
     c.args.self.now.place.position
-    c.lines_of-lines.ensures
+    c.machine_lines-lines.ensures
     c.if-self-lines.false
-    in ap request_at_end c.if-is_procedure.ensures
+    in ap request_at_end c.if-is_in_procedure.ensures
     ∙ sym (next-end c.args.script.now c.args.self.now f c.requires s there)

@@ -1,8 +1,8 @@
 use Rattle.std.proofs.Common.{ℕ, ◌∙◌, List, [], ap, sym, subst}
-use Rattle.dk_base.specs.declared.number.Fd.{Fd}
+use Rattle.script_text.specs.Types.{Fd}
 use Rattle.std.specs.Prelude.{option_copied}
-use Rattle.written_script.specs.Variables.{Variables, vars_of, values_of, with_descriptor, with_bytes, with_both}
-use Rattle.thread_machine.specs.Slots.{IsShort, cut, set_some}
+use Rattle.written_script.specs.Words.{Variables, values_of, vars_of, with_both, with_bytes, with_descriptor}
+use Rattle.thread_machine.specs.Slots.{IsShort, visible_value, set_some}
 use Rattle.thread_machine.proofs.SpelledLines.{vars-short}
 use Rattle.thread_machine.proofs.Slotted.{one-answer, two-answers}
 use Rattle.thread_machine.proofs.variables.Variables.answer.Goals as goal
@@ -26,7 +26,7 @@ pub returns-in-NewFd : goal.returns-in-NewFd
 returns-in-NewFd c =
     λ values h name. c.set_some.ensures.held values h name
     ∙ ap
-    (λ (f : Variables). cut (f name))
+    (λ (f : Variables). visible_value (f name))
     (one-answer
     values
     (vars_of c.args.line.now)
@@ -40,10 +40,10 @@ pub returns-in-Data : goal.returns-in-Data
 returns-in-Data c =
     λ values h name. c.set_some-in-Data.ensures.held values h name
     ∙ ap
-    (λ (bytes : List ℕ). cut (set_some values (option_copied c.first_var-in-Data.result) (with_both bytes []) name))
+    (λ (bytes : List ℕ). visible_value (set_some values (option_copied c.first_var-in-Data.result) (with_both bytes []) name))
     c.slice.ensures
     ∙ ap
-    (λ (f : Variables). cut (f name))
+    (λ (f : Variables). visible_value (f name))
     (one-answer
     values
     (vars_of c.args.line.now)
@@ -58,14 +58,14 @@ returns-in-Results c =
     λ values h name. c.set_some-in-Results.ensures.held values h name
     ∙ ap
     (λ (bytes : List ℕ).
-    cut (set_some values (option_copied c.first_var-in-Results.result) (with_both bytes c.slice-in-Results-2.result.now) name))
+    visible_value (set_some values (option_copied c.first_var-in-Results.result) (with_both bytes c.slice-in-Results-2.result.now) name))
     c.slice-in-Results.ensures
     ∙ ap
     (λ (fds : List Fd).
-    cut (set_some values (option_copied c.first_var-in-Results.result) (with_both c.in-Results.bytes fds) name))
+    visible_value (set_some values (option_copied c.first_var-in-Results.result) (with_both c.in-Results.bytes fds) name))
     c.slice-in-Results-2.ensures
     ∙ ap
-    (λ (f : Variables). cut (f name))
+    (λ (f : Variables). visible_value (f name))
     (one-answer
     values
     (vars_of c.args.line.now)
@@ -82,7 +82,7 @@ returns-in-TwoFds c =
     (c.set_some-in-TwoFds.ensures.held values h)
     name
     ∙ ap
-    (λ (f : Variables). cut (f name))
+    (λ (f : Variables). visible_value (f name))
     (two-answers
     values
     (vars_of c.args.line.now)

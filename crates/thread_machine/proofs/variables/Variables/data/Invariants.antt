@@ -1,8 +1,8 @@
 use Rattle.std.proofs.Common.{◌≡◌, take}
 use Rattle.std.specs.Prelude.{flat_map}
-use Rattle.written_script.specs.Variables.{bytes_of, greatest_data}
-use Rattle.thread_machine.specs.Slots.{held}
+use Rattle.written_script.specs.Words.{greatest_data, piece_bytes}
+use Rattle.thread_machine.specs.Slots.{slot_value}
 use Rattle.thread_machine.proofs.variables.Variables.«data».Given as goal
 
 abbrev pub invariant-loop-piece : goal.invariant-loop-piece
-invariant-loop-piece l = l.bytes ≡ take greatest_data (flat_map (bytes_of (held l.self.set)) (take l.piece-index l.pieces))
+invariant-loop-piece l = l.bytes ≡ take greatest_data (flat_map (piece_bytes (slot_value l.self.set)) (take l.piece-index l.pieces))

@@ -1,11 +1,11 @@
 use Rattle.std.proofs.Common.{◌≡◌, ◌<◌, ◌≤◌, List, length, get_or, subst}
 use Rattle.thread_machine.specs.Slots.{Slot}
-use Rattle.thread_machine.proofs.Slotted.{held-index, held-past}
+use Rattle.thread_machine.proofs.Slotted.{slot_value-index, slot_value-past}
 use Rattle.thread_machine.proofs.variables.Variables.get.Goals as goal
 
 pub returns-then-place-set_ones : goal.returns-then-place-set_ones
 returns-then-place-set_ones c =
-    held-index
+    slot_value-index
     c.args.self.now.set
     c.args.name.now
     c.place-place.result
@@ -19,7 +19,7 @@ returns-then-place-set_ones c =
 
 pub returns-else-place-set_ones : goal.returns-else-place-set_ones
 returns-else-place-set_ones c =
-    held-past
+    slot_value-past
     c.args.self.now.set
     c.args.name.now
     c.place-place.result

@@ -1,0 +1,191 @@
+ghost use Rattle.std.specs.Prelude.{◌≤◌};
+
+use dk_base::list::{Bytes, CallList};
+use dk_base::memory::{MemSink, MemSource};
+use dk_base::outside::NoGate;
+use doors_top::status::Status;
+use doors_top::top::{doors_main, plain_main};
+use std::alloc::Global;
+use std::process::Abort;
+use std::sync::Wait;
+use std::test::Fail;
+use std::thread::Threads;
+
+/// What the top call leaves of the input and writes, and its status.
+#[derive(Clone, Copy)]
+struct Expected {
+    left: usize,
+    output: &'static str,
+    status: Status,
+}
+
+fn ends_with<R: Threads + Wait + Sync>(
+    rt: &R,
+    alloc: Global,
+    words: &[&str],
+    source: &mut MemSource,
+    sink: &mut MemSink,
+    expected: &Expected,
+) -> bool {
+    let answer = doors_main(rt, alloc, words, source, sink, &NoGate);
+    answer == expected.status
+        && source.left() == expected.left
+        && sink.held() == expected.output.as_bytes()
+}
+
+/// Whether the top call ends so over a source that gives and a sink that takes so many bytes a call, and whose read and write
+/// of these numbers fail, counted from 1.
+fn is_answer<R: Threads + Wait + Sync>(
+    rt: &R,
+    alloc: Global,
+    words: &[&str],
+    input: &str,
+    piece: usize,
+    failing: (u64, u64),
+    expected: &Expected,
+) -> Result<bool, Fail>
+    requires { 1 ≤ piece }
+{
+    let (read, write) = failing;
+    let mut sink = MemSink::new(alloc, 4096, piece, CallList::from_slice(alloc, &[write])?)?;
+    let fail = CallList::from_slice(alloc, &[read])?;
+    let bytes = Bytes::from_slice(alloc, input.as_bytes())?;
+    let mut source = MemSource::in_pieces(bytes, piece, fail);
+    Ok(ends_with(rt, alloc, words, &mut source, &mut sink, expected))
+}
+
+const ECHO: &str =
+    "doors script 1\nprocess srv\nthread s\ncreate d echo 7\nattach $d echo\nserve\nend\nproc echo\nreturn $arg\nend\nprocess cli\nthread c\nawait echo\nopen d echo\ncall r $d \"hi\"\nend\n";
+
+const ECHO_TRACE: &str =
+    "1 s s create ok fd 0\n2 s s attach ok\n3 s s return wait\n4 c c await ok\n5 c c open ok fd 0\n6 c c call wait c1\n7 s c accept enter c1 echo 7 \"hi\"\n8 s c return wait\n9 c c collect ok \"hi\"\n10 c c exit ok\nend complete 10\n";
+
+const SPACED: &str =
+    "doors script 1\n\nprocess  a\nthread t\n send 3 1 2\n return \"\\x41\\x0a\" + $v desc $d.0!\nend\n";
+
+const CANONICAL: &str =
+    "doors script 1\nbudget 100000\nprocess a limit 256\nthread t\nsend 3 1 2\nreturn \"A\\x0a\" + $v desc $d!\nend\n";
+
+/// The words and the input, and then how many of its bytes are left, the output and the status.
+const ANSWERS: [(&[&str], &str, usize, &str, Status); 10] = [
+    (&["play"], ECHO, 0, ECHO_TRACE, Status::Complete),
+    (&["show"], SPACED, 0, CANONICAL, Status::Complete),
+    // a wait that nothing ends
+    (
+        &["play"],
+        "doors script 1\nprocess p\nthread t\nawait never\nend\n",
+        0,
+        "1 t t await wait\nend stalled 1 t\n",
+        Status::Stalled,
+    ),
+    (
+        &["play"],
+        "doors script 1\nprocess a\nthread t\nrepeat 2\nend\nend\n",
+        0,
+        "bad line 5 body\n",
+        Status::Script,
+    ),
+    (
+        &["show"],
+        "doors script 1\nprocess a\nprocess a\n",
+        0,
+        "bad line 3 twice\n",
+        Status::Script,
+    ),
+    (
+        &["play"],
+        "doors script 1\nprocess a\nspare s\n",
+        0,
+        "bad line 0 later\n",
+        Status::Script,
+    ),
+    (
+        &["play", "show"],
+        ECHO,
+        166,
+        "usage: doors play|run|show|check|load N\n",
+        Status::Usage,
+    ),
+    (
+        &["run"],
+        ECHO,
+        166,
+        "usage: doors play|run|show|check|load N\n",
+        Status::Usage,
+    ),
+    // a schedule longer than the budget
+    (
+        &["play"],
+        "doors script 1\nbudget 2\nprocess p\nthread t\nrepeat 9\nopen d x\nend\nend\nschedule t t t t\n",
+        0,
+        "1 t t open ENOENT\n2 t t open ENOENT\nend budget 2\n",
+        Status::Budget,
+    ),
+    // a schedule that goes on after the run is over
+    (
+        &["play"],
+        "doors script 1\nprocess p\nthread t\nend\nschedule t t\n",
+        0,
+        "1 t t exit ok\nrefused turn 2 t\n",
+        Status::Turn,
+    ),
+];
+
+#[test]
+fn commands_are_answered(rt: HostRuntime) -> Result<(), Fail> {
+    let alloc = rt.alloc();
+    for (words, input, left, output, status) in ANSWERS {
+        let expected = Expected {
+            left,
+            output,
+            status,
+        };
+        let is_whole = is_answer(&rt, alloc, words, input, 4096, (0, 0), &expected)?;
+        assert!(rt; is_whole, "{output}");
+        let is_in_bytes = is_answer(&rt, alloc, words, input, 1, (0, 0), &expected)?;
+        assert!(rt; is_in_bytes, "byte by byte: {output}");
+    }
+    Ok(())
+}
+
+/// The word, the read and the write of five bytes that fail, and then how many bytes of the input are left, the output and
+/// the status.
+const FAULTS: [(&str, (u64, u64), usize, &str, Status); 4] = [
+    ("play", (9, 0), 126, "", Status::ReadFault),
+    ("play", (0, 3), 0, "1 s s crea", Status::WriteFault),
+    ("show", (9, 0), 126, "", Status::ReadFault),
+    ("show", (0, 3), 0, "doors scri", Status::WriteFault),
+];
+
+#[test]
+fn reads_and_writes_fail(rt: HostRuntime) -> Result<(), Fail> {
+    let alloc = rt.alloc();
+    for (word, failing, left, output, status) in FAULTS {
+        let expected = Expected {
+            left,
+            output,
+            status,
+        };
+        let is_cut = is_answer(&rt, alloc, &[word], ECHO, 5, failing, &expected)?;
+        assert!(rt; is_cut, "{word}: {output}");
+    }
+    Ok(())
+}
+
+fn is_played(alloc: Global, source: &mut MemSource, sink: &mut MemSink) -> bool {
+    let answer = plain_main(alloc, &["play"], source, sink);
+    answer == Status::Complete && sink.held() == ECHO_TRACE.as_bytes()
+}
+
+fn plays(alloc: Global) -> Result<bool, Fail> {
+    let mut sink = MemSink::new(alloc, 4096, 4096, CallList::new(alloc))?;
+    let bytes = Bytes::from_slice(alloc, ECHO.as_bytes())?;
+    let mut source = MemSource::new(bytes, CallList::new(alloc));
+    Ok(is_played(alloc, &mut source, &mut sink))
+}
+
+#[test]
+fn the_plain_call_plays(rt: HostRuntime) -> Result<(), Fail> {
+    assert!(rt; plays(rt.alloc())?);
+    Ok(())
+}

@@ -1,5 +1,0 @@
-use Rattle.kernel_laws.proofs.Induction.{invariant_at}
-use Rattle.kernel_laws.proofs.every_state.Goals as goal
-
-pub returns : goal.returns
-returns c = invariant_at

@@ -1,0 +1,5 @@
+use Rattle.kernel_laws.proofs.Induction.{invariant_at}
+use Rattle.kernel_laws.proofs.laws.every_state.Goals as goal
+
+pub returns : goal.returns
+returns c = invariant_at

@@ -1,0 +1,30 @@
+//! The laws of every run of the written kernel. Nothing runs here: a function has no body, and a call of it hands its laws
+//! to the caller's proof.
+
+ghost use Rattle.std.specs.Prelude.{ℕ, ◌≡◌, ◌≤◌, ◌⊎◌, List, Option, None, length};
+ghost use Rattle.written_kernel.specs.Types.{Request};
+ghost use Rattle.written_kernel.specs.Words.{IsOpening, IsRun, MayTurn, Pool, State, Turn, pick, queue_length, state_after, state_at};
+ghost use Rattle.kernel_laws.specs.Invariant.{Invariant};
+ghost use Rattle.kernel_laws.specs.Events.{Keeps};
+ghost use Rattle.kernel_laws.specs.Laws.{Laws};
+
+/// Every event that may be keeps the invariant, and each call's record takes arrows of the table.
+pub fn every_event()
+    ensures { (m : State) (t : ℕ) (q : Option Request) → Invariant m → MayTurn m t q → Keeps m t q }
+{}
+
+/// Each state of a run meets the invariant.
+pub fn every_state()
+    ensures { (m : State) (xs : List Turn) → IsOpening m → IsRun m xs → (i : ℕ) → i ≤ length xs → Invariant (state_at m xs i) }
+{}
+
+/// The laws hold of every run.
+#[tactic(auto, using(crate::proofs::EveryRun::laws_hold))]
+pub fn every_run()
+    ensures { (m : State) (xs : List Turn) → IsOpening m → IsRun m xs → Laws m xs }
+{}
+
+/// After every event of a run no pool has both a waiting call and an idle thread.
+pub fn no_pool_has_both()
+    ensures { (m : State) (xs : List Turn) → IsOpening m → (pool : Pool) → (queue_length (state_after m xs) pool ≡ 0) ⊎ (pick (state_after m xs) pool ≡ None) }
+{}

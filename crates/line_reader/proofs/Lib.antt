@@ -1,0 +1,5 @@
+pub mod ByKeyword
+pub mod SkippedWords
+pub mod AttributeWords
+pub mod ItemByItem
+pub mod Lists

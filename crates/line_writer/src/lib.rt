@@ -1,0 +1,6 @@
+//! A line as text: its canonical words, put after a text.
+#![tactic(auto)]
+
+pub mod put_line;
+mod put_lines;
+pub mod put_operands;

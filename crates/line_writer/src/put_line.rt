@@ -1,0 +1,74 @@
+//! A line as text.
+
+ghost use Rattle.std.specs.Prelude.{◌≡◌, ◌++◌, OnOk};
+ghost use Rattle.script_text.specs.Words.{joined_words};
+ghost use Rattle.script_line.specs.Words.{keyword_of_line as keyword_that_begins, line_words};
+
+use crate::put_lines::put_line_operands;
+use dk_base::error::NoMemory;
+use script_line::keyword::Keyword;
+use script_line::keyword_words::word_of;
+use script_line::line::Line;
+use script_line::tables::Tables;
+use script_text::writer::Writer;
+use std::alloc::Global;
+
+/// The keyword of a line.
+pub fn keyword_of_line(line: &Line) -> Keyword
+    ensures { result ≡ keyword_that_begins line.now }
+{
+    match line {
+        Line::Create { .. } => Keyword::Create,
+        Line::Call { .. } => Keyword::Call,
+        Line::Return { .. } => Keyword::Return,
+        Line::Serve => Keyword::Serve,
+        Line::Revoke { .. } => Keyword::Revoke,
+        Line::Bind { .. } => Keyword::Bind,
+        Line::Unbind => Keyword::Unbind,
+        Line::Info { .. } => Keyword::Info,
+        Line::InfoQuery => Keyword::Info,
+        Line::GetParam { .. } => Keyword::GetParam,
+        Line::SetParam { .. } => Keyword::SetParam,
+        Line::Cred => Keyword::Cred,
+        Line::TestCancel => Keyword::TestCancel,
+        Line::Exit => Keyword::Exit,
+        Line::Close { .. } => Keyword::Close,
+        Line::Dup { .. } => Keyword::Dup,
+        Line::Attach { .. } => Keyword::Attach,
+        Line::Detach { .. } => Keyword::Detach,
+        Line::Open { .. } => Keyword::Open,
+        Line::Await { .. } => Keyword::Await,
+        Line::Pipe { .. } => Keyword::Pipe,
+        Line::Write { .. } => Keyword::Write,
+        Line::Read { .. } => Keyword::Read,
+        Line::PortCreate { .. } => Keyword::PortCreate,
+        Line::Associate { .. } => Keyword::Associate,
+        Line::Dissociate { .. } => Keyword::Dissociate,
+        Line::Get { .. } => Keyword::Get,
+        Line::GetN { .. } => Keyword::GetN,
+        Line::Send { .. } => Keyword::Send,
+        Line::SendN { .. } => Keyword::SendN,
+        Line::Alert { .. } => Keyword::Alert,
+        Line::Interrupt { .. } => Keyword::Interrupt,
+        Line::Kill { .. } => Keyword::Kill,
+        Line::Work { .. } => Keyword::Work,
+        Line::Repeat { .. } => Keyword::Repeat,
+        Line::If { .. } => Keyword::If,
+        Line::End => Keyword::End,
+    }
+}
+
+/// Puts the canonical words of a line, with a space between each two, after a text. Want of memory may leave some of
+/// them there.
+#[tactic(auto, using(crate::proofs::SpacedWords::line_put))]
+pub fn put_line(
+    alloc: Global,
+    tables: &Tables,
+    text: &mut Writer,
+    line: &Line,
+) -> Result<(), NoMemory>
+    ensures { OnOk result (text.new ≡ text.old ++ joined_words (line_words tables.now line.now)) }
+{
+    text.first(word_of(keyword_of_line(line)).as_bytes())?;
+    put_line_operands(alloc, tables, text, line)
+}

@@ -1,5 +1,0 @@
-use Rattle.script_lang.proofs.TextDecided.{text_decided}
-use Rattle.script_lang.proofs.laws.texts_decided.Goals as goal
-
-pub returns : goal.returns
-returns c = text_decided

@@ -1,5 +1,0 @@
-use Rattle.script_lang.proofs.TextFound.{text_found}
-use Rattle.script_lang.proofs.laws.texts_found.Goals as goal
-
-pub returns : goal.returns
-returns c = text_found

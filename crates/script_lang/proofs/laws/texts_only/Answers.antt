@@ -1,5 +1,0 @@
-use Rattle.script_lang.proofs.TextOnly.{text_only}
-use Rattle.script_lang.proofs.laws.texts_only.Goals as goal
-
-pub returns : goal.returns
-returns c = text_only

@@ -1,0 +1,101 @@
+ghost use Rattle.std.specs.Prelude.{◌≡◌, ◌≤◌, length, Ok, Err, MatchResult, MatchOption, IfOk};
+ghost use Rattle.std.specs.List.{list_all};
+ghost use Rattle.script_text.specs.Words.{is_printable as is_printable_byte};
+ghost use Rattle.line_reader.specs.Words.{Fails, Reads};
+ghost use Rattle.script_lang.specs.Dispatch.{item_reader};
+ghost use Rattle.script_lang.specs.Items.{item_in_body as item_in_body_read, item_in_context};
+ghost use Rattle.script_lang.specs.Parsing.{is_printable_line as is_line_printable, is_skipped as is_line_skipped, line_spelling};
+
+use crate::context::Context;
+use crate::item::{ScriptLine, ScriptLineRead, ScriptPlace};
+use crate::items::{item_at_start, item_in_members, item_in_processes, item_in_schedule};
+use line_reader::fault::Fault;
+use line_reader::operands::Operands;
+use script_line::keyword_words::keyword_of;
+use script_line::reason::Reason;
+use script_line::tables::Tables;
+use script_text::string::is_printable;
+use script_text::words::next_word;
+use std::alloc::Global;
+
+/// Whether each byte may stand in a line of a script.
+pub fn is_printable_line(line: &[u8]) -> bool
+    ensures { result ≡ is_line_printable line.now }
+{
+    line.iter().all(|byte| is_printable(*byte))
+}
+
+/// Whether a line has only spaces, or its first byte other than a space is `#`.
+fn is_skipped(line: &[u8]) -> bool
+    ensures { result ≡ is_line_skipped line.now }
+{
+    for byte in line {
+        if *byte != b' ' {
+            return *byte == b'#';
+        }
+    }
+    true
+}
+
+/// Reads the lines of a text of this version, with the names that it declares.
+#[derive(Drop)]
+pub struct LineReader {
+    pub alloc: Global,
+    pub version: u32,
+    pub tables: Tables,
+}
+
+impl LineReader {
+    fn item_in_body(
+        &self,
+        process: u32,
+        word: &[u8],
+        operands: &mut Operands,
+    ) -> Result<ScriptLine, Fault>
+        ensures { Reads (item_reader (item_in_body_read self.now.version self.now.tables process word.now)) operands.old result operands.new }
+    {
+        let Some(keyword) = keyword_of(self.version, word) else {
+            return Err(Fault::Bad(Reason::Word));
+        };
+        let line = operands.line(self.alloc, &self.tables, process, keyword)?;
+        Ok(ScriptLine::Do { line })
+    }
+
+    /// The item that begins with this word, after these lines.
+    fn item(
+        &self,
+        context: &Context,
+        word: &[u8],
+        operands: &mut Operands,
+    ) -> Result<ScriptLine, Fault>
+        ensures { Reads (item_reader (item_in_context self.now.version self.now.tables context.now word.now)) operands.old result operands.new }
+    {
+        match context.place() {
+            ScriptPlace::Start => item_at_start(self.alloc, &self.tables, word, operands),
+            ScriptPlace::Processes => item_in_processes(self.alloc, &self.tables, word, operands),
+            ScriptPlace::Members => item_in_members(self.alloc, &self.tables, word, operands),
+            ScriptPlace::Body => self.item_in_body(context.process(), word, operands),
+            ScriptPlace::Schedule => item_in_schedule(self.alloc, &self.tables, word, operands),
+        }
+    }
+
+    /// The item that a line is by its spelling, after these lines; a skipped line is none.
+    #[tactic(auto, unfolding(crate::specs::Parsing::line_spelling))]
+    pub fn spelling(&self, context: &Context, line: &[u8]) -> Result<Option<ScriptLineRead>, Fault>
+        ensures { MatchResult result (λ found. line_spelling self.now.version self.now.tables context.now line.now ≡ Ok found) (λ fault. Fails (line_spelling self.now.version self.now.tables context.now line.now) fault) }
+    {
+        if !is_printable_line(line) {
+            return Err(Fault::Bad(Reason::Byte));
+        }
+        if is_skipped(line) {
+            return Ok(None);
+        }
+        let Some((word, rest)) = next_word(line) else {
+            return Ok(None);
+        };
+        let mut operands = Operands::new(rest);
+        let item = self.item(context, word, &mut operands)?;
+        let known = operands.is_known();
+        Ok(Some(ScriptLineRead { item, known }))
+    }
+}

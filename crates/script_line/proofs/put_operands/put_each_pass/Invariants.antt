@@ -1,8 +1,0 @@
-use Rattle.std.proofs.Common.{◌≡◌, ◌++◌, take}
-use Rattle.std.specs.Prelude.{map}
-use Rattle.script_line.specs.Words.{pass_word}
-use Rattle.script_text.specs.Words.{spaced}
-use Rattle.script_line.proofs.put_operands.put_each_pass.Given as goal
-
-abbrev pub invariant-loop-pass : goal.invariant-loop-pass
-invariant-loop-pass l = l.text ≡ l.initial.text ++ spaced (map pass_word (take l.pass-index l.passes))

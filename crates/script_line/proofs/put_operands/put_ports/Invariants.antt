@@ -1,8 +1,0 @@
-use Rattle.std.proofs.Common.{◌≡◌, ◌++◌, take}
-use Rattle.std.specs.Prelude.{map}
-use Rattle.script_line.specs.Words.{fd_word}
-use Rattle.script_text.specs.Words.{spaced}
-use Rattle.script_line.proofs.put_operands.put_ports.Given as goal
-
-abbrev pub invariant-loop-port : goal.invariant-loop-port
-invariant-loop-port l = l.text ≡ l.initial.text ++ spaced (map fd_word (take l.port-index l.ports))

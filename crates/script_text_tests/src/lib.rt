@@ -1,0 +1,7 @@
+//! Tests of `script_text`.
+#![tactic(auto)]
+
+#[cfg(test)]
+mod reading;
+#[cfg(test)]
+mod writing;

@@ -1,5 +1,0 @@
-use Rattle.sys_run.proofs.WholePlays.{refused-play}
-use Rattle.sys_run.proofs.plays.refused_plays.Goals as goal
-
-pub returns : goal.returns
-returns c = refused-play

@@ -1,5 +1,0 @@
-use Rattle.sys_run.proofs.WholePlays.{whole-play}
-use Rattle.sys_run.proofs.plays.whole_plays.Goals as goal
-
-pub returns : goal.returns
-returns c = whole-play

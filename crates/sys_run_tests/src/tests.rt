@@ -1,0 +1,189 @@
+ghost use Rattle.std.specs.Prelude.{◌≡◌, [], false};
+ghost use Rattle.written_script.specs.Words.{has_later_parts as is_later_script};
+
+use dk_base::answer::Answer;
+use dk_base::event::{Event, What};
+use dk_base::number::Tid;
+use script_lang::parse::parse;
+use script_lang::script::Script;
+use std::alloc::Global;
+use std::test::Fail;
+use sys_run::sys::{Played, Sys};
+use thread_machine::later::later;
+
+const FIRST: Tid = Tid(1);
+
+const SECOND: Tid = Tid(2);
+
+/// What is done with a run that has no event yet.
+#[derive(Clone, Copy)]
+enum Deed {
+    /// The first thread takes a turn, and waits; then the second exits.
+    OneWaits,
+    /// The schedule is played, so many events are made, and so many turns are left after it, all by these threads.
+    Plays(Played, u32, u64, &'static [Tid]),
+}
+
+/// A text's script, and what is done with its run.
+#[derive(Clone, Copy)]
+struct Row {
+    name: &'static str,
+    text: &'static str,
+    deed: Deed,
+}
+
+const ROWS: [Row; 8] = [
+    Row {
+        name: "one waits for a path that nobody attaches, and one exits",
+        text: "doors script 1\nprocess p limit 4\nthread w\n await nowhere\nend\nthread i\nend\n",
+        deed: Deed::OneWaits,
+    },
+    Row {
+        name: "a client calls in a loop, and the server echoes",
+        text: "doors script 1\nprocess srv\nthread s\n create d echo 7\n attach $d path\n serve\nend\nproc echo\n return $arg\nend\nprocess cli\nthread c\n await path\n open d path\n repeat 3\n  call r $d \"hi\"\n end\nend\n",
+        deed: Deed::Plays(
+            Played::Over,
+            0,
+            18,
+            &[
+                FIRST, FIRST, FIRST, SECOND, SECOND, SECOND, FIRST, FIRST, SECOND, SECOND, FIRST,
+                FIRST, SECOND, SECOND, FIRST, FIRST, SECOND, SECOND,
+            ],
+        ),
+    },
+    Row {
+        name: "another thread than the least one",
+        text: "doors script 1\nprocess p\nthread w\n await x\nend\nthread i\nend\nschedule i w\n",
+        deed: Deed::Plays(Played::Over, 2, 0, &[SECOND, FIRST]),
+    },
+    Row {
+        name: "a scheduled thread before the least one",
+        text: "doors script 1\nprocess p\nthread w\n await x\nend\nthread i\nend\nschedule i\n",
+        deed: Deed::Plays(Played::Over, 1, 1, &[SECOND, FIRST]),
+    },
+    Row {
+        name: "a thread that waits",
+        text: "doors script 1\nprocess p\nthread w\n await x\nend\nthread i\nend\nschedule w w i\n",
+        deed: Deed::Plays(
+            Played::Refused {
+                turn: 2,
+                thread: FIRST,
+            },
+            1,
+            1,
+            &[FIRST, SECOND],
+        ),
+    },
+    Row {
+        name: "longer than the budget",
+        text: "doors script 1\nbudget 3\nprocess p\nthread w\n repeat 9\n  open d x\n end\nend\nschedule w w w w w\n",
+        deed: Deed::Plays(Played::Over, 3, 0, &[FIRST, FIRST, FIRST]),
+    },
+    Row {
+        name: "the turn that is not runnable is above the budget",
+        text: "doors script 1\nbudget 1\nprocess p\nthread w\n await x\nend\nschedule w w\n",
+        deed: Deed::Plays(Played::Over, 1, 0, &[FIRST]),
+    },
+    Row {
+        name: "it goes on after the run is over",
+        text: "doors script 1\nprocess p\nthread i\nend\nschedule i i\n",
+        deed: Deed::Plays(
+            Played::Refused {
+                turn: 2,
+                thread: FIRST,
+            },
+            1,
+            0,
+            &[FIRST],
+        ),
+    },
+];
+
+/// Whether the first thread's turn wakes nobody.
+fn steps(sys: &mut Sys) -> bool {
+    if !sys.runnable(FIRST) || sys.events() >= sys.script().budget() {
+        return false;
+    }
+    matches!(sys.step(FIRST), Ok(woken) if woken.is_empty())
+}
+
+fn is_event(event: &Event, deed: What) -> bool {
+    match deed {
+        What::Await => matches!(event.what, What::Await) && matches!(event.answer, Answer::Wait),
+        _ => matches!(event.what, What::Exit) && matches!(event.answer, Answer::Done),
+    }
+}
+
+fn waits_and_exits(events: &[Event]) -> bool {
+    events.len() == 2 && is_event(&events[0], What::Await) && is_event(&events[1], What::Exit)
+}
+
+fn one_waits(sys: &mut Sys) -> bool {
+    steps(sys)
+        && matches!(sys.finish(), Ok(1))
+        && matches!(sys.waiting(), Ok(waiting) if waiting.slice() == [FIRST].as_slice())
+        && waits_and_exits(sys.journal())
+}
+
+/// Whether these threads took the turns.
+fn are_turns(events: &[Event], threads: &[Tid]) -> bool {
+    events.len() == threads.len()
+        && events
+            .iter()
+            .zip(threads.iter())
+            .all(|(event, thread)| event.thread == *thread)
+}
+
+fn plays(sys: &mut Sys, ends: Played, scheduled: u32, left: u64, threads: &[Tid]) -> bool
+    requires { sys.old.journal ≡ [] }
+{
+    matches!(sys.play_schedule(), Ok(played) if played == ends)
+        && sys.events() == scheduled
+        && matches!(sys.finish(), Ok(turns) if turns == left)
+        && are_turns(sys.journal(), threads)
+}
+
+fn does(sys: &mut Sys, deed: Deed) -> bool
+    requires { sys.old.journal ≡ [] }
+{
+    match deed {
+        Deed::OneWaits => one_waits(sys),
+        Deed::Plays(ends, scheduled, left, threads) => plays(sys, ends, scheduled, left, threads),
+    }
+}
+
+fn run_does(alloc: Global, script: Script, deed: Deed) -> bool
+    requires { is_later_script script ≡ false }
+{
+    match Sys::new(alloc, script) {
+        Ok(mut sys) => does(&mut sys, deed),
+        Err(_) => false,
+    }
+}
+
+fn is_right(alloc: Global, row: &Row) -> bool {
+    if row.text.len() >= 4_000_000_000 {
+        return false;
+    }
+    match parse(alloc, row.text.as_bytes()) {
+        Ok(script) => !later(&script) && run_does(alloc, script, row.deed),
+        Err(_) => false,
+    }
+}
+
+#[test]
+fn runs(rt: HostRuntime) -> Result<(), Fail> {
+    for row in ROWS {
+        let is_right = is_right(rt.alloc(), &row);
+        assert!(rt; is_right, "{}", row.name);
+    }
+    Ok(())
+}
+
+fn needs_send<T: Send>() {}
+
+/// A whole run may go to another thread.
+#[test]
+fn sys_is_send() {
+    needs_send::<Sys>();
+}

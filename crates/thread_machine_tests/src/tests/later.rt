@@ -1,0 +1,114 @@
+//! Which scripts need a later capability.
+
+use script_lang::parse::parse;
+use std::alloc::Global;
+use std::test::Fail;
+use thread_machine::later::later;
+
+/// Lines of a thread that need no later capability, and lines that do.
+const BUILT_LINES: [&str; 10] = [
+    "create d e 0",
+    "attach 1 p",
+    "open v p",
+    "await p",
+    "serve",
+    "return \"a\" + $v",
+    "call r 1 fill:2 rsize 0",
+    "repeat 2\nserve\nend",
+    "if ok\nserve\nend",
+    "if EBADF\nend",
+];
+
+const LATER_LINES: [&str; 45] = [
+    "close 1",
+    "dup v 1",
+    "detach p",
+    "create d e 0 local",
+    "create d e 0 revoked",
+    "create d e 0 is-unref",
+    "create d e 0 refuse-desc",
+    "info 1",
+    "getparam 1 data-max",
+    "setparam 1 data-max 1",
+    "cred",
+    "call r 1 \"\" desc 1",
+    "return \"\" desc 1",
+    "create d e 0 private",
+    "bind 1",
+    "unbind",
+    "info query",
+    "create d e 0 no-cancel",
+    "revoke 1",
+    "testcancel",
+    "interrupt t",
+    "kill a",
+    "exit",
+    "create d e 0 unref",
+    "create d e 0 unref-multi",
+    "pipe r w",
+    "write 1 \"\"",
+    "read v 1 1",
+    "pcreate p",
+    "get 1",
+    "getn 1 1 1",
+    "send 1 1 1",
+    "sendn 1 1 1",
+    "alert 1 set 1 1",
+    "associate 1 1 in 1",
+    "dissociate 1 1",
+    "work v upper \"\"",
+    "if ok\nclose 1\nend",
+    "repeat 2\nserve\nclose 1\nend",
+    "serve\nclose 1",
+    "create d e 0 private local",
+    "work v digest \"\"",
+    "get 1 nowait",
+    "alert 1 none 0 0",
+    "associate 1 1 none 1",
+];
+
+/// Lines of a thread and of a procedure, and a member, of which one needs a later capability.
+const LATER_SCRIPTS: [(&str, &str, &str); 3] = [
+    ("serve", "serve", "spare s"),
+    ("serve", "call r 1 \"\"", ""),
+    ("serve", "if ok\nclose 1\nend", ""),
+];
+
+fn is_later_text(alloc: Global, text: &str) -> Option<bool> {
+    if text.len() >= 4_000_000_000 {
+        return None;
+    }
+    match parse(alloc, text.as_bytes()) {
+        Ok(script) => Some(later(&script)),
+        Err(_) => None,
+    }
+}
+
+/// Whether a script with these lines in a thread and in a procedure, and this member, needs a later capability.
+fn is_later(alloc: Global, thread: &str, procedure: &str, member: &str) -> Option<bool> {
+    let text = format!(in alloc;
+        "doors script 1\nbudget 9\nprocess a limit 3\nthread t\n{thread}\nend\nproc e\n{procedure}\nend\n{member}\nschedule t\n"
+    );
+    match text {
+        Ok(text) => is_later_text(alloc, text.as_str()),
+        Err(_) => None,
+    }
+}
+
+#[test]
+fn later_lines(rt: HostRuntime) -> Result<(), Fail> {
+    let alloc = rt.alloc();
+    for line in BUILT_LINES {
+        assert!(rt; is_later(alloc, line, "serve", "") == Some(false), "{line}");
+    }
+    for line in LATER_LINES {
+        assert!(rt; is_later(alloc, line, "serve", "") == Some(true), "{line}");
+    }
+    for (thread, procedure, member) in LATER_SCRIPTS {
+        assert!(rt;
+            is_later(alloc, thread, procedure, member) == Some(true),
+            "{procedure} {member}"
+        );
+    }
+    Ok(())
+}

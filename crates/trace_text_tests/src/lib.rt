@@ -1,0 +1,5 @@
+//! Tests of the text of traces.
+#![tactic(auto)]
+
+#[cfg(test)]
+mod tests;

@@ -1,8 +1,0 @@
-use Rattle.written_script.proofs.WrittenOut.{tree-copies, nested-tree}
-use Rattle.written_script.proofs.written_out.trees.Goals as goal
-
-pub returns-clause-copies : goal.returns-clause-copies
-returns-clause-copies c = tree-copies
-
-pub returns-clause-exist : goal.returns-clause-exist
-returns-clause-exist c = nested-tree
