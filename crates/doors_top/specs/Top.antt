@@ -1,13 +1,14 @@
 -- What the top call promises.
-use Rattle.std.specs.Prelude.{ℕ, ◌≡◌, ⊤, false, List, Option, Some, None, IfSome, IfOk}
+use Rattle.std.specs.Prelude.{ℕ, ◌≡◌, ⊤, true, false, List, Option, Some, None, IfSome, IfOk}
 use Rattle.std.specs.Io.KnownBytes.{Appends}
 use Rattle.doors_top.specs.declared.status.Status.{Status}
 use Rattle.doors_top.specs.declared.status.Status.TheVariants as status
 use Rattle.doors_top.specs.declared.reading.ReadText.{ReadText}
 use Rattle.doors_top.specs.declared.reading.ReadText.TheVariants.{Whole, TooLong}
-use Rattle.doors_top.specs.Outcomes.{script_of_input, outcome_of_play, outcome_of_show}
-use Rattle.doors_top.specs.Input.{text_within_limit, IsWithinLimit, LeavesNone}
+use Rattle.doors_top.specs.Outcomes.{is_command, is_play, is_show, outcome_of_play, outcome_of_show, script_of_input, usage}
+use Rattle.doors_top.specs.Input.{text_within_limit, IsWithinLimit, LeavesNone, LeavesRest}
 use Rattle.doors_top.specs.Output.{AppendsFront}
+use Rattle.dk_base.specs.Words.{Rose}
 use Rattle.kernel_laws.specs.Words.{Laws}
 use Rattle.script_lang.specs.Words.{IsDecided, ScriptValue, parse_result}
 use Rattle.written_script.specs.Words.{IsRefusedPlay, IsWholePlay, Refusal, has_later_parts, opening_of, refusal, turns_before, turns_of, turns_of_play}
@@ -83,3 +84,60 @@ pub record ShowsFront (left_old left_new held_old held_new : Option (List ℕ)) 
   pub read : ReadText
   pub is_read : IsRead script_limit left_old left_new read
   pub text : AppendsFront held_old held_new (outcome_of_show read).text
+
+-- The promises: a command has a record of its own, and a field in `AnswersWords`.
+
+-- what `play` promises
+pub record AnswersPlay (left_old left_new held_old held_new : Option (List ℕ)) (answer : Status) : Type 0 where
+  -- the whole answer: the outcome's status, and all of its text
+  pub whole : IsAnswer answer → Plays left_old left_new held_old held_new answer
+  -- a write failed, and a front of the text was written
+  pub front : answer ≡ status.WriteFault → PlaysFront left_old left_new held_old held_new
+
+-- what `show` promises
+pub record AnswersShow (left_old left_new held_old held_new : Option (List ℕ)) (answer : Status) : Type 0 where
+  -- the whole answer: the outcome's status, and all of its text
+  pub whole : IsAnswer answer → Shows left_old left_new held_old held_new answer
+  -- a write failed, and a front of the text was written
+  pub front : answer ≡ status.WriteFault → ShowsFront left_old left_new held_old held_new
+
+-- what words that are no command are answered with
+pub record AnswersUsage (held_old held_new : Option (List ℕ)) (answer : Status) : Type 0 where
+  -- the whole answer: Usage, and all of the usage line
+  pub whole : IsAnswer answer → (answer ≡ status.Usage) × Appends held_old held_new usage.text
+  -- a write failed, and a front of the line was written
+  pub front : answer ≡ status.WriteFault → AppendsFront held_old held_new usage.text
+
+-- how any words leave the input
+pub record LeavesInput
+    {Input : Type 0} (left : Input → Option (List ℕ)) (faults : Input → ℕ) (old new : Input) (answer : Status) : Type 0 where
+  -- what is left is the end of what was left
+  pub rest : LeavesRest (left old) (left new)
+  -- ReadFault only where a read failed
+  pub read_fault : answer ≡ status.ReadFault → Rose (faults old) (faults new)
+
+-- how any words leave the output
+pub record LeavesOutput
+    {Output : Type 0} (faults : Output → ℕ) (old new : Output) (answer : Status) : Type 0 where
+  -- WriteFault only where a write failed
+  pub write_fault : answer ≡ status.WriteFault → Rose (faults old) (faults new)
+  -- nothing is written where a read failed
+  pub read_fault_writes_nothing : answer ≡ status.ReadFault → new ≡ old
+  -- nothing is written for want of memory
+  pub want_writes_nothing : answer ≡ status.Memory → new ≡ old
+
+-- what the top call promises of its words, its input, its output, and the status that it answers
+pub record AnswersWords
+    {Input Output : Type 0} (left : Input → Option (List ℕ)) (read_faults : Input → ℕ) (held : Output → Option (List ℕ)) (write_faults : Output → ℕ)
+    (words : List (List ℕ)) (input_old input_new : Input) (output_old output_new : Output) (answer : Status) : Type 0 where
+  -- the word is `play`
+  pub play : is_play words ≡ true → AnswersPlay (left input_old) (left input_new) (held output_old) (held output_new) answer
+  -- the word is `show`
+  pub show : is_show words ≡ true → AnswersShow (left input_old) (left input_new) (held output_old) (held output_new) answer
+  -- the words are no command
+  pub usage : is_command words ≡ false → AnswersUsage (held output_old) (held output_new) answer
+  -- they are no command, and nothing is read
+  pub nothing_read : is_command words ≡ false → input_new ≡ input_old
+  -- whatever the words are
+  pub input : LeavesInput left read_faults input_old input_new answer
+  pub output : LeavesOutput write_faults output_old output_new answer

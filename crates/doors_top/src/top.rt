@@ -1,10 +1,9 @@
 //! The top call.
-ghost use Rattle.std.specs.Prelude.{◌≡◌, ◌≢◌, true, false};
+ghost use Rattle.std.specs.Prelude.{◌≡◌, ◌≢◌, false};
 ghost use Rattle.std.specs.Io.KnownBytes.{Appends};
 ghost use Rattle.dk_base.specs.Words.{Rose};
-ghost use Rattle.doors_top.specs.Outcomes.{texts, is_play, is_show, is_command, is_run, usage};
-ghost use Rattle.doors_top.specs.Input.{LeavesRest};
-ghost use Rattle.doors_top.specs.Top.{IsAnswer, Plays, PlaysFront, Shows, ShowsFront};
+ghost use Rattle.doors_top.specs.Outcomes.{texts, is_play, is_show, is_run};
+ghost use Rattle.doors_top.specs.Top.{AnswersPlay, AnswersShow, AnswersUsage, AnswersWords, IsAnswer, LeavesInput, LeavesOutput};
 ghost use Rattle.doors_top.specs.Output.{AppendsFront};
 
 use crate::play::play;
@@ -66,11 +65,9 @@ fn write_reply<O: Sink>(out: &mut O, reply: &Reply) -> Status
 }
 
 fn write_usage<O: Sink>(alloc: Global, out: &mut O) -> Status
-    ensures usage { IsAnswer result → (result ≡ Status.Usage) × Appends (O.held out.old) (O.held out.new) usage.text }
-    ensures front { result ≡ Status.WriteFault → AppendsFront (O.held out.old) (O.held out.new) usage.text }
-    ensures cause { result ≡ Status.WriteFault → Rose (O.faults out.old) (O.faults out.new) }
+    ensures answer { AnswersUsage (O.held out.old) (O.held out.new) result }
+    ensures output { LeavesOutput O.faults out.old out.new result }
     ensures no_read_fault { result ≢ Status.ReadFault }
-    ensures want { result ≡ Status.Memory → out.new ≡ out.old }
 {
     match fixed_reply(alloc, Status::Usage, USAGE) {
         Ok(reply) => write_reply(out, &reply),
@@ -79,13 +76,9 @@ fn write_usage<O: Sink>(alloc: Global, out: &mut O) -> Status
 }
 
 fn play_input<S: Source, O: Sink>(alloc: Global, src: &mut S, out: &mut O) -> Status
-    ensures play { IsAnswer result → Plays (S.left src.old) (S.left src.new) (O.held out.old) (O.held out.new) result }
-    ensures front { result ≡ Status.WriteFault → PlaysFront (S.left src.old) (S.left src.new) (O.held out.old) (O.held out.new) }
-    ensures rest { LeavesRest (S.left src.old) (S.left src.new) }
-    ensures read_fault { result ≡ Status.ReadFault → Rose (S.faults src.old) (S.faults src.new) }
-    ensures read_fault_writes_nothing { result ≡ Status.ReadFault → out.new ≡ out.old }
-    ensures write_fault { result ≡ Status.WriteFault → Rose (O.faults out.old) (O.faults out.new) }
-    ensures want_writes_nothing { result ≡ Status.Memory → out.new ≡ out.old }
+    ensures answer { AnswersPlay (S.left src.old) (S.left src.new) (O.held out.old) (O.held out.new) result }
+    ensures input { LeavesInput S.left S.faults src.old src.new result }
+    ensures output { LeavesOutput O.faults out.old out.new result }
 {
     match read_all(alloc, src, SCRIPT_LIMIT) {
         Ok(read) => match play(alloc, &read) {
@@ -98,13 +91,9 @@ fn play_input<S: Source, O: Sink>(alloc: Global, src: &mut S, out: &mut O) -> St
 }
 
 fn show_input<S: Source, O: Sink>(alloc: Global, src: &mut S, out: &mut O) -> Status
-    ensures show { IsAnswer result → Shows (S.left src.old) (S.left src.new) (O.held out.old) (O.held out.new) result }
-    ensures front { result ≡ Status.WriteFault → ShowsFront (S.left src.old) (S.left src.new) (O.held out.old) (O.held out.new) }
-    ensures rest { LeavesRest (S.left src.old) (S.left src.new) }
-    ensures read_fault { result ≡ Status.ReadFault → Rose (S.faults src.old) (S.faults src.new) }
-    ensures read_fault_writes_nothing { result ≡ Status.ReadFault → out.new ≡ out.old }
-    ensures write_fault { result ≡ Status.WriteFault → Rose (O.faults out.old) (O.faults out.new) }
-    ensures want_writes_nothing { result ≡ Status.Memory → out.new ≡ out.old }
+    ensures answer { AnswersShow (S.left src.old) (S.left src.new) (O.held out.old) (O.held out.new) result }
+    ensures input { LeavesInput S.left S.faults src.old src.new result }
+    ensures output { LeavesOutput O.faults out.old out.new result }
 {
     match read_all(alloc, src, SCRIPT_LIMIT) {
         Ok(read) => match show(alloc, &read) {
@@ -116,9 +105,10 @@ fn show_input<S: Source, O: Sink>(alloc: Global, src: &mut S, out: &mut O) -> St
     }
 }
 
-/// The commands but `run`. `play` reads a script to the end of the input and writes the trace of the run that
-/// its turns make; `show` writes the canonical text of a script. Other words are answered with the usage line, and nothing
-/// is read. The text is made whole before the first write, so want of memory leaves the output as it was.
+/// The commands but `run`. `play` reads a script to the end of the input and writes the trace of the run that its turns
+/// make; `show` writes the canonical text of a script. Other words are answered with the usage line, and nothing is read.
+/// An answer comes with its whole text, WriteFault with a front of it. The text is made whole before the first write, so
+/// with ReadFault and with Memory the output is as it was. What is left of the input is the end of what was left.
 pub fn plain_main<S: Source, O: Sink>(
     alloc: Global,
     words: &[&str],
@@ -126,18 +116,7 @@ pub fn plain_main<S: Source, O: Sink>(
     out: &mut O,
 ) -> Status
     requires { is_run (texts words.now) ≡ false }
-    ensures play { is_play (texts words.now) ≡ true → IsAnswer result → Plays (S.left src.old) (S.left src.new) (O.held out.old) (O.held out.new) result }
-    ensures play_front { is_play (texts words.now) ≡ true → result ≡ Status.WriteFault → PlaysFront (S.left src.old) (S.left src.new) (O.held out.old) (O.held out.new) }
-    ensures show { is_show (texts words.now) ≡ true → IsAnswer result → Shows (S.left src.old) (S.left src.new) (O.held out.old) (O.held out.new) result }
-    ensures show_front { is_show (texts words.now) ≡ true → result ≡ Status.WriteFault → ShowsFront (S.left src.old) (S.left src.new) (O.held out.old) (O.held out.new) }
-    ensures usage { is_command (texts words.now) ≡ false → IsAnswer result → (result ≡ Status.Usage) × Appends (O.held out.old) (O.held out.new) usage.text }
-    ensures usage_front { is_command (texts words.now) ≡ false → result ≡ Status.WriteFault → AppendsFront (O.held out.old) (O.held out.new) usage.text }
-    ensures rest { LeavesRest (S.left src.old) (S.left src.new) }
-    ensures nothing_read { is_command (texts words.now) ≡ false → src.new ≡ src.old }
-    ensures read_fault { result ≡ Status.ReadFault → Rose (S.faults src.old) (S.faults src.new) }
-    ensures read_fault_writes_nothing { result ≡ Status.ReadFault → out.new ≡ out.old }
-    ensures write_fault { result ≡ Status.WriteFault → Rose (O.faults out.old) (O.faults out.new) }
-    ensures want_writes_nothing { result ≡ Status.Memory → out.new ≡ out.old }
+    ensures { AnswersWords S.left S.faults O.held O.faults (texts words.now) src.old src.new out.old out.new result }
 {
     if is_play_word(words) {
         play_input(alloc, src, out)
@@ -149,7 +128,7 @@ pub fn plain_main<S: Source, O: Sink>(
 }
 
 /// The top call: what the program does, from its words to its exit status. `run` is not built yet and is answered as
-/// words that are no command; all other words are those of `plain_main`.
+/// words that are no command; all other words are those of `plain_main`. The promise is the same.
 pub fn doors_main<R: Threads + Wait + Sync, S: Source, O: Sink, G: Gate + Sync>(
     _rt: &R,
     alloc: Global,
@@ -158,18 +137,7 @@ pub fn doors_main<R: Threads + Wait + Sync, S: Source, O: Sink, G: Gate + Sync>(
     out: &mut O,
     _gate: &G,
 ) -> Status
-    ensures play { is_play (texts words.now) ≡ true → IsAnswer result → Plays (S.left src.old) (S.left src.new) (O.held out.old) (O.held out.new) result }
-    ensures play_front { is_play (texts words.now) ≡ true → result ≡ Status.WriteFault → PlaysFront (S.left src.old) (S.left src.new) (O.held out.old) (O.held out.new) }
-    ensures show { is_show (texts words.now) ≡ true → IsAnswer result → Shows (S.left src.old) (S.left src.new) (O.held out.old) (O.held out.new) result }
-    ensures show_front { is_show (texts words.now) ≡ true → result ≡ Status.WriteFault → ShowsFront (S.left src.old) (S.left src.new) (O.held out.old) (O.held out.new) }
-    ensures usage { is_command (texts words.now) ≡ false → IsAnswer result → (result ≡ Status.Usage) × Appends (O.held out.old) (O.held out.new) usage.text }
-    ensures usage_front { is_command (texts words.now) ≡ false → result ≡ Status.WriteFault → AppendsFront (O.held out.old) (O.held out.new) usage.text }
-    ensures rest { LeavesRest (S.left src.old) (S.left src.new) }
-    ensures nothing_read { is_command (texts words.now) ≡ false → src.new ≡ src.old }
-    ensures read_fault { result ≡ Status.ReadFault → Rose (S.faults src.old) (S.faults src.new) }
-    ensures read_fault_writes_nothing { result ≡ Status.ReadFault → out.new ≡ out.old }
-    ensures write_fault { result ≡ Status.WriteFault → Rose (O.faults out.old) (O.faults out.new) }
-    ensures want_writes_nothing { result ≡ Status.Memory → out.new ≡ out.old }
+    ensures { AnswersWords S.left S.faults O.held O.faults (texts words.now) src.old src.new out.old out.new result }
 {
     if is_run_word(words) {
         write_usage(alloc, out)
