@@ -5,6 +5,7 @@ use Rattle.doors_top.specs.declared.status.Status.{Status}
 use Rattle.doors_top.specs.declared.status.Status.TheVariants as status
 use Rattle.doors_top.specs.declared.reading.ReadText.{ReadText}
 use Rattle.doors_top.specs.declared.reading.ReadText.TheVariants.{Whole, TooLong}
+use Rattle.doors_top.specs.declared.script_in.TheConstants.{SCRIPT_LIMIT}
 use Rattle.doors_top.specs.Outcomes.{is_command, is_play, is_show, outcome_of_play, outcome_of_show, script_of_input, usage}
 use Rattle.doors_top.specs.Input.{text_within_limit, IsWithinLimit, LeavesNone, LeavesRest}
 use Rattle.doors_top.specs.Output.{AppendsFront}
@@ -12,10 +13,6 @@ use Rattle.dk_base.specs.Words.{Rose}
 use Rattle.kernel_laws.specs.Words.{Laws}
 use Rattle.script_lang.specs.Words.{IsDecided, ScriptValue, parse_result}
 use Rattle.written_script.specs.Words.{IsRefusedPlay, IsWholePlay, Refusal, has_later_parts, opening_of, refusal, turns_before, turns_of, turns_of_play}
-
--- the most bytes of a script
-abbrev pub script_limit : ℕ
-script_limit = 1048576
 
 -- a status that says what was asked, and not that memory, a read or a write failed
 abbrev pub IsAnswer : Status → Type 0
@@ -58,7 +55,7 @@ LawsOfPlay read = IfOk (script_of_input read) (λ script. has_later_parts script
 -- `play` answered what its outcome is for what was read, and wrote exactly its text
 pub record Plays (left_old left_new held_old held_new : Option (List ℕ)) (answer : Status) : Type 0 where
   pub read : ReadText
-  pub is_read : IsRead script_limit left_old left_new read
+  pub is_read : IsRead SCRIPT_LIMIT left_old left_new read
   pub status : answer ≡ (outcome_of_play read).status
   pub text : Appends held_old held_new (outcome_of_play read).text
   pub spelled : IsDecidedText read
@@ -68,13 +65,13 @@ pub record Plays (left_old left_new held_old held_new : Option (List ℕ)) (answ
 -- `play` wrote a front of its outcome's text
 pub record PlaysFront (left_old left_new held_old held_new : Option (List ℕ)) : Type 0 where
   pub read : ReadText
-  pub is_read : IsRead script_limit left_old left_new read
+  pub is_read : IsRead SCRIPT_LIMIT left_old left_new read
   pub text : AppendsFront held_old held_new (outcome_of_play read).text
 
 -- `show` answered what its outcome is for what was read, and wrote exactly its text
 pub record Shows (left_old left_new held_old held_new : Option (List ℕ)) (answer : Status) : Type 0 where
   pub read : ReadText
-  pub is_read : IsRead script_limit left_old left_new read
+  pub is_read : IsRead SCRIPT_LIMIT left_old left_new read
   pub status : answer ≡ (outcome_of_show read).status
   pub text : Appends held_old held_new (outcome_of_show read).text
   pub spelled : IsDecidedText read
@@ -82,7 +79,7 @@ pub record Shows (left_old left_new held_old held_new : Option (List ℕ)) (answ
 -- `show` wrote a front of its outcome's text
 pub record ShowsFront (left_old left_new held_old held_new : Option (List ℕ)) : Type 0 where
   pub read : ReadText
-  pub is_read : IsRead script_limit left_old left_new read
+  pub is_read : IsRead SCRIPT_LIMIT left_old left_new read
   pub text : AppendsFront held_old held_new (outcome_of_show read).text
 
 -- The promises: a command has a record of its own, and a field in `AnswersWords`.

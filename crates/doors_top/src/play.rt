@@ -2,10 +2,11 @@
 ghost use Rattle.std.specs.Prelude.{◌≡◌, false, IfOk, []};
 ghost use Rattle.written_script.specs.Words.{ending_of, has_later_parts as later_of, refusal, refused_text, text_of_history};
 ghost use Rattle.sys_run.specs.Words.{history};
+ghost use Rattle.doors_top.specs.declared.script_in.TheConstants.{SCRIPT_LIMIT};
 ghost use Rattle.doors_top.specs.Outcomes.{outcome_of_play, outcome_of_script, outcome_of_turns};
 ghost use Rattle.doors_top.specs.Input.{IsWithinLimit};
 ghost use Rattle.doors_top.specs.Status.{status_of_ending};
-ghost use Rattle.doors_top.specs.Top.{IsAnswer, LawsOfPlay, LawsOfScript, IsDecidedText, TurnsOfPlay, script_limit};
+ghost use Rattle.doors_top.specs.Top.{IsAnswer, LawsOfPlay, LawsOfScript, IsDecidedText, TurnsOfPlay};
 
 use crate::reading::ReadText;
 use crate::reply::{Reply, fixed_reply, reply_for_bad};
@@ -110,7 +111,7 @@ fn play_or_later(alloc: Global, script: Script) -> Result<Reply, NoMemory>
 
 /// What `play` answers and writes.
 pub fn play(alloc: Global, read: &ReadText) -> Result<Reply, NoMemory>
-    requires { IsWithinLimit script_limit read.now }
+    requires { IsWithinLimit SCRIPT_LIMIT read.now }
     ensures status { IfOk result (λ reply. reply.status ≡ (outcome_of_play read.now).status) }
     ensures text { IfOk result (λ reply. reply.text ≡ (outcome_of_play read.now).text) }
     ensures answer { IfOk result (λ reply. IsAnswer reply.status) }

@@ -2,7 +2,8 @@
 ghost use Rattle.std.specs.Prelude.{◌≡◌, IfOk};
 ghost use Rattle.doors_top.specs.Outcomes.{script_of_input};
 ghost use Rattle.doors_top.specs.Input.{IsWithinLimit};
-ghost use Rattle.doors_top.specs.Top.{IsDecidedText, script_limit};
+ghost use Rattle.doors_top.specs.declared.script_in.TheConstants.{SCRIPT_LIMIT};
+ghost use Rattle.doors_top.specs.Top.{IsDecidedText};
 
 use crate::reading::ReadText;
 use dk_base::error::NoMemory;
@@ -13,9 +14,12 @@ use script_lang::script::Script;
 use script_line::reason::Reason;
 use std::alloc::Global;
 
+/// The most bytes of a script. Definitions cite this constant too.
+pub const SCRIPT_LIMIT: usize = 1_048_576;
+
 /// The script that was read, or what is bad: its first bad line, or line 0 where more bytes were read than a script may have.
 pub fn script_in(alloc: Global, read: &ReadText) -> Result<Result<Script, Bad>, NoMemory>
-    requires { IsWithinLimit script_limit read.now }
+    requires { IsWithinLimit SCRIPT_LIMIT read.now }
     ensures script { IfOk result (λ script. script ≡ script_of_input read.now) }
     ensures spelled { IsDecidedText read.now }
 {

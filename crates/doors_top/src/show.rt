@@ -1,7 +1,8 @@
 //! What `show` answers and writes for what was read.
 ghost use Rattle.std.specs.Prelude.{◌≡◌, IfOk};
+ghost use Rattle.doors_top.specs.declared.script_in.TheConstants.{SCRIPT_LIMIT};
 ghost use Rattle.doors_top.specs.Outcomes.{outcome_of_show};
-ghost use Rattle.doors_top.specs.Top.{IsAnswer, IsDecidedText, script_limit};
+ghost use Rattle.doors_top.specs.Top.{IsAnswer, IsDecidedText};
 ghost use Rattle.doors_top.specs.Input.{IsWithinLimit};
 
 use crate::reading::ReadText;
@@ -14,7 +15,7 @@ use std::alloc::Global;
 
 /// What `show` answers and writes.
 pub fn show(alloc: Global, read: &ReadText) -> Result<Reply, NoMemory>
-    requires { IsWithinLimit script_limit read.now }
+    requires { IsWithinLimit SCRIPT_LIMIT read.now }
     ensures status { IfOk result (λ reply. reply.status ≡ (outcome_of_show read.now).status) }
     ensures text { IfOk result (λ reply. reply.text ≡ (outcome_of_show read.now).text) }
     ensures answer { IfOk result (λ reply. IsAnswer reply.status) }

@@ -9,6 +9,7 @@ ghost use Rattle.doors_top.specs.Output.{AppendsFront};
 use crate::play::play;
 use crate::reading::{ReadingFault, read_all};
 use crate::reply::{Reply, fixed_reply};
+use crate::script_in::SCRIPT_LIMIT;
 use crate::show::show;
 use crate::status::Status;
 use crate::writing::write_all;
@@ -16,9 +17,6 @@ use dk_base::outside::{Gate, Sink, Source};
 use std::alloc::Global;
 use std::sync::Wait;
 use std::thread::Threads;
-
-/// The most bytes of a script.
-const SCRIPT_LIMIT: usize = 1_048_576;
 
 const USAGE: &[u8] = b"usage: doors play|run|show|check|load N\n";
 
