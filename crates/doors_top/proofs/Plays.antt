@@ -1,9 +1,10 @@
 -- What `play` answers and writes, from the clauses of the calls that it makes.
 use Rattle.std.proofs.Common.{◌≡◌, ℕ, List, Option, Some, None, Result, Ok, Err, IfOk, refl, ap, ◌∙◌, subst}
 use Rattle.written_kernel.specs.Types.{Tid}
-use Rattle.written_script.specs.Types.{Bad}
+use Rattle.script_requests.specs.Types.{Bad}
 use Rattle.script_lang.specs.Words.{ScriptValue}
-use Rattle.written_script.specs.Words.{History, IsRefusedPlay, IsWholePlay, Refusal, ending_of, refusal, refused_text, text_of_history, threads_of_events, turns_before, turns_of_play}
+use Rattle.script_requests.specs.Words.{refused_text}
+use Rattle.written_script.specs.Words.{History, IsRefusedPlay, IsWholePlay, Refusal, ending_of, refusal, text_of_history, threads_of_events, turns_before, turns_of_play}
 use Rattle.sys_run.specs.Words.{IsBefore, IsPlay, LawsOf, SysValue, history, refusal_at}
 use Rattle.doors_top.specs.declared.reading.ReadText.{ReadText}
 use Rattle.doors_top.specs.Outcomes.{script_of_input, outcome_of_turns}

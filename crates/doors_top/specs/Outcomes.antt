@@ -8,9 +8,10 @@ use Rattle.doors_top.specs.declared.reading.ReadText.{ReadText}
 use Rattle.doors_top.specs.declared.reading.ReadText.TheVariants.{Whole, TooLong}
 use Rattle.doors_top.specs.Status.{status_of_ending}
 use Rattle.script_line.specs.declared.reason.Reason.TheVariants.{Size}
-use Rattle.written_script.specs.Types.{Bad}
+use Rattle.script_requests.specs.Types.{Bad}
 use Rattle.script_lang.specs.Words.{ScriptValue, bad_line, bad_text, canonical_text, parse_result}
-use Rattle.written_script.specs.Words.{History, Refusal, ending_of, has_later_parts, refusal, refused_text, run, text_of_history, turns_before, turns_of_play}
+use Rattle.script_requests.specs.Words.{has_later_parts, refused_text}
+use Rattle.written_script.specs.Words.{History, Refusal, ending_of, refusal, run, text_of_history, turns_before, turns_of_play}
 
 -- the words of the command line
 

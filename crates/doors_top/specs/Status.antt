@@ -2,8 +2,8 @@
 use Rattle.std.specs.Prelude.{ℕ, List, Option, Some, None, codes}
 use Rattle.doors_top.specs.declared.status.Status.{Status}
 use Rattle.doors_top.specs.declared.status.Status.TheVariants.{Complete, Stalled, Script, Usage, Budget, Memory, ReadFault, WriteFault, Turn, Illegal}
-use Rattle.written_script.specs.declared.ending.Ending.{Ending}
-use Rattle.written_script.specs.declared.ending.Ending.TheVariants as ending
+use Rattle.script_requests.specs.declared.ending.Ending.{Ending}
+use Rattle.script_requests.specs.declared.ending.Ending.TheVariants as ending
 
 abbrev pub status_code : Status → ℕ
 status_code Complete = 0

@@ -12,7 +12,8 @@ use Rattle.doors_top.specs.Output.{AppendsFront}
 use Rattle.dk_base.specs.Words.{Rose}
 use Rattle.kernel_laws.specs.Words.{Laws}
 use Rattle.script_lang.specs.Words.{IsDecided, ScriptValue, parse_result}
-use Rattle.written_script.specs.Words.{IsRefusedPlay, IsWholePlay, Refusal, has_later_parts, opening_of, refusal, turns_before, turns_of, turns_of_play}
+use Rattle.script_requests.specs.Words.{has_later_parts}
+use Rattle.written_script.specs.Words.{IsRefusedPlay, IsWholePlay, Refusal, opening_of, refusal, turns_before, turns_of, turns_of_play}
 
 -- a status that says what was asked, and not that memory, a read or a write failed
 abbrev pub IsAnswer : Status → Type 0

@@ -1,6 +1,7 @@
 //! What `play` answers and writes for what was read.
 ghost use Rattle.std.specs.Prelude.{◌≡◌, false, IfOk, []};
-ghost use Rattle.written_script.specs.Words.{ending_of, has_later_parts as later_of, refusal, refused_text, text_of_history};
+ghost use Rattle.script_requests.specs.Words.{has_later_parts as later_of, refused_text};
+ghost use Rattle.written_script.specs.Words.{ending_of, refusal, text_of_history};
 ghost use Rattle.sys_run.specs.Words.{history};
 ghost use Rattle.doors_top.specs.declared.script_in.TheConstants.{SCRIPT_LIMIT};
 ghost use Rattle.doors_top.specs.Outcomes.{outcome_of_play, outcome_of_script, outcome_of_turns};
@@ -15,12 +16,12 @@ use crate::status::Status;
 use dk_base::error::NoMemory;
 use dk_base::number::Tid;
 use script_lang::script::Script;
+use script_requests::ending::Ending;
 use std::alloc::Global;
 use sys_run::laws;
 use sys_run::sys::{Played, Sys};
 use thread_machine::later::later;
 use trace_text::{text_before_refused, text_of_run};
-use written_script::ending::Ending;
 
 fn status_of(ending: Ending) -> Status
     ensures value { result ≡ status_of_ending ending }

@@ -3,9 +3,10 @@ use Rattle.std.proofs.Common.{◌≡◌, ℕ, List, [], ◌∷◌, length, Optio
 use Rattle.std.specs.Prelude.{nat_lt, nat_le, is_none, option_map, not, All, slice_get, ◌||◌, if◌then◌else◌}
 use Rattle.written_kernel.specs.Types.{Event, Tid}
 use Rattle.written_kernel.specs.Words.{IsOpening, IsRun, StandsFor, State, Turn, least_runnable, waiting_threads}
-use Rattle.written_script.specs.declared.ending.Ending.TheVariants.{Complete, Stalled, Budget}
-use Rattle.written_script.specs.Words.{IsDeclaredEvent, IsDeclaredThread, ending_of, ending_waiting, ending_with, is_over, opening_of, threads_of_events, tid_number, turns_of}
-use Rattle.written_script.proofs.Elements.{All-slice_get}
+use Rattle.script_requests.specs.declared.ending.Ending.TheVariants.{Complete, Stalled, Budget}
+use Rattle.script_requests.specs.Words.{IsDeclaredEvent, IsDeclaredThread}
+use Rattle.script_requests.proofs.Elements.{All-slice_get}
+use Rattle.written_script.specs.Words.{ending_of, ending_waiting, ending_with, is_over, opening_of, threads_of_events, tid_number, turns_of}
 use Rattle.written_script.proofs.Histories.{IsOpening-opening_of}
 use Rattle.written_script.proofs.RunTurns.{turns_of-run}
 use Rattle.kernel_laws.specs.Words.{Laws}

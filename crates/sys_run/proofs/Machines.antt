@@ -7,7 +7,7 @@ use Rattle.dk_base.specs.declared.answer.Answer.TheVariants as answer
 use Rattle.script_lang.specs.Words.{ScriptValue}
 use Rattle.thread_machine.specs.declared.machine.Machine.{Machine}
 use Rattle.thread_machine.specs.Words.{HasDeclaredEntry, IsMachine, Stands}
-use Rattle.written_script.specs.Words.{IsDeclaredAnswer, first_frame, frame_after_answer, frame_of}
+use Rattle.script_requests.specs.Words.{IsDeclaredAnswer, first_frame, frame_after_answer, frame_of}
 use Rattle.written_script.proofs.Histories.{frame_of-append}
 use Rattle.sys_run.specs.Sys.{MachineStands, AllStandFrom}
 

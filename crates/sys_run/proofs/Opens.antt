@@ -7,7 +7,7 @@ use Rattle.written_kernel.specs.Types.{Pid}
 use Rattle.written_kernel.specs.Words.{State, with_new_thread}
 use Rattle.written_kernel.proofs.Lists.{at_number-suc}
 use Rattle.dk_base.specs.ByNumber.{at_number}
-use Rattle.written_script.specs.Types.{ScriptProcess, ScriptThread}
+use Rattle.script_requests.specs.Types.{ScriptProcess, ScriptThread}
 use Rattle.written_script.specs.Words.{limit_of, with_script_threads}
 
 at_number-at : {X Y : Type 0} (f : X → Y) (xs : List X) (k : ℕ) (y : Y) → option_map f (at_number xs (k + 1)) ≡ Some y → option_map f (slice_get xs k) ≡ Some y

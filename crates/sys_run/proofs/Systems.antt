@@ -8,7 +8,8 @@ use Rattle.thread_machine.specs.declared.machine.Machine.{Machine}
 use Rattle.written_kernel.specs.Words.{StandsFor, State, forget, is_runnable, least_among, least_runnable, waiting_threads}
 use Rattle.written_kernel.proofs.Forget.{is_runnable-forget}
 use Rattle.written_kernel.proofs.Opening.{forget-opening}
-use Rattle.written_script.specs.Words.{History, IsPlayable, IsThread, opening_of}
+use Rattle.script_requests.specs.Words.{IsPlayable, IsThread}
+use Rattle.written_script.specs.Words.{History, opening_of}
 use Rattle.written_script.proofs.Histories.{IsOpening-opening_of}
 use Rattle.written_script.proofs.RunTurns.{history_after-thread}
 use Rattle.sys_run.specs.Sys.{SysValue, with_journal, history, state_of_run, with_turn, MachineStands, AllStandFrom, IsJournal, IsSys}

@@ -5,7 +5,8 @@ use Rattle.thread_machine.specs.Words.{HasDeclaredEntry}
 use Rattle.written_kernel.specs.Words.{MayTurn, StandsFor, State, is_runnable, opening, step}
 use Rattle.written_kernel.specs.Opening.IsOpening.{processes}
 use Rattle.written_kernel.proofs.Opening.{opened}
-use Rattle.written_script.specs.Words.{frame_of, request_at_turn}
+use Rattle.script_requests.specs.Words.{frame_of}
+use Rattle.written_script.specs.Words.{request_at_turn}
 use Rattle.written_script.proofs.RunTurns.{history_after-answer, threads-opening}
 use Rattle.sys_run.specs.Sys.{SysValue, history, state_of_run, with_turn, IsJournal}
 use Rattle.sys_run.specs.TurnRequests.{request_if_running}

@@ -4,7 +4,8 @@ use Rattle.written_kernel.specs.Types.{Event, Tid}
 use Rattle.written_kernel.specs.Words.{StandsFor, State, event_of, least_runnable, step}
 use Rattle.kernel_laws.specs.Words.{Laws}
 use Rattle.script_lang.specs.Words.{ScriptValue}
-use Rattle.written_script.specs.Words.{History, IsAllowed, IsPlayable, frame_of, least_runnable_turns, opening_of, request_at_turn, run, threads_of_events, turns_of}
+use Rattle.script_requests.specs.Words.{IsPlayable, frame_of}
+use Rattle.written_script.specs.Words.{History, IsAllowed, least_runnable_turns, opening_of, request_at_turn, run, threads_of_events, turns_of}
 use Rattle.thread_machine.specs.declared.machine.Machine.{Machine}
 use Rattle.thread_machine.specs.Words.{IsMachine, Stands}
 

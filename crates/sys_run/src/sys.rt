@@ -1,7 +1,8 @@
 ghost use Rattle.std.specs.Prelude.{◌≡◌, ℕ, ◌+◌, ◌<◌, ◌≤◌, ◌∷◌, ◌++◌, [], length, slice_get, Some, IfOk, option_map, OnOk, OnErr, take, true, false, nat_lt, All};
 ghost use Rattle.dk_base.specs.declared.limits.TheConstants.{BUDGET_MAX};
 ghost use Rattle.written_kernel.specs.Words.{is_runnable, waiting_threads};
-ghost use Rattle.written_script.specs.Words.{IsDeclaredEvent, IsDeclaredThread, ending_of, has_later_parts, is_over, scheduled_turns, tid_number};
+ghost use Rattle.script_requests.specs.Words.{IsDeclaredEvent, IsDeclaredThread, has_later_parts};
+ghost use Rattle.written_script.specs.Words.{ending_of, is_over, scheduled_turns, tid_number};
 ghost use Rattle.sys_run.specs.Sys.{with_journal, history, state_of_run, with_turn, with_turns, turns_left, next_turn, scheduled_turn, threads_woken_by, LawsOf, IsJournal};
 
 use crate::opening::{first_machines, open};
@@ -13,10 +14,10 @@ use dk_base::list::TidList;
 use dk_base::number::Tid;
 use kernel_core::kernel::Kernel;
 use script_lang::script::Script;
+use script_requests::ending::Ending;
 use std::alloc::Global;
 use std::marker::Model;
 use thread_machine::machine::Machine;
-use written_script::ending::Ending;
 
 /// How playing a schedule ends.
 #[derive(Clone, Copy, Debug, PartialEq, Eq)]
@@ -57,7 +58,7 @@ impl Sys {
         ensures { IfOk result (λ sys. sys ≡ with_journal script []) }
     {
         script.is_spelled();
-        written_script::laws::sound_scripts();
+        script_requests::laws::sound_scripts();
         let kernel = open(alloc, &script)?;
         let machines = first_machines(alloc, &script)?;
         Ok(Sys {

@@ -2,7 +2,7 @@
 ghost use Rattle.std.specs.Prelude.{◌≡◌, ◌+◌, ◌<◌, ◌≤◌, ◌∷◌, ◌++◌, [], length, IfOk, OnOk, OnErr, true, vec_len, vec_capacity};
 ghost use Rattle.dk_base.specs.declared.limits.TheConstants.{EVENTS_MAX};
 ghost use Rattle.written_kernel.specs.Words.{IsStep, MayTurn, StandsFor, State, is_runnable, step, what_of};
-ghost use Rattle.written_script.specs.Words.{Frame};
+ghost use Rattle.script_requests.specs.Words.{Frame};
 ghost use Rattle.thread_machine.specs.Words.{HasRoomForAnswer, IsMachine, Stands};
 ghost use Rattle.sys_run.specs.Sys.{with_journal, state_of_run, with_turn, threads_woken_by, MachineStands, IsJournal};
 ghost use Rattle.sys_run.specs.TurnRequests.{request_if_running};

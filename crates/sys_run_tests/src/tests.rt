@@ -1,5 +1,5 @@
 ghost use Rattle.std.specs.Prelude.{◌≡◌, [], false};
-ghost use Rattle.written_script.specs.Words.{has_later_parts as is_later_script};
+ghost use Rattle.script_requests.specs.Words.{has_later_parts as is_later_script};
 
 use dk_base::answer::Answer;
 use dk_base::event::{Event, What};

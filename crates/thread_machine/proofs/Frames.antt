@@ -8,8 +8,8 @@ use Rattle.script_line.specs.declared.line.Cond.TheVariants as cond
 use Rattle.script_line.specs.declared.line.Kind.TheVariants.{Act}
 use Rattle.script_line.specs.Words.{kind_of}
 use Rattle.script_lang.specs.Words.{ScriptValue}
-use Rattle.written_script.specs.Words.{BodyStep, Frame, Variables, arguments, empty_value, frame_after_answer, frame_after_command, is_met, next_steps, procedure_body, request_ahead, request_at, request_at_end, request_of, set_each, steps_after, steps_of_body, values_of, vars_ahead, vars_of, with_both}
-use Rattle.written_script.specs.Steps.BodyStep.{Do}
+use Rattle.script_requests.specs.Words.{BodyStep, Frame, Variables, arguments, empty_value, frame_after_answer, frame_after_command, is_met, next_steps, procedure_body, request_ahead, request_at, request_at_end, request_of, set_each, steps_after, steps_of_body, values_of, vars_ahead, vars_of, with_both}
+use Rattle.script_requests.specs.Steps.BodyStep.{Do}
 use Rattle.thread_machine.specs.declared.known.TestContext.{TestContext}
 use Rattle.thread_machine.specs.declared.machine.Machine.{Machine}
 use Rattle.thread_machine.specs.declared.machine.AnswerEffect.TheVariants as effect

@@ -8,7 +8,7 @@ use Rattle.script_line.specs.declared.line.FdArg.TheVariants.{Number, Of as OfFd
 use Rattle.script_line.specs.declared.line.Line.TheVariants as line
 use Rattle.script_line.specs.declared.line.Piece.TheVariants.{Text, Of, Fill}
 use Rattle.script_line.specs.Words.{First, Spelling, SpellsLine, SpellsMorePieces, SpellsPassList, SpellsPieces, Tables, Then}
-use Rattle.written_script.specs.Words.{Value, Variables, data_of, fd_of, greatest_data, or_no_descriptor, pass_of, piece_bytes, request_at}
+use Rattle.script_requests.specs.Words.{Value, Variables, data_of, fd_of, greatest_data, or_no_descriptor, pass_of, piece_bytes, request_at}
 use Rattle.thread_machine.specs.Bodies.{IsSpelledLine}
 use Rattle.thread_machine.specs.Slots.{Slot, slot_value, Holds, greatest_descriptors}
 use Rattle.thread_machine.proofs.Cuts.{take-take, take-flat_map, slice_get-take}

@@ -8,12 +8,12 @@ use Rattle.script_lang.specs.Types.{Kind, Line}
 use Rattle.script_line.specs.declared.line.Kind.TheVariants as kind
 use Rattle.dk_base.specs.ByNumber.{at_number}
 use Rattle.script_line.specs.Words.{Tables, depth_after, kind_of}
-use Rattle.written_script.specs.Types.{Procedure, ScriptLine, ScriptPlace, ScriptThread}
+use Rattle.script_requests.specs.Types.{Procedure, ScriptLine, ScriptPlace, ScriptThread}
 use Rattle.script_lang.specs.declared.item.ScriptLine.TheVariants as item
 use Rattle.script_lang.specs.declared.item.ScriptPlace.TheVariants as place
 use Rattle.script_lang.specs.Words.{ContextValue, ScriptValue, SkipsNext, SpellsLines, SpellsNext, SpellsScript, SpellsScriptLines, before_line, body_from, context_after, context_at_depth, context_with_variables, first_context, is_block_start, is_closed_place, is_of_place, is_request, procedures_from, spells, tables_of, threads_from, variables_with}
 use Rattle.thread_machine.specs.Bodies.{IsSpelledLine, AreSpelled, IsBody}
-use Rattle.written_script.specs.Words.{body_or_empty}
+use Rattle.script_requests.specs.Words.{body_or_empty}
 use Rattle.thread_machine.specs.Machines.{body_of, body_of_thread}
 use Rattle.thread_machine.specs.Places.{BeginsWithCommand, IsNested}
 use Rattle.thread_machine.proofs.SpelledLines.{loop-times}

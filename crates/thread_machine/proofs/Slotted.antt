@@ -7,7 +7,7 @@ use Rattle.std.specs.Prelude.{slice_get, bytes_eq, position, if◌then◌else◌
 use Rattle.std.specs.List.{position_or_len}
 use Rattle.script_text.specs.Types.{Answer, Fd}
 use Rattle.script_line.proofs.PathSearch.{bytes_eq_comm, place_found, place_missing}
-use Rattle.written_script.specs.Words.{Value, Variables, empty_value, greatest_data, no_variables, set_each, set_variable, values_of, with_both}
+use Rattle.script_requests.specs.Words.{Value, Variables, empty_value, greatest_data, no_variables, set_each, set_variable, values_of, with_both}
 use Rattle.thread_machine.specs.Slots.{Slot, visible_value, slot_value, place_of, is_named, Holds, set_some, greatest_descriptors}
 use Rattle.thread_machine.proofs.Cuts.{take-nil}
 use Rattle.thread_machine.proofs.Positions.{slice_get-index, slice_get-past}

@@ -10,7 +10,7 @@ use Rattle.script_line.specs.declared.line.FdArg.TheVariants.{Number, Of as OfFd
 use Rattle.script_line.specs.declared.line.Kind.TheVariants.{Loop}
 use Rattle.script_line.specs.declared.line.Line.TheVariants as line
 use Rattle.script_line.specs.Words.{Each, First, Spelling, SpellsFd, SpellsLine, SpellsPass, Tables, Then, kind_of}
-use Rattle.written_script.specs.Words.{times_of, vars_of}
+use Rattle.script_requests.specs.Words.{times_of, vars_of}
 use Rattle.thread_machine.specs.Bodies.{IsSpelledLine}
 use Rattle.thread_machine.specs.Slots.{IsShort, greatest_name}
 

@@ -4,8 +4,8 @@ use Rattle.std.specs.Prelude.{slice_get, if◌then◌else◌}
 use Rattle.script_lang.specs.Types.{Cond, Line}
 use Rattle.script_line.specs.declared.line.Kind.TheVariants.{Act}
 use Rattle.script_line.specs.Words.{kind_of}
-use Rattle.written_script.specs.Words.{BodyStep, blocks_of, copies, innermost_block, line_before, next_steps, outer_blocks, steps_of_body}
-use Rattle.written_script.specs.Steps.BodyStep.{Do, When}
+use Rattle.script_requests.specs.Words.{BodyStep, blocks_of, copies, innermost_block, line_before, next_steps, outer_blocks, steps_of_body}
+use Rattle.script_requests.specs.Steps.BodyStep.{Do, When}
 use Rattle.thread_machine.specs.declared.place.Place.{Place}
 use Rattle.thread_machine.specs.declared.stack.Turns.{Turns}
 use Rattle.thread_machine.specs.Places.{steps_from_blocks, steps_from, blocks_at, AtCommand, IsNestedLine, IsNested, AreOpen, StandsAt}

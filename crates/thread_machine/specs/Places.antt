@@ -3,7 +3,7 @@ use Rattle.std.specs.Prelude.{ℕ, zero, suc, ◌+◌, ◌-◌, ◌==◌, ◌≡
 use Rattle.script_lang.specs.Types.{Cond, Kind, Line}
 use Rattle.script_line.specs.declared.line.Kind.TheVariants.{Act, Loop, Test, Closing}
 use Rattle.script_line.specs.Words.{kind_of}
-use Rattle.written_script.specs.Words.{BodyStep, blocks_of, copies, innermost_block, next_steps, outer_blocks, steps_of_body, times_of}
+use Rattle.script_requests.specs.Words.{BodyStep, blocks_of, copies, innermost_block, next_steps, outer_blocks, steps_of_body, times_of}
 use Rattle.thread_machine.specs.declared.place.Place.{Place}
 use Rattle.thread_machine.specs.declared.stack.Turns.{Turns}
 

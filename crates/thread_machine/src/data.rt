@@ -1,5 +1,5 @@
 ghost use Rattle.std.specs.Prelude.{◌≡◌, ◌≤◌, ◌-◌, ◌++◌, length, map, take, replicate, IfOk, OnOk};
-ghost use Rattle.written_script.specs.Words.{data_of, fd_of, greatest_data as greatest_data_of, pass_of, piece_bytes};
+ghost use Rattle.script_requests.specs.Words.{data_of, fd_of, greatest_data as greatest_data_of, pass_of, piece_bytes};
 ghost use Rattle.thread_machine.specs.Slots.{slot_value};
 
 use crate::fill::first_items;

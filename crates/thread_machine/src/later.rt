@@ -3,7 +3,7 @@
 ghost use Rattle.std.specs.Prelude.{◌≡◌, map, max, if◌then◌else◌};
 ghost use Rattle.std.specs.List.{list_any};
 ghost use Rattle.capabilities.specs.Words.{capability_of_pass};
-ghost use Rattle.written_script.specs.Words.{capability_of_line as capability_of_line_in, capability_of_spare, has_later_parts as is_later_script, is_later, is_later_line as is_later_line_in, is_later_procedure as is_later_procedure_of, is_later_thread as is_later_thread_of, no_variables, pass_of};
+ghost use Rattle.script_requests.specs.Words.{capability_of_line as capability_of_line_in, capability_of_spare, has_later_parts as is_later_script, is_later, is_later_line as is_later_line_in, is_later_procedure as is_later_procedure_of, is_later_thread as is_later_thread_of, no_variables, pass_of};
 
 use capabilities::table::{BUILT, capability_of_attributes};
 use script_lang::script::{Procedure, Script, ScriptThread};

@@ -1,5 +1,5 @@
 ghost use Rattle.std.specs.Prelude.{◌≡◌, option_copied, slice_get};
-ghost use Rattle.written_script.specs.Words.{tested_condition as tested_condition_of, times_of as times_of_line, vars_of};
+ghost use Rattle.script_requests.specs.Words.{tested_condition as tested_condition_of, times_of as times_of_line, vars_of};
 
 use script_line::line::{Cond, Line};
 

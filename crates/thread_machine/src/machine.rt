@@ -1,6 +1,6 @@
 ghost use Rattle.std.specs.Prelude.{◌≡◌, ◌<◌, ◌≤◌, length, IfOk, OnOk, [], Some};
 ghost use Rattle.script_lang.specs.Words.{ScriptValue};
-ghost use Rattle.written_script.specs.Words.{Frame, arguments, first_frame, frame_after_answer, request_of, set_each, steps_after, values_of, vars_ahead, with_both};
+ghost use Rattle.script_requests.specs.Words.{Frame, arguments, first_frame, frame_after_answer, request_of, set_each, steps_after, values_of, vars_ahead, with_both};
 ghost use Rattle.thread_machine.specs.declared.known.LastAnswer.TheVariants.{Good};
 ghost use Rattle.thread_machine.specs.Machines.{HasRoomForAnswer, IsMachine, IsPlaced, Stands, HasDeclaredEntry, IsEntryOrNone, Settles, Precedes, Begins, SetsArguments, StartsFrameOf, body_of, is_in_procedure as is_in_procedure_of, effect_of as effect_of_answer};
 

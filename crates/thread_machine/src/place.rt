@@ -1,7 +1,7 @@
 ghost use Rattle.std.specs.Prelude.{◌≡◌, ◌<◌, ◌≤◌, ◌^◌, suc, length, drop, slice_get, Some};
 ghost use Rattle.script_line.specs.declared.line.Kind.TheVariants.{Closing};
 ghost use Rattle.script_line.specs.Words.{kind_of as kind_of_line};
-ghost use Rattle.written_script.specs.Words.{next_steps};
+ghost use Rattle.script_requests.specs.Words.{next_steps};
 ghost use Rattle.thread_machine.specs.Places.{IsNested, StandsAt, AtCommand, steps_from, PassesLine, Leaves, depth_after_line, place_in_block, place_after_end, is_left, first_place};
 ghost use Rattle.thread_machine.specs.LastAnswers.{is_met_in};
 

@@ -1,5 +1,5 @@
 ghost use Rattle.std.specs.Prelude.{◌≡◌, IfOk};
-ghost use Rattle.written_script.specs.Words.{request_at};
+ghost use Rattle.script_requests.specs.Words.{request_at};
 ghost use Rattle.thread_machine.specs.Slots.{slot_value};
 
 use crate::variables::Variables;

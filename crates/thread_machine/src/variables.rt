@@ -1,5 +1,5 @@
 ghost use Rattle.std.specs.Prelude.{◌≡◌, ◌+◌, ◌<◌, ◌≤◌, [], length, slice_get, Some, OnOk, IfOk, MatchOption, option_copied, position};
-ghost use Rattle.written_script.specs.Words.{Variables as Values, empty_value, set_each, set_variable, values_of, vars_of, with_both};
+ghost use Rattle.script_requests.specs.Words.{Variables as Values, empty_value, set_each, set_variable, values_of, vars_of, with_both};
 ghost use Rattle.thread_machine.specs.Bodies.{IsSpelledLine};
 ghost use Rattle.thread_machine.specs.Slots.{Slot, Holds, slot_value, place_of, is_named, greatest_name, set_some, IsShort};
 

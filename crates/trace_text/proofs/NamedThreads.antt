@@ -12,7 +12,7 @@ use Rattle.script_line.specs.Words.{from_one, is_same}
 use Rattle.script_line.proofs.Numbering.{name_of_number, same_some, no_value}
 use Rattle.script_line.proofs.PathSearch.{place_missing}
 use Rattle.script_lang.specs.Words.{ScriptValue, tables_of}
-use Rattle.written_script.specs.Words.{NamesThread, second_word, thread_named}
+use Rattle.script_requests.specs.Words.{NamesThread, second_word, thread_named}
 
 -- a name that has no place stands nowhere
 nowhere : (names : List (List ℕ)) (name : List ℕ) (i : ℕ) → position (is_same name) names ≡ None → slice_get names i ≡ Some name → ⊥

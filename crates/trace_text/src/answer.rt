@@ -2,7 +2,7 @@
 
 ghost use Rattle.std.specs.Prelude.{◌≡◌, ◌++◌, flat_map, decimal, OnOk};
 ghost use Rattle.script_line.specs.Words.{value_word};
-ghost use Rattle.written_script.specs.Words.{answer_text, entered_text, event_text, fds_text, grown_text, info_text, invocation_text, made_text, notice_text, results_text, source_text, spaced_error, spaced_event, spaced_fd, target_text};
+ghost use Rattle.script_requests.specs.Words.{answer_text, entered_text, event_text, fds_text, grown_text, info_text, invocation_text, made_text, notice_text, results_text, source_text, spaced_error, spaced_event, spaced_fd, target_text};
 
 use super::append::{push_counted, push_number, push_word};
 use super::attributes::push_attributes;

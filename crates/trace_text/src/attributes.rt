@@ -2,7 +2,7 @@
 
 ghost use Rattle.std.specs.Prelude.{◌≡◌, if◌then◌else◌, ◌∷◌, ◌++◌, flat_map, OnOk};
 ghost use Rattle.script_line.specs.Words.{attribute_flags, attribute_if, bits_of_flags};
-ghost use Rattle.written_script.specs.Words.{attributes_text, plus_joined_words};
+ghost use Rattle.script_requests.specs.Words.{attributes_text, plus_joined_words};
 
 use super::append::push_word;
 use dk_base::error::NoMemory;

@@ -1,7 +1,7 @@
 //! Data as a trace shows it. Want of memory may leave a part of what was to be added.
 
 ghost use Rattle.std.specs.Prelude.{◌≡◌, ◌++◌, OnOk};
-ghost use Rattle.written_script.specs.Words.{data_text, digest_text, hex_byte, hex_text};
+ghost use Rattle.script_requests.specs.Words.{data_text, digest_text, hex_byte, hex_text};
 
 use super::append::{push_counted, push_word};
 use dk_base::error::NoMemory;

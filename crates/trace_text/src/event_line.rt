@@ -1,7 +1,7 @@
 //! Event lines. Want of memory may leave a part of what was to be added.
 
 ghost use Rattle.std.specs.Prelude.{◌≡◌, [], ◌∷◌, ◌++◌, OnOk};
-ghost use Rattle.written_script.specs.Words.{line_of, lines_text};
+ghost use Rattle.script_requests.specs.Words.{line_of, lines_text};
 
 use super::answer::push_answer;
 use super::append::{push_number, push_word};
@@ -13,7 +13,7 @@ use script_text::writer::Writer;
 use std::alloc::Global;
 
 /// Adds the event's line, `NUMBER THREAD ROOT WHAT ANSWER`.
-#[tactic(auto, unfolding(written_script::specs::TraceText::line_of))]
+#[tactic(auto, unfolding(script_requests::specs::TraceText::line_of))]
 pub fn push_line(
     alloc: Global,
     text: &mut Writer,

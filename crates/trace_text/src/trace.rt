@@ -1,7 +1,7 @@
 //! Lines and whole texts of traces.
 
 ghost use Rattle.std.specs.Prelude.{◌≡◌, IfOk};
-ghost use Rattle.written_script.specs.Words.{end_line_of, line_of, refused_text, trace_text};
+ghost use Rattle.script_requests.specs.Words.{end_line_of, line_of, refused_text, trace_text};
 
 use super::event_line::{push_line, push_lines};
 use super::last_line::{push_end_line, push_refused_line};
@@ -10,9 +10,9 @@ use dk_base::event::Event;
 use dk_base::list::{Bytes, TidList};
 use dk_base::number::Tid;
 use script_lang::script::Script;
+use script_requests::ending::Ending;
 use script_text::writer::Writer;
 use std::alloc::Global;
-use written_script::ending::Ending;
 
 /// The line of an event, `NUMBER THREAD ROOT WHAT ANSWER`, without a line feed. A number that is no thread's or no
 /// procedure's has the empty name.
@@ -42,7 +42,7 @@ pub fn end_line(
 
 /// The text of a run with these events and this end; `waiting` are the threads that wait at the end, of which a stalled
 /// run tells.
-#[tactic(auto, unfolding(written_script::specs::TraceText::trace_text))]
+#[tactic(auto, unfolding(script_requests::specs::TraceText::trace_text))]
 pub fn text_of_run(
     alloc: Global,
     script: &Script,
@@ -66,7 +66,7 @@ pub fn text_of_run(
 }
 
 /// The text of a run with these events before a schedule's turn, counted from 1, that its thread could not take.
-#[tactic(auto, unfolding(written_script::specs::TraceText::refused_text))]
+#[tactic(auto, unfolding(script_requests::specs::TraceText::refused_text))]
 pub fn text_before_refused(
     alloc: Global,
     script: &Script,

@@ -1,5 +1,5 @@
 ghost use Rattle.std.specs.Prelude.{◌≡◌};
-ghost use Rattle.written_script.specs.Words.{what_word};
+ghost use Rattle.script_requests.specs.Words.{what_word};
 
 use dk_base::event::What;
 

@@ -7,11 +7,11 @@ use dk_base::object::{EventRec, Src};
 use dk_base::set::Attrs;
 use script_lang::parse::parse;
 use script_lang::script::Script;
+use script_requests::ending::Ending;
 use std::alloc::Global;
 use std::process::Abort;
 use std::test::Fail;
 use trace_text::{end_line, line, text_before_refused, text_of_run, thread_of};
-use written_script::ending::Ending;
 
 /// A server `s` with a procedure `echo`, a client `c`, and a spare.
 const SCRIPT: &str =

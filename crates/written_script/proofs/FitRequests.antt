@@ -14,13 +14,9 @@ use Rattle.script_lang.specs.Types.{Line, PassArg}
 use Rattle.script_line.specs.declared.line.Line.TheVariants as line
 use Rattle.script_line.specs.Words.{kind_of}
 use Rattle.script_lang.specs.Words.{ScriptValue}
-use Rattle.written_script.specs.Later.{capability_of_line, capability_of_place, is_later_line}
-use Rattle.written_script.specs.Requests.{Frame, request_at, request_at_end, request_ahead, request_of}
-use Rattle.written_script.specs.Sound.{IsFitLine}
-use Rattle.written_script.specs.Steps.{BodyStep}
-use Rattle.written_script.specs.Steps.BodyStep.{Do, When}
-use Rattle.written_script.specs.Variables.{Variables, no_variables, pass_of}
-use Rattle.written_script.proofs.SoundFrames.{IsStep, AreSteps, IsFrame}
+use Rattle.script_requests.specs.Words.{BodyStep, Frame, IsFitLine, Variables, capability_of_line, capability_of_place, is_later_line, no_variables, pass_of, request_ahead, request_at, request_at_end, request_of}
+use Rattle.script_requests.specs.Steps.BodyStep.{Do, When}
+use Rattle.script_requests.proofs.SoundFrames.{IsStep, AreSteps, IsFrame}
 
 -- a state has the script's processes and threads
 pub record HasThreads (script : ScriptValue) (m : State) : Type 0 where

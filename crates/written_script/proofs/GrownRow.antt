@@ -6,10 +6,9 @@ use Rattle.line_reader.specs.Words.{attach_line, await_line, call_line, create_l
 use Rattle.script_line.specs.Words.{keyword_create_to_info, keyword_getn_to_end, keyword_getparam_to_detach, keyword_open_to_get}
 use Rattle.script_lang.specs.Words.{ScriptValue, line_read, line_spelling, parse_result, procedure_item, process_item, tables_of_lines, thread_item}
 use Rattle.written_kernel.specs.Words.{step}
+use Rattle.script_requests.specs.Words.{end_line_of, greatest_data, line_of, trace_text}
 use Rattle.written_script.specs.WorkedRuns.{grown_script, grown_trace, text_of_play, PlaysAs}
 use Rattle.written_script.specs.ScriptRuns.{run, turns_of_play, refusal}
-use Rattle.written_script.specs.TraceText.{trace_text, line_of, end_line_of}
-use Rattle.written_script.specs.Variables.{greatest_data}
 use Rattle.written_script.proofs.EchoScripts.{echo_with}
 
 abbrev grown_value : ScriptValue

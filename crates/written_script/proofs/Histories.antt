@@ -6,9 +6,9 @@ use Rattle.written_kernel.specs.Words.{IsOpening, State, Turn, is_runnable, stat
 use Rattle.written_kernel.specs.Opening.IsOpening.{processes, thread}
 use Rattle.written_kernel.proofs.Steps.{events-step}
 use Rattle.written_kernel.proofs.Opening.{opened}
-use Rattle.written_script.specs.Types.{ScriptThread}
+use Rattle.script_requests.specs.Types.{ScriptThread}
 use Rattle.script_lang.specs.Words.{ScriptValue as Script}
-use Rattle.written_script.specs.Requests.{Frame, frame_from, frame_after, frame_of, first_frame}
+use Rattle.script_requests.specs.Words.{Frame, first_frame, frame_after, frame_from, frame_of}
 use Rattle.written_script.specs.ScriptRuns.{History, first_history, request_at_turn, history_after, run, run_from, AreRunnableFrom, turns_from, turns_of, threads_of_events, opening_of, with_script_threads, limit_of, thread_of_event}
 
 pub run_from-append :

@@ -1,17 +1,11 @@
 pub mod Histories
 pub mod Plays
-pub mod WrittenOut
 pub mod EchoScripts
 pub mod EchoRow
 pub mod GrownRow
 pub mod BudgetRow
 pub mod RefusedRow
 pub mod LoopsRow
-pub mod FrameSteps
-pub mod TraceLemmas
-pub mod Elements
-pub mod SoundFrames
 pub mod FitRequests
 pub mod DeclaredStates
 pub mod RunTurns
-pub mod SoundScripts

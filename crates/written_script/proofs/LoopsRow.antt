@@ -12,10 +12,9 @@ use Rattle.script_line.specs.Words.{keyword_create_to_info, keyword_getn_to_end,
 use Rattle.script_lang.specs.declared.script.Part.TheVariants as part
 use Rattle.script_lang.specs.Words.{ScriptValue, line_read, line_spelling, parse_result, procedure_item, process_item, tables_of_lines, thread_item}
 use Rattle.written_kernel.specs.Words.{step}
+use Rattle.script_requests.specs.Words.{end_line_of, greatest_data, line_of, trace_text}
 use Rattle.written_script.specs.WorkedRuns.{loops_script, loops_trace, text_of_play, PlaysAs}
 use Rattle.written_script.specs.ScriptRuns.{run, turns_of_play, refusal}
-use Rattle.written_script.specs.TraceText.{trace_text, line_of, end_line_of}
-use Rattle.written_script.specs.Variables.{greatest_data}
 
 abbrev loops_body : List Line
 loops_body =

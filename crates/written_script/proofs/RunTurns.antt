@@ -4,7 +4,8 @@ use Rattle.std.specs.Prelude.{All}
 use Rattle.std.proofs.lemmas.Bool.{false≢true}
 use Rattle.std.proofs.lemmas.List.Elements.{All-nil, All-head, All-tail, All-push, All-weaker}
 use Rattle.std.proofs.lemmas.Option.{slice_get_within}
-use Rattle.written_kernel.specs.Types.{Event, Thread}
+use Rattle.dk_base.specs.declared.answer.Answer.TheVariants as answer
+use Rattle.written_kernel.specs.Types.{Answer, Event, Thread}
 use Rattle.written_kernel.specs.Words.{IsEntering, IsRun, MayTurn, State, can_go_on, event_of, invocation_of, is_runnable, is_running, new_thread, no_process, opening, process_in, process_of, state_in, step, thread_of, with_new_process, with_new_thread, with_processes}
 use Rattle.written_kernel.proofs.Lists.{numbered_within, numbered_there}
 use Rattle.written_kernel.proofs.Invocations.{new_invocation-step}
@@ -12,21 +13,17 @@ use Rattle.written_kernel.proofs.Opening.{opened, invocation_of-opening}
 use Rattle.written_kernel.proofs.Steps.{events-step, threads-step, processes-step, process_of-step}
 use Rattle.script_lang.specs.Types.{Line}
 use Rattle.script_line.specs.declared.line.Line.TheVariants as line
-use Rattle.written_script.specs.Types.{Procedure, ScriptProcess, ScriptThread}
+use Rattle.script_requests.specs.Types.{Procedure, ScriptProcess, ScriptThread}
 use Rattle.script_lang.specs.Words.{ScriptValue}
-use Rattle.written_script.specs.DeclaredNames.{IsNumberOf, IsThread, IsProcess, IsDeclaredAnswer, IsDeclaredEvent, IsDeclaredDoor, IsDeclared}
-use Rattle.written_script.specs.Later.{has_later_parts, is_later, is_later_line, is_later_thread, is_later_procedure, capability_of_spare}
-use Rattle.written_script.specs.Requests.{Frame, request_at, request_at_end, request_ahead, request_after, frame_after_answer, frame_after, frame_of}
+use Rattle.script_requests.specs.Words.{BodyStep, Frame, IsDeclaredAnswer, IsDeclaredDoor, IsDeclaredEvent, IsFitLine, IsNumberOf, IsPlayable, IsProcess, IsSound, IsSoundProcedure, IsSoundThread, IsThread, Variables, capability_of_spare, frame_after, frame_after_answer, frame_of, has_later_parts, is_later, is_later_line, is_later_procedure, is_later_thread, request_after, request_ahead, request_at, request_at_end}
+use Rattle.script_requests.specs.Steps.BodyStep.{Do, When}
+use Rattle.script_requests.proofs.Elements.{All-at_number, All-none}
+use Rattle.script_requests.proofs.SoundFrames.{IsStep, AreSteps, AreLines, IsFrame, frame_of-frame, frame_after_answer-procedure}
+use Rattle.written_script.specs.DeclaredRuns.{IsDeclared}
 use Rattle.written_script.specs.ScriptRuns.{History, limit_of, with_script_threads, opening_of, first_history, request_at_turn, history_after, run, run_from, AreRunnableFrom, IsAllowed, turns_from, turns_of}
-use Rattle.written_script.specs.Sound.{IsFitLine, IsSoundThread, IsSoundProcedure, IsSound, IsPlayable}
-use Rattle.written_script.specs.Steps.{BodyStep}
-use Rattle.written_script.specs.Steps.BodyStep.{Do, When}
-use Rattle.written_script.specs.Variables.{Variables}
 use Rattle.written_script.proofs.DeclaredStates.{IsKnown, MakesDeclared, AsksDeclared, step-known, root-declared, waiting-declared}
-use Rattle.written_script.proofs.Elements.{All-at_number, All-none}
 use Rattle.written_script.proofs.FitRequests.{HasThreads, IsFitSomewhere, fit-somewhere, IsBuiltLine, request-fit, request-built, request-inside}
 use Rattle.written_script.proofs.Histories.{frame_of-append, IsOpening-opening_of, events-run}
-use Rattle.written_script.proofs.SoundFrames.{IsStep, AreSteps, AreLines, IsFrame, frame_of-frame, frame_after_answer-procedure, entering-procedure}
 
 -- the lines of a sound script
 
@@ -127,6 +124,11 @@ frame_after-procedure script u f e h = by_test (e.thread.0 == u)
     by_test : (b : Bool) → (if b then frame_after_answer script f e.answer else f).procedure ≡ true
     by_test true = frame_after_answer-procedure script f e.answer h
     by_test false = h
+
+-- an answer that enters begins a procedure
+pub entering-procedure : (script : ScriptValue) (f : Frame) (a : Answer) → IsEntering a → (frame_after_answer script f a).procedure ≡ true
+entering-procedure script f (answer.Entered call entry cookie bytes fds) h = refl
+entering-procedure script f a h = absurd h
 
 frame_after-entering :
     (script : ScriptValue) (u : ℕ) (f : Frame) (e : Event) →

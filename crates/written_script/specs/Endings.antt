@@ -2,8 +2,8 @@
 use Rattle.std.specs.Prelude.{List, [], ◌∷◌, Option, Some, None, ℕ}
 use Rattle.written_kernel.specs.Types.{Tid}
 use Rattle.written_kernel.specs.Words.{State, least_runnable, waiting_threads}
-use Rattle.written_script.specs.declared.ending.Ending.{Ending}
-use Rattle.written_script.specs.declared.ending.Ending.TheVariants.{Complete, Stalled, Budget}
+use Rattle.script_requests.specs.declared.ending.Ending.{Ending}
+use Rattle.script_requests.specs.declared.ending.Ending.TheVariants.{Complete, Stalled, Budget}
 
 abbrev pub ending_waiting : List Tid → Ending
 ending_waiting [] = Complete

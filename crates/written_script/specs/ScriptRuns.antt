@@ -3,9 +3,9 @@ use Rattle.std.specs.Prelude.{ℕ, ◌≡◌, ◌≤◌, ◌||◌, List, [], ◌
 use Rattle.std.specs.Option.{option_map_or}
 use Rattle.written_kernel.specs.Types.{Event, Request, Tid}
 use Rattle.written_kernel.specs.Words.{State, Turn, event_of, is_runnable, is_running, least_runnable, opening, step, with_new_thread}
-use Rattle.written_script.specs.Types.{ScriptProcess, ScriptThread}
+use Rattle.script_requests.specs.Types.{ScriptProcess, ScriptThread}
 use Rattle.script_lang.specs.Words.{ScriptValue}
-use Rattle.written_script.specs.Requests.{request_after}
+use Rattle.script_requests.specs.Words.{request_after}
 
 abbrev pub limit_of : ScriptProcess → ℕ
 limit_of p = p.limit

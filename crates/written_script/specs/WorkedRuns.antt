@@ -1,8 +1,9 @@
 -- Scripts as text, and the texts of their runs.
 use Rattle.std.specs.Prelude.{ℕ, ◌≡◌, List, Option, Some, None, Ok, codes}
 use Rattle.script_lang.specs.Words.{ScriptValue, parse_result}
+use Rattle.script_requests.specs.Words.{refused_text}
 use Rattle.written_script.specs.ScriptRuns.{run, turns_of_play, Refusal, refusal, turns_before}
-use Rattle.written_script.specs.TraceText.{text_of_history, refused_text}
+use Rattle.written_script.specs.RunText.{text_of_history}
 
 abbrev pub text_up_to_refusal : ScriptValue → Option Refusal → List ℕ
 text_up_to_refusal script None = text_of_history script (run script (turns_of_play script))

@@ -1,30 +1,13 @@
-//! What the bodies and the runs of a spelled script keep. Nothing runs here: a function has no body, and a call of it hands
+//! What the runs of a spelled script keep. Nothing runs here: a function has no body, and a call of it hands
 //! its laws to the caller's proof.
 
 ghost use Rattle.std.specs.Prelude.{◌≡◌, ℕ, List, None, Some, length, true, false};
 ghost use Rattle.script_lang.specs.Words.{ScriptValue, spells};
-ghost use Rattle.script_lang.specs.Types.{Line};
 ghost use Rattle.written_kernel.specs.Words.{MayTurn, is_runnable};
-ghost use Rattle.written_script.specs.DeclaredNames.{IsDeclared};
-ghost use Rattle.written_script.specs.Later.{has_later_parts};
+ghost use Rattle.script_requests.specs.Words.{has_later_parts};
+ghost use Rattle.written_script.specs.DeclaredRuns.{IsDeclared};
 ghost use Rattle.written_script.specs.Plays.{IsWholePlay, IsRefusedPlay};
 ghost use Rattle.written_script.specs.ScriptRuns.{run, request_at_turn, IsAllowed, Refusal, refusal, turns_of_play};
-ghost use Rattle.written_script.specs.Sound.{IsSound};
-ghost use Rattle.written_script.specs.Steps.{steps_of_body};
-ghost use Rattle.written_script.specs.Trees.{Tree, IsTreeOf, HasTree, IsClosed, steps_of_tree};
-
-/// The steps of a body are those of the tree of its items with its loops copied, and every body whose blocks are closed
-/// has such a tree. Each body of a script that a text spells is one: `sound_scripts` says so.
-pub fn trees()
-    ensures copies { (body : List Line) (tree : Tree) → IsTreeOf body tree → steps_of_body body ≡ steps_of_tree tree }
-    ensures exist { (body : List Line) → IsClosed body → HasTree body }
-{}
-
-/// Whatever the bodies and the schedule of a spelled script name is declared, its counts are in range, every block of a
-/// body is closed in it, and a body makes doors of procedures of its own process alone.
-pub fn sound_scripts()
-    ensures { (text : List ℕ) (script : ScriptValue) → spells text script → IsSound script }
-{}
 
 /// Every thread, process and entry that the events of a run, their answers, the doors of its state and its waiting
 /// threads name is declared in the script.

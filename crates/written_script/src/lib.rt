@@ -1,7 +1,5 @@
-//! Which request a thread makes next, which run a script has, and how a run is written as text: definitions in `specs/`.
-//! No code but the type of a run's ending.
+//! Which runs a script has, and how a run is written as text: definitions in `specs/`. No code.
 #![tactic(auto)]
 
-pub mod ending;
 pub mod laws;
 pub mod worked_runs;

@@ -3,7 +3,7 @@ use Rattle.written_kernel.specs.Types.{Event, NoMemory, Tid}
 use Rattle.script_lang.specs.Words.{ScriptValue}
 use Rattle.thread_machine.specs.declared.machine.Machine.{Machine}
 use Rattle.thread_machine.specs.Words.{IsMachine, Stands}
-use Rattle.written_script.specs.Words.{Frame}
+use Rattle.script_requests.specs.Words.{Frame}
 use Rattle.sys_run.specs.Sys.{MachineStands}
 use Rattle.sys_run.proofs.turn.take_turn.Goals as goal
 

@@ -1,6 +1,6 @@
 use Rattle.std.proofs.Common.{◌∙◌, ap, sym, refl, ◌++◌, ◌∷◌, []}
 use Rattle.written_kernel.specs.Types.{Event}
-use Rattle.written_script.specs.Words.{frame_of}
+use Rattle.script_requests.specs.Words.{frame_of}
 use Rattle.sys_run.specs.Sys.{with_journal, state_of_run}
 use Rattle.sys_run.proofs.Machines.{stands-frame_after_answer}
 use Rattle.sys_run.proofs.Turns.{request_at_turn-history, may_turn-request_at_turn, entered-turn, kernel-after}

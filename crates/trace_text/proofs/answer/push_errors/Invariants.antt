@@ -1,6 +1,6 @@
 use Rattle.std.proofs.Common.{◌≡◌, ◌++◌, take}
 use Rattle.std.specs.Prelude.{flat_map}
-use Rattle.written_script.specs.Words.{spaced_error}
+use Rattle.script_requests.specs.Words.{spaced_error}
 use Rattle.trace_text.proofs.answer.push_errors.Given as goal
 
 abbrev pub invariant-loop-error : goal.invariant-loop-error

@@ -1,6 +1,6 @@
 use Rattle.std.proofs.Common.{◌≡◌, ◌++◌, take}
 use Rattle.std.specs.Prelude.{flat_map}
-use Rattle.written_script.specs.Words.{spaced_event}
+use Rattle.script_requests.specs.Words.{spaced_event}
 use Rattle.trace_text.proofs.answer.push_events.Given as goal
 
 abbrev pub invariant-loop-event : goal.invariant-loop-event

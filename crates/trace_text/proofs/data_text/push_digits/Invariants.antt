@@ -1,5 +1,5 @@
 use Rattle.std.proofs.Common.{◌≡◌, ◌++◌, take}
-use Rattle.written_script.specs.Words.{hex_text}
+use Rattle.script_requests.specs.Words.{hex_text}
 use Rattle.trace_text.proofs.data_text.push_digits.Given as goal
 
 abbrev pub invariant-loop-byte : goal.invariant-loop-byte

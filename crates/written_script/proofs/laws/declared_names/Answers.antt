@@ -1,5 +1,5 @@
+use Rattle.script_requests.proofs.SoundScripts.{sound-spelled}
 use Rattle.written_script.proofs.RunTurns.{run-declared}
-use Rattle.written_script.proofs.SoundScripts.{sound-spelled}
 use Rattle.written_script.proofs.laws.declared_names.Goals as goal
 
 pub returns : goal.returns

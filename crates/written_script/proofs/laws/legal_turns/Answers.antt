@@ -1,5 +1,5 @@
+use Rattle.script_requests.proofs.SoundScripts.{sound-spelled}
 use Rattle.written_script.proofs.RunTurns.{run-may_turn}
-use Rattle.written_script.proofs.SoundScripts.{sound-spelled}
 use Rattle.written_script.proofs.laws.legal_turns.Goals as goal
 
 pub returns : goal.returns

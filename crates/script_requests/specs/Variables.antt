@@ -1,6 +1,6 @@
 -- The variables of a frame, and what operands are by them.
 use Rattle.std.specs.Prelude.{ℕ, List, [], ◌∷◌, Option, Some, None, if◌then◌else◌, bytes_eq, flat_map, replicate, slice_get, take}
-use Rattle.written_kernel.specs.Types.{Answer, Fd, Pass}
+use Rattle.script_requests.specs.Types.{Answer, Fd, Pass}
 use Rattle.dk_base.specs.declared.answer.Answer.TheVariants as answer
 use Rattle.script_lang.specs.Types.{FdArg, Line, PassArg, Piece}
 use Rattle.script_line.specs.declared.line.FdArg.TheVariants.{Number, Of as OfFd}

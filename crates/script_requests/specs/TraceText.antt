@@ -1,16 +1,13 @@
 -- The text of a run: a line for each event, and the end line.
 use Rattle.std.specs.Prelude.{ℕ, List, [], ◌∷◌, ◌++◌, length, flat_map, codes, decimal}
 use Rattle.std.specs.List.{join_with_byte}
-use Rattle.written_kernel.specs.Types.{Event, Tid}
-use Rattle.written_kernel.specs.Words.{waiting_threads}
+use Rattle.script_requests.specs.Types.{Event, Tid}
 use Rattle.script_lang.specs.Words.{ScriptValue}
-use Rattle.written_script.specs.declared.ending.Ending.{Ending}
-use Rattle.written_script.specs.declared.ending.Ending.TheVariants.{Complete, Stalled, Budget}
-use Rattle.written_script.specs.AnswerText.{answer_text}
-use Rattle.written_script.specs.Endings.{ending_of}
-use Rattle.written_script.specs.ScriptRuns.{History}
-use Rattle.written_script.specs.TraceNames.{thread_name}
-use Rattle.written_script.specs.WhatWord.{what_word}
+use Rattle.script_requests.specs.declared.ending.Ending.{Ending}
+use Rattle.script_requests.specs.declared.ending.Ending.TheVariants.{Complete, Stalled, Budget}
+use Rattle.script_requests.specs.AnswerText.{answer_text}
+use Rattle.script_requests.specs.TraceNames.{thread_name}
+use Rattle.script_requests.specs.WhatWord.{what_word}
 
 -- `NUMBER THREAD ROOT WHAT ANSWER`
 unfoldable pub line_of : ScriptValue → Event → List ℕ
@@ -61,7 +58,3 @@ refused_line_of script turn thread = codes "refused turn " ++ decimal turn ++ sp
 -- the text of a run that ends before a refused turn
 unfoldable pub refused_text : ScriptValue → List Event → ℕ → Tid → List ℕ
 refused_text script events turn thread = lines_text script events ++ refused_line_of script turn thread ++ 10 ∷ []
-
--- the text of a run by its history: its end is told by the last state
-abbrev pub text_of_history : ScriptValue → History → List ℕ
-text_of_history script h = trace_text script h.events (ending_of h.state) (waiting_threads h.state)

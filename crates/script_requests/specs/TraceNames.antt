@@ -1,7 +1,7 @@
 -- The names that a trace shows, and the thread that a line of a trace names.
 use Rattle.std.specs.Prelude.{ℕ, Bool, ◌≡◌, ◌==◌, not, List, Option, Some, option_and_then, length, filter, slice_get}
 use Rattle.std.specs.List.{slice_split}
-use Rattle.written_kernel.specs.Types.{Tid}
+use Rattle.script_requests.specs.Types.{Tid}
 use Rattle.dk_base.specs.ByNumber.{at_number}
 use Rattle.script_line.specs.Words.{procedure_word, thread_number, thread_word}
 use Rattle.script_lang.specs.Words.{ScriptValue, tables_of}

@@ -1,6 +1,6 @@
 -- The word by which a trace shows the kernel entry, or the end of a wait, that an event is.
 use Rattle.std.specs.Prelude.{ℕ, List, codes}
-use Rattle.written_kernel.specs.Types.{What}
+use Rattle.script_requests.specs.Types.{What}
 use Rattle.dk_base.specs.declared.event.What.TheVariants.{Create, Call, Return, Revoke, Bind, Unbind, Info, GetParam, SetParam, Cred, TestCancel, Close, Dup, Attach, Detach, Open, Await, Pipe, Write, Read, PortCreate, Associate, Dissociate, Get, GetN, Send, SendN, Alert, Interrupt, Kill, Exit, Work, Accept, Collect, Got, Found, Done, Woken}
 
 abbrev pub what_word : What → List ℕ

@@ -5,10 +5,10 @@ use Rattle.capabilities.specs.Words.{capability_of}
 use Rattle.capabilities.specs.declared.table.TheConstants.{BUILT}
 use Rattle.script_lang.specs.Types.{Line}
 use Rattle.script_line.specs.declared.line.Line.TheVariants.{Call, Exit}
-use Rattle.written_script.specs.Types.{Procedure, ScriptThread}
+use Rattle.script_requests.specs.Types.{Procedure, ScriptThread}
 use Rattle.script_lang.specs.Words.{ScriptValue}
-use Rattle.written_script.specs.Requests.{request_at}
-use Rattle.written_script.specs.Variables.{no_variables}
+use Rattle.script_requests.specs.Requests.{request_at}
+use Rattle.script_requests.specs.Variables.{no_variables}
 
 -- What a line needs beside its request: a `call` in a procedure is a nested one, and with the command `exit` a thread can
 -- leave in mid-call.

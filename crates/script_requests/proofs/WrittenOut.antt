@@ -4,10 +4,10 @@ use Rattle.script_lang.specs.Types.{Cond, Kind, Line}
 use Rattle.script_line.specs.declared.line.Kind.TheVariants as kind
 use Rattle.script_line.specs.declared.line.Line.TheVariants.{Repeat, If, End}
 use Rattle.script_line.specs.Words.{depth_after, kind_of}
-use Rattle.written_script.specs.Steps.{BodyStep, blocks_of, innermost_block, outer_blocks, line_before, steps_of_body, times_of, tested_condition}
-use Rattle.written_script.specs.Steps.BodyStep.{Do}
-use Rattle.written_script.specs.Trees.{Tree, AreCommands, lines_of_tree, steps_of_tree, depth_with, depth_after_lines, IsClosed, IsTreeOf, HasTree}
-use Rattle.written_script.specs.Trees.Tree.{NoMore, Command, Loop, OnlyIf}
+use Rattle.script_requests.specs.Steps.{BodyStep, blocks_of, innermost_block, outer_blocks, line_before, steps_of_body, times_of, tested_condition}
+use Rattle.script_requests.specs.Steps.BodyStep.{Do}
+use Rattle.script_requests.specs.Trees.{Tree, AreCommands, lines_of_tree, steps_of_tree, depth_with, depth_after_lines, IsClosed, IsTreeOf, HasTree}
+use Rattle.script_requests.specs.Trees.Tree.{NoMore, Command, Loop, OnlyIf}
 
 -- the lines that open and close blocks
 

@@ -1,7 +1,8 @@
 -- What holds of each element of a list holds of those that are found in it.
-use Rattle.std.proofs.Common.{◌≡◌, ℕ, ◌-◌, ◌==◌, ◌||◌, List, [], ◌∷◌, Some, None, Bool, true, false, if◌then◌else◌, refl, subst}
+use Rattle.std.proofs.Common.{◌≡◌, ℕ, ◌≤◌, ◌-◌, ◌==◌, ◌||◌, List, [], ◌∷◌, Some, None, Bool, true, false, if◌then◌else◌, length, arith, refl, subst}
 use Rattle.std.specs.Prelude.{All, find, slice_get}
 use Rattle.std.specs.List.{list_any}
+use Rattle.std.proofs.lemmas.Bool.Decides.{nat_tests}
 use Rattle.std.proofs.lemmas.List.Elements.{All-nil, All-cons, All-head, All-tail}
 use Rattle.std.proofs.lemmas.Option.{slice_get_within, get_or_from_slice_get}
 use Rattle.dk_base.specs.ByNumber.{at_number}
@@ -23,6 +24,14 @@ All-find P p (y ∷ ys) x all e = by_test (All-find P p ys x (All-tail P y ys al
     by_test : (find p ys ≡ Some x → P x) → (b : Bool) → (if b then Some y else find p ys) ≡ Some x → P x
     by_test rest true h = let same : y ≡ x = cc in subst P same (All-head P y ys all)
     by_test rest false h = rest h
+
+-- a number that is there is one of the list's
+pub at_number-within : {X : Type 0} (xs : List X) (k : ℕ) (x : X) → at_number xs k ≡ Some x → (1 ≤ k) × (k ≤ length xs)
+at_number-within xs k x e = by_test (k == 0) refl e
+  where
+    by_test : (b : Bool) → (k == 0) ≡ b → (if b then None else slice_get xs (k - 1)) ≡ Some x → (1 ≤ k) × (k ≤ length xs)
+    by_test true zero h = cc
+    by_test false some h = grind (arith, nat_tests, slice_get_within xs (k - 1) x h)
 
 -- a test that no element passes
 pub All-none : {X : Type 0} (p : X → Bool) (xs : List X) → list_any p xs ≡ false → All (λ x. p x ≡ false) xs

@@ -4,8 +4,8 @@ use Rattle.script_lang.specs.Types.{Cond, Line}
 use Rattle.script_line.specs.declared.line.Kind.TheVariants.{Act}
 use Rattle.script_line.specs.declared.line.Line.TheVariants.{Repeat, If, End}
 use Rattle.script_line.specs.Words.{depth_after, kind_of}
-use Rattle.written_script.specs.Steps.{BodyStep, copies, tested_steps}
-use Rattle.written_script.specs.Steps.BodyStep.{Do}
+use Rattle.script_requests.specs.Steps.{BodyStep, copies, tested_steps}
+use Rattle.script_requests.specs.Steps.BodyStep.{Do}
 
 -- an item, and the items after it
 pub data Tree : Type 0 where

@@ -2,20 +2,18 @@
 use Rattle.std.proofs.Common.{◌≡◌, ℕ, List, [], ◌∷◌, ◌++◌, Option, Some, None, Bool, true, false, if◌then◌else◌, refl, zero, suc}
 use Rattle.std.specs.Prelude.{All, slice_get, ◌==◌}
 use Rattle.std.proofs.lemmas.List.Elements.{All-nil, All-cons, All-head, All-tail, All-append}
-use Rattle.written_kernel.specs.Types.{Answer, Event}
+use Rattle.script_requests.specs.Types.{Answer, Event, Procedure, ScriptThread}
 use Rattle.dk_base.specs.declared.answer.Answer.TheVariants as answer
 use Rattle.dk_base.specs.ByNumber.{at_number}
-use Rattle.written_kernel.specs.Words.{IsEntering}
 use Rattle.script_lang.specs.Types.{Cond, Kind, Line}
 use Rattle.script_line.specs.declared.line.Kind.TheVariants.{Act, Loop, Test, Closing}
 use Rattle.script_line.specs.Words.{kind_of}
-use Rattle.written_script.specs.Types.{Procedure, ScriptThread}
 use Rattle.script_lang.specs.Words.{ScriptValue}
-use Rattle.written_script.specs.Requests.{Frame, is_met, new_frame, first_frame_or_empty, first_frame, body_or_empty, procedure_body, procedure_frame, steps_after, frame_after_command, frame_after_answer, frame_after, frame_from, frame_of}
-use Rattle.written_script.specs.Steps.{BodyStep, copies, innermost_block, outer_blocks, before_innermost, tested_steps, line_before, blocks_of, steps_of_body, next_steps, times_of, tested_condition}
-use Rattle.written_script.specs.Steps.BodyStep.{Do, When}
-use Rattle.written_script.specs.Variables.{Variables}
-use Rattle.written_script.proofs.Elements.{All-slice_get, All-at_number}
+use Rattle.script_requests.specs.Requests.{Frame, is_met, new_frame, first_frame_or_empty, first_frame, body_or_empty, procedure_body, procedure_frame, steps_after, frame_after_command, frame_after_answer, frame_after, frame_from, frame_of}
+use Rattle.script_requests.specs.Steps.{BodyStep, copies, innermost_block, outer_blocks, before_innermost, tested_steps, line_before, blocks_of, steps_of_body, next_steps, times_of, tested_condition}
+use Rattle.script_requests.specs.Steps.BodyStep.{Do, When}
+use Rattle.script_requests.specs.Variables.{Variables}
+use Rattle.script_requests.proofs.Elements.{All-slice_get, All-at_number}
 
 -- a step that is a command of which P holds, or a test
 abbrev pub IsStep : (Line → Type 0) → BodyStep → Type 0
@@ -192,7 +190,3 @@ pub frame_after_answer-procedure : (script : ScriptValue) (f : Frame) (a : Answe
 frame_after_answer-procedure script f (answer.Entered call entry cookie bytes fds) h = refl
 frame_after_answer-procedure script f (answer.EnteredNotice notice entry cookie) h = refl
 frame_after_answer-procedure script f a h = h
-
-pub entering-procedure : (script : ScriptValue) (f : Frame) (a : Answer) → IsEntering a → (frame_after_answer script f a).procedure ≡ true
-entering-procedure script f (answer.Entered call entry cookie bytes fds) h = refl
-entering-procedure script f a h = absurd h

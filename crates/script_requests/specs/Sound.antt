@@ -2,11 +2,11 @@
 use Rattle.std.specs.Prelude.{ℕ, ◌≡◌, ◌≤◌, Some, false, length, slice_get, All}
 use Rattle.script_lang.specs.Types.{Line}
 use Rattle.script_line.specs.declared.line.Line.TheVariants.{Create, Read, GetN, Interrupt, Kill}
-use Rattle.written_script.specs.Types.{Procedure, ScriptThread}
+use Rattle.script_requests.specs.Types.{Procedure, ScriptThread}
 use Rattle.script_lang.specs.Words.{ScriptValue}
-use Rattle.written_script.specs.DeclaredNames.{IsThread, IsProcess, IsDeclaredThread}
-use Rattle.written_script.specs.Later.{has_later_parts}
-use Rattle.written_script.specs.Trees.{IsClosed}
+use Rattle.script_requests.specs.DeclaredNames.{IsThread, IsProcess, IsDeclaredThread}
+use Rattle.script_requests.specs.Later.{has_later_parts}
+use Rattle.script_requests.specs.Trees.{IsClosed}
 use Rattle.dk_base.specs.declared.limits.TheConstants.{DATA_MAX, ANSWER_ITEMS_MAX, PROCESSES_MAX, THREADS_MAX, BUDGET_MAX}
 
 -- an entry is that of a procedure of this process

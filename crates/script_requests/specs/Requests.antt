@@ -2,18 +2,17 @@
 -- variables that were set in it.
 use Rattle.std.specs.Prelude.{ℕ, ◌==◌, List, [], ◌∷◌, Option, Some, None, Bool, true, false, if◌then◌else◌, bytes_eq, codes, decimal, map, slice_get}
 use Rattle.dk_base.specs.Words.{errno_name}
-use Rattle.written_kernel.specs.Types.{Answer, Errno, Event, Request}
+use Rattle.script_requests.specs.Types.{Answer, Errno, Event, Procedure, Request, ScriptThread}
 use Rattle.dk_base.specs.declared.answer.Answer.TheVariants as answer
 use Rattle.dk_base.specs.declared.request.Request.TheVariants as request
 use Rattle.dk_base.specs.ByNumber.{at_number}
 use Rattle.script_lang.specs.Types.{Cond, Line}
 use Rattle.script_line.specs.declared.line.Cond.TheVariants.{Good, Yes, Unref, Errno as Failed}
 use Rattle.script_line.specs.declared.line.Line.TheVariants as line
-use Rattle.written_script.specs.Types.{Procedure, ScriptThread}
 use Rattle.script_lang.specs.Words.{ScriptValue}
-use Rattle.written_script.specs.Steps.{BodyStep, steps_of_body, next_steps}
-use Rattle.written_script.specs.Steps.BodyStep.{Do}
-use Rattle.written_script.specs.Variables.{Value, Variables, empty_value, with_bytes, with_both, no_variables, set_variable, set_each, vars_of, values_of, fd_of, pass_of, data_of}
+use Rattle.script_requests.specs.Steps.{BodyStep, steps_of_body, next_steps}
+use Rattle.script_requests.specs.Steps.BodyStep.{Do}
+use Rattle.script_requests.specs.Variables.{Value, Variables, empty_value, with_bytes, with_both, no_variables, set_variable, set_each, vars_of, values_of, fd_of, pass_of, data_of}
 
 pub record Frame : Type 0 where
   -- what is ahead, from the command on that the thread is at

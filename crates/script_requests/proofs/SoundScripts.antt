@@ -5,24 +5,23 @@ use Rattle.std.proofs.lemmas.Bool.{false≢true}
 use Rattle.std.proofs.lemmas.List.{length-map}
 use Rattle.std.proofs.lemmas.List.Elements.{All-nil, All-cons, All-append, All-weaker}
 use Rattle.std.proofs.lemmas.Option.{slice_get-map}
-use Rattle.written_kernel.specs.Types.{Attrs, Pid, Tid}
+use Rattle.script_requests.specs.Types.{Attrs, Pid, ScriptLine, ScriptPlace, ScriptThread, Tid}
 use Rattle.dk_base.specs.ByNumber.{at_number}
-use Rattle.written_kernel.proofs.Lists.{numbered_within}
 use Rattle.script_text.specs.Words.{lines_of, words_of}
 use Rattle.script_lang.specs.Types.{FdArg, Kind, Line}
 use Rattle.script_line.specs.declared.line.Kind.TheVariants as kind
 use Rattle.script_line.specs.declared.line.Line.TheVariants as line
 use Rattle.script_line.specs.Words.{Each, Ends, ProcedureName, SpellsLine, SpellsThread, Tables, depth_after, kind_of, qualified_name}
-use Rattle.written_script.specs.Types.{ScriptLine, ScriptPlace, ScriptThread}
 use Rattle.script_lang.specs.declared.item.ScriptLine.TheVariants.{Budget, Process, Spare, Thread, Procedure, Do, Schedule}
 use Rattle.script_lang.specs.declared.item.ScriptPlace.TheVariants.{Members, Body}
 use Rattle.script_lang.specs.declared.script.Procedure.{Procedure as ScriptProcedure}
 use Rattle.script_lang.specs.Words.{ContextValue, ScriptValue, SpellsLines, SpellsScript, SpellsScriptLine, SpellsScriptLines, before_line, body_from, budget_from, context_after, context_at_depth, context_with_variables, first_context, is_closed, is_closed_place, is_of_place, name_of_procedure, procedures_from, process_of_item, script_of_items, spells, tables_of, threads_from, turns_of_item}
 use Rattle.script_lang.proofs.SpelledItems.{along}
 use Rattle.script_lang.proofs.TablesOfItems.{FewFollow, few_follow, few_before}
-use Rattle.written_script.specs.DeclaredNames.{IsNumberOf, IsDeclaredThread}
-use Rattle.written_script.specs.Sound.{IsEntryOf, IsFitLine, IsSoundThread, IsSoundProcedure, IsSound}
-use Rattle.written_script.specs.Trees.{depth_after_lines, IsClosed}
+use Rattle.script_requests.specs.DeclaredNames.{IsNumberOf, IsDeclaredThread}
+use Rattle.script_requests.specs.Sound.{IsEntryOf, IsFitLine, IsSoundThread, IsSoundProcedure, IsSound}
+use Rattle.script_requests.specs.Trees.{depth_after_lines, IsClosed}
+use Rattle.script_requests.proofs.Elements.{at_number-within}
 
 -- words that spell a line in a process
 pub record HasWords (tables : Tables) (of : ℕ) (x : Line) : Type 0 where
@@ -77,7 +76,7 @@ getn-fit script of port most least wait (keyword ∷ from ∷ number ∷ words) 
 
 -- a number that a table has a name under
 named-within : {X : Type 0} (f : X → List ℕ) (xs : List X) (n : ℕ) (name : List ℕ) → at_number (map f xs) n ≡ Some name → IsNumberOf (length xs) n
-named-within f xs n name e = let same : length (map f xs) ≡ length xs = length-map xs f in rw same at (numbered_within (map f xs) n name e)
+named-within f xs n name e = let same : length (map f xs) ≡ length xs = length-map xs f in rw same at (at_number-within (map f xs) n name e)
 
 interrupt-fit :
     (script : ScriptValue) (of : ℕ) (thread : Tid) (words : List (List ℕ)) →

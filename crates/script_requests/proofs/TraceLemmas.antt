@@ -1,10 +1,10 @@
 -- How the text of a run grows with its events.
 use Rattle.std.proofs.Common.{◌≡◌, ℕ, List, [], ◌∷◌, ◌++◌, length, refl, sym, append_assoc, append-nil, ap, ◌∙◌}
 use Rattle.std.proofs.lemmas.List.Concat.{flat_map-append}
-use Rattle.written_kernel.specs.Types.{Event, Tid}
+use Rattle.script_requests.specs.Types.{Event, Tid}
 use Rattle.script_lang.specs.Words.{ScriptValue}
-use Rattle.written_script.specs.declared.ending.Ending.{Ending}
-use Rattle.written_script.specs.TraceText.{line_of, whole_line, lines_text, end_line_of, trace_text}
+use Rattle.script_requests.specs.declared.ending.Ending.{Ending}
+use Rattle.script_requests.specs.TraceText.{line_of, whole_line, lines_text, end_line_of, trace_text}
 
 -- one more event adds its line and an LF
 pub lines_text-push : (script : ScriptValue) (events : List Event) (event : Event) → lines_text script (events ++ event ∷ []) ≡ lines_text script events ++ line_of script event ++ 10 ∷ []

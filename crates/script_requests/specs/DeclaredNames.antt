@@ -1,10 +1,8 @@
 -- Which threads, processes and entries a script declares, and which events and doors name only such.
-use Rattle.std.specs.Prelude.{ℕ, ◌≤◌, ◌<◌, length, Option, Some, None, All}
-use Rattle.written_kernel.specs.Types.{Answer, Door, Event, Pid, Tid}
+use Rattle.std.specs.Prelude.{ℕ, ◌≤◌, ◌<◌, length, Option, Some, None}
+use Rattle.script_requests.specs.Types.{Answer, Door, Event, Pid, Tid}
 use Rattle.dk_base.specs.declared.answer.Answer.TheVariants.{Info, Client, Entered, EnteredNotice}
-use Rattle.written_kernel.specs.Words.{waiting_threads}
 use Rattle.script_lang.specs.Words.{ScriptValue}
-use Rattle.written_script.specs.ScriptRuns.{History}
 
 -- a number of one of so many, which are counted from 1
 abbrev pub IsNumberOf : ℕ → ℕ → Type 0
@@ -43,9 +41,3 @@ pub record IsDeclaredDoor (script : ScriptValue) (d : Door) : Type 0 where
 
 abbrev pub IsDeclaredThread : ScriptValue → Tid → Type 0
 IsDeclaredThread script t = IsThread script t.0
-
--- whatever a history names is declared
-pub record IsDeclared (script : ScriptValue) (h : History) : Type 0 where
-  pub events : All (IsDeclaredEvent script) h.events
-  pub doors : All (IsDeclaredDoor script) h.state.doors
-  pub waiting : All (IsDeclaredThread script) (waiting_threads h.state)

@@ -4,9 +4,9 @@ use Rattle.std.specs.Prelude.{Bool, if◌then◌else◌}
 use Rattle.script_lang.specs.Types.{Cond, Kind, Line}
 use Rattle.script_line.specs.declared.line.Kind.TheVariants.{Act, Loop, Test, Closing}
 use Rattle.script_line.specs.Words.{kind_of}
-use Rattle.written_script.specs.Steps.{BodyStep, copies, innermost_block, outer_blocks, line_before, blocks_of, steps_of_body, next_steps, times_of}
-use Rattle.written_script.specs.Steps.BodyStep.{Do, When}
-use Rattle.written_script.specs.Requests.{steps_after}
+use Rattle.script_requests.specs.Steps.{BodyStep, copies, innermost_block, outer_blocks, line_before, blocks_of, steps_of_body, next_steps, times_of}
+use Rattle.script_requests.specs.Steps.BodyStep.{Do, When}
+use Rattle.script_requests.specs.Requests.{steps_after}
 
 -- the commands among these steps
 abbrev pub AllSteps : (Line → Type 0) → List BodyStep → Type 0

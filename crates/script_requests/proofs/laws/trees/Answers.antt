@@ -1,5 +1,5 @@
-use Rattle.written_script.proofs.WrittenOut.{tree-copies, nested-tree}
-use Rattle.written_script.proofs.laws.trees.Goals as goal
+use Rattle.script_requests.proofs.WrittenOut.{tree-copies, nested-tree}
+use Rattle.script_requests.proofs.laws.trees.Goals as goal
 
 pub returns-clause-copies : goal.returns-clause-copies
 returns-clause-copies c = tree-copies

@@ -2,13 +2,13 @@
 use Rattle.std.specs.Prelude.{ℕ, Bool, true, false, List, [], ◌∷◌, ◌++◌, length, flat_map, codes, decimal, Option, Some, None}
 use Rattle.std.specs.List.{join_with_byte}
 use Rattle.dk_base.specs.Words.{errno_name}
-use Rattle.written_kernel.specs.Types.{Answer, Attrs, DoorInfo, Errno, EventRec, Fd, Pid, Src}
+use Rattle.script_requests.specs.Types.{Answer, Attrs, DoorInfo, Errno, EventRec, Fd, Pid, Src}
 use Rattle.dk_base.specs.declared.object.Src.TheVariants.{Fd as FromFd, User, Alert}
 use Rattle.dk_base.specs.declared.answer.Answer.TheVariants.{Wait, WaitCall, Done, NewFd, TwoFds, Count, Available, Param, Info, Client, Cancel, Data, Entered, EnteredNotice, EnterFailed, Results, OneEvent, Events, Errors, Failure}
 use Rattle.script_line.specs.Words.{attribute_words, poll_word, value_word}
 use Rattle.script_lang.specs.Words.{ScriptValue}
-use Rattle.written_script.specs.DataText.{data_text}
-use Rattle.written_script.specs.TraceNames.{procedure_name}
+use Rattle.script_requests.specs.DataText.{data_text}
+use Rattle.script_requests.specs.TraceNames.{procedure_name}
 
 abbrev pub spaced_fd : Fd → List ℕ
 spaced_fd fd = codes " " ++ decimal fd.0

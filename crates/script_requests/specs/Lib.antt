@@ -1,0 +1,15 @@
+pub mod Types
+pub mod Steps
+pub mod Trees
+pub mod Variables
+pub mod Requests
+pub mod Later
+pub mod DeclaredNames
+pub mod Sound
+pub mod Digest
+pub mod DataText
+pub mod TraceNames
+pub mod WhatWord
+pub mod AnswerText
+pub mod TraceText
+pub mod Words

@@ -1,0 +1,21 @@
+-- The types that the crates below declare, from one place, for the definitions here and above.
+pub use Rattle.dk_base.specs.declared.answer.Answer.{Answer}
+pub use Rattle.dk_base.specs.declared.answer.DoorInfo.{DoorInfo}
+pub use Rattle.dk_base.specs.declared.error.Errno.{Errno}
+pub use Rattle.dk_base.specs.declared.event.Event.{Event}
+pub use Rattle.dk_base.specs.declared.event.What.{What}
+pub use Rattle.dk_base.specs.declared.number.Fd.{Fd}
+pub use Rattle.dk_base.specs.declared.number.Pid.{Pid}
+pub use Rattle.dk_base.specs.declared.number.Tid.{Tid}
+pub use Rattle.dk_base.specs.declared.object.EventRec.{EventRec}
+pub use Rattle.dk_base.specs.declared.object.Pass.{Pass}
+pub use Rattle.dk_base.specs.declared.object.Src.{Src}
+pub use Rattle.dk_base.specs.declared.record.Door.{Door}
+pub use Rattle.dk_base.specs.declared.request.Request.{Request}
+pub use Rattle.dk_base.specs.declared.set.Attrs.{Attrs}
+pub use Rattle.script_lang.specs.declared.bad.Bad.{Bad}
+pub use Rattle.script_lang.specs.declared.item.ScriptLine.{ScriptLine}
+pub use Rattle.script_lang.specs.declared.item.ScriptPlace.{ScriptPlace}
+pub use Rattle.script_lang.specs.declared.script.Procedure.{Procedure}
+pub use Rattle.script_lang.specs.declared.script.ScriptProcess.{ScriptProcess}
+pub use Rattle.script_lang.specs.declared.script.ScriptThread.{ScriptThread}
