@@ -1,8 +1,8 @@
 -- Runs of a script, one turn more at the end.
-use Rattle.std.proofs.Common.{◌≡◌, ℕ, ◌+◌, List, [], ◌∷◌, ◌++◌, length, true, arith, refl, ap, suc}
+use Rattle.std.proofs.Common.{◌≡◌, ℕ, ◌+◌, List, [], ◌∷◌, ◌++◌, length, true, arith, refl, sym, ap, ◌∙◌, suc, append-nil, append_assoc}
 use Rattle.std.specs.Prelude.{map}
 use Rattle.written_kernel.specs.Types.{Event}
-use Rattle.written_kernel.specs.Words.{IsOpening, State, Turn, is_runnable, state_after}
+use Rattle.written_kernel.specs.Words.{IsOpening, State, Turn, event_of, events_of, is_runnable, state_after}
 use Rattle.written_kernel.specs.Opening.IsOpening.{processes, thread}
 use Rattle.written_kernel.proofs.Steps.{events-step}
 use Rattle.written_kernel.proofs.Opening.{opened}
@@ -46,6 +46,27 @@ pub state_after-turns_of :
     (script : Script) (ts : List ℕ) → state_after (opening_of script) (turns_of script ts) ≡ (run script ts).state
 unfolding run
 state_after-turns_of script ts = state_after-turns_from script ts (first_history script)
+
+events_of-turns_from :
+    (script : Script) (ts : List ℕ) (h : History) →
+    (run_from script h ts).events ≡ h.events ++ events_of h.state (turns_from script h ts)
+events_of-turns_from script [] h = sym (append-nil h.events)
+events_of-turns_from script (u ∷ us) h =
+    let next = history_after script h u
+    in events_of-turns_from script us next
+    ∙ append_assoc h.events (event_of h.state u (request_at_turn script h u) ∷ []) (events_of next.state (turns_from script next us))
+
+pub events_of-turns_of :
+    (script : Script) (ts : List ℕ) → (run script ts).events ≡ events_of (opening_of script) (turns_of script ts)
+unfolding run
+events_of-turns_of script ts = events_of-turns_from script ts (first_history script)
+
+length-turns_from : (script : Script) (ts : List ℕ) (h : History) → length (turns_from script h ts) ≡ length ts
+length-turns_from script [] h = refl
+length-turns_from script (u ∷ us) h = ap suc (length-turns_from script us (history_after script h u))
+
+pub length-turns_of : (script : Script) (ts : List ℕ) → length (turns_of script ts) ≡ length ts
+length-turns_of script ts = length-turns_from script ts (first_history script)
 
 pub AreRunnableFrom-append :
     (script : Script) (ts : List ℕ) (h : History) (t : ℕ) →

@@ -3,11 +3,11 @@
 
 ghost use Rattle.std.specs.Prelude.{◌≡◌, ℕ, List, None, Some, length, true, false};
 ghost use Rattle.script_lang.specs.Words.{ScriptValue, spells};
-ghost use Rattle.written_kernel.specs.Words.{MayTurn, is_runnable};
+ghost use Rattle.written_kernel.specs.Words.{MayTurn, events_of, is_runnable, state_after};
 ghost use Rattle.script_requests.specs.Words.{has_later_parts};
 ghost use Rattle.written_script.specs.DeclaredRuns.{IsDeclared};
 ghost use Rattle.written_script.specs.Plays.{IsWholePlay, IsRefusedPlay};
-ghost use Rattle.written_script.specs.ScriptRuns.{run, request_at_turn, IsAllowed, Refusal, refusal, turns_of_play};
+ghost use Rattle.written_script.specs.ScriptRuns.{run, request_at_turn, IsAllowed, Refusal, opening_of, refusal, turns_of, turns_of_play};
 
 /// Every thread, process and entry that the events of a run, their answers, the doors of its state and its waiting
 /// threads name is declared in the script.
@@ -27,4 +27,12 @@ pub fn played_turns()
     ensures whole { (script : ScriptValue) → refusal script ≡ None → IsWholePlay script (turns_of_play script) }
     ensures refused { (script : ScriptValue) (refused : Refusal) → refusal script ≡ Some refused → IsRefusedPlay script refused }
     ensures counted { (script : ScriptValue) (ts : List ℕ) → length (run script ts).events ≡ length ts }
+{}
+
+/// The state and the events of a run are those of its turns from the script's opening state, one turn for each thread of the
+/// list. So the laws of turns speak of the lines that a run prints.
+pub fn turns_of_runs()
+    ensures state { (script : ScriptValue) (ts : List ℕ) → (run script ts).state ≡ state_after (opening_of script) (turns_of script ts) }
+    ensures events { (script : ScriptValue) (ts : List ℕ) → (run script ts).events ≡ events_of (opening_of script) (turns_of script ts) }
+    ensures counted { (script : ScriptValue) (ts : List ℕ) → length (turns_of script ts) ≡ length ts }
 {}
