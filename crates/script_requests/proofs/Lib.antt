@@ -1,6 +1,4 @@
 pub mod WrittenOut
-pub mod FrameSteps
-pub mod TraceLemmas
 pub mod Elements
 pub mod SoundFrames
 pub mod SoundScripts
