@@ -1,5 +1,4 @@
-//! Types that every layer of Weldozig speaks of: numbers, sets, lists, requests, answers, events, the records of the
-//! written state, and the outside.
+//! Types that every layer of Weldozig speaks of: numbers, sets, lists, requests, answers, events, and the outside.
 #![tactic(auto)]
 
 pub mod answer;
@@ -13,7 +12,6 @@ pub mod memory;
 pub mod number;
 pub mod object;
 pub mod outside;
-pub mod record;
 pub mod request;
 pub mod set;
 pub mod standard;

@@ -5,8 +5,7 @@ use dk_base::duplicate::Duplicate;
 use dk_base::exact::Exact;
 use dk_base::list::{Bytes, PassList, Sequence, TidList};
 use dk_base::number::Tid;
-use dk_base::record::ThreadState;
-use dk_base::request::{Op, Request};
+use dk_base::request::Request;
 use std::alloc::Global;
 use std::test::Fail;
 
@@ -42,23 +41,6 @@ fn an_answer_is_copied(rt: HostRuntime) -> Result<(), Fail> {
     let alloc = rt.alloc();
     let bytes = Bytes::from_slice(alloc, b"hi")?;
     assert!(rt; is_answer_copied(alloc, &Answer::Data { bytes }));
-    Ok(())
-}
-
-fn has_state_bytes(state: &ThreadState) -> bool {
-    matches!(state, ThreadState::Working { input, .. } if input.slice() == b"hi".as_slice())
-}
-
-fn is_state_copied(alloc: Global, state: &ThreadState) -> bool {
-    matches!(state.copy(alloc), Ok(copy) if has_state_bytes(&copy))
-}
-
-#[test]
-fn a_state_is_copied(rt: HostRuntime) -> Result<(), Fail> {
-    let alloc = rt.alloc();
-    let input = Bytes::from_slice(alloc, b"hi")?;
-    let op = Op::Upper;
-    assert!(rt; is_state_copied(alloc, &ThreadState::Working { op, input }));
     Ok(())
 }
 

@@ -7,8 +7,8 @@ use Rattle.dk_base.specs.declared.error.Errno.TheVariants.{EBADF, E2BIG, EAGAIN}
 use Rattle.dk_base.specs.declared.object.Obj.TheVariants as obj
 use Rattle.dk_base.specs.declared.object.Item.TheVariants as item
 use Rattle.dk_base.specs.declared.request.Request.TheVariants as request
-use Rattle.dk_base.specs.declared.record.ThreadState.TheVariants as is
-use Rattle.dk_base.specs.declared.record.CallStage.TheVariants as stage
+use Rattle.kernel_records.specs.declared.record.ThreadState.TheVariants as is
+use Rattle.kernel_records.specs.declared.record.CallStage.TheVariants as stage
 use Rattle.dk_base.specs.ByNumber.{at_number}
 use Rattle.written_kernel.specs.Words.{ActResult, Parked, State, Waiting, accept, accept_call, act, answer_call, at_stage, attach, attach_object, attach_unless, await, await_name, call, call_object, call_of, call_refusal, call_unless, client, collect, collect_at, collect_call, create, create_at, end_await, end_process, end_thread, ended_call, ended_thread, enter, enter_call, exit, give_call, give_each, give_item, give_notice, give_to, go_on, is_call, is_last, is_owned, is_queued, is_valid, lowest_free, name_of, new_call, new_door, new_invocation, new_name, no_act, now, object_at, open_at, open_call, open_name, open_path, park, pick, pool_of, process_of, queue_length, refused_act, return, return_for, return_to, settle, state_of, table_of, thread_of, tid, waiting_items, with_call, with_closed_table, with_door, with_ended, with_ended_calls, with_ended_threads, with_invocation, with_invocation_in, with_live_call, with_name, with_new_call, with_row, with_state, with_state_in, with_thread, without_arguments_at}
 use Rattle.written_kernel.proofs.Lists.{length-with_at_number}

@@ -7,7 +7,7 @@ use Rattle.std.proofs.lemmas.List.Quantifiers.{position-Some}
 use Rattle.written_kernel.specs.Types.{Call, Tid}
 use Rattle.dk_base.specs.ByNumber.{at_number}
 use Rattle.written_kernel.specs.Words.{State, at_stage, call_of, give_call, is_call, with_live_call}
-use Rattle.dk_base.specs.declared.record.CallStage.TheVariants.{Given}
+use Rattle.kernel_records.specs.declared.record.CallStage.TheVariants.{Given}
 
 pub numbered_here : {X : Type 0} (xs : List X) (n : ℕ) (d : X) → 0 < n → n - 1 < length xs → at_number xs n ≡ Some (get_or xs (n - 1) d)
 numbered_here xs n d p h = let e = slice_get-get_or xs (n - 1) d h in grind (arith, nat_tests)

@@ -2,7 +2,7 @@
 use Rattle.std.specs.Prelude.{Option, Some, None, [], length, nat_lt}
 use Rattle.written_kernel.specs.Types.{Answer, Call, CallStage}
 use Rattle.dk_base.specs.declared.answer.Answer.TheVariants as answer
-use Rattle.dk_base.specs.declared.record.CallStage.TheVariants as stage
+use Rattle.kernel_records.specs.declared.record.CallStage.TheVariants as stage
 use Rattle.written_kernel.specs.Words.{State, with_call, without_arguments_at}
 
 abbrev pub with_call_at_stage : State → CallStage → Option Call → State

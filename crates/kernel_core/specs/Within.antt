@@ -2,7 +2,7 @@
 use Rattle.std.specs.Prelude.{◌≤◌, length, List, [], ◌∷◌}
 use Rattle.written_kernel.specs.Types.{Answer, Call, CallStage}
 use Rattle.dk_base.specs.declared.answer.Answer.TheVariants as answer
-use Rattle.dk_base.specs.declared.record.CallStage.TheVariants as stage
+use Rattle.kernel_records.specs.declared.record.CallStage.TheVariants as stage
 use Rattle.dk_base.specs.declared.limits.TheConstants.{DATA_MAX, EVENTS_MAX, PASS_MAX, ANSWER_ITEMS_MAX}
 use Rattle.written_kernel.specs.Words.{State}
 

@@ -9,7 +9,7 @@ use crate::store::Store;
 use dk_base::answer::Answer;
 use dk_base::error::NoMemory;
 use dk_base::number::{Pid, Tid};
-use dk_base::record::ThreadState;
+use kernel_records::record::ThreadState;
 use dk_base::request::Request;
 use std::alloc::Global;
 

@@ -7,7 +7,7 @@ use dk_base::answer::Answer;
 use dk_base::error::{Errno, NoMemory};
 use dk_base::number::{Fd, PathId, Pid, Tid};
 use dk_base::object::Obj;
-use dk_base::record::ThreadState;
+use kernel_records::record::ThreadState;
 
 /// fattach(3C): EBADF, EINVAL for what is no door, or EBUSY.
 pub fn attach(store: &mut Store, p: Pid, fd: Fd, path: PathId) -> Result<Answer, NoMemory>

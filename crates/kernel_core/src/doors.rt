@@ -12,7 +12,7 @@ use dk_base::limits::{DATA_MAX, QUEUE_MAX};
 use dk_base::list::{Bytes, FdList, ObjList};
 use dk_base::number::{Fd, Pid, Tid};
 use dk_base::object::{Inv, Item, Obj};
-use dk_base::record::{Call, CallStage, ThreadState};
+use kernel_records::record::{Call, CallStage, ThreadState};
 use dk_base::set::Attrs;
 use std::alloc::Global;
 

@@ -14,7 +14,7 @@ use dk_base::event::Stepped;
 use dk_base::limits::THREADS_MAX;
 use dk_base::list::IdList;
 use dk_base::number::{Pid, Tid};
-use dk_base::record::ThreadState;
+use kernel_records::record::ThreadState;
 use dk_base::request::Request;
 use std::alloc::Global;
 use std::marker::Model;

@@ -4,7 +4,7 @@ ghost use Rattle.written_kernel.specs.Words.{end_process, end_thread, exit};
 use crate::store::Store;
 use dk_base::answer::Answer;
 use dk_base::number::{Pid, Tid};
-use dk_base::record::ThreadState;
+use kernel_records::record::ThreadState;
 use std::alloc::Global;
 
 fn end_thread(store: &mut Store, t: Tid)

@@ -6,7 +6,7 @@ ghost use Rattle.kernel_core.specs.PoolViews.{pool_view, parked_view};
 use crate::store::Store;
 use dk_base::number::{Pid, Tid};
 use dk_base::object::Item;
-use dk_base::record::{Door, ThreadState};
+use kernel_records::record::{Door, ThreadState};
 use dk_base::set::Attrs;
 
 /// The threads that serve a door: a private door has a pool of its own, the other doors of a process share one

@@ -13,7 +13,7 @@ use dk_base::event::Stepped;
 use dk_base::list::Room;
 use dk_base::number::Tid;
 use dk_base::object::Item;
-use dk_base::record::ThreadState;
+use kernel_records::record::ThreadState;
 use std::alloc::Global;
 
 /// An item to a thread.

@@ -2,7 +2,7 @@ ghost use Rattle.std.specs.Prelude.{◌≡◌};
 ghost use Rattle.written_kernel.specs.Words.{is_active, is_live, is_queued, is_running_state, is_to_collect, is_with};
 
 use dk_base::number::Tid;
-use dk_base::record::{CallStage, ThreadState};
+use kernel_records::record::{CallStage, ThreadState};
 
 /// Whether a call is neither answered nor left by a caller that ended.
 pub fn is_live(stage: &CallStage) -> bool

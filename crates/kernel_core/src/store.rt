@@ -1,6 +1,6 @@
 ghost use Rattle.std.specs.Prelude.{◌≡◌, ◌+◌, ◌<◌, ◌≤◌, Option, [], length};
 ghost use Rattle.std.specs.Option.{option_copied};
-ghost use Rattle.dk_base.specs.declared.record.ThreadState.TheVariants.{Done};
+ghost use Rattle.kernel_records.specs.declared.record.ThreadState.TheVariants.{Done};
 ghost use Rattle.dk_base.specs.declared.limits.TheConstants.{THREADS_MAX, EVENTS_MAX};
 ghost use Rattle.dk_base.specs.ByNumber.{at_number};
 ghost use Rattle.written_kernel.specs.Words.{State, bound_of, door_of, invocation_of, is_live_process, is_valid, lowest_free, name_of, no_process, now, object_at, process_of, state_of, table_of, with_event_counted, with_invocation, with_row, with_state};
@@ -12,7 +12,7 @@ mod ending;
 use crate::table::Table;
 use dk_base::number::{Fd, PathId, Pid, Tid};
 use dk_base::object::{Inv, Obj};
-use dk_base::record::{Call, Door, Name, Process, ProcessStage, Thread, ThreadState};
+use kernel_records::record::{Call, Door, Name, Process, ProcessStage, Thread, ThreadState};
 use std::alloc::Global;
 use std::marker::Model;
 

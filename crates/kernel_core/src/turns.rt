@@ -5,7 +5,7 @@ ghost use Rattle.std.specs.Option.{option_map};
 use crate::stage::{is_running_state, is_to_collect};
 use crate::store::Store;
 use dk_base::number::Tid;
-use dk_base::record::ThreadState;
+use kernel_records::record::ThreadState;
 
 /// Whether a call has what its caller can collect.
 pub fn has_answer(store: &Store, c: u32) -> bool

@@ -5,15 +5,15 @@ use native.Mathlib.Omega.{arith}
 use Rattle.dk_base.specs.declared.object.Item.TheVariants as item
 use Rattle.written_kernel.specs.Types.{Call, CallStage, Request}
 use Rattle.dk_base.specs.declared.answer.Answer.TheVariants as answer
-use Rattle.dk_base.specs.declared.record.ThreadState.TheVariants as is
-use Rattle.dk_base.specs.declared.record.CallStage.TheVariants as stage
+use Rattle.kernel_records.specs.declared.record.ThreadState.TheVariants as is
+use Rattle.kernel_records.specs.declared.record.CallStage.TheVariants as stage
 use Rattle.written_kernel.specs.Words.{MayTurn, State, accept_call, act, call_of, cookie_of, door_of, enter_call, entry_of, go_on, invocation_of, process_of, settle, state_of, step, tid, without_arguments_at}
-use Rattle.kernel_laws.specs.Once.{record_of, stage_in, stage_of, owner_in, door_at, owner_of_call}
-use Rattle.kernel_laws.specs.Core.{core, door_in, is_outside}
-use Rattle.kernel_laws.specs.Invariant.{IsConsistent, Invariant}
-use Rattle.kernel_laws.proofs.Calls.{find-number, find_call_live}
-use Rattle.kernel_laws.proofs.CallActs.{record_of_call, AfterAccept, after_accept}
-use Rattle.kernel_laws.proofs.Events.{StepDoes, step_does}
+use Rattle.kernel_invariant.specs.Records.{record_of, stage_in, stage_of, owner_in, door_at, owner_of_call}
+use Rattle.kernel_invariant.specs.Core.{core, door_in, is_outside}
+use Rattle.kernel_invariant.specs.Invariant.{IsConsistent, Invariant}
+use Rattle.kernel_invariant.proofs.Calls.{find-number, find_call_live}
+use Rattle.kernel_invariant.proofs.CallActs.{record_of_call, AfterAccept, after_accept}
+use Rattle.kernel_invariant.proofs.Events.{StepDoes, step_does}
 use Rattle.kernel_laws.proofs.Answers.{Accepts}
 use Rattle.kernel_laws.proofs.Ranks.{not_given, EnteredBy}
 

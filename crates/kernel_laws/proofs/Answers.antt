@@ -8,10 +8,10 @@ use Rattle.dk_base.specs.declared.object.Obj.TheVariants as obj
 use Rattle.dk_base.specs.declared.object.Item.TheVariants as item
 use Rattle.dk_base.specs.declared.request.Request.TheVariants as request
 use Rattle.dk_base.specs.declared.answer.Answer.TheVariants as answer
-use Rattle.dk_base.specs.declared.record.ThreadState.TheVariants as is
-use Rattle.dk_base.specs.declared.record.CallStage.TheVariants as stage
+use Rattle.kernel_records.specs.declared.record.ThreadState.TheVariants as is
+use Rattle.kernel_records.specs.declared.record.CallStage.TheVariants as stage
 use Rattle.written_kernel.specs.Words.{ActResult, State, accept_call, act, attach, attach_object, attach_unless, await, await_name, call, call_object, call_of, call_refusal, call_unless, client, collect_at, collect_call, create, create_at, enter, go_on, lowest_free, name_of, new_call, new_door, new_name, object_at, open_at, open_name, open_path, process_of, refused_act, return, return_for, return_to, state_of, table_of}
-use Rattle.kernel_laws.proofs.CallActs.{number_of_call}
+use Rattle.kernel_invariant.proofs.CallActs.{number_of_call}
 
 -- neither an invocation that begins nor results
 abbrev pub is_plain : Answer → Bool

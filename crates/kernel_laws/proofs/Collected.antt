@@ -3,13 +3,14 @@ use Rattle.std.specs.Prelude.{ℕ, ◌≡◌, Option, true, false, Some, None}
 use Rattle.std.proofs.Common.{refl, sym, ap, subst, ◌∙◌}
 use native.Mathlib.Omega.{arith}
 use Rattle.written_kernel.specs.Types.{Call, CallStage, Request}
-use Rattle.dk_base.specs.declared.record.ThreadState.TheVariants as is
-use Rattle.dk_base.specs.declared.record.CallStage.TheVariants as stage
+use Rattle.kernel_records.specs.declared.record.ThreadState.TheVariants as is
+use Rattle.kernel_records.specs.declared.record.CallStage.TheVariants as stage
 use Rattle.written_kernel.specs.Words.{MayTurn, State, act, answer_call, call_of, can_go_on, collect_at, collect_call, go_on, has_answer, is_to_collect, now, settle, state_of, step, without_arguments_at}
-use Rattle.kernel_laws.specs.Once.{record_of, is_answered, is_answered_in}
-use Rattle.kernel_laws.specs.Invariant.{Invariant}
-use Rattle.kernel_laws.proofs.CallActs.{record_of_call, number_of_call, record_after_collect}
-use Rattle.kernel_laws.proofs.Events.{StepDoes, step_does}
+use Rattle.kernel_invariant.specs.Records.{record_of}
+use Rattle.kernel_laws.specs.Once.{is_answered, is_answered_in}
+use Rattle.kernel_invariant.specs.Invariant.{Invariant}
+use Rattle.kernel_invariant.proofs.CallActs.{record_of_call, number_of_call, record_after_collect}
+use Rattle.kernel_invariant.proofs.Events.{StepDoes, step_does}
 use Rattle.kernel_laws.proofs.Ranks.{not_given}
 
 pub record Collected (m : State) (t : ℕ) (q : Option Request) (c : ℕ) : Type 0 where

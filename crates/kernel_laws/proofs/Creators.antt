@@ -5,17 +5,17 @@ use native.Mathlib.Omega.{arith}
 use Rattle.std.proofs.lemmas.Bool.Decides.{nat_tests}
 use Rattle.written_kernel.specs.Types.{Attrs, Door, Fd, Inv, Item, PathId, Request, ThreadState}
 use Rattle.dk_base.specs.declared.request.Request.TheVariants as request
-use Rattle.dk_base.specs.declared.record.ThreadState.TheVariants as is
+use Rattle.kernel_records.specs.declared.record.ThreadState.TheVariants as is
 use Rattle.dk_base.specs.ByNumber.{at_number}
 use Rattle.written_kernel.specs.Words.{IsOpening, IsRun, MayTurn, State, Turn, accept, act, attach, await, call, collect, create, create_at, door_of, enter, exit, go_on, lowest_free, new_door, now, open_path, park, process_of, return, state_at, state_of, step, table_of, with_invocation, with_state}
 use Rattle.written_kernel.proofs.Lists.{numbered_push}
 use Rattle.written_kernel.proofs.Opening.{opened}
 use Rattle.written_kernel.proofs.Steps.{door_of-step}
 use Rattle.written_kernel.proofs.Runs.{state_at_more, process_of-state_after}
-use Rattle.kernel_laws.specs.Invariant.{Invariant}
+use Rattle.kernel_invariant.specs.Invariant.{Invariant}
 use Rattle.kernel_laws.specs.MadeByCreator.{IsCreate, IsKept, MadeByCreator}
 use Rattle.kernel_laws.proofs.Induction.{TurnAt, turn_at, Taken, taken_at}
-use Rattle.kernel_laws.proofs.Events.{StepDoes, step_does}
+use Rattle.kernel_invariant.proofs.Events.{StepDoes, step_does}
 use Rattle.kernel_laws.proofs.Once.{entered_there}
 
 with_state_same : (m : State) (t : ℕ) (s : ThreadState) → (with_state m t s).doors ≡ m.doors

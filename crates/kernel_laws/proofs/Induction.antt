@@ -5,10 +5,10 @@ use native.Mathlib.Omega.{arith}
 use Rattle.std.proofs.lemmas.Option.{slice_get_within}
 use Rattle.written_kernel.specs.Words.{IsOpening, IsRun, MayTurn, State, Turn, state_after_turn, state_at}
 use Rattle.written_kernel.proofs.Runs.{state_at_more, MayTurn_at}
-use Rattle.kernel_laws.specs.Invariant.{Invariant}
-use Rattle.kernel_laws.specs.Events.{Keeps}
-use Rattle.kernel_laws.proofs.Events.{step_keeps}
-use Rattle.kernel_laws.proofs.Openings.{opening_keeps}
+use Rattle.kernel_invariant.specs.Invariant.{Invariant}
+use Rattle.kernel_invariant.specs.Events.{Keeps}
+use Rattle.kernel_invariant.proofs.Events.{step_keeps}
+use Rattle.kernel_invariant.proofs.Openings.{opening_keeps}
 
 -- the turn at a place below the length
 pub record TurnAt (xs : List Turn) (i : ℕ) : Type 0 where

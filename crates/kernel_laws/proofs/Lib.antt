@@ -1,14 +1,3 @@
-mod Calls
-mod Cores
-mod CallMoves
-mod ThreadMoves
-mod Acts
-mod CallActs
-mod Exits
-mod Picks
-mod Settling
-mod Events
-mod Openings
 mod Answers
 mod Induction
 mod Ranks

@@ -6,17 +6,18 @@ use Rattle.std.proofs.lemmas.Option.{slice_get_within}
 use Rattle.written_kernel.specs.Types.{Call, Door, Fd, Item}
 use Rattle.dk_base.specs.declared.object.Item.TheVariants as item
 use Rattle.dk_base.specs.declared.answer.Answer.TheVariants as answer
-use Rattle.dk_base.specs.declared.record.ThreadState.TheVariants as is
-use Rattle.dk_base.specs.declared.record.CallStage.TheVariants as stage
+use Rattle.kernel_records.specs.declared.record.ThreadState.TheVariants as is
+use Rattle.kernel_records.specs.declared.record.CallStage.TheVariants as stage
 use Rattle.written_kernel.specs.Words.{IsOpening, IsRun, State, Turn, act, cookie_of, door_of, entry_of, invocation_of, state_at, step, tid}
-use Rattle.kernel_laws.specs.Once.{record_of, stage_in, stage_of, owner_in, door_at, door_of_call, is_entered, is_entered_in, is_answered, item_of, HasEntered, BecomesEntered, BecomesAnswered, answer_at, Enters, IsAccept, IsCollect, WasEntered, CollectsEntered, InvocationMoves, Once}
+use Rattle.kernel_invariant.specs.Records.{record_of, stage_in, stage_of, owner_in, door_at, door_of_call, item_of}
+use Rattle.kernel_laws.specs.Once.{is_entered, is_entered_in, is_answered, HasEntered, BecomesEntered, BecomesAnswered, answer_at, Enters, IsAccept, IsCollect, WasEntered, CollectsEntered, InvocationMoves, Once}
 use Rattle.kernel_laws.specs.Once.InvocationMoves.{stays, begins, ends}
 use Rattle.kernel_laws.specs.MadeByCreator.{IsOf}
-use Rattle.kernel_laws.specs.Invariant.{Invariant}
-use Rattle.kernel_laws.proofs.Calls.{find-number}
-use Rattle.kernel_laws.proofs.CallActs.{record_of_call}
+use Rattle.kernel_invariant.specs.Invariant.{Invariant}
+use Rattle.kernel_invariant.proofs.Calls.{find-number}
+use Rattle.kernel_invariant.proofs.CallActs.{record_of_call}
 use Rattle.kernel_laws.proofs.Answers.{is_plain, ends_wait, accepts_act, Collects, collects_act}
-use Rattle.kernel_laws.proofs.Openings.{no_call_at_first}
+use Rattle.kernel_invariant.proofs.Openings.{no_call_at_first}
 use Rattle.kernel_laws.proofs.Induction.{TurnAt, turn_at, invariant_at, Taken, taken_at, rises_once, CameTrue, first_true}
 use Rattle.kernel_laws.proofs.Ranks.{rank_in, entered_rank, not_entered_rank, answered_rank, not_answered_rank, arrow_rank, EnteredBy, arrow_entered, AnsweredBy, arrow_answered, is_served_stage, is_served_in, not_served, arrow_served}
 use Rattle.kernel_laws.proofs.Accepted.{step_answer, Accepted, accepted, accept_answer}

@@ -4,13 +4,14 @@ use Rattle.std.proofs.Common.{sym, refl, ap, ◌∙◌}
 use native.Mathlib.Omega.{arith}
 use Rattle.dk_base.specs.declared.object.Item.TheVariants as item
 use Rattle.written_kernel.specs.Types.{Call, CallStage, Request}
-use Rattle.dk_base.specs.declared.record.ThreadState.TheVariants as is
-use Rattle.dk_base.specs.declared.record.CallStage.TheVariants as stage
+use Rattle.kernel_records.specs.declared.record.ThreadState.TheVariants as is
+use Rattle.kernel_records.specs.declared.record.CallStage.TheVariants as stage
 use Rattle.written_kernel.specs.Words.{State, state_of, tid}
-use Rattle.kernel_laws.specs.Once.{stage_in, is_entered_in, is_answered_in}
-use Rattle.kernel_laws.specs.Arrows.{ByAct, ByGiving, Arrow}
-use Rattle.kernel_laws.specs.Arrows.ByAct.{stays, makes, enters, returns, ends, answers}
-use Rattle.kernel_laws.specs.Arrows.ByGiving.{stays as keeps, gives}
+use Rattle.kernel_invariant.specs.Records.{stage_in}
+use Rattle.kernel_laws.specs.Once.{is_entered_in, is_answered_in}
+use Rattle.kernel_invariant.specs.Arrows.{ByAct, ByGiving, Arrow}
+use Rattle.kernel_invariant.specs.Arrows.ByAct.{stays, makes, enters, returns, ends, answers}
+use Rattle.kernel_invariant.specs.Arrows.ByGiving.{stays as keeps, gives}
 
 abbrev pub rank_of : CallStage → ℕ
 rank_of stage.Queued = 1

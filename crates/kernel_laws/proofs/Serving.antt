@@ -9,17 +9,17 @@ use Rattle.dk_base.specs.declared.object.Obj.TheVariants as obj
 use Rattle.dk_base.specs.declared.object.Item.TheVariants as item
 use Rattle.dk_base.specs.declared.request.Request.TheVariants as request
 use Rattle.dk_base.specs.declared.answer.Answer.TheVariants as answer
-use Rattle.dk_base.specs.declared.record.ThreadState.TheVariants as is
-use Rattle.dk_base.specs.declared.record.CallStage.TheVariants as stage
+use Rattle.kernel_records.specs.declared.record.ThreadState.TheVariants as is
+use Rattle.kernel_records.specs.declared.record.CallStage.TheVariants as stage
 use Rattle.written_kernel.specs.Words.{ActResult, MayInside, MayTurn, State, accept, accept_call, act, answer_call, attach, attach_object, attach_unless, await, await_name, call, call_object, call_of, call_refusal, call_unless, client, collect, collect_at, collect_call, cookie_of, create, create_at, door_of, end_process, end_thread, enter, enter_call, entry_of, exit, go_on, invocation_of, is_last, lowest_free, name_of, new_call, new_door, new_name, now, object_at, open_at, open_name, open_path, process_of, refused_act, return, return_for, return_to, state_of, step, table_of, with_call, with_invocation, with_new_call, with_state, without_arguments_at}
 use Rattle.written_kernel.proofs.Invocations.{invocation_of-with_state, invocation_of-with_invocation, invocation_of-settle}
-use Rattle.kernel_laws.specs.Once.{item_in, item_of}
-use Rattle.kernel_laws.specs.Core.{Core, core, is_outside}
-use Rattle.kernel_laws.specs.Invariant.{IsConsistent, Invariant}
-use Rattle.kernel_laws.proofs.ThreadMoves.{Leaves}
-use Rattle.kernel_laws.proofs.CallActs.{number_of_call, AfterAccept, after_accept}
-use Rattle.kernel_laws.proofs.Exits.{end_process-core, last_leaves}
-use Rattle.kernel_laws.proofs.Events.{running_is, no_exit_inside}
+use Rattle.kernel_invariant.specs.Records.{item_in, item_of}
+use Rattle.kernel_invariant.specs.Core.{Core, core, is_outside}
+use Rattle.kernel_invariant.specs.Invariant.{IsConsistent, Invariant}
+use Rattle.kernel_invariant.proofs.ThreadMoves.{Leaves}
+use Rattle.kernel_invariant.proofs.CallActs.{number_of_call, AfterAccept, after_accept}
+use Rattle.kernel_invariant.proofs.Exits.{end_process-core, last_leaves}
+use Rattle.kernel_invariant.proofs.Events.{running_is, no_exit_inside}
 
 -- the invocation of thread u, over an act or an event of thread t that leaves state n and answers a
 pub data Moves (m : State) (t : ℕ) (q : Option Request) (n : State) (a : Answer) (u : ℕ) : Type 0 where

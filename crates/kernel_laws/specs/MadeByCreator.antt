@@ -5,7 +5,8 @@ use Rattle.written_kernel.specs.Types.{Door, Fd}
 use Rattle.dk_base.specs.declared.request.Request.TheVariants as request
 use Rattle.dk_base.specs.declared.answer.Answer.TheVariants as answer
 use Rattle.written_kernel.specs.Words.{State, Turn, door_of, process_of, state_at}
-use Rattle.kernel_laws.specs.Once.{door_of_call, answer_at}
+use Rattle.kernel_invariant.specs.Records.{door_of_call}
+use Rattle.kernel_laws.specs.Once.{answer_at}
 
 -- the turn of place i asks for this door, in the name of its thread's process
 pub record IsCreate (m : State) (xs : List Turn) (i : ℕ) (x : Turn) (d : Door) : Type 0 where

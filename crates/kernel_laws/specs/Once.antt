@@ -6,23 +6,10 @@ use Rattle.written_kernel.specs.Types.{Answer, Call, CallStage, Door, Fd, Inv, I
 use Rattle.dk_base.specs.declared.object.Item.TheVariants as item
 use Rattle.dk_base.specs.declared.request.Request.TheVariants as request
 use Rattle.dk_base.specs.declared.answer.Answer.TheVariants as answer
-use Rattle.dk_base.specs.declared.record.CallStage.TheVariants as stage
-use Rattle.dk_base.specs.declared.record.ThreadState.TheVariants as is
+use Rattle.kernel_records.specs.declared.record.CallStage.TheVariants as stage
+use Rattle.kernel_records.specs.declared.record.ThreadState.TheVariants as is
 use Rattle.written_kernel.specs.Words.{State, Turn, door_of, invocation_of, process_of, state_at, state_of, step, tid}
-
-abbrev pub has_number : ℕ → Call → Bool
-has_number c r = r.number == c
-
--- the record of a call, answered or not
-abbrev pub record_of : State → ℕ → Option Call
-record_of m c = find (has_number c) m.calls
-
-abbrev pub stage_in : Option Call → Option CallStage
-stage_in None = None
-stage_in (Some r) = Some r.stage
-
-abbrev pub stage_of : State → ℕ → Option CallStage
-stage_of m c = stage_in (record_of m c)
+use Rattle.kernel_invariant.specs.Records.{item_of, owner_of_call, record_of, stage_of}
 
 abbrev pub is_entered_stage : CallStage → Bool
 is_entered_stage (stage.Entered u) = true
@@ -57,30 +44,6 @@ BecomesEntered m xs c i = Becomes (λ n. is_entered n c) m xs i
 
 abbrev pub BecomesAnswered : State → List Turn → ℕ → ℕ → Type 0
 BecomesAnswered m xs c i = Becomes (λ n. is_answered n c) m xs i
-
-abbrev pub owner_in : Option Door → Option ℕ
-owner_in None = None
-owner_in (Some d) = Some d.owner.0
-
-abbrev pub door_at : State → Option Call → Option Door
-door_at m None = None
-door_at m (Some r) = door_of m r.door
-
--- the door of a call
-abbrev pub door_of_call : State → ℕ → Option Door
-door_of_call m c = door_at m (record_of m c)
-
--- the process that made the door of a call
-abbrev pub owner_of_call : State → ℕ → Option ℕ
-owner_of_call m c = owner_in (door_of_call m c)
-
-abbrev pub item_in : Option Inv → Option Item
-item_in None = None
-item_in (Some v) = Some v.item
-
--- what a thread's invocation is of
-abbrev pub item_of : State → ℕ → Option Item
-item_of m t = item_in (invocation_of m t)
 
 -- thread t has entered call c, which has not left it
 abbrev pub HasEntered : State → ℕ → ℕ → Type 0

@@ -4,14 +4,8 @@
 ghost use Rattle.std.specs.Prelude.{ℕ, ◌≡◌, ◌≤◌, ◌⊎◌, List, Option, None, length};
 ghost use Rattle.written_kernel.specs.Types.{Request};
 ghost use Rattle.written_kernel.specs.Words.{IsOpening, IsRun, MayTurn, Pool, State, Turn, pick, queue_length, state_after, state_at};
-ghost use Rattle.kernel_laws.specs.Invariant.{Invariant};
-ghost use Rattle.kernel_laws.specs.Events.{Keeps};
+ghost use Rattle.kernel_invariant.specs.Invariant.{Invariant};
 ghost use Rattle.kernel_laws.specs.Laws.{Laws};
-
-/// Every event that may be keeps the invariant, and each call's record takes arrows of the table.
-pub fn every_event()
-    ensures { (m : State) (t : ℕ) (q : Option Request) → Invariant m → MayTurn m t q → Keeps m t q }
-{}
 
 /// Each state of a run meets the invariant.
 pub fn every_state()

@@ -7,7 +7,7 @@ ghost use Rattle.sys_run.specs.Threads.{is_any};
 use dk_base::error::NoMemory;
 use dk_base::list::TidList;
 use dk_base::number::Tid;
-use dk_base::record::ThreadState;
+use kernel_records::record::ThreadState;
 use kernel_core::kernel::Kernel;
 use std::alloc::Global;
 

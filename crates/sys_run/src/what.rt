@@ -3,7 +3,7 @@ ghost use Rattle.std.specs.Prelude.{◌≡◌};
 ghost use Rattle.written_kernel.specs.Words.{what_of_entry, what_of_wait};
 
 use dk_base::event::What;
-use dk_base::record::ThreadState;
+use kernel_records::record::ThreadState;
 use dk_base::request::Request;
 
 pub(crate) fn of_entry(request: &Request) -> What

@@ -8,8 +8,8 @@ use Rattle.dk_base.specs.declared.error.Errno.TheVariants.{EBADF}
 use Rattle.dk_base.specs.declared.object.Obj.TheVariants as obj
 use Rattle.dk_base.specs.declared.object.Item.TheVariants as item
 use Rattle.dk_base.specs.declared.request.Request.TheVariants as request
-use Rattle.dk_base.specs.declared.record.ThreadState.TheVariants as is
-use Rattle.dk_base.specs.declared.record.CallStage.TheVariants as stage
+use Rattle.kernel_records.specs.declared.record.ThreadState.TheVariants as is
+use Rattle.kernel_records.specs.declared.record.CallStage.TheVariants as stage
 use Rattle.dk_base.specs.ByNumber.{at_number}
 use Rattle.written_kernel.specs.State.{State, tid, now, process_of, thread_of, state_of, invocation_of, table_of, object_at, with_row, name_of, with_state, with_state_in, with_invocation, with_invocation_in, with_call, without_arguments_at, at_stage, call_of, is_call, with_live_call, is_live, is_queued}
 use Rattle.written_kernel.specs.Pools.{Pool, Parked, Waiting, is_queued_call, is_queued_in, queue_length, waiting_items, with_notices, waiting_call, waiting_notice, is_waiting_notice, pool_of, pick_among, pick}

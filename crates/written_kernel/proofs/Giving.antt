@@ -4,8 +4,8 @@ use Rattle.std.proofs.lemmas.Bool.Decides.{nat_tests}
 use Rattle.std.proofs.lemmas.List.Sums.{length-filter}
 use Rattle.written_kernel.specs.Types.{Call, CallStage, Item, Notice, Thread, ThreadState}
 use Rattle.dk_base.specs.declared.object.Item.TheVariants as item
-use Rattle.dk_base.specs.declared.record.ThreadState.TheVariants as is
-use Rattle.dk_base.specs.declared.record.CallStage.TheVariants as stage
+use Rattle.kernel_records.specs.declared.record.ThreadState.TheVariants as is
+use Rattle.kernel_records.specs.declared.record.CallStage.TheVariants as stage
 use Rattle.dk_base.specs.ByNumber.{at_number}
 use Rattle.written_kernel.specs.State.{State, tid, thread_of, with_state, with_state_in, at_stage, call_of, is_call, with_live_call, is_live, is_queued}
 use Rattle.written_kernel.specs.Pools.Pool.{Common, Private}

@@ -3,8 +3,8 @@ use Rattle.std.proofs.Common.{◌≡◌, ◌≤◌, flat_map, filter, ℕ, zero,
 use Rattle.std.proofs.lemmas.Bool.Decides.{nat_tests}
 use Rattle.std.proofs.lemmas.List.{length-map, map-append}
 use Rattle.written_kernel.specs.Types.{Fd, Obj, Process, Thread}
-use Rattle.dk_base.specs.declared.record.ProcessStage.TheVariants.{Live}
-use Rattle.dk_base.specs.declared.record.ThreadState.TheVariants as is
+use Rattle.kernel_records.specs.declared.record.ProcessStage.TheVariants.{Live}
+use Rattle.kernel_records.specs.declared.record.ThreadState.TheVariants as is
 use Rattle.dk_base.specs.ByNumber.{at_number}
 use Rattle.written_kernel.specs.State.{State, thread_of, state_in, state_of, invocation_in, invocation_of, bound_in, bound_of, object_in, object_at}
 use Rattle.written_kernel.specs.Pools.{with_notices, waiting_call, is_queued_call, waiting_notice, is_waiting_notice, waiting_items}

@@ -7,8 +7,8 @@ use Rattle.dk_base.specs.declared.error.Errno.TheVariants.{E2BIG}
 use Rattle.dk_base.specs.declared.object.Obj.TheVariants as obj
 use Rattle.dk_base.specs.declared.object.Item.TheVariants as item
 use Rattle.dk_base.specs.declared.request.Request.TheVariants as request
-use Rattle.dk_base.specs.declared.record.ThreadState.TheVariants as is
-use Rattle.dk_base.specs.declared.record.CallStage.TheVariants as stage
+use Rattle.kernel_records.specs.declared.record.ThreadState.TheVariants as is
+use Rattle.kernel_records.specs.declared.record.CallStage.TheVariants as stage
 use Rattle.dk_base.specs.ByNumber.{at_number, with_at_number}
 use Rattle.written_kernel.specs.State.{State, now, process_in, process_of, door_of, thread_of, state_of, table_of, object_at, with_row, has_path, name_of, with_state, with_state_in, with_invocation, with_invocation_in, with_call, call_of, ended_process}
 use Rattle.written_kernel.specs.Pools.{Parked, Waiting, waiting_items, pool_of, pick}

@@ -4,7 +4,7 @@ use Rattle.written_kernel.specs.Types.{Fd, Name, Obj, PathId}
 use Rattle.dk_base.specs.declared.error.Errno.TheVariants.{EBADF, EBUSY, EINVAL, EMFILE, ENOENT}
 use Rattle.dk_base.specs.declared.object.Obj.TheVariants as obj
 use Rattle.dk_base.specs.declared.answer.Answer.TheVariants as answer
-use Rattle.dk_base.specs.declared.record.ThreadState.TheVariants as is
+use Rattle.kernel_records.specs.declared.record.ThreadState.TheVariants as is
 use Rattle.written_kernel.specs.State.{State, now, descriptor, table_of, object_at, with_row, name_of, with_state}
 use Rattle.written_kernel.specs.Acts.{ActResult, refused_act, lowest_free}
 

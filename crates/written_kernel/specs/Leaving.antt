@@ -5,9 +5,9 @@ use Rattle.std.specs.List.{list_any}
 use Rattle.dk_base.specs.declared.error.Errno.TheVariants.{EBADF}
 use Rattle.written_kernel.specs.Types.{Call, Door, Notice, Obj, Process, Thread, ThreadState}
 use Rattle.dk_base.specs.declared.answer.Answer.TheVariants as answer
-use Rattle.dk_base.specs.declared.record.ThreadState.TheVariants as is
-use Rattle.dk_base.specs.declared.record.CallStage.TheVariants as stage
-use Rattle.dk_base.specs.declared.record.NoticeStage.TheVariants as notice
+use Rattle.kernel_records.specs.declared.record.ThreadState.TheVariants as is
+use Rattle.kernel_records.specs.declared.record.CallStage.TheVariants as stage
+use Rattle.kernel_records.specs.declared.record.NoticeStage.TheVariants as notice
 use Rattle.dk_base.specs.ByNumber.{at_number, with_at_number}
 use Rattle.written_kernel.specs.State.{State, ended_process, table_of, without_arguments_at, with_state, with_invocation, is_queued}
 use Rattle.written_kernel.specs.Pools.{is_waiting_notice}

@@ -1,8 +1,8 @@
 -- The opening state: processes, and threads that run or are dormant.
 use Rattle.std.specs.Prelude.{ℕ, ◌+◌, ◌++◌, List, [], ◌∷◌, Option, Bool, if◌then◌else◌, None, length, replicate}
 use Rattle.written_kernel.specs.Types.{Obj, Process, Thread, ThreadState}
-use Rattle.dk_base.specs.declared.record.ProcessStage.TheVariants.{Live}
-use Rattle.dk_base.specs.declared.record.ThreadState.TheVariants as is
+use Rattle.kernel_records.specs.declared.record.ProcessStage.TheVariants.{Live}
+use Rattle.kernel_records.specs.declared.record.ThreadState.TheVariants as is
 use Rattle.written_kernel.specs.State.{State, pid}
 
 abbrev pub new_process : ℕ → ℕ → Process

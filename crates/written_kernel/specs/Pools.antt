@@ -4,8 +4,8 @@ use Rattle.std.specs.Prelude.{ℕ, List, [], ◌∷◌, Option, Bool, true, fals
 use Rattle.written_kernel.specs.Types.{Attrs, Call, Door, Item, Notice, NoticeStage, Thread, ThreadState}
 use Rattle.dk_base.specs.declared.object.Item.TheVariants as item
 use Rattle.dk_base.specs.declared.set.TheConstants.Attrs.{PRIVATE}
-use Rattle.dk_base.specs.declared.record.ThreadState.TheVariants as is
-use Rattle.dk_base.specs.declared.record.NoticeStage.TheVariants.{Waiting as WaitingNotice}
+use Rattle.kernel_records.specs.declared.record.ThreadState.TheVariants as is
+use Rattle.kernel_records.specs.declared.record.NoticeStage.TheVariants.{Waiting as WaitingNotice}
 use Rattle.written_kernel.specs.State.{State, thread_of, bound_of, door_of, is_queued}
 
 -- a private door has a pool of its own; the other doors of a process share one

@@ -3,7 +3,7 @@
 use Rattle.std.specs.Prelude.{List, [], ◌∷◌, ◌++◌, Option, Bool, false, ◌==◌, Some, None, map, filter, flat_map}
 use Rattle.written_kernel.specs.Types.{Call, CallStage, Name, Obj}
 use Rattle.dk_base.specs.declared.object.Obj.TheVariants as obj
-use Rattle.dk_base.specs.declared.record.CallStage.TheVariants as stage
+use Rattle.kernel_records.specs.declared.record.CallStage.TheVariants as stage
 use Rattle.written_kernel.specs.State.{State}
 
 abbrev pub is_object : Obj → Obj → Bool

@@ -4,9 +4,9 @@
 use Rattle.std.specs.Prelude.{ℕ, List, [], ◌∷◌, Option, Some, None}
 use Rattle.written_kernel.specs.Types.{Call, Item, Notice}
 use Rattle.dk_base.specs.declared.object.Item.TheVariants as item
-use Rattle.dk_base.specs.declared.record.ThreadState.TheVariants as is
-use Rattle.dk_base.specs.declared.record.CallStage.TheVariants as stage
-use Rattle.dk_base.specs.declared.record.NoticeStage.TheVariants as notice
+use Rattle.kernel_records.specs.declared.record.ThreadState.TheVariants as is
+use Rattle.kernel_records.specs.declared.record.CallStage.TheVariants as stage
+use Rattle.kernel_records.specs.declared.record.NoticeStage.TheVariants as notice
 use Rattle.dk_base.specs.ByNumber.{at_number, with_at_number}
 use Rattle.written_kernel.specs.State.{State, tid, call_of, with_call, at_stage, with_state}
 use Rattle.written_kernel.specs.Pools.{Parked, Waiting, pool_of, pick, waiting_items}

@@ -2,9 +2,9 @@
 -- total: a number that nothing has reads as nothing, and a writer at such a number changes nothing.
 use Rattle.std.specs.Prelude.{ℕ, ◌+◌, List, [], ◌∷◌, Option, Bool, true, false, ◌==◌, ◌&&◌, not, if◌then◌else◌, Some, None, find, slice_get, slice_set, unwrap_or}
 use Rattle.written_kernel.specs.Types.{Call, CallStage, Door, Fd, Inv, Name, Notice, Obj, PathId, Pid, Process, ProcessStage, Thread, ThreadState, Tid}
-use Rattle.dk_base.specs.declared.record.ProcessStage.TheVariants.{Live, Ended}
-use Rattle.dk_base.specs.declared.record.ThreadState.TheVariants as is
-use Rattle.dk_base.specs.declared.record.CallStage.TheVariants as stage
+use Rattle.kernel_records.specs.declared.record.ProcessStage.TheVariants.{Live, Ended}
+use Rattle.kernel_records.specs.declared.record.ThreadState.TheVariants as is
+use Rattle.kernel_records.specs.declared.record.CallStage.TheVariants as stage
 use Rattle.dk_base.specs.ByNumber.{at_number, with_at_number}
 
 -- processes, threads and doors are numbered from 1 by their places; table and binding stand at the same places as

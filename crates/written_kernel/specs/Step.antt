@@ -3,7 +3,7 @@ use Rattle.std.specs.Prelude.{ℕ, ◌+◌, List, Option, Some, None}
 use Rattle.written_kernel.specs.Types.{Answer, Event, Request, ThreadState, Tid, What}
 use Rattle.dk_base.specs.declared.request.Request.TheVariants as request
 use Rattle.dk_base.specs.declared.event.What.TheVariants as what
-use Rattle.dk_base.specs.declared.record.ThreadState.TheVariants as is
+use Rattle.kernel_records.specs.declared.record.ThreadState.TheVariants as is
 use Rattle.written_kernel.specs.State.{State, tid, process_of, state_of}
 use Rattle.written_kernel.specs.Acts.{ActResult, no_act}
 use Rattle.written_kernel.specs.Doors.{create, call, return, accept, collect}

@@ -1,8 +1,8 @@
 -- Which threads can take a turn.
 use Rattle.std.specs.Prelude.{ℕ, List, [], ◌∷◌, ◌++◌, Option, Bool, true, false, ◌&&◌, not, is_some, if◌then◌else◌, Some, None, zero, suc, length}
 use Rattle.written_kernel.specs.Types.{Call, CallStage, ThreadState, Tid}
-use Rattle.dk_base.specs.declared.record.ThreadState.TheVariants as is
-use Rattle.dk_base.specs.declared.record.CallStage.TheVariants as stage
+use Rattle.kernel_records.specs.declared.record.ThreadState.TheVariants as is
+use Rattle.kernel_records.specs.declared.record.CallStage.TheVariants as stage
 use Rattle.written_kernel.specs.State.{State, tid, state_of, call_of, name_of}
 
 abbrev pub is_to_collect : CallStage → Bool

@@ -2,7 +2,7 @@
 use Rattle.std.specs.Prelude.{ℕ, Option, Bool, false, ◌==◌, ◌&&◌, not, Some, None, zero, suc, find}
 use Rattle.std.specs.Option.{option_map_or}
 use Rattle.written_kernel.specs.Types.{Call, CallStage}
-use Rattle.dk_base.specs.declared.record.CallStage.TheVariants as stage
+use Rattle.kernel_records.specs.declared.record.CallStage.TheVariants as stage
 use Rattle.written_kernel.specs.State.{State}
 
 abbrev pub is_with : ℕ → CallStage → Bool

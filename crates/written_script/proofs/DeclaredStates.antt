@@ -7,8 +7,8 @@ use Rattle.written_kernel.specs.Types.{Attrs, Call, CallStage, Door, Errno, Fd, 
 use Rattle.dk_base.specs.declared.error.Errno.TheVariants.{E2BIG, EBADF}
 use Rattle.dk_base.specs.declared.object.Item.TheVariants as item
 use Rattle.dk_base.specs.declared.object.Obj.TheVariants as obj
-use Rattle.dk_base.specs.declared.record.CallStage.TheVariants as stage
-use Rattle.dk_base.specs.declared.record.ThreadState.TheVariants as is
+use Rattle.kernel_records.specs.declared.record.CallStage.TheVariants as stage
+use Rattle.kernel_records.specs.declared.record.ThreadState.TheVariants as is
 use Rattle.dk_base.specs.declared.request.Request.TheVariants as request
 use Rattle.dk_base.specs.ByNumber.{at_number}
 use Rattle.written_kernel.specs.Words.{ActResult, Parked, State, Waiting, accept, accept_call, act, answer_call, at_stage, attach, attach_object, attach_unless, await, await_name, call, call_object, call_of, call_refusal, call_unless, caller_in, client, client_call, client_in, client_item, collect, collect_at, collect_call, create, create_at, door_of, end_process, end_thread, ended_call, enter, entry_of, exit, give_call, give_each, give_item, give_notice, give_to, go_on, invocation_of, is_call, is_last, is_owned, is_queued, is_served_by, is_valid, is_valid_door, is_waiting_state, lowest_free, name_of, new_call, new_door, new_name, no_act, now, object_at, open_at, open_name, open_path, park, pick, pool_of, process_of, refused_act, return, return_for, return_to, root, served_by, settle, state_of, step, table_of, thread_of, tid, waiting_among, waiting_items, waiting_threads, walk, with_call, with_closed_table, with_door, with_ended, with_ended_calls, with_ended_process, with_ended_threads, with_invocation, with_invocation_in, with_live_call, with_new_call, with_row, with_state, with_state_in, without_arguments_at}

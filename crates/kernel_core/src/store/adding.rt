@@ -8,7 +8,7 @@ use crate::table::Table;
 use dk_base::error::NoMemory;
 use dk_base::list::{Bytes, ObjList};
 use dk_base::number::{PathId, Pid, Tid};
-use dk_base::record::{Call, CallStage, Door, Name, Process, ProcessStage, Thread, ThreadState};
+use kernel_records::record::{Call, CallStage, Door, Name, Process, ProcessStage, Thread, ThreadState};
 use dk_base::set::Attrs;
 use std::alloc::Global;
 

@@ -10,7 +10,7 @@ use crate::store::Store;
 use dk_base::list::{Bytes, ObjList, Room};
 use dk_base::number::{Pid, Tid};
 use dk_base::object::Item;
-use dk_base::record::{Call, CallStage};
+use kernel_records::record::{Call, CallStage};
 use std::alloc::Global;
 use std::mem;
 

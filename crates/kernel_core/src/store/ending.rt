@@ -8,7 +8,7 @@ use crate::store::{Store, numbered_item};
 use dk_base::error::Errno;
 use dk_base::list::{Bytes, ObjList};
 use dk_base::number::{Pid, Tid};
-use dk_base::record::{Call, CallStage, Door, ProcessStage, Thread, ThreadState};
+use kernel_records::record::{Call, CallStage, Door, ProcessStage, Thread, ThreadState};
 use std::alloc::Global;
 
 /// Whether a thread other than `t` keeps the process from ending.

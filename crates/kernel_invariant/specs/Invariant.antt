@@ -2,12 +2,12 @@
 use Rattle.std.specs.Prelude.{ℕ, ◌≡◌, ◌+◌, ◌<◌, ◌≤◌, List, [], ◌∷◌, true, false, Some, None, length, All}
 use Rattle.written_kernel.specs.Types.{Call, Door, Fd}
 use Rattle.dk_base.specs.declared.object.Item.TheVariants as item
-use Rattle.dk_base.specs.declared.record.ThreadState.TheVariants as is
-use Rattle.dk_base.specs.declared.record.CallStage.TheVariants as stage
-use Rattle.dk_base.specs.declared.record.NoticeStage.TheVariants as notice
+use Rattle.kernel_records.specs.declared.record.ThreadState.TheVariants as is
+use Rattle.kernel_records.specs.declared.record.CallStage.TheVariants as stage
+use Rattle.kernel_records.specs.declared.record.NoticeStage.TheVariants as notice
 use Rattle.written_kernel.specs.Words.{State, object_at, pick, pool_of, tid, waiting_items}
-use Rattle.kernel_laws.specs.Core.{Core, core, caller_number, door_in, abandoned_in, live_in, underway_in, has_arguments, is_outside, ended_in, private_in, valid_in, owner_at}
-use Rattle.kernel_laws.specs.Once.{owner_in, stage_in, item_in}
+use Rattle.kernel_invariant.specs.Core.{Core, core, caller_number, door_in, abandoned_in, live_in, underway_in, has_arguments, is_outside, ended_in, private_in, valid_in, owner_at}
+use Rattle.kernel_invariant.specs.Records.{owner_in, stage_in, item_in}
 
 -- of threads, calls, notices, doors and processes
 pub record IsCoherent (k : Core) : Type 0 where

@@ -5,8 +5,8 @@ use native.Mathlib.Omega.{arith}
 use Rattle.std.proofs.lemmas.Bool.Decides.{nat_tests}
 use Rattle.written_kernel.specs.Types.{Call}
 use Rattle.written_kernel.specs.Words.{is_call, is_live, with_live_call}
-use Rattle.kernel_laws.specs.Once.{has_number}
-use Rattle.kernel_laws.specs.Invariant.{IsInOrder}
+use Rattle.kernel_invariant.specs.Records.{has_number}
+use Rattle.kernel_invariant.specs.Invariant.{IsInOrder}
 
 pub find-number : (rs : List Call) (c : ℕ) (r : Call) → find (has_number c) rs ≡ Some r → r.number ≡ c
 find-number [] c r e = grind arith

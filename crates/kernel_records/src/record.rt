@@ -1,11 +1,11 @@
 ghost use Rattle.std.specs.Prelude.{◌≡◌, IfOk};
 
-use crate::error::{Errno, NoMemory};
-use crate::list::{Bytes, ObjList};
-use crate::number::{PathId, Pid, Tid};
-use crate::object::{Inv, Item};
-use crate::request::Op;
-use crate::set::Attrs;
+use dk_base::error::{Errno, NoMemory};
+use dk_base::list::{Bytes, ObjList};
+use dk_base::number::{PathId, Pid, Tid};
+use dk_base::object::{Inv, Item};
+use dk_base::request::Op;
+use dk_base::set::Attrs;
 use std::alloc::Global;
 
 /// Whether a process lives.

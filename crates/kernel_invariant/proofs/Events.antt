@@ -4,17 +4,17 @@ use Rattle.std.proofs.Common.{refl, ◌∙◌}
 use native.Mathlib.Omega.{arith}
 use Rattle.written_kernel.specs.Types.{Call, Inv, Request, ThreadState}
 use Rattle.dk_base.specs.declared.request.Request.TheVariants as request
-use Rattle.dk_base.specs.declared.record.ThreadState.TheVariants as is
+use Rattle.kernel_records.specs.declared.record.ThreadState.TheVariants as is
 use Rattle.written_kernel.specs.Words.{MayInside, MayTurn, State, act, enter, go_on, invocation_of, is_running, is_running_state, is_valid, process_of, settle, state_of, step, with_event_counted}
-use Rattle.kernel_laws.specs.Once.{record_of}
-use Rattle.kernel_laws.specs.Invariant.{IsConsistent, Invariant}
-use Rattle.kernel_laws.specs.Arrows.{ByAct}
-use Rattle.kernel_laws.specs.Arrows.ByAct.{stays, makes, enters, returns, ends, answers}
-use Rattle.kernel_laws.specs.Events.{Keeps}
-use Rattle.kernel_laws.proofs.Acts.{Does, does_nothing, create_does, attach_does, open_does, await_does, found_does}
-use Rattle.kernel_laws.proofs.CallActs.{call_does, return_does, accept_does, collect_does}
-use Rattle.kernel_laws.proofs.Exits.{exit_does}
-use Rattle.kernel_laws.proofs.Settling.{Settles, settle_does}
+use Rattle.kernel_invariant.specs.Records.{record_of}
+use Rattle.kernel_invariant.specs.Invariant.{IsConsistent, Invariant}
+use Rattle.kernel_invariant.specs.Arrows.{ByAct}
+use Rattle.kernel_invariant.specs.Arrows.ByAct.{stays, makes, enters, returns, ends, answers}
+use Rattle.kernel_invariant.specs.Events.{Keeps}
+use Rattle.kernel_invariant.proofs.Acts.{Does, does_nothing, create_does, attach_does, open_does, await_does, found_does}
+use Rattle.kernel_invariant.proofs.CallActs.{call_does, return_does, accept_does, collect_does}
+use Rattle.kernel_invariant.proofs.Exits.{exit_does}
+use Rattle.kernel_invariant.proofs.Settling.{Settles, settle_does}
 
 pub running_is : (m : State) (t : ℕ) → is_running m t ≡ true → state_of m t ≡ is.Running
 running_is m t e = go (state_of m t) e

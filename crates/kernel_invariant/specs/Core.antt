@@ -1,12 +1,12 @@
 -- What the invariant and the laws see of a state: functions of the numbers of threads, doors, processes and calls.
 use Rattle.std.specs.Prelude.{ℕ, Option, Bool, true, false, Some, None, not, ◌&&◌}
 use Rattle.written_kernel.specs.Types.{Call, CallStage, Door, Inv, Notice, NoticeStage, Process, ProcessStage, Thread, ThreadState}
-use Rattle.dk_base.specs.declared.record.ProcessStage.TheVariants.{Live, Ended}
-use Rattle.dk_base.specs.declared.record.ThreadState.TheVariants as is
-use Rattle.dk_base.specs.declared.record.CallStage.TheVariants as stage
+use Rattle.kernel_records.specs.declared.record.ProcessStage.TheVariants.{Live, Ended}
+use Rattle.kernel_records.specs.declared.record.ThreadState.TheVariants as is
+use Rattle.kernel_records.specs.declared.record.CallStage.TheVariants as stage
 use Rattle.dk_base.specs.ByNumber.{at_number}
 use Rattle.written_kernel.specs.Words.{State, bound_of, door_of, invocation_of, is_live, is_private, lives_in, process_of, state_of, thread_of}
-use Rattle.kernel_laws.specs.Once.{record_of, owner_in}
+use Rattle.kernel_invariant.specs.Records.{record_of, owner_in}
 
 pub record Core : Type 0 where
   -- of a thread: its state, its invocation, its process, the number in its record, and the door that it is bound to

@@ -5,19 +5,19 @@ use native.Mathlib.Omega.{arith}
 use Rattle.std.proofs.lemmas.Bool.Decides.{nat_tests}
 use Rattle.dk_base.specs.declared.object.Item.TheVariants as item
 use Rattle.written_kernel.specs.Types.{Call, Thread, ThreadState}
-use Rattle.dk_base.specs.declared.record.ThreadState.TheVariants as is
-use Rattle.dk_base.specs.declared.record.CallStage.TheVariants as stage
+use Rattle.kernel_records.specs.declared.record.ThreadState.TheVariants as is
+use Rattle.kernel_records.specs.declared.record.CallStage.TheVariants as stage
 use Rattle.written_kernel.specs.Words.{Parked, State, at_stage, call_of, door_of, give_call, give_each, give_one, give_to, is_queued, is_queued_call, is_waiting_notice, pick, pool_of, settle, thread_of, tid, waiting_call, waiting_items, waiting_notice, with_call, with_notices, with_state, with_state_in}
-use Rattle.kernel_laws.specs.Once.{has_number, record_of}
-use Rattle.kernel_laws.specs.Core.{Core, core, door_in, valid_in}
-use Rattle.kernel_laws.specs.Invariant.{IsInOrder, IsCoherent, IsConsistent}
-use Rattle.kernel_laws.specs.Arrows.{ByGiving}
-use Rattle.kernel_laws.specs.Arrows.ByGiving.{stays, gives}
-use Rattle.kernel_laws.proofs.Calls.{find_call_live, IsInOrder-with_live_call, length-with_live_call}
-use Rattle.kernel_laws.proofs.Cores.{upd, set_call, with_state-core, with_call-core}
-use Rattle.kernel_laws.proofs.ThreadMoves.{given_core, Gives, give_keeps}
-use Rattle.kernel_laws.proofs.Acts.{there, same_rest_then, consistent_from, SameCalls, with_state_calls}
-use Rattle.kernel_laws.proofs.Picks.{IsParked, pick_is, parked_is, pick_owner}
+use Rattle.kernel_invariant.specs.Records.{has_number, record_of}
+use Rattle.kernel_invariant.specs.Core.{Core, core, door_in, valid_in}
+use Rattle.kernel_invariant.specs.Invariant.{IsInOrder, IsCoherent, IsConsistent}
+use Rattle.kernel_invariant.specs.Arrows.{ByGiving}
+use Rattle.kernel_invariant.specs.Arrows.ByGiving.{stays, gives}
+use Rattle.kernel_invariant.proofs.Calls.{find_call_live, IsInOrder-with_live_call, length-with_live_call}
+use Rattle.kernel_invariant.proofs.Cores.{upd, set_call, with_state-core, with_call-core}
+use Rattle.kernel_invariant.proofs.ThreadMoves.{given_core, Gives, give_keeps}
+use Rattle.kernel_invariant.proofs.Acts.{there, same_rest_then, consistent_from, SameCalls, with_state_calls}
+use Rattle.kernel_invariant.proofs.Picks.{IsParked, pick_is, parked_is, pick_owner}
 use Rattle.written_kernel.proofs.Giving.{IsIn, IsApart, no_idle_for}
 use Rattle.std.proofs.lemmas.List.Elements.{All-nil, All-cons, All-map}
 

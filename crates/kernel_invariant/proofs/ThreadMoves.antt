@@ -6,13 +6,13 @@ use Rattle.std.proofs.lemmas.Bool.Decides.{nat_tests}
 use Rattle.dk_base.specs.declared.error.Errno.TheVariants.{EBADF}
 use Rattle.dk_base.specs.declared.object.Item.TheVariants as item
 use Rattle.written_kernel.specs.Types.{Call, Door, ThreadState}
-use Rattle.dk_base.specs.declared.record.ThreadState.TheVariants as is
-use Rattle.dk_base.specs.declared.record.CallStage.TheVariants as stage
+use Rattle.kernel_records.specs.declared.record.ThreadState.TheVariants as is
+use Rattle.kernel_records.specs.declared.record.CallStage.TheVariants as stage
 use Rattle.written_kernel.specs.Words.{at_stage, ended_process, is_owned, is_queued, tid, without_arguments_at}
-use Rattle.kernel_laws.specs.Core.{Core}
-use Rattle.kernel_laws.specs.Invariant.{IsCoherent}
-use Rattle.kernel_laws.specs.Once.{owner_in}
-use Rattle.kernel_laws.proofs.Cores.{set_role, set_serves, set_call, set_door}
+use Rattle.kernel_invariant.specs.Core.{Core}
+use Rattle.kernel_invariant.specs.Invariant.{IsCoherent}
+use Rattle.kernel_invariant.specs.Records.{owner_in}
+use Rattle.kernel_invariant.proofs.Cores.{set_role, set_serves, set_call, set_door}
 
 -- states in which a thread is in no call but the one that it serves
 abbrev pub is_quiet : ThreadState → Bool

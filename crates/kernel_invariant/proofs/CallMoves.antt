@@ -3,14 +3,14 @@ use Rattle.std.specs.Prelude.{ℕ, ◌≡◌, ◌+◌, List, [], true, false, So
 use native.Mathlib.Omega.{arith}
 use Rattle.std.proofs.lemmas.Bool.Decides.{nat_tests}
 use Rattle.dk_base.specs.declared.object.Item.TheVariants as item
-use Rattle.dk_base.specs.declared.record.ThreadState.TheVariants as is
+use Rattle.kernel_records.specs.declared.record.ThreadState.TheVariants as is
 use Rattle.written_kernel.specs.Types.{Call}
-use Rattle.dk_base.specs.declared.record.CallStage.TheVariants as stage
+use Rattle.kernel_records.specs.declared.record.CallStage.TheVariants as stage
 use Rattle.written_kernel.specs.Words.{is_to_collect, new_invocation, tid, without_arguments_at}
-use Rattle.kernel_laws.specs.Once.{item_in}
-use Rattle.kernel_laws.specs.Core.{Core, abandoned_in, valid_in}
-use Rattle.kernel_laws.specs.Invariant.{IsCoherent}
-use Rattle.kernel_laws.proofs.Cores.{set_role, set_serves, set_call, set_new_call}
+use Rattle.kernel_invariant.specs.Records.{item_in}
+use Rattle.kernel_invariant.specs.Core.{Core, abandoned_in, valid_in}
+use Rattle.kernel_invariant.specs.Invariant.{IsCoherent}
+use Rattle.kernel_invariant.proofs.Cores.{set_role, set_serves, set_call, set_new_call}
 
 -- a new call of a running thread waits at a valid door
 abbrev pub with_call_of : Core → ℕ → Call → Core

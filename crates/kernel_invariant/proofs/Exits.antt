@@ -7,21 +7,21 @@ use Rattle.std.proofs.lemmas.List.{length-map}
 use Rattle.std.proofs.lemmas.Bool.Decides.{nat_tests}
 use Rattle.written_kernel.specs.Types.{Call, Door, Fd, Obj, Process, Request, Thread}
 use Rattle.dk_base.specs.declared.error.Errno.TheVariants.{EBADF}
-use Rattle.dk_base.specs.declared.record.ThreadState.TheVariants as is
-use Rattle.dk_base.specs.declared.record.CallStage.TheVariants as stage
+use Rattle.kernel_records.specs.declared.record.ThreadState.TheVariants as is
+use Rattle.kernel_records.specs.declared.record.CallStage.TheVariants as stage
 use Rattle.dk_base.specs.ByNumber.{at_number, with_at_number}
 use Rattle.written_kernel.specs.Words.{State, door_of, dropped_notice, end_process, end_thread, ended_call, ended_process, ended_thread, exit, free_row, invocation_in, invocation_of, is_last, is_owned, is_queued, is_valid, is_valid_door, keeps_alive, lives_in, object_at, object_in, process_in, process_of, state_in, state_of, table_of, thread_of, with_closed_table, with_ended, with_ended_calls, with_ended_threads, with_invocation, with_state, without_arguments_at}
-use Rattle.kernel_laws.specs.Once.{record_of}
-use Rattle.kernel_laws.specs.Core.{Core, core, number_in, notice_in, ended_in, valid_in}
-use Rattle.kernel_laws.specs.Invariant.{IsInOrder, IsCoherent, IsConsistent}
-use Rattle.kernel_laws.specs.Arrows.{ByAct}
-use Rattle.kernel_laws.specs.Arrows.ByAct.{stays, ends}
+use Rattle.kernel_invariant.specs.Records.{record_of}
+use Rattle.kernel_invariant.specs.Core.{Core, core, number_in, notice_in, ended_in, valid_in}
+use Rattle.kernel_invariant.specs.Invariant.{IsInOrder, IsCoherent, IsConsistent}
+use Rattle.kernel_invariant.specs.Arrows.{ByAct}
+use Rattle.kernel_invariant.specs.Arrows.ByAct.{stays, ends}
 use Rattle.std.proofs.lemmas.Option.{slice_get-map}
 use Rattle.written_kernel.proofs.Lists.{at_number-map, at_number-with_at_number, at_number-renumbered_there}
-use Rattle.kernel_laws.proofs.Calls.{find-map, IsInOrder-map}
-use Rattle.kernel_laws.proofs.Cores.{There, SameCore, same_core, set_serves, with_state-core, with_invocation-core}
-use Rattle.kernel_laws.proofs.ThreadMoves.{left_core, leave_keeps, ended_core, ended_call_of, Leaves, may_leave, end_keeps}
-use Rattle.kernel_laws.proofs.Acts.{Does, does_no_call, there, with_state_calls, with_invocation_calls, same_calls_then}
+use Rattle.kernel_invariant.proofs.Calls.{find-map, IsInOrder-map}
+use Rattle.kernel_invariant.proofs.Cores.{There, SameCore, same_core, set_serves, with_state-core, with_invocation-core}
+use Rattle.kernel_invariant.proofs.ThreadMoves.{left_core, leave_keeps, ended_core, ended_call_of, Leaves, may_leave, end_keeps}
+use Rattle.kernel_invariant.proofs.Acts.{Does, does_no_call, there, with_state_calls, with_invocation_calls, same_calls_then}
 
 -- the end of a thread
 

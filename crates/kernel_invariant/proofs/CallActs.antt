@@ -10,17 +10,17 @@ use Rattle.written_kernel.specs.Words.{State, accept, accept_call, answer_call, 
 use Rattle.dk_base.specs.declared.object.Obj.TheVariants as obj
 use Rattle.dk_base.specs.declared.object.Item.TheVariants as item
 use Rattle.dk_base.specs.declared.request.Request.TheVariants as request
-use Rattle.dk_base.specs.declared.record.ThreadState.TheVariants as is
-use Rattle.dk_base.specs.declared.record.CallStage.TheVariants as stage
-use Rattle.kernel_laws.specs.Once.{record_of, item_in}
-use Rattle.kernel_laws.specs.Core.{Core, core, abandoned_in}
-use Rattle.kernel_laws.specs.Invariant.{IsInOrder, IsCoherent, IsConsistent}
-use Rattle.kernel_laws.specs.Arrows.{ByAct}
-use Rattle.kernel_laws.specs.Arrows.ByAct.{stays, makes, returns, answers as collects, enters}
-use Rattle.kernel_laws.proofs.Calls.{find_call, find_call-number, find_call_live, find-past, IsInOrder-push, IsInOrder-with_live_call, length-with_live_call}
-use Rattle.kernel_laws.proofs.Cores.{upd, There, set_role, set_serves, set_call, set_new_call, with_state-core, with_invocation-core, with_call-core, with_new_call-core}
-use Rattle.kernel_laws.proofs.CallMoves.{call_keeps, Parks, entered_core, enter_keeps, returned_core, return_keeps, park_keeps, answered_core, collect_keeps}
-use Rattle.kernel_laws.proofs.Acts.{Does, does_nothing, does_no_call, there, same_rest_then, consistent_from, SameCalls, with_state_calls, with_invocation_calls, same_calls_then}
+use Rattle.kernel_records.specs.declared.record.ThreadState.TheVariants as is
+use Rattle.kernel_records.specs.declared.record.CallStage.TheVariants as stage
+use Rattle.kernel_invariant.specs.Records.{record_of, item_in}
+use Rattle.kernel_invariant.specs.Core.{Core, core, abandoned_in}
+use Rattle.kernel_invariant.specs.Invariant.{IsInOrder, IsCoherent, IsConsistent}
+use Rattle.kernel_invariant.specs.Arrows.{ByAct}
+use Rattle.kernel_invariant.specs.Arrows.ByAct.{stays, makes, returns, answers as collects, enters}
+use Rattle.kernel_invariant.proofs.Calls.{find_call, find_call-number, find_call_live, find-past, IsInOrder-push, IsInOrder-with_live_call, length-with_live_call}
+use Rattle.kernel_invariant.proofs.Cores.{upd, There, set_role, set_serves, set_call, set_new_call, with_state-core, with_invocation-core, with_call-core, with_new_call-core}
+use Rattle.kernel_invariant.proofs.CallMoves.{call_keeps, Parks, entered_core, enter_keeps, returned_core, return_keeps, park_keeps, answered_core, collect_keeps}
+use Rattle.kernel_invariant.proofs.Acts.{Does, does_nothing, does_no_call, there, same_rest_then, consistent_from, SameCalls, with_state_calls, with_invocation_calls, same_calls_then}
 
 -- the arrow of one call, where the others stay
 pub arrow_at :

@@ -2,9 +2,9 @@
 use Rattle.std.specs.Prelude.{ℕ, Option}
 use Rattle.written_kernel.specs.Types.{Request}
 use Rattle.written_kernel.specs.Words.{State, step}
-use Rattle.kernel_laws.specs.Once.{record_of}
-use Rattle.kernel_laws.specs.Invariant.{Invariant}
-use Rattle.kernel_laws.specs.Arrows.{Arrow}
+use Rattle.kernel_invariant.specs.Records.{record_of}
+use Rattle.kernel_invariant.specs.Invariant.{Invariant}
+use Rattle.kernel_invariant.specs.Arrows.{Arrow}
 
 pub record Keeps (m : State) (t : ℕ) (q : Option Request) : Type 0 where
   pub invariant : Invariant (step m t q).state

@@ -4,13 +4,13 @@ use Rattle.std.proofs.Common.{refl, sym, ap, subst, ◌∙◌}
 use native.Mathlib.Omega.{arith}
 use Rattle.std.proofs.lemmas.Bool.Decides.{nat_tests}
 use Rattle.written_kernel.specs.Types.{Fd, ThreadState}
-use Rattle.dk_base.specs.declared.record.ThreadState.TheVariants as is
+use Rattle.kernel_records.specs.declared.record.ThreadState.TheVariants as is
 use Rattle.dk_base.specs.ByNumber.{at_number}
 use Rattle.written_kernel.specs.Words.{IsOpening, State, bound_of, invocation_of, is_queued_call, is_waiting_notice, new_process, new_thread, no_process, pick, pool_of, state_of, thread_of, waiting_call, waiting_items, waiting_notice, with_new_process, with_new_thread, with_notices, with_processes}
 use Rattle.written_kernel.specs.Opening.IsOpening.{processes, thread}
 use Rattle.std.proofs.lemmas.List.Elements.{All-nil}
-use Rattle.kernel_laws.specs.Core.{Core, core, number_in, ended_in}
-use Rattle.kernel_laws.specs.Invariant.{IsInOrder, IsCoherent, Invariant}
+use Rattle.kernel_invariant.specs.Core.{Core, core, number_in, ended_in}
+use Rattle.kernel_invariant.specs.Invariant.{IsInOrder, IsCoherent, Invariant}
 use Rattle.written_kernel.proofs.Lists.{numbered_push}
 
 abbrev may_open : ThreadState → Bool

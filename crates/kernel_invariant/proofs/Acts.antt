@@ -5,17 +5,17 @@ use native.Mathlib.Omega.{arith}
 use Rattle.std.proofs.lemmas.Bool.Decides.{nat_tests}
 use Rattle.written_kernel.specs.Types.{Attrs, Door, Fd, Inv, Name, Obj, PathId, Request, Thread, ThreadState}
 use Rattle.dk_base.specs.declared.object.Obj.TheVariants as obj
-use Rattle.dk_base.specs.declared.record.ThreadState.TheVariants as is
+use Rattle.kernel_records.specs.declared.record.ThreadState.TheVariants as is
 use Rattle.dk_base.specs.ByNumber.{at_number}
 use Rattle.written_kernel.specs.Words.{State, attach, attach_object, attach_unless, await, await_name, create, create_at, end_await, lowest_free, name_of, new_door, new_name, object_at, open_at, open_name, open_path, process_of, state_in, state_of, table_of, thread_of, with_door, with_invocation, with_invocation_in, with_name, with_row, with_state, with_state_in}
-use Rattle.kernel_laws.specs.Once.{has_number, record_of}
-use Rattle.kernel_laws.specs.Core.{core, number_in, ended_in}
-use Rattle.kernel_laws.specs.Invariant.{IsInOrder, IsCoherent, IsConsistent}
-use Rattle.kernel_laws.specs.Arrows.{ByAct}
-use Rattle.kernel_laws.specs.Arrows.ByAct.{stays}
+use Rattle.kernel_invariant.specs.Records.{has_number, record_of}
+use Rattle.kernel_invariant.specs.Core.{core, number_in, ended_in}
+use Rattle.kernel_invariant.specs.Invariant.{IsInOrder, IsCoherent, IsConsistent}
+use Rattle.kernel_invariant.specs.Arrows.{ByAct}
+use Rattle.kernel_invariant.specs.Arrows.ByAct.{stays}
 use Rattle.written_kernel.proofs.Lists.{at_number-with_at_number, numbered_past}
-use Rattle.kernel_laws.proofs.Cores.{There, with_state-core, with_door-core}
-use Rattle.kernel_laws.proofs.ThreadMoves.{turn_keeps, door_keeps, is_quiet}
+use Rattle.kernel_invariant.proofs.Cores.{There, with_state-core, with_door-core}
+use Rattle.kernel_invariant.proofs.ThreadMoves.{turn_keeps, door_keeps, is_quiet}
 
 pub record Does (m : State) (t : ℕ) (q : Option Request) (n : State) : Type 0 where
   pub consistent : IsConsistent n

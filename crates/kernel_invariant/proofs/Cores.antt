@@ -5,10 +5,10 @@ use native.Mathlib.Omega.{arith}
 use Rattle.std.proofs.lemmas.Bool.Decides.{nat_tests}
 use Rattle.written_kernel.specs.Types.{Call, Door, Inv, Thread, ThreadState}
 use Rattle.written_kernel.specs.Words.{State, call_of, thread_of, with_call, with_door, with_invocation, with_invocation_in, with_new_call, with_state, with_state_in}
-use Rattle.kernel_laws.specs.Core.{Core, core, number_in}
-use Rattle.kernel_laws.specs.Invariant.{IsInOrder}
+use Rattle.kernel_invariant.specs.Core.{Core, core, number_in}
+use Rattle.kernel_invariant.specs.Invariant.{IsInOrder}
 use Rattle.written_kernel.proofs.Lists.{at_number-renumbered_there, numbered_push}
-use Rattle.kernel_laws.proofs.Calls.{find-with_live_call, find-push}
+use Rattle.kernel_invariant.proofs.Calls.{find-with_live_call, find-push}
 
 abbrev pub upd : {X : Type 0} → (ℕ → X) → ℕ → X → ℕ → X
 upd f i x j = if j == i then x else f j

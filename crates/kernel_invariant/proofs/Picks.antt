@@ -4,12 +4,12 @@ use Rattle.std.proofs.Common.{refl, sym, ap, subst, ◌∙◌}
 use native.Mathlib.Omega.{arith}
 use Rattle.std.proofs.lemmas.Bool.Decides.{nat_tests}
 use Rattle.written_kernel.specs.Types.{Door, Thread, ThreadState}
-use Rattle.dk_base.specs.declared.record.ThreadState.TheVariants as is
+use Rattle.kernel_records.specs.declared.record.ThreadState.TheVariants as is
 use Rattle.written_kernel.specs.Words.{Parked, Pool, State, better_parked, bound_of, door_of, is_pool, later_parked, parked_at, parked_in, parked_thread, pick, pick_among, pool_in, pool_of, pool_of_door, pool_of_thread, process_of, state_of, thread_of}
 use Rattle.written_kernel.specs.Pools.Pool.{Common, Private}
-use Rattle.kernel_laws.specs.Once.{owner_in}
-use Rattle.kernel_laws.specs.Core.{Core, core, valid_in}
-use Rattle.kernel_laws.specs.Invariant.{IsCoherent}
+use Rattle.kernel_invariant.specs.Records.{owner_in}
+use Rattle.kernel_invariant.specs.Core.{Core, core, valid_in}
+use Rattle.kernel_invariant.specs.Invariant.{IsCoherent}
 
 abbrev pub pool_by : ℕ → Option ℕ → Pool
 pool_by p None = Common p

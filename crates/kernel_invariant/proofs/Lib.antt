@@ -1,0 +1,11 @@
+pub mod Calls
+pub mod Cores
+pub mod CallMoves
+pub mod ThreadMoves
+pub mod Acts
+pub mod CallActs
+pub mod Exits
+pub mod Picks
+pub mod Settling
+pub mod Events
+pub mod Openings

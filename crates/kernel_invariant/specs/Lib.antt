@@ -1,0 +1,5 @@
+pub mod Records
+pub mod Core
+pub mod Invariant
+pub mod Arrows
+pub mod Events

@@ -1,0 +1,13 @@
+//! What every event of the written kernel keeps. Nothing runs here: a function has no body, and a call of it hands its laws
+//! to the caller's proof.
+
+ghost use Rattle.std.specs.Prelude.{ℕ, Option};
+ghost use Rattle.written_kernel.specs.Types.{Request};
+ghost use Rattle.written_kernel.specs.Words.{MayTurn, State};
+ghost use Rattle.kernel_invariant.specs.Invariant.{Invariant};
+ghost use Rattle.kernel_invariant.specs.Events.{Keeps};
+
+/// Every event that may be keeps the invariant, and each call's record takes arrows of the table.
+pub fn every_event()
+    ensures { (m : State) (t : ℕ) (q : Option Request) → Invariant m → MayTurn m t q → Keeps m t q }
+{}
