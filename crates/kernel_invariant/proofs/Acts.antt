@@ -3,11 +3,11 @@ use Rattle.std.specs.Prelude.{ℕ, ◌≡◌, ◌+◌, Option, true, false, ◌=
 use Rattle.std.proofs.Common.{refl, sym, ap, subst, ◌∙◌}
 use native.Mathlib.Omega.{arith}
 use Rattle.std.proofs.lemmas.Bool.Decides.{nat_tests}
-use Rattle.written_kernel.specs.Types.{Attrs, Door, Fd, Inv, Name, Obj, PathId, Request, Thread, ThreadState}
+use Rattle.written_kernel.specs.Types.{Answer, Attrs, Door, Fd, Inv, Name, Obj, PathId, Request, Thread, ThreadState}
 use Rattle.dk_base.specs.declared.object.Obj.TheVariants as obj
 use Rattle.kernel_records.specs.declared.record.ThreadState.TheVariants as is
 use Rattle.dk_base.specs.ByNumber.{at_number}
-use Rattle.written_kernel.specs.Words.{State, attach, attach_object, attach_unless, await, await_name, create, create_at, end_await, lowest_free, name_of, new_door, new_name, object_at, open_at, open_name, open_path, process_of, state_in, state_of, table_of, thread_of, with_door, with_invocation, with_invocation_in, with_name, with_row, with_state, with_state_in}
+use Rattle.written_kernel.specs.Words.{ActResult, State, attach, attach_object, attach_unless, await, await_name, create, create_at, end_await, lowest_free, name_of, new_door, new_name, object_at, open_at, open_name, open_path, process_of, state_in, state_of, table_of, thread_of, with_door, with_invocation, with_invocation_in, with_name, with_row, with_state, with_state_in}
 use Rattle.kernel_invariant.specs.Records.{has_number, record_of}
 use Rattle.kernel_invariant.specs.Core.{core, number_in, ended_in}
 use Rattle.kernel_invariant.specs.Invariant.{IsInOrder, IsCoherent, IsConsistent}
@@ -17,12 +17,16 @@ use Rattle.written_kernel.proofs.Lists.{at_number-with_at_number, numbered_past}
 use Rattle.kernel_invariant.proofs.Cores.{There, with_state-core, with_door-core}
 use Rattle.kernel_invariant.proofs.ThreadMoves.{turn_keeps, door_keeps, is_quiet}
 
-pub record Does (m : State) (t : ℕ) (q : Option Request) (n : State) : Type 0 where
-  pub consistent : IsConsistent n
-  pub arrows : (c : ℕ) → ByAct m t q n (record_of m c) (record_of n c)
+pub record Does (m : State) (t : ℕ) (q : Option Request) (a : ActResult) : Type 0 where
+  pub consistent : IsConsistent a.state
+  pub arrows : (c : ℕ) → ByAct m t q a.answer a.state (record_of m c) (record_of a.state c)
 
-pub does_nothing : (m : State) (t : ℕ) (q : Option Request) → IsConsistent m → Does m t q m
-does_nothing m t q h = record { consistent = h; arrows = λ c. stays }
+-- an act that leaves this state and answers this
+abbrev pub act_result : State → Answer → ActResult
+act_result n a = record { state = n; answer = a }
+
+pub does_nothing : (m : State) (t : ℕ) (q : Option Request) (a : Answer) → IsConsistent m → Does m t q (act_result m a)
+does_nothing m t q a h = record { consistent = h; arrows = λ c. stays }
 
 -- a thread that is not Done is there
 there_in : (o : Option Thread) → (state_in o ≡ is.Done → ⊥) → is_some (number_in o) ≡ true
@@ -97,58 +101,59 @@ same_calls_then m n o h g =
 
 -- an act that leaves the calls alone
 pub does_no_call :
-    (m : State) (t : ℕ) (q : Option Request) (n : State) → IsConsistent m → SameCalls m n → IsCoherent (core n) → Does m t q n
-does_no_call m t q n h g k =
+    (m : State) (t : ℕ) (q : Option Request) (n : State) (a : Answer) → IsConsistent m → SameCalls m n → IsCoherent (core n) →
+    Does m t q (act_result n a)
+does_no_call m t q n a h g k =
     record {
       consistent =
           consistent_from m n h g.rest (subst (λ rs. IsInOrder 0 rs) (sym g.calls) h.in_order)
           (ap length g.calls ∙ h.counted ∙ sym g.made)
           k;
-      arrows = λ c. subst (λ rs. ByAct m t q n (record_of m c) (find (has_number c) rs)) (sym g.calls) stays;
+      arrows = λ c. subst (λ rs. ByAct m t q a n (record_of m c) (find (has_number c) rs)) (sym g.calls) stays;
     }
 
 turned_to :
-    (m : State) (t : ℕ) (q : Option Request) (s : ThreadState) → IsConsistent m → is_quiet (state_of m t) ≡ true →
-    is_quiet s ≡ true → Does m t q (with_state m t s)
-turned_to m t q s h e f =
-    does_no_call m t q (with_state m t s) h (with_state_calls m t s)
+    (m : State) (t : ℕ) (q : Option Request) (s : ThreadState) (a : Answer) → IsConsistent m → is_quiet (state_of m t) ≡ true →
+    is_quiet s ≡ true → Does m t q (act_result (with_state m t s) a)
+turned_to m t q s a h e f =
+    does_no_call m t q (with_state m t s) a h (with_state_calls m t s)
     (subst IsCoherent
     (sym (with_state-core m t s (core m) refl (there m t (λ d. grind arith))))
     (turn_keeps (core m) t s h.coherent e f))
 
 pub found_does :
     (m : State) (t : ℕ) (q : Option Request) (path : PathId) → IsConsistent m → state_of m t ≡ is.Awaiting path →
-    Does m t q (end_await m t).state
-found_does m t q path h e = turned_to m t q is.Running h (grind arith) refl
+    Does m t q (end_await m t)
+found_does m t q path h e = turned_to m t q is.Running _ h (grind arith) refl
 
 pub await_does :
     (m : State) (t : ℕ) (q : Option Request) (path : PathId) → IsConsistent m → state_of m t ≡ is.Running →
-    Does m t q (await m t path).state
+    Does m t q (await m t path)
 await_does m t q path h e = go (name_of m path)
   where
-    go : (o : Option Name) → Does m t q (await_name m t path o).state
-    go (Some n) = does_nothing m t q h
-    go None = turned_to m t q (is.Awaiting path) h (grind arith) refl
+    go : (o : Option Name) → Does m t q (await_name m t path o)
+    go (Some n) = does_nothing m t q _ h
+    go None = turned_to m t q (is.Awaiting path) _ h (grind arith) refl
 
-with_name_does : (m : State) (t : ℕ) (q : Option Request) (n : Name) → IsConsistent m → Does m t q (with_name m n)
-with_name_does m t q n h =
-    does_no_call m t q (with_name m n) h
+with_name_does : (m : State) (t : ℕ) (q : Option Request) (n : Name) (a : Answer) → IsConsistent m → Does m t q (act_result (with_name m n) a)
+with_name_does m t q n a h =
+    does_no_call m t q (with_name m n) a h
     (record { rest = record { tables = refl; processes = refl; notices = refl; bound = refl }; calls = refl; made = refl })
     h.coherent
 
 pub attach_does :
     (m : State) (t : ℕ) (q : Option Request) (p : ℕ) (fd : Fd) (path : PathId) → IsConsistent m →
-    Does m t q (attach m p fd path).state
+    Does m t q (attach m p fd path)
 attach_does m t q p fd path h = go (object_at m p fd)
   where
-    unless : (n : Name) (o : Option Name) → Does m t q (attach_unless m n o).state
-    unless n (Some other) = does_nothing m t q h
-    unless n None = with_name_does m t q n h
+    unless : (n : Name) (o : Option Name) → Does m t q (attach_unless m n o)
+    unless n (Some other) = does_nothing m t q _ h
+    unless n None = with_name_does m t q n _ h
 
-    go : (o : Option Obj) → Does m t q (attach_object m path o).state
-    go None = does_nothing m t q h
+    go : (o : Option Obj) → Does m t q (attach_object m path o)
+    go None = does_nothing m t q _ h
     go (Some (obj.Door d)) = unless (new_name m path d) (name_of m path)
-    go (Some _) = does_nothing m t q h
+    go (Some _) = does_nothing m t q _ h
 
 -- a running thread's process has not ended
 pub not_ended : (m : State) (t : ℕ) → IsConsistent m → state_of m t ≡ is.Running → ended_in (at_number m.processes (process_of m t)) ≡ false
@@ -168,16 +173,16 @@ with_row_keeps m p place o h e =
 
 pub open_does :
     (m : State) (t : ℕ) (q : Option Request) (path : PathId) → IsConsistent m → state_of m t ≡ is.Running →
-    Does m t q (open_path m (process_of m t) path).state
+    Does m t q (open_path m (process_of m t) path)
 open_does m t q path h e = go (name_of m path)
   where
-    at : (n : Name) (o : Option ℕ) → Does m t q (open_at m (process_of m t) n o).state
-    at n None = does_nothing m t q h
+    at : (n : Name) (o : Option ℕ) → Does m t q (open_at m (process_of m t) n o)
+    at n None = does_nothing m t q _ h
     at n (Some place) =
         record { consistent = with_row_keeps m (process_of m t) place (obj.Door n.door) h (not_ended m t h e); arrows = λ c. stays }
 
-    go : (o : Option Name) → Does m t q (open_name m (process_of m t) o).state
-    go None = does_nothing m t q h
+    go : (o : Option Name) → Does m t q (open_name m (process_of m t) o)
+    go None = does_nothing m t q _ h
     go (Some n) = at n (lowest_free (table_of m (process_of m t)))
 
 with_door_keeps :
@@ -190,11 +195,11 @@ with_door_keeps m d h e =
 
 pub create_does :
     (m : State) (t : ℕ) (q : Option Request) (entry cookie : ℕ) (attrs : Attrs) → IsConsistent m → state_of m t ≡ is.Running →
-    Does m t q (create m (process_of m t) entry cookie attrs).state
+    Does m t q (create m (process_of m t) entry cookie attrs)
 create_does m t q entry cookie attrs h e = go (lowest_free (table_of m (process_of m t)))
   where
-    go : (o : Option ℕ) → Does m t q (create_at m (process_of m t) (new_door m (process_of m t) entry cookie attrs) o).state
-    go None = does_nothing m t q h
+    go : (o : Option ℕ) → Does m t q (create_at m (process_of m t) (new_door m (process_of m t) entry cookie attrs) o)
+    go None = does_nothing m t q _ h
     go (Some place) =
         record {
           consistent =

@@ -7,6 +7,7 @@ use Rattle.std.proofs.lemmas.List.{length-map}
 use Rattle.std.proofs.lemmas.Bool.Decides.{nat_tests}
 use Rattle.written_kernel.specs.Types.{Call, Door, Fd, Obj, Process, Request, Thread}
 use Rattle.dk_base.specs.declared.error.Errno.TheVariants.{EBADF}
+use Rattle.dk_base.specs.declared.answer.Answer.TheVariants as answer
 use Rattle.kernel_records.specs.declared.record.ThreadState.TheVariants as is
 use Rattle.kernel_records.specs.declared.record.CallStage.TheVariants as stage
 use Rattle.dk_base.specs.ByNumber.{at_number, with_at_number}
@@ -16,20 +17,21 @@ use Rattle.kernel_invariant.specs.Core.{Core, core, number_in, notice_in, ended_
 use Rattle.kernel_invariant.specs.Invariant.{IsInOrder, IsCoherent, IsConsistent}
 use Rattle.kernel_invariant.specs.Arrows.{ByAct}
 use Rattle.kernel_invariant.specs.Arrows.ByAct.{stays, ends}
+use Rattle.kernel_invariant.specs.Arrows.EndsBy.{door_invalid}
 use Rattle.std.proofs.lemmas.Option.{slice_get-map}
 use Rattle.written_kernel.proofs.Lists.{at_number-map, at_number-with_at_number, at_number-renumbered_there}
 use Rattle.kernel_invariant.proofs.Calls.{find-map, IsInOrder-map}
 use Rattle.kernel_invariant.proofs.Cores.{There, SameCore, same_core, set_serves, with_state-core, with_invocation-core}
 use Rattle.kernel_invariant.proofs.ThreadMoves.{left_core, leave_keeps, ended_core, ended_call_of, Leaves, may_leave, end_keeps}
-use Rattle.kernel_invariant.proofs.Acts.{Does, does_no_call, there, with_state_calls, with_invocation_calls, same_calls_then}
+use Rattle.kernel_invariant.proofs.Acts.{Does, act_result, does_no_call, there, with_state_calls, with_invocation_calls, same_calls_then}
 
 -- the end of a thread
 
 end_thread_does :
     (m : State) (t : ℕ) (q : Option Request) → IsConsistent m → state_of m t ≡ is.Running → invocation_of m t ≡ None →
-    Does m t q (end_thread m t)
+    Does m t q (act_result (end_thread m t) answer.Done)
 end_thread_does m t q h e f =
-    does_no_call m t q n h
+    does_no_call m t q n _ h
     (same_calls_then m n1 n (with_invocation_calls m t None) (with_state_calls n1 t is.Done))
     (subst IsCoherent (sym l) (leave_keeps (core m) t h.coherent e f))
   where
@@ -138,7 +140,8 @@ ended_invalid k p None f = grind arith
 ended_invalid k p (Some d) f = grind (arith, nat_tests, ended_lives (k.proc p))
 
 end_process_does :
-    (m : State) (t : ℕ) (q : Option Request) (p : ℕ) → IsConsistent m → Leaves (core m) p → Does m t q (end_process m p)
+    (m : State) (t : ℕ) (q : Option Request) (p : ℕ) → IsConsistent m → Leaves (core m) p →
+    Does m t q (act_result (end_process m p) answer.Done)
 end_process_does m t q p h s =
     record {
       consistent =
@@ -153,7 +156,7 @@ end_process_does m t q p h s =
                   unbound = λ u. ap (λ (k : Core). k.bound u) e ∙ h.unbuilt.unbound u;
                 };
           };
-      arrows = λ c. subst (λ o. ByAct m t q n (record_of m c) o) (sym (ap (λ (k : Core). k.call c) e)) (arrow c (record_of m c) refl);
+      arrows = λ c. subst (λ o. ByAct m t q answer.Done n (record_of m c) o) (sym (ap (λ (k : Core). k.call c) e)) (arrow c (record_of m c) refl);
     }
   where
     n : State
@@ -177,16 +180,23 @@ end_process_does m t q p h s =
     invalid r f =
         is_valid-core n r.door ∙ ap (λ (k : Core). valid_in k (k.door r.door)) e ∙ ended_invalid (core m) p (door_of m r.door) f
 
-    arrow : (c : ℕ) (o : Option Call) → record_of m c ≡ o → ByAct m t q n o (option_map (ended_call_of (core m) p) o)
+    -- the caller of a call that waits is Calling, and so of another process
+    stays_calling : (c : ℕ) (r : Call) → record_of m c ≡ Some r → r.stage ≡ stage.Queued → state_of n r.caller.0 ≡ is.Done → ⊥
+    stays_calling c r f w g =
+        let calls : state_of m r.caller.0 ≡ is.Calling c = grind (arith, h.coherent.calling c) in
+        grind (arith, nat_tests, s.states r.caller.0, ap (λ (k : Core). k.role r.caller.0) e)
+
+    arrow : (c : ℕ) (o : Option Call) → record_of m c ≡ o → ByAct m t q answer.Done n o (option_map (ended_call_of (core m) p) o)
     arrow c None f = stays
     arrow c (Some r) f = go (is_queued r.stage) (is_owned p (door_of m r.door)) refl refl
       where
         go :
             (a b : Bool) → is_queued r.stage ≡ a → is_owned p (door_of m r.door) ≡ b →
-            ByAct m t q n (Some r) (Some (if a && b then without_arguments_at r (stage.Ended EBADF) else r))
+            ByAct m t q answer.Done n (Some r) (Some (if a && b then without_arguments_at r (stage.Ended EBADF) else r))
         go true true x y =
             let queued : r.stage ≡ stage.Queued = grind arith in
-            ends r queued (is_valid-core m r.door ∙ grind (arith, h.coherent.waiting_valid c)) (invalid r y)
+            ends r EBADF
+            (door_invalid queued (is_valid-core m r.door ∙ grind (arith, h.coherent.waiting_valid c)) (invalid r y) (stays_calling c r f queued))
         go true false x y = stays
         go false b x y = stays
 
@@ -222,11 +232,11 @@ last_leaves m t h e f g = record { states = λ u i. (each u (thread_of m u) refl
 
 pub exit_does :
     (m : State) (t : ℕ) (q : Option Request) → IsConsistent m → state_of m t ≡ is.Running → invocation_of m t ≡ None →
-    Does m t q (exit m t (process_of m t)).state
+    Does m t q (exit m t (process_of m t))
 exit_does m t q h e f = go (is_last m t (process_of m t)) refl
   where
     go :
         (b : Bool) → is_last m t (process_of m t) ≡ b →
-        Does m t q (if b then end_process m (process_of m t) else end_thread m t)
+        Does m t q (act_result (if b then end_process m (process_of m t) else end_thread m t) answer.Done)
     go true g = end_process_does m t q (process_of m t) h (last_leaves m t h e f g)
     go false g = end_thread_does m t q h e f

@@ -7,5 +7,11 @@ pub mod CallActs
 pub mod Exits
 pub mod Picks
 pub mod Settling
+pub mod Steps
+pub mod Serving
+pub mod Doors
+pub mod Answers
+pub mod Waits
+pub mod Refusals
 pub mod Events
 pub mod Openings

@@ -4,10 +4,10 @@ use Rattle.std.proofs.Common.{refl, sym, ap, subst, ◌∙◌, inl, inr}
 use native.Mathlib.Omega.{arith}
 use Rattle.std.proofs.lemmas.Bool.Decides.{nat_tests}
 use Rattle.dk_base.specs.declared.object.Item.TheVariants as item
-use Rattle.written_kernel.specs.Types.{Call, Thread, ThreadState}
+use Rattle.written_kernel.specs.Types.{Call, ThreadState}
 use Rattle.kernel_records.specs.declared.record.ThreadState.TheVariants as is
 use Rattle.kernel_records.specs.declared.record.CallStage.TheVariants as stage
-use Rattle.written_kernel.specs.Words.{Parked, State, at_stage, call_of, door_of, give_call, give_each, give_one, give_to, is_queued, is_queued_call, is_waiting_notice, pick, pool_of, settle, thread_of, tid, waiting_call, waiting_items, waiting_notice, with_call, with_notices, with_state, with_state_in}
+use Rattle.written_kernel.specs.Words.{Parked, State, at_stage, call_of, door_of, give_call, give_each, give_one, give_to, invocation_of, is_queued, is_queued_call, is_waiting_notice, pick, pool_of, settle, state_of, tid, waiting_call, waiting_items, waiting_notice, with_call, with_notices, with_state}
 use Rattle.kernel_invariant.specs.Records.{has_number, record_of}
 use Rattle.kernel_invariant.specs.Core.{Core, core, door_in, valid_in}
 use Rattle.kernel_invariant.specs.Invariant.{IsInOrder, IsCoherent, IsConsistent}
@@ -29,17 +29,32 @@ giving_then o p q (gives r u e) b = go _ _ b refl
     go x y stays f = subst (λ z. ByGiving (Some r) z) (sym f) (gives r u e)
     go x y (gives s v g) f = grind arith
 
+abbrev pub is_idle : ThreadState → Bool
+is_idle (is.Idle since) = true
+is_idle _ = false
+
 -- what giving keeps, and the arrows that calls take by it
 pub record Gave (m n : State) : Type 0 where
   pub consistent : IsConsistent n
   pub arrows : (c : ℕ) → ByGiving (record_of m c) (record_of n c)
-  pub serves : (t : ℕ) → (core n).serves t ≡ (core m).serves t
-  pub doors : n.doors ≡ m.doors
-  pub processes : n.processes ≡ m.processes
+  pub serves : (t : ℕ) → invocation_of n t ≡ invocation_of m t
+  -- only idle threads turn to another state, and none is done
+  pub busy : (t : ℕ) → is_idle (state_of m t) ≡ false → state_of n t ≡ state_of m t
+  pub done : (t : ℕ) → state_of n t ≡ is.Done → state_of m t ≡ is.Done
+  pub doors : (d : ℕ) → door_of n d ≡ door_of m d
+  pub processes : (p : ℕ) → (core n).proc p ≡ (core m).proc p
 
 pub gave_nothing : (m : State) → IsConsistent m → Gave m m
 gave_nothing m h =
-    record { consistent = h; arrows = λ c. stays; serves = λ t. refl; doors = refl; processes = refl }
+    record {
+      consistent = h;
+      arrows = λ c. stays;
+      serves = λ t. refl;
+      busy = λ t e. refl;
+      done = λ t e. e;
+      doors = λ d. refl;
+      processes = λ p. refl;
+    }
 
 gave_then : (m n o : State) → Gave m n → Gave n o → Gave m o
 gave_then m n o g h =
@@ -47,8 +62,10 @@ gave_then m n o g h =
       consistent = h.consistent;
       arrows = λ c. giving_then (record_of m c) (record_of n c) (record_of o c) (g.arrows c) (h.arrows c);
       serves = λ t. h.serves t ∙ g.serves t;
-      doors = h.doors ∙ g.doors;
-      processes = h.processes ∙ g.processes;
+      busy = λ t e. h.busy t (ap is_idle (g.busy t e) ∙ e) ∙ g.busy t e;
+      done = λ t e. g.done t (h.done t e);
+      doors = λ d. h.doors d ∙ g.doors d;
+      processes = λ p. h.processes p ∙ g.processes p;
     }
 
 -- the arrow of one call, where the others stay
@@ -65,18 +82,6 @@ giving_at i x f g e a c = go (c == i) refl
     go false h =
         let is : g c ≡ f c = grind (arith, e c) in
         subst (λ o. ByGiving (f c) o) (sym is) stays
-
--- what a change of a thread's state leaves alone, besides calls
-record SameDoors (m n : State) : Type 0 where
-  doors : n.doors ≡ m.doors
-  processes : n.processes ≡ m.processes
-
-with_state_doors : (m : State) (t : ℕ) (s : ThreadState) → SameDoors m (with_state m t s)
-with_state_doors m t s = go (thread_of m t)
-  where
-    go : (o : Option Thread) → SameDoors m (with_state_in m t s o)
-    go None = record { doors = refl; processes = refl }
-    go (Some x) = record { doors = refl; processes = refl }
 
 -- a waiting call, to the pick of its pool if there is one
 
@@ -101,8 +106,10 @@ given_does m r u h g f =
                 giving_at r.number x (λ c. record_of m c) (λ c. record_of n c) (λ c. ap (λ (k : Core). k.call c) l)
                 (subst (λ o. ByGiving o (Some x)) (sym g.found) (gives r u g.queued));
             serves = λ t. ap (λ (k : Core). k.serves t) l;
-            doors = (with_state_doors n1 u (is.Given (item.Call r.number))).doors;
-            processes = (with_state_doors n1 u (is.Given (item.Call r.number))).processes;
+            busy = λ t e. grind (arith, nat_tests, g.idle, ap (λ (k : Core). k.role t) l);
+            done = λ t e. grind (arith, nat_tests, ap (λ (k : Core). k.role t) l);
+            doors = λ d. ap (λ (k : Core). k.door d) l;
+            processes = λ p. ap (λ (k : Core). k.proc p) l;
           };
       others = λ c e. grind (arith, ap (λ (k : Core). k.call c) l);
     }

@@ -1,11 +1,97 @@
--- What every event does: it keeps the invariant, and each call's record takes arrows of the table.
-use Rattle.std.specs.Prelude.{ℕ, Option}
-use Rattle.written_kernel.specs.Types.{Request}
-use Rattle.written_kernel.specs.Words.{State, step}
-use Rattle.kernel_invariant.specs.Records.{record_of}
+-- What every event does: it keeps the invariant; each call's record takes arrows of the table, and the invocation of each
+-- thread one of its own; what its answer tells is so; doors are made and kept; and a refused entry changes nothing.
+use Rattle.std.specs.Prelude.{ℕ, ◌≡◌, ◌+◌, Option, List, Some, None}
+use Rattle.written_kernel.specs.Types.{Answer, Door, Errno, Fd, Inv, Item, Pass, Request}
+use Rattle.dk_base.specs.declared.object.Item.TheVariants as item
+use Rattle.dk_base.specs.declared.request.Request.TheVariants as request
+use Rattle.dk_base.specs.declared.answer.Answer.TheVariants as answer
+use Rattle.kernel_records.specs.declared.record.ThreadState.TheVariants as is
+use Rattle.kernel_records.specs.declared.record.CallStage.TheVariants as stage
+use Rattle.written_kernel.specs.Words.{State, door_of, invocation_of, new_invocation, process_of, state_of, step, tid, with_event_counted}
+use Rattle.kernel_invariant.specs.Records.{record_of, stage_of}
 use Rattle.kernel_invariant.specs.Invariant.{Invariant}
 use Rattle.kernel_invariant.specs.Arrows.{Arrow}
 
+-- the answer says that an invocation of this item begins
+abbrev pub Begins : Answer → Item → Type 0
+Begins (answer.Entered c entry cookie bytes fds) i = i ≡ item.Call c
+Begins (answer.EnteredNotice n entry cookie) i = i ≡ item.Notice n
+Begins a i = ⊥
+
+-- The invocation of thread u, by an event of thread t: it stays, begins at an accept of its own, ends at a Return of its own
+-- that is not refused, or leaves with its thread.
+pub data InvocationArrow (m : State) (t : ℕ) (q : Option Request) (a : Answer) (n : State) (u : ℕ) : Option Inv → Option Inv → Type 0 where
+  stays : {v : Option Inv} → InvocationArrow m t q a n u v v
+  begins :
+      (i : Item) → u ≡ t → q ≡ None → state_of m t ≡ is.Given i → Begins a i →
+      InvocationArrow m t q a n u None (Some (new_invocation i))
+  ends :
+      (v : Inv) (bytes : List ℕ) (pass : List Pass) → u ≡ t → q ≡ Some (request.Return bytes pass) → a ≡ answer.Wait →
+      InvocationArrow m t q a n u (Some v) None
+  leaves : (v : Inv) → state_of n u ≡ is.Done → InvocationArrow m t q a n u (Some v) None
+
+-- A door, by an event of thread t: it stays, or it is new, made by a Create of this thread with these attributes, and
+-- belongs to the thread's process. What a door keeps is its number, owner, procedure, cookie and attributes.
+pub record IsSameDoor (d e : Door) : Type 0 where
+  pub number : e.number ≡ d.number
+  pub owner : e.owner ≡ d.owner
+  pub entry : e.entry ≡ d.entry
+  pub cookie : e.cookie ≡ d.cookie
+  pub attrs : e.attrs ≡ d.attrs
+
+pub record IsCreated (m : State) (t : ℕ) (q : Option Request) (d : Door) : Type 0 where
+  pub request : q ≡ Some (request.Create d.entry d.cookie d.attrs)
+  pub owner : d.owner.0 ≡ process_of m t
+
+pub data DoorArrow (m : State) (t : ℕ) (q : Option Request) : Option Door → Option Door → Type 0 where
+  none : DoorArrow m t q None None
+  kept : (d e : Door) → IsSameDoor d e → DoorArrow m t q (Some d) (Some e)
+  created : (d : Door) → IsCreated m t q d → DoorArrow m t q None (Some d)
+
+-- a Call of thread t made call c
+pub record IsCallOf (q : Option Request) (c made : ℕ) : Type 0 where
+  pub fd : Fd
+  pub bytes : List ℕ
+  pub pass : List Pass
+  pub rsize : ℕ
+  pub request : q ≡ Some (request.Call fd bytes pass rsize)
+  pub next : c ≡ made + 1
+
+-- thread t waits for the answer of a call
+pub record IsCaller (m : State) (t : ℕ) : Type 0 where
+  pub call : ℕ
+  pub calling : state_of m t ≡ is.Calling call
+
+-- of which act an answer tells
+abbrev pub IsToldBy : State → ℕ → Option Request → Answer → Type 0
+IsToldBy m t q (answer.WaitCall c) = IsCallOf q c m.calls_made
+IsToldBy m t q (answer.Entered c entry cookie bytes fds) = (q ≡ None) × (state_of m t ≡ is.Given (item.Call c))
+IsToldBy m t q (answer.EnteredNotice n entry cookie) = (q ≡ None) × (state_of m t ≡ is.Given (item.Notice n))
+IsToldBy m t q (answer.Results bytes fds grown) = (q ≡ None) × IsCaller m t
+IsToldBy m t q a = Unit {0}
+
+-- there is a record
+pub record IsMade {X : Type 0} (o : Option X) : Type 0 where
+  pub made : X
+  pub there : o ≡ Some made
+
+-- the call is answered, at this event
+abbrev pub IsAnsweredNow : State → State → ℕ → Type 0
+IsAnsweredNow m n c = stage_of n c ≡ Some (stage.Answered (m.events + 1))
+
 pub record Keeps (m : State) (t : ℕ) (q : Option Request) : Type 0 where
   pub invariant : Invariant (step m t q).state
-  pub arrows : (c : ℕ) → Arrow m t q (step m t q).state (record_of m c) (record_of (step m t q).state c)
+  pub arrows :
+      (c : ℕ) → Arrow m t q (step m t q).answer (step m t q).state (record_of m c) (record_of (step m t q).state c)
+  pub invocations :
+      (u : ℕ) → InvocationArrow m t q (step m t q).answer (step m t q).state u (invocation_of m u) (invocation_of (step m t q).state u)
+  pub doors : (d : ℕ) → DoorArrow m t q (door_of m d) (door_of (step m t q).state d)
+  pub told : IsToldBy m t q (step m t q).answer
+  -- the acts that change a call do so
+  pub called : (c : ℕ) → (step m t q).answer ≡ answer.WaitCall c → IsMade (record_of (step m t q).state c)
+  pub accepted :
+      (c : ℕ) → q ≡ None → state_of m t ≡ is.Given (item.Call c) → stage_of (step m t q).state c ≡ Some (stage.Entered (tid t))
+  pub collected : (c : ℕ) → q ≡ None → state_of m t ≡ is.Calling c → IsAnsweredNow m (step m t q).state c
+  -- an entry that is refused changes nothing but the number of events
+  pub refused :
+      (r : Request) (e : Errno) → q ≡ Some r → (step m t q).answer ≡ answer.Failure e → (step m t q).state ≡ with_event_counted m

@@ -7,7 +7,8 @@ ghost use Rattle.written_kernel.specs.Words.{MayTurn, State};
 ghost use Rattle.kernel_invariant.specs.Invariant.{Invariant};
 ghost use Rattle.kernel_invariant.specs.Events.{Keeps};
 
-/// Every event that may be keeps the invariant, and each call's record takes arrows of the table.
+/// Every event that may be keeps the invariant, calls, invocations and doors take the arrows of their tables, what its answer
+/// tells is so, and an entry that is refused changes nothing but the number of events.
 pub fn every_event()
     ensures { (m : State) (t : ℕ) (q : Option Request) → Invariant m → MayTurn m t q → Keeps m t q }
 {}

@@ -1,160 +1,185 @@
--- A door comes only by a Create, of the process of its thread.
-use Rattle.std.specs.Prelude.{ℕ, ◌≡◌, ◌+◌, ◌<◌, List, [], ◌∷◌, ◌++◌, Option, Bool, true, false, ◌==◌, if◌then◌else◌, Some, None, length, slice_get, take}
-use Rattle.std.proofs.Common.{refl, sym, ap, subst, ◌∙◌}
+-- A door comes only by a Create, of the process of its thread, and stays the same.
+use Rattle.std.specs.Prelude.{ℕ, ◌≡◌, ◌+◌, ◌<◌, ◌≤◌, ◌⊎◌, List, Option, Some, None, zero, suc, length, slice_get, take}
+use Rattle.std.proofs.Common.{refl, sym, ap, subst, ◌∙◌, add-one, inl, inr}
 use native.Mathlib.Omega.{arith}
-use Rattle.std.proofs.lemmas.Bool.Decides.{nat_tests}
-use Rattle.written_kernel.specs.Types.{Attrs, Door, Fd, Inv, Item, PathId, Request, ThreadState}
+use Rattle.written_kernel.specs.Types.{Door, Fd, Request}
 use Rattle.dk_base.specs.declared.request.Request.TheVariants as request
-use Rattle.kernel_records.specs.declared.record.ThreadState.TheVariants as is
-use Rattle.dk_base.specs.ByNumber.{at_number}
-use Rattle.written_kernel.specs.Words.{IsOpening, IsRun, MayTurn, State, Turn, accept, act, attach, await, call, collect, create, create_at, door_of, enter, exit, go_on, lowest_free, new_door, now, open_path, park, process_of, return, state_at, state_of, step, table_of, with_invocation, with_state}
-use Rattle.written_kernel.proofs.Lists.{numbered_push}
-use Rattle.written_kernel.proofs.Opening.{opened}
-use Rattle.written_kernel.proofs.Steps.{door_of-step}
-use Rattle.written_kernel.proofs.Runs.{state_at_more, process_of-state_after}
-use Rattle.kernel_invariant.specs.Invariant.{Invariant}
-use Rattle.kernel_laws.specs.MadeByCreator.{IsCreate, IsKept, MadeByCreator}
-use Rattle.kernel_laws.proofs.Induction.{TurnAt, turn_at, Taken, taken_at}
-use Rattle.kernel_invariant.proofs.Events.{StepDoes, step_does}
-use Rattle.kernel_laws.proofs.Once.{entered_there}
+use Rattle.dk_base.specs.declared.answer.Answer.TheVariants as answer
+use Rattle.written_kernel.specs.Words.{State, Turn, door_of, state_at}
+use Rattle.written_kernel.proofs.Runs.{process_of-state_after}
+use Rattle.kernel_invariant.specs.Records.{door_at, door_of_call, owner_in, record_of}
+use Rattle.kernel_invariant.specs.Events.{DoorArrow, IsCreated, IsSameDoor}
+use Rattle.kernel_invariant.specs.Events.DoorArrow.{none, kept, created}
+use Rattle.kernel_laws.specs.Places.{IsOf, answer_at}
+use Rattle.kernel_laws.specs.Once.{Enters}
+use Rattle.kernel_laws.specs.MadeByCreator.{IsCreate, IsKept, MadeByCreator, WasMade}
+use Rattle.kernel_laws.proofs.Known.{Known, TurnAt, invariant_after, next, split, turn_at}
+use Rattle.kernel_laws.proofs.Once.{accepts, entered_by}
+use Rattle.kernel_laws.proofs.Match.{Shows, is_of, shows}
+use Rattle.kernel_laws.proofs.Readers.{EnteredRowAt}
 
-with_state_same : (m : State) (t : ℕ) (s : ThreadState) → (with_state m t s).doors ≡ m.doors
-with_state_same m t s = grind arith
+new_door :
+    (m : State) (t : ℕ) (q : Option Request) (o p : Option Door) (x : Door) → DoorArrow m t q o p → o ≡ None → p ≡ Some x →
+    IsCreated m t q x
+new_door m t q o p x none e f = absurd (cc)
+new_door m t q o p x (kept d y s) e f = absurd (cc)
+new_door m t q o p x (created d h) e f =
+    let same : d ≡ x = cc in
+    subst (IsCreated m t q) same h
 
-with_invocation_same : (m : State) (t : ℕ) (v : Option Inv) → (with_invocation m t v).doors ≡ m.doors
-with_invocation_same m t v = grind arith
+old_door :
+    (m : State) (t : ℕ) (q : Option Request) (o p : Option Door) (x : Door) → DoorArrow m t q o p → o ≡ Some x → IsKept x p
+old_door m t q o p x none e = absurd (cc)
+old_door m t q o p x (kept d y s) e =
+    let same : d ≡ x = cc in
+    record { door = y; there = refl; same = subst (λ (z : Door). IsSameDoor z y) same s }
+old_door m t q o p x (created d h) e = absurd (cc)
 
-call_same : (m : State) (t p : ℕ) (fd : Fd) (bytes : List ℕ) (rsize : ℕ) → (call m t p fd bytes rsize).state.doors ≡ m.doors
-call_same m t p fd bytes rsize = grind arith
+same_door : (o : Option Door) (d x : Door) → o ≡ Some d → o ≡ Some x → d ≡ x
+same_door o d x e f = cc
 
-parked_same : (m : State) (t : ℕ) → (park m t).doors ≡ m.doors
-parked_same m t = with_state_same (with_invocation m t None) t (is.Idle (now m)) ∙ with_invocation_same m t None
+same_request : (d e : Door) → IsSameDoor d e → request.Create d.entry d.cookie d.attrs ≡ request.Create e.entry e.cookie e.attrs
+same_request d e s = cc (s.entry, s.cookie, s.attrs)
 
-return_same : (m : State) (t : ℕ) (bytes : List ℕ) → (return m t bytes).state.doors ≡ m.doors
-return_same m t bytes = grind arith
+create_same :
+    (m : State) (xs : List Turn) (i d : ℕ) (x : Turn) (y z : Door) → IsSameDoor y z → IsCreate m xs i d x y → IsCreate m xs i d x z
+create_same m xs i d x y z s c =
+    record {
+      created =
+          record {
+            request = c.created.request ∙ ap (λ (r : Request). Some r) (same_request y z s);
+            owner = ap (λ p. p.0) s.owner ∙ c.created.owner;
+          };
+      number = s.number ∙ c.number;
+    }
 
-attach_same : (m : State) (p : ℕ) (fd : Fd) (path : PathId) → (attach m p fd path).state.doors ≡ m.doors
-attach_same m p fd path = grind arith
+same_itself : (d : Door) → IsSameDoor d d
+same_itself d = record { number = refl; owner = refl; entry = refl; cookie = refl; attrs = refl }
 
-open_same : (m : State) (p : ℕ) (path : PathId) → (open_path m p path).state.doors ≡ m.doors
-open_same m p path = grind arith
+kept_here : (d : Door) (o : Option Door) → o ≡ Some d → IsKept d o
+kept_here d o e = record { door = d; there = e; same = same_itself d }
 
-await_same : (m : State) (t : ℕ) (path : PathId) → (await m t path).state.doors ≡ m.doors
-await_same m t path = grind arith
-
-exit_same : (m : State) (t p : ℕ) → (exit m t p).state.doors ≡ m.doors
-exit_same m t p = grind arith
-
-accept_same : (m : State) (t : ℕ) (i : Item) → (accept m t i).state.doors ≡ m.doors
-accept_same m t i = grind arith
-
-collect_same : (m : State) (t c : ℕ) → (collect m t c).state.doors ≡ m.doors
-collect_same m t c = grind arith
-
--- the doors after an act or an event of thread t: the same, or one more by its Create
-data DoorsMove (m : State) (t : ℕ) (q : Option Request) (n : State) : Type 0 where
-  same : n.doors ≡ m.doors → DoorsMove m t q n
-  created_one :
-      (entry cookie : ℕ) (attrs : Attrs) → q ≡ Some (request.Create entry cookie attrs) →
-      n.doors ≡ m.doors ++ new_door m (process_of m t) entry cookie attrs ∷ [] → DoorsMove m t q n
-
-create_move :
-    (m : State) (t entry cookie : ℕ) (attrs : Attrs) →
-    DoorsMove m t (Some (request.Create entry cookie attrs)) (create m (process_of m t) entry cookie attrs).state
-create_move m t entry cookie attrs = go (lowest_free (table_of m (process_of m t)))
+kept_then : (d : Door) (o p : Option Door) → IsKept d o → ((y : Door) → o ≡ Some y → IsKept y p) → IsKept d p
+kept_then d o p h f = go (f h.door h.there)
   where
-    go :
-        (o : Option ℕ) →
-        DoorsMove m t (Some (request.Create entry cookie attrs))
-        (create_at m (process_of m t) (new_door m (process_of m t) entry cookie attrs) o).state
-    go None = same refl
-    go (Some place) = created_one entry cookie attrs refl refl
+    go : IsKept h.door p → IsKept d p
+    go g =
+        record {
+          door = g.door;
+          there = g.there;
+          same =
+              record {
+                number = g.same.number ∙ h.same.number;
+                owner = g.same.owner ∙ h.same.owner;
+                entry = g.same.entry ∙ h.same.entry;
+                cookie = g.same.cookie ∙ h.same.cookie;
+                attrs = g.same.attrs ∙ h.same.attrs;
+              };
+        }
 
-enter_move : (m : State) (t : ℕ) (r : Request) → DoorsMove m t (Some r) (enter m t (process_of m t) r).state
-enter_move m t (request.Create entry cookie attrs) = create_move m t entry cookie attrs
-enter_move m t (request.Call fd bytes pass rsize) = same (call_same m t (process_of m t) fd bytes rsize)
-enter_move m t (request.Return bytes pass) = same (return_same m t bytes)
-enter_move m t (request.Attach fd path) = same (attach_same m (process_of m t) fd path)
-enter_move m t (request.Open path) = same (open_same m (process_of m t) path)
-enter_move m t (request.Await path) = same (await_same m t path)
-enter_move m t request.Exit = same (exit_same m t (process_of m t))
-enter_move m t r = same refl
+module _ (m : State) (xs : List Turn) (k : Known m xs) where
+  arrow_at :
+      (i d : ℕ) (x : Turn) → slice_get xs i ≡ Some x →
+      DoorArrow (state_at m xs i) x.thread x.request (door_of (state_at m xs i) d) (door_of (state_at m xs (i + 1)) d)
+  arrow_at i d x e =
+      subst (λ n. DoorArrow (state_at m xs i) x.thread x.request (door_of (state_at m xs i) d) (door_of n d)) (sym (next m xs k i x e))
+      ((k.keeps i x e).doors d)
 
-go_on_same : (m : State) (t : ℕ) (s : ThreadState) → (go_on m t s).state.doors ≡ m.doors
-go_on_same m t (is.Given i) = accept_same m t i
-go_on_same m t (is.Calling c) = collect_same m t c
-go_on_same m t (is.Awaiting path) = with_state_same m t is.Running
-go_on_same m t s = refl
-
-act_move : (m : State) (t : ℕ) (q : Option Request) → DoorsMove m t q (act m t q).state
-act_move m t (Some r) = enter_move m t r
-act_move m t None = same (go_on_same m t (state_of m t))
-
-move_later : (m : State) (t : ℕ) (q : Option Request) (n o : State) → o.doors ≡ n.doors → DoorsMove m t q n → DoorsMove m t q o
-move_later m t q n o e (same f) = same (e ∙ f)
-move_later m t q n o e (created_one entry cookie attrs f g) = created_one entry cookie attrs f (e ∙ g)
-
-step_move : (m : State) (t : ℕ) (q : Option Request) → Invariant m → MayTurn m t q → DoorsMove m t q (step m t q).state
-unfolding step
-step_move m t q h may =
-    let d : StepDoes m t q = step_does m t q h may in
-    move_later m t q (act m t q).state _ d.settled.gave.doors (act_move m t q)
-
--- a door that is there after an event and was not before
-
-record Created (m : State) (t : ℕ) (q : Option Request) (d : Door) : Type 0 where
-  request : q ≡ Some (request.Create d.entry d.cookie d.attrs)
-  owner : d.owner.0 ≡ process_of m t
-
-pushed : (xs : List Door) (y x : Door) (d : ℕ) → at_number xs d ≡ None → at_number (xs ++ y ∷ []) d ≡ Some x → y ≡ x
-pushed xs y x d e f = go (d == length xs + 1) (sym (numbered_push xs y d) ∙ f)
-  where
-    go : (b : Bool) → (if b then Some y else at_number xs d) ≡ Some x → y ≡ x
-    go true g = cc
-    go false g = grind arith
-
-new_is_created :
-    (m : State) (t : ℕ) (q : Option Request) (n : State) (d : ℕ) (x : Door) → DoorsMove m t q n → door_of m d ≡ None →
-    door_of n d ≡ Some x → Created m t q x
-new_is_created m t q n d x (same e) f g = grind arith
-new_is_created m t q n d x (created_one entry cookie attrs e g) f k =
-    subst (λ (y : Door). Created m t q y)
-    (pushed m.doors (new_door m (process_of m t) entry cookie attrs) x d f (sym (ap (λ ds. at_number ds d) g) ∙ k))
-    (record { request = e; owner = refl })
-
-module _ (m : State) (xs : List Turn) (opens : IsOpening m) (run : IsRun m xs) where
   made :
       (i d : ℕ) (x : Turn) (door : Door) → slice_get xs i ≡ Some x → door_of (state_at m xs i) d ≡ None →
-      door_of (state_at m xs (i + 1)) d ≡ Some door → IsCreate m xs i x door
-  made i d x door e f g =
-      let k : Taken m xs i x = taken_at m xs opens run i x e in
-      let c : Created (state_at m xs i) x.thread x.request door =
-      new_is_created (state_at m xs i) x.thread x.request _ d door
-      (step_move (state_at m xs i) x.thread x.request k.invariant k.may) f
-      (ap (λ n. door_of n d) (sym k.next) ∙ g) in
-      record { request = c.request; owner = c.owner }
+      door_of (state_at m xs (i + 1)) d ≡ Some door → IsCreate m xs i d x door
+  made i d x door e b a =
+      record {
+        created = new_door (state_at m xs i) x.thread x.request _ _ door (arrow_at i d x e) b a;
+        number = (invariant_after m xs k i x e).consistent.coherent.door_number d door a;
+      }
 
-  kept :
+  keeps_door :
       (i d : ℕ) (door : Door) → i < length xs → door_of (state_at m xs i) d ≡ Some door →
       IsKept door (door_of (state_at m xs (i + 1)) d)
-  kept i d door l e =
-      let t : TurnAt xs i = turn_at xs i l in
+  keeps_door i d door l e = go (turn_at xs i l)
+    where
+      go : TurnAt xs i → IsKept door (door_of (state_at m xs (i + 1)) d)
+      go t = old_door (state_at m xs i) t.turn.thread t.turn.request _ _ door (arrow_at i d t.turn t.found) e
+
+  keeps_ever :
+      (i j d : ℕ) (door : Door) → i ≤ j → j ≤ length xs → door_of (state_at m xs i) d ≡ Some door →
+      IsKept door (door_of (state_at m xs j) d)
+  keeps_ever i zero d door l g e =
+      let same : i ≡ 0 = omega (arith, l) in
+      kept_here door _ (subst (λ n. door_of (state_at m xs n) d ≡ Some door) same e)
+  keeps_ever i (suc j) d door l g e =
+      go (split i (suc j) l) (λ (h : i ≤ j). keeps_ever i j d door h (omega (arith, g)) e)
+    where
+      go :
+          (i < suc j) ⊎ (i ≡ suc j) → (i ≤ j → IsKept door (door_of (state_at m xs j) d)) →
+          IsKept door (door_of (state_at m xs (suc j)) d)
+      go (inl h) f =
+          subst (λ n. IsKept door (door_of (state_at m xs n) d)) (add-one j)
+          (kept_then door _ _ (f (omega (arith, h))) (λ y q. keeps_door j d y (omega (arith, g)) q))
+      go (inr h) f = kept_here door _ (subst (λ n. door_of (state_at m xs n) d ≡ Some door) h e)
+
+  made_later : (i d : ℕ) (y z : Door) → IsSameDoor y z → WasMade m xs i d y → WasMade m xs (i + 1) d z
+  made_later i d y z s w =
       record {
-        door = door;
-        there =
-            ap (λ n. door_of n d) (state_at_more m xs i t.turn t.found)
-            ∙ door_of-step (state_at m xs i) t.turn.thread t.turn.request d door e;
-        owner = refl;
-        entry = refl;
-        cookie = refl;
+        at = w.at;
+        turn = w.turn;
+        earlier = omega (arith, w.earlier);
+        found = w.found;
+        create = create_same m xs w.at d w.turn y z s w.create;
+        none_before = w.none_before;
+        there_after = w.there_after;
       }
+
+  was_made : (i d : ℕ) (door : Door) → i ≤ length xs → door_of (state_at m xs i) d ≡ Some door → WasMade m xs i d door
+  was_made zero d door l e = absurd (cc (k.no_door d))
+  was_made (suc i) d door l e =
+      subst (λ j. WasMade m xs j d door) (add-one i)
+      (go (door_of (state_at m xs i) d) refl (λ y f. was_made i d y (omega arith) f) (turn_at xs i (omega arith)))
+    where
+      after : door_of (state_at m xs (i + 1)) d ≡ Some door
+      after = ap (λ j. door_of (state_at m xs j) d) (add-one i) ∙ e
+
+      before : (y : Door) → IsKept y (door_of (state_at m xs (i + 1)) d) → WasMade m xs i d y → WasMade m xs (i + 1) d door
+      before y h w =
+          made_later i d y door (subst (λ (z : Door). IsSameDoor y z) (same_door _ h.door door h.there after) h.same) w
+
+      go :
+          (o : Option Door) → door_of (state_at m xs i) d ≡ o →
+          ((y : Door) → door_of (state_at m xs i) d ≡ Some y → WasMade m xs i d y) → TurnAt xs i → WasMade m xs (i + 1) d door
+      go None f h t =
+          record { at = i; turn = t.turn; earlier = omega arith; found = t.found; create = made i d t.turn door t.found f after; none_before = f; there_after = record { made = door; there = after } }
+      go (Some y) f h t = before y (keeps_door i d y (omega arith) f) (h y f)
+
+  entered_there :
+      (i c entry cookie : ℕ) (x : Turn) (bytes : List ℕ) (fds : List Fd) → slice_get xs i ≡ Some x →
+      answer_at m xs i x ≡ answer.Entered c entry cookie bytes fds → IsOf (door_of_call (state_at m xs i) c) entry cookie
+  entered_there i c entry cookie x bytes fds e f = go (accepts m xs k i c entry cookie x bytes fds e f)
+    where
+      by :
+          Enters m xs i x c →
+          (w : EnteredRowAt m xs i x (record_of (state_at m xs i) c) (record_of (state_at m xs (i + 1)) c)) →
+          Shows entry cookie bytes fds (door_of (state_at m xs i) w.call.door) w.call → IsOf (door_of_call (state_at m xs i) c) entry cookie
+      by n w s =
+          subst (λ o. IsOf o entry cookie) (sym (ap (door_at (state_at m xs i)) w.before))
+          (is_of _ entry cookie _ (sym (ap (λ o. owner_in (door_at (state_at m xs i) o)) w.before) ∙ n.of_the_owner) s.same_entry s.same_cookie)
+
+      row :
+          Enters m xs i x c →
+          EnteredRowAt m xs i x (record_of (state_at m xs i) c) (record_of (state_at m xs (i + 1)) c) →
+          IsOf (door_of_call (state_at m xs i) c) entry cookie
+      row n w = by n w (shows c entry cookie bytes fds _ w.call (answer_at m xs i x) f w.answers)
+
+      go : Enters m xs i x c → IsOf (door_of_call (state_at m xs i) c) entry cookie
+      go n = row n (entered_by m xs k i c x e n.entered)
 
   pub made_by_creator : MadeByCreator m xs
   made_by_creator =
       record {
-        none_at_first = λ d. ap (λ ds. at_number ds d) (opened opens).doors ∙ grind (arith, nat_tests);
+        none_at_first = k.no_door;
         made = made;
-        kept = kept;
+        was_made = was_made;
+        kept = keeps_ever;
         same_process = λ i t. process_of-state_after m (take i xs) t;
-        entered_there = entered_there m xs opens run;
+        entered_there = entered_there;
       }

@@ -1,29 +1,29 @@
 -- Once holds of every run.
-use Rattle.std.specs.Prelude.{ℕ, ◌≡◌, ◌+◌, ◌<◌, ◌≤◌, List, [], Option, Bool, true, false, Some, None, length, slice_get}
+use Rattle.std.specs.Prelude.{ℕ, ◌≡◌, ◌+◌, ◌<◌, ◌≤◌, List, [], Option, Bool, true, false, Some, None, length, nat_lt, slice_get}
 use Rattle.std.proofs.Common.{refl, sym, ap, subst, ◌∙◌}
 use native.Mathlib.Omega.{arith}
 use Rattle.std.proofs.lemmas.Option.{slice_get_within}
-use Rattle.written_kernel.specs.Types.{Call, Door, Fd, Item}
+use Rattle.written_kernel.specs.Types.{Answer, Call, CallStage, Fd, Inv, Item, Obj, Request}
 use Rattle.dk_base.specs.declared.object.Item.TheVariants as item
 use Rattle.dk_base.specs.declared.answer.Answer.TheVariants as answer
 use Rattle.kernel_records.specs.declared.record.ThreadState.TheVariants as is
 use Rattle.kernel_records.specs.declared.record.CallStage.TheVariants as stage
-use Rattle.written_kernel.specs.Words.{IsOpening, IsRun, State, Turn, act, cookie_of, door_of, entry_of, invocation_of, state_at, step, tid}
-use Rattle.kernel_invariant.specs.Records.{record_of, stage_in, stage_of, owner_in, door_at, door_of_call, item_of}
-use Rattle.kernel_laws.specs.Once.{is_entered, is_entered_in, is_answered, HasEntered, BecomesEntered, BecomesAnswered, answer_at, Enters, IsAccept, IsCollect, WasEntered, CollectsEntered, InvocationMoves, Once}
-use Rattle.kernel_laws.specs.Once.InvocationMoves.{stays, begins, ends}
-use Rattle.kernel_laws.specs.MadeByCreator.{IsOf}
-use Rattle.kernel_invariant.specs.Invariant.{Invariant}
-use Rattle.kernel_invariant.proofs.Calls.{find-number}
-use Rattle.kernel_invariant.proofs.CallActs.{record_of_call}
-use Rattle.kernel_laws.proofs.Answers.{is_plain, ends_wait, accepts_act, Collects, collects_act}
-use Rattle.kernel_invariant.proofs.Openings.{no_call_at_first}
-use Rattle.kernel_laws.proofs.Induction.{TurnAt, turn_at, invariant_at, Taken, taken_at, rises_once, CameTrue, first_true}
-use Rattle.kernel_laws.proofs.Ranks.{rank_in, entered_rank, not_entered_rank, answered_rank, not_answered_rank, arrow_rank, EnteredBy, arrow_entered, AnsweredBy, arrow_answered, is_served_stage, is_served_in, not_served, arrow_served}
-use Rattle.kernel_laws.proofs.Accepted.{step_answer, Accepted, accepted, accept_answer}
-use Rattle.kernel_laws.proofs.Collected.{Collected, collected}
-use Rattle.kernel_laws.proofs.Serving.{Moves, step_moves}
-use Rattle.kernel_laws.proofs.Serving.Moves.{stays as kept, begins as begun, ends as ended}
+use Rattle.written_kernel.specs.Words.{State, Turn, caller_in, door_of, invocation_of, is_live, new_invocation, state_at, state_of, tid}
+use Rattle.kernel_invariant.specs.Records.{door_at, item_in, item_of, owner_in, record_of, stage_in, stage_of}
+use Rattle.kernel_invariant.specs.Core.{caller_number, door_in, is_outside, live_in}
+use Rattle.kernel_invariant.specs.Invariant.{IsCoherent}
+use Rattle.kernel_invariant.specs.Core.{core}
+use Rattle.kernel_invariant.specs.Events.{InvocationArrow, IsCaller, IsToldBy}
+use Rattle.kernel_invariant.specs.Events.InvocationArrow.{stays, begins, ends, leaves}
+use Rattle.kernel_laws.specs.Places.{BecomesAnswered, BecomesEntered, HasEntered, IsAccept, IsCollect, answer_at, is_answered_in, is_entered_in, is_returned_in, is_returned_stage}
+use Rattle.kernel_laws.specs.Once.{CollectsEntered, Enters, InvocationMoves, Once, WasEntered}
+use Rattle.kernel_laws.proofs.Changes.{answered_rank, entered_rank}
+use Rattle.kernel_laws.proofs.Known.{Known, becomes_once, changes, false_not_true, invariant_after, invariant_before, next}
+use Rattle.kernel_laws.proofs.Returns.{return_ends}
+use Rattle.kernel_laws.proofs.Story.{story}
+use Rattle.kernel_laws.proofs.Rows.{HandsOver, answered_row, entered_row}
+use Rattle.kernel_laws.proofs.Rows.HandsOver.{results, error}
+use Rattle.kernel_laws.proofs.Readers.{AnsweredRowAt, EnteredAt, EnteredRowAt, ReturnedAt, accept_of, number_of, returned}
 
 differs :
     (n c entry cookie entry' cookie' : ℕ) (bytes : List ℕ) (fds : List Fd) →
@@ -36,198 +36,252 @@ same_given c d r e f = cc
 same_item : (c d : ℕ) (o : Option Item) → o ≡ Some (item.Call c) → o ≡ Some (item.Call d) → c ≡ d
 same_item c d o e f = cc
 
-is_of :
-    (o : Option Door) (c entry cookie p : ℕ) (bytes bytes' : List ℕ) (fds fds' : List Fd) → owner_in o ≡ Some p →
-    answer.Entered c entry cookie bytes fds ≡ answer.Entered c (entry_of o) (cookie_of o) bytes' fds' → IsOf o entry cookie
-is_of None c entry cookie p bytes bytes' fds fds' e f = grind arith
-is_of (Some d) c entry cookie p bytes bytes' fds fds' e f = record { door = d; there = refl; same_entry = cc; same_cookie = cc }
-
 at_given : (u : ℕ) (o : Option Call) → stage_in o ≡ Some (stage.Given (tid u)) → is_entered_in o ≡ false
 at_given u o e = grind arith
 
 at_entered : (u : ℕ) (o : Option Call) → stage_in o ≡ Some (stage.Entered (tid u)) → is_entered_in o ≡ true
 at_entered u o e = grind arith
 
+at_answered : (n : ℕ) (o : Option Call) → stage_in o ≡ Some (stage.Answered n) → is_answered_in o ≡ true
+at_answered n o e = grind arith
+
+live_not_answered : (o : Option Call) → live_in o ≡ true → is_answered_in o ≡ false
+live_not_answered o e = grind arith
+
+live_caller : (t : ℕ) (o : Option Call) → live_in o ≡ true → caller_number o ≡ t → caller_in o ≡ Some t
+live_caller t o e f = grind arith
+
+owner_same : (m : State) (o : Option Call) (s : CallStage) → stage_in o ≡ Some s → owner_in (door_at m o) ≡ owner_in (door_of m (door_in o))
+owner_same m None s e = grind arith
+owner_same m (Some r) s e = refl
+
+begun :
+    (m : State) (t : ℕ) (q : Option Request) (a : Answer) (n : State) (u c : ℕ) (o p : Option Inv) →
+    InvocationArrow m t q a n u o p → o ≡ None → item_in p ≡ Some (item.Call c) → p ≡ Some (new_invocation (item.Call c))
+begun m t q a n u c o p stays e f = absurd (grind arith)
+begun m t q a n u c o p (begins i g h k b) e f =
+    let same : i ≡ item.Call c = cc in
+    ap (λ (z : Item). Some (new_invocation z)) same
+begun m t q a n u c o p (ends v bytes pass g h k) e f = absurd (grind arith)
+begun m t q a n u c o p (leaves v g) e f = absurd (grind arith)
+
+-- results come only from a call that is Returned
+
+pub record HandsBack (r : Call) (bytes : List ℕ) (fds : List Fd) (more : Bool) : Type 0 where
+  pub objects : List Obj
+  pub returned : r.stage ≡ stage.Returned bytes objects
+  pub none : fds ≡ []
+  pub grown : more ≡ nat_lt r.rsize (length bytes)
+
+pub hands_back :
+    (r : Call) (a : Answer) (bytes : List ℕ) (fds : List Fd) (more : Bool) → HandsOver r a →
+    a ≡ answer.Results bytes fds more → HandsBack r bytes fds more
+hands_back r a bytes fds more (results b objects e) f =
+    record { objects = objects; returned = grind arith; none = grind arith; grown = grind arith }
+hands_back r a bytes fds more (error x e) f = absurd (cc)
+
 -- Once
 
-module _ (m : State) (xs : List Turn) (opens : IsOpening m) (run : IsRun m xs) where
-  rises : (c i : ℕ) → i < length xs → rank_in (record_of (state_at m xs i) c) ≤ rank_in (record_of (state_at m xs (i + 1)) c)
-  rises c i l =
-      let t : TurnAt xs i = turn_at xs i l in
-      let k : Taken m xs i t.turn = taken_at m xs opens run i t.turn t.found in
-      subst (λ n. rank_in (record_of (state_at m xs i) c) ≤ rank_in (record_of n c)) (sym k.next)
-      (arrow_rank (state_at m xs i) t.turn.thread t.turn.request _ _ _ (k.keeps.arrows c))
-
+module _ (m : State) (xs : List Turn) (k : Known m xs) where
   entered_once : (c i j : ℕ) → BecomesEntered m xs c i → BecomesEntered m xs c j → i ≡ j
-  entered_once c i j a b =
-      rises_once (λ k. rank_in (record_of (state_at m xs k) c)) (length xs) 3 i j (rises c) a.within b.within
-      (not_entered_rank _ a.before)
-      (not_entered_rank _ b.before)
-      (entered_rank _ a.after)
-      (entered_rank _ b.after)
+  entered_once c i j a b = becomes_once m xs k c i j 3 is_entered_in entered_rank a b
 
   answered_once : (c i j : ℕ) → BecomesAnswered m xs c i → BecomesAnswered m xs c j → i ≡ j
-  answered_once c i j a b =
-      rises_once (λ k. rank_in (record_of (state_at m xs k) c)) (length xs) 5 i j (rises c) a.within b.within
-      (not_answered_rank _ a.before)
-      (not_answered_rank _ b.before)
-      (answered_rank _ a.after)
-      (answered_rank _ b.after)
+  answered_once c i j a b = becomes_once m xs k c i j 5 is_answered_in answered_rank a b
 
-  entered_by :
+  pub entered_by :
       (i c : ℕ) (x : Turn) → slice_get xs i ≡ Some x → BecomesEntered m xs c i →
-      EnteredBy (state_at m xs i) x.thread x.request (record_of (state_at m xs i) c)
+      EnteredRowAt m xs i x (record_of (state_at m xs i) c) (record_of (state_at m xs (i + 1)) c)
   entered_by i c x e b =
-      let k : Taken m xs i x = taken_at m xs opens run i x e in
-      arrow_entered (state_at m xs i) x.thread x.request _ _ _ (k.keeps.arrows c) b.before
-      (ap (λ n. is_entered n c) (sym k.next) ∙ b.after)
+      entered_row _ _ _ _ _ _ _ (changes m xs k c i x is_entered_in false true e false_not_true b.before b.after) b.after
 
   only_by_accept : (i c : ℕ) (x : Turn) → slice_get xs i ≡ Some x → BecomesEntered m xs c i → IsAccept m xs i x c
-  only_by_accept i c x e b =
-      let k : Taken m xs i x = taken_at m xs opens run i x e in
-      let a : EnteredBy (state_at m xs i) x.thread x.request (record_of (state_at m xs i) c) = entered_by i c x e b in
-      record {
-        entry = entry_of (door_of (state_at m xs i) a.call.door);
-        cookie = cookie_of (door_of (state_at m xs i) a.call.door);
-        bytes = a.call.bytes;
-        descriptors = [];
-        answer = accept_answer (state_at m xs i) x.thread c x.request k.invariant.consistent a;
-      }
+  only_by_accept i c x e b = accept_of m xs i c x _ _ refl (entered_by i c x e b)
 
   notices_enter_no_call :
       (i n entry cookie c : ℕ) (x : Turn) → slice_get xs i ≡ Some x →
       answer_at m xs i x ≡ answer.EnteredNotice n entry cookie → BecomesEntered m xs c i → ⊥
-  notices_enter_no_call i n entry cookie c x e f b =
-      let a : IsAccept m xs i x c = only_by_accept i c x e b in
-      differs n c entry cookie a.entry a.cookie a.bytes a.descriptors (sym f ∙ a.answer)
+  notices_enter_no_call i n entry cookie c x e f b = go (only_by_accept i c x e b)
+    where
+      go : IsAccept m xs i x c → ⊥
+      go a = differs n c entry cookie a.entry a.cookie a.bytes a.descriptors (sym f ∙ a.answer)
 
-  accepts :
+  invocations : (i t : ℕ) (x : Turn) → slice_get xs i ≡ Some x → InvocationMoves m xs i x t
+  invocations i t x e =
+      subst
+      (λ n. InvocationArrow (state_at m xs i) x.thread x.request (answer_at m xs i x) n t (invocation_of (state_at m xs i) t) (invocation_of n t))
+      (sym (next m xs k i x e))
+      ((k.keeps i x e).invocations t)
+
+  -- what an accept does, where the wait of a thread that was given a call ends
+  accepts_given :
+      (i c : ℕ) (x : Turn) → slice_get xs i ≡ Some x → x.request ≡ None →
+      state_of (state_at m xs i) x.thread ≡ is.Given (item.Call c) → IsCoherent (core (state_at m xs i)) →
+      IsCoherent (core (state_at m xs (i + 1))) → Enters m xs i x c
+  accepts_given i c x e q s h g =
+      record {
+        no_request = q;
+        was_given = s;
+        stage_before = before;
+        stage_after = after;
+        entered = becomes;
+        nothing_else = λ d b. same_given c d (entered_by i d x e b).call (sym (entered_by i d x e b).given ∙ s) (number_of (state_at m xs i) d _ (entered_by i d x e b).before);
+        of_the_owner = owner_same (state_at m xs i) (record_of (state_at m xs i) c) _ before ∙ h.given_owner c x.thread before;
+        free_before = free;
+        invocation_after = begun _ _ _ _ _ x.thread c _ _ (invocations i x.thread x e) free (g.entered c x.thread after);
+      }
+    where
+      before : stage_of (state_at m xs i) c ≡ Some (stage.Given (tid x.thread))
+      before = h.given_back c x.thread s
+
+      after : HasEntered (state_at m xs (i + 1)) x.thread c
+      after = ap (λ n. stage_of n c) (next m xs k i x e) ∙ (k.keeps i x e).accepted c q s
+
+      free : invocation_of (state_at m xs i) x.thread ≡ None
+      free = h.outside x.thread (ap is_outside s)
+
+      becomes : BecomesEntered m xs c i
+      becomes =
+          record {
+            within = slice_get_within xs i x e;
+            before = at_given x.thread _ before;
+            after = at_entered x.thread _ after;
+          }
+
+  pub accepts :
       (i c entry cookie : ℕ) (x : Turn) (bytes : List ℕ) (fds : List Fd) → slice_get xs i ≡ Some x →
       answer_at m xs i x ≡ answer.Entered c entry cookie bytes fds → Enters m xs i x c
-  accepts i c entry cookie x bytes fds e f =
-      let k : Taken m xs i x = taken_at m xs opens run i x e in
-      let g : (act (state_at m xs i) x.thread x.request).answer ≡ answer.Entered c entry cookie bytes fds =
-      sym (step_answer (state_at m xs i) x.thread x.request) ∙ f in
-      let a : Accepted (state_at m xs i) x.thread x.request c =
-      accepted (state_at m xs i) x.thread c x.request k.invariant k.may
-      (ends_wait (state_at m xs i) x.thread x.request (ap is_plain g))
-      (accepts_act (state_at m xs i) x.thread x.request c entry cookie bytes fds g) in
-      let after : HasEntered (state_at m xs (i + 1)) x.thread c = ap (λ n. stage_of n c) k.next ∙ a.stage_after in
-      record {
-        no_request = a.request;
-        was_given = a.state;
-        stage_before = a.stage_before;
-        stage_after = after;
-        entered =
-            record {
-              within = slice_get_within xs i x e;
-              before = at_given x.thread _ a.stage_before;
-              after = at_entered x.thread _ after;
-            };
-        nothing_else =
-            λ d b.
-            same_given c d (entered_by i d x e b).call (sym (entered_by i d x e b).state ∙ a.state)
-            (find-number (state_at m xs i).calls d (entered_by i d x e b).call (entered_by i d x e b).was);
-        of_the_owner = a.owner;
-        free_before = a.free;
-        invocation_after = ap (λ n. invocation_of n x.thread) k.next ∙ a.invocation_after;
-      }
+  accepts i c entry cookie x bytes fds e f = go (subst (IsToldBy (state_at m xs i) x.thread x.request) f (k.keeps i x e).told)
+    where
+      go : (x.request ≡ None) × (state_of (state_at m xs i) x.thread ≡ is.Given (item.Call c)) → Enters m xs i x c
+      go a = accepts_given i c x e a.0 a.1 (invariant_before m xs k i x e).consistent.coherent (invariant_after m xs k i x e).consistent.coherent
 
-  pub entered_there :
-      (i c entry cookie : ℕ) (x : Turn) (bytes : List ℕ) (fds : List Fd) → slice_get xs i ≡ Some x →
-      answer_at m xs i x ≡ answer.Entered c entry cookie bytes fds → IsOf (door_of_call (state_at m xs i) c) entry cookie
-  entered_there i c entry cookie x bytes fds e f =
-      let k : Taken m xs i x = taken_at m xs opens run i x e in
-      let a : Enters m xs i x c = accepts i c entry cookie x bytes fds e f in
-      let b : EnteredBy (state_at m xs i) x.thread x.request (record_of (state_at m xs i) c) = entered_by i c x e a.entered in
-      let same : door_of_call (state_at m xs i) c ≡ door_of (state_at m xs i) b.call.door = ap (door_at (state_at m xs i)) b.was in
-      is_of (door_of_call (state_at m xs i) c) c entry cookie _ bytes _ fds _ a.of_the_owner
-      (sym f ∙ accept_answer (state_at m xs i) x.thread c x.request k.invariant.consistent b ∙ ap (λ o. answer.Entered c (entry_of o) (cookie_of o) b.call.bytes []) (sym same))
+  given_enters :
+      (i c : ℕ) (x : Turn) → slice_get xs i ≡ Some x → x.request ≡ None → state_of (state_at m xs i) x.thread ≡ is.Given (item.Call c) →
+      Enters m xs i x c
+  given_enters i c x e q s =
+      accepts_given i c x e q s (invariant_before m xs k i x e).consistent.coherent (invariant_after m xs k i x e).consistent.coherent
 
   in_its_invocation :
       (i t c : ℕ) → i ≤ length xs → HasEntered (state_at m xs i) t c → item_of (state_at m xs i) t ≡ Some (item.Call c)
-  in_its_invocation i t c l e =
-      let h : Invariant (state_at m xs i) = invariant_at m xs opens run i l in
-      h.consistent.coherent.entered c t e
+  in_its_invocation i t c l e = (k.invariant i l).consistent.coherent.entered c t e
 
   one_at_once :
       (i t c d : ℕ) → i ≤ length xs → HasEntered (state_at m xs i) t c → HasEntered (state_at m xs i) t d → c ≡ d
   one_at_once i t c d l e f =
       same_item c d (item_of (state_at m xs i) t) (in_its_invocation i t c l e) (in_its_invocation i t d l f)
 
-  invocations : (i t : ℕ) (x : Turn) → slice_get xs i ≡ Some x → InvocationMoves m xs i x t
-  invocations i t x e =
-      let k : Taken m xs i x = taken_at m xs opens run i x e in
-      go k (step_moves (state_at m xs i) x.thread x.request t k.invariant k.may)
-    where
-      go :
-          Taken m xs i x →
-          Moves (state_at m xs i) x.thread x.request (step (state_at m xs i) x.thread x.request).state (answer_at m xs i x) t →
-          InvocationMoves m xs i x t
-      go k (kept f) = stays (ap (λ n. invocation_of n t) k.next ∙ f)
-      go k (begun c entry cookie bytes fds f g free after) =
-          begins c f (record { entry = entry; cookie = cookie; bytes = bytes; descriptors = fds; answer = g }) free
-          (ap (λ n. item_of n t) k.next ∙ after)
-      go k (ended bytes pass f g waits after) = ends bytes pass f g waits (ap (λ n. invocation_of n t) k.next ∙ after)
+  live_call : (i c : ℕ) (x : Turn) → slice_get xs i ≡ Some x → IsCollect m xs i x c → live_in (record_of (state_at m xs i) c) ≡ true
+  live_call i c x e w = (invariant_before m xs k i x e).consistent.coherent.live c x.thread w.calling
 
-  collects : (i c : ℕ) (x : Turn) → slice_get xs i ≡ Some x → IsCollect m xs i x c → BecomesAnswered m xs c i
+  pub collects : (i c : ℕ) (x : Turn) → slice_get xs i ≡ Some x → IsCollect m xs i x c → BecomesAnswered m xs c i
   collects i c x e w =
-      let k : Taken m xs i x = taken_at m xs opens run i x e in
-      let a : Collected (state_at m xs i) x.thread x.request c =
-      collected (state_at m xs i) x.thread c x.request k.invariant k.may w.no_request w.calling in
-      record { within = slice_get_within xs i x e; before = a.before; after = ap (λ n. is_answered n c) k.next ∙ a.after }
+      record {
+        within = slice_get_within xs i x e;
+        before = live_not_answered _ (live_call i c x e w);
+        after = at_answered _ _ (ap (λ n. stage_of n c) (next m xs k i x e) ∙ (k.keeps i x e).collected c w.no_request w.calling);
+      }
+
+  pub answered_by :
+      (i c : ℕ) (x : Turn) → slice_get xs i ≡ Some x → BecomesAnswered m xs c i →
+      AnsweredRowAt m xs i x (record_of (state_at m xs i) c) (record_of (state_at m xs (i + 1)) c)
+  answered_by i c x e b =
+      answered_row _ _ _ _ _ _ _ (changes m xs k c i x is_answered_in false true e false_not_true b.before b.after) b.after
 
   only_by_collect : (i c : ℕ) (x : Turn) → slice_get xs i ≡ Some x → BecomesAnswered m xs c i → IsCollect m xs i x c
-  only_by_collect i c x e b =
-      let k : Taken m xs i x = taken_at m xs opens run i x e in
-      let a : AnsweredBy (state_at m xs i) x.thread x.request (record_of (state_at m xs i) c) =
-      arrow_answered (state_at m xs i) x.thread x.request _ _ _ (k.keeps.arrows c) b.before
-      (ap (λ n. is_answered n c) (sym k.next) ∙ b.after) in
-      record {
-        no_request = a.request;
-        calling = a.state ∙ ap (λ (d : ℕ). is.Calling d) (find-number (state_at m xs i).calls c a.call a.was);
-      }
+  only_by_collect i c x e b = go (answered_by i c x e b)
+    where
+      go :
+          AnsweredRowAt m xs i x (record_of (state_at m xs i) c) (record_of (state_at m xs (i + 1)) c) →
+          IsCollect m xs i x c
+      go a =
+          record {
+            no_request = a.no_request;
+            calling = a.calling ∙ ap (λ (d : ℕ). is.Calling d) (number_of (state_at m xs i) c a.call a.before);
+          }
 
-  came_entered :
-      (c i : ℕ) → i < length xs → is_served_in (record_of (state_at m xs i) c) ≡ false →
-      is_served_in (record_of (state_at m xs (i + 1)) c) ≡ true → BecomesEntered m xs c i
-  came_entered c i l a b =
-      let t : TurnAt xs i = turn_at xs i l in
-      let k : Taken m xs i t.turn = taken_at m xs opens run i t.turn t.found in
-      record {
-        within = l;
-        before = not_served _ a;
-        after =
-            ap (λ n. is_entered n c) k.next
-            ∙ arrow_served (state_at m xs i) t.turn.thread t.turn.request _ _ _ (k.keeps.arrows c) a
-            (ap (λ n. is_served_in (record_of n c)) (sym k.next) ∙ b);
-      }
+  collects_own :
+      (i c : ℕ) (x : Turn) → slice_get xs i ≡ Some x → IsCollect m xs i x c →
+      caller_in (record_of (state_at m xs i) c) ≡ Some x.thread
+  collects_own i c x e w =
+      live_caller x.thread _ (live_call i c x e w) ((invariant_before m xs k i x e).consistent.coherent.caller c x.thread w.calling)
 
-  was_entered :
-      (i c : ℕ) → i < length xs → is_served_in (record_of (state_at m xs i) c) ≡ true → WasEntered m xs i c
-  was_entered i c l e =
-      let t : CameTrue (λ j. is_served_in (record_of (state_at m xs j) c)) i =
-      first_true (λ j. is_served_in (record_of (state_at m xs j) c)) (ap is_served_in (no_call_at_first m opens c)) i e in
-      record { at = t.at; earlier = t.earlier; entered = came_entered c t.at (omega (arith, t.earlier)) t.before t.after }
+  caller_waits :
+      (i c : ℕ) (r : Call) → i ≤ length xs → record_of (state_at m xs i) c ≡ Some r → is_live r.stage ≡ true →
+      state_of (state_at m xs i) r.caller.0 ≡ is.Calling c
+  caller_waits i c r l e f =
+      subst (λ o. state_of (state_at m xs i) (caller_number o) ≡ is.Calling c) e
+      ((k.invariant i l).consistent.coherent.calling c (ap live_in e ∙ f))
+
+  -- where results are collected, the call is Returned, and so was entered
+
+  pub collected_results :
+      (i c : ℕ) (x : Turn) (bytes : List ℕ) (fds : List Fd) (more : Bool) → slice_get xs i ≡ Some x → IsCollect m xs i x c →
+      answer_at m xs i x ≡ answer.Results bytes fds more →
+      (a : AnsweredRowAt m xs i x (record_of (state_at m xs i) c) (record_of (state_at m xs (i + 1)) c)) →
+      HandsBack a.call bytes fds more
+  collected_results i c x bytes fds more e w f a = hands_back a.call a.told bytes fds more a.hands_over (sym a.answers ∙ f)
+
+  pub caller_of_results :
+      (i : ℕ) (x : Turn) (bytes : List ℕ) (fds : List Fd) (more : Bool) → slice_get xs i ≡ Some x →
+      answer_at m xs i x ≡ answer.Results bytes fds more → (x.request ≡ None) × IsCaller (state_at m xs i) x.thread
+  caller_of_results i x bytes fds more e f = subst (IsToldBy (state_at m xs i) x.thread x.request) f (k.keeps i x e).told
+
+  pub returned_before :
+      (i c : ℕ) (r : Call) (bytes : List ℕ) (objects : List Obj) → i ≤ length xs → record_of (state_at m xs i) c ≡ Some r →
+      r.stage ≡ stage.Returned bytes objects → ReturnedAt m xs c i (record_of (state_at m xs i) c)
+  returned_before i c r bytes objects l e f =
+      returned m xs c i _ (story m xs k c i l) (ap is_returned_in e ∙ ap is_returned_stage f)
+
+  was_entered : (c i : ℕ) (p : Option Call) → ReturnedAt m xs c i p → WasEntered m xs i c
+  was_entered c i p b = go b.entered b.earlier
+    where
+      given : (n u : ℕ) (o : Option Call) (r : Call) → o ≡ Some r → r.stage ≡ stage.Given (tid u) → is_entered_in o ≡ false
+      given n u o r e f = grind arith
+
+      came : (t : ℕ) (o q : Option Call) (r : Call) → q ≡ o → o ≡ Some r → r.stage ≡ stage.Entered (tid t) → is_entered_in q ≡ true
+      came t o q r g e f = grind arith
+
+      go : EnteredAt m xs c b.at b.old → b.at < i → WasEntered m xs i c
+      go a l =
+          record {
+            at = a.at;
+            earlier = omega (arith, a.earlier, l);
+            entered =
+                record {
+                  within = slice_get_within xs a.at a.turn a.found;
+                  before = given 0 a.turn.thread _ a.row.call (a.was ∙ a.row.before) a.row.was_given;
+                  after = came b.turn.thread b.old _ b.row.call a.there b.row.before b.row.was_entered;
+                };
+          }
 
   results_after_entry :
       (i : ℕ) (x : Turn) (bytes : List ℕ) (fds : List Fd) (grown : Bool) → slice_get xs i ≡ Some x →
       answer_at m xs i x ≡ answer.Results bytes fds grown → CollectsEntered m xs i x
-  results_after_entry i x bytes fds grown e f =
-      let k : Taken m xs i x = taken_at m xs opens run i x e in
-      let g : (act (state_at m xs i) x.thread x.request).answer ≡ answer.Results bytes fds grown =
-      sym (step_answer (state_at m xs i) x.thread x.request) ∙ f in
-      let a : Collects (state_at m xs i) x.thread = collects_act (state_at m xs i) x.thread x.request bytes fds grown g in
-      let found : record_of (state_at m xs i) a.call.number ≡ Some a.call =
-      record_of_call (state_at m xs i) a.call.number a.call k.invariant.consistent a.found in
-      let w : IsCollect m xs i x a.call.number =
-      record { no_request = ends_wait (state_at m xs i) x.thread x.request (ap is_plain g); calling = a.state } in
-      record {
-        call = a.call.number;
-        collect = w;
-        answered = collects i a.call.number x e w;
-        was_entered = was_entered i a.call.number (slice_get_within xs i x e) (ap is_served_in found ∙ ap is_served_stage a.returned);
-      }
+  results_after_entry i x bytes fds grown e f = go (caller_of_results i x bytes fds grown e f)
+    where
+      within : i ≤ length xs
+      within = omega (arith, slice_get_within xs i x e)
+
+      by :
+          (c : ℕ) → IsCollect m xs i x c → (b : BecomesAnswered m xs c i) →
+          (a : AnsweredRowAt m xs i x (record_of (state_at m xs i) c) (record_of (state_at m xs (i + 1)) c)) →
+          HandsBack a.call bytes fds grown → CollectsEntered m xs i x
+      by c w b a g =
+          record {
+            call = c;
+            collect = w;
+            answered = b;
+            was_entered = was_entered c i _ (returned_before i c a.call bytes g.objects within a.before g.returned);
+          }
+
+      at : (c : ℕ) → IsCollect m xs i x c → CollectsEntered m xs i x
+      at c w =
+          let b : BecomesAnswered m xs c i = collects i c x e w in
+          by c w b (answered_by i c x e b) (collected_results i c x bytes fds grown e w f (answered_by i c x e b))
+
+      go : (x.request ≡ None) × IsCaller (state_at m xs i) x.thread → CollectsEntered m xs i x
+      go a = at a.1.call (record { no_request = a.0; calling = a.1.calling })
 
   pub once_holds : Once m xs
   once_holds =
@@ -235,12 +289,17 @@ module _ (m : State) (xs : List Turn) (opens : IsOpening m) (run : IsRun m xs) w
         entered_once = entered_once;
         answered_once = answered_once;
         accepts = accepts;
+        given_enters = given_enters;
         only_by_accept = only_by_accept;
         notices_enter_no_call = notices_enter_no_call;
         in_its_invocation = in_its_invocation;
         one_at_once = one_at_once;
         invocations = invocations;
+        return_ends = return_ends m xs k;
+        none_when_done = λ i t l e. (k.invariant i l).consistent.coherent.outside t (ap is_outside e);
         collects = collects;
         only_by_collect = only_by_collect;
+        caller_waits = caller_waits;
+        collects_own = collects_own;
         results_after_entry = results_after_entry;
       }

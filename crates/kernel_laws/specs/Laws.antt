@@ -2,11 +2,21 @@
 use Rattle.std.specs.Prelude.{List}
 use Rattle.written_kernel.specs.Words.{State, Turn}
 use Rattle.kernel_laws.specs.Once.{Once}
+use Rattle.kernel_laws.specs.Match.{Match}
+use Rattle.kernel_laws.specs.Cause.{HasCause}
 use Rattle.kernel_laws.specs.MadeByCreator.{MadeByCreator}
+use Rattle.kernel_laws.specs.Refused.{RefusedChangesNothing}
+use Rattle.kernel_laws.specs.Pools.{NoPoolHasBoth}
+use Rattle.kernel_laws.specs.EventsShown.{EventsShown}
 
 pub record AllLaws (m : State) (xs : List Turn) : Type 0 where
   pub once : Once m xs
+  pub match : Match m xs
+  pub cause : HasCause m xs
   pub made_by_creator : MadeByCreator m xs
+  pub refused : RefusedChangesNothing m xs
+  pub no_pool_has_both : NoPoolHasBoth m xs
+  pub events_shown : EventsShown m xs
 
 unfoldable pub Laws : State → List Turn → Type 0
 Laws m xs = AllLaws m xs

@@ -1,4 +1,10 @@
+pub mod Places
 pub mod Once
+pub mod Match
+pub mod Cause
 pub mod MadeByCreator
+pub mod Refused
+pub mod Pools
+pub mod EventsShown
 pub mod Laws
 pub mod Words

@@ -1,11 +1,12 @@
 //! The laws of every run of the written kernel. Nothing runs here: a function has no body, and a call of it hands its laws
 //! to the caller's proof.
 
-ghost use Rattle.std.specs.Prelude.{ℕ, ◌≡◌, ◌≤◌, ◌⊎◌, List, Option, None, length};
+ghost use Rattle.std.specs.Prelude.{ℕ, ◌≡◌, ◌≤◌, ◌⊎◌, List, None, length};
 ghost use Rattle.written_kernel.specs.Types.{Request};
 ghost use Rattle.written_kernel.specs.Words.{IsOpening, IsRun, MayTurn, Pool, State, Turn, pick, queue_length, state_after, state_at};
 ghost use Rattle.kernel_invariant.specs.Invariant.{Invariant};
 ghost use Rattle.kernel_laws.specs.Laws.{Laws};
+ghost use Rattle.kernel_laws.specs.Pools.{HasNoneIdle};
 
 /// Each state of a run meets the invariant.
 pub fn every_state()
@@ -18,7 +19,9 @@ pub fn every_run()
     ensures { (m : State) (xs : List Turn) → IsOpening m → IsRun m xs → Laws m xs }
 {}
 
-/// After every event of a run no pool has both a waiting call and an idle thread.
+/// After every event of a run no pool has both an item that waits, a call or a notice, and an idle thread (`items`); and, after
+/// any turns, no waiting call and an idle thread (`calls`).
 pub fn no_pool_has_both()
-    ensures { (m : State) (xs : List Turn) → IsOpening m → (pool : Pool) → (queue_length (state_after m xs) pool ≡ 0) ⊎ (pick (state_after m xs) pool ≡ None) }
+    ensures items { (m : State) (xs : List Turn) → IsOpening m → IsRun m xs → HasNoneIdle (state_after m xs) }
+    ensures calls { (m : State) (xs : List Turn) → IsOpening m → (pool : Pool) → (queue_length (state_after m xs) pool ≡ 0) ⊎ (pick (state_after m xs) pool ≡ None) }
 {}

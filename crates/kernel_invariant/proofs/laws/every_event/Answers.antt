@@ -1,8 +1,3 @@
-use Rattle.std.proofs.Common.{rules, ℕ, Option, ◌≡◌, ◌+◌, ◌-◌, ◌*◌, ◌<◌, ◌≤◌, length, ◌/◌, ◌%◌, Bool, true, false, nat_eq, nat_lt, List, [], ◌∷◌, ◌++◌, slice_index_or, slice_set, bit_and, bit_or, Fits, w8, w32, w64, Bor, MutBor}
-use Rattle.written_kernel.specs.Types.{Request}
-use Rattle.written_kernel.specs.Words.{MayTurn, State}
-use Rattle.kernel_invariant.specs.Invariant.{Invariant}
-use Rattle.kernel_invariant.specs.Events.{Keeps}
 use Rattle.kernel_invariant.proofs.Events.{step_keeps}
 use Rattle.kernel_invariant.proofs.laws.every_event.Goals as goal
 

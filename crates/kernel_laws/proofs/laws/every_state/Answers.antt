@@ -1,4 +1,4 @@
-use Rattle.kernel_laws.proofs.Induction.{invariant_at}
+use Rattle.kernel_laws.proofs.EveryRun.{invariant_at}
 use Rattle.kernel_laws.proofs.laws.every_state.Goals as goal
 
 pub returns : goal.returns

@@ -1,0 +1,291 @@
+-- What refuses a Call, and what a caller collects, has its cause in every run.
+use Rattle.std.specs.Prelude.{ℕ, ◌≡◌, ◌+◌, ◌≤◌, ◌↔◌, List, [], Option, Bool, true, false, Some, None, if◌then◌else◌, length, nat_le, nat_lt, slice_get}
+use Rattle.std.proofs.Common.{refl, sym, ap, subst, ◌∙◌}
+use native.Mathlib.Omega.{arith}
+use Rattle.std.proofs.lemmas.Option.{slice_get_within}
+use Rattle.written_kernel.specs.Types.{Answer, Call, CallStage, Errno, Fd, Obj, Pass, Request, ThreadState}
+use Rattle.dk_base.specs.declared.error.Errno.TheVariants.{E2BIG, EAGAIN, EBADF}
+use Rattle.dk_base.specs.declared.limits.TheConstants.{DATA_MAX, QUEUE_MAX}
+use Rattle.std.proofs.lemmas.Bool.Decides.{nat_tests}
+use Rattle.dk_base.specs.declared.object.Obj.TheVariants as obj
+use Rattle.dk_base.specs.declared.request.Request.TheVariants as request
+use Rattle.dk_base.specs.declared.answer.Answer.TheVariants as answer
+use Rattle.kernel_records.specs.declared.record.CallStage.TheVariants as stage
+use Rattle.kernel_records.specs.declared.record.ThreadState.TheVariants as is
+use Rattle.written_kernel.specs.Words.{State, Turn, call_object, call_refusal, call_unless, is_live, is_valid, new_call, object_at, pool_of, process_of, queue_length, state_at, state_of, step, tid}
+use Rattle.kernel_invariant.specs.Records.{record_of, stage_in, stage_of}
+use Rattle.kernel_invariant.specs.Core.{caller_number, is_underway, live_in, underway_in}
+use Rattle.kernel_invariant.specs.Arrows.{EndsBy}
+use Rattle.kernel_invariant.specs.Arrows.EndsBy.{door_invalid as invalid}
+use Rattle.kernel_laws.specs.Places.{IsCollect, ReturnsCall, answer_at, process_at}
+use Rattle.kernel_laws.specs.Cause.{Cause, HasCause, IsCall, IsCaused, IsRefusedBy, Leaves, MakesOne, Refusal, TellsSame}
+use Rattle.kernel_laws.specs.Cause.Refusal.{no_door, not_valid, too_long, full_pool}
+use Rattle.kernel_laws.specs.Cause.Cause.{results, door_invalid}
+use Rattle.kernel_laws.proofs.Changes.{over_rank, rank_in, underway_rank}
+use Rattle.kernel_laws.proofs.Known.{Known, invariant_before, never_less, rises_once, same_turn}
+use Rattle.kernel_laws.proofs.Story.{story}
+use Rattle.kernel_laws.proofs.Rows.{HandsOver, is_ended_call, is_ended_in}
+use Rattle.kernel_laws.proofs.Rows.HandsOver.{results as hands_results, error as hands_error}
+use Rattle.kernel_laws.proofs.Readers.{AnsweredRowAt, EndedAt, ReturnedAt, ended, same_record}
+use Rattle.kernel_laws.proofs.Once.{answered_by, collects, returned_before}
+use Rattle.kernel_laws.proofs.Match.{GoesOn, goes_on, made_by, returns_call, same_results}
+
+-- the act's refusal is the first test that fails
+
+abbrev refusal_at : State → List ℕ → Option Obj → Option Errno
+refusal_at m bytes (Some (obj.Door d)) = call_refusal m d bytes
+refusal_at m bytes _ = Some EBADF
+
+abbrev refusal_of : State → List Turn → ℕ → Turn → Fd → List ℕ → Option Errno
+refusal_of m xs i x fd bytes = refusal_at (state_at m xs i) bytes (object_at (state_at m xs i) (process_at m xs i x.thread) fd)
+
+some_refusal : (e f : Errno) → Some e ≡ Some f → e ≡ f
+some_refusal e f h = cc
+
+door_refusal : (m : State) (d : ℕ) (bytes : List ℕ) (e : Errno) → call_refusal m d bytes ≡ Some e → Refusal m bytes (Some (obj.Door d)) e
+door_refusal m d bytes e h =
+    go (is_valid m d) (nat_lt DATA_MAX (length bytes)) (nat_le QUEUE_MAX (queue_length m (pool_of m d))) refl refl refl h
+  where
+    go :
+        (v l f : Bool) → is_valid m d ≡ v → nat_lt DATA_MAX (length bytes) ≡ l → nat_le QUEUE_MAX (queue_length m (pool_of m d)) ≡ f →
+        (if v then (if l then Some E2BIG else (if f then Some EAGAIN else None)) else Some EBADF) ≡ Some e →
+        Refusal m bytes (Some (obj.Door d)) e
+    go false l f a b c g = subst (Refusal m bytes (Some (obj.Door d))) (some_refusal _ _ g) (not_valid d refl a)
+    go true true f a b c g = subst (Refusal m bytes (Some (obj.Door d))) (some_refusal _ _ g) (too_long d refl a (grind (arith, nat_tests, b)))
+    go true false true a b c g =
+        subst (Refusal m bytes (Some (obj.Door d))) (some_refusal _ _ g) (full_pool d refl a (grind (arith, nat_tests, b)) (grind (arith, nat_tests, c)))
+    go true false false a b c g = absurd (cc g)
+
+first_refusal : (m : State) (bytes : List ℕ) (o : Option Obj) (e : Errno) → refusal_at m bytes o ≡ Some e → Refusal m bytes o e
+first_refusal m bytes (Some (obj.Door d)) e h = door_refusal m d bytes e h
+first_refusal m bytes None e h = subst (Refusal m bytes None) (some_refusal _ _ h) (no_door (λ d g. absurd (cc g)))
+first_refusal m bytes (Some (obj.Port n)) e h = subst (Refusal m bytes (Some (obj.Port n))) (some_refusal _ _ h) (no_door (λ d g. absurd (cc g)))
+first_refusal m bytes (Some (obj.PipeIn n)) e h = subst (Refusal m bytes (Some (obj.PipeIn n))) (some_refusal _ _ h) (no_door (λ d g. absurd (cc g)))
+first_refusal m bytes (Some (obj.PipeOut n)) e h = subst (Refusal m bytes (Some (obj.PipeOut n))) (some_refusal _ _ h) (no_door (λ d g. absurd (cc g)))
+
+no_door_refusal : (m : State) (bytes : List ℕ) (o : Option Obj) → ((d : ℕ) → o ≡ Some (obj.Door d) → ⊥) → refusal_at m bytes o ≡ Some EBADF
+no_door_refusal m bytes None h = refl
+no_door_refusal m bytes (Some (obj.Door d)) h = absurd (h d refl)
+no_door_refusal m bytes (Some (obj.Port n)) h = refl
+no_door_refusal m bytes (Some (obj.PipeIn n)) h = refl
+no_door_refusal m bytes (Some (obj.PipeOut n)) h = refl
+
+refusal_by : (m : State) (bytes : List ℕ) (o : Option Obj) (e : Errno) → Refusal m bytes o e → refusal_at m bytes o ≡ Some e
+refusal_by m bytes o e (no_door h) = no_door_refusal m bytes o h
+refusal_by m bytes o e (not_valid d h v) = ap (refusal_at m bytes) h ∙ grind (arith, v)
+refusal_by m bytes o e (too_long d h v l) = ap (refusal_at m bytes) h ∙ grind (arith, nat_tests, v, l)
+refusal_by m bytes o e (full_pool d h v l f) = ap (refusal_at m bytes) h ∙ grind (arith, nat_tests, v, l, f)
+
+none_of : (o : Option Errno) → ((e : Errno) → o ≡ Some e → ⊥) → o ≡ None
+none_of None h = refl
+none_of (Some e) h = absurd (h e refl)
+
+-- what a Call answers, by its refusal
+
+data CallTells : Option Errno → Answer → Type 0 where
+  is_refused : (e : Errno) → CallTells (Some e) (answer.Failure e)
+  is_made : (c : ℕ) → CallTells None (answer.WaitCall c)
+
+unless_tells : (m : State) (t : ℕ) (r : Call) (o : Option Errno) → CallTells o (call_unless m t r o).answer
+unless_tells m t r (Some e) = is_refused e
+unless_tells m t r None = is_made r.number
+
+object_tells :
+    (m : State) (t : ℕ) (bytes : List ℕ) (rsize : ℕ) (o : Option Obj) →
+    CallTells (refusal_at m bytes o) (call_object m t bytes rsize o).answer
+object_tells m t bytes rsize None = is_refused EBADF
+object_tells m t bytes rsize (Some (obj.Door d)) = unless_tells m t (new_call m t d bytes rsize) (call_refusal m d bytes)
+object_tells m t bytes rsize (Some _) = is_refused EBADF
+
+step_tells :
+    (m : State) (t : ℕ) (fd : Fd) (bytes : List ℕ) (pass : List Pass) (rsize : ℕ) →
+    CallTells (refusal_at m bytes (object_at m (process_of m t) fd)) (step m t (Some (request.Call fd bytes pass rsize))).answer
+unfolding step
+step_tells m t fd bytes pass rsize = object_tells m t bytes rsize (object_at m (process_of m t) fd)
+
+refusal_told : (o : Option Errno) (a : Answer) (e : Errno) → CallTells o a → a ≡ answer.Failure e → o ≡ Some e
+refusal_told o a e (is_refused x) h = cc
+refusal_told o a e (is_made c) h = absurd (cc)
+
+told_refusal : (o : Option Errno) (a : Answer) (e : Errno) → CallTells o a → o ≡ Some e → a ≡ answer.Failure e
+told_refusal o a e (is_refused x) h = cc
+told_refusal o a e (is_made c) h = absurd (cc)
+
+record IsMadeCall (a : Answer) : Type 0 where
+  call : ℕ
+  waits : a ≡ answer.WaitCall call
+
+told_call : (o : Option Errno) (a : Answer) → CallTells o a → o ≡ None → IsMadeCall a
+told_call o a (is_refused x) h = absurd (cc)
+told_call o a (is_made c) h = record { call = c; waits = refl }
+
+-- records
+
+same_return :
+    (q p : Option Request) (b d : List ℕ) (x y : List Pass) → q ≡ p → q ≡ Some (request.Return b x) →
+    p ≡ Some (request.Return d y) → b ≡ d
+same_return q p b d x y e f g = cc
+
+not_both : (o : Option Call) (r : Call) (t : ℕ) → o ≡ Some r → r.stage ≡ stage.Queued → stage_in o ≡ Some (stage.Entered (tid t)) → ⊥
+not_both o r t e f g = grind arith
+
+same_error : (e f : Errno) (s : CallStage) → s ≡ stage.Ended e → s ≡ stage.Ended f → e ≡ f
+same_error e f s g h = cc
+
+same_told :
+    (b d : List ℕ) (n l : ℕ) → b ≡ d → n ≡ l →
+    answer.Results b [] (nat_lt n (length b)) ≡ answer.Results d [] (nat_lt l (length d))
+same_told b d n l e f = ap (λ (x : List ℕ). answer.Results x [] (nat_lt n (length x))) e ∙ ap (λ (x : ℕ). answer.Results d [] (nat_lt x (length d))) f
+
+ends_underway : (m n : State) (r : Call) (e : Errno) → EndsBy m n r e → is_underway r.stage ≡ true
+ends_underway m n r e (invalid q v w d) = ap is_underway q
+
+underway_at_least : (o : Option Call) → underway_in o ≡ true → 1 ≤ rank_in o
+underway_at_least o e = grind arith
+
+not_live :
+    (o : Option Call) (r : Call) (s : ThreadState) (c : ℕ) → o ≡ Some r → (live_in o ≡ true → s ≡ is.Calling c) → s ≡ is.Done →
+    is_live r.stage ≡ false
+not_live o r s c e h d = go (is_live r.stage) refl
+  where
+    go : (b : Bool) → is_live r.stage ≡ b → is_live r.stage ≡ false
+    go true f = absurd (cc (h (ap live_in e ∙ f), d))
+    go false f = f
+
+not_gone : (o : Option Call) → live_in o ≡ true → stage_in o ≡ Some stage.Gone → ⊥
+not_gone o e f = grind arith
+
+module _ (m : State) (xs : List Turn) (k : Known m xs) where
+  call_tells :
+      (i : ℕ) (x : Turn) (fd : Fd) (bytes : List ℕ) → IsCall m xs i x fd bytes →
+      CallTells (refusal_of m xs i x fd bytes) (answer_at m xs i x)
+  call_tells i x fd bytes h =
+      subst (λ q. CallTells (refusal_of m xs i x fd bytes) (step (state_at m xs i) x.thread q).answer) (sym h.request)
+      (step_tells (state_at m xs i) x.thread fd bytes h.pass h.rsize)
+
+  refused :
+      (i : ℕ) (x : Turn) (fd : Fd) (bytes : List ℕ) (e : Errno) → IsCall m xs i x fd bytes →
+      (answer_at m xs i x ≡ answer.Failure e) ↔ IsRefusedBy m xs i x fd bytes e
+  refused i x fd bytes e h = (
+    λ a. first_refusal _ _ _ e (refusal_told (refusal_of m xs i x fd bytes) (answer_at m xs i x) e (call_tells i x fd bytes h) a),
+    λ r. told_refusal (refusal_of m xs i x fd bytes) (answer_at m xs i x) e (call_tells i x fd bytes h) (refusal_by _ _ _ e r),
+  )
+
+  not_refused :
+      (i : ℕ) (x : Turn) (fd : Fd) (bytes : List ℕ) → IsCall m xs i x fd bytes →
+      ((e : Errno) → IsRefusedBy m xs i x fd bytes e → ⊥) → MakesOne m xs i x
+  not_refused i x fd bytes h e =
+      go (told_call (refusal_of m xs i x fd bytes) (answer_at m xs i x) (call_tells i x fd bytes h) (none_of _ (λ f g. e f (first_refusal _ _ _ f g))))
+    where
+      go : IsMadeCall (answer_at m xs i x) → MakesOne m xs i x
+      go a = record { call = a.call; makes = made_by m xs k i a.call x h.turn a.waits }
+
+  -- a call leaves once
+
+  left_at_least : (c e : ℕ) → Leaves m xs c e → 4 ≤ rank_in (record_of (state_at m xs (e + 1)) c)
+  left_at_least c e h =
+      over_rank _ h.over (omega (arith, underway_at_least _ h.underway, never_less m xs k c e h.within))
+
+  left_once : (c e f : ℕ) → Leaves m xs c e → Leaves m xs c f → e ≡ f
+  left_once c e f a b =
+      rises_once (λ n. rank_in (record_of (state_at m xs n) c)) (length xs) 4 e f (never_less m xs k c) a.within b.within
+      (omega (arith, underway_rank _ a.underway))
+      (omega (arith, underway_rank _ b.underway))
+      (left_at_least c e a)
+      (left_at_least c f b)
+
+  exact : (c e n : ℕ) (a b : Answer) → Cause m xs c e n a → Cause m xs c e n b → TellsSame a b
+  exact c e n a b (results r w fds f back) (results s v fds' g more) = (same_bytes, ap (λ l. nat_lt r.rsize (length l)) same_bytes ∙ ap (λ (y : Call). nat_lt y.rsize (length more.bytes)) (same_record _ r s f g))
+    where
+      same_bytes : back.bytes ≡ more.bytes
+      same_bytes = same_return w.request v.request back.bytes more.bytes back.pass more.pass (ap (λ (y : Turn). y.request) (same_turn xs e w v back.turn more.turn)) back.request more.request
+  exact c e n a b (results r w fds f back) (door_invalid s g q v x d) = absurd (not_both _ s w.thread g q back.was_entered)
+  exact c e n a b (door_invalid s g q v x d) (results r w fds f back) = absurd (not_both _ s w.thread g q back.was_entered)
+  exact c e n a b (door_invalid s g q v x d) (door_invalid r f p y z h) = refl
+
+  -- what is collected
+
+  caused_by_return :
+      (i c : ℕ) (z : Turn) (r : Call) (bytes : List ℕ) (objects : List Obj) (o : Option Call) → o ≡ Some r →
+      r.stage ≡ stage.Returned bytes objects → answer_at m xs i z ≡ answer.Results bytes [] (nat_lt r.rsize (length bytes)) →
+      ReturnedAt m xs c i o → IsCaused m xs c i z
+  unfolding returns_call
+  caused_by_return i c z r bytes objects o h s f b =
+      record {
+        at = b.at;
+        earlier = b.earlier;
+        leaves =
+            record {
+              within = slice_get_within xs b.at b.turn b.found;
+              underway = ap underway_in (b.was ∙ b.row.before) ∙ ap is_underway b.row.was_entered;
+              over = ap underway_in (b.there ∙ b.row.after);
+            };
+        cause =
+            subst (Cause m xs c b.at i)
+            (same_told b.row.bytes bytes b.row.call.rsize r.rsize
+            (sym (same_results bytes b.row.bytes objects [] r.stage s first.stage))
+            (sym first.rsize) ∙ sym f)
+            (results b.row.call b.turn [] (b.was ∙ b.row.before) back);
+      }
+    where
+      back : ReturnsCall m xs b.at b.turn c
+      back = returns_call m xs k b.at c b.turn b.old o b.found b.was b.there b.row
+
+      first : GoesOn b.row.call r (stage.Returned b.row.bytes [])
+      first = goes_on b.row.call r _ o h b.row.after
+
+  cause_of_end :
+      (c e n : ℕ) (r : Call) (x : Errno) → record_of (state_at m xs e) c ≡ Some r →
+      EndsBy (state_at m xs e) (state_at m xs (e + 1)) r x → Cause m xs c e n (answer.Failure x)
+  cause_of_end c e n r x f (invalid q v w d) = door_invalid r f q v w d
+
+  caused_by_end :
+      (i c : ℕ) (z : Turn) (r : Call) (x : Errno) (o : Option Call) → o ≡ Some r → r.stage ≡ stage.Ended x →
+      answer_at m xs i z ≡ answer.Failure x → EndedAt m xs c i o → IsCaused m xs c i z
+  caused_by_end i c z r x o h s f b =
+      record {
+        at = b.at;
+        earlier = b.earlier;
+        leaves =
+            record {
+              within = slice_get_within xs b.at b.turn b.found;
+              underway = ap underway_in (b.was ∙ b.row.before) ∙ ends_underway _ _ b.row.call b.row.error b.row.ends;
+              over = ap underway_in (b.there ∙ b.row.after);
+            };
+        cause =
+            subst (Cause m xs c b.at i)
+            (ap (λ (y : Errno). answer.Failure y) (same_error b.row.error x r.stage first.stage s) ∙ sym f)
+            (cause_of_end c b.at i b.row.call b.row.error (b.was ∙ b.row.before) b.row.ends);
+      }
+    where
+      first : GoesOn b.row.call r (stage.Ended b.row.error)
+      first = goes_on b.row.call r _ o h b.row.after
+
+  caused :
+      (i c : ℕ) (z : Turn) (r : Call) (a : Answer) → i ≤ length xs → record_of (state_at m xs i) c ≡ Some r →
+      answer_at m xs i z ≡ a → HandsOver r a → IsCaused m xs c i z
+  caused i c z r a l h f (hands_results bytes objects s) =
+      caused_by_return i c z r bytes objects _ h s f (returned_before m xs k i c r bytes objects l h s)
+  caused i c z r a l h f (hands_error x s) =
+      caused_by_end i c z r x _ h s f (ended m xs c i _ (story m xs k c i l) (ap is_ended_in h ∙ ap is_ended_call s))
+
+  told : (i c : ℕ) (z : Turn) → slice_get xs i ≡ Some z → IsCollect m xs i z c → IsCaused m xs c i z
+  told i c z e w = go (answered_by m xs k i c z e (collects m xs k i c z e w))
+    where
+      go :
+          AnsweredRowAt m xs i z (record_of (state_at m xs i) c) (record_of (state_at m xs (i + 1)) c) →
+          IsCaused m xs c i z
+      go a = caused i c z a.call a.told (omega (arith, slice_get_within xs i z e)) a.before a.answers a.hands_over
+
+  gone :
+      (i c : ℕ) (r : Call) → i ≤ length xs → record_of (state_at m xs i) c ≡ Some r → state_of (state_at m xs i) r.caller.0 ≡ is.Done →
+      is_live r.stage ≡ false
+  gone i c r l e d = not_live _ r (state_of (state_at m xs i) r.caller.0) c e (λ h. subst (λ o. state_of (state_at m xs i) (caller_number o) ≡ is.Calling c) e ((k.invariant i l).consistent.coherent.calling c h)) d
+
+  gone_unanswered :
+      (i c : ℕ) (x : Turn) → slice_get xs i ≡ Some x → IsCollect m xs i x c → stage_of (state_at m xs i) c ≡ Some stage.Gone → ⊥
+  gone_unanswered i c x e w g = not_gone _ ((invariant_before m xs k i x e).consistent.coherent.live c x.thread w.calling) g
+
+  pub cause_holds : HasCause m xs
+  cause_holds =
+      record { refused = refused; not_refused = not_refused; told = told; exact = exact; gone = gone; gone_unanswered = gone_unanswered; left_once = left_once }

@@ -1,0 +1,141 @@
+-- What one event does to a call's record, as one row: the table of arrows together with the giving that may follow an act. A
+-- record that stays has no row. Each row raises the rank of the record.
+use Rattle.std.specs.Prelude.{ℕ, ◌≡◌, ◌<◌, ◌≤◌, ◌⊎◌, List, [], Option, Bool, true, false, Some, None, length, nat_lt}
+use Rattle.std.proofs.Common.{refl, sym, subst, inl, inr}
+use native.Mathlib.Omega.{arith}
+use Rattle.written_kernel.specs.Types.{Answer, Call, CallStage, Errno, Fd, Obj, Pass, Request}
+use Rattle.dk_base.specs.declared.object.Obj.TheVariants as obj
+use Rattle.dk_base.specs.declared.object.Item.TheVariants as item
+use Rattle.dk_base.specs.declared.request.Request.TheVariants as request
+use Rattle.dk_base.specs.declared.answer.Answer.TheVariants as answer
+use Rattle.kernel_records.specs.declared.record.ThreadState.TheVariants as is
+use Rattle.kernel_records.specs.declared.record.CallStage.TheVariants as stage
+use Rattle.written_kernel.specs.Words.{State, at_stage, call_refusal, cookie_of, door_of, entry_of, new_call, now, object_at, process_of, state_of, tid, without_arguments_at}
+use Rattle.kernel_invariant.specs.Core.{has_arguments, underway_in}
+use Rattle.kernel_invariant.specs.Arrows.{Arrow, ByAct, ByGiving, EndsBy}
+use Rattle.kernel_invariant.specs.Arrows.ByAct.{stays, makes, enters, returns, ends, collects_results, collects_error}
+use Rattle.kernel_invariant.specs.Arrows.ByGiving.{stays as keeps, gives}
+use Rattle.kernel_invariant.specs.Arrows.EndsBy.{door_invalid}
+use Rattle.kernel_laws.specs.Places.{is_answered_in, is_entered_in, is_returned_in}
+
+-- by an event of thread t, with request q or the end of its wait and answer a, from state m to state n
+pub data Change (m : State) (t : ℕ) (q : Option Request) (a : Answer) (n : State) : Option Call → Option Call → Type 0 where
+  made :
+      (d rsize : ℕ) (fd : Fd) (bytes : List ℕ) (pass : List Pass) (s : CallStage) → q ≡ Some (request.Call fd bytes pass rsize) →
+      object_at m (process_of m t) fd ≡ Some (obj.Door d) → call_refusal m d bytes ≡ None →
+      a ≡ answer.WaitCall (new_call m t d bytes rsize).number → has_arguments s ≡ true →
+      Change m t q a n None (Some (at_stage (new_call m t d bytes rsize) s))
+  given : (r : Call) (u : ℕ) → r.stage ≡ stage.Queued → Change m t q a n (Some r) (Some (at_stage r (stage.Given (tid u))))
+  entered :
+      (r : Call) → q ≡ None → state_of m t ≡ is.Given (item.Call r.number) → r.stage ≡ stage.Given (tid t) →
+      a ≡ answer.Entered r.number (entry_of (door_of m r.door)) (cookie_of (door_of m r.door)) r.bytes [] →
+      Change m t q a n (Some r) (Some (without_arguments_at r (stage.Entered (tid t))))
+  returned :
+      (r : Call) (bytes : List ℕ) (pass : List Pass) → q ≡ Some (request.Return bytes pass) →
+      r.stage ≡ stage.Entered (tid t) → r.abandoned ≡ false → a ≡ answer.Wait →
+      Change m t q a n (Some r) (Some (without_arguments_at r (stage.Returned bytes [])))
+  ended :
+      (r : Call) (e : Errno) → EndsBy m n r e → Change m t q a n (Some r) (Some (without_arguments_at r (stage.Ended e)))
+  results_collected :
+      (r : Call) (bytes : List ℕ) (objects : List Obj) → q ≡ None → state_of m t ≡ is.Calling r.number → r.caller.0 ≡ t →
+      r.stage ≡ stage.Returned bytes objects → a ≡ answer.Results bytes [] (nat_lt r.rsize (length bytes)) →
+      Change m t q a n (Some r) (Some (without_arguments_at r (stage.Answered (now m))))
+  error_collected :
+      (r : Call) (e : Errno) → q ≡ None → state_of m t ≡ is.Calling r.number → r.caller.0 ≡ t → r.stage ≡ stage.Ended e →
+      a ≡ answer.Failure e → Change m t q a n (Some r) (Some (without_arguments_at r (stage.Answered (now m))))
+
+-- giving changes only a record that is Queued
+
+abbrev is_queued_in : Option Call → Bool
+is_queued_in None = false
+is_queued_in (Some r) = is_queued_stage r.stage
+  where
+    is_queued_stage : CallStage → Bool
+    is_queued_stage stage.Queued = true
+    is_queued_stage _ = false
+
+same_given : (o p : Option Call) → ByGiving o p → is_queued_in o ≡ false → p ≡ o
+same_given o p keeps h = refl
+same_given o p (gives r u e) h = absurd (grind arith)
+
+module _ (m : State) (t : ℕ) (q : Option Request) (a : Answer) (n : State) where
+  only_given : (o p : Option Call) → ByGiving o p → (p ≡ o) ⊎ Change m t q a n o p
+  only_given o p keeps = inl refl
+  only_given o p (gives r u e) = inr (given r u e)
+
+  -- what comes to no Queued record stays as it is
+  stays_then : (o b p : Option Call) → Change m t q a n o b → ByGiving b p → is_queued_in b ≡ false → (p ≡ o) ⊎ Change m t q a n o p
+  stays_then o b p c g h = inr (subst (λ z. Change m t q a n o z) (sym (same_given b p g h)) c)
+
+  made_then :
+      (d rsize : ℕ) (fd : Fd) (bytes : List ℕ) (pass : List Pass) (b p : Option Call) → q ≡ Some (request.Call fd bytes pass rsize) →
+      object_at m (process_of m t) fd ≡ Some (obj.Door d) → call_refusal m d bytes ≡ None →
+      a ≡ answer.WaitCall (new_call m t d bytes rsize).number → b ≡ Some (new_call m t d bytes rsize) → ByGiving b p →
+      Change m t q a n None p
+  made_then d rsize fd bytes pass b p e f g k l keeps =
+      subst (λ z. Change m t q a n None z) (sym l) (made d rsize fd bytes pass stage.Queued e f g k refl)
+  made_then d rsize fd bytes pass b p e f g k l (gives r u h) =
+      let same : new_call m t d bytes rsize ≡ r = cc in
+      subst (λ (z : Call). Change m t q a n None (Some (at_stage z (stage.Given (tid u))))) same
+      (made d rsize fd bytes pass (stage.Given (tid u)) e f g k refl)
+
+  act_then : (o b p : Option Call) → ByAct m t q a n o b → ByGiving b p → (p ≡ o) ⊎ Change m t q a n o p
+  act_then o b p stays g = only_given o p g
+  act_then o b p (makes d rsize fd bytes pass e f v k) g = inr (made_then d rsize fd bytes pass b p e f v k refl g)
+  act_then o b p (enters r e f k v) g = stays_then o b p (entered r e f k v) g refl
+  act_then o b p (returns r bytes pass e f k v) g = stays_then o b p (returned r bytes pass e f k v) g refl
+  act_then o b p (ends r e h) g = stays_then o b p (ended r e h) g refl
+  act_then o b p (collects_results r bytes objects e f k v w) g = stays_then o b p (results_collected r bytes objects e f k v w) g refl
+  act_then o b p (collects_error r x e f k v w) g = stays_then o b p (error_collected r x e f k v w) g refl
+
+  pub change : (o p : Option Call) → Arrow m t q a n o p → (p ≡ o) ⊎ Change m t q a n o p
+  change o p w = act_then o w.between p w.act w.giving
+
+-- ranks
+
+abbrev pub rank_of : CallStage → ℕ
+rank_of stage.Queued = 1
+rank_of (stage.Given u) = 2
+rank_of (stage.Entered u) = 3
+rank_of (stage.Returned bytes objects) = 4
+rank_of (stage.Ended e) = 4
+rank_of (stage.Answered k) = 5
+rank_of stage.Gone = 6
+
+abbrev pub rank_in : Option Call → ℕ
+rank_in None = 0
+rank_in (Some r) = rank_of r.stage
+
+pub new_rank : (s : CallStage) → has_arguments s ≡ true → (1 ≤ rank_of s) × (rank_of s ≤ 2)
+new_rank s e = grind arith
+
+ends_rank : (m n : State) (r : Call) (e : Errno) → EndsBy m n r e → rank_of r.stage < 4
+ends_rank m n r e (door_invalid q v w d) = grind arith
+
+pub change_rises :
+    (m : State) (t : ℕ) (q : Option Request) (a : Answer) (n : State) (o p : Option Call) → Change m t q a n o p →
+    rank_in o < rank_in p
+change_rises m t q a n o p (made d rsize fd bytes pass s e f v k w) = omega (arith, new_rank s w)
+change_rises m t q a n o p (given r u e) = grind arith
+change_rises m t q a n o p (entered r e f g k) = grind arith
+change_rises m t q a n o p (returned r bytes pass e f g k) = grind arith
+change_rises m t q a n o p (ended r e h) = ends_rank m n r e h
+change_rises m t q a n o p (results_collected r bytes objects e f g k l) = grind arith
+change_rises m t q a n o p (error_collected r x e f g k l) = grind arith
+
+-- what tests say of ranks
+
+pub entered_rank : (o : Option Call) → is_entered_in o ≡ true → rank_in o ≡ 3
+entered_rank o e = grind arith
+
+pub returned_rank : (o : Option Call) → is_returned_in o ≡ true → rank_in o ≡ 4
+returned_rank o e = grind arith
+
+pub answered_rank : (o : Option Call) → is_answered_in o ≡ true → rank_in o ≡ 5
+answered_rank o e = grind arith
+
+pub underway_rank : (o : Option Call) → underway_in o ≡ true → rank_in o ≤ 3
+underway_rank o e = grind arith
+
+pub over_rank : (o : Option Call) → underway_in o ≡ false → 1 ≤ rank_in o → 4 ≤ rank_in o
+over_rank o e f = grind arith

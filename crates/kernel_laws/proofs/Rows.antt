@@ -1,0 +1,202 @@
+-- Which change a record took, by where it came to: an entered record by an accept, a returned one by a Return, and so on. The
+-- rows that don't concern a reader are closed by what they came to.
+use Rattle.std.specs.Prelude.{ℕ, ◌≡◌, List, [], Option, Bool, true, false, Some, None, length, nat_lt}
+use Rattle.std.proofs.Common.{refl, sym}
+use native.Mathlib.Omega.{arith}
+use Rattle.written_kernel.specs.Types.{Answer, Call, CallStage, Errno, Fd, Obj, Pass, Request}
+use Rattle.dk_base.specs.declared.object.Obj.TheVariants as obj
+use Rattle.dk_base.specs.declared.object.Item.TheVariants as item
+use Rattle.dk_base.specs.declared.request.Request.TheVariants as request
+use Rattle.dk_base.specs.declared.answer.Answer.TheVariants as answer
+use Rattle.kernel_records.specs.declared.record.ThreadState.TheVariants as is
+use Rattle.kernel_records.specs.declared.record.CallStage.TheVariants as stage
+use Rattle.written_kernel.specs.Words.{State, at_stage, call_refusal, cookie_of, door_of, entry_of, new_call, object_at, process_of, state_of, tid, without_arguments_at}
+use Rattle.kernel_invariant.specs.Core.{has_arguments}
+use Rattle.kernel_invariant.specs.Arrows.{EndsBy}
+use Rattle.kernel_laws.specs.Places.{is_answered_in, is_entered_in, is_returned_in, is_entered_stage, is_returned_stage, is_answered_stage}
+use Rattle.kernel_laws.proofs.Changes.{Change}
+use Rattle.kernel_laws.proofs.Changes.Change.{made, given, entered, returned, ended, results_collected, error_collected}
+
+-- a new record
+
+pub record MadeRow (m : State) (t : ℕ) (q : Option Request) (a : Answer) (p : Option Call) : Type 0 where
+  pub fd : Fd
+  pub bytes : List ℕ
+  pub pass : List Pass
+  pub rsize : ℕ
+  pub door : ℕ
+  pub asked : q ≡ Some (request.Call fd bytes pass rsize)
+  pub names_door : object_at m (process_of m t) fd ≡ Some (obj.Door door)
+  pub not_refused : call_refusal m door bytes ≡ None
+  pub answers : a ≡ answer.WaitCall (new_call m t door bytes rsize).number
+  pub new_stage : CallStage
+  pub waits : has_arguments new_stage ≡ true
+  pub after : p ≡ Some (at_stage (new_call m t door bytes rsize) new_stage)
+
+-- what a record has of an earlier one
+pub record IsOlder (s r : Call) : Type 0 where
+  pub caller : r.caller ≡ s.caller
+  pub door : r.door ≡ s.door
+  pub rsize : r.rsize ≡ s.rsize
+  pub still : has_arguments r.stage ≡ true → has_arguments s.stage ≡ true
+  pub bytes : has_arguments r.stage ≡ true → r.bytes ≡ s.bytes
+
+pub data Origin (m : State) (t : ℕ) (q : Option Request) (a : Answer) (o : Option Call) (r : Call) : Type 0 where
+  new : o ≡ None → MadeRow m t q a (Some r) → Origin m t q a o r
+  older : (s : Call) → o ≡ Some s → IsOlder s r → Origin m t q a o r
+
+older_there : (s r : Call) (c : CallStage) → Some (without_arguments_at s c) ≡ Some r → has_arguments c ≡ false → IsOlder s r
+older_there s r c e h = record { caller = grind arith; door = grind arith; rsize = grind arith; still = λ z. grind arith; bytes = λ z. grind arith }
+
+older_given : (s r : Call) (u : ℕ) → s.stage ≡ stage.Queued → Some (at_stage s (stage.Given (tid u))) ≡ Some r → IsOlder s r
+older_given s r u h e = record { caller = grind arith; door = grind arith; rsize = grind arith; still = λ z. grind arith; bytes = λ z. grind arith }
+
+pub origin :
+    (m : State) (t : ℕ) (q : Option Request) (a : Answer) (n : State) (o p : Option Call) (r : Call) → Change m t q a n o p →
+    p ≡ Some r → Origin m t q a o r
+origin m t q a n o p r (made d rsize fd bytes pass s e f v k w) h =
+    new refl
+    (record {
+      fd = fd;
+      bytes = bytes;
+      pass = pass;
+      rsize = rsize;
+      door = d;
+      asked = e;
+      names_door = f;
+      not_refused = v;
+      answers = k;
+      new_stage = s;
+      waits = w;
+      after = sym h;
+    })
+origin m t q a n o p r (given s u e) h = older s refl (older_given s r u e h)
+origin m t q a n o p r (entered s e f g k) h = older s refl (older_there s r _ h refl)
+origin m t q a n o p r (returned s bytes pass e f g k) h = older s refl (older_there s r _ h refl)
+origin m t q a n o p r (ended s x e) h = older s refl (older_there s r _ h refl)
+origin m t q a n o p r (results_collected s bytes objects e f g k l) h = older s refl (older_there s r _ h refl)
+origin m t q a n o p r (error_collected s x e f g k l) h = older s refl (older_there s r _ h refl)
+
+-- no stage with arguments is one of these
+
+not_entered : (s : CallStage) → has_arguments s ≡ true → is_entered_stage s ≡ true → ⊥
+not_entered s e f = grind arith
+
+not_returned : (s : CallStage) → has_arguments s ≡ true → is_returned_stage s ≡ true → ⊥
+not_returned s e f = grind arith
+
+not_answered : (s : CallStage) → has_arguments s ≡ true → is_answered_stage s ≡ true → ⊥
+not_answered s e f = grind arith
+
+-- an entered record
+
+pub record EnteredRow (m : State) (t : ℕ) (q : Option Request) (a : Answer) (o p : Option Call) : Type 0 where
+  pub call : Call
+  pub before : o ≡ Some call
+  pub after : p ≡ Some (without_arguments_at call (stage.Entered (tid t)))
+  pub no_request : q ≡ None
+  pub given : state_of m t ≡ is.Given (item.Call call.number)
+  pub was_given : call.stage ≡ stage.Given (tid t)
+  pub answers : a ≡ answer.Entered call.number (entry_of (door_of m call.door)) (cookie_of (door_of m call.door)) call.bytes []
+
+pub entered_row :
+    (m : State) (t : ℕ) (q : Option Request) (a : Answer) (n : State) (o p : Option Call) → Change m t q a n o p →
+    is_entered_in p ≡ true → EnteredRow m t q a o p
+entered_row m t q a n o p (entered r e f g k) h =
+    record { call = r; before = refl; after = refl; no_request = e; given = f; was_given = g; answers = k }
+entered_row m t q a n o p (made d rsize fd bytes pass s e f v k w) h = absurd (not_entered s w h)
+entered_row m t q a n o p c h = absurd (grind arith)
+
+-- a returned record
+
+pub record ReturnedRow (m : State) (t : ℕ) (q : Option Request) (a : Answer) (o p : Option Call) : Type 0 where
+  pub call : Call
+  pub bytes : List ℕ
+  pub pass : List Pass
+  pub before : o ≡ Some call
+  pub after : p ≡ Some (without_arguments_at call (stage.Returned bytes []))
+  pub asked : q ≡ Some (request.Return bytes pass)
+  pub was_entered : call.stage ≡ stage.Entered (tid t)
+  pub not_abandoned : call.abandoned ≡ false
+  pub answers : a ≡ answer.Wait
+
+pub returned_row :
+    (m : State) (t : ℕ) (q : Option Request) (a : Answer) (n : State) (o p : Option Call) → Change m t q a n o p →
+    is_returned_in p ≡ true → ReturnedRow m t q a o p
+returned_row m t q a n o p (returned r bytes pass e f g k) h =
+    record { call = r; bytes = bytes; pass = pass; before = refl; after = refl; asked = e; was_entered = f; not_abandoned = g; answers = k }
+returned_row m t q a n o p (made d rsize fd bytes pass s e f v k w) h = absurd (not_returned s w h)
+returned_row m t q a n o p c h = absurd (grind arith)
+
+-- an ended record
+
+abbrev pub is_ended_call : CallStage → Bool
+is_ended_call (stage.Ended e) = true
+is_ended_call _ = false
+
+abbrev pub is_ended_in : Option Call → Bool
+is_ended_in None = false
+is_ended_in (Some r) = is_ended_call r.stage
+
+not_ended : (s : CallStage) → has_arguments s ≡ true → is_ended_call s ≡ true → ⊥
+not_ended s e f = grind arith
+
+pub record EndedRow (m n : State) (o p : Option Call) : Type 0 where
+  pub call : Call
+  pub error : Errno
+  pub before : o ≡ Some call
+  pub after : p ≡ Some (without_arguments_at call (stage.Ended error))
+  pub ends : EndsBy m n call error
+
+pub ended_row :
+    (m : State) (t : ℕ) (q : Option Request) (a : Answer) (n : State) (o p : Option Call) → Change m t q a n o p →
+    is_ended_in p ≡ true → EndedRow m n o p
+ended_row m t q a n o p (ended r e x) h = record { call = r; error = e; before = refl; after = refl; ends = x }
+ended_row m t q a n o p (made d rsize fd bytes pass s e f v k w) h = absurd (not_ended s w h)
+ended_row m t q a n o p c h = absurd (grind arith)
+
+-- an answered record
+
+pub data HandsOver (r : Call) : Answer → Type 0 where
+  results :
+      (bytes : List ℕ) (objects : List Obj) → r.stage ≡ stage.Returned bytes objects →
+      HandsOver r (answer.Results bytes [] (nat_lt r.rsize (length bytes)))
+  error : (e : Errno) → r.stage ≡ stage.Ended e → HandsOver r (answer.Failure e)
+
+pub record AnsweredRow (m : State) (t : ℕ) (q : Option Request) (a : Answer) (o p : Option Call) : Type 0 where
+  pub call : Call
+  pub before : o ≡ Some call
+  pub no_request : q ≡ None
+  pub calling : state_of m t ≡ is.Calling call.number
+  pub own : call.caller.0 ≡ t
+  pub told : Answer
+  pub answers : a ≡ told
+  pub hands_over : HandsOver call told
+
+pub answered_row :
+    (m : State) (t : ℕ) (q : Option Request) (a : Answer) (n : State) (o p : Option Call) → Change m t q a n o p →
+    is_answered_in p ≡ true → AnsweredRow m t q a o p
+answered_row m t q a n o p (results_collected r bytes objects e f g k l) h =
+    record {
+      call = r;
+      before = refl;
+      no_request = e;
+      calling = f;
+      own = g;
+      told = answer.Results bytes [] (nat_lt r.rsize (length bytes));
+      answers = l;
+      hands_over = results bytes objects k;
+    }
+answered_row m t q a n o p (error_collected r x e f g k l) h =
+    record {
+      call = r;
+      before = refl;
+      no_request = e;
+      calling = f;
+      own = g;
+      told = answer.Failure x;
+      answers = l;
+      hands_over = error x k;
+    }
+answered_row m t q a n o p (made d rsize fd bytes pass s e f v k w) h = absurd (not_answered s w h)
+answered_row m t q a n o p c h = absurd (grind arith)
