@@ -1,26 +1,26 @@
 -- What an act and what follows it add to a state: a door and a call at most, and calls of few bytes.
-use Rattle.std.proofs.Common.{◌≡◌, ℕ, suc, ◌+◌, ◌≤◌, ◌&&◌, ◌++◌, Bool, true, false, if◌then◌else◌, nat_lt, nat_le, List, [], ◌∷◌, Option, Some, None, length, map, find, filter, refl, ap, ◌∙◌, subst, arith, length-append}
+use Rattle.std.proofs.Common.{◌≡◌, ℕ, suc, ◌+◌, ◌≤◌, ◌&&◌, ◌++◌, Bool, true, false, if◌then◌else◌, not, nat_lt, is_some, List, [], ◌∷◌, Option, Some, None, length, map, find, filter, refl, ap, ◌∙◌, subst, arith, length-append}
 use Rattle.std.proofs.lemmas.Bool.{ltb-false}
 use Rattle.std.proofs.lemmas.List.{length-map}
-use Rattle.written_kernel.specs.Types.{Attrs, Call, CallStage, Door, Errno, Fd, Inv, Item, Name, Notice, Obj, PathId, Process, Request, Thread, ThreadState}
-use Rattle.dk_base.specs.declared.error.Errno.TheVariants.{EBADF, E2BIG, EAGAIN}
-use Rattle.dk_base.specs.declared.object.Obj.TheVariants as obj
+use Rattle.written_kernel.specs.Types.{Attrs, Call, CallStage, Door, Errno, Fd, Item, Name, Parked, Pass, PathId, Process, Request, Thread, ThreadState, Waiting}
+use Rattle.dk_base.specs.declared.error.Errno.TheVariants.{EBADF, E2BIG}
 use Rattle.dk_base.specs.declared.object.Item.TheVariants as item
 use Rattle.dk_base.specs.declared.request.Request.TheVariants as request
 use Rattle.kernel_records.specs.declared.record.ThreadState.TheVariants as is
 use Rattle.kernel_records.specs.declared.record.CallStage.TheVariants as stage
 use Rattle.dk_base.specs.ByNumber.{at_number}
-use Rattle.written_kernel.specs.Words.{ActResult, Parked, State, Waiting, accept, accept_call, act, answer_call, at_stage, attach, attach_object, attach_unless, await, await_name, call, call_object, call_of, call_refusal, call_unless, client, collect, collect_at, collect_call, create, create_at, end_await, end_process, end_thread, ended_call, ended_thread, enter, enter_call, exit, give_call, give_each, give_item, give_notice, give_to, go_on, is_call, is_last, is_owned, is_queued, is_valid, lowest_free, name_of, new_call, new_door, new_invocation, new_name, no_act, now, object_at, open_at, open_call, open_name, open_path, park, pick, pool_of, process_of, queue_length, refused_act, return, return_for, return_to, settle, state_of, table_of, thread_of, tid, waiting_items, with_call, with_closed_table, with_door, with_ended, with_ended_calls, with_ended_threads, with_invocation, with_invocation_in, with_live_call, with_name, with_new_call, with_row, with_state, with_state_in, with_thread, without_arguments_at}
+use Rattle.kernel_records.specs.Words.{CallTree, ProcessTable, at_stage, change_first, change_thread, change_thread_in, end_process, ended_thread, ended_thread_of, idle_thread, is_client_call_of, is_given_as, is_last, is_owned_by, is_queued, is_queued_as, is_to_collect_as, thread_at, thread_at_state, thread_in_invocation, tid, with_ended, with_ended_threads, without_arguments_at}
+use Rattle.written_kernel.specs.Words.{ActResult, State, accept, accept_call, act, attach, await, await_name, call, call_tests, client_call, collect, collect_answer, collect_answer_in, create, door_named, effect, ended_call, enter, exit, find_call, first_refusal, give_each, give_one, give_to, go_on, is_valid, leave_process, leave_thread, name_of, new_call, no_act, now, object_at, open_path, pick, pool_of, process_of, refusal_of, refused_act, return, return_tests, settle, state_of, unless_refused, waiting_items}
 use Rattle.written_kernel.proofs.Lists.{length-with_at_number}
 use Rattle.kernel_core.specs.Within.{IsSmallStage, IsSmallCall, AreSmall, IsSmall}
 
 pub record Grows (k : ℕ) (m n : State) : Type 0 where
-  pub threads : length n.threads ≡ length m.threads
-  pub calls : length n.calls ≤ length m.calls + k
+  pub threads : length n.process_table.threads ≡ length m.process_table.threads
+  pub calls : length n.call_tree.calls ≤ length m.call_tree.calls + k
   pub doors : length n.doors ≤ length m.doors + k
-  pub calls_made : n.calls_made ≤ m.calls_made + k
+  pub calls_made : n.call_tree.made ≤ m.call_tree.made + k
   pub events : n.events ≡ m.events
-  pub bytes : AreSmall m.calls → AreSmall n.calls
+  pub bytes : AreSmall m.call_tree.calls → AreSmall n.call_tree.calls
 
 pub grows_same : (k : ℕ) (m : State) → Grows k m m
 grows_same k m =
@@ -39,37 +39,57 @@ grows_then k j i m n o e g h =
 
 -- threads
 
-with_thread-grows : (k : ℕ) (m : State) (t : ℕ) (x : Thread) → Grows k m (with_thread m t x)
-with_thread-grows k m t x =
-    record { threads = length-with_at_number m.threads t x; calls = omega arith; doors = omega arith; calls_made = omega arith; events = refl; bytes = λ h. h }
-
-with_state-grows : (k : ℕ) (m : State) (t : ℕ) (s : ThreadState) → Grows k m (with_state m t s)
-with_state-grows k m t s = go (thread_of m t)
+pub length-change_thread : (table : ProcessTable) (t : ℕ) (change : Thread → Thread) → length (change_thread table t change).threads ≡ length table.threads
+length-change_thread table t change = go (thread_at table t)
   where
-    go : (o : Option Thread) → Grows k m (with_state_in m t s o)
-    go None = grows_same k m
-    go (Some x) = with_thread-grows k m t (record x { state = s })
+    go : (o : Option Thread) → length (change_thread_in table t change o).threads ≡ length table.threads
+    go None = refl
+    go (Some x) = length-with_at_number table.threads t (change x)
 
-with_invocation-grows : (k : ℕ) (m : State) (t : ℕ) (v : Option Inv) → Grows k m (with_invocation m t v)
-with_invocation-grows k m t v = go (thread_of m t)
+length-end_process : (table : ProcessTable) (p : ℕ) → length (end_process table p).threads ≡ length table.threads
+length-end_process table p = go (at_number table.processes p)
   where
-    go : (o : Option Thread) → Grows k m (with_invocation_in m t v o)
-    go None = grows_same k m
-    go (Some x) = with_thread-grows k m t (record x { invocation = v })
+    go : (o : Option Process) → length (with_ended (with_ended_threads table p) p o).threads ≡ length table.threads
+    go None = length-map table.threads (ended_thread_of p)
+    go (Some x) = length-map table.threads (ended_thread_of p)
+
+-- an act that changes one thread, and no door and no call
+thread-grows : (k : ℕ) (m : State) (t : ℕ) (change : Thread → Thread) → Grows k m (record m { process_table = change_thread m.process_table t change })
+thread-grows k m t change =
+    record {
+      threads = length-change_thread m.process_table t change;
+      calls = omega arith;
+      doors = omega arith;
+      calls_made = omega arith;
+      events = refl;
+      bytes = λ h. h;
+    }
 
 -- calls
 
-length-with_live_call : (rs : List Call) (c : ℕ) (x : Call) → length (with_live_call rs c x) ≡ length rs
-length-with_live_call [] c x = refl
-length-with_live_call (r ∷ rs) c x =
-    elim (is_call c r) as (λ b. length (if b then x ∷ rs else r ∷ with_live_call rs c x) ≡ length (r ∷ rs))
-    [ true ↦ refl | false ↦ ap suc (length-with_live_call rs c x) ]
+length-change_first : (test : Call → Bool) (change : Call → Call) (rs : List Call) → length (change_first test change rs) ≡ length rs
+length-change_first test change [] = refl
+length-change_first test change (r ∷ rs) =
+    elim (test r) as (λ b. length (if b then change r ∷ rs else r ∷ change_first test change rs) ≡ length (r ∷ rs))
+    [ true ↦ refl | false ↦ ap suc (length-change_first test change rs) ]
 
-with_live_call-small : (rs : List Call) (c : ℕ) (x : Call) → IsSmallCall x → AreSmall rs → AreSmall (with_live_call rs c x)
-with_live_call-small [] c x s h = h
-with_live_call-small (r ∷ rs) c x s h =
-    elim (is_call c r) as (λ b. AreSmall (if b then x ∷ rs else r ∷ with_live_call rs c x))
-    [ true ↦ (s, h.1) | false ↦ (h.0, with_live_call-small rs c x s h.1) ]
+change_first-small :
+    (test : Call → Bool) (change : Call → Call) → ((r : Call) → IsSmallCall r → IsSmallCall (change r)) → (rs : List Call) →
+    AreSmall rs → AreSmall (change_first test change rs)
+change_first-small test change s [] h = h
+change_first-small test change s (r ∷ rs) h =
+    elim (test r) as (λ b. AreSmall (if b then change r ∷ rs else r ∷ change_first test change rs))
+    [ true ↦ (s r h.0, h.1) | false ↦ (h.0, change_first-small test change s rs h.1) ]
+
+-- the same where the change is small if it happens at all
+change_found-small :
+    (test : Call → Bool) (change : Call → Call) (rs : List Call) →
+    (is_some (find test rs) ≡ true → (r : Call) → IsSmallCall r → IsSmallCall (change r)) → AreSmall rs →
+    AreSmall (change_first test change rs)
+change_found-small test change [] s h = h
+change_found-small test change (r ∷ rs) s h =
+    elim (test r) as (λ b. (is_some (if b then Some r else find test rs) ≡ true → (x : Call) → IsSmallCall x → IsSmallCall (change x)) → AreSmall (if b then change r ∷ rs else r ∷ change_first test change rs))
+    [ true ↦ λ z. (z refl r h.0, h.1) | false ↦ λ z. (h.0, change_found-small test change rs z h.1) ] s
 
 push-small : (rs : List Call) (r : Call) → IsSmallCall r → AreSmall rs → AreSmall (rs ++ r ∷ [])
 push-small [] r s h = (s, tt)
@@ -87,36 +107,29 @@ filter-small p (x ∷ rs) h =
     elim (p x) as (λ b. AreSmall (if b then x ∷ filter p rs else filter p rs))
     [ true ↦ (h.0, filter-small p rs h.1) | false ↦ filter-small p rs h.1 ]
 
-without_arguments_at-small : (r : Call) (s : CallStage) → IsSmallStage s → IsSmallCall (without_arguments_at r s)
+without_arguments_at-small : (r : Call) (s : CallStage) → IsSmallStage s → IsSmallCall (without_arguments_at s r)
 without_arguments_at-small r s h = record { arguments = omega arith; results = h }
 
-with_call-grows : (k : ℕ) (m : State) (c : ℕ) (x : Call) → (AreSmall m.calls → IsSmallCall x) → Grows k m (with_call m c x)
-with_call-grows k m c x s =
+-- an act that changes one thread and one call
+call-grows :
+    (m : State) (t : ℕ) (turn : Thread → Thread) (test : Call → Bool) (change : Call → Call) →
+    (AreSmall m.call_tree.calls → AreSmall (change_first test change m.call_tree.calls)) →
+    Grows 1 m (record m { process_table = change_thread m.process_table t turn; call_tree = record m.call_tree { calls = change_first test change m.call_tree.calls } })
+call-grows m t turn test change s =
     record {
-      threads = refl;
-      calls = omega (arith, length-with_live_call m.calls c x);
+      threads = length-change_thread m.process_table t turn;
+      calls = omega (arith, length-change_first test change m.call_tree.calls);
       doors = omega arith;
       calls_made = omega arith;
       events = refl;
-      bytes = λ h. with_live_call-small m.calls c x (s h) h;
-    }
-
-with_new_call-grows : (m : State) (r : Call) → r.number ≡ m.calls_made + 1 → IsSmallCall r → Grows 1 m (with_new_call m r)
-with_new_call-grows m r e s =
-    record {
-      threads = refl;
-      calls = omega (arith, length-append m.calls (r ∷ []));
-      doors = omega arith;
-      calls_made = omega (arith, e);
-      events = refl;
-      bytes = λ h. push-small m.calls r s h;
+      bytes = s;
     }
 
 -- acts: what they add, and answers of few bytes
 
 pub record IsTidy (m : State) (a : ActResult) : Type 0 where
   pub grows : Grows 1 m a.state
-  pub small : AreSmall m.calls → IsSmall a.answer
+  pub small : AreSmall m.call_tree.calls → IsSmall a.answer
 
 refused_act-tidy : (m : State) (e : Errno) → IsTidy m (refused_act m e)
 refused_act-tidy m e = record { grows = grows_same 1 m; small = λ h. tt }
@@ -124,249 +137,222 @@ refused_act-tidy m e = record { grows = grows_same 1 m; small = λ h. tt }
 no_act-tidy : (m : State) → IsTidy m (no_act m)
 no_act-tidy m = record { grows = grows_same 1 m; small = λ h. tt }
 
-with_row-grows : (k : ℕ) (m n : State) (p place : ℕ) (o : Obj) → Grows k m n → Grows k m (with_row n p place o)
-with_row-grows k m n p place o g =
-    record { threads = g.threads; calls = g.calls; doors = g.doors; calls_made = g.calls_made; events = g.events; bytes = g.bytes }
-
-with_name-grows : (m : State) (n : Name) → Grows 1 m (with_name m n)
-with_name-grows m n =
-    record { threads = refl; calls = omega arith; doors = omega arith; calls_made = omega arith; events = refl; bytes = λ h. h }
-
-with_door-grows : (m : State) (d : Door) → Grows 1 m (with_door m d)
-with_door-grows m d =
+-- an act that changes no thread, no call and no event, and adds a door at most
+door-tidy : (m n : State) (a : ActResult) → a.state ≡ n → n.process_table ≡ m.process_table → n.call_tree ≡ m.call_tree → n.events ≡ m.events → length n.doors ≤ length m.doors + 1 → IsSmall a.answer → IsTidy m a
+door-tidy m n a e threads calls events doors small =
     record {
-      threads = refl;
-      calls = omega arith;
-      doors = omega (arith, length-append m.doors (d ∷ []));
-      calls_made = omega arith;
-      events = refl;
-      bytes = λ h. h;
+      grows =
+          subst (Grows 1 m) (let back : n ≡ a.state = cc in back)
+          (record {
+            threads = ap (λ (table : ProcessTable). length table.threads) threads;
+            calls = let same = ap (λ (tree : CallTree). length tree.calls) calls in omega arith;
+            doors = doors;
+            calls_made = let same = ap (λ (tree : CallTree). tree.made) calls in omega arith;
+            events = events;
+            bytes = λ h. subst AreSmall (ap (λ (tree : CallTree). tree.calls) (let back : m.call_tree ≡ n.call_tree = cc in back)) h;
+          });
+      small = λ h. small;
     }
 
 create-tidy : (m : State) (p entry cookie : ℕ) (attrs : Attrs) → IsTidy m (create m p entry cookie attrs)
-create-tidy m p entry cookie attrs = go (new_door m p entry cookie attrs) (lowest_free (table_of m p))
-  where
-    go : (d : Door) (o : Option ℕ) → IsTidy m (create_at m p d o)
-    go d None = refused_act-tidy m _
-    go d (Some place) =
-        record { grows = with_row-grows 1 m (with_door m d) p place (obj.Door d.number) (with_door-grows m d); small = λ h. tt }
+create-tidy m p entry cookie attrs =
+    door-tidy m (create m p entry cookie attrs).state (create m p entry cookie attrs) refl refl refl refl
+    (omega (arith, length-append m.doors ((Rattle.kernel_records.specs.Doors.new_door (length m.doors + 1) p entry cookie attrs) ∷ [])))
+    tt
 
 attach-tidy : (m : State) (p : ℕ) (fd : Fd) (path : PathId) → IsTidy m (attach m p fd path)
-attach-tidy m p fd path = go (object_at m p fd)
-  where
-    unless : (n : Name) (o : Option Name) → IsTidy m (attach_unless m n o)
-    unless n (Some other) = refused_act-tidy m _
-    unless n None = record { grows = with_name-grows m n; small = λ h. tt }
-
-    go : (o : Option Obj) → IsTidy m (attach_object m path o)
-    go None = refused_act-tidy m _
-    go (Some (obj.Door d)) = unless (new_name m path d) (name_of m path)
-    go (Some _) = refused_act-tidy m _
+attach-tidy m p fd path = door-tidy m (attach m p fd path).state (attach m p fd path) refl refl refl refl (omega arith) tt
 
 open_path-tidy : (m : State) (p : ℕ) (path : PathId) → IsTidy m (open_path m p path)
-open_path-tidy m p path = go (name_of m path)
-  where
-    at : (n : Name) (o : Option ℕ) → IsTidy m (open_at m p n o)
-    at n None = refused_act-tidy m _
-    at n (Some place) =
-        record { grows = with_row-grows 1 m m p place (obj.Door n.door) (grows_same 1 m); small = λ h. tt }
-
-    go : (o : Option Name) → IsTidy m (open_name m p o)
-    go None = refused_act-tidy m _
-    go (Some n) = at n (lowest_free (table_of m p))
+open_path-tidy m p path = door-tidy m (open_path m p path).state (open_path m p path) refl refl refl refl (omega arith) tt
 
 await-tidy : (m : State) (t : ℕ) (path : PathId) → IsTidy m (await m t path)
 await-tidy m t path = go (name_of m path)
   where
     go : (o : Option Name) → IsTidy m (await_name m t path o)
     go (Some n) = record { grows = grows_same 1 m; small = λ h. tt }
-    go None = record { grows = with_state-grows 1 m t (is.Awaiting path); small = λ h. tt }
+    go None = record { grows = thread-grows 1 m t (thread_at_state (is.Awaiting path)); small = λ h. tt }
 
-end_await-tidy : (m : State) (t : ℕ) → IsTidy m (end_await m t)
-end_await-tidy m t = record { grows = with_state-grows 1 m t is.Running; small = λ h. tt }
-
-open_call-tidy : (m : State) (t d : ℕ) (bytes : List ℕ) (rsize : ℕ) → length bytes ≤ 4096 → IsTidy m (open_call m t (new_call m t d bytes rsize))
-open_call-tidy m t d bytes rsize few =
-    let r = new_call m t d bytes rsize in
-    record {
-      grows =
-          grows_then 1 1 0 m (with_new_call m r) _ (omega arith)
-          (with_new_call-grows m r refl (record { arguments = few; results = tt }))
-          (with_state-grows 0 (with_new_call m r) t (is.Calling r.number));
-      small = λ h. tt;
-    }
-
-few_bytes : (m : State) (d : ℕ) (bytes : List ℕ) → call_refusal m d bytes ≡ None → length bytes ≤ 4096
-few_bytes m d bytes e = go (is_valid m d) (nat_lt 4096 (length bytes)) refl e
+-- the bytes of a call that is not refused
+few_bytes : (m : State) (p : ℕ) (fd : Fd) (bytes : List ℕ) (pass : List Pass) → first_refusal (call_tests m p fd bytes pass) ≡ None → length bytes ≤ 4096
+few_bytes m p fd bytes pass e = go (is_valid m (door_named (object_at m p fd))) (nat_lt 4096 (length bytes)) refl e
   where
-    go : (valid many : Bool) → nat_lt 4096 (length bytes) ≡ many → (if valid then (if many then Some E2BIG else (if nat_le 32 (queue_length m (pool_of m d)) then Some EAGAIN else None)) else Some EBADF) ≡ None → length bytes ≤ 4096
+    rest : Option Errno
+    rest = first_refusal (Rattle.written_kernel.specs.Doors.pool_tests m (door_named (object_at m p fd)))
+
+    go :
+        (valid many : Bool) → nat_lt 4096 (length bytes) ≡ many →
+        (if not valid then Some EBADF else (if many then Some E2BIG else rest)) ≡ None → length bytes ≤ 4096
     go true true q e = cc
     go true false q e = ltb-false 4096 (length bytes) q
     go false many q e = cc
 
-call-tidy : (m : State) (t p : ℕ) (fd : Fd) (bytes : List ℕ) (rsize : ℕ) → IsTidy m (call m t p fd bytes rsize)
-call-tidy m t p fd bytes rsize = go (object_at m p fd)
-  where
-    unless : (d : ℕ) (o : Option Errno) → call_refusal m d bytes ≡ o → IsTidy m (call_unless m t (new_call m t d bytes rsize) o)
-    unless d (Some e) q = refused_act-tidy m e
-    unless d None q = open_call-tidy m t d bytes rsize (few_bytes m d bytes q)
-
-    go : (o : Option Obj) → IsTidy m (call_object m t bytes rsize o)
-    go None = refused_act-tidy m _
-    go (Some (obj.Door d)) = unless d (call_refusal m d bytes) refl
-    go (Some _) = refused_act-tidy m _
-
-park-grows : (k : ℕ) (m : State) (t : ℕ) → Grows k m (park m t)
-park-grows k m t =
-    grows_then k k 0 m (with_invocation m t None) _ (omega arith) (with_invocation-grows k m t None) (with_state-grows 0 (with_invocation m t None) t (is.Idle (now m)))
-
-return_to-tidy : (m : State) (t : ℕ) (bytes : List ℕ) (r : Call) → length bytes ≤ 4096 → IsTidy m (return_to m t bytes r)
-return_to-tidy m t bytes r few =
-    let x = without_arguments_at r (stage.Returned bytes []) in
+call-tidy :
+    (m : State) (t p : ℕ) (fd : Fd) (bytes : List ℕ) (pass : List Pass) (rsize : ℕ) → length bytes ≤ 4096 →
+    IsTidy m (call m t p fd bytes pass rsize)
+call-tidy m t p fd bytes pass rsize few =
+    let r = new_call m t (door_named (object_at m p fd)) bytes [] rsize in
     record {
       grows =
-          grows_then 1 1 0 m (with_call m r.number x) _ (omega arith)
-          (with_call-grows 1 m r.number x (λ h. without_arguments_at-small r (stage.Returned bytes []) few))
-          (park-grows 0 (with_call m r.number x) t);
+          record {
+            threads = length-change_thread m.process_table t (thread_at_state (is.Calling r.number));
+            calls = omega (arith, length-append m.call_tree.calls (r ∷ []));
+            doors = omega arith;
+            calls_made = omega arith;
+            events = refl;
+            bytes = λ h. push-small m.call_tree.calls r (record { arguments = few; results = tt }) h;
+          };
       small = λ h. tt;
     }
 
-return-tidy : (m : State) (t : ℕ) (bytes : List ℕ) → IsTidy m (return m t bytes)
-return-tidy m t bytes = go (client m t)
+-- the results of a return that is not refused go to a client only where they are few
+few_results :
+    (m : State) (t p : ℕ) (bytes : List ℕ) (pass : List Pass) → first_refusal (return_tests m t p bytes pass) ≡ None →
+    is_some (client_call m t) ≡ true → length bytes ≤ 4096
+few_results m t p bytes pass e h = go (is_some (client_call m t)) (nat_lt 4096 (length bytes)) refl h e
   where
-    unless : (r : Call) (many : Bool) → nat_lt 4096 (length bytes) ≡ many → IsTidy m (if many then refused_act m E2BIG else return_to m t bytes r)
-    unless r true q = refused_act-tidy m _
-    unless r false q = return_to-tidy m t bytes r (ltb-false 4096 (length bytes) q)
+    go :
+        (there many : Bool) → nat_lt 4096 (length bytes) ≡ many → there ≡ true →
+        (if there && many then Some E2BIG else None) ≡ None → length bytes ≤ 4096
+    go true true q f e = cc
+    go true false q f e = ltb-false 4096 (length bytes) q
+    go false many q f e = cc
 
-    go : (o : Option Call) → IsTidy m (return_for m t bytes o)
-    go (Some r) = unless r (nat_lt 4096 (length bytes)) refl
-    go None = record { grows = park-grows 1 m t; small = λ h. tt }
+return-tidy :
+    (m : State) (t p : ℕ) (bytes : List ℕ) (pass : List Pass) → first_refusal (return_tests m t p bytes pass) ≡ None →
+    IsTidy m (return m t p bytes pass)
+return-tidy m t p bytes pass e =
+    record {
+      grows =
+          call-grows m t (idle_thread (now m)) (is_client_call_of t) (without_arguments_at (stage.Returned bytes []))
+          (change_found-small (is_client_call_of t) (without_arguments_at (stage.Returned bytes [])) m.call_tree.calls
+          (λ f r h. without_arguments_at-small r (stage.Returned bytes []) (few_results m t p bytes pass e f)));
+      small = λ h. tt;
+    }
 
-enter_call-grows : (m : State) (t : ℕ) (r : Call) → Grows 1 m (enter_call m t r)
-enter_call-grows m t r =
-    let x = without_arguments_at r (stage.Entered (tid t)) in
-    let n = with_call m r.number x in
-    let o = with_invocation n t (Some (new_invocation (item.Call r.number))) in
-    grows_then 1 1 0 m o _ (omega arith)
-    (grows_then 1 1 0 m n o (omega arith)
-    (with_call-grows 1 m r.number x (λ h. without_arguments_at-small r (stage.Entered (tid t)) tt))
-    (with_invocation-grows 0 n t (Some (new_invocation (item.Call r.number)))))
-    (with_state-grows 0 o t is.Running)
-
-accept-tidy : (m : State) (t : ℕ) (i : Item) → IsTidy m (accept m t i)
-accept-tidy m t (item.Call c) = go (call_of m c) refl
+accept-tidy : (m : State) (t p : ℕ) (i : Item) → IsTidy m (accept m t p i)
+accept-tidy m t p (item.Call c) = go (find_call m (is_given_as c t)) refl
   where
-    go : (o : Option Call) → call_of m c ≡ o → IsTidy m (accept_call m t o)
+    go : (o : Option Call) → find_call m (is_given_as c t) ≡ o → IsTidy m (accept_call m t c o)
     go None e = no_act-tidy m
     go (Some r) e =
-        record { grows = enter_call-grows m t r; small = λ h. ((find-small (is_call c) m.calls r e h).arguments, omega arith) }
-accept-tidy m t (item.Notice n) = no_act-tidy m
+        record {
+          grows =
+              call-grows m t (thread_in_invocation (item.Call c)) (is_given_as c t) (without_arguments_at (stage.Entered (tid t)))
+              (change_first-small (is_given_as c t) (without_arguments_at (stage.Entered (tid t)))
+              (λ x h. without_arguments_at-small x (stage.Entered (tid t)) tt) m.call_tree.calls);
+          small = λ h. ((find-small (is_given_as c t) m.call_tree.calls r e h).arguments, omega arith);
+        }
+accept-tidy m t p (item.Notice n) = no_act-tidy m
 
-answer_call-grows : (m : State) (t : ℕ) (r : Call) → Grows 1 m (answer_call m t r)
-answer_call-grows m t r =
-    let x = without_arguments_at r (stage.Answered (now m)) in
-    grows_then 1 1 0 m (with_call m r.number x) _ (omega arith)
-    (with_call-grows 1 m r.number x (λ h. without_arguments_at-small r (stage.Answered (now m)) tt))
-    (with_state-grows 0 (with_call m r.number x) t is.Running)
-
-collect-tidy : (m : State) (t c : ℕ) → IsTidy m (collect m t c)
-collect-tidy m t c = go (call_of m c) refl
+collect_answer-small : (m : State) (c : ℕ) → AreSmall m.call_tree.calls → IsSmall (collect_answer_in (find_call m (is_to_collect_as c)))
+collect_answer-small m c h = go (find_call m (is_to_collect_as c)) refl
   where
-    at : (r : Call) (s : CallStage) → (AreSmall m.calls → IsSmallStage s) → IsTidy m (collect_at m t r s)
-    at r (stage.Returned bytes objects) few = record { grows = answer_call-grows m t r; small = λ h. (few h, omega arith) }
-    at r (stage.Ended e) few = record { grows = answer_call-grows m t r; small = λ h. tt }
-    at r _ few = no_act-tidy m
+    at : (r : Call) (s : CallStage) → IsSmallStage s → IsSmall (collect_answer r s)
+    at r (stage.Returned bytes objects) few = (few, omega arith)
+    at r (stage.Ended e) few = tt
+    at r _ few = tt
 
-    go : (o : Option Call) → call_of m c ≡ o → IsTidy m (collect_call m t o)
-    go None e = no_act-tidy m
-    go (Some r) e = at r r.stage (λ h. (find-small (is_call c) m.calls r e h).results)
+    go : (o : Option Call) → find_call m (is_to_collect_as c) ≡ o → IsSmall (collect_answer_in o)
+    go None e = tt
+    go (Some r) e = at r r.stage (find-small (is_to_collect_as c) m.call_tree.calls r e h).results
+
+collect-tidy : (m : State) (t p c : ℕ) → IsTidy m (collect m t p c)
+collect-tidy m t p c =
+    record {
+      grows =
+          call-grows m t (thread_at_state is.Running) (is_to_collect_as c) (without_arguments_at (stage.Answered (now m)))
+          (change_first-small (is_to_collect_as c) (without_arguments_at (stage.Answered (now m)))
+          (λ x h. without_arguments_at-small x (stage.Answered (now m)) tt) m.call_tree.calls);
+      small = collect_answer-small m c;
+    }
 
 -- leaving
 
 ended_call-small : (doors : List Door) (p : ℕ) (r : Call) → IsSmallCall r → IsSmallCall (ended_call doors p r)
 ended_call-small doors p r h =
-    elim (is_queued r.stage && is_owned p (at_number doors r.door)) as (λ b. IsSmallCall (if b then without_arguments_at r (stage.Ended EBADF) else r))
+    elim (is_queued r.stage && is_owned_by p (at_number doors r.door)) as (λ b. IsSmallCall (if b then without_arguments_at (stage.Ended EBADF) r else r))
     [ true ↦ without_arguments_at-small r (stage.Ended EBADF) tt | false ↦ h ]
 
 ended_calls-small : (doors : List Door) (p : ℕ) (rs : List Call) → AreSmall rs → AreSmall (map (ended_call doors p) rs)
 ended_calls-small doors p [] h = h
 ended_calls-small doors p (r ∷ rs) h = (ended_call-small doors p r h.0, ended_calls-small doors p rs h.1)
 
-end_process-grows : (m : State) (p : ℕ) → Grows 1 m (end_process m p)
-end_process-grows m p = go (at_number m.processes p)
-  where
-    go : (o : Option Process) → Grows 1 m (with_ended_calls (with_closed_table (with_ended (with_ended_threads m p) p o) p) p)
-    go None =
-        record {
-          threads = length-map m.threads (ended_thread p);
-          calls = omega (arith, length-map m.calls (ended_call m.doors p));
-          doors = omega arith;
-          calls_made = omega arith;
-          events = refl;
-          bytes = λ h. ended_calls-small m.doors p m.calls h;
-        }
-    go (Some x) =
-        record {
-          threads = length-map m.threads (ended_thread p);
-          calls = omega (arith, length-map m.calls (ended_call m.doors p));
-          doors = omega arith;
-          calls_made = omega arith;
-          events = refl;
-          bytes = λ h. ended_calls-small m.doors p m.calls h;
-        }
-
-end_thread-grows : (m : State) (t : ℕ) → Grows 1 m (end_thread m t)
-end_thread-grows m t =
-    grows_then 1 1 0 m (with_invocation m t None) _ (omega arith) (with_invocation-grows 1 m t None) (with_state-grows 0 (with_invocation m t None) t is.Done)
+leave_process-grows : (m : State) (p : ℕ) → Grows 1 m (leave_process m p)
+leave_process-grows m p =
+    record {
+      threads = length-end_process m.process_table p;
+      calls = omega (arith, length-map m.call_tree.calls (ended_call m.doors p));
+      doors = omega (arith, length-map m.doors (Rattle.kernel_records.specs.Doors.with_owner_ended p));
+      calls_made = omega arith;
+      events = refl;
+      bytes = ended_calls-small m.doors p m.call_tree.calls;
+    }
 
 exit-tidy : (m : State) (t p : ℕ) → IsTidy m (exit m t p)
-exit-tidy m t p = record { grows = go (is_last m t p); small = λ h. tt }
+exit-tidy m t p = record { grows = go (is_last m.process_table t p); small = λ h. tt }
   where
-    go : (b : Bool) → Grows 1 m (if b then end_process m p else end_thread m t)
-    go true = end_process-grows m p
-    go false = end_thread-grows m t
+    go : (b : Bool) → Grows 1 m (if b then leave_process m p else leave_thread m t)
+    go true = leave_process-grows m p
+    go false = thread-grows 1 m t ended_thread
 
 -- any act
 
-pub enter-tidy : (m : State) (t p : ℕ) (r : Request) → IsTidy m (enter m t p r)
-enter-tidy m t p (request.Create entry cookie attrs) = create-tidy m p entry cookie attrs
-enter-tidy m t p (request.Call fd bytes pass rsize) = call-tidy m t p fd bytes rsize
-enter-tidy m t p (request.Return bytes pass) = return-tidy m t bytes
-enter-tidy m t p (request.Attach fd path) = attach-tidy m p fd path
-enter-tidy m t p (request.Open path) = open_path-tidy m p path
-enter-tidy m t p (request.Await path) = await-tidy m t path
-enter-tidy m t p request.Exit = exit-tidy m t p
-enter-tidy m t p _ = no_act-tidy m
+effect-tidy : (m : State) (t p : ℕ) (r : Request) → refusal_of m t p r ≡ None → IsTidy m (effect m t p r)
+effect-tidy m t p (request.Create entry cookie attrs) e = create-tidy m p entry cookie attrs
+effect-tidy m t p (request.Call fd bytes pass rsize) e = call-tidy m t p fd bytes pass rsize (few_bytes m p fd bytes pass e)
+effect-tidy m t p (request.Return bytes pass) e = return-tidy m t p bytes pass e
+effect-tidy m t p (request.Attach fd path) e = attach-tidy m p fd path
+effect-tidy m t p (request.Open path) e = open_path-tidy m p path
+effect-tidy m t p (request.Await path) e = await-tidy m t path
+effect-tidy m t p request.Exit e = exit-tidy m t p
+effect-tidy m t p _ e = no_act-tidy m
 
-pub go_on-tidy : (m : State) (t : ℕ) (s : ThreadState) → IsTidy m (go_on m t s)
-go_on-tidy m t (is.Given i) = accept-tidy m t i
-go_on-tidy m t (is.Calling c) = collect-tidy m t c
-go_on-tidy m t (is.Awaiting path) = end_await-tidy m t
-go_on-tidy m t _ = no_act-tidy m
+pub enter-tidy : (m : State) (t p : ℕ) (r : Request) → IsTidy m (enter m t p r)
+enter-tidy m t p r = go (refusal_of m t p r) refl
+  where
+    go : (o : Option Errno) → refusal_of m t p r ≡ o → IsTidy m (unless_refused m o (effect m t p r))
+    go (Some x) e = refused_act-tidy m x
+    go None e = effect-tidy m t p r e
+
+pub go_on-tidy : (m : State) (t p : ℕ) (s : ThreadState) → IsTidy m (go_on m t p s)
+go_on-tidy m t p (is.Given i) = accept-tidy m t p i
+go_on-tidy m t p (is.Calling c) = collect-tidy m t p c
+go_on-tidy m t p (is.Awaiting path) = record { grows = thread-grows 1 m t (thread_at_state is.Running); small = λ h. tt }
+go_on-tidy m t p (is.Working op input) = record { grows = thread-grows 1 m t (thread_at_state is.Running); small = λ h. omega arith }
+go_on-tidy m t p _ = no_act-tidy m
 
 pub act-tidy : (m : State) (t : ℕ) (r : Option Request) → IsTidy m (act m t r)
 act-tidy m t (Some r) = enter-tidy m t (process_of m t) r
-act-tidy m t None = go_on-tidy m t (state_of m t)
+act-tidy m t None = go_on-tidy m t (process_of m t) (state_of m t)
 
 -- settling
 
-give_item-grows : (m : State) (i : Item) (u : ℕ) → Grows 0 m (give_item m i u)
-give_item-grows m (item.Call c) u = go (call_of m c) refl
-  where
-    go : (o : Option Call) → call_of m c ≡ o → Grows 0 m (give_call m u o)
-    go None e = grows_same 0 m
-    go (Some r) e =
-        with_call-grows 0 m r.number (at_stage r (stage.Given (tid u))) (λ h. record { arguments = (find-small (is_call c) m.calls r e h).arguments; results = tt })
-give_item-grows m (item.Notice n) u = go (at_number m.notices n)
-  where
-    go : (o : Option Notice) → Grows 0 m (give_notice m n u o)
-    go None = grows_same 0 m
-    go (Some x) = record { threads = refl; calls = omega arith; doors = omega arith; calls_made = omega arith; events = refl; bytes = λ h. h }
+give_one-grows : (m : State) (i : Item) (u : ℕ) → Grows 0 m (give_one m i u)
+give_one-grows m (item.Call c) u =
+    record {
+      threads = length-change_thread m.process_table u (thread_at_state (is.Given (item.Call c)));
+      calls = omega (arith, length-change_first (is_queued_as c) (at_stage (stage.Given (tid u))) m.call_tree.calls);
+      doors = omega arith;
+      calls_made = omega arith;
+      events = refl;
+      bytes =
+          change_first-small (is_queued_as c) (at_stage (stage.Given (tid u)))
+          (λ r h. record { arguments = h.arguments; results = tt }) m.call_tree.calls;
+    }
+give_one-grows m (item.Notice n) u =
+    record {
+      threads = length-change_thread m.process_table u (thread_at_state (is.Given (item.Notice n)));
+      calls = omega arith;
+      doors = omega arith;
+      calls_made = omega arith;
+      events = refl;
+      bytes = λ h. h;
+    }
 
 give_to-grows : (m : State) (w : Waiting) (o : Option Parked) → Grows 0 m (give_to m w o)
 give_to-grows m w None = grows_same 0 m
-give_to-grows m w (Some x) =
-    grows_then 0 0 0 m (give_item m w.item x.thread) _ (omega arith) (give_item-grows m w.item x.thread) (with_state-grows 0 (give_item m w.item x.thread) x.thread (is.Given w.item))
+give_to-grows m w (Some x) = give_one-grows m w.item x.thread.0
 
 give_each-grows : (ws : List Waiting) (m : State) → Grows 0 m (give_each m ws)
 give_each-grows [] m = grows_same 0 m
@@ -374,11 +360,11 @@ give_each-grows (w ∷ ws) m =
     let n = give_to m w (pick m (pool_of m w.door)) in
     grows_then 0 0 0 m n (give_each n ws) (omega arith) (give_to-grows m w (pick m (pool_of m w.door))) (give_each-grows ws n)
 
-pub settle-grows : (m : State) → Grows 0 m (settle m)
-settle-grows m = give_each-grows (waiting_items m) m
+pub settle-grows : (before m : State) → Grows 0 m (settle before m)
+settle-grows before m = give_each-grows (waiting_items m) m
 
-pub events_settle : (m : State) → (settle m).events ≡ m.events
-events_settle m = (settle-grows m).events
+pub events_settle : (before m : State) → (settle before m).events ≡ m.events
+events_settle before m = (settle-grows before m).events
 
-pub threads_settle : (m : State) → length (settle m).threads ≡ length m.threads
-threads_settle m = (settle-grows m).threads
+pub threads_settle : (before m : State) → length (settle before m).process_table.threads ≡ length m.process_table.threads
+threads_settle before m = (settle-grows before m).threads

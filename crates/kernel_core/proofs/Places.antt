@@ -1,13 +1,12 @@
--- Items of lists that are numbered from 1, and the place of a live call.
+-- Items of lists that are numbered from 1, and the place of the first call that is so.
 use Rattle.std.proofs.Common.{◌≡◌, ℕ, suc, ◌+◌, ◌-◌, ◌<◌, ◌≤◌, not, Bool, true, false, List, [], ◌∷◌, Some, None, length, get_or, set, cond, refl, sym, ap, ◌∙◌, arith, find, position}
 use Rattle.std.specs.List.{position_or_len}
 use Rattle.std.proofs.lemmas.Option.{slice_get-get_or}
 use Rattle.std.proofs.lemmas.Bool.Decides.{nat_tests}
 use Rattle.std.proofs.lemmas.List.Quantifiers.{position-Some}
-use Rattle.written_kernel.specs.Types.{Call, Tid}
+use Rattle.written_kernel.specs.Types.{Call}
 use Rattle.dk_base.specs.ByNumber.{at_number}
-use Rattle.written_kernel.specs.Words.{State, at_stage, call_of, give_call, is_call, with_live_call}
-use Rattle.kernel_records.specs.declared.record.CallStage.TheVariants.{Given}
+use Rattle.kernel_records.specs.Words.{change_first}
 
 pub numbered_here : {X : Type 0} (xs : List X) (n : ℕ) (d : X) → 0 < n → n - 1 < length xs → at_number xs n ≡ Some (get_or xs (n - 1) d)
 numbered_here xs n d p h = let e = slice_get-get_or xs (n - 1) d h in grind (arith, nat_tests)
@@ -30,28 +29,49 @@ find_none p (x ∷ xs) h =
     elim (p x) as (λ b. suc (length xs) ≤ cond (not b) (1 + position_or_len p xs) 0 → cond b (Some x) (find p xs) ≡ None)
     [ true ↦ λ k. absurd (omega arith) | false ↦ λ k. find_none p xs (omega arith) ] h
 
-pub find_at : (rs : List Call) (c i : ℕ) (d : Call) → position (is_call c) rs ≡ Some i → find (is_call c) rs ≡ Some (get_or rs i d)
-find_at rs c i d h = let e = position_is (is_call c) rs i h in let w = position-Some (is_call c) rs i d h in grind (arith, find_first (is_call c) rs d)
+pub find_at : (test : Call → Bool) (rs : List Call) (i : ℕ) (d : Call) → position test rs ≡ Some i → find test rs ≡ Some (get_or rs i d)
+find_at test rs i d h =
+    let e = position_is test rs i h in
+    let w = position-Some test rs i d h in
+    grind (arith, find_first test rs d)
 
-pub find_nowhere : (rs : List Call) (c : ℕ) → position (is_call c) rs ≡ None → find (is_call c) rs ≡ None
-find_nowhere rs c h = find_none (is_call c) rs (none_there (is_call c) rs h)
+pub find_nowhere : (test : Call → Bool) (rs : List Call) → position test rs ≡ None → find test rs ≡ None
+find_nowhere test rs h = find_none test rs (none_there test rs h)
 
-pub number_at : (rs : List Call) (c i : ℕ) (d : Call) → position (is_call c) rs ≡ Some i → (get_or rs i d).number ≡ c
-number_at rs c i d h = let w = position-Some (is_call c) rs i d h in grind (arith, nat_tests)
+changed_first :
+    (test : Call → Bool) (change : Call → Call) (rs : List Call) (d : Call) → position_or_len test rs < length rs →
+    change_first test change rs ≡ set rs (position_or_len test rs) (change (get_or rs (position_or_len test rs) d))
+changed_first test change [] d h = absurd (omega arith)
+changed_first test change (r ∷ rs) d h =
+    elim (test r) as (λ b. cond (not b) (1 + position_or_len test rs) 0 < suc (length rs) → cond b (change r ∷ rs) (r ∷ change_first test change rs) ≡ set (r ∷ rs) (cond (not b) (1 + position_or_len test rs) 0) (change (get_or (r ∷ rs) (cond (not b) (1 + position_or_len test rs) 0) d)))
+    [ true ↦ λ _. refl | false ↦ λ k. let e : 1 + position_or_len test rs ≡ suc (position_or_len test rs) = omega arith in rw e (ap (λ zs. r ∷ zs) (changed_first test change rs d (omega arith))) ] h
 
-replaced_first : (c : ℕ) (x : Call) (rs : List Call) → position_or_len (is_call c) rs < length rs → with_live_call rs c x ≡ set rs (position_or_len (is_call c) rs) x
-replaced_first c x [] h = absurd (omega arith)
-replaced_first c x (r ∷ rs) h =
-    elim (is_call c r) as (λ b. cond (not b) (1 + position_or_len (is_call c) rs) 0 < suc (length rs) → cond b (x ∷ rs) (r ∷ with_live_call rs c x) ≡ set (r ∷ rs) (cond (not b) (1 + position_or_len (is_call c) rs) 0) x)
-    [ true ↦ λ _. refl | false ↦ λ k. let e : 1 + position_or_len (is_call c) rs ≡ suc (position_or_len (is_call c) rs) = omega arith in rw e (ap (λ zs. r ∷ zs) (replaced_first c x rs (omega arith))) ] h
+pub changed_at :
+    (test : Call → Bool) (change : Call → Call) (rs : List Call) (i : ℕ) (d : Call) → position test rs ≡ Some i →
+    change_first test change rs ≡ set rs i (change (get_or rs i d))
+changed_at test change rs i d h =
+    let e = position_is test rs i h in
+    let w = position-Some test rs i d h in
+    grind (arith, changed_first test change rs d)
 
-pub replaced_at : (rs : List Call) (c i : ℕ) (x d : Call) → position (is_call c) rs ≡ Some i → with_live_call rs c x ≡ set rs i x
-replaced_at rs c i x d h = let e = position_is (is_call c) rs i h in let w = position-Some (is_call c) rs i d h in grind (arith, replaced_first c x rs)
+changed_none : (test : Call → Bool) (change : Call → Call) (rs : List Call) → length rs ≤ position_or_len test rs → change_first test change rs ≡ rs
+changed_none test change [] h = refl
+changed_none test change (r ∷ rs) h =
+    elim (test r) as (λ b. suc (length rs) ≤ cond (not b) (1 + position_or_len test rs) 0 → cond b (change r ∷ rs) (r ∷ change_first test change rs) ≡ r ∷ rs)
+    [ true ↦ λ k. absurd (omega arith) | false ↦ λ k. ap (λ zs. r ∷ zs) (changed_none test change rs (omega arith)) ] h
 
--- what is written at the place of a live call gives it
-pub given_at : (m n : State) → m ≡ n → (c i : ℕ) (u : Tid) (old new : Call) → position (is_call c) m.calls ≡ Some i → old ≡ get_or m.calls i old → new ≡ at_stage old (Given u) → record m { calls = set m.calls i new } ≡ give_call n u.0 (call_of n c)
-given_at m n e c i u old new h read is =
-    let r = get_or m.calls i old in
-    let x = at_stage r (Given u) in
-    let same : new ≡ x = is ∙ ap (λ d. at_stage d (Given u)) read in
-    rw (← e) (rw (find_at m.calls c i old h) (ap (λ z. record m { calls = set m.calls i z }) same ∙ sym (ap (λ xs. record m { calls = xs }) (ap (λ n. with_live_call m.calls n x) (number_at m.calls c i old h) ∙ replaced_at m.calls c i x old h))))
+pub changed_nowhere : (test : Call → Bool) (change : Call → Call) (rs : List Call) → position test rs ≡ None → change_first test change rs ≡ rs
+changed_nowhere test change rs h = changed_none test change rs (none_there test rs h)
+
+-- a call that is changed at its place
+
+pub changed_there :
+    (test : Call → Bool) (change : Call → Call) (rs : List Call) (i : ℕ) (old new : Call) → position test rs ≡ Some i →
+    old ≡ get_or rs i old → new ≡ change old → set rs i new ≡ change_first test change rs
+changed_there test change rs i old new h read is =
+    ap (set rs i) (is ∙ ap change read) ∙ sym (changed_at test change rs i old h)
+
+pub found_there :
+    (test : Call → Bool) (rs : List Call) (i : ℕ) (old : Call) → position test rs ≡ Some i → old ≡ get_or rs i old →
+    Some old ≡ find test rs
+found_there test rs i old h read = ap (λ (r : Call). Some r) read ∙ sym (find_at test rs i old h)

@@ -1,13 +1,19 @@
--- What is read of a kept state is read of each state that it stands for, and what could run before an event.
-use Rattle.std.proofs.Common.{◌≡◌, ℕ, ◌+◌, ◌<◌, ◌++◌, ◌∷◌, [], ◌-◌, zero, suc, Bool, true, false, List, Some, length, get_or, inl, inr, not, ◌&&◌, refl, sym, ap, ◌∙◌, arith, length-append, add-one}
+-- What is read of a kept state is read of each state that it stands for, and which threads can take a turn.
+use Rattle.std.proofs.Common.{◌≡◌, ℕ, ◌+◌, ◌<◌, ◌++◌, ◌∷◌, [], ◌-◌, zero, suc, Bool, true, false, List, Option, Some, None, length, get_or, inl, inr, not, ◌&&◌, refl, sym, ap, ◌∙◌, arith, length-append, add-one}
 use Rattle.std.proofs.lemmas.List.{get_or_append_left}
 use Rattle.std.proofs.lemmas.Bool.{cases_lt}
 use Rattle.std.proofs.lemmas.Grind.{common_steps}
 use Rattle.std.proofs.Math.Seq.{get_or-append_seam}
 use Rattle.written_kernel.specs.Types.{Tid}
-use Rattle.written_kernel.specs.Words.{StandsFor, State, caller_of, is_runnable, root, tid, walk, woken_among}
+use Rattle.kernel_records.specs.Words.{tid}
+use Rattle.written_kernel.specs.Words.{StandsFor, State, caller_of, forget, is_runnable, least_among, least_or, least_runnable, root, walk, woken_among}
 use Rattle.written_kernel.proofs.Forget.{is_runnable-forget, root-forget}
-use Rattle.kernel_core.specs.Woken.{runnables}
+use Rattle.std.proofs.lemmas.Option.{slice_get-get_or}
+use Rattle.std.proofs.lemmas.Bool.Decides.{nat_tests}
+use Rattle.dk_base.specs.ByNumber.{at_number}
+use Rattle.written_kernel.proofs.Lists.{numbered_past, numbered_there, numbered_within}
+use Rattle.kernel_core.specs.declared.runnable.Runnable.{Runnable}
+use Rattle.kernel_core.specs.Woken.{IsCurrent, runnables}
 
 pub runnable_stands : (kept m : State) (t : ℕ) → StandsFor kept m → is_runnable kept t ≡ is_runnable m t
 runnable_stands kept m t e = ap (λ k. is_runnable k t) e ∙ is_runnable-forget m t
@@ -29,18 +35,78 @@ runnables_at m (suc n) i d h =
 
 -- the list of those that an event woke, at a thread that it woke and at another
 pub woken_one :
-    (before after : State) (i : ℕ) (was : Bool) (xs : List Tid) → was ≡ is_runnable before (i + 1) →
-    (not was && is_runnable after (i + 1)) ≡ true → xs ≡ woken_among before after i →
+    (before after : State) (i : ℕ) (was here : Bool) (xs : List Tid) → was ≡ is_runnable before (i + 1) → here ≡ is_runnable after (i + 1) →
+    (not was && here) ≡ true → xs ≡ woken_among before after i →
     xs ++ tid (i + 1) ∷ [] ≡ woken_among before after (i + 1)
-woken_one before after i was xs e f h = let k : i + 1 ≡ suc i = omega arith in grind arith
+woken_one before after i was here xs e g f h = let k : i + 1 ≡ suc i = omega arith in grind arith
 
 pub woken_none :
-    (before after : State) (i : ℕ) (was : Bool) (xs : List Tid) → was ≡ is_runnable before (i + 1) →
-    (not was && is_runnable after (i + 1)) ≡ false → xs ≡ woken_among before after i →
+    (before after : State) (i : ℕ) (was here : Bool) (xs : List Tid) → was ≡ is_runnable before (i + 1) → here ≡ is_runnable after (i + 1) →
+    (not was && here) ≡ false → xs ≡ woken_among before after i →
     xs ≡ woken_among before after (i + 1)
-woken_none before after i was xs e f h = let k : i + 1 ≡ suc i = omega arith in grind (arith, common_steps)
+woken_none before after i was here xs e g f h = let k : i + 1 ≡ suc i = omega arith in grind (arith, common_steps)
 
 -- a step of a walk
 pub walk_more : (n : ℕ) (m : State) (t u : ℕ) → 0 < n → caller_of m t ≡ Some u → walk n m t ≡ walk (n - 1) m u
 walk_more zero m t u h e = absurd (omega arith)
 walk_more (suc n) m t u h e = let k : suc n - 1 ≡ n = omega arith in rw (e, k) refl
+
+-- a number that no thread has can take no turn
+pub none_runnable : (m : State) (t : ℕ) → length m.process_table.threads < t → is_runnable m t ≡ false
+none_runnable m t h = let e = numbered_past m.process_table.threads t h in grind arith
+
+-- what a list of them says at a number
+
+pub listed_there :
+    (m : State) (list : List Bool) (t : ℕ) (b : Bool) → list ≡ runnables m (length m.process_table.threads) →
+    at_number list t ≡ Some b → b ≡ is_runnable m t
+listed_there m list t b e h =
+    let within = numbered_within list t b h in
+    let long : length list ≡ length m.process_table.threads = ap length e ∙ length_runnables m (length m.process_table.threads) in
+    let read : get_or list (t - 1) false ≡ is_runnable m (t - 1 + 1) =
+    ap (λ xs. get_or xs (t - 1) false) e ∙ runnables_at m (length m.process_table.threads) (t - 1) false (omega (arith, within.0, within.1)) in
+    let same : t - 1 + 1 ≡ t = omega (arith, within.0) in
+    let found = slice_get-get_or list (t - 1) false (omega (arith, within.0, within.1)) in
+    grind (arith, nat_tests)
+
+pub listed_nowhere :
+    (m : State) (list : List Bool) (t : ℕ) → list ≡ runnables m (length m.process_table.threads) → at_number list t ≡ None →
+    false ≡ is_runnable m t
+listed_nowhere m list zero e h = refl
+listed_nowhere m list (suc t) e h =
+    let long : length list ≡ length m.process_table.threads = ap length e ∙ length_runnables m (length m.process_table.threads) in
+    elim (cases_lt t (length list)) [
+      | inl k ↦ absurd (let there = numbered_there list (suc t) (omega arith) (omega arith) in grind arith)
+      | inr k ↦ sym (none_runnable m (suc t) (omega arith))
+    ]
+
+runnables-forget : (m : State) (n : ℕ) → runnables (forget m) n ≡ runnables m n
+runnables-forget m zero = refl
+runnables-forget m (suc n) =
+    ap (λ xs. xs ++ is_runnable (forget m) (suc n) ∷ []) (runnables-forget m n)
+    ∙ ap (λ b. runnables m n ++ b ∷ []) (is_runnable-forget m (suc n))
+
+-- the list of a state is that of what is kept of it
+pub current-forget : (r : Runnable) (m : State) → IsCurrent r m → IsCurrent r (forget m)
+current-forget r m h =
+    record { items = h.items ∙ sym (runnables-forget m (length m.process_table.threads)); room = h.room }
+
+-- the least of the threads up to one more
+pub least_more :
+    (m : State) (i : ℕ) (here : Bool) (o : Option ℕ) → here ≡ is_runnable m (i + 1) → o ≡ least_among m i →
+    least_or o here (i + 1) ≡ least_among m (i + 1)
+least_more m i here o e f =
+    let k : i + 1 ≡ suc i = omega arith in
+    ap (λ x. least_or x here (i + 1)) f
+    ∙ ap (λ b. least_or (least_among m i) b (i + 1)) e
+    ∙ rw k refl
+
+least_among-forget : (kept m : State) (n : ℕ) → StandsFor kept m → least_among kept n ≡ least_among m n
+least_among-forget kept m zero e = refl
+least_among-forget kept m (suc n) e =
+    ap (λ o. least_or o (is_runnable kept (suc n)) (suc n)) (least_among-forget kept m n e)
+    ∙ ap (λ b. least_or (least_among m n) b (suc n)) (runnable_stands kept m (suc n) e)
+
+pub least_runnable_stands : (kept m : State) → StandsFor kept m → least_runnable kept ≡ least_runnable m
+least_runnable_stands kept m e =
+    ap (λ k. least_among kept (length k.process_table.threads)) e ∙ least_among-forget kept m (length m.process_table.threads) e

@@ -1,11 +1,15 @@
 -- What a step keeps within.
 use Rattle.std.proofs.Common.{◌≡◌, ℕ, ◌<◌, length, List, [], ◌∷◌, Option, Result, Ok, Err, IfOk, OnErr, subst, sym, ap, ◌∙◌, arith}
-use Rattle.written_kernel.specs.Types.{NoMemory, Request, Stepped}
-use Rattle.written_kernel.specs.Words.{IsStep, StandsFor, State, act, forget, is_live_call, no_process, settle, step, with_event_counted, with_new_process, with_processes, woken_threads}
-use Rattle.kernel_core.specs.Numbers.{HasNumbersLeft}
-use Rattle.kernel_core.specs.declared.settle.Settling.{Settling}
-use Rattle.kernel_core.specs.Woken.{runnables, IsReady, HasRoom}
+use Rattle.written_kernel.specs.Types.{NoMemory, Request, Stepped, Tid}
+use Rattle.dk_base.specs.Words.{RoomValue}
+use Rattle.kernel_core.specs.declared.event.Parts.{Parts}
+use Rattle.kernel_core.specs.declared.store.Store.{Store}
+use Rattle.kernel_core.specs.Stored.{stored_state}
+use Rattle.kernel_core.specs.Woken.{HasListRoom, IsCurrent, IsReady, IsReadyToSettle}
 use Rattle.kernel_core.proofs.Readers.{length_runnables}
+use Rattle.kernel_records.specs.Words.{is_live_call}
+use Rattle.written_kernel.specs.Words.{IsStep, StandsFor, State, act, forget, no_process, settle, step, with_event_counted, with_new_process, with_processes, woken_threads}
+use Rattle.kernel_core.specs.Numbers.{HasNumbersLeft}
 use Rattle.kernel_core.specs.Within.{IsWithin, IsSmall}
 use Rattle.written_kernel.proofs.Forget.{IsStep-stands_for}
 use Rattle.kernel_core.proofs.Grows.{Grows, act-tidy, settle-grows, filter-small}
@@ -15,12 +19,12 @@ unfolding step
 step-within m t r w few =
     let n = (act m t r).state in
     let g = (act-tidy m t r).grows in
-    let h = settle-grows n in
+    let h = settle-grows m n in
     record {
       events = omega arith;
       doors = omega arith;
       calls_made = omega arith;
-      bytes = filter-small is_live_call (settle n).calls (h.bytes (g.bytes w.bytes));
+      bytes = filter-small is_live_call (settle m n).call_tree.calls (h.bytes (g.bytes w.bytes));
     }
 
 pub step-small : (m : State) (t : ℕ) (r : Option Request) → IsWithin m → IsSmall (step m t r).answer
@@ -63,29 +67,29 @@ no_process-within = record { events = omega arith; doors = omega arith; calls_ma
 pub opening-within : (limits : List ℕ) (none m : State) → none ≡ no_process → m ≡ with_processes none limits → IsWithin m
 opening-within limits none m e h = subst IsWithin (sym (h ∙ ap (λ n. with_processes n limits) e)) (with_processes-within limits no_process no_process-within)
 
--- what was taken before an event suffices after its act
-pub room_after : (s : Settling) (m n : State) → IsReady s m → Grows 1 m n → HasRoom s n
-room_after s m n h g =
+-- an act and what follows it are a step
+pub stepped :
+    (m n new : State) (t : ℕ) (r : Option Request) (s : Stepped) → n ≡ (act m t r).state → s.answer ≡ (act m t r).answer →
+    new ≡ forget (with_event_counted (settle m n)) → s.woken ≡ woken_threads m (with_event_counted (settle m n)) → IsStep (step m t r) new s
+unfolding step
+stepped m n new t r s e answer state woken_is =
     record {
-      threads = ap length h.runnables ∙ length_runnables m (length m.threads) ∙ sym g.threads;
+      state = state ∙ ap (λ x. forget (with_event_counted (settle m x))) e;
+      answer = answer;
+      woken = woken_is ∙ ap (λ x. woken_threads m (with_event_counted (settle m x))) e;
+    }
+
+-- what was taken before an event suffices after its act
+pub ready_after :
+    (p : Parts) (s : Store) (woken : RoomValue Tid) → IsReady p woken → Grows 1 (stored_state p.store) (stored_state s) →
+    IsCurrent p.runnable (stored_state p.store) →
+    IsReadyToSettle (record { store = s; runnable = p.runnable; waiting = p.waiting }) woken
+ready_after p s woken h g k =
+    record {
       waiting = h.waiting;
       waiting_room = omega (arith, h.waiting_room, g.calls);
       woken = h.woken;
       woken_room = omega (arith, h.woken_room, g.threads);
-    }
-
--- what was listed before an event, by the number of threads after its act
-pub listed_before : (s : Settling) (m n : State) → IsReady s m → Grows 1 m n → s.was_runnable.items ≡ runnables m (length n.threads)
-listed_before s m n h g = h.runnables ∙ ap (runnables m) (sym g.threads)
-
--- an act and what follows it are a step
-pub stepped :
-    (m n new : State) (t : ℕ) (r : Option Request) (s : Stepped) → n ≡ (act m t r).state → s.answer ≡ (act m t r).answer →
-    new ≡ forget (with_event_counted (settle n)) → s.woken ≡ woken_threads m (with_event_counted (settle n)) → IsStep (step m t r) new s
-unfolding step
-stepped m n new t r s e answer state woken_is =
-    record {
-      state = state ∙ ap (λ x. forget (with_event_counted (settle x))) e;
-      answer = answer;
-      woken = woken_is ∙ ap (λ x. woken_threads m (with_event_counted (settle x))) e;
+      listed = ap length k.items ∙ length_runnables (stored_state p.store) (length p.store.processes.threads) ∙ sym g.threads;
+      room = subst (HasListRoom p.runnable) (sym g.threads) k.room;
     }

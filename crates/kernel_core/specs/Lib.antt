@@ -1,5 +1,5 @@
-pub mod CallStages
+pub mod Kept
 pub mod Numbers
-pub mod PoolViews
+pub mod Stored
 pub mod Within
 pub mod Woken

@@ -7,4 +7,4 @@ use Rattle.dk_base.specs.declared.limits.TheConstants.{EVENTS_MAX}
 pub record HasNumbersLeft (m : State) : Type 0 where
   pub events : m.events < EVENTS_MAX
   pub doors : length m.doors < EVENTS_MAX
-  pub calls : m.calls_made < EVENTS_MAX
+  pub calls : m.call_tree.made < EVENTS_MAX

@@ -23,8 +23,8 @@ AreSmall (r ∷ rs) = IsSmallCall r × AreSmall rs
 pub record IsWithin (m : State) : Type 0 where
   pub events : m.events ≤ EVENTS_MAX
   pub doors : length m.doors ≤ m.events
-  pub calls_made : m.calls_made ≤ m.events
-  pub bytes : AreSmall m.calls
+  pub calls_made : m.call_tree.made ≤ m.events
+  pub bytes : AreSmall m.call_tree.calls
 
 -- at most 4,096 bytes, 16 descriptors and 64 events
 abbrev pub IsSmall : Answer → Type 0

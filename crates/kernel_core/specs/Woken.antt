@@ -1,6 +1,9 @@
--- Which threads could run before an event.
+-- Which threads can take a turn.
 use Rattle.std.specs.Prelude.{ℕ, ◌≡◌, ◌≤◌, ◌+◌, length, ◌++◌, List, [], ◌∷◌, Bool, zero, suc}
-use Rattle.kernel_core.specs.declared.settle.Settling.{Settling}
+use Rattle.dk_base.specs.declared.number.Tid.{Tid}
+use Rattle.dk_base.specs.Words.{RoomValue}
+use Rattle.kernel_core.specs.declared.event.Parts.{Parts}
+use Rattle.kernel_core.specs.declared.runnable.Runnable.{Runnable}
 use Rattle.written_kernel.specs.Words.{State, is_runnable}
 
 -- of each of the threads 1 to n whether it can take a turn
@@ -8,18 +11,28 @@ abbrev pub runnables : State → ℕ → List Bool
 runnables m zero = []
 runnables m (suc n) = runnables m n ++ is_runnable m (suc n) ∷ []
 
--- what was taken before an event suffices for what follows its act
-pub record HasRoom (s : Settling) (m : State) : Type 0 where
-  pub threads : length s.was_runnable.items ≡ length m.threads
-  pub waiting : s.waiting.items ≡ []
-  pub waiting_room : length m.calls ≤ s.waiting.spare
-  pub woken : s.woken.items ≡ []
-  pub woken_room : length m.threads ≤ s.woken.spare
+-- both lists have room for so many threads
+pub record HasListRoom (r : Runnable) (n : ℕ) : Type 0 where
+  pub list : n ≤ length r.list.items + r.list.spare
+  pub next : n ≤ length r.next.items + r.next.spare
 
--- what is taken before an event of a state; its act adds a call at most
-pub record IsReady (s : Settling) (m : State) : Type 0 where
-  pub runnables : s.was_runnable.items ≡ runnables m (length m.threads)
-  pub waiting : s.waiting.items ≡ []
-  pub waiting_room : length m.calls + 1 ≤ s.waiting.spare
-  pub woken : s.woken.items ≡ []
-  pub woken_room : length m.threads ≤ s.woken.spare
+-- the list is that of a state, and both have room for its threads
+pub record IsCurrent (r : Runnable) (m : State) : Type 0 where
+  pub items : r.list.items ≡ runnables m (length m.process_table.threads)
+  pub room : HasListRoom r (length m.process_table.threads)
+
+-- what was taken before an event suffices for an act that adds a call at most, and for what follows it
+pub record IsReady (parts : Parts) (list : RoomValue Tid) : Type 0 where
+  pub waiting : parts.waiting.items ≡ []
+  pub waiting_room : length parts.store.calls.list.items + 1 ≤ parts.waiting.spare
+  pub woken : list.items ≡ []
+  pub woken_room : length parts.store.processes.threads ≤ list.spare
+
+-- what was taken before an event suffices for what follows its act
+pub record IsReadyToSettle (parts : Parts) (list : RoomValue Tid) : Type 0 where
+  pub waiting : parts.waiting.items ≡ []
+  pub waiting_room : length parts.store.calls.list.items ≤ parts.waiting.spare
+  pub woken : list.items ≡ []
+  pub woken_room : length parts.store.processes.threads ≤ list.spare
+  pub listed : length parts.runnable.list.items ≡ length parts.store.processes.threads
+  pub room : HasListRoom parts.runnable (length parts.store.processes.threads)

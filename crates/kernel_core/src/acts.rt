@@ -1,30 +1,48 @@
-ghost use Rattle.std.specs.Prelude.{◌≡◌, IfOk, OnOk, OnErr};
-ghost use Rattle.written_kernel.specs.Words.{enter, go_on, process_of, state_of};
+//! The act of a turn: an entry, unless it is refused, or the end of a wait.
+ghost use Rattle.std.specs.Prelude.{◌≡◌, []};
+ghost use Rattle.written_kernel.specs.Words.{effect, end_work, enter, go_on, process_of, refusal_of, state_of};
 ghost use Rattle.kernel_core.specs.Numbers.{HasNumbersLeft};
+ghost use Rattle.kernel_core.specs.Stored.{HasRoom, stored_state};
 
-use crate::descriptors::{attach, await_path, found, open_path};
-use crate::doors::{accept, call, collect, create, return_from};
+use crate::descriptors::{attach, attach_refusal, await_path, found, open_path, open_refusal};
+use crate::doors::{
+    accept, call, call_refusal, collect, create, create_refusal, return_from, return_refusal,
+};
 use crate::leaving::exit;
 use crate::store::Store;
 use dk_base::answer::Answer;
-use dk_base::error::NoMemory;
+use dk_base::error::Errno;
+use dk_base::list::Bytes;
 use dk_base::number::{Pid, Tid};
-use kernel_records::record::ThreadState;
 use dk_base::request::Request;
+use kernel_records::record::ThreadState;
 use std::alloc::Global;
 
-/// A kernel entry of a thread of process `p`.
-pub fn enter(
-    store: &mut Store,
-    alloc: Global,
-    t: Tid,
-    p: Pid,
-    request: Request,
-) -> Result<Answer, NoMemory>
-    requires { HasNumbersLeft store.old }
-    ensures state { OnOk result (store.new ≡ (enter store.old t.0 p.0 request).state) }
-    ensures answer { IfOk result (λ a. a ≡ (enter store.old t.0 p.0 request).answer) }
-    ensures err { OnErr result (store.new ≡ store.old) }
+/// What an entry of thread `t` of process `p` is refused with, if it is.
+fn refusal_of(store: &Store, t: Tid, p: Pid, request: &Request) -> Option<Errno>
+    ensures { result ≡ refusal_of (stored_state store.now) t.0 p.0 request.now }
+{
+    match request {
+        Request::Create { .. } => create_refusal(store, p),
+        Request::Call {
+            door,
+            bytes,
+            pass,
+            ..
+        } => call_refusal(store, p, *door, bytes, pass),
+        Request::Return { bytes, pass } => return_refusal(store, t, p, bytes, pass),
+        Request::Attach { fd, path } => attach_refusal(store, p, *fd, *path),
+        Request::Open { path } => open_refusal(store, p, *path),
+        _ => None,
+    }
+}
+
+/// What an entry does that is not refused.
+fn effect(store: &mut Store, alloc: Global, t: Tid, p: Pid, request: Request) -> Answer
+    requires numbers { HasNumbersLeft (stored_state store.old) }
+    requires room { HasRoom store.old }
+    ensures state { stored_state store.new ≡ (effect (stored_state store.old) t.0 p.0 request).state }
+    ensures answer { result ≡ (effect (stored_state store.old) t.0 p.0 request).answer }
 {
     match request {
         Request::Create {
@@ -35,34 +53,61 @@ pub fn enter(
         Request::Call {
             door,
             bytes,
+            pass,
             rsize,
-            ..
-        } => call(store, alloc, t, p, door, bytes, rsize),
-        Request::Return { bytes, .. } => Ok(return_from(store, alloc, t, bytes)),
+        } => call(store, alloc, t, p, door, bytes, &pass, rsize),
+        Request::Return { bytes, pass } => return_from(store, alloc, t, p, bytes, &pass),
         Request::Attach { fd, path } => attach(store, p, fd, path),
-        Request::Open { path } => Ok(open_path(store, p, path)),
-        Request::Await { path } => Ok(await_path(store, t, path)),
-        Request::Exit => Ok(exit(store, alloc, t, p)),
-        _ => Ok(Answer::Done),
+        Request::Open { path } => open_path(store, p, path),
+        Request::Await { path } => await_path(store, t, path),
+        Request::Exit => exit(store, alloc, t, p),
+        _ => Answer::Done,
+    }
+}
+
+/// A kernel entry of a thread.
+pub fn enter(store: &mut Store, alloc: Global, t: Tid, request: Request) -> Answer
+    requires numbers { HasNumbersLeft (stored_state store.old) }
+    requires room { HasRoom store.old }
+    ensures state { stored_state store.new ≡ (enter (stored_state store.old) t.0 (process_of (stored_state store.old) t.0) request).state }
+    ensures answer { result ≡ (enter (stored_state store.old) t.0 (process_of (stored_state store.old) t.0) request).answer }
+{
+    let p = store.processes.process_of(t);
+    match refusal_of(store, t, p, &request) {
+        Some(errno) => Answer::Failure(errno),
+        None => effect(store, alloc, t, p, request),
+    }
+}
+
+/// The end of a task. Who runs the thread computes its bytes.
+fn end_work(store: &mut Store, alloc: Global, t: Tid) -> Answer
+    ensures state { stored_state store.new ≡ (end_work (stored_state store.old) t.0).state }
+    ensures answer { result ≡ (end_work (stored_state store.old) t.0).answer }
+{
+    store.processes.turn(t, ThreadState::Running);
+    Answer::Data {
+        bytes: Bytes::new(alloc),
     }
 }
 
 /// The end of a wait, by what the thread waits for.
 pub fn go_on(store: &mut Store, alloc: Global, t: Tid) -> Answer
-    requires { HasNumbersLeft store.old }
-    ensures state { store.new ≡ (go_on store.old t.0 (state_of store.old t.0)).state }
-    ensures answer { result ≡ (go_on store.old t.0 (state_of store.old t.0)).answer }
+    requires { HasNumbersLeft (stored_state store.old) }
+    ensures state { stored_state store.new ≡ (go_on (stored_state store.old) t.0 (process_of (stored_state store.old) t.0) (state_of (stored_state store.old) t.0)).state }
+    ensures answer { result ≡ (go_on (stored_state store.old) t.0 (process_of (stored_state store.old) t.0) (state_of (stored_state store.old) t.0)).answer }
 {
-    match store.state(t) {
+    let p = store.processes.process_of(t);
+    match store.processes.state(t) {
         ThreadState::Given { item } => {
             let item = *item;
-            accept(store, alloc, t, item)
+            accept(store, alloc, t, p, item)
         }
         ThreadState::Calling { call } => {
             let call = *call;
-            collect(store, alloc, t, call)
+            collect(store, alloc, t, p, call)
         }
         ThreadState::Awaiting { .. } => found(store, t),
+        ThreadState::Working { .. } => end_work(store, alloc, t),
         _ => Answer::Done,
     }
 }

@@ -1,58 +1,89 @@
-ghost use Rattle.std.specs.Prelude.{◌≡◌, Option, Some, None, IsSome, IfOk, OnOk, OnErr, IfNone, IfSome};
-ghost use Rattle.std.specs.Option.{option_copied};
-ghost use Rattle.written_kernel.specs.Words.{accept, accept_call, call, call_of, call_refusal, client, collect, cookie_of, create, door_of, entry_of, park, return, return_for};
+//! The acts of doors, of calls of them, and of their invocations.
+ghost use Rattle.std.specs.Prelude.{◌≡◌, []};
+ghost use Rattle.kernel_records.specs.Words.{cookie_of, entry_of, is_given_as, no_cancel_of};
+ghost use Rattle.written_kernel.specs.Words.{accept, accept_call, call, call_tests, client_call, collect, collect_answer, collect_answer_in, create, create_tests, door_of, find_call, first_refusal, new_call, return, return_tests};
 ghost use Rattle.kernel_core.specs.Numbers.{HasNumbersLeft};
-ghost use Rattle.kernel_core.specs.CallStages.{answer_at_stage};
+ghost use Rattle.kernel_core.specs.Stored.{HasRoom, stored_state};
 
+use crate::descriptors::{add_row, door_named};
 use crate::store::Store;
-use crate::turns::has_answer;
 use dk_base::answer::Answer;
-use dk_base::error::{Errno, NoMemory};
+use dk_base::error::Errno;
 use dk_base::limits::{DATA_MAX, QUEUE_MAX};
-use dk_base::list::{Bytes, FdList, ObjList};
+use dk_base::list::{Bytes, FdList, ObjList, PassList};
 use dk_base::number::{Fd, Pid, Tid};
-use dk_base::object::{Inv, Item, Obj};
-use kernel_records::record::{Call, CallStage, ThreadState};
+use dk_base::object::{Item, Obj};
 use dk_base::set::Attrs;
+use kernel_records::record::{Call, CallStage, ThreadState};
 use std::alloc::Global;
 
-/// door_create(3C): EMFILE, or a door of the process at its lowest descriptor that is free.
-pub fn create(
-    store: &mut Store,
-    p: Pid,
-    entry: u32,
-    cookie: u64,
-    attrs: Attrs,
-) -> Result<Answer, NoMemory>
-    requires { HasNumbersLeft store.old }
-    ensures state { OnOk result (store.new ≡ (create store.old p.0 entry cookie attrs).state) }
-    ensures answer { IfOk result (λ a. a ≡ (create store.old p.0 entry cookie attrs).answer) }
-    ensures err { OnErr result (store.new ≡ store.old) }
+/// door_create(3C): EMFILE.
+pub fn create_refusal(store: &Store, p: Pid) -> Option<Errno>
+    ensures { result ≡ first_refusal (create_tests (stored_state store.now) p.0) }
 {
-    let Some(place) = store.lowest_free(p) else {
-        return Ok(Answer::Failure(Errno::EMFILE));
-    };
-    let door = store.add_door(p, entry, cookie, attrs)?;
-    store.put_row(p, place, Obj::Door(door));
-    Ok(Answer::NewFd { fd: Fd(place) })
+    if store.lowest_free(p).is_none() {
+        return Some(Errno::EMFILE);
+    }
+    None
 }
 
-fn call_refusal(store: &Store, d: u32, bytes: &Bytes) -> Option<Errno>
-    ensures { result ≡ call_refusal store.now d bytes.now }
+/// door_create(3C): a door of the process at its lowest descriptor that is free.
+pub fn create(store: &mut Store, p: Pid, entry: u32, cookie: u64, attrs: Attrs) -> Answer
+    requires numbers { HasNumbersLeft (stored_state store.old) }
+    requires room { HasRoom store.old }
+    ensures state { stored_state store.new ≡ (create (stored_state store.old) p.0 entry cookie attrs).state }
+    ensures answer { result ≡ (create (stored_state store.old) p.0 entry cookie attrs).answer }
 {
-    if !store.is_valid(d) {
+    let number = store.add_door(p, entry, cookie, attrs);
+    add_row(store, p, Obj::Door(number))
+}
+
+/// door_call(3C): EBADF, E2BIG, EAGAIN.
+pub fn call_refusal(store: &Store, p: Pid, fd: Fd, bytes: &Bytes, pass: &PassList) -> Option<Errno>
+    ensures { result ≡ first_refusal (call_tests (stored_state store.now) p.0 fd bytes.now pass.now) }
+{
+    let door = door_named(store, p, fd);
+    if !store.is_valid(door) {
         return Some(Errno::EBADF);
     }
     if bytes.len() > DATA_MAX {
         return Some(Errno::E2BIG);
     }
-    if store.queue_length(&store.pool_of(d)) >= QUEUE_MAX {
+    if store.calls_waiting(&store.pool_of(door)) >= QUEUE_MAX {
         return Some(Errno::EAGAIN);
     }
     None
 }
 
-/// door_call(3C): EBADF, E2BIG, EAGAIN, or a call that waits for a server thread.
+fn has_no_cancel(store: &Store, d: u32) -> bool
+    ensures { result ≡ no_cancel_of (door_of (stored_state store.now) d) }
+{
+    match store.door(d) {
+        Some(door) => door.attrs.0 & Attrs::NO_CANCEL.0 == Attrs::NO_CANCEL.0,
+        None => false,
+    }
+}
+
+/// A call of door `d`, as it is made.
+fn new_call(alloc: Global, store: &Store, t: Tid, d: u32, bytes: Bytes, rsize: u64) -> Call
+    requires { HasNumbersLeft (stored_state store.now) }
+    ensures { result ≡ new_call (stored_state store.now) t.0 d bytes [] rsize }
+{
+    Call {
+        number: store.calls.made + 1,
+        made: store.now(),
+        caller: t,
+        door: d,
+        bytes,
+        objects: ObjList::new(alloc),
+        rsize,
+        no_cancel: has_no_cancel(store, d),
+        abandoned: false,
+        stage: CallStage::Queued,
+    }
+}
+
+/// door_call(3C): a call that waits for a server thread.
 pub fn call(
     store: &mut Store,
     alloc: Global,
@@ -60,90 +91,64 @@ pub fn call(
     p: Pid,
     fd: Fd,
     bytes: Bytes,
+    pass: &PassList,
     rsize: u64,
-) -> Result<Answer, NoMemory>
-    requires { HasNumbersLeft store.old }
-    ensures state { OnOk result (store.new ≡ (call store.old t.0 p.0 fd bytes rsize).state) }
-    ensures answer { IfOk result (λ a. a ≡ (call store.old t.0 p.0 fd bytes rsize).answer) }
-    ensures err { OnErr result (store.new ≡ store.old) }
+) -> Answer
+    requires numbers { HasNumbersLeft (stored_state store.old) }
+    requires room { HasRoom store.old }
+    ensures state { stored_state store.new ≡ (call (stored_state store.old) t.0 p.0 fd bytes pass.now rsize).state }
+    ensures answer { result ≡ (call (stored_state store.old) t.0 p.0 fd bytes pass.now rsize).answer }
 {
-    let Some(Obj::Door(door)) = store.object_at(p, fd) else {
-        return Ok(Answer::Failure(Errno::EBADF));
-    };
-    if let Some(errno) = call_refusal(store, door, &bytes) {
-        return Ok(Answer::Failure(errno));
-    }
-    let call = store.add_call(alloc, t, door, bytes, rsize)?;
-    store.set_state(t, ThreadState::Calling { call });
-    Ok(Answer::WaitCall { call })
+    let door = door_named(store, p, fd);
+    let call = new_call(alloc, store, t, door, bytes, rsize);
+    let number = call.number;
+    store.calls.open(call);
+    store
+        .processes
+        .turn(t, ThreadState::Calling { call: number });
+    Answer::WaitCall { call: number }
 }
 
-/// The number of the call that a thread is in, where its caller has not left.
-fn client(store: &Store, t: Tid) -> Option<u32>
-    ensures none { IfNone result (client store.now t.0 ≡ None) }
-    ensures some { IfSome result (λ c. client store.now t.0 ≡ call_of store.now c) }
-    ensures there { IfSome result (λ c. IsSome (call_of store.now c)) }
+/// door_return(3C): E2BIG where the thread has a client.
+pub fn return_refusal(
+    store: &Store,
+    t: Tid,
+    p: Pid,
+    bytes: &Bytes,
+    pass: &PassList,
+) -> Option<Errno>
+    ensures { result ≡ first_refusal (return_tests (stored_state store.now) t.0 p.0 bytes.now pass.now) }
 {
-    let Some(
-        Inv {
-            item: Item::Call(c),
-            ..
-        },
-    ) = store.invocation(t)
-    else {
-        return None;
-    };
-    match store.call_of(c) {
-        Some(call) if !call.abandoned => Some(c),
-        _ => None,
+    if store.calls.client(t).is_some() && bytes.len() > DATA_MAX {
+        return Some(Errno::E2BIG);
     }
+    None
 }
 
-/// A thread whose invocation ends is parked.
-fn park(store: &mut Store, t: Tid)
-    requires { HasNumbersLeft store.old }
-    ensures { store.new ≡ park store.old t.0 }
+/// door_return(3C): the results go to the client, or are dropped where there is none, and the thread is parked.
+pub fn return_from(
+    store: &mut Store,
+    alloc: Global,
+    t: Tid,
+    p: Pid,
+    bytes: Bytes,
+    pass: &PassList,
+) -> Answer
+    requires { HasNumbersLeft (stored_state store.old) }
+    ensures state { stored_state store.new ≡ (return (stored_state store.old) t.0 p.0 bytes pass.now).state }
+    ensures answer { result ≡ (return (stored_state store.old) t.0 p.0 bytes pass.now).answer }
 {
     let since = store.now();
-    store.set_invocation(t, None);
-    store.set_state(t, ThreadState::Idle { since });
-}
-
-/// A return to the client of call `c`: E2BIG, or the call is Returned with the results.
-fn return_to_client(store: &mut Store, alloc: Global, t: Tid, bytes: Bytes, c: u32) -> Answer
-    requires numbers { HasNumbersLeft store.old }
-    requires there { IsSome (call_of store.old c) }
-    ensures state { store.new ≡ (return_for store.old t.0 bytes (call_of store.old c)).state }
-    ensures answer { result ≡ (return_for store.old t.0 bytes (call_of store.old c)).answer }
-{
-    if bytes.len() > DATA_MAX {
-        return Answer::Failure(Errno::E2BIG);
-    }
     let objects = ObjList::new(alloc);
-    let _ = store.move_call(alloc, c, CallStage::Returned { bytes, objects });
-    park(store, t);
+    store.calls.give_back(alloc, t, bytes, objects);
+    store.processes.park(t, since);
     Answer::Wait
-}
-
-/// door_return(3C). Results without a client are dropped.
-pub fn return_from(store: &mut Store, alloc: Global, t: Tid, bytes: Bytes) -> Answer
-    requires { HasNumbersLeft store.old }
-    ensures state { store.new ≡ (return store.old t.0 bytes).state }
-    ensures answer { result ≡ (return store.old t.0 bytes).answer }
-{
-    match client(store, t) {
-        Some(c) => return_to_client(store, alloc, t, bytes, c),
-        None => {
-            park(store, t);
-            Answer::Wait
-        }
-    }
 }
 
 /// The entry number and the cookie of a door.
 fn entry_point(store: &Store, d: u32) -> (u32, u64)
-    ensures entry { result.0 ≡ entry_of (door_of store.now d) }
-    ensures cookie { result.1 ≡ cookie_of (door_of store.now d) }
+    ensures entry { result.0 ≡ entry_of (door_of (stored_state store.now) d) }
+    ensures cookie { result.1 ≡ cookie_of (door_of (stored_state store.now) d) }
 {
     match store.door(d) {
         Some(door) => (door.entry, door.cookie),
@@ -151,25 +156,17 @@ fn entry_point(store: &Store, d: u32) -> (u32, u64)
     }
 }
 
-/// The invocation of call `c` begins, and its arguments are handed out.
-fn begin(store: &mut Store, alloc: Global, t: Tid, c: u32) -> Answer
-    ensures state { store.new ≡ (accept_call store.old t.0 (call_of store.old c)).state }
-    ensures answer { result ≡ (accept_call store.old t.0 (call_of store.old c)).answer }
+/// The invocation of a call begins, where the thread was given it.
+fn enter_call(store: &mut Store, alloc: Global, t: Tid, c: u32) -> Answer
+    ensures state { stored_state store.new ≡ (accept_call (stored_state store.old) t.0 c (find_call (stored_state store.old) (is_given_as c t.0))).state }
+    ensures answer { result ≡ (accept_call (stored_state store.old) t.0 c (find_call (stored_state store.old) (is_given_as c t.0))).answer }
 {
-    let Some(call) = store.call_of(c) else {
+    let Some(call) = store.calls.enter(alloc, c, t) else {
         return Answer::Done;
     };
     let (entry, cookie) = entry_point(store, call.door);
-    let Some(call) = store.move_call(alloc, c, CallStage::Entered { by: t }) else {
-        return Answer::Done;
-    };
+    store.processes.enter(t, Item::Call(c));
     let Call { number, bytes, .. } = call;
-    let invocation = Inv {
-        item: Item::Call(number),
-        cancelled: false,
-    };
-    store.set_invocation(t, Some(invocation));
-    store.set_state(t, ThreadState::Running);
     Answer::Entered {
         call: number,
         entry,
@@ -180,19 +177,19 @@ fn begin(store: &mut Store, alloc: Global, t: Tid, c: u32) -> Answer
 }
 
 /// The end of the wait of a thread that was given an item: its invocation begins.
-pub fn accept(store: &mut Store, alloc: Global, t: Tid, item: Item) -> Answer
-    ensures state { store.new ≡ (accept store.old t.0 item).state }
-    ensures answer { result ≡ (accept store.old t.0 item).answer }
+pub fn accept(store: &mut Store, alloc: Global, t: Tid, p: Pid, item: Item) -> Answer
+    ensures state { stored_state store.new ≡ (accept (stored_state store.old) t.0 p.0 item).state }
+    ensures answer { result ≡ (accept (stored_state store.old) t.0 p.0 item).answer }
 {
     match item {
-        Item::Call(c) => begin(store, alloc, t, c),
+        Item::Call(c) => enter_call(store, alloc, t, c),
         Item::Notice(_) => Answer::Done,
     }
 }
 
-/// What a caller is told of a call that has an answer.
+/// What a caller is told of a call that it collects.
 fn outcome(alloc: Global, call: Call) -> Answer
-    ensures { result ≡ answer_at_stage call call.stage }
+    ensures { result ≡ collect_answer call call.stage }
 {
     let Call { rsize, stage, .. } = call;
     match stage {
@@ -207,18 +204,16 @@ fn outcome(alloc: Global, call: Call) -> Answer
 }
 
 /// The end of the wait of a caller: the results, or the error that its call ended with.
-pub fn collect(store: &mut Store, alloc: Global, t: Tid, c: u32) -> Answer
-    requires { HasNumbersLeft store.old }
-    ensures state { store.new ≡ (collect store.old t.0 c).state }
-    ensures answer { result ≡ (collect store.old t.0 c).answer }
+pub fn collect(store: &mut Store, alloc: Global, t: Tid, p: Pid, c: u32) -> Answer
+    requires { HasNumbersLeft (stored_state store.old) }
+    ensures state { stored_state store.new ≡ (collect (stored_state store.old) t.0 p.0 c).state }
+    ensures answer { result ≡ (collect (stored_state store.old) t.0 p.0 c).answer }
 {
-    if !has_answer(store, c) {
-        return Answer::Done;
-    }
     let at = store.now();
-    let Some(call) = store.move_call(alloc, c, CallStage::Answered { at }) else {
-        return Answer::Done;
-    };
-    store.set_state(t, ThreadState::Running);
-    outcome(alloc, call)
+    let call = store.calls.collect(alloc, c, at);
+    store.processes.turn(t, ThreadState::Running);
+    match call {
+        Some(call) => outcome(alloc, call),
+        None => Answer::Done,
+    }
 }

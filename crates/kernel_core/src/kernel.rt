@@ -1,21 +1,29 @@
 ghost use Rattle.std.specs.Prelude.{◌≡◌, ◌+◌, ◌<◌, ◌≤◌, ◌↔◌, Some, None, true, is_some, length, IfOk, OnOk, OnErr};
+ghost use Rattle.std.specs.Option.{option_map};
+ghost use Rattle.dk_base.specs.declared.answer.Answer.TheVariants.{Failure};
 ghost use Rattle.dk_base.specs.declared.error.ProcFault.TheVariants.{Full};
-ghost use Rattle.dk_base.specs.declared.limits.TheConstants.{PROCESSES_MAX, EVENTS_MAX};
+ghost use Rattle.written_kernel.specs.Types.{Errno};
+ghost use Rattle.dk_base.specs.declared.limits.TheConstants.{PROCESSES_MAX, THREADS_MAX, EVENTS_MAX};
 ghost use Rattle.capabilities.specs.declared.table.TheConstants.{BUILT};
 ghost use Rattle.capabilities.specs.Words.{capability_of};
-ghost use Rattle.written_kernel.specs.Words.{IsFit, IsStep, MayGoOn, MayInside, StandsFor, State, invocation_of, is_runnable, is_running, opening, root, state_of, step, with_new_thread, with_processes};
+ghost use Rattle.written_kernel.specs.Words.{IsFit, IsStep, MayGoOn, MayInside, StandsFor, State, invocation_of, is_runnable, is_running, least_runnable, opening, root, state_of, step, with_event_counted, with_new_thread, with_processes};
+ghost use Rattle.kernel_core.specs.Kept.{IsKept};
+ghost use Rattle.kernel_core.specs.Stored.{stored_state};
 ghost use Rattle.kernel_core.specs.Within.{IsWithin, IsSmall};
+ghost use Rattle.kernel_core.specs.Woken.{IsCurrent};
 
-use crate::event::{run_end_of_wait, run_entry};
+use crate::event::Parts;
+use crate::runnable::Runnable;
+use crate::stage::is_running_state;
 use crate::store::Store;
 use crate::turns;
 use dk_base::error::{NoMemory, ProcFault};
 use dk_base::event::Stepped;
 use dk_base::limits::THREADS_MAX;
-use dk_base::list::IdList;
+use dk_base::list::{IdList, Room};
 use dk_base::number::{Pid, Tid};
-use kernel_records::record::ThreadState;
 use dk_base::request::Request;
+use kernel_records::record::ThreadState;
 use std::alloc::Global;
 use std::marker::Model;
 
@@ -23,15 +31,15 @@ use std::marker::Model;
 #[derive(Drop)]
 pub struct Kernel {
     alloc: Global,
-    store: Store,
+    parts: Parts,
 }
 
 impl Model for Kernel {
     ghost Value = { State };
 
-    ghost view = { λ k. k.store };
+    ghost view = { λ k. stored_state k.parts.store };
 
-    ghost invariant = { λ k. IsWithin k.store };
+    ghost invariant = { λ k. IsKept (stored_state k.parts.store) × IsWithin (stored_state k.parts.store) × IsCurrent k.parts.runnable (stored_state k.parts.store) };
 }
 
 impl Kernel {
@@ -40,40 +48,49 @@ impl Kernel {
         requires { length limits.now ≤ PROCESSES_MAX }
         ensures { IfOk result (λ k. k ≡ opening limits.now) }
     {
-        let mut store = Store::new(alloc);
+        let mut store = Store::new(alloc)?;
         add_processes(&mut store, alloc, limits.slice())?;
-        Ok(Kernel { alloc, store })
+        let runnable = Runnable::new(alloc)?;
+        let waiting = Room::with_room(alloc, 0)?;
+        let parts = Parts {
+            store,
+            runnable,
+            waiting,
+        };
+        Ok(Kernel { alloc, parts })
     }
 
     /// Another thread of a process, which runs, or is a spare one that was not started.
     pub fn add_thread(&mut self, process: Pid, spare: bool) -> Result<Tid, ProcFault>
         requires { self.old.events ≡ 0 }
         ensures ok { OnOk result (self.new ≡ with_new_thread self.old process.0 spare) }
-        ensures number { IfOk result (λ t. t.0 ≡ length self.old.threads + 1) }
-        ensures full { (result ≡ Err Full) ↔ (length self.old.threads ≡ THREADS_MAX) }
+        ensures number { IfOk result (λ t. t.0 ≡ length self.old.process_table.threads + 1) }
+        ensures full { (result ≡ Err Full) ↔ (length self.old.process_table.threads ≡ THREADS_MAX) }
         ensures err { OnErr result (self.new ≡ self.old) }
     {
-        if self.store.thread_count() == THREADS_MAX {
+        if self.parts.store.processes.thread_count() == THREADS_MAX {
             return Err(ProcFault::Full);
         }
-        match self.store.add_thread(process, spare) {
+        match self.parts.add_thread(process, spare) {
             Ok(thread) => Ok(thread),
             Err(_) => Err(ProcFault::Memory),
         }
     }
 
-    /// A kernel entry of a thread that runs. Want of memory leaves the kernel as it was.
+    /// A kernel entry of a thread that runs. Where it is refused, nothing changes but the number of events. Want of memory
+    /// leaves the kernel as it was.
     pub fn enter(&mut self, t: Tid, request: Request) -> Result<Stepped, NoMemory>
         requires running { is_running self.old t.0 ≡ true }
-        requires fit { IsFit self.old request }
+        requires fit { IsFit self.old t.0 request }
         requires built { capability_of request ≤ BUILT }
         requires inside { MayInside (invocation_of self.old t.0) request }
         requires few { self.old.events < EVENTS_MAX }
         ensures step { IfOk result (λ s. (m : State) → StandsFor self.old m → IsStep (step m t.0 (Some request)) self.new s) }
+        ensures refused { IfOk result (λ s. (e : Errno) → s.answer ≡ Failure e → self.new ≡ with_event_counted self.old) }
         ensures small { IfOk result (λ s. IsSmall s.answer) }
         ensures err { OnErr result (self.new ≡ self.old) }
     {
-        run_entry(&mut self.store, self.alloc, t, request)
+        self.parts.enter(self.alloc, t, request)
     }
 
     /// The end of a wait of a thread that is runnable. Want of memory leaves the kernel as it was.
@@ -83,23 +100,32 @@ impl Kernel {
         ensures small { IfOk result (λ s. IsSmall s.answer) }
         ensures err { OnErr result (self.new ≡ self.old) }
     {
-        run_end_of_wait(&mut self.store, self.alloc, t)
+        self.parts.go_on(self.alloc, t)
     }
 
     /// Whether a thread can take a turn: it runs, or its wait can end.
-    #[tactic(auto, using(crate::proofs::Readers::runnable_stands))]
     pub fn runnable(&self, t: Tid) -> bool
         ensures kept { result ≡ is_runnable self.now t.0 }
         ensures stands { (m : State) → StandsFor self.now m → result ≡ is_runnable m t.0 }
     {
-        turns::runnable(&self.store, t)
+        self.parts.runnable.has(t)
+    }
+
+    /// The least thread that can take a turn.
+    pub fn least_runnable(&self) -> Option<Tid>
+        ensures kept { option_map (λ t. t.0) result ≡ least_runnable self.now }
+        ensures stands { (m : State) → StandsFor self.now m → option_map (λ t. t.0) result ≡ least_runnable m }
+    {
+        self.parts
+            .runnable
+            .least(self.parts.store.processes.thread_count())
     }
 
     pub fn is_running(&self, t: Tid) -> bool
         ensures kept { result ≡ is_running self.now t.0 }
         ensures stands { (m : State) → StandsFor self.now m → result ≡ is_running m t.0 }
     {
-        turns::is_running(&self.store, t)
+        is_running_state(self.parts.store.processes.state(t))
     }
 
     /// Whether a thread is in an invocation of a server procedure.
@@ -107,16 +133,15 @@ impl Kernel {
         ensures kept { result ≡ is_some (invocation_of self.now t.0) }
         ensures stands { (m : State) → StandsFor self.now m → result ≡ is_some (invocation_of m t.0) }
     {
-        self.store.invocation(t).is_some()
+        self.parts.store.processes.invocation(t).is_some()
     }
 
     /// The end of the walk from a thread to the caller of the call that it serves, and so on.
-    #[tactic(auto, using(crate::proofs::Readers::root_stands))]
     pub fn root(&self, t: Tid) -> Tid
         ensures kept { result.0 ≡ root self.now t.0 }
         ensures stands { (m : State) → StandsFor self.now m → result.0 ≡ root m t.0 }
     {
-        turns::root(&self.store, t)
+        turns::root(&self.parts.store, t)
     }
 
     /// What a thread is at. A number that no thread has reads as Done.
@@ -124,15 +149,15 @@ impl Kernel {
         ensures kept { result.now ≡ state_of self.now t.0 }
         ensures stands { (m : State) → StandsFor self.now m → result.now ≡ state_of m t.0 }
     {
-        self.store.state(t)
+        self.parts.store.processes.state(t)
     }
 
     pub fn threads(&self) -> u32
-        ensures count { result ≡ length self.now.threads }
-        ensures few { length self.now.threads ≤ THREADS_MAX }
-        ensures stands { (m : State) → StandsFor self.now m → result ≡ length m.threads }
+        ensures count { result ≡ length self.now.process_table.threads }
+        ensures few { length self.now.process_table.threads ≤ THREADS_MAX }
+        ensures stands { (m : State) → StandsFor self.now m → result ≡ length m.process_table.threads }
     {
-        self.store.thread_count()
+        self.parts.store.processes.thread_count()
     }
 
     /// How many events there were.
@@ -141,13 +166,13 @@ impl Kernel {
         ensures few { self.now.events ≤ EVENTS_MAX }
         ensures stands { (m : State) → StandsFor self.now m → result ≡ m.events }
     {
-        self.store.event_count()
+        self.parts.store.events
     }
 }
 
 fn add_processes(store: &mut Store, alloc: Global, limits: &[u32]) -> Result<(), NoMemory>
-    requires { length store.old.processes + length limits.now ≤ PROCESSES_MAX }
-    ensures { OnOk result (store.new ≡ with_processes store.old limits.now) }
+    requires { length store.old.processes.processes + length limits.now ≤ PROCESSES_MAX }
+    ensures { OnOk result (stored_state store.new ≡ with_processes (stored_state store.old) limits.now) }
 {
     for limit in limits {
         store.add_process(alloc, *limit)?;

@@ -3,12 +3,15 @@
 #![tactic(auto)]
 
 mod acts;
+mod calls;
 mod descriptors;
 mod doors;
 mod event;
 pub mod kernel;
 mod leaving;
-mod pools;
+mod numbered;
+mod processes;
+mod runnable;
 mod settle;
 mod stage;
 mod store;

@@ -1,14 +1,21 @@
 ghost use Rattle.std.specs.Prelude.{◌≡◌};
-ghost use Rattle.written_kernel.specs.Words.{is_active, is_live, is_queued, is_running_state, is_to_collect, is_with};
+ghost use Rattle.kernel_records.specs.Words.{is_active, is_client_call_of, is_entered_by, is_given_as, is_given_to, is_live, is_live_call, is_queued, is_queued_as, is_to_collect_as, is_served_by, is_to_collect};
+ghost use Rattle.written_kernel.specs.Words.{is_running_state};
 
 use dk_base::number::Tid;
-use kernel_records::record::{CallStage, ThreadState};
+use kernel_records::record::{Call, CallStage, ThreadState};
 
-/// Whether a call is neither answered nor left by a caller that ended.
-pub fn is_live(stage: &CallStage) -> bool
+fn is_live(stage: &CallStage) -> bool
     ensures { result ≡ is_live stage.now }
 {
     !matches!(stage, CallStage::Gone | CallStage::Answered { .. })
+}
+
+/// Whether a call is neither answered nor left by a caller that ended.
+pub fn is_live_call(call: &Call) -> bool
+    ensures { result ≡ is_live_call call.now }
+{
+    is_live(&call.stage)
 }
 
 pub fn is_queued(stage: &CallStage) -> bool
@@ -18,21 +25,63 @@ pub fn is_queued(stage: &CallStage) -> bool
 }
 
 /// Whether a call's caller can collect its results or its error.
-pub fn is_to_collect(stage: &CallStage) -> bool
+fn is_to_collect(stage: &CallStage) -> bool
     ensures { result ≡ is_to_collect stage.now }
 {
     matches!(stage, CallStage::Returned { .. } | CallStage::Ended { .. })
 }
 
-/// Whether a call was given to the thread, or entered by it.
-pub fn is_with(stage: &CallStage, t: Tid) -> bool
-    ensures { result ≡ is_with t.0 stage.now }
+fn is_given_to(stage: &CallStage, t: Tid) -> bool
+    ensures { result ≡ is_given_to t.0 stage.now }
 {
     match stage {
         CallStage::Given { to } => to.0 == t.0,
+        _ => false,
+    }
+}
+
+fn is_entered_by(stage: &CallStage, t: Tid) -> bool
+    ensures { result ≡ is_entered_by t.0 stage.now }
+{
+    match stage {
         CallStage::Entered { by } => by.0 == t.0,
         _ => false,
     }
+}
+
+/// Whether this is call `c`, and it waits for a server thread.
+pub fn is_queued_as(call: &Call, c: u32) -> bool
+    ensures { result ≡ is_queued_as c call.now }
+{
+    call.number == c && is_queued(&call.stage)
+}
+
+/// Whether this is call `c`, and it was given to the thread.
+pub fn is_given_as(call: &Call, c: u32, t: Tid) -> bool
+    ensures { result ≡ is_given_as c t.0 call.now }
+{
+    call.number == c && is_given_to(&call.stage, t)
+}
+
+/// Whether the thread has entered this call, and its caller has not left.
+pub fn is_client_call_of(call: &Call, t: Tid) -> bool
+    ensures { result ≡ is_client_call_of t.0 call.now }
+{
+    !call.abandoned && is_entered_by(&call.stage, t)
+}
+
+/// Whether the thread was given this call or has entered it, and its caller has not left.
+pub fn is_served_by(call: &Call, t: Tid) -> bool
+    ensures { result ≡ is_served_by t.0 call.now }
+{
+    !call.abandoned && (is_given_to(&call.stage, t) || is_entered_by(&call.stage, t))
+}
+
+/// Whether this is call `c`, and its caller can collect it.
+pub fn is_to_collect_as(call: &Call, c: u32) -> bool
+    ensures { result ≡ is_to_collect_as c call.now }
+{
+    call.number == c && is_to_collect(&call.stage)
 }
 
 /// Whether a thread keeps its process from ending.

@@ -1,6 +1,7 @@
-ghost use Rattle.std.specs.Prelude.{◌≡◌, ◌<◌, List, Option, Some, IfOk, length, map, slice_get, slice_set};
+//! The descriptors of a process.
+ghost use Rattle.std.specs.Prelude.{◌≡◌, ◌<◌, List, Option, Some, IfOk, length, slice_get};
 ghost use Rattle.written_kernel.specs.Types.{Obj};
-ghost use Rattle.written_kernel.specs.Words.{empty_table, free_row, lowest_free, object_in};
+ghost use Rattle.kernel_records.specs.Words.{close_table, empty_table, lowest_free, object_named, with_row};
 
 use dk_base::error::NoMemory;
 use dk_base::number::Fd;
@@ -29,7 +30,7 @@ fn first_free(rows: &[Option<Obj>]) -> Option<usize>
 }
 
 fn close_all(rows: &mut [Option<Obj>])
-    ensures { rows.new ≡ map free_row rows.old }
+    ensures { rows.new ≡ close_table rows.old }
 {
     for row in rows.iter_mut() {
         *row = None;
@@ -49,7 +50,7 @@ impl Table {
 
     /// What a descriptor names.
     pub fn object(&self, fd: Fd) -> Option<Obj>
-        ensures { result ≡ object_in (slice_get self.now fd.0) }
+        ensures { result ≡ object_named self.now fd }
     {
         match self.rows.get(fd.0 as usize) {
             Some(row) => *row,
@@ -67,19 +68,19 @@ impl Table {
         }
     }
 
-    /// A place that isn't there changes nothing.
-    pub fn put(&mut self, place: u32, object: Obj)
-        ensures { self.new ≡ slice_set self.old place (Some object) }
+    /// A place names this object, or none. A place that isn't there changes nothing.
+    pub fn put(&mut self, place: u32, object: Option<Obj>)
+        ensures { self.new ≡ with_row self.old place object }
     {
         let place = place as usize;
         if place < self.rows.len() {
-            self.rows[place] = Some(object);
+            self.rows[place] = object;
         }
     }
 
     /// Closes each descriptor.
     pub fn close_all(&mut self)
-        ensures { self.new ≡ map free_row self.old }
+        ensures { self.new ≡ close_table self.old }
     {
         close_all(&mut self.rows);
     }

@@ -1,27 +1,25 @@
+//! Which threads can take a turn.
 ghost use Rattle.std.specs.Prelude.{◌≡◌, is_some};
-ghost use Rattle.written_kernel.specs.Words.{call_of, caller_of, has_answer, is_runnable, is_running, root};
 ghost use Rattle.std.specs.Option.{option_map};
+ghost use Rattle.written_kernel.specs.Words.{caller_of, has_answer, is_runnable, root};
+ghost use Rattle.kernel_core.specs.Stored.{stored_state};
 
-use crate::stage::{is_running_state, is_to_collect};
 use crate::store::Store;
 use dk_base::number::Tid;
 use kernel_records::record::ThreadState;
 
 /// Whether a call has what its caller can collect.
-pub fn has_answer(store: &Store, c: u32) -> bool
-    ensures { result ≡ has_answer (call_of store.now c) }
+fn has_answer(store: &Store, c: u32) -> bool
+    ensures { result ≡ has_answer (stored_state store.now) c }
 {
-    match store.call_of(c) {
-        Some(call) => is_to_collect(&call.stage),
-        None => false,
-    }
+    store.calls.ready(c).is_some()
 }
 
 /// Whether a thread runs, or its wait can end.
 pub fn runnable(store: &Store, t: Tid) -> bool
-    ensures { result ≡ is_runnable store.now t.0 }
+    ensures { result ≡ is_runnable (stored_state store.now) t.0 }
 {
-    match store.state(t) {
+    match store.processes.state(t) {
         ThreadState::Running
         | ThreadState::Given { .. }
         | ThreadState::Working { .. }
@@ -33,17 +31,11 @@ pub fn runnable(store: &Store, t: Tid) -> bool
     }
 }
 
-pub fn is_running(store: &Store, t: Tid) -> bool
-    ensures { result ≡ is_running store.now t.0 }
-{
-    is_running_state(store.state(t))
-}
-
 /// The caller of the call that a thread serves.
 fn caller_of(store: &Store, t: Tid) -> Option<Tid>
-    ensures { option_map (λ t. t.0) result ≡ caller_of store.now t.0 }
+    ensures { option_map (λ t. t.0) result ≡ caller_of (stored_state store.now) t.0 }
 {
-    match store.served_by(t) {
+    match store.calls.served_by(t) {
         Some(call) => Some(call.caller),
         None => None,
     }
@@ -51,10 +43,10 @@ fn caller_of(store: &Store, t: Tid) -> Option<Tid>
 
 /// The end of the walk from a thread to the caller of the call that it serves, and so on.
 pub fn root(store: &Store, t: Tid) -> Tid
-    ensures { result.0 ≡ root store.now t.0 }
+    ensures { result.0 ≡ root (stored_state store.now) t.0 }
 {
     let mut t = t;
-    for _step in 0..store.calls_made() {
+    for _step in 0..store.calls.made {
         match caller_of(store, t) {
             Some(caller) => t = caller,
             None => return t,

@@ -1,4 +1,4 @@
-ghost use Rattle.std.specs.Prelude.{◌≤◌, Option, IfOk, length};
+ghost use Rattle.std.specs.Prelude.{ℕ, ◌≤◌, Option, IfOk, length};
 ghost use Rattle.capabilities.specs.Words.{capability_of};
 ghost use Rattle.capabilities.specs.declared.table.TheConstants.{BUILT};
 ghost use Rattle.written_kernel.specs.Types.{Inv};
@@ -106,7 +106,7 @@ fn is_step(stepped: &Result<Stepped, NoMemory>, gives: Gives, wakes: &[Tid]) -> 
 }
 
 fn request(alloc: Global, entry: Entry) -> Result<Request, NoMemory>
-    ensures fit { IfOk result (λ r. (m : State) → IsFit m r) }
+    ensures fit { IfOk result (λ r. (m : State) (t : ℕ) → IsFit m t r) }
     ensures built { IfOk result (λ r. capability_of r ≤ BUILT) }
     ensures inside { IfOk result (λ r. (v : Option Inv) → MayInside v r) }
 {
@@ -133,7 +133,7 @@ fn request(alloc: Global, entry: Entry) -> Result<Request, NoMemory>
 }
 
 fn outer_request(alloc: Global, entry: OuterEntry) -> Result<Request, NoMemory>
-    ensures fit { IfOk result (λ r. (m : State) → IsFit m r) }
+    ensures fit { IfOk result (λ r. (m : State) (t : ℕ) → IsFit m t r) }
     ensures built { IfOk result (λ r. capability_of r ≤ BUILT) }
 {
     match entry {

@@ -1,20 +1,24 @@
 -- What an act keeps and which arrows calls take by it; the acts that touch no call.
-use Rattle.std.specs.Prelude.{ℕ, ◌≡◌, ◌+◌, Option, true, false, ◌==◌, Some, None, length, is_some, find, slice_set}
+use Rattle.std.specs.Prelude.{ℕ, ◌≡◌, ◌+◌, List, [], ◌∷◌, Option, Bool, true, false, ◌==◌, Some, None, find, length, is_none, is_some, unwrap_or}
 use Rattle.std.proofs.Common.{refl, sym, ap, subst, ◌∙◌}
 use native.Mathlib.Omega.{arith}
 use Rattle.std.proofs.lemmas.Bool.Decides.{nat_tests}
-use Rattle.written_kernel.specs.Types.{Answer, Attrs, Door, Fd, Inv, Name, Obj, PathId, Request, Thread, ThreadState}
-use Rattle.dk_base.specs.declared.object.Obj.TheVariants as obj
+use Rattle.written_kernel.specs.Types.{Answer, Attrs, Call, Door, Fd, Inv, Name, Obj, PathId, Process, ProcessStage, Request, Thread, ThreadState}
+use Rattle.dk_base.specs.declared.error.Errno.TheVariants.{EMFILE}
 use Rattle.kernel_records.specs.declared.record.ThreadState.TheVariants as is
+use Rattle.kernel_records.specs.declared.record.ProcessStage.TheVariants.{Live, Ended}
 use Rattle.dk_base.specs.ByNumber.{at_number}
-use Rattle.written_kernel.specs.Words.{ActResult, State, attach, attach_object, attach_unless, await, await_name, create, create_at, end_await, lowest_free, name_of, new_door, new_name, object_at, open_at, open_name, open_path, process_of, state_in, state_of, table_of, thread_of, with_door, with_invocation, with_invocation_in, with_name, with_row, with_state, with_state_in}
+use Rattle.kernel_records.specs.Words.{CallTree, ProcessTable, change_first, is_live_in, is_live_stage, lowest_free, new_door, state_in, with_door}
+use Rattle.written_kernel.specs.Words.{ActResult, State, await, await_name, create, create_tests, find_call, first_refusal, name_of, object_at, open_path, process_of, refused_where, state_of, thread_of, with_state, with_table_of}
 use Rattle.kernel_invariant.specs.Records.{has_number, record_of}
-use Rattle.kernel_invariant.specs.Core.{core, number_in, ended_in}
-use Rattle.kernel_invariant.specs.Invariant.{IsInOrder, IsCoherent, IsConsistent}
+use Rattle.kernel_invariant.specs.Core.{core, ended_in, is_ended_stage}
+use Rattle.kernel_invariant.specs.Coherent.{IsCoherent}
+use Rattle.kernel_invariant.specs.Invariant.{IsInOrder, IsConsistent}
 use Rattle.kernel_invariant.specs.Arrows.{ByAct}
 use Rattle.kernel_invariant.specs.Arrows.ByAct.{stays}
-use Rattle.written_kernel.proofs.Lists.{at_number-with_at_number, numbered_past}
-use Rattle.kernel_invariant.proofs.Cores.{There, with_state-core, with_door-core}
+use Rattle.written_kernel.proofs.Lists.{at_number-with_at_number, length-with_at_number, numbered_past, numbered_there, numbered_within}
+use Rattle.kernel_invariant.proofs.Calls.{IsInOrder-change_first, find-change_first, find-found, length-change_first}
+use Rattle.kernel_invariant.proofs.Cores.{IsThere, Turns, act-core, set_thread_state-turns, upd, with_door-core}
 use Rattle.kernel_invariant.proofs.ThreadMoves.{turn_keeps, door_keeps, is_quiet}
 
 pub record Does (m : State) (t : ℕ) (q : Option Request) (a : ActResult) : Type 0 where
@@ -29,102 +33,108 @@ pub does_nothing : (m : State) (t : ℕ) (q : Option Request) (a : Answer) → I
 does_nothing m t q a h = record { consistent = h; arrows = λ c. stays }
 
 -- a thread that is not Done is there
-there_in : (o : Option Thread) → (state_in o ≡ is.Done → ⊥) → is_some (number_in o) ≡ true
-there_in None h = absurd (h refl)
-there_in (Some x) h = refl
+pub there : (m : State) (t : ℕ) → (state_of m t ≡ is.Done → ⊥) → IsThere m.process_table t
+there m t h = go (thread_of m t) h
+  where
+    go : (o : Option Thread) → (state_in o ≡ is.Done → ⊥) → is_some o ≡ true
+    go None f = absurd (f refl)
+    go (Some x) f = refl
 
-pub there : (m : State) (t : ℕ) → (state_of m t ≡ is.Done → ⊥) → There (core m) t
-there m t h = there_in (thread_of m t) h
+-- an act that changes threads and calls
+abbrev pub after_act : State → ProcessTable → CallTree → State
+after_act m table tree = record m { process_table = table; call_tree = tree }
 
--- rows
-
-pub object_at-with_row :
-    (m : State) (p place : ℕ) (o : Obj) (q : ℕ) (fd : Fd) → (q == p) ≡ false →
-    object_at (with_row m p place o) q fd ≡ object_at m q fd
-object_at-with_row m p place o q fd e =
-    grind (arith, at_number-with_at_number m.tables p q (slice_set (table_of m p) place (Some o)))
-
--- what an act of a call leaves alone
-pub record SameRest (m n : State) : Type 0 where
-  pub tables : n.tables ≡ m.tables
-  pub processes : n.processes ≡ m.processes
-  pub notices : n.notices ≡ m.notices
-  pub bound : n.bound ≡ m.bound
-
-pub same_rest_then : (m n o : State) → SameRest m n → SameRest n o → SameRest m o
-same_rest_then m n o h g =
-    record {
-      tables = g.tables ∙ h.tables;
-      processes = g.processes ∙ h.processes;
-      notices = g.notices ∙ h.notices;
-      bound = g.bound ∙ h.bound;
-    }
-
-pub consistent_from :
-    (m n : State) → IsConsistent m → SameRest m n → IsInOrder 0 n.calls → length n.calls ≡ n.calls_made → IsCoherent (core n) →
-    IsConsistent n
-consistent_from m n h g i e k =
+pub act_consistent :
+    (m : State) (table : ProcessTable) (tree : CallTree) → IsConsistent m → table.processes ≡ m.process_table.processes →
+    IsInOrder 0 tree.calls → length tree.calls ≡ tree.made → IsCoherent (core (after_act m table tree)) →
+    IsConsistent (after_act m table tree)
+act_consistent m table tree h p i e k =
     record {
       in_order = i;
       counted = e;
       coherent = k;
-      no_rows = λ p fd f. grind (arith, h.no_rows p fd, g.tables, g.processes);
-      unbuilt = record { no_notices = g.notices ∙ h.unbuilt.no_notices; unbound = λ t. grind (arith, h.unbuilt.unbound t, g.bound) };
+      tables = h.tables ∙ sym (ap length p);
+      no_rows = λ q fd f. h.no_rows q fd (ap (λ xs. ended_in (at_number xs q)) (sym p) ∙ f);
+      unbuilt = record { no_notices = h.unbuilt.no_notices; unbound = h.unbuilt.unbound };
     }
 
--- what a change of a thread's state or invocation leaves alone
-pub record SameCalls (m n : State) : Type 0 where
-  pub rest : SameRest m n
-  pub calls : n.calls ≡ m.calls
-  pub made : n.calls_made ≡ m.calls_made
-
-same_calls : (m : State) → SameCalls m m
-same_calls m = record { rest = record { tables = refl; processes = refl; notices = refl; bound = refl }; calls = refl; made = refl }
-
-pub with_state_calls : (m : State) (t : ℕ) (s : ThreadState) → SameCalls m (with_state m t s)
-with_state_calls m t s = go (thread_of m t)
-  where
-    go : (o : Option Thread) → SameCalls m (with_state_in m t s o)
-    go None = same_calls m
-    go (Some x) = record { rest = record { tables = refl; processes = refl; notices = refl; bound = refl }; calls = refl; made = refl }
-
-pub with_invocation_calls : (m : State) (t : ℕ) (v : Option Inv) → SameCalls m (with_invocation m t v)
-with_invocation_calls m t v = go (thread_of m t)
-  where
-    go : (o : Option Thread) → SameCalls m (with_invocation_in m t v o)
-    go None = same_calls m
-    go (Some x) = record { rest = record { tables = refl; processes = refl; notices = refl; bound = refl }; calls = refl; made = refl }
-
-pub same_calls_then : (m n o : State) → SameCalls m n → SameCalls n o → SameCalls m o
-same_calls_then m n o h g =
-    record { rest = same_rest_then m n o h.rest g.rest; calls = g.calls ∙ h.calls; made = g.made ∙ h.made }
-
--- an act that leaves the calls alone
-pub does_no_call :
-    (m : State) (t : ℕ) (q : Option Request) (n : State) (a : Answer) → IsConsistent m → SameCalls m n → IsCoherent (core n) →
-    Does m t q (act_result n a)
-does_no_call m t q n a h g k =
+-- an act that changes a thread alone
+pub does_thread :
+    (m : State) (t : ℕ) (q : Option Request) (a : Answer) (table : ProcessTable) (s : ThreadState) (serves : ℕ → Option Inv) →
+    IsConsistent m → Turns m.process_table table t s serves →
+    IsCoherent (record (core m) { role = upd (core m).role t s; serves = serves }) →
+    Does m t q (act_result (record m { process_table = table }) a)
+does_thread m t q a table s serves h g k =
     record {
       consistent =
-          consistent_from m n h g.rest (subst (λ rs. IsInOrder 0 rs) (sym g.calls) h.in_order)
-          (ap length g.calls ∙ h.counted ∙ sym g.made)
-          k;
-      arrows = λ c. subst (λ rs. ByAct m t q a n (record_of m c) (find (has_number c) rs)) (sym g.calls) stays;
+          act_consistent m table m.call_tree h g.processes h.in_order h.counted
+          (subst IsCoherent (sym (act-core m table m.call_tree t s serves (core m).call g (λ c. refl))) k);
+      arrows = λ c. stays;
     }
 
-turned_to :
+-- the arrow of one call, where the others stay
+pub arrow_at :
+    (m : State) (t : ℕ) (q : Option Request) (a : Answer) (n : State) (i : ℕ) (x : Call) (f g : ℕ → Option Call) →
+    ((c : ℕ) → g c ≡ upd f i (Some x) c) → ByAct m t q a n (f i) (Some x) → (c : ℕ) → ByAct m t q a n (f c) (g c)
+arrow_at m t q a n i x f g e b c = go (c == i) refl
+  where
+    go : (h : Bool) → (c == i) ≡ h → ByAct m t q a n (f c) (g c)
+    go true h =
+        let same : c ≡ i = grind (arith, nat_tests) in
+        let is : g c ≡ Some x = grind (arith, e c) in
+        subst (λ o. ByAct m t q a n (f c) o) (sym is) (subst (λ j. ByAct m t q a n (f j) (Some x)) (sym same) b)
+    go false h =
+        let is : g c ≡ f c = grind (arith, e c) in
+        subst (λ o. ByAct m t q a n (f c) o) (sym is) stays
+
+-- the calls after the first that meets a test was changed
+abbrev pub changed_tree : CallTree → (Call → Bool) → (Call → Call) → CallTree
+changed_tree tree test change = record tree { calls = change_first test change tree.calls }
+
+-- an act that changes a thread, and the call that a test finds
+module _ (test : Call → Bool) (change : Call → Call) (same : (r : Call) → (change r).number ≡ r.number) where
+  pub change-call :
+      (m : State) (r : Call) (c : ℕ) → IsConsistent m → find_call m test ≡ Some r →
+      find (has_number c) (changed_tree m.call_tree test change).calls ≡ upd (core m).call r.number (Some (change r)) c
+  change-call m r c h f = find-change_first test change same m.call_tree.calls 0 r c h.in_order f
+
+  pub change-core :
+      (m : State) (t : ℕ) (table : ProcessTable) (s : ThreadState) (serves : ℕ → Option Inv) (r : Call) → IsConsistent m →
+      Turns m.process_table table t s serves → find_call m test ≡ Some r →
+      core (after_act m table (changed_tree m.call_tree test change))
+      ≡ record (core m) { role = upd (core m).role t s; serves = serves; call = upd (core m).call r.number (Some (change r)) }
+  change-core m t table s serves r h g f =
+      act-core m table (changed_tree m.call_tree test change) t s serves (upd (core m).call r.number (Some (change r))) g
+      (λ c. change-call m r c h f)
+
+  pub does_call :
+      (m : State) (t : ℕ) (q : Option Request) (a : Answer) (table : ProcessTable) (s : ThreadState) (serves : ℕ → Option Inv)
+      (r : Call) → IsConsistent m → Turns m.process_table table t s serves → find_call m test ≡ Some r →
+      IsCoherent
+      (record (core m) { role = upd (core m).role t s; serves = serves; call = upd (core m).call r.number (Some (change r)) }) →
+      ByAct m t q a (after_act m table (changed_tree m.call_tree test change)) (Some r) (Some (change r)) →
+      Does m t q (act_result (after_act m table (changed_tree m.call_tree test change)) a)
+  does_call m t q a table s serves r h g f k b =
+      record {
+        consistent =
+            act_consistent m table (changed_tree m.call_tree test change) h g.processes
+            (IsInOrder-change_first test change same m.call_tree.calls 0 h.in_order)
+            (length-change_first test change m.call_tree.calls ∙ h.counted)
+            (subst IsCoherent (sym (change-core m t table s serves r h g f)) k);
+        arrows =
+            arrow_at m t q a (after_act m table (changed_tree m.call_tree test change)) r.number (change r) (λ c. record_of m c) _
+            (λ c. change-call m r c h f)
+            (subst (λ o. ByAct m t q a (after_act m table (changed_tree m.call_tree test change)) o (Some (change r))) (sym (find-found test m.call_tree.calls 0 r h.in_order f)) b);
+      }
+
+-- turns
+
+pub turned_to :
     (m : State) (t : ℕ) (q : Option Request) (s : ThreadState) (a : Answer) → IsConsistent m → is_quiet (state_of m t) ≡ true →
     is_quiet s ≡ true → Does m t q (act_result (with_state m t s) a)
 turned_to m t q s a h e f =
-    does_no_call m t q (with_state m t s) a h (with_state_calls m t s)
-    (subst IsCoherent
-    (sym (with_state-core m t s (core m) refl (there m t (λ d. grind arith))))
-    (turn_keeps (core m) t s h.coherent e f))
-
-pub found_does :
-    (m : State) (t : ℕ) (q : Option Request) (path : PathId) → IsConsistent m → state_of m t ≡ is.Awaiting path →
-    Does m t q (end_await m t)
-found_does m t q path h e = turned_to m t q is.Running _ h (grind arith) refl
+    does_thread m t q a _ s _ h (set_thread_state-turns m.process_table t s (there m t (λ d. grind arith)))
+    (turn_keeps (core m) t s h.coherent e f)
 
 pub await_does :
     (m : State) (t : ℕ) (q : Option Request) (path : PathId) → IsConsistent m → state_of m t ≡ is.Running →
@@ -135,76 +145,98 @@ await_does m t q path h e = go (name_of m path)
     go (Some n) = does_nothing m t q _ h
     go None = turned_to m t q (is.Awaiting path) _ h (grind arith) refl
 
-with_name_does : (m : State) (t : ℕ) (q : Option Request) (n : Name) (a : Answer) → IsConsistent m → Does m t q (act_result (with_name m n) a)
-with_name_does m t q n a h =
-    does_no_call m t q (with_name m n) a h
-    (record { rest = record { tables = refl; processes = refl; notices = refl; bound = refl }; calls = refl; made = refl })
-    h.coherent
+pub names_does : (m : State) (t : ℕ) (q : Option Request) (names : List Name) (a : Answer) → IsConsistent m → Does m t q (act_result (record m { names = names }) a)
+names_does m t q names a h =
+    record {
+      consistent =
+          record {
+            in_order = h.in_order;
+            counted = h.counted;
+            coherent = h.coherent;
+            tables = h.tables;
+            no_rows = h.no_rows;
+            unbuilt = record { no_notices = h.unbuilt.no_notices; unbound = h.unbuilt.unbound };
+          };
+      arrows = λ c. stays;
+    }
 
-pub attach_does :
-    (m : State) (t : ℕ) (q : Option Request) (p : ℕ) (fd : Fd) (path : PathId) → IsConsistent m →
-    Does m t q (attach m p fd path)
-attach_does m t q p fd path h = go (object_at m p fd)
-  where
-    unless : (n : Name) (o : Option Name) → Does m t q (attach_unless m n o)
-    unless n (Some other) = does_nothing m t q _ h
-    unless n None = with_name_does m t q n _ h
+-- rows
 
-    go : (o : Option Obj) → Does m t q (attach_object m path o)
-    go None = does_nothing m t q _ h
-    go (Some (obj.Door d)) = unless (new_name m path d) (name_of m path)
-    go (Some _) = does_nothing m t q _ h
+object_at-with_table_of :
+    (m : State) (p : ℕ) (table : List (Option Obj)) (q : ℕ) (fd : Fd) → (q == p) ≡ false →
+    object_at (with_table_of m p table) q fd ≡ object_at m q fd
+object_at-with_table_of m p table q fd e = grind (arith, at_number-with_at_number m.tables p q table)
 
 -- a running thread's process has not ended
-pub not_ended : (m : State) (t : ℕ) → IsConsistent m → state_of m t ≡ is.Running → ended_in (at_number m.processes (process_of m t)) ≡ false
-not_ended m t h e = grind (arith, h.coherent.ended_done t)
+pub not_ended : (m : State) (t : ℕ) → IsConsistent m → state_of m t ≡ is.Running → ended_in (at_number m.process_table.processes (process_of m t)) ≡ false
+not_ended m t h e = grind (arith, h.coherent.processes.ended_done t)
 
-with_row_keeps :
-    (m : State) (p place : ℕ) (o : Obj) → IsConsistent m → ended_in (at_number m.processes p) ≡ false →
-    IsConsistent (with_row m p place o)
-with_row_keeps m p place o h e =
+with_table_of_keeps :
+    (m : State) (p : ℕ) (table : List (Option Obj)) → IsConsistent m → ended_in (at_number m.process_table.processes p) ≡ false →
+    IsConsistent (with_table_of m p table)
+with_table_of_keeps m p table h e =
     record {
       in_order = h.in_order;
       counted = h.counted;
       coherent = h.coherent;
-      no_rows = λ q fd f. grind (arith, nat_tests, h.no_rows q fd f, object_at-with_row m p place o q fd);
+      tables = length-with_at_number m.tables p table ∙ h.tables;
+      no_rows = λ q fd f. grind (arith, nat_tests, h.no_rows q fd f, object_at-with_table_of m p table q fd);
       unbuilt = record { no_notices = h.unbuilt.no_notices; unbound = h.unbuilt.unbound };
     }
 
 pub open_does :
     (m : State) (t : ℕ) (q : Option Request) (path : PathId) → IsConsistent m → state_of m t ≡ is.Running →
     Does m t q (open_path m (process_of m t) path)
-open_does m t q path h e = go (name_of m path)
+open_does m t q path h e =
+    record { consistent = with_table_of_keeps m (process_of m t) _ h (not_ended m t h e); arrows = λ c. stays }
+
+-- a process that is there and has not ended is live
+pub lives : (o : Option Process) → is_some o ≡ true → ended_in o ≡ false → is_live_in o ≡ true
+lives None e f = grind arith
+lives (Some x) e f = go x.stage f
   where
-    at : (n : Name) (o : Option ℕ) → Does m t q (open_at m (process_of m t) n o)
-    at n None = does_nothing m t q _ h
-    at n (Some place) =
-        record { consistent = with_row_keeps m (process_of m t) place (obj.Door n.door) h (not_ended m t h e); arrows = λ c. stays }
+    go : (s : ProcessStage) → is_ended_stage s ≡ false → is_live_stage s ≡ true
+    go Live f = refl
+    go Ended f = grind arith
 
-    go : (o : Option Name) → Does m t q (open_name m (process_of m t) o)
-    go None = does_nothing m t q _ h
-    go (Some n) = at n (lowest_free (table_of m (process_of m t)))
+-- a table with a free place is there
+has_place : (o : Option (List (Option Obj))) → first_refusal (refused_where (is_none (lowest_free (unwrap_or o []))) EMFILE ∷ []) ≡ None → is_some o ≡ true
+has_place None e = grind arith
+has_place (Some rows) e = refl
 
-with_door_keeps :
-    (m : State) (d : Door) → IsConsistent m → d.number ≡ length m.doors + 1 → IsConsistent (with_door m d)
-with_door_keeps m d h e =
-    consistent_from m (with_door m d) h (record { tables = refl; processes = refl; notices = refl; bound = refl }) h.in_order h.counted
-    (subst IsCoherent
-    (sym (with_door-core m d (core m) e refl))
-    (door_keeps (core m) d h.coherent (numbered_past m.doors d.number (grind arith))))
+-- a door is made by a process that is there, since its table has a place
+creator_lives :
+    (m : State) (t : ℕ) → IsConsistent m → state_of m t ≡ is.Running → first_refusal (create_tests m (process_of m t)) ≡ None →
+    is_live_in (at_number m.process_table.processes (process_of m t)) ≡ true
+creator_lives m t h e f = go (at_number m.tables (process_of m t)) refl (has_place (at_number m.tables (process_of m t)) f)
+  where
+    go : (o : Option (List (Option Obj))) → at_number m.tables (process_of m t) ≡ o → is_some o ≡ true → is_live_in (at_number m.process_table.processes (process_of m t)) ≡ true
+    go None g s = grind arith
+    go (Some rows) g s =
+        let w = numbered_within m.tables (process_of m t) rows g in
+        lives _ (numbered_there m.process_table.processes (process_of m t) w.0 (grind (arith, h.tables))) (not_ended m t h e)
 
 pub create_does :
     (m : State) (t : ℕ) (q : Option Request) (entry cookie : ℕ) (attrs : Attrs) → IsConsistent m → state_of m t ≡ is.Running →
-    Does m t q (create m (process_of m t) entry cookie attrs)
-create_does m t q entry cookie attrs h e = go (lowest_free (table_of m (process_of m t)))
+    first_refusal (create_tests m (process_of m t)) ≡ None → Does m t q (create m (process_of m t) entry cookie attrs)
+create_does m t q entry cookie attrs h e f =
+    record { consistent = with_table_of_keeps n (process_of m t) _ made (not_ended m t h e); arrows = λ c. stays }
   where
-    go : (o : Option ℕ) → Does m t q (create_at m (process_of m t) (new_door m (process_of m t) entry cookie attrs) o)
-    go None = does_nothing m t q _ h
-    go (Some place) =
+    d : Door
+    d = new_door (length m.doors + 1) (process_of m t) entry cookie attrs
+
+    n : State
+    n = record m { doors = with_door m.doors (process_of m t) entry cookie attrs }
+
+    made : IsConsistent n
+    made =
         record {
-          consistent =
-              with_row_keeps (with_door m (new_door m (process_of m t) entry cookie attrs)) (process_of m t) place (obj.Door (length m.doors + 1))
-              (with_door_keeps m (new_door m (process_of m t) entry cookie attrs) h refl)
-              (not_ended m t h e);
-          arrows = λ c. stays;
+          in_order = h.in_order;
+          counted = h.counted;
+          coherent =
+              subst IsCoherent (sym (with_door-core m d refl))
+              (door_keeps (core m) d h.coherent (numbered_past m.doors d.number (grind arith)) (grind (arith, creator_lives m t h e f)));
+          tables = h.tables;
+          no_rows = h.no_rows;
+          unbuilt = record { no_notices = h.unbuilt.no_notices; unbound = h.unbuilt.unbound };
         }

@@ -1,16 +1,18 @@
 -- The atomic changes of the core that acts of doors make: each keeps what holds of a core.
 use Rattle.std.specs.Prelude.{ℕ, ◌≡◌, ◌+◌, List, [], true, false, Some, None}
+use Rattle.std.proofs.Common.{refl}
 use native.Mathlib.Omega.{arith}
 use Rattle.std.proofs.lemmas.Bool.Decides.{nat_tests}
 use Rattle.dk_base.specs.declared.object.Item.TheVariants as item
 use Rattle.kernel_records.specs.declared.record.ThreadState.TheVariants as is
 use Rattle.written_kernel.specs.Types.{Call}
 use Rattle.kernel_records.specs.declared.record.CallStage.TheVariants as stage
-use Rattle.written_kernel.specs.Words.{is_to_collect, new_invocation, tid, without_arguments_at}
+use Rattle.kernel_records.specs.Words.{is_to_collect, is_valid_in, new_invocation, no_cancel_of, tid, without_arguments_at}
 use Rattle.kernel_invariant.specs.Records.{item_in}
-use Rattle.kernel_invariant.specs.Core.{Core, abandoned_in, valid_in}
-use Rattle.kernel_invariant.specs.Invariant.{IsCoherent}
+use Rattle.kernel_invariant.specs.Core.{Core, abandoned_in}
+use Rattle.kernel_invariant.specs.Coherent.{IsCoherent}
 use Rattle.kernel_invariant.proofs.Cores.{set_role, set_serves, set_call, set_new_call}
+use Rattle.kernel_invariant.proofs.Parts.{at_doors_move, calls_move, notices_serve, notices_turn, processes_turn}
 
 -- a new call of a running thread waits at a valid door
 abbrev pub with_call_of : Core → ℕ → Call → Core
@@ -22,190 +24,218 @@ pub record Calls (k : Core) (t : ℕ) (r : Call) : Type 0 where
   pub caller : r.caller.0 ≡ t
   pub kept : r.abandoned ≡ false
   pub queued : r.stage ≡ stage.Queued
-  pub valid : valid_in k (k.door r.door) ≡ true
+  pub no_cancel : r.no_cancel ≡ no_cancel_of (k.door r.door)
+  pub valid : is_valid_in (k.door r.door) ≡ true
 
 pub call_keeps : (k : Core) (t : ℕ) (r : Call) → IsCoherent k → Calls k t r → IsCoherent (with_call_of k t r)
-call_keeps k t r h p = record {
-  given = λ c v e. grind (arith, nat_tests, h.given c v);
-  given_back = λ c v e. grind (arith, nat_tests, h.given_back c v);
-  entered = λ c v e. grind (arith, nat_tests, h.entered c v);
-  kept = λ c e. grind (arith, nat_tests, h.kept c);
-  entered_back = λ c v e f. grind (arith, nat_tests, h.entered_back c v);
-  notice_given = λ n v e. grind (arith, nat_tests, h.notice_given n v);
-  notice_given_back = λ n v e. grind (arith, nat_tests, h.notice_given_back n v);
-  notice_entered = λ n v e. grind (arith, nat_tests, h.notice_entered n v);
-  notice_entered_back = λ n v e. grind (arith, nat_tests, h.notice_entered_back n v);
-  caller = λ c v e. grind (arith, nat_tests, h.caller c v);
-  live = λ c v e. grind (arith, nat_tests, h.live c v);
-  calling = λ c e. grind (arith, nat_tests, h.calling c);
-  outside = λ v e. grind (arith, nat_tests, h.outside v);
-  below = λ c d v e f. grind (arith, nat_tests, h.below c d v);
-  arguments = λ c x e f. grind (arith, nat_tests, h.arguments c x);
-  waiting_valid = λ c e. grind (arith, nat_tests, h.waiting_valid c);
-  idle_valid = λ v d n e f. grind (arith, nat_tests, h.idle_valid v d n);
-  bound_own = λ v d e. grind (arith, nat_tests, h.bound_own v d);
-  bound_private = λ v d e. grind (arith, nat_tests, h.bound_private v d);
-  ended_done = λ v e. grind (arith, nat_tests, h.ended_done v);
-  call_number = λ c x e. grind (arith, nat_tests, h.call_number c x);
-  unmade = λ c e. grind (arith, nat_tests, h.unmade c);
-  served_made = λ c v e. grind (arith, nat_tests, h.served_made c v);
-  door_number = λ d x e. grind (arith, nat_tests, h.door_number d x);
-  thread_number = λ v n e. grind (arith, nat_tests, h.thread_number v n);
-  given_owner = λ c v e. grind (arith, nat_tests, h.given_owner c v);
-  entered_owner = λ c v e. grind (arith, nat_tests, h.entered_owner c v);
-}
+call_keeps k t r h p =
+    record {
+      waits =
+          record {
+            given = λ c v e. grind (arith, nat_tests, h.waits.given c v);
+            given_back = λ c v e. grind (arith, nat_tests, h.waits.given_back c v, h.calls.unmade c);
+            caller = λ c v e. grind (arith, nat_tests, h.waits.caller c v, h.waits.live c v, h.calls.unmade c);
+            live = λ c v e. grind (arith, nat_tests, h.waits.live c v, h.calls.unmade c);
+            calling = λ c e. grind (arith, nat_tests, h.waits.calling c);
+          };
+      invocations =
+          record {
+            entered = λ c v e. grind (arith, nat_tests, h.invocations.entered c v);
+            entered_back = λ c v e f. grind (arith, nat_tests, h.invocations.entered_back c v, h.servers.served_made c v);
+            kept = λ c e. grind (arith, nat_tests, h.invocations.kept c);
+          };
+      notices_given = notices_turn k.role k.notice t _ h.notices_given (grind arith) refl;
+      notices_entered = h.notices_entered;
+      servers =
+          record {
+            outside = λ v e. grind (arith, nat_tests, h.servers.outside v);
+            below = λ c d v e f. grind (arith, nat_tests, h.servers.below c d v, h.servers.served_made c v);
+            served_made = λ c v e. grind (arith, nat_tests, h.servers.served_made c v);
+          };
+      calls =
+          record {
+            arguments = λ c x e f. grind (arith, nat_tests, h.calls.arguments c x);
+            call_number = λ c x e. grind (arith, nat_tests, h.calls.call_number c x);
+            unmade = λ c e. grind (arith, nat_tests, h.calls.unmade c);
+          };
+      at_doors =
+          record {
+            door_there = λ c x e. grind (arith, nat_tests, h.at_doors.door_there c x);
+            no_cancel = λ c x e. grind (arith, nat_tests, h.at_doors.no_cancel c x);
+            waiting_valid = λ c e. grind (arith, nat_tests, h.at_doors.waiting_valid c);
+            given_owner = λ c v e. grind (arith, nat_tests, h.at_doors.given_owner c v);
+            entered_owner = λ c v e. grind (arith, nat_tests, h.at_doors.entered_owner c v);
+          };
+      doors = h.doors;
+      bindings = h.bindings;
+      processes = processes_turn k.role k.process k.proc t _ h.processes (grind arith);
+      threads = h.threads;
+    }
 
 -- a thread enters the call that it was given
 abbrev pub entered_core : Core → ℕ → Call → Core
 entered_core k t r =
-    set_role (set_serves (set_call k r.number (without_arguments_at r (stage.Entered (tid t)))) t (Some (new_invocation (item.Call r.number)))) t is.Running
+    set_role (set_serves (set_call k r.number (without_arguments_at (stage.Entered (tid t)) r)) t (Some (new_invocation (item.Call r.number)))) t is.Running
 
 pub enter_keeps :
     (k : Core) (t : ℕ) (r : Call) → IsCoherent k → k.call r.number ≡ Some r → k.role t ≡ is.Given (item.Call r.number) →
     IsCoherent (entered_core k t r)
-enter_keeps k t r h q g = record {
-  given = λ c v e. grind (arith, nat_tests, h.given c v);
-  given_back = λ c v e. grind (arith, nat_tests, h.given_back c v);
-  entered = λ c v e. grind (arith, nat_tests, h.entered c v);
-  kept = λ c e. grind (arith, nat_tests, h.kept c);
-  entered_back = λ c v e f. grind (arith, nat_tests, h.entered_back c v);
-  notice_given = λ n v e. grind (arith, nat_tests, h.notice_given n v);
-  notice_given_back = λ n v e. grind (arith, nat_tests, h.notice_given_back n v);
-  notice_entered = λ n v e. grind (arith, nat_tests, h.notice_entered n v);
-  notice_entered_back = λ n v e. grind (arith, nat_tests, h.notice_entered_back n v);
-  caller = λ c v e. grind (arith, nat_tests, h.caller c v);
-  live = λ c v e. grind (arith, nat_tests, h.live c v);
-  calling = λ c e. grind (arith, nat_tests, h.calling c);
-  outside = λ v e. grind (arith, nat_tests, h.outside v);
-  below = λ c d v e f. grind (arith, nat_tests, h.below c d v);
-  arguments = λ c x e f. grind (arith, nat_tests, h.arguments c x);
-  waiting_valid = λ c e. grind (arith, nat_tests, h.waiting_valid c);
-  idle_valid = λ v d n e f. grind (arith, nat_tests, h.idle_valid v d n);
-  bound_own = λ v d e. grind (arith, nat_tests, h.bound_own v d);
-  bound_private = λ v d e. grind (arith, nat_tests, h.bound_private v d);
-  ended_done = λ v e. grind (arith, nat_tests, h.ended_done v);
-  call_number = λ c x e. grind (arith, nat_tests, h.call_number c x);
-  unmade = λ c e. grind (arith, nat_tests, h.unmade c);
-  served_made = λ c v e. grind (arith, nat_tests, h.served_made c v);
-  door_number = λ d x e. grind (arith, nat_tests, h.door_number d x);
-  thread_number = λ v n e. grind (arith, nat_tests, h.thread_number v n);
-  given_owner = λ c v e. grind (arith, nat_tests, h.given_owner c v);
-  entered_owner = λ c v e. grind (arith, nat_tests, h.entered_owner c v);
-}
+enter_keeps k t r h q g =
+    record {
+      waits =
+          record {
+            given = λ c v e. grind (arith, nat_tests, h.waits.given c v);
+            given_back = λ c v e. grind (arith, nat_tests, h.waits.given_back c v, h.waits.given_back r.number t);
+            caller = λ c v e. grind (arith, nat_tests, h.waits.caller c v);
+            live = λ c v e. grind (arith, nat_tests, h.waits.live c v);
+            calling = λ c e. grind (arith, nat_tests, h.waits.calling c, h.waits.given_back r.number t);
+          };
+      invocations =
+          record {
+            entered = λ c v e. grind (arith, nat_tests, h.invocations.entered c v, h.servers.outside t);
+            entered_back = λ c v e f. grind (arith, nat_tests, h.invocations.entered_back c v, h.waits.given_back r.number t);
+            kept = λ c e. grind (arith, nat_tests, h.invocations.kept c, h.waits.given_back r.number t);
+          };
+      notices_given = notices_turn k.role k.notice t _ h.notices_given (grind arith) refl;
+      notices_entered =
+          notices_serve k.serves k.notice t _ h.notices_entered (λ n e. grind (arith, h.servers.outside t)) (λ n e. grind arith);
+      servers =
+          record {
+            outside = λ v e. grind (arith, nat_tests, h.servers.outside v);
+            below = λ c d v e f. grind (arith, nat_tests, h.servers.below c d v);
+            served_made = λ c v e. grind (arith, nat_tests, h.servers.served_made c v, h.calls.unmade r.number);
+          };
+      calls = calls_move k.call k.made r _ h.calls q;
+      at_doors =
+          record {
+            door_there = λ c x e. grind (arith, nat_tests, h.at_doors.door_there c x, h.at_doors.door_there r.number r);
+            no_cancel = λ c x e. grind (arith, nat_tests, h.at_doors.no_cancel c x, h.at_doors.no_cancel r.number r);
+            waiting_valid = λ c e. grind (arith, nat_tests, h.at_doors.waiting_valid c);
+            given_owner = λ c v e. grind (arith, nat_tests, h.at_doors.given_owner c v);
+            entered_owner =
+                λ c v e. grind (arith, nat_tests, h.at_doors.entered_owner c v, h.at_doors.given_owner c v, h.waits.given_back r.number t);
+          };
+      doors = h.doors;
+      bindings = h.bindings;
+      processes = processes_turn k.role k.process k.proc t _ h.processes (grind arith);
+      threads = h.threads;
+    }
 
 -- a thread returns from its call, and is parked
 abbrev pub returned_core : Core → ℕ → Call → List ℕ → ℕ → Core
 returned_core k t r bytes since =
-    set_role (set_serves (set_call k r.number (without_arguments_at r (stage.Returned bytes []))) t None) t (is.Idle since)
-
-pub record Parks (k : Core) (t : ℕ) : Type 0 where
-  pub running : k.role t ≡ is.Running
-  pub valid : (d : ℕ) → k.bound t ≡ Some d → valid_in k (k.door d) ≡ true
+    set_role (set_serves (set_call k r.number (without_arguments_at (stage.Returned bytes []) r)) t None) t (is.Idle since)
 
 pub return_keeps :
-    (k : Core) (t : ℕ) (r : Call) (bytes : List ℕ) (since : ℕ) → IsCoherent k → Parks k t → k.call r.number ≡ Some r →
+    (k : Core) (t : ℕ) (r : Call) (bytes : List ℕ) (since : ℕ) → IsCoherent k → k.role t ≡ is.Running → k.call r.number ≡ Some r →
     item_in (k.serves t) ≡ Some (item.Call r.number) → r.abandoned ≡ false → IsCoherent (returned_core k t r bytes since)
-return_keeps k t r bytes since h p q s a = record {
-  given = λ c v e. grind (arith, nat_tests, h.given c v);
-  given_back = λ c v e. grind (arith, nat_tests, h.given_back c v);
-  entered = λ c v e. grind (arith, nat_tests, h.entered c v);
-  kept = λ c e. grind (arith, nat_tests, h.kept c);
-  entered_back = λ c v e f. grind (arith, nat_tests, h.entered_back c v);
-  notice_given = λ n v e. grind (arith, nat_tests, h.notice_given n v);
-  notice_given_back = λ n v e. grind (arith, nat_tests, h.notice_given_back n v);
-  notice_entered = λ n v e. grind (arith, nat_tests, h.notice_entered n v);
-  notice_entered_back = λ n v e. grind (arith, nat_tests, h.notice_entered_back n v);
-  caller = λ c v e. grind (arith, nat_tests, h.caller c v);
-  live = λ c v e. grind (arith, nat_tests, h.live c v);
-  calling = λ c e. grind (arith, nat_tests, h.calling c);
-  outside = λ v e. grind (arith, nat_tests, h.outside v);
-  below = λ c d v e f. grind (arith, nat_tests, h.below c d v);
-  arguments = λ c x e f. grind (arith, nat_tests, h.arguments c x);
-  waiting_valid = λ c e. grind (arith, nat_tests, h.waiting_valid c);
-  idle_valid = λ v d n e f. grind (arith, nat_tests, h.idle_valid v d n, p.valid d);
-  bound_own = λ v d e. grind (arith, nat_tests, h.bound_own v d);
-  bound_private = λ v d e. grind (arith, nat_tests, h.bound_private v d);
-  ended_done = λ v e. grind (arith, nat_tests, h.ended_done v);
-  call_number = λ c x e. grind (arith, nat_tests, h.call_number c x);
-  unmade = λ c e. grind (arith, nat_tests, h.unmade c);
-  served_made = λ c v e. grind (arith, nat_tests, h.served_made c v);
-  door_number = λ d x e. grind (arith, nat_tests, h.door_number d x);
-  thread_number = λ v n e. grind (arith, nat_tests, h.thread_number v n);
-  given_owner = λ c v e. grind (arith, nat_tests, h.given_owner c v);
-  entered_owner = λ c v e. grind (arith, nat_tests, h.entered_owner c v);
-}
+return_keeps k t r bytes since h p q s a =
+    record {
+      waits =
+          record {
+            given = λ c v e. grind (arith, nat_tests, h.waits.given c v);
+            given_back = λ c v e. grind (arith, nat_tests, h.waits.given_back c v, h.invocations.entered_back r.number t);
+            caller = λ c v e. grind (arith, nat_tests, h.waits.caller c v);
+            live = λ c v e. grind (arith, nat_tests, h.waits.live c v);
+            calling = λ c e. grind (arith, nat_tests, h.waits.calling c, h.invocations.entered_back r.number t);
+          };
+      invocations =
+          record {
+            entered = λ c v e. grind (arith, nat_tests, h.invocations.entered c v);
+            entered_back = λ c v e f. grind (arith, nat_tests, h.invocations.entered_back c v, h.invocations.entered_back r.number t);
+            kept = λ c e. grind (arith, nat_tests, h.invocations.kept c);
+          };
+      notices_given = notices_turn k.role k.notice t _ h.notices_given (grind arith) refl;
+      notices_entered = notices_serve k.serves k.notice t _ h.notices_entered (λ n e. grind arith) (λ n e. grind arith);
+      servers =
+          record {
+            outside = λ v e. grind (arith, nat_tests, h.servers.outside v);
+            below = λ c d v e f. grind (arith, nat_tests, h.servers.below c d v);
+            served_made = λ c v e. grind (arith, nat_tests, h.servers.served_made c v);
+          };
+      calls = calls_move k.call k.made r _ h.calls q;
+      at_doors = at_doors_move k.call k.door k.process r _ h.at_doors q refl;
+      doors = h.doors;
+      bindings = h.bindings;
+      processes = processes_turn k.role k.process k.proc t _ h.processes (grind arith);
+      threads = h.threads;
+    }
 
 -- a thread without a client is parked
 abbrev pub parked_core : Core → ℕ → ℕ → Core
 parked_core k t since = set_role (set_serves k t None) t (is.Idle since)
 
 pub park_keeps :
-    (k : Core) (t since : ℕ) → IsCoherent k → Parks k t →
+    (k : Core) (t since : ℕ) → IsCoherent k → k.role t ≡ is.Running →
     ((c : ℕ) → item_in (k.serves t) ≡ Some (item.Call c) → abandoned_in (k.call c) ≡ true) →
     ((n : ℕ) → item_in (k.serves t) ≡ Some (item.Notice n) → ⊥) → IsCoherent (parked_core k t since)
-park_keeps k t since h p q z = record {
-  given = λ c v e. grind (arith, nat_tests, h.given c v);
-  given_back = λ c v e. grind (arith, nat_tests, h.given_back c v);
-  entered = λ c v e. grind (arith, nat_tests, h.entered c v, q c);
-  kept = λ c e. grind (arith, nat_tests, h.kept c);
-  entered_back = λ c v e f. grind (arith, nat_tests, h.entered_back c v);
-  notice_given = λ n v e. grind (arith, nat_tests, h.notice_given n v);
-  notice_given_back = λ n v e. grind (arith, nat_tests, h.notice_given_back n v);
-  notice_entered = λ n v e. grind (arith, nat_tests, h.notice_entered n v, z n);
-  notice_entered_back = λ n v e. grind (arith, nat_tests, h.notice_entered_back n v);
-  caller = λ c v e. grind (arith, nat_tests, h.caller c v);
-  live = λ c v e. grind (arith, nat_tests, h.live c v);
-  calling = λ c e. grind (arith, nat_tests, h.calling c);
-  outside = λ v e. grind (arith, nat_tests, h.outside v);
-  below = λ c d v e f. grind (arith, nat_tests, h.below c d v);
-  arguments = λ c x e f. grind (arith, nat_tests, h.arguments c x);
-  waiting_valid = λ c e. grind (arith, nat_tests, h.waiting_valid c);
-  idle_valid = λ v d n e f. grind (arith, nat_tests, h.idle_valid v d n, p.valid d);
-  bound_own = λ v d e. grind (arith, nat_tests, h.bound_own v d);
-  bound_private = λ v d e. grind (arith, nat_tests, h.bound_private v d);
-  ended_done = λ v e. grind (arith, nat_tests, h.ended_done v);
-  call_number = λ c x e. grind (arith, nat_tests, h.call_number c x);
-  unmade = λ c e. grind (arith, nat_tests, h.unmade c);
-  served_made = λ c v e. grind (arith, nat_tests, h.served_made c v);
-  door_number = λ d x e. grind (arith, nat_tests, h.door_number d x);
-  thread_number = λ v n e. grind (arith, nat_tests, h.thread_number v n);
-  given_owner = λ c v e. grind (arith, nat_tests, h.given_owner c v);
-  entered_owner = λ c v e. grind (arith, nat_tests, h.entered_owner c v);
-}
+park_keeps k t since h p q z =
+    record {
+      waits =
+          record {
+            given = λ c v e. grind (arith, nat_tests, h.waits.given c v);
+            given_back = λ c v e. grind (arith, nat_tests, h.waits.given_back c v);
+            caller = λ c v e. grind (arith, nat_tests, h.waits.caller c v);
+            live = λ c v e. grind (arith, nat_tests, h.waits.live c v);
+            calling = λ c e. grind (arith, nat_tests, h.waits.calling c);
+          };
+      invocations =
+          record {
+            entered = λ c v e. grind (arith, nat_tests, h.invocations.entered c v, h.invocations.kept c, q c);
+            entered_back = λ c v e f. grind (arith, nat_tests, h.invocations.entered_back c v);
+            kept = h.invocations.kept;
+          };
+      notices_given = notices_turn k.role k.notice t _ h.notices_given (grind arith) refl;
+      notices_entered = notices_serve k.serves k.notice t _ h.notices_entered z (λ n e. grind arith);
+      servers =
+          record {
+            outside = λ v e. grind (arith, nat_tests, h.servers.outside v);
+            below = λ c d v e f. grind (arith, nat_tests, h.servers.below c d v);
+            served_made = λ c v e. grind (arith, nat_tests, h.servers.served_made c v);
+          };
+      calls = h.calls;
+      at_doors = h.at_doors;
+      doors = h.doors;
+      bindings = h.bindings;
+      processes = processes_turn k.role k.process k.proc t _ h.processes (grind arith);
+      threads = h.threads;
+    }
 
 -- a caller collects the answer of its call
 abbrev pub answered_core : Core → ℕ → Call → ℕ → Core
-answered_core k t r at = set_role (set_call k r.number (without_arguments_at r (stage.Answered at))) t is.Running
+answered_core k t r at = set_role (set_call k r.number (without_arguments_at (stage.Answered at) r)) t is.Running
 
 pub collect_keeps :
     (k : Core) (t : ℕ) (r : Call) (at : ℕ) → IsCoherent k → k.call r.number ≡ Some r → k.role t ≡ is.Calling r.number →
     is_to_collect r.stage ≡ true → IsCoherent (answered_core k t r at)
-collect_keeps k t r at h q g z = record {
-  given = λ c v e. grind (arith, nat_tests, h.given c v);
-  given_back = λ c v e. grind (arith, nat_tests, h.given_back c v);
-  entered = λ c v e. grind (arith, nat_tests, h.entered c v);
-  kept = λ c e. grind (arith, nat_tests, h.kept c);
-  entered_back = λ c v e f. grind (arith, nat_tests, h.entered_back c v);
-  notice_given = λ n v e. grind (arith, nat_tests, h.notice_given n v);
-  notice_given_back = λ n v e. grind (arith, nat_tests, h.notice_given_back n v);
-  notice_entered = λ n v e. grind (arith, nat_tests, h.notice_entered n v);
-  notice_entered_back = λ n v e. grind (arith, nat_tests, h.notice_entered_back n v);
-  caller = λ c v e. grind (arith, nat_tests, h.caller c v);
-  live = λ c v e. grind (arith, nat_tests, h.live c v);
-  calling = λ c e. grind (arith, nat_tests, h.calling c);
-  outside = λ v e. grind (arith, nat_tests, h.outside v);
-  below = λ c d v e f. grind (arith, nat_tests, h.below c d v);
-  arguments = λ c x e f. grind (arith, nat_tests, h.arguments c x);
-  waiting_valid = λ c e. grind (arith, nat_tests, h.waiting_valid c);
-  idle_valid = λ v d n e f. grind (arith, nat_tests, h.idle_valid v d n);
-  bound_own = λ v d e. grind (arith, nat_tests, h.bound_own v d);
-  bound_private = λ v d e. grind (arith, nat_tests, h.bound_private v d);
-  ended_done = λ v e. grind (arith, nat_tests, h.ended_done v);
-  call_number = λ c x e. grind (arith, nat_tests, h.call_number c x);
-  unmade = λ c e. grind (arith, nat_tests, h.unmade c);
-  served_made = λ c v e. grind (arith, nat_tests, h.served_made c v);
-  door_number = λ d x e. grind (arith, nat_tests, h.door_number d x);
-  thread_number = λ v n e. grind (arith, nat_tests, h.thread_number v n);
-  given_owner = λ c v e. grind (arith, nat_tests, h.given_owner c v);
-  entered_owner = λ c v e. grind (arith, nat_tests, h.entered_owner c v);
-}
+collect_keeps k t r at h q g z =
+    record {
+      waits =
+          record {
+            given = λ c v e. grind (arith, nat_tests, h.waits.given c v);
+            given_back = λ c v e. grind (arith, nat_tests, h.waits.given_back c v);
+            caller = λ c v e. grind (arith, nat_tests, h.waits.caller c v);
+            live = λ c v e. grind (arith, nat_tests, h.waits.live c v, h.waits.caller r.number t, h.waits.caller c v);
+            calling = λ c e. grind (arith, nat_tests, h.waits.calling c);
+          };
+      invocations =
+          record {
+            entered = λ c v e. grind (arith, nat_tests, h.invocations.entered c v);
+            entered_back = λ c v e f. grind (arith, nat_tests, h.invocations.entered_back c v);
+            kept = λ c e. grind (arith, nat_tests, h.invocations.kept c);
+          };
+      notices_given = notices_turn k.role k.notice t _ h.notices_given (grind arith) refl;
+      notices_entered = h.notices_entered;
+      servers =
+          record {
+            outside = λ v e. grind (arith, nat_tests, h.servers.outside v);
+            below = λ c d v e f. grind (arith, nat_tests, h.servers.below c d v);
+            served_made = h.servers.served_made;
+          };
+      calls = calls_move k.call k.made r _ h.calls q;
+      at_doors = at_doors_move k.call k.door k.process r _ h.at_doors q refl;
+      doors = h.doors;
+      bindings = h.bindings;
+      processes = processes_turn k.role k.process k.proc t _ h.processes (grind arith);
+      threads = h.threads;
+    }

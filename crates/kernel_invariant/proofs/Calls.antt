@@ -1,10 +1,10 @@
 -- Lists of calls whose numbers go up by one.
-use Rattle.std.specs.Prelude.{ℕ, ◌≡◌, ◌+◌, ◌<◌, ◌≤◌, List, [], ◌∷◌, ◌++◌, true, ◌==◌, if◌then◌else◌, Some, None, length, map, find, option_map}
+use Rattle.std.specs.Prelude.{ℕ, ◌≡◌, ◌+◌, ◌<◌, ◌≤◌, List, [], ◌∷◌, ◌++◌, Bool, true, false, ◌==◌, if◌then◌else◌, Some, None, length, map, find, option_map}
 use Rattle.std.proofs.Common.{refl, ◌∙◌}
 use native.Mathlib.Omega.{arith}
 use Rattle.std.proofs.lemmas.Bool.Decides.{nat_tests}
 use Rattle.written_kernel.specs.Types.{Call}
-use Rattle.written_kernel.specs.Words.{is_call, is_live, with_live_call}
+use Rattle.kernel_records.specs.Words.{change_first}
 use Rattle.kernel_invariant.specs.Records.{has_number}
 use Rattle.kernel_invariant.specs.Invariant.{IsInOrder}
 
@@ -20,52 +20,70 @@ pub find-past : (rs : List Call) (n c : ℕ) → IsInOrder n rs → n + length r
 find-past [] n c h l = refl
 find-past (x ∷ rs) n c h l = grind (arith, nat_tests, find-past rs (n + 1) c)
 
-pub find_call : (rs : List Call) (c : ℕ) (r : Call) → find (is_call c) rs ≡ Some r → (r.number ≡ c) × (is_live r.stage ≡ true)
-find_call [] c r e = grind arith
-find_call (x ∷ rs) c r e = grind (arith, nat_tests, find_call rs c r)
-
-pub find_call-number :
-    (rs : List Call) (n c : ℕ) (r : Call) → IsInOrder n rs → find (is_call c) rs ≡ Some r → find (has_number c) rs ≡ Some r
-find_call-number [] n c r h e = grind arith
-find_call-number (x ∷ rs) n c r h e =
-    grind (arith, nat_tests, find_call-number rs (n + 1) c r h.1, find_call rs c r, find-before rs (n + 1) c h.1, find-number rs c r)
-
-pub find_call_live :
-    (rs : List Call) (c : ℕ) (r : Call) → find (has_number c) rs ≡ Some r → is_live r.stage ≡ true →
-    find (is_call c) rs ≡ Some r
-find_call_live [] c r e l = grind arith
-find_call_live (x ∷ rs) c r e l = grind (arith, nat_tests, find_call_live rs c r)
-
 pub find-push :
     (rs : List Call) (n : ℕ) (r : Call) (j : ℕ) → IsInOrder n rs → r.number ≡ n + length rs + 1 →
     find (has_number j) (rs ++ r ∷ []) ≡ (if j == r.number then Some r else find (has_number j) rs)
 find-push [] n r j h e = grind (arith, nat_tests)
 find-push (x ∷ rs) n r j h e = grind (arith, nat_tests, find-push rs (n + 1) r j h.1)
 
-pub find-with_live_call :
-    (rs : List Call) (n c : ℕ) (r x : Call) (j : ℕ) → IsInOrder n rs → find (is_call c) rs ≡ Some r → x.number ≡ c →
-    find (has_number j) (with_live_call rs c x) ≡ (if j == c then Some x else find (has_number j) rs)
-find-with_live_call [] n c r x j h e f = grind arith
-find-with_live_call (y ∷ rs) n c r x j h e f =
-    grind (arith, nat_tests, find-with_live_call rs (n + 1) c r x j h.1, find_call-number rs (n + 1) c r h.1, find-before rs (n + 1) c h.1)
+pub IsInOrder-push : (rs : List Call) (n : ℕ) (r : Call) → IsInOrder n rs → r.number ≡ n + length rs + 1 → IsInOrder n (rs ++ r ∷ [])
+IsInOrder-push [] n r h e = (grind arith, tt)
+IsInOrder-push (x ∷ rs) n r h e = (h.0, IsInOrder-push rs (n + 1) r h.1 (grind arith))
+
+-- a call that a test finds
+
+module _ (test : Call → Bool) where
+  pub find-passes : (rs : List Call) (r : Call) → find test rs ≡ Some r → test r ≡ true
+  find-passes [] r e = grind arith
+  find-passes (x ∷ rs) r e = grind (arith, find-passes rs r)
+
+  -- is what its number finds
+  pub find-found : (rs : List Call) (n : ℕ) (r : Call) → IsInOrder n rs → find test rs ≡ Some r → find (has_number r.number) rs ≡ Some r
+  find-found [] n r h e = grind arith
+  find-found (x ∷ rs) n r h e = grind (arith, nat_tests, find-found rs (n + 1) r h.1, find-before rs (n + 1) r.number h.1)
+
+  -- what a number finds does not pass where the test finds none
+  pub find-none : (rs : List Call) (c : ℕ) (r : Call) → find test rs ≡ None → find (has_number c) rs ≡ Some r → test r ≡ false
+  find-none [] c r e f = grind arith
+  find-none (x ∷ rs) c r e f = grind (arith, nat_tests, find-none rs c r)
+
+  -- what a number finds, where only calls of that number pass
+  pub find-as :
+      (rs : List Call) (c : ℕ) (r : Call) → ((q : Call) → test q ≡ true → q.number ≡ c) → find (has_number c) rs ≡ Some r →
+      test r ≡ true → find test rs ≡ Some r
+  find-as [] c r g e f = grind arith
+  find-as (x ∷ rs) c r g e f = grind (arith, nat_tests, find-as rs c r g, g x)
+
+-- the first call that meets a test, changed
+
+module _ (test : Call → Bool) (change : Call → Call) where
+  pub change_first-none : (rs : List Call) → find test rs ≡ None → change_first test change rs ≡ rs
+  change_first-none [] e = refl
+  change_first-none (x ∷ rs) e = grind (arith, change_first-none rs)
+
+  pub length-change_first : (rs : List Call) → length (change_first test change rs) ≡ length rs
+  length-change_first [] = refl
+  length-change_first (x ∷ rs) = grind (arith, length-change_first rs)
+
+  module _ (same : (r : Call) → (change r).number ≡ r.number) where
+    pub IsInOrder-change_first : (rs : List Call) (n : ℕ) → IsInOrder n rs → IsInOrder n (change_first test change rs)
+    IsInOrder-change_first [] n h = h
+    IsInOrder-change_first (x ∷ rs) n h = grind (arith, IsInOrder-change_first rs (n + 1) h.1, same x)
+
+    pub find-change_first :
+        (rs : List Call) (n : ℕ) (r : Call) (j : ℕ) → IsInOrder n rs → find test rs ≡ Some r →
+        find (has_number j) (change_first test change rs) ≡ (if j == r.number then Some (change r) else find (has_number j) rs)
+    find-change_first [] n r j h e = grind arith
+    find-change_first (x ∷ rs) n r j h e =
+        grind (arith, nat_tests, find-change_first rs (n + 1) r j h.1, find-found test rs (n + 1) r h.1, find-before rs (n + 1) r.number h.1, same x)
+
+-- each call changed
 
 pub find-map :
     (f : Call → Call) → ((r : Call) → (f r).number ≡ r.number) → (rs : List Call) (c : ℕ) →
     find (has_number c) (map f rs) ≡ option_map f (find (has_number c) rs)
 find-map f g [] c = refl
 find-map f g (x ∷ rs) c = grind (arith, nat_tests, find-map f g rs c, g x)
-
-pub length-with_live_call : (rs : List Call) (c : ℕ) (x : Call) → length (with_live_call rs c x) ≡ length rs
-length-with_live_call [] c x = refl
-length-with_live_call (y ∷ rs) c x = grind (arith, length-with_live_call rs c x)
-
-pub IsInOrder-push : (rs : List Call) (n : ℕ) (r : Call) → IsInOrder n rs → r.number ≡ n + length rs + 1 → IsInOrder n (rs ++ r ∷ [])
-IsInOrder-push [] n r h e = (grind arith, tt)
-IsInOrder-push (x ∷ rs) n r h e = (h.0, IsInOrder-push rs (n + 1) r h.1 (grind arith))
-
-pub IsInOrder-with_live_call : (rs : List Call) (n c : ℕ) (x : Call) → IsInOrder n rs → x.number ≡ c → IsInOrder n (with_live_call rs c x)
-IsInOrder-with_live_call [] n c x h e = h
-IsInOrder-with_live_call (y ∷ rs) n c x h e = grind (arith, nat_tests, IsInOrder-with_live_call rs (n + 1) c x h.1 e)
 
 pub IsInOrder-map :
     (f : Call → Call) → ((r : Call) → (f r).number ≡ r.number) → (rs : List Call) (n : ℕ) → IsInOrder n rs →

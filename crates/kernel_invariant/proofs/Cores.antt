@@ -1,14 +1,18 @@
 -- Each writer of a state as a change of its core.
-use Rattle.std.specs.Prelude.{ℕ, ◌≡◌, ◌+◌, Option, true, ◌==◌, if◌then◌else◌, Some, None, length, is_some}
-use Rattle.std.proofs.Common.{refl, sym, ap, subst, ◌∙◌}
+use Rattle.std.specs.Prelude.{ℕ, ◌≡◌, ◌+◌, [], ◌∷◌, ◌++◌, Option, Bool, true, false, ◌==◌, if◌then◌else◌, Some, None, length, is_some, find, option_map}
+use Rattle.std.proofs.Common.{refl, ap, ◌∙◌}
 use native.Mathlib.Omega.{arith}
 use Rattle.std.proofs.lemmas.Bool.Decides.{nat_tests}
-use Rattle.written_kernel.specs.Types.{Call, Door, Inv, Thread, ThreadState}
-use Rattle.written_kernel.specs.Words.{State, call_of, thread_of, with_call, with_door, with_invocation, with_invocation_in, with_new_call, with_state, with_state_in}
+use Rattle.written_kernel.specs.Types.{Call, Door, Inv, Item, Thread, ThreadState}
+use Rattle.kernel_records.specs.declared.record.ThreadState.TheVariants as is
+use Rattle.kernel_records.specs.Words.{CallTree, ProcessTable, change_thread, end_thread, ended_thread, enter_thread, idle_thread, invocation_in, new_invocation, park_thread, process_in, set_thread_state, state_in, thread_at, thread_at_state, thread_in_invocation}
+use Rattle.dk_base.specs.ByNumber.{at_number}
+use Rattle.written_kernel.specs.Words.{State}
+use Rattle.kernel_invariant.specs.Records.{has_number}
 use Rattle.kernel_invariant.specs.Core.{Core, core, number_in}
-use Rattle.kernel_invariant.specs.Invariant.{IsInOrder}
-use Rattle.written_kernel.proofs.Lists.{at_number-renumbered_there, numbered_push}
-use Rattle.kernel_invariant.proofs.Calls.{find-with_live_call, find-push}
+use Rattle.written_kernel.proofs.Invocations.{invocation-end_thread, invocation-enter_thread, invocation-park_thread, invocation-set_thread_state}
+use Rattle.written_kernel.proofs.Lists.{numbered_push}
+use Rattle.written_kernel.proofs.Threads.{processes-change_thread, thread_at-change_thread}
 
 abbrev pub upd : {X : Type 0} → (ℕ → X) → ℕ → X → ℕ → X
 upd f i x j = if j == i then x else f j
@@ -54,99 +58,135 @@ same_core k l h = λ i. record {
   notice = λ t. h.notice t i;
 }
 
+-- one thread turns to a state, and then this is what threads serve
+
+pub record Turns (a b : ProcessTable) (t : ℕ) (s : ThreadState) (serves : ℕ → Option Inv) : Type 0 where
+  pub role : (u : ℕ) → state_in (thread_at b u) ≡ upd (λ v. state_in (thread_at a v)) t s u
+  pub invocation : (u : ℕ) → invocation_in (thread_at b u) ≡ serves u
+  pub process : (u : ℕ) → process_in (thread_at b u) ≡ process_in (thread_at a u)
+  pub number : (u : ℕ) → number_in (thread_at b u) ≡ number_in (thread_at a u)
+  pub processes : b.processes ≡ a.processes
+
 -- a thread of this number is there
-abbrev pub There : Core → ℕ → Type 0
-There k t = is_some (k.number t) ≡ true
+abbrev pub IsThere : ProcessTable → ℕ → Type 0
+IsThere table t = is_some (thread_at table t) ≡ true
 
-with_state_in-core :
-    (m : State) (t : ℕ) (s : ThreadState) (o : Option Thread) → thread_of m t ≡ o → is_some (number_in o) ≡ true →
-    SameCore (core (with_state_in m t s o)) (set_role (core m) t s)
-with_state_in-core m t s None e h = grind arith
-with_state_in-core m t s (Some x) e h = record {
-  role = λ u. grind (arith, nat_tests, at_number-renumbered_there m.threads t u (record x { state = s }) x e);
-  serves = λ u. grind (arith, nat_tests, at_number-renumbered_there m.threads t u (record x { state = s }) x e);
-  process = λ u. grind (arith, nat_tests, at_number-renumbered_there m.threads t u (record x { state = s }) x e);
-  number = λ u. grind (arith, nat_tests, at_number-renumbered_there m.threads t u (record x { state = s }) x e);
-  bound = λ u. refl;
-  door = λ u. refl;
-  proc = λ u. refl;
-  call = λ u. refl;
-  made = refl;
-  notice = λ u. refl;
-}
+module _ (table : ProcessTable) (t : ℕ) (change : Thread → Thread) where
+  read_change : {X : Type 0} (f : Option Thread → X) (u : ℕ) → f (thread_at (change_thread table t change) u) ≡ upd (λ v. f (thread_at table v)) t (f (option_map change (thread_at table t))) u
+  read_change f u = ap f (thread_at-change_thread table t u change) ∙ go (u == t)
+    where
+      go : (b : Bool) → f (if b then option_map change (thread_at table t) else thread_at table u) ≡ (if b then f (option_map change (thread_at table t)) else f (thread_at table u))
+      go true = refl
+      go false = refl
 
-pub with_state-core :
-    (m : State) (t : ℕ) (s : ThreadState) (k : Core) → core m ≡ k → There k t → core (with_state m t s) ≡ set_role k t s
-with_state-core m t s k e h =
-    let h' : There (core m) t = subst (λ (l : Core). There l t) (sym e) h in
-    same_core _ _ (with_state_in-core m t s (thread_of m t) refl h') ∙ ap (λ l. set_role l t s) e
+  -- a reader that does not see the change
+  read_same : {X : Type 0} (f : Option Thread → X) → ((o : Option Thread) → f (option_map change o) ≡ f o) → (u : ℕ) → f (thread_at (change_thread table t change) u) ≡ f (thread_at table u)
+  read_same f same u = read_change f u ∙ go (u == t) refl
+    where
+      go : (b : Bool) → (u == t) ≡ b → (if b then f (option_map change (thread_at table t)) else f (thread_at table u)) ≡ f (thread_at table u)
+      go true e = same (thread_at table t) ∙ ap (λ v. f (thread_at table v)) (grind (arith, nat_tests))
+      go false e = refl
 
-with_invocation_in-core :
-    (m : State) (t : ℕ) (v : Option Inv) (o : Option Thread) → thread_of m t ≡ o → is_some (number_in o) ≡ true →
-    SameCore (core (with_invocation_in m t v o)) (set_serves (core m) t v)
-with_invocation_in-core m t v None e h = grind arith
-with_invocation_in-core m t v (Some x) e h = record {
-  role = λ u. grind (arith, nat_tests, at_number-renumbered_there m.threads t u (record x { invocation = v }) x e);
-  serves = λ u. grind (arith, nat_tests, at_number-renumbered_there m.threads t u (record x { invocation = v }) x e);
-  process = λ u. grind (arith, nat_tests, at_number-renumbered_there m.threads t u (record x { invocation = v }) x e);
-  number = λ u. grind (arith, nat_tests, at_number-renumbered_there m.threads t u (record x { invocation = v }) x e);
-  bound = λ u. refl;
-  door = λ u. refl;
-  proc = λ u. refl;
-  call = λ u. refl;
-  made = refl;
-  notice = λ u. refl;
-}
+  change_turns :
+      (s : ThreadState) (serves : ℕ → Option Inv) → ((x : Thread) → (change x).state ≡ s) →
+      ((o : Option Thread) → process_in (option_map change o) ≡ process_in o) →
+      ((o : Option Thread) → number_in (option_map change o) ≡ number_in o) → IsThere table t →
+      ((u : ℕ) → invocation_in (thread_at (change_thread table t change) u) ≡ serves u) →
+      Turns table (change_thread table t change) t s serves
+  change_turns s serves state process number there invocations =
+      record {
+        role = λ u. read_change state_in u ∙ ap (λ r. upd (λ v. state_in (thread_at table v)) t r u) (go (thread_at table t) there);
+        invocation = invocations;
+        process = read_same process_in process;
+        number = read_same number_in number;
+        processes = processes-change_thread table t change;
+      }
+    where
+      go : (o : Option Thread) → is_some o ≡ true → state_in (option_map change o) ≡ s
+      go None e = grind arith
+      go (Some x) e = state x
 
-pub with_invocation-core :
-    (m : State) (t : ℕ) (v : Option Inv) (k : Core) → core m ≡ k → There k t →
-    core (with_invocation m t v) ≡ set_serves k t v
-with_invocation-core m t v k e h =
-    let h' : There (core m) t = subst (λ (l : Core). There l t) (sym e) h in
-    same_core _ _ (with_invocation_in-core m t v (thread_of m t) refl h') ∙ ap (λ l. set_serves l t v) e
+pub set_thread_state-turns :
+    (table : ProcessTable) (t : ℕ) (s : ThreadState) → IsThere table t →
+    Turns table (set_thread_state table t s) t s (λ u. invocation_in (thread_at table u))
+set_thread_state-turns table t s there =
+    change_turns table t (thread_at_state s) s _ (λ x. refl) process number there (λ u. invocation-set_thread_state table t u s)
+  where
+    process : (o : Option Thread) → process_in (option_map (thread_at_state s) o) ≡ process_in o
+    process None = refl
+    process (Some x) = refl
 
-pub with_call-core :
-    (m : State) (c : ℕ) (r x : Call) (k : Core) → IsInOrder 0 m.calls → call_of m c ≡ Some r → x.number ≡ c →
-    core m ≡ k → core (with_call m c x) ≡ set_call k c x
-with_call-core m c r x k h f n e =
+    number : (o : Option Thread) → number_in (option_map (thread_at_state s) o) ≡ number_in o
+    number None = refl
+    number (Some x) = refl
+
+pub enter_thread-turns :
+    (table : ProcessTable) (t : ℕ) (i : Item) → IsThere table t →
+    Turns table (enter_thread table t i) t is.Running (upd (λ u. invocation_in (thread_at table u)) t (Some (new_invocation i)))
+enter_thread-turns table t i there =
+    change_turns table t (thread_in_invocation i) is.Running _ (λ x. refl) process number there
+    (λ u. invocation-enter_thread table t u i ∙ grind arith)
+  where
+    process : (o : Option Thread) → process_in (option_map (thread_in_invocation i) o) ≡ process_in o
+    process None = refl
+    process (Some x) = refl
+
+    number : (o : Option Thread) → number_in (option_map (thread_in_invocation i) o) ≡ number_in o
+    number None = refl
+    number (Some x) = refl
+
+pub park_thread-turns :
+    (table : ProcessTable) (t now : ℕ) → IsThere table t →
+    Turns table (park_thread table t now) t (is.Idle now) (upd (λ u. invocation_in (thread_at table u)) t None)
+park_thread-turns table t now there =
+    change_turns table t (idle_thread now) (is.Idle now) _ (λ x. refl) process number there (invocation-park_thread table t now)
+  where
+    process : (o : Option Thread) → process_in (option_map (idle_thread now) o) ≡ process_in o
+    process None = refl
+    process (Some x) = refl
+
+    number : (o : Option Thread) → number_in (option_map (idle_thread now) o) ≡ number_in o
+    number None = refl
+    number (Some x) = refl
+
+pub end_thread-turns :
+    (table : ProcessTable) (t : ℕ) → IsThere table t →
+    Turns table (end_thread table t) t is.Done (upd (λ u. invocation_in (thread_at table u)) t None)
+end_thread-turns table t there =
+    change_turns table t ended_thread is.Done _ (λ x. refl) process number there (invocation-end_thread table t)
+  where
+    process : (o : Option Thread) → process_in (option_map ended_thread o) ≡ process_in o
+    process None = refl
+    process (Some x) = refl
+
+    number : (o : Option Thread) → number_in (option_map ended_thread o) ≡ number_in o
+    number None = refl
+    number (Some x) = refl
+
+-- an act that changes a thread and the calls
+pub act-core :
+    (m : State) (b : ProcessTable) (tree : CallTree) (t : ℕ) (s : ThreadState) (serves : ℕ → Option Inv) (call : ℕ → Option Call) →
+    Turns m.process_table b t s serves → ((c : ℕ) → find (has_number c) tree.calls ≡ call c) →
+    core (record m { process_table = b; call_tree = tree })
+    ≡ record (core m) { role = upd (core m).role t s; serves = serves; call = call; made = tree.made }
+act-core m b tree t s serves call h g =
     same_core _ _
     (record {
-      role = λ u. refl;
-      serves = λ u. refl;
-      process = λ u. refl;
-      number = λ u. refl;
+      role = h.role;
+      serves = h.invocation;
+      process = h.process;
+      number = h.number;
       bound = λ u. refl;
       door = λ u. refl;
-      proc = λ u. refl;
-      call = λ j. find-with_live_call m.calls 0 c r x j h f n;
+      proc = λ p. ap (λ xs. at_number xs p) h.processes;
+      call = g;
       made = refl;
       notice = λ u. refl;
     })
-    ∙ ap (λ l. set_call l c x) e
-
-pub with_new_call-core :
-    (m : State) (r : Call) (k : Core) → IsInOrder 0 m.calls → r.number ≡ length m.calls + 1 →
-    core m ≡ k → core (with_new_call m r) ≡ set_new_call k r
-with_new_call-core m r k h n e =
-    same_core _ _
-    (record {
-      role = λ u. refl;
-      serves = λ u. refl;
-      process = λ u. refl;
-      number = λ u. refl;
-      bound = λ u. refl;
-      door = λ u. refl;
-      proc = λ u. refl;
-      call = λ j. find-push m.calls 0 r j h (grind arith);
-      made = refl;
-      notice = λ u. refl;
-    })
-    ∙ ap (λ l. set_new_call l r) e
 
 pub with_door-core :
-    (m : State) (d : Door) (k : Core) → d.number ≡ length m.doors + 1 → core m ≡ k →
-    core (with_door m d) ≡ set_door k d
-with_door-core m d k n e =
+    (m : State) (d : Door) → d.number ≡ length m.doors + 1 → core (record m { doors = m.doors ++ d ∷ [] }) ≡ set_door (core m) d
+with_door-core m d n =
     same_core _ _
     (record {
       role = λ u. refl;
@@ -160,4 +200,3 @@ with_door-core m d k n e =
       made = refl;
       notice = λ u. refl;
     })
-    ∙ ap (λ l. set_door l d) e

@@ -1,47 +1,20 @@
 -- A door stays over an event, or is new and made by a Create of the event's thread.
-use Rattle.std.specs.Prelude.{ℕ, ◌≡◌, ◌+◌, ◌∷◌, ◌++◌, [], List, Option, Bool, true, false, ◌==◌, if◌then◌else◌, Some, None, length}
+use Rattle.std.specs.Prelude.{ℕ, ◌≡◌, ◌+◌, Option, Bool, true, false, ◌==◌, if◌then◌else◌, Some, None, length, option_map}
 use Rattle.std.proofs.Common.{refl, sym, subst}
 use native.Mathlib.Omega.{arith}
 use Rattle.std.proofs.lemmas.Bool.Decides.{nat_tests}
-use Rattle.written_kernel.specs.Types.{Attrs, Door, Fd, Item, PathId, Request, ThreadState}
+use Rattle.written_kernel.specs.Types.{Attrs, Call, Door, Errno, Item, Name, PathId, Request, ThreadState}
+use Rattle.dk_base.specs.declared.object.Item.TheVariants as item
 use Rattle.dk_base.specs.declared.request.Request.TheVariants as request
 use Rattle.kernel_records.specs.declared.record.ThreadState.TheVariants as is
 use Rattle.dk_base.specs.ByNumber.{at_number}
-use Rattle.written_kernel.specs.Words.{MayTurn, State, accept, act, attach, await, call, collect, create, create_at, door_of, enter, exit, go_on, lowest_free, new_door, open_path, process_of, return, state_of, step, table_of, with_state}
-use Rattle.written_kernel.proofs.Lists.{numbered_push, numbered_past}
+use Rattle.kernel_records.specs.Words.{is_given_as, is_last, new_door, with_door, with_owner_ended}
+use Rattle.written_kernel.specs.Words.{MayTurn, State, accept, accept_call, act, await, await_name, door_of, effect, enter, exit, find_call, go_on, leave_process, leave_thread, name_of, process_of, refusal_of, state_of, step, unless_refused}
+use Rattle.written_kernel.proofs.Lists.{at_number-map, numbered_push, numbered_past}
 use Rattle.kernel_invariant.specs.Invariant.{Invariant}
 use Rattle.kernel_invariant.specs.Events.{DoorArrow}
 use Rattle.kernel_invariant.specs.Events.DoorArrow.{none, kept, created}
 use Rattle.kernel_invariant.proofs.Steps.{StepDoes, step_does}
-
--- acts that leave every door as it is
-
-with_state_same : (m : State) (t : ℕ) (s : ThreadState) (d : ℕ) → door_of (with_state m t s) d ≡ door_of m d
-with_state_same m t s d = grind arith
-
-call_same : (m : State) (t p : ℕ) (fd : Fd) (bytes : List ℕ) (rsize : ℕ) (d : ℕ) → door_of (call m t p fd bytes rsize).state d ≡ door_of m d
-call_same m t p fd bytes rsize d = grind arith
-
-return_same : (m : State) (t : ℕ) (bytes : List ℕ) (d : ℕ) → door_of (return m t bytes).state d ≡ door_of m d
-return_same m t bytes d = grind arith
-
-attach_same : (m : State) (p : ℕ) (fd : Fd) (path : PathId) (d : ℕ) → door_of (attach m p fd path).state d ≡ door_of m d
-attach_same m p fd path d = grind arith
-
-open_same : (m : State) (p : ℕ) (path : PathId) (d : ℕ) → door_of (open_path m p path).state d ≡ door_of m d
-open_same m p path d = grind arith
-
-await_same : (m : State) (t : ℕ) (path : PathId) (d : ℕ) → door_of (await m t path).state d ≡ door_of m d
-await_same m t path d = grind arith
-
-exit_same : (m : State) (t p : ℕ) (d : ℕ) → door_of (exit m t p).state d ≡ door_of m d
-exit_same m t p d = grind arith
-
-accept_same : (m : State) (t : ℕ) (i : Item) (d : ℕ) → door_of (accept m t i).state d ≡ door_of m d
-accept_same m t i d = grind arith
-
-collect_same : (m : State) (t c : ℕ) (d : ℕ) → door_of (collect m t c).state d ≡ door_of m d
-collect_same m t c d = grind arith
 
 -- door d, from state m to state n
 
@@ -52,21 +25,18 @@ stays : (m : State) (t : ℕ) (q : Option Request) (o : Option Door) → DoorArr
 stays m t q None = none
 stays m t q (Some x) = kept x x (record { number = refl; owner = refl; entry = refl; cookie = refl; attrs = refl })
 
-same : (m : State) (t : ℕ) (q : Option Request) (n : State) (d : ℕ) → door_of n d ≡ door_of m d → Holds m t q n d
-same m t q n d e = subst (λ o. DoorArrow m t q (door_of m d) o) (sym e) (stays m t q (door_of m d))
-
 -- one more door
-pushed :
+create_holds :
     (m : State) (t entry cookie : ℕ) (attrs : Attrs) (d : ℕ) →
     DoorArrow m t (Some (request.Create entry cookie attrs)) (door_of m d)
-    (at_number (m.doors ++ new_door m (process_of m t) entry cookie attrs ∷ []) d)
-pushed m t entry cookie attrs d = subst (λ o. DoorArrow m t q (door_of m d) o) (sym (numbered_push m.doors x d)) (go (d == length m.doors + 1) refl)
+    (at_number (with_door m.doors (process_of m t) entry cookie attrs) d)
+create_holds m t entry cookie attrs d = subst (λ o. DoorArrow m t q (door_of m d) o) (sym (numbered_push m.doors x d)) (go (d == length m.doors + 1) refl)
   where
     q : Option Request
     q = Some (request.Create entry cookie attrs)
 
     x : Door
-    x = new_door m (process_of m t) entry cookie attrs
+    x = new_door (length m.doors + 1) (process_of m t) entry cookie attrs
 
     go : (b : Bool) → (d == length m.doors + 1) ≡ b → DoorArrow m t q (door_of m d) (if b then Some x else door_of m d)
     go false e = stays m t q (door_of m d)
@@ -74,39 +44,57 @@ pushed m t entry cookie attrs d = subst (λ o. DoorArrow m t q (door_of m d) o) 
         subst (λ o. DoorArrow m t q o (Some x)) (sym (numbered_past m.doors d (grind (arith, nat_tests))))
         (created x (record { request = refl; owner = refl }))
 
-create_holds :
-    (m : State) (t entry cookie : ℕ) (attrs : Attrs) (d : ℕ) →
-    Holds m t (Some (request.Create entry cookie attrs)) (create m (process_of m t) entry cookie attrs).state d
-create_holds m t entry cookie attrs d = go (lowest_free (table_of m (process_of m t)))
+await_holds : (m : State) (t : ℕ) (q : Option Request) (path : PathId) (d : ℕ) → Holds m t q (await m t path).state d
+await_holds m t q path d = go (name_of m path)
   where
-    go :
-        (o : Option ℕ) →
-        Holds m t (Some (request.Create entry cookie attrs))
-        (create_at m (process_of m t) (new_door m (process_of m t) entry cookie attrs) o).state d
-    go None = stays m t _ (door_of m d)
-    go (Some place) = pushed m t entry cookie attrs d
+    go : (o : Option Name) → Holds m t q (await_name m t path o).state d
+    go None = stays m t q (door_of m d)
+    go (Some n) = stays m t q (door_of m d)
+
+-- a door of a process that ends
+ended_holds : (m : State) (t : ℕ) (q : Option Request) (p : ℕ) (o : Option Door) → DoorArrow m t q o (option_map (with_owner_ended p) o)
+ended_holds m t q p None = none
+ended_holds m t q p (Some x) = go (x.owner.0 == p)
+  where
+    go : (b : Bool) → DoorArrow m t q (Some x) (Some (if b then record x { owner_ended = true } else x))
+    go true = kept x _ (record { number = refl; owner = refl; entry = refl; cookie = refl; attrs = refl })
+    go false = stays m t q (Some x)
+
+exit_holds : (m : State) (t : ℕ) (q : Option Request) (p d : ℕ) → Holds m t q (exit m t p).state d
+exit_holds m t q p d = go (is_last m.process_table t p)
+  where
+    go : (b : Bool) → Holds m t q (if b then leave_process m p else leave_thread m t) d
+    go true = subst (λ o. DoorArrow m t q (door_of m d) o) (sym (at_number-map (with_owner_ended p) m.doors d)) (ended_holds m t q p (door_of m d))
+    go false = stays m t q (door_of m d)
+
+effect_holds : (m : State) (t : ℕ) (r : Request) (d : ℕ) → Holds m t (Some r) (effect m t (process_of m t) r).state d
+effect_holds m t (request.Create entry cookie attrs) d = create_holds m t entry cookie attrs d
+effect_holds m t (request.Await path) d = await_holds m t _ path d
+effect_holds m t request.Exit d = exit_holds m t _ (process_of m t) d
+effect_holds m t r d = stays m t _ (door_of m d)
 
 enter_holds : (m : State) (t : ℕ) (r : Request) (d : ℕ) → Holds m t (Some r) (enter m t (process_of m t) r).state d
-enter_holds m t (request.Create entry cookie attrs) d = create_holds m t entry cookie attrs d
-enter_holds m t (request.Call fd bytes pass rsize) d =
-    same m t _ (call m t (process_of m t) fd bytes rsize).state d (call_same m t (process_of m t) fd bytes rsize d)
-enter_holds m t (request.Return bytes pass) d = same m t _ (return m t bytes).state d (return_same m t bytes d)
-enter_holds m t (request.Attach fd path) d =
-    same m t _ (attach m (process_of m t) fd path).state d (attach_same m (process_of m t) fd path d)
-enter_holds m t (request.Open path) d = same m t _ (open_path m (process_of m t) path).state d (open_same m (process_of m t) path d)
-enter_holds m t (request.Await path) d = same m t _ (await m t path).state d (await_same m t path d)
-enter_holds m t request.Exit d = same m t _ (exit m t (process_of m t)).state d (exit_same m t (process_of m t) d)
-enter_holds m t r d = stays m t _ (door_of m d)
+enter_holds m t r d = go (refusal_of m t (process_of m t) r)
+  where
+    go : (o : Option Errno) → Holds m t (Some r) (unless_refused m o (effect m t (process_of m t) r)).state d
+    go (Some x) = stays m t _ (door_of m d)
+    go None = effect_holds m t r d
 
-go_on_same : (m : State) (t : ℕ) (s : ThreadState) (d : ℕ) → door_of (go_on m t s).state d ≡ door_of m d
-go_on_same m t (is.Given i) d = accept_same m t i d
-go_on_same m t (is.Calling c) d = collect_same m t c d
-go_on_same m t (is.Awaiting path) d = with_state_same m t is.Running d
-go_on_same m t s d = refl
+accept_holds : (m : State) (t p : ℕ) (i : Item) (d : ℕ) → Holds m t None (accept m t p i).state d
+accept_holds m t p (item.Notice n) d = stays m t None (door_of m d)
+accept_holds m t p (item.Call c) d = go (find_call m (is_given_as c t))
+  where
+    go : (o : Option Call) → Holds m t None (accept_call m t c o).state d
+    go None = stays m t None (door_of m d)
+    go (Some r) = stays m t None (door_of m d)
+
+go_on_holds : (m : State) (t p : ℕ) (s : ThreadState) (d : ℕ) → Holds m t None (go_on m t p s).state d
+go_on_holds m t p (is.Given i) d = accept_holds m t p i d
+go_on_holds m t p s d = stays m t None (door_of m d)
 
 act_holds : (m : State) (t : ℕ) (q : Option Request) (d : ℕ) → Holds m t q (act m t q).state d
 act_holds m t (Some r) d = enter_holds m t r d
-act_holds m t None d = same m t None (go_on m t (state_of m t)).state d (go_on_same m t (state_of m t) d)
+act_holds m t None d = go_on_holds m t (process_of m t) (state_of m t) d
 
 -- what the kernel does after an act leaves every door as it is
 pub step_holds :

@@ -16,10 +16,10 @@ use Rattle.kernel_invariant.proofs.Answers.{Tells, act_tells, is_there}
 use Rattle.kernel_invariant.proofs.Waits.{step_accepted, step_collected}
 use Rattle.kernel_invariant.proofs.Refusals.{step_refused}
 
-step_tells : (m : State) (t : ℕ) (q : Option Request) → Invariant m → MayTurn m t q → IsToldBy m t q (step m t q).answer
+step_tells : (m : State) (t : ℕ) (q : Option Request) → Invariant m → IsToldBy m t q (step m t q).answer
 unfolding step
-step_tells m t q h may =
-    let k : Tells m t q (act m t q) = act_tells m t q h.consistent may in
+step_tells m t q h =
+    let k : Tells m t q (act m t q) = act_tells m t q h.consistent in
     k.told
 
 -- giving takes no call away
@@ -33,7 +33,7 @@ step_called :
 unfolding step
 step_called m t q c h may e =
     let d : StepDoes m t q = step_does m t q h may in
-    still_made _ _ (d.settled.gave.arrows c) (is_there m t q (act m t q) c (act_tells m t q h.consistent may) e)
+    still_made _ _ (d.settled.gave.arrows c) (is_there m t q (act m t q) c (act_tells m t q h.consistent) e)
 
 pub step_keeps : (m : State) (t : ℕ) (q : Option Request) → Invariant m → MayTurn m t q → Keeps m t q
 step_keeps m t q h may =
@@ -42,7 +42,7 @@ step_keeps m t q h may =
       arrows = λ c. step_arrows m t q c h may;
       invocations = λ u. step_serves m t q u h may;
       doors = λ d. step_holds m t q d h may;
-      told = step_tells m t q h may;
+      told = step_tells m t q h;
       called = λ c e. step_called m t q c h may e;
       accepted = λ c e f. step_accepted m t q c h may e f;
       collected = λ c e f. step_collected m t q c h may e f;

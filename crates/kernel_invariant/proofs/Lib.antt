@@ -1,5 +1,6 @@
 pub mod Calls
 pub mod Cores
+pub mod Parts
 pub mod CallMoves
 pub mod ThreadMoves
 pub mod Acts

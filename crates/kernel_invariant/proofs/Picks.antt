@@ -3,20 +3,21 @@ use Rattle.std.specs.Prelude.{ℕ, ◌≡◌, Option, Bool, true, false, if◌th
 use Rattle.std.proofs.Common.{refl, sym, ap, subst, ◌∙◌}
 use native.Mathlib.Omega.{arith}
 use Rattle.std.proofs.lemmas.Bool.Decides.{nat_tests}
-use Rattle.written_kernel.specs.Types.{Door, Thread, ThreadState}
+use Rattle.written_kernel.specs.Types.{Door, Parked, Pool, Thread, ThreadState}
 use Rattle.kernel_records.specs.declared.record.ThreadState.TheVariants as is
-use Rattle.written_kernel.specs.Words.{Parked, Pool, State, better_parked, bound_of, door_of, is_pool, later_parked, parked_at, parked_in, parked_thread, pick, pick_among, pool_in, pool_of, pool_of_door, pool_of_thread, process_of, state_of, thread_of}
-use Rattle.written_kernel.specs.Pools.Pool.{Common, Private}
+use Rattle.kernel_records.specs.declared.pool.Pool.TheVariants.{Common, Private}
+use Rattle.kernel_records.specs.Words.{better_parked, is_pool, is_valid_in, later_parked, parked_at, parked_in, parked_thread, pick_among, pid, pool_in, pool_of_door, pool_of_thread}
+use Rattle.written_kernel.specs.Words.{State, bound_of, door_of, pick, pool_of, process_of, state_of, thread_of}
 use Rattle.kernel_invariant.specs.Records.{owner_in}
-use Rattle.kernel_invariant.specs.Core.{Core, core, valid_in}
-use Rattle.kernel_invariant.specs.Invariant.{IsCoherent}
+use Rattle.kernel_invariant.specs.Core.{Core, core}
+use Rattle.kernel_invariant.specs.Coherent.{IsCoherent}
 
 abbrev pub pool_by : ℕ → Option ℕ → Pool
-pool_by p None = Common p
+pool_by p None = Common (pid p)
 pool_by p (Some d) = Private d
 
 pub record IsParked (m : State) (t : ℕ) (y : Parked) : Type 0 where
-  pub thread : y.thread ≡ t
+  pub thread : y.thread.0 ≡ t
   pub idle : state_of m t ≡ is.Idle y.since
   pub pool : y.pool ≡ pool_by (process_of m t) (bound_of m t)
 
@@ -26,35 +27,35 @@ pool_of_thread_by x (Some d) = refl
 
 parked_in_is :
     (t : ℕ) (pool : Pool) (s : ThreadState) (y : Parked) → parked_in t pool s ≡ Some y →
-    (y.thread ≡ t) × (y.pool ≡ pool) × (s ≡ is.Idle y.since)
+    (y.thread.0 ≡ t) × (y.pool ≡ pool) × (s ≡ is.Idle y.since)
 parked_in_is t pool (is.Idle since) y e = (grind arith, grind arith, grind arith)
 parked_in_is t pool _ y e = (grind arith, grind arith, grind arith)
 
-pub parked_is : (m : State) (t : ℕ) (y : Parked) → parked_at m t ≡ Some y → IsParked m t y
+pub parked_is : (m : State) (t : ℕ) (y : Parked) → parked_at m.process_table m.bindings t ≡ Some y → IsParked m t y
 parked_is m t y = go (thread_of m t) refl
   where
-    go : (o : Option Thread) → thread_of m t ≡ o → parked_thread m t o ≡ Some y → IsParked m t y
+    go : (o : Option Thread) → thread_of m t ≡ o → parked_thread m.bindings t o ≡ Some y → IsParked m t y
     go None f e = grind arith
     go (Some x) f e =
         let p = parked_in_is t (pool_of_thread x (bound_of m t)) x.state y e in
         record { thread = p.0; idle = grind arith; pool = p.1 ∙ pool_of_thread_by x (bound_of m t) ∙ grind arith }
 
 pub record IsPick (m : State) (pool : Pool) (y : Parked) : Type 0 where
-  pub parked : parked_at m y.thread ≡ Some y
+  pub parked : parked_at m.process_table m.bindings y.thread.0 ≡ Some y
   pub of_pool : is_pool pool y.pool ≡ true
 
 better_is :
     (m : State) (pool : Pool) (t : ℕ) (best : Option Parked) (y : Parked) → ((x : Parked) → best ≡ Some x → IsPick m pool x) →
-    better_parked pool best (parked_at m t) ≡ Some y → IsPick m pool y
-better_is m pool t best y h = go (parked_at m t) refl
+    better_parked pool best (parked_at m.process_table m.bindings t) ≡ Some y → IsPick m pool y
+better_is m pool t best y h = go (parked_at m.process_table m.bindings t) refl
   where
-    here : (x : Parked) → parked_at m t ≡ Some x → is_pool pool x.pool ≡ true → IsPick m pool x
+    here : (x : Parked) → parked_at m.process_table m.bindings t ≡ Some x → is_pool pool x.pool ≡ true → IsPick m pool x
     here x e f =
-        let same : x.thread ≡ t = (parked_is m t x e).thread in
-        record { parked = subst (λ (u : ℕ). parked_at m u ≡ Some x) (sym same) e; of_pool = f }
+        let same : x.thread.0 ≡ t = (parked_is m t x e).thread in
+        record { parked = subst (λ (u : ℕ). parked_at m.process_table m.bindings u ≡ Some x) (sym same) e; of_pool = f }
 
     later_is :
-        (b : Option Parked) (x : Parked) → best ≡ b → parked_at m t ≡ Some x → is_pool pool x.pool ≡ true → later_parked b x ≡ Some y →
+        (b : Option Parked) (x : Parked) → best ≡ b → parked_at m.process_table m.bindings t ≡ Some x → is_pool pool x.pool ≡ true → later_parked b x ≡ Some y →
         IsPick m pool y
     later_is None x e f g l = subst (λ z. IsPick m pool z) (grind arith) (here x f g)
     later_is (Some z) x e f g l = newer (nat_le z.since x.since) l
@@ -64,43 +65,43 @@ better_is m pool t best y h = go (parked_at m t) refl
         newer false l = h y (grind arith)
 
     in_pool :
-        (x : Parked) (c : Bool) → parked_at m t ≡ Some x → is_pool pool x.pool ≡ c → (if c then later_parked best x else best) ≡ Some y →
+        (x : Parked) (c : Bool) → parked_at m.process_table m.bindings t ≡ Some x → is_pool pool x.pool ≡ c → (if c then later_parked best x else best) ≡ Some y →
         IsPick m pool y
     in_pool x true f g l = later_is best x refl f g l
     in_pool x false f g l = h y l
 
-    go : (o : Option Parked) → parked_at m t ≡ o → better_parked pool best o ≡ Some y → IsPick m pool y
+    go : (o : Option Parked) → parked_at m.process_table m.bindings t ≡ o → better_parked pool best o ≡ Some y → IsPick m pool y
     go None f l = h y l
     go (Some x) f l = in_pool x (is_pool pool x.pool) f refl l
 
-pick_among_is : (m : State) (pool : Pool) (n : ℕ) (y : Parked) → pick_among m pool n ≡ Some y → IsPick m pool y
+pick_among_is : (m : State) (pool : Pool) (n : ℕ) (y : Parked) → pick_among m.process_table m.bindings pool n ≡ Some y → IsPick m pool y
 pick_among_is m pool zero y e = grind arith
-pick_among_is m pool (suc n) y e = better_is m pool (suc n) (pick_among m pool n) y (λ x f. pick_among_is m pool n x f) e
+pick_among_is m pool (suc n) y e = better_is m pool (suc n) (pick_among m.process_table m.bindings pool n) y (λ x f. pick_among_is m pool n x f) e
 
 pub pick_is : (m : State) (pool : Pool) (y : Parked) → pick m pool ≡ Some y → IsPick m pool y
-pick_is m pool y e = pick_among_is m pool (length m.threads) y e
+pick_is m pool y e = pick_among_is m pool (length m.process_table.threads) y e
 
 owner_of_pick :
     (k : Core) (d t : ℕ) (x : Door) (b : Option ℕ) → IsCoherent k → k.door d ≡ Some x → k.bound t ≡ b →
     is_pool (pool_of_door x) (pool_by (k.process t) b) ≡ true → owner_in (k.door d) ≡ Some (k.process t)
 owner_of_pick k d t x None h e f g = grind (arith, nat_tests)
-owner_of_pick k d t x (Some c) h e f g = grind (arith, nat_tests, h.bound_own t c, h.door_number d x)
+owner_of_pick k d t x (Some c) h e f g = grind (arith, nat_tests, h.bindings.bound_own t c, h.doors.door_number d x)
 
 -- a thread of the pool of a valid door is of the process that made the door
 pub pick_owner :
-    (m : State) (d : ℕ) (y : Parked) → IsCoherent (core m) → valid_in (core m) (door_of m d) ≡ true → pick m (pool_of m d) ≡ Some y →
-    owner_in (door_of m d) ≡ Some (process_of m y.thread)
+    (m : State) (d : ℕ) (y : Parked) → IsCoherent (core m) → is_valid_in (door_of m d) ≡ true → pick m (pool_of m d) ≡ Some y →
+    owner_in (door_of m d) ≡ Some (process_of m y.thread.0)
 pick_owner m d y h v e = go (door_of m d) refl v
   where
     p : IsPick m (pool_of m d) y
     p = pick_is m (pool_of m d) y e
 
-    i : IsParked m y.thread y
-    i = parked_is m y.thread y p.parked
+    i : IsParked m y.thread.0 y
+    i = parked_is m y.thread.0 y p.parked
 
-    go : (o : Option Door) → door_of m d ≡ o → valid_in (core m) o ≡ true → owner_in (door_of m d) ≡ Some (process_of m y.thread)
+    go : (o : Option Door) → door_of m d ≡ o → is_valid_in o ≡ true → owner_in (door_of m d) ≡ Some (process_of m y.thread.0)
     go None f w = grind arith
     go (Some x) f w =
         let of_pool : is_pool (pool_in (Some x)) y.pool ≡ true = ap (λ o. is_pool (pool_in o) y.pool) (sym f) ∙ p.of_pool in
-        owner_of_pick (core m) d y.thread x (bound_of m y.thread) h f refl
+        owner_of_pick (core m) d y.thread.0 x (bound_of m y.thread.0) h f refl
         (ap (λ z. is_pool (pool_of_door x) z) (sym i.pool) ∙ of_pool)

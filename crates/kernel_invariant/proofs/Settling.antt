@@ -1,22 +1,24 @@
 -- What the kernel does after an act: calls that wait are given to idle threads, until no pool has both.
-use Rattle.std.specs.Prelude.{ℕ, ◌≡◌, ◌+◌, ◌<◌, ◌≤◌, List, [], ◌∷◌, Option, Bool, true, false, ◌==◌, Some, None, length, map, filter, find, cond, All}
+use Rattle.std.specs.Prelude.{ℕ, ◌≡◌, ◌+◌, ◌<◌, ◌≤◌, List, [], ◌∷◌, Option, Bool, true, false, ◌==◌, Some, None, map, filter, find, cond, All}
 use Rattle.std.proofs.Common.{refl, sym, ap, subst, ◌∙◌, inl, inr}
 use native.Mathlib.Omega.{arith}
 use Rattle.std.proofs.lemmas.Bool.Decides.{nat_tests}
 use Rattle.dk_base.specs.declared.object.Item.TheVariants as item
-use Rattle.written_kernel.specs.Types.{Call, ThreadState}
+use Rattle.written_kernel.specs.Types.{Call, Parked, ThreadState}
 use Rattle.kernel_records.specs.declared.record.ThreadState.TheVariants as is
 use Rattle.kernel_records.specs.declared.record.CallStage.TheVariants as stage
-use Rattle.written_kernel.specs.Words.{Parked, State, at_stage, call_of, door_of, give_call, give_each, give_one, give_to, invocation_of, is_queued, is_queued_call, is_waiting_notice, pick, pool_of, settle, state_of, tid, waiting_call, waiting_items, waiting_notice, with_call, with_notices, with_state}
+use Rattle.kernel_records.specs.Words.{at_stage, is_queued, is_queued_as, is_queued_call, is_valid_in, is_waiting_notice, tid, waiting_call, waiting_notice, with_notices}
+use Rattle.written_kernel.specs.Words.{State, door_of, find_call, give_each, give_one, give_to, invocation_of, pick, pool_of, settle, state_of, waiting_items}
 use Rattle.kernel_invariant.specs.Records.{has_number, record_of}
-use Rattle.kernel_invariant.specs.Core.{Core, core, door_in, valid_in}
-use Rattle.kernel_invariant.specs.Invariant.{IsInOrder, IsCoherent, IsConsistent}
+use Rattle.kernel_invariant.specs.Core.{Core, core, door_in}
+use Rattle.kernel_invariant.specs.Coherent.{IsCoherent}
+use Rattle.kernel_invariant.specs.Invariant.{IsInOrder, IsConsistent}
 use Rattle.kernel_invariant.specs.Arrows.{ByGiving}
 use Rattle.kernel_invariant.specs.Arrows.ByGiving.{stays, gives}
-use Rattle.kernel_invariant.proofs.Calls.{find_call_live, IsInOrder-with_live_call, length-with_live_call}
-use Rattle.kernel_invariant.proofs.Cores.{upd, set_call, with_state-core, with_call-core}
+use Rattle.kernel_invariant.proofs.Calls.{IsInOrder-change_first, find-as, length-change_first}
+use Rattle.kernel_invariant.proofs.Cores.{Turns, set_thread_state-turns, upd}
 use Rattle.kernel_invariant.proofs.ThreadMoves.{given_core, Gives, give_keeps}
-use Rattle.kernel_invariant.proofs.Acts.{there, same_rest_then, consistent_from, SameCalls, with_state_calls}
+use Rattle.kernel_invariant.proofs.Acts.{act_consistent, change-core, there}
 use Rattle.kernel_invariant.proofs.Picks.{IsParked, pick_is, parked_is, pick_owner}
 use Rattle.written_kernel.proofs.Giving.{IsIn, IsApart, no_idle_for}
 use Rattle.std.proofs.lemmas.List.Elements.{All-nil, All-cons, All-map}
@@ -25,7 +27,7 @@ pub giving_then : (o p q : Option Call) → ByGiving o p → ByGiving p q → By
 giving_then o p q stays b = b
 giving_then o p q (gives r u e) b = go _ _ b refl
   where
-    go : (x y : Option Call) → ByGiving x y → x ≡ Some (at_stage r (stage.Given (tid u))) → ByGiving (Some r) y
+    go : (x y : Option Call) → ByGiving x y → x ≡ Some (at_stage (stage.Given (tid u)) r) → ByGiving (Some r) y
     go x y stays f = subst (λ z. ByGiving (Some r) z) (sym f) (gives r u e)
     go x y (gives s v g) f = grind arith
 
@@ -89,71 +91,59 @@ record GaveOne (m n : State) (r : Call) : Type 0 where
   gave : Gave m n
   others : (c : ℕ) → (c == r.number) ≡ false → record_of n c ≡ record_of m c
 
-given_does :
-    (m : State) (r : Call) (u : ℕ) → IsConsistent m → Gives (core m) r u → call_of m r.number ≡ Some r →
-    GaveOne m (with_state (with_call m r.number (at_stage r (stage.Given (tid u)))) u (is.Given (item.Call r.number))) r
-given_does m r u h g f =
+give_one_does :
+    (m : State) (r : Call) (u : ℕ) → IsConsistent m → Gives (core m) r u → GaveOne m (give_one m (item.Call r.number) u) r
+give_one_does m r u h g =
     record {
       gave =
           record {
             consistent =
-                consistent_from m n h
-                (same_rest_then m n1 n (record { tables = refl; processes = refl; notices = refl; bound = refl }) same.rest)
-                (subst (λ rs. IsInOrder 0 rs) (sym same.calls) (IsInOrder-with_live_call m.calls 0 r.number x h.in_order refl))
-                (ap length same.calls ∙ length-with_live_call m.calls r.number x ∙ h.counted ∙ sym same.made)
+                act_consistent m _ _ h turns.processes
+                (IsInOrder-change_first (is_queued_as r.number) change (λ y. refl) m.call_tree.calls 0 h.in_order)
+                (length-change_first (is_queued_as r.number) change m.call_tree.calls ∙ h.counted)
                 (subst IsCoherent (sym l) (give_keeps (core m) r u h.coherent g));
             arrows =
-                giving_at r.number x (λ c. record_of m c) (λ c. record_of n c) (λ c. ap (λ (k : Core). k.call c) l)
-                (subst (λ o. ByGiving o (Some x)) (sym g.found) (gives r u g.queued));
+                giving_at r.number (change r) (λ c. record_of m c) (λ c. record_of n c) (λ c. ap (λ (k : Core). k.call c) l)
+                (subst (λ o. ByGiving o (Some (change r))) (sym g.found) (gives r u g.queued));
             serves = λ t. ap (λ (k : Core). k.serves t) l;
             busy = λ t e. grind (arith, nat_tests, g.idle, ap (λ (k : Core). k.role t) l);
             done = λ t e. grind (arith, nat_tests, ap (λ (k : Core). k.role t) l);
-            doors = λ d. ap (λ (k : Core). k.door d) l;
+            doors = λ d. refl;
             processes = λ p. ap (λ (k : Core). k.proc p) l;
           };
       others = λ c e. grind (arith, ap (λ (k : Core). k.call c) l);
     }
   where
-    x : Call
-    x = at_stage r (stage.Given (tid u))
-
-    n1 : State
-    n1 = with_call m r.number x
+    change : Call → Call
+    change = at_stage (stage.Given (tid u))
 
     n : State
-    n = with_state n1 u (is.Given (item.Call r.number))
+    n = give_one m (item.Call r.number) u
 
-    same : SameCalls n1 n
-    same = with_state_calls n1 u (is.Given (item.Call r.number))
+    found : find_call m (is_queued_as r.number) ≡ Some r
+    found = find-as (is_queued_as r.number) m.call_tree.calls r.number r (λ y e. grind (arith, nat_tests)) g.found (grind (arith, nat_tests, g.queued))
+
+    turns : Turns m.process_table n.process_table u (is.Given (item.Call r.number)) (core m).serves
+    turns = set_thread_state-turns m.process_table u (is.Given (item.Call r.number)) (there m u (λ z. grind (arith, g.idle)))
 
     l : core n ≡ given_core (core m) r u
-    l = with_state-core n1 u (is.Given (item.Call r.number)) (set_call (core m) r.number x)
-        (with_call-core m r.number r x (core m) h.in_order f refl refl)
-        (there m u (λ z. grind (arith, g.idle)))
-
-give_one_does :
-    (m : State) (r : Call) (u : ℕ) → IsConsistent m → Gives (core m) r u → GaveOne m (give_one m (item.Call r.number) u) r
-give_one_does m r u h g =
-    subst (λ o. GaveOne m (with_state (give_call m u o) u (is.Given (item.Call r.number))) r) (sym found) (given_does m r u h g found)
-  where
-    found : call_of m r.number ≡ Some r
-    found = find_call_live m.calls r.number r g.found (grind (arith, g.queued))
+    l = change-core (is_queued_as r.number) change (λ y. refl) m u _ _ _ r h turns found
 
 give_to_does :
     (m : State) (r : Call) → IsConsistent m → record_of m r.number ≡ Some r → r.stage ≡ stage.Queued →
     GaveOne m (give_to m (waiting_call r) (pick m (pool_of m r.door))) r
 give_to_does m r h e q = go (pick m (pool_of m r.door)) refl
   where
-    valid : valid_in (core m) (door_of m r.door) ≡ true
+    valid : is_valid_in (door_of m r.door) ≡ true
     valid =
-        ap (λ o. valid_in (core m) (door_of m (door_in o))) (sym e)
-        ∙ h.coherent.waiting_valid r.number (grind arith)
+        ap (λ o. is_valid_in (door_of m (door_in o))) (sym e)
+        ∙ h.coherent.at_doors.waiting_valid r.number (grind arith)
 
     go : (o : Option Parked) → pick m (pool_of m r.door) ≡ o → GaveOne m (give_to m (waiting_call r) o) r
     go None f = record { gave = gave_nothing m h; others = λ c z. refl }
     go (Some y) f =
-        let p : IsParked m y.thread y = parked_is m y.thread y (pick_is m (pool_of m r.door) y f).parked in
-        give_one_does m r y.thread h
+        let p : IsParked m y.thread.0 y = parked_is m y.thread.0 y (pick_is m (pool_of m r.door) y f).parked in
+        give_one_does m r y.thread.0 h
         (record { since = y.since; idle = p.idle; found = e; queued = q; owner = pick_owner m r.door y h.coherent valid f })
 
 -- calls whose records are these, each waiting, with numbers that go up from above this one
@@ -201,15 +191,15 @@ pending_all m (r ∷ rs) n low h l f =
     go false e p q = p
     go true e p q = (grind (arith, h.0), here, grind arith, q)
 
-waits_of : (m : State) → m.notices ≡ [] → waiting_items m ≡ map waiting_call (filter is_queued_call m.calls)
+waits_of : (m : State) → m.notice_list.notices ≡ [] → waiting_items m ≡ map waiting_call (filter is_queued_call m.call_tree.calls)
 waits_of m e =
-    ap (λ ns. with_notices (map waiting_call (filter is_queued_call m.calls)) (map waiting_notice (filter is_waiting_notice ns))) e
+    ap (λ ns. with_notices (map waiting_call (filter is_queued_call m.call_tree.calls)) (map waiting_notice (filter is_waiting_notice ns))) e
 
-settle_gave : (m : State) → IsConsistent m → Gave m (settle m)
-settle_gave m h =
+settle_gave : (before m : State) → IsConsistent m → Gave m (settle before m)
+settle_gave before m h =
     subst (λ ws. Gave m (give_each m ws)) (sym (waits_of m h.unbuilt.no_notices))
-    (give_each_does (filter is_queued_call m.calls) 0 m h
-    (pending_all m m.calls 0 0 h.in_order (grind arith) (λ c l. refl)))
+    (give_each_does (filter is_queued_call m.call_tree.calls) 0 m h
+    (pending_all m m.call_tree.calls 0 0 h.in_order (grind arith) (λ c l. refl)))
 
 -- no pool is left with a waiting call and an idle thread
 
@@ -233,21 +223,21 @@ queued_all P (q ∷ qs) h = go (is_queued_call q) refl (queued_all P qs (λ r e 
     go true e a = All-cons P q (filter is_queued_call qs) (h q e (inl refl)) a
 
 all_given_out :
-    (m n : State) → n ≡ settle m → IsConsistent m → IsConsistent n → All (λ w. pick n (pool_of n w.door) ≡ None) (waiting_items n)
-all_given_out m n e h g =
+    (before m n : State) → n ≡ settle before m → IsConsistent m → IsConsistent n → All (λ w. pick n (pool_of n w.door) ≡ None) (waiting_items n)
+all_given_out before m n e h g =
     subst (λ ws. All (λ w. pick n (pool_of n w.door) ≡ None) ws) (sym (waits_of n g.unbuilt.no_notices))
-    (All-map (λ w. pick n (pool_of n w.door) ≡ None) waiting_call (filter is_queued_call n.calls)
-    (queued_all (λ r. pick n (pool_of n r.door) ≡ None) n.calls each))
+    (All-map (λ w. pick n (pool_of n w.door) ≡ None) waiting_call (filter is_queued_call n.call_tree.calls)
+    (queued_all (λ r. pick n (pool_of n r.door) ≡ None) n.call_tree.calls each))
   where
-    each : (r : Call) → is_queued r.stage ≡ true → IsIn r n.calls → pick n (pool_of n r.door) ≡ None
+    each : (r : Call) → is_queued r.stage ≡ true → IsIn r n.call_tree.calls → pick n (pool_of n r.door) ≡ None
     each r q i =
-        subst (λ k. IsIn r k.calls → pick k (pool_of k r.door) ≡ None) (sym e) (no_idle_for m (apart m.calls 0 h.in_order) r q) i
+        subst (λ k. IsIn r k.call_tree.calls → pick k (pool_of k r.door) ≡ None) (sym e) (no_idle_for before m (apart m.call_tree.calls 0 h.in_order) r q) i
 
 pub record Settles (m n : State) : Type 0 where
   pub gave : Gave m n
   pub given_out : All (λ w. pick n (pool_of n w.door) ≡ None) (waiting_items n)
 
-pub settle_does : (m : State) → IsConsistent m → Settles m (settle m)
-settle_does m h =
-    let g : Gave m (settle m) = settle_gave m h in
-    record { gave = g; given_out = all_given_out m (settle m) refl h g.consistent }
+pub settle_does : (before m : State) → IsConsistent m → Settles m (settle before m)
+settle_does before m h =
+    let g : Gave m (settle before m) = settle_gave before m h in
+    record { gave = g; given_out = all_given_out before m (settle before m) refl h g.consistent }

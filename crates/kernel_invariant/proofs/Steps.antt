@@ -1,18 +1,18 @@
 -- What an act does, and what the kernel does after it.
-use Rattle.std.specs.Prelude.{ℕ, ◌≡◌, ◌&&◌, not, Option, true, Some, None}
+use Rattle.std.specs.Prelude.{ℕ, ◌≡◌, Option, true, Some, None}
 use Rattle.std.proofs.Common.{refl, ◌∙◌, ap}
 use native.Mathlib.Omega.{arith}
-use Rattle.written_kernel.specs.Types.{Answer, Call, Door, Errno, Inv, Request, ThreadState}
+use Rattle.written_kernel.specs.Types.{Answer, Call, Errno, Inv, Request, ThreadState}
 use Rattle.dk_base.specs.declared.request.Request.TheVariants as request
 use Rattle.kernel_records.specs.declared.record.ThreadState.TheVariants as is
-use Rattle.written_kernel.specs.Words.{MayInside, MayTurn, State, act, door_of, enter, go_on, invocation_of, is_running, is_running_state, is_valid, is_valid_door, lives_in, process_of, settle, state_of, step, with_event_counted}
+use Rattle.kernel_records.specs.Words.{is_valid_in}
+use Rattle.written_kernel.specs.Words.{MayInside, MayTurn, State, act, bound_of, can_go_on, effect, enter, go_on, invocation_of, is_running, is_running_state, is_valid, process_of, refusal_of, settle, state_of, step, unless_refused, with_event_counted}
 use Rattle.kernel_invariant.specs.Records.{record_of}
-use Rattle.kernel_invariant.specs.Core.{core}
 use Rattle.kernel_invariant.specs.Invariant.{IsConsistent, Invariant}
 use Rattle.kernel_invariant.specs.Arrows.{ByAct, EndsBy, Arrow}
 use Rattle.kernel_invariant.specs.Arrows.ByAct.{stays, makes, enters, returns, ends, collects_results, collects_error}
 use Rattle.kernel_invariant.specs.Arrows.EndsBy.{door_invalid}
-use Rattle.kernel_invariant.proofs.Acts.{Does, does_nothing, create_does, attach_does, open_does, await_does, found_does}
+use Rattle.kernel_invariant.proofs.Acts.{Does, does_nothing, create_does, names_does, open_does, await_does, turned_to}
 use Rattle.kernel_invariant.proofs.CallActs.{call_does, return_does, accept_does, collect_does}
 use Rattle.kernel_invariant.proofs.Exits.{exit_does}
 use Rattle.kernel_invariant.proofs.Settling.{Settles, settle_does}
@@ -28,28 +28,38 @@ pub no_exit_inside : (o : Option Inv) → MayInside o request.Exit → o ≡ Non
 no_exit_inside None h = refl
 no_exit_inside (Some v) h = absurd h
 
+effect_does :
+    (m : State) (t : ℕ) (r : Request) → IsConsistent m → state_of m t ≡ is.Running → MayInside (invocation_of m t) r →
+    refusal_of m t (process_of m t) r ≡ None → Does m t (Some r) (effect m t (process_of m t) r)
+effect_does m t (request.Create entry cookie attrs) h e i f = create_does m t _ entry cookie attrs h e f
+effect_does m t (request.Call fd bytes pass rsize) h e i f = call_does m t rsize fd bytes pass h e f
+effect_does m t (request.Return bytes pass) h e i f = return_does m t (process_of m t) bytes pass h e
+effect_does m t (request.Attach fd path) h e i f = names_does m t _ _ _ h
+effect_does m t (request.Open path) h e i f = open_does m t _ path h e
+effect_does m t (request.Await path) h e i f = await_does m t _ path h e
+effect_does m t request.Exit h e i f = exit_does m t _ h e (no_exit_inside (invocation_of m t) i)
+effect_does m t r h e i f = does_nothing m t _ _ h
+
 enter_does :
     (m : State) (t : ℕ) (r : Request) → IsConsistent m → state_of m t ≡ is.Running → MayInside (invocation_of m t) r →
     Does m t (Some r) (enter m t (process_of m t) r)
-enter_does m t (request.Create entry cookie attrs) h e i = create_does m t _ entry cookie attrs h e
-enter_does m t (request.Call fd bytes pass rsize) h e i = call_does m t rsize fd bytes pass h e
-enter_does m t (request.Return bytes pass) h e i = return_does m t bytes pass h e
-enter_does m t (request.Attach fd path) h e i = attach_does m t _ (process_of m t) fd path h
-enter_does m t (request.Open path) h e i = open_does m t _ path h e
-enter_does m t (request.Await path) h e i = await_does m t _ path h e
-enter_does m t request.Exit h e i = exit_does m t _ h e (no_exit_inside (invocation_of m t) i)
-enter_does m t r h e i = does_nothing m t _ _ h
+enter_does m t r h e i = go (refusal_of m t (process_of m t) r) refl
+  where
+    go : (o : Option Errno) → refusal_of m t (process_of m t) r ≡ o → Does m t (Some r) (unless_refused m o (effect m t (process_of m t) r))
+    go (Some x) f = does_nothing m t _ _ h
+    go None f = effect_does m t r h e i f
 
 go_on_does :
-    (m : State) (t : ℕ) (s : ThreadState) → IsConsistent m → state_of m t ≡ s → Does m t None (go_on m t s)
-go_on_does m t (is.Given i) h e = accept_does m t i h e
-go_on_does m t (is.Calling c) h e = collect_does m t c h e
-go_on_does m t (is.Awaiting path) h e = found_does m t None path h e
-go_on_does m t s h e = does_nothing m t None _ h
+    (m : State) (t p : ℕ) (s : ThreadState) → IsConsistent m → state_of m t ≡ s → can_go_on m s ≡ true → Does m t None (go_on m t p s)
+go_on_does m t p (is.Given i) h e f = accept_does m t p i h e
+go_on_does m t p (is.Calling c) h e f = collect_does m t p c h e f
+go_on_does m t p (is.Awaiting path) h e f = turned_to m t None is.Running _ h (grind arith) refl
+go_on_does m t p (is.Working op input) h e f = turned_to m t None is.Running _ h (grind arith) refl
+go_on_does m t p s h e f = does_nothing m t None _ h
 
 pub act_does : (m : State) (t : ℕ) (q : Option Request) → IsConsistent m → MayTurn m t q → Does m t q (act m t q)
 act_does m t (Some r) h may = enter_does m t r h (running_is m t may.running) may.inside
-act_does m t None h may = go_on_does m t (state_of m t) h refl
+act_does m t None h may = go_on_does m t (process_of m t) (state_of m t) h refl may.runnable
 
 counted_keeps : (m : State) → IsConsistent m → IsConsistent (with_event_counted m)
 counted_keeps m h =
@@ -57,6 +67,7 @@ counted_keeps m h =
       in_order = h.in_order;
       counted = h.counted;
       coherent = h.coherent;
+      tables = h.tables;
       no_rows = h.no_rows;
       unbuilt = record { no_notices = h.unbuilt.no_notices; unbound = h.unbuilt.unbound };
     }
@@ -79,31 +90,30 @@ by_act_later m t q a n o before after h d (ends r e f) = ends r e (ends_later m 
 by_act_later m t q a n o before after h d (collects_results r bytes objects e f g k l) = collects_results r bytes objects e f g k l
 by_act_later m t q a n o before after h d (collects_error r e f g k l z) = collects_error r e f g k l z
 
-same_valid :
-    (m n : State) (d : ℕ) → door_of n d ≡ door_of m d → ((p : ℕ) → (core n).proc p ≡ (core m).proc p) → is_valid n d ≡ is_valid m d
-same_valid m n d e f = ap (is_valid_door n) e ∙ go (door_of m d)
-  where
-    go : (o : Option Door) → is_valid_door n o ≡ is_valid_door m o
-    go None = refl
-    go (Some x) = ap (λ o. not x.revoked && lives_in o) (f x.owner.0)
-
 -- what an act and the kernel after it do
 pub record StepDoes (m : State) (t : ℕ) (q : Option Request) : Type 0 where
   pub acted : Does m t q (act m t q)
-  pub settled : Settles (act m t q).state (settle (act m t q).state)
+  pub settled : Settles (act m t q).state (settle m (act m t q).state)
 
 pub step_does : (m : State) (t : ℕ) (q : Option Request) → Invariant m → MayTurn m t q → StepDoes m t q
 step_does m t q h may =
     let d : Does m t q (act m t q) = act_does m t q h.consistent may in
-    record { acted = d; settled = settle_does (act m t q).state d.consistent }
+    record { acted = d; settled = settle_does m (act m t q).state d.consistent }
 
 pub step_invariant : (m : State) (t : ℕ) (q : Option Request) → Invariant m → MayTurn m t q → Invariant (step m t q).state
 unfolding step
 step_invariant m t q h may =
-    record { consistent = counted_keeps (settle (act m t q).state) d.settled.gave.consistent; given_out = d.settled.given_out }
+    record {
+      consistent = counted_keeps (settle m (act m t q).state) d.settled.gave.consistent;
+      idle_valid = λ u e since f g. absurd (not_bound u e g);
+      given_out = d.settled.given_out;
+    }
   where
     d : StepDoes m t q
     d = step_does m t q h may
+
+    not_bound : (u e : ℕ) → bound_of (settle m (act m t q).state) u ≡ Some e → ⊥
+    not_bound u e f = grind (arith, d.settled.gave.consistent.unbuilt.unbound u)
 
 pub step_arrows :
     (m : State) (t : ℕ) (q : Option Request) (c : ℕ) → Invariant m → MayTurn m t q →
@@ -113,8 +123,8 @@ step_arrows m t q c h may =
     record {
       between = record_of (act m t q).state c;
       act =
-          by_act_later m t q (act m t q).answer (act m t q).state (with_event_counted (settle (act m t q).state)) _ _
-          (λ e. same_valid (act m t q).state (settle (act m t q).state) e (d.settled.gave.doors e) d.settled.gave.processes)
+          by_act_later m t q (act m t q).answer (act m t q).state (with_event_counted (settle m (act m t q).state)) _ _
+          (λ e. ap is_valid_in (d.settled.gave.doors e))
           d.settled.gave.done
           (d.acted.arrows c);
       giving = d.settled.gave.arrows c;

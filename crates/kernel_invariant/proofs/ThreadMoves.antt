@@ -1,6 +1,7 @@
 -- The other atomic changes of the core: a thread turns to another wait, a door is made, a call is given, threads leave, and
 -- a process ends. Each keeps what holds of a core.
-use Rattle.std.specs.Prelude.{ℕ, ◌≡◌, Bool, true, false, ◌==◌, ◌&&◌, if◌then◌else◌, Some, None, option_map}
+use Rattle.std.specs.Prelude.{ℕ, ◌≡◌, Bool, not, true, false, ◌==◌, ◌&&◌, if◌then◌else◌, Some, None, option_map}
+use Rattle.std.proofs.Common.{refl}
 use native.Mathlib.Omega.{arith}
 use Rattle.std.proofs.lemmas.Bool.Decides.{nat_tests}
 use Rattle.dk_base.specs.declared.error.Errno.TheVariants.{EBADF}
@@ -8,11 +9,12 @@ use Rattle.dk_base.specs.declared.object.Item.TheVariants as item
 use Rattle.written_kernel.specs.Types.{Call, Door, ThreadState}
 use Rattle.kernel_records.specs.declared.record.ThreadState.TheVariants as is
 use Rattle.kernel_records.specs.declared.record.CallStage.TheVariants as stage
-use Rattle.written_kernel.specs.Words.{at_stage, ended_process, is_owned, is_queued, tid, without_arguments_at}
+use Rattle.kernel_records.specs.Words.{at_stage, ended_process, is_live_in, is_owned_by, is_queued, tid, with_owner_ended, without_arguments_at}
 use Rattle.kernel_invariant.specs.Core.{Core}
-use Rattle.kernel_invariant.specs.Invariant.{IsCoherent}
+use Rattle.kernel_invariant.specs.Coherent.{IsCoherent}
 use Rattle.kernel_invariant.specs.Records.{owner_in}
 use Rattle.kernel_invariant.proofs.Cores.{set_role, set_serves, set_call, set_door}
+use Rattle.kernel_invariant.proofs.Parts.{notices_serve, notices_turn, processes_turn}
 
 -- states in which a thread is in no call but the one that it serves
 abbrev pub is_quiet : ThreadState → Bool
@@ -25,66 +27,65 @@ is_quiet _ = false
 pub turn_keeps :
     (k : Core) (t : ℕ) (s : ThreadState) → IsCoherent k → is_quiet (k.role t) ≡ true → is_quiet s ≡ true →
     IsCoherent (set_role k t s)
-turn_keeps k t s h p q = record {
-  given = λ c v e. grind (arith, nat_tests, h.given c v);
-  given_back = λ c v e. grind (arith, nat_tests, h.given_back c v);
-  entered = λ c v e. grind (arith, nat_tests, h.entered c v);
-  kept = λ c e. grind (arith, nat_tests, h.kept c);
-  entered_back = λ c v e f. grind (arith, nat_tests, h.entered_back c v);
-  notice_given = λ n v e. grind (arith, nat_tests, h.notice_given n v);
-  notice_given_back = λ n v e. grind (arith, nat_tests, h.notice_given_back n v);
-  notice_entered = λ n v e. grind (arith, nat_tests, h.notice_entered n v);
-  notice_entered_back = λ n v e. grind (arith, nat_tests, h.notice_entered_back n v);
-  caller = λ c v e. grind (arith, nat_tests, h.caller c v);
-  live = λ c v e. grind (arith, nat_tests, h.live c v);
-  calling = λ c e. grind (arith, nat_tests, h.calling c);
-  outside = λ v e. grind (arith, nat_tests, h.outside v);
-  below = λ c d v e f. grind (arith, nat_tests, h.below c d v);
-  arguments = λ c x e f. grind (arith, nat_tests, h.arguments c x);
-  waiting_valid = λ c e. grind (arith, nat_tests, h.waiting_valid c);
-  idle_valid = λ v d n e f. grind (arith, nat_tests, h.idle_valid v d n);
-  bound_own = λ v d e. grind (arith, nat_tests, h.bound_own v d);
-  bound_private = λ v d e. grind (arith, nat_tests, h.bound_private v d);
-  ended_done = λ v e. grind (arith, nat_tests, h.ended_done v);
-  call_number = λ c x e. grind (arith, nat_tests, h.call_number c x);
-  unmade = λ c e. grind (arith, nat_tests, h.unmade c);
-  served_made = λ c v e. grind (arith, nat_tests, h.served_made c v);
-  door_number = λ d x e. grind (arith, nat_tests, h.door_number d x);
-  thread_number = λ v n e. grind (arith, nat_tests, h.thread_number v n);
-  given_owner = λ c v e. grind (arith, nat_tests, h.given_owner c v);
-  entered_owner = λ c v e. grind (arith, nat_tests, h.entered_owner c v);
-}
+turn_keeps k t s h p q =
+    record {
+      waits =
+          record {
+            given = λ c v e. grind (arith, nat_tests, h.waits.given c v);
+            given_back = λ c v e. grind (arith, nat_tests, h.waits.given_back c v);
+            caller = λ c v e. grind (arith, nat_tests, h.waits.caller c v);
+            live = λ c v e. grind (arith, nat_tests, h.waits.live c v);
+            calling = λ c e. grind (arith, nat_tests, h.waits.calling c);
+          };
+      invocations = h.invocations;
+      notices_given = notices_turn k.role k.notice t s h.notices_given (grind arith) (grind arith);
+      notices_entered = h.notices_entered;
+      servers =
+          record {
+            outside = λ v e. grind (arith, nat_tests, h.servers.outside v);
+            below = λ c d v e f. grind (arith, nat_tests, h.servers.below c d v);
+            served_made = h.servers.served_made;
+          };
+      calls = h.calls;
+      at_doors = h.at_doors;
+      doors = h.doors;
+      bindings = h.bindings;
+      processes = processes_turn k.role k.process k.proc t s h.processes (grind arith);
+      threads = h.threads;
+    }
 
-pub door_keeps : (k : Core) (d : Door) → IsCoherent k → k.door d.number ≡ None → IsCoherent (set_door k d)
-door_keeps k d h p = record {
-  given = λ c v e. grind (arith, nat_tests, h.given c v);
-  given_back = λ c v e. grind (arith, nat_tests, h.given_back c v);
-  entered = λ c v e. grind (arith, nat_tests, h.entered c v);
-  kept = λ c e. grind (arith, nat_tests, h.kept c);
-  entered_back = λ c v e f. grind (arith, nat_tests, h.entered_back c v);
-  notice_given = λ n v e. grind (arith, nat_tests, h.notice_given n v);
-  notice_given_back = λ n v e. grind (arith, nat_tests, h.notice_given_back n v);
-  notice_entered = λ n v e. grind (arith, nat_tests, h.notice_entered n v);
-  notice_entered_back = λ n v e. grind (arith, nat_tests, h.notice_entered_back n v);
-  caller = λ c v e. grind (arith, nat_tests, h.caller c v);
-  live = λ c v e. grind (arith, nat_tests, h.live c v);
-  calling = λ c e. grind (arith, nat_tests, h.calling c);
-  outside = λ v e. grind (arith, nat_tests, h.outside v);
-  below = λ c d v e f. grind (arith, nat_tests, h.below c d v);
-  arguments = λ c x e f. grind (arith, nat_tests, h.arguments c x);
-  waiting_valid = λ c e. grind (arith, nat_tests, h.waiting_valid c);
-  idle_valid = λ v d n e f. grind (arith, nat_tests, h.idle_valid v d n);
-  bound_own = λ v d e. grind (arith, nat_tests, h.bound_own v d);
-  bound_private = λ v d e. grind (arith, nat_tests, h.bound_private v d);
-  ended_done = λ v e. grind (arith, nat_tests, h.ended_done v);
-  call_number = λ c x e. grind (arith, nat_tests, h.call_number c x);
-  unmade = λ c e. grind (arith, nat_tests, h.unmade c);
-  served_made = λ c v e. grind (arith, nat_tests, h.served_made c v);
-  door_number = λ d x e. grind (arith, nat_tests, h.door_number d x);
-  thread_number = λ v n e. grind (arith, nat_tests, h.thread_number v n);
-  given_owner = λ c v e. grind (arith, nat_tests, h.given_owner c v);
-  entered_owner = λ c v e. grind (arith, nat_tests, h.entered_owner c v);
-}
+pub door_keeps :
+    (k : Core) (d : Door) → IsCoherent k → k.door d.number ≡ None → d.owner_ended ≡ not (is_live_in (k.proc d.owner.0)) →
+    IsCoherent (set_door k d)
+door_keeps k d h p q =
+    record {
+      waits = h.waits;
+      invocations = h.invocations;
+      notices_given = h.notices_given;
+      notices_entered = h.notices_entered;
+      servers = h.servers;
+      calls = h.calls;
+      at_doors =
+          record {
+            door_there = λ c x e. grind (arith, nat_tests, h.at_doors.door_there c x);
+            no_cancel = λ c x e. grind (arith, nat_tests, h.at_doors.no_cancel c x, h.at_doors.door_there c x);
+            waiting_valid = λ c e. grind (arith, nat_tests, h.at_doors.waiting_valid c);
+            given_owner = λ c v e. grind (arith, nat_tests, h.at_doors.given_owner c v);
+            entered_owner = λ c v e. grind (arith, nat_tests, h.at_doors.entered_owner c v);
+          };
+      doors =
+          record {
+            door_number = λ e x f. grind (arith, nat_tests, h.doors.door_number e x);
+            owner_ended = λ e x f. grind (arith, nat_tests, h.doors.owner_ended e x);
+          };
+      bindings =
+          record {
+            bound_own = λ v e f. grind (arith, nat_tests, h.bindings.bound_own v e);
+            bound_private = λ v e f. grind (arith, nat_tests, h.bindings.bound_private v e);
+          };
+      processes = h.processes;
+      threads = h.threads;
+    }
 
 -- a thread without an invocation ends
 abbrev pub left_core : Core → ℕ → Core
@@ -92,39 +93,41 @@ left_core k t = set_role (set_serves k t None) t is.Done
 
 pub leave_keeps :
     (k : Core) (t : ℕ) → IsCoherent k → k.role t ≡ is.Running → k.serves t ≡ None → IsCoherent (left_core k t)
-leave_keeps k t h p q = record {
-  given = λ c v e. grind (arith, nat_tests, h.given c v);
-  given_back = λ c v e. grind (arith, nat_tests, h.given_back c v);
-  entered = λ c v e. grind (arith, nat_tests, h.entered c v);
-  kept = λ c e. grind (arith, nat_tests, h.kept c);
-  entered_back = λ c v e f. grind (arith, nat_tests, h.entered_back c v);
-  notice_given = λ n v e. grind (arith, nat_tests, h.notice_given n v);
-  notice_given_back = λ n v e. grind (arith, nat_tests, h.notice_given_back n v);
-  notice_entered = λ n v e. grind (arith, nat_tests, h.notice_entered n v);
-  notice_entered_back = λ n v e. grind (arith, nat_tests, h.notice_entered_back n v);
-  caller = λ c v e. grind (arith, nat_tests, h.caller c v);
-  live = λ c v e. grind (arith, nat_tests, h.live c v);
-  calling = λ c e. grind (arith, nat_tests, h.calling c);
-  outside = λ v e. grind (arith, nat_tests, h.outside v);
-  below = λ c d v e f. grind (arith, nat_tests, h.below c d v);
-  arguments = λ c x e f. grind (arith, nat_tests, h.arguments c x);
-  waiting_valid = λ c e. grind (arith, nat_tests, h.waiting_valid c);
-  idle_valid = λ v d n e f. grind (arith, nat_tests, h.idle_valid v d n);
-  bound_own = λ v d e. grind (arith, nat_tests, h.bound_own v d);
-  bound_private = λ v d e. grind (arith, nat_tests, h.bound_private v d);
-  ended_done = λ v e. grind (arith, nat_tests, h.ended_done v);
-  call_number = λ c x e. grind (arith, nat_tests, h.call_number c x);
-  unmade = λ c e. grind (arith, nat_tests, h.unmade c);
-  served_made = λ c v e. grind (arith, nat_tests, h.served_made c v);
-  door_number = λ d x e. grind (arith, nat_tests, h.door_number d x);
-  thread_number = λ v n e. grind (arith, nat_tests, h.thread_number v n);
-  given_owner = λ c v e. grind (arith, nat_tests, h.given_owner c v);
-  entered_owner = λ c v e. grind (arith, nat_tests, h.entered_owner c v);
-}
+leave_keeps k t h p q =
+    record {
+      waits =
+          record {
+            given = λ c v e. grind (arith, nat_tests, h.waits.given c v);
+            given_back = λ c v e. grind (arith, nat_tests, h.waits.given_back c v);
+            caller = λ c v e. grind (arith, nat_tests, h.waits.caller c v);
+            live = λ c v e. grind (arith, nat_tests, h.waits.live c v);
+            calling = λ c e. grind (arith, nat_tests, h.waits.calling c);
+          };
+      invocations =
+          record {
+            entered = λ c v e. grind (arith, nat_tests, h.invocations.entered c v);
+            entered_back = λ c v e f. grind (arith, nat_tests, h.invocations.entered_back c v);
+            kept = h.invocations.kept;
+          };
+      notices_given = notices_turn k.role k.notice t _ h.notices_given (grind arith) refl;
+      notices_entered = notices_serve k.serves k.notice t _ h.notices_entered (λ n e. grind arith) (λ n e. grind arith);
+      servers =
+          record {
+            outside = λ v e. grind (arith, nat_tests, h.servers.outside v);
+            below = λ c d v e f. grind (arith, nat_tests, h.servers.below c d v);
+            served_made = λ c v e. grind (arith, nat_tests, h.servers.served_made c v);
+          };
+      calls = h.calls;
+      at_doors = h.at_doors;
+      doors = h.doors;
+      bindings = h.bindings;
+      processes = processes_turn k.role k.process k.proc t _ h.processes (grind arith);
+      threads = h.threads;
+    }
 
 -- a waiting call is given to an idle thread of the process that made its door
 abbrev pub given_core : Core → Call → ℕ → Core
-given_core k r u = set_role (set_call k r.number (at_stage r (stage.Given (tid u)))) u (is.Given (item.Call r.number))
+given_core k r u = set_role (set_call k r.number (at_stage (stage.Given (tid u)) r)) u (is.Given (item.Call r.number))
 
 pub record Gives (k : Core) (r : Call) (u : ℕ) : Type 0 where
   pub since : ℕ
@@ -134,39 +137,53 @@ pub record Gives (k : Core) (r : Call) (u : ℕ) : Type 0 where
   pub owner : owner_in (k.door r.door) ≡ Some (k.process u)
 
 pub give_keeps : (k : Core) (r : Call) (u : ℕ) → IsCoherent k → Gives k r u → IsCoherent (given_core k r u)
-give_keeps k r u h p = record {
-  given = λ c v e. grind (arith, nat_tests, h.given c v);
-  given_back = λ c v e. grind (arith, nat_tests, h.given_back c v);
-  entered = λ c v e. grind (arith, nat_tests, h.entered c v);
-  kept = λ c e. grind (arith, nat_tests, h.kept c);
-  entered_back = λ c v e f. grind (arith, nat_tests, h.entered_back c v);
-  notice_given = λ n v e. grind (arith, nat_tests, h.notice_given n v);
-  notice_given_back = λ n v e. grind (arith, nat_tests, h.notice_given_back n v);
-  notice_entered = λ n v e. grind (arith, nat_tests, h.notice_entered n v);
-  notice_entered_back = λ n v e. grind (arith, nat_tests, h.notice_entered_back n v);
-  caller = λ c v e. grind (arith, nat_tests, h.caller c v);
-  live = λ c v e. grind (arith, nat_tests, h.live c v);
-  calling = λ c e. grind (arith, nat_tests, h.calling c);
-  outside = λ v e. grind (arith, nat_tests, h.outside v);
-  below = λ c d v e f. grind (arith, nat_tests, h.below c d v);
-  arguments = λ c x e f. grind (arith, nat_tests, h.arguments c x);
-  waiting_valid = λ c e. grind (arith, nat_tests, h.waiting_valid c);
-  idle_valid = λ v d n e f. grind (arith, nat_tests, h.idle_valid v d n);
-  bound_own = λ v d e. grind (arith, nat_tests, h.bound_own v d);
-  bound_private = λ v d e. grind (arith, nat_tests, h.bound_private v d);
-  ended_done = λ v e. grind (arith, nat_tests, h.ended_done v);
-  call_number = λ c x e. grind (arith, nat_tests, h.call_number c x);
-  unmade = λ c e. grind (arith, nat_tests, h.unmade c);
-  served_made = λ c v e. grind (arith, nat_tests, h.served_made c v);
-  door_number = λ d x e. grind (arith, nat_tests, h.door_number d x);
-  thread_number = λ v n e. grind (arith, nat_tests, h.thread_number v n);
-  given_owner = λ c v e. grind (arith, nat_tests, h.given_owner c v);
-  entered_owner = λ c v e. grind (arith, nat_tests, h.entered_owner c v);
-}
+give_keeps k r u h p =
+    record {
+      waits =
+          record {
+            given = λ c v e. grind (arith, nat_tests, h.waits.given c v);
+            given_back = λ c v e. grind (arith, nat_tests, h.waits.given_back c v);
+            caller = λ c v e. grind (arith, nat_tests, h.waits.caller c v);
+            live = λ c v e. grind (arith, nat_tests, h.waits.live c v);
+            calling = λ c e. grind (arith, nat_tests, h.waits.calling c);
+          };
+      invocations =
+          record {
+            entered = λ c v e. grind (arith, nat_tests, h.invocations.entered c v);
+            entered_back = λ c v e f. grind (arith, nat_tests, h.invocations.entered_back c v);
+            kept = λ c e. grind (arith, nat_tests, h.invocations.kept c);
+          };
+      notices_given = notices_turn k.role k.notice u _ h.notices_given (grind (arith, p.idle)) refl;
+      notices_entered = h.notices_entered;
+      servers =
+          record {
+            outside = λ v e. grind (arith, nat_tests, h.servers.outside v);
+            below = λ c d v e f. grind (arith, nat_tests, h.servers.below c d v);
+            served_made = h.servers.served_made;
+          };
+      calls =
+          record {
+            arguments = λ c x e f. grind (arith, nat_tests, h.calls.arguments c x);
+            call_number = λ c x e. grind (arith, nat_tests, h.calls.call_number c x);
+            unmade = λ c e. grind (arith, nat_tests, h.calls.unmade c);
+          };
+      at_doors =
+          record {
+            door_there = λ c x e. grind (arith, nat_tests, h.at_doors.door_there c x, h.at_doors.door_there r.number r);
+            no_cancel = λ c x e. grind (arith, nat_tests, h.at_doors.no_cancel c x, h.at_doors.no_cancel r.number r);
+            waiting_valid = λ c e. grind (arith, nat_tests, h.at_doors.waiting_valid c);
+            given_owner = λ c v e. grind (arith, nat_tests, h.at_doors.given_owner c v);
+            entered_owner = λ c v e. grind (arith, nat_tests, h.at_doors.entered_owner c v);
+          };
+      doors = h.doors;
+      bindings = h.bindings;
+      processes = processes_turn k.role k.process k.proc u _ h.processes (grind (arith, p.idle));
+      threads = h.threads;
+    }
 
 -- a process ends: its threads are done, and the calls that wait at its doors end
 abbrev pub ended_call_of : Core → ℕ → Call → Call
-ended_call_of k p r = if is_queued r.stage && is_owned p (k.door r.door) then without_arguments_at r (stage.Ended EBADF) else r
+ended_call_of k p r = if is_queued r.stage && is_owned_by p (k.door r.door) then without_arguments_at (stage.Ended EBADF) r else r
 
 abbrev pub ended_core : Core → ℕ → Core
 ended_core k p =
@@ -174,6 +191,7 @@ ended_core k p =
       role = λ t. if k.process t == p then is.Done else k.role t;
       serves = λ t. if k.process t == p then None else k.serves t;
       proc = λ q. if q == p then option_map ended_process (k.proc p) else k.proc q;
+      door = λ d. option_map (with_owner_ended p) (k.door d);
       call = λ c. option_map (ended_call_of k p) (k.call c);
     }
 
@@ -189,32 +207,62 @@ pub record Leaves (k : Core) (p : ℕ) : Type 0 where
   pub outside : (t : ℕ) → k.process t ≡ p → k.serves t ≡ None
 
 pub end_keeps : (k : Core) (p : ℕ) → IsCoherent k → Leaves k p → IsCoherent (ended_core k p)
-end_keeps k p h l = record {
-  given = λ c v e. grind (arith, nat_tests, h.given c v);
-  given_back = λ c v e. grind (arith, nat_tests, h.given_back c v);
-  entered = λ c v e. grind (arith, nat_tests, h.entered c v);
-  kept = λ c e. grind (arith, nat_tests, h.kept c);
-  entered_back = λ c v e f. grind (arith, nat_tests, h.entered_back c v);
-  notice_given = λ n v e. grind (arith, nat_tests, h.notice_given n v);
-  notice_given_back = λ n v e. grind (arith, nat_tests, h.notice_given_back n v);
-  notice_entered = λ n v e. grind (arith, nat_tests, h.notice_entered n v);
-  notice_entered_back = λ n v e. grind (arith, nat_tests, h.notice_entered_back n v);
-  caller = λ c v e. grind (arith, nat_tests, h.caller c v);
-  live = λ c v e. grind (arith, nat_tests, h.live c v);
-  calling = λ c e. grind (arith, nat_tests, h.calling c);
-  outside = λ v e. grind (arith, nat_tests, h.outside v);
-  below = λ c d v e f. grind (arith, nat_tests, h.below c d v);
-  arguments = λ c x e f. grind (arith, nat_tests, h.arguments c x);
-  waiting_valid = λ c e. grind (arith, nat_tests, h.waiting_valid c);
-  idle_valid = λ v d n e f. grind (arith, nat_tests, h.idle_valid v d n, h.bound_own v d);
-  bound_own = λ v d e. grind (arith, nat_tests, h.bound_own v d);
-  bound_private = λ v d e. grind (arith, nat_tests, h.bound_private v d);
-  ended_done = λ v e. grind (arith, nat_tests, h.ended_done v);
-  call_number = λ c x e. grind (arith, nat_tests, h.call_number c x);
-  unmade = λ c e. grind (arith, nat_tests, h.unmade c);
-  served_made = λ c v e. grind (arith, nat_tests, h.served_made c v);
-  door_number = λ d x e. grind (arith, nat_tests, h.door_number d x);
-  thread_number = λ v n e. grind (arith, nat_tests, h.thread_number v n);
-  given_owner = λ c v e. grind (arith, nat_tests, h.given_owner c v);
-  entered_owner = λ c v e. grind (arith, nat_tests, h.entered_owner c v);
-}
+end_keeps k p h l =
+    record {
+      waits =
+          record {
+            given = λ c v e. grind (arith, nat_tests, h.waits.given c v, l.states v);
+            given_back = λ c v e. grind (arith, nat_tests, h.waits.given_back c v);
+            caller = λ c v e. grind (arith, nat_tests, h.waits.caller c v);
+            live = λ c v e. grind (arith, nat_tests, h.waits.live c v);
+            calling = λ c e. grind (arith, nat_tests, h.waits.calling c, l.states);
+          };
+      invocations =
+          record {
+            entered = λ c v e. grind (arith, nat_tests, h.invocations.entered c v, l.outside v);
+            entered_back = λ c v e f. grind (arith, nat_tests, h.invocations.entered_back c v);
+            kept = λ c e. grind (arith, nat_tests, h.invocations.kept c);
+          };
+      notices_given =
+          record {
+            notice_given = λ n v e. grind (arith, nat_tests, h.notices_given.notice_given n v, l.states v);
+            notice_given_back = λ n v e. grind (arith, nat_tests, h.notices_given.notice_given_back n v);
+          };
+      notices_entered =
+          record {
+            notice_entered = λ n v e. grind (arith, nat_tests, h.notices_entered.notice_entered n v, l.outside v);
+            notice_entered_back = λ n v e. grind (arith, nat_tests, h.notices_entered.notice_entered_back n v);
+          };
+      servers =
+          record {
+            outside = λ v e. grind (arith, nat_tests, h.servers.outside v);
+            below = λ c d v e f. grind (arith, nat_tests, h.servers.below c d v);
+            served_made = λ c v e. grind (arith, nat_tests, h.servers.served_made c v);
+          };
+      calls =
+          record {
+            arguments = λ c x e f. grind (arith, nat_tests, h.calls.arguments c x);
+            call_number = λ c x e. grind (arith, nat_tests, h.calls.call_number c x);
+            unmade = λ c e. grind (arith, nat_tests, h.calls.unmade c);
+          };
+      at_doors =
+          record {
+            door_there = λ c x e. grind (arith, nat_tests, h.at_doors.door_there c);
+            no_cancel = λ c x e. grind (arith, nat_tests, h.at_doors.no_cancel c);
+            waiting_valid = λ c e. grind (arith, nat_tests, h.at_doors.waiting_valid c);
+            given_owner = λ c v e. grind (arith, nat_tests, h.at_doors.given_owner c v);
+            entered_owner = λ c v e. grind (arith, nat_tests, h.at_doors.entered_owner c v);
+          };
+      doors =
+          record {
+            door_number = λ d x e. grind (arith, nat_tests, h.doors.door_number d);
+            owner_ended = λ d x e. grind (arith, nat_tests, h.doors.owner_ended d);
+          };
+      bindings =
+          record {
+            bound_own = λ v d e. grind (arith, nat_tests, h.bindings.bound_own v d);
+            bound_private = λ v d e. grind (arith, nat_tests, h.bindings.bound_private v d);
+          };
+      processes = record { ended_done = λ v e. grind (arith, nat_tests, h.processes.ended_done v) };
+      threads = h.threads;
+    }

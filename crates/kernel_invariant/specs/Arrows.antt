@@ -9,7 +9,8 @@ use Rattle.dk_base.specs.declared.request.Request.TheVariants as request
 use Rattle.dk_base.specs.declared.answer.Answer.TheVariants as answer
 use Rattle.kernel_records.specs.declared.record.ThreadState.TheVariants as is
 use Rattle.kernel_records.specs.declared.record.CallStage.TheVariants as stage
-use Rattle.written_kernel.specs.Words.{State, at_stage, call_refusal, cookie_of, door_of, entry_of, is_valid, new_call, now, object_at, process_of, state_of, tid, without_arguments_at}
+use Rattle.kernel_records.specs.Words.{at_stage, cookie_of, entry_of, tid, without_arguments_at}
+use Rattle.written_kernel.specs.Words.{State, call_tests, door_of, first_refusal, is_valid, new_call, now, object_at, process_of, state_of}
 
 -- Why a call ends without results, by an event from state m to state n: a constructor for each cause. The caller does not
 -- end in the event.
@@ -25,36 +26,36 @@ pub data ByAct (m : State) (t : ℕ) (q : Option Request) (a : Answer) (n : Stat
   -- new to Queued, at a Call of its caller through a descriptor of a door, that is not refused
   makes :
       (d rsize : ℕ) (fd : Fd) (bytes : List ℕ) (pass : List Pass) → q ≡ Some (request.Call fd bytes pass rsize) →
-      object_at m (process_of m t) fd ≡ Some (obj.Door d) → call_refusal m d bytes ≡ None →
-      a ≡ answer.WaitCall (new_call m t d bytes rsize).number →
-      ByAct m t q a n None (Some (new_call m t d bytes rsize))
+      object_at m (process_of m t) fd ≡ Some (obj.Door d) → first_refusal (call_tests m (process_of m t) fd bytes pass) ≡ None →
+      a ≡ answer.WaitCall (new_call m t d bytes [] rsize).number →
+      ByAct m t q a n None (Some (new_call m t d bytes [] rsize))
   -- Given to Entered, at the accept of the thread that it was given to
   enters :
       (r : Call) → q ≡ None → state_of m t ≡ is.Given (item.Call r.number) → r.stage ≡ stage.Given (tid t) →
       a ≡ answer.Entered r.number (entry_of (door_of m r.door)) (cookie_of (door_of m r.door)) r.bytes [] →
-      ByAct m t q a n (Some r) (Some (without_arguments_at r (stage.Entered (tid t))))
+      ByAct m t q a n (Some r) (Some (without_arguments_at (stage.Entered (tid t)) r))
   -- Entered to Returned, at a Return of the thread that entered it, that is not refused
   returns :
       (r : Call) (bytes : List ℕ) (pass : List Pass) → q ≡ Some (request.Return bytes pass) →
       r.stage ≡ stage.Entered (tid t) → r.abandoned ≡ false → a ≡ answer.Wait →
-      ByAct m t q a n (Some r) (Some (without_arguments_at r (stage.Returned bytes [])))
+      ByAct m t q a n (Some r) (Some (without_arguments_at (stage.Returned bytes []) r))
   -- to Ended
   ends :
-      (r : Call) (e : Errno) → EndsBy m n r e → ByAct m t q a n (Some r) (Some (without_arguments_at r (stage.Ended e)))
+      (r : Call) (e : Errno) → EndsBy m n r e → ByAct m t q a n (Some r) (Some (without_arguments_at (stage.Ended e) r))
   -- Returned to Answered, at the collect of its caller
   collects_results :
       (r : Call) (bytes : List ℕ) (objects : List Obj) → q ≡ None → state_of m t ≡ is.Calling r.number → r.caller.0 ≡ t →
       r.stage ≡ stage.Returned bytes objects → a ≡ answer.Results bytes [] (nat_lt r.rsize (length bytes)) →
-      ByAct m t q a n (Some r) (Some (without_arguments_at r (stage.Answered (now m))))
+      ByAct m t q a n (Some r) (Some (without_arguments_at (stage.Answered (now m)) r))
   -- Ended to Answered, at the collect of its caller
   collects_error :
       (r : Call) (e : Errno) → q ≡ None → state_of m t ≡ is.Calling r.number → r.caller.0 ≡ t → r.stage ≡ stage.Ended e →
-      a ≡ answer.Failure e → ByAct m t q a n (Some r) (Some (without_arguments_at r (stage.Answered (now m))))
+      a ≡ answer.Failure e → ByAct m t q a n (Some r) (Some (without_arguments_at (stage.Answered (now m)) r))
 
 -- by the giving that follows any act
 pub data ByGiving : Option Call → Option Call → Type 0 where
   stays : {o : Option Call} → ByGiving o o
-  gives : (r : Call) (u : ℕ) → r.stage ≡ stage.Queued → ByGiving (Some r) (Some (at_stage r (stage.Given (tid u))))
+  gives : (r : Call) (u : ℕ) → r.stage ≡ stage.Queued → ByGiving (Some r) (Some (at_stage (stage.Given (tid u)) r))
 
 -- one event may take two: a new call is Queued and then Given
 pub record Arrow (m : State) (t : ℕ) (q : Option Request) (a : Answer) (n : State) (before after : Option Call) : Type 0 where

@@ -1,11 +1,12 @@
 -- What the invariant and the laws see of a state: functions of the numbers of threads, doors, processes and calls.
-use Rattle.std.specs.Prelude.{ℕ, Option, Bool, true, false, Some, None, not, ◌&&◌}
+use Rattle.std.specs.Prelude.{ℕ, Option, Bool, true, false, Some, None}
 use Rattle.written_kernel.specs.Types.{Call, CallStage, Door, Inv, Notice, NoticeStage, Process, ProcessStage, Thread, ThreadState}
 use Rattle.kernel_records.specs.declared.record.ProcessStage.TheVariants.{Live, Ended}
 use Rattle.kernel_records.specs.declared.record.ThreadState.TheVariants as is
 use Rattle.kernel_records.specs.declared.record.CallStage.TheVariants as stage
 use Rattle.dk_base.specs.ByNumber.{at_number}
-use Rattle.written_kernel.specs.Words.{State, bound_of, door_of, invocation_of, is_live, is_private, lives_in, process_of, state_of, thread_of}
+use Rattle.kernel_records.specs.Words.{is_live, is_private}
+use Rattle.written_kernel.specs.Words.{State, bound_of, door_of, invocation_of, process_of, state_of, thread_of}
 use Rattle.kernel_invariant.specs.Records.{record_of, owner_in}
 
 pub record Core : Type 0 where
@@ -39,10 +40,10 @@ core m =
       number = λ t. number_in (thread_of m t);
       bound = λ t. bound_of m t;
       door = λ d. door_of m d;
-      proc = λ p. at_number m.processes p;
+      proc = λ p. at_number m.process_table.processes p;
       call = λ c. record_of m c;
-      made = m.calls_made;
-      notice = λ n. notice_in (at_number m.notices n);
+      made = m.call_tree.made;
+      notice = λ n. notice_in (at_number m.notice_list.notices n);
     }
 
 -- of a call's record, if there is one
@@ -104,10 +105,6 @@ abbrev pub private_in : Option Door → Bool
 private_in None = false
 private_in (Some d) = is_private d.attrs
 
-abbrev pub valid_in : Core → Option Door → Bool
-valid_in k None = false
-valid_in k (Some d) = not d.revoked && lives_in (k.proc d.owner.0)
-
 -- the process that made the door of a call
-abbrev pub owner_at : Core → ℕ → Option ℕ
-owner_at k c = owner_in (k.door (door_in (k.call c)))
+abbrev pub owner_at : (ℕ → Option Call) → (ℕ → Option Door) → ℕ → Option ℕ
+owner_at call door c = owner_in (door (door_in (call c)))

@@ -7,7 +7,8 @@ use Rattle.dk_base.specs.declared.request.Request.TheVariants as request
 use Rattle.dk_base.specs.declared.answer.Answer.TheVariants as answer
 use Rattle.kernel_records.specs.declared.record.ThreadState.TheVariants as is
 use Rattle.kernel_records.specs.declared.record.CallStage.TheVariants as stage
-use Rattle.written_kernel.specs.Words.{State, door_of, invocation_of, new_invocation, process_of, state_of, step, tid, with_event_counted}
+use Rattle.kernel_records.specs.Words.{new_invocation, tid}
+use Rattle.written_kernel.specs.Words.{State, door_of, invocation_of, process_of, state_of, step, with_event_counted}
 use Rattle.kernel_invariant.specs.Records.{record_of, stage_of}
 use Rattle.kernel_invariant.specs.Invariant.{Invariant}
 use Rattle.kernel_invariant.specs.Arrows.{Arrow}
@@ -64,7 +65,7 @@ pub record IsCaller (m : State) (t : ℕ) : Type 0 where
 
 -- of which act an answer tells
 abbrev pub IsToldBy : State → ℕ → Option Request → Answer → Type 0
-IsToldBy m t q (answer.WaitCall c) = IsCallOf q c m.calls_made
+IsToldBy m t q (answer.WaitCall c) = IsCallOf q c m.call_tree.made
 IsToldBy m t q (answer.Entered c entry cookie bytes fds) = (q ≡ None) × (state_of m t ≡ is.Given (item.Call c))
 IsToldBy m t q (answer.EnteredNotice n entry cookie) = (q ≡ None) × (state_of m t ≡ is.Given (item.Notice n))
 IsToldBy m t q (answer.Results bytes fds grown) = (q ≡ None) × IsCaller m t

@@ -1,5 +1,6 @@
 pub mod Records
 pub mod Core
+pub mod Coherent
 pub mod Invariant
 pub mod Arrows
 pub mod Events

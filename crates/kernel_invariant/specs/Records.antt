@@ -8,7 +8,7 @@ has_number c r = r.number == c
 
 -- the record of a call, answered or not
 abbrev pub record_of : State → ℕ → Option Call
-record_of m c = find (has_number c) m.calls
+record_of m c = find (has_number c) m.call_tree.calls
 
 abbrev pub stage_in : Option Call → Option CallStage
 stage_in None = None

@@ -1,26 +1,23 @@
 -- What refuses a Call, and what a caller collects, has its cause in every run.
-use Rattle.std.specs.Prelude.{ℕ, ◌≡◌, ◌+◌, ◌≤◌, ◌↔◌, List, [], Option, Bool, true, false, Some, None, if◌then◌else◌, length, nat_le, nat_lt, slice_get}
+use Rattle.std.specs.Prelude.{ℕ, ◌≡◌, ◌+◌, ◌≤◌, ◌↔◌, List, [], Option, Bool, true, false, Some, None, length, nat_lt, slice_get}
 use Rattle.std.proofs.Common.{refl, sym, ap, subst, ◌∙◌}
 use native.Mathlib.Omega.{arith}
 use Rattle.std.proofs.lemmas.Option.{slice_get_within}
 use Rattle.written_kernel.specs.Types.{Answer, Call, CallStage, Errno, Fd, Obj, Pass, Request, ThreadState}
-use Rattle.dk_base.specs.declared.error.Errno.TheVariants.{E2BIG, EAGAIN, EBADF}
-use Rattle.dk_base.specs.declared.limits.TheConstants.{DATA_MAX, QUEUE_MAX}
-use Rattle.std.proofs.lemmas.Bool.Decides.{nat_tests}
-use Rattle.dk_base.specs.declared.object.Obj.TheVariants as obj
 use Rattle.dk_base.specs.declared.request.Request.TheVariants as request
 use Rattle.dk_base.specs.declared.answer.Answer.TheVariants as answer
 use Rattle.kernel_records.specs.declared.record.CallStage.TheVariants as stage
 use Rattle.kernel_records.specs.declared.record.ThreadState.TheVariants as is
-use Rattle.written_kernel.specs.Words.{State, Turn, call_object, call_refusal, call_unless, is_live, is_valid, new_call, object_at, pool_of, process_of, queue_length, state_at, state_of, step, tid}
+use Rattle.kernel_records.specs.Words.{is_live, tid}
+use Rattle.written_kernel.specs.Words.{State, Turn, door_named, make_call, new_call, object_at, process_of, state_at, state_of, step, unless_refused}
 use Rattle.kernel_invariant.specs.Records.{record_of, stage_in, stage_of}
 use Rattle.kernel_invariant.specs.Core.{caller_number, is_underway, live_in, underway_in}
 use Rattle.kernel_invariant.specs.Arrows.{EndsBy}
 use Rattle.kernel_invariant.specs.Arrows.EndsBy.{door_invalid as invalid}
-use Rattle.kernel_laws.specs.Places.{IsCollect, ReturnsCall, answer_at, process_at}
-use Rattle.kernel_laws.specs.Cause.{Cause, HasCause, IsCall, IsCaused, IsRefusedBy, Leaves, MakesOne, Refusal, TellsSame}
-use Rattle.kernel_laws.specs.Cause.Refusal.{no_door, not_valid, too_long, full_pool}
+use Rattle.kernel_laws.specs.Places.{IsCollect, IsRefusedBy, ReturnsCall, answer_at, process_at}
+use Rattle.kernel_laws.specs.Cause.{Cause, HasCause, IsCall, IsCaused, Leaves, MakesOne, TellsSame}
 use Rattle.kernel_laws.specs.Cause.Cause.{results, door_invalid}
+use Rattle.kernel_laws.proofs.Refusals.{entry_tells, none_of, refusal_at, refusal_of_table, table_of_refusal}
 use Rattle.kernel_laws.proofs.Changes.{over_rank, rank_in, underway_rank}
 use Rattle.kernel_laws.proofs.Known.{Known, invariant_before, never_less, rises_once, same_turn}
 use Rattle.kernel_laws.proofs.Story.{story}
@@ -30,94 +27,25 @@ use Rattle.kernel_laws.proofs.Readers.{AnsweredRowAt, EndedAt, ReturnedAt, ended
 use Rattle.kernel_laws.proofs.Once.{answered_by, collects, returned_before}
 use Rattle.kernel_laws.proofs.Match.{GoesOn, goes_on, made_by, returns_call, same_results}
 
--- the act's refusal is the first test that fails
-
-abbrev refusal_at : State → List ℕ → Option Obj → Option Errno
-refusal_at m bytes (Some (obj.Door d)) = call_refusal m d bytes
-refusal_at m bytes _ = Some EBADF
-
-abbrev refusal_of : State → List Turn → ℕ → Turn → Fd → List ℕ → Option Errno
-refusal_of m xs i x fd bytes = refusal_at (state_at m xs i) bytes (object_at (state_at m xs i) (process_at m xs i x.thread) fd)
-
-some_refusal : (e f : Errno) → Some e ≡ Some f → e ≡ f
-some_refusal e f h = cc
-
-door_refusal : (m : State) (d : ℕ) (bytes : List ℕ) (e : Errno) → call_refusal m d bytes ≡ Some e → Refusal m bytes (Some (obj.Door d)) e
-door_refusal m d bytes e h =
-    go (is_valid m d) (nat_lt DATA_MAX (length bytes)) (nat_le QUEUE_MAX (queue_length m (pool_of m d))) refl refl refl h
-  where
-    go :
-        (v l f : Bool) → is_valid m d ≡ v → nat_lt DATA_MAX (length bytes) ≡ l → nat_le QUEUE_MAX (queue_length m (pool_of m d)) ≡ f →
-        (if v then (if l then Some E2BIG else (if f then Some EAGAIN else None)) else Some EBADF) ≡ Some e →
-        Refusal m bytes (Some (obj.Door d)) e
-    go false l f a b c g = subst (Refusal m bytes (Some (obj.Door d))) (some_refusal _ _ g) (not_valid d refl a)
-    go true true f a b c g = subst (Refusal m bytes (Some (obj.Door d))) (some_refusal _ _ g) (too_long d refl a (grind (arith, nat_tests, b)))
-    go true false true a b c g =
-        subst (Refusal m bytes (Some (obj.Door d))) (some_refusal _ _ g) (full_pool d refl a (grind (arith, nat_tests, b)) (grind (arith, nat_tests, c)))
-    go true false false a b c g = absurd (cc g)
-
-first_refusal : (m : State) (bytes : List ℕ) (o : Option Obj) (e : Errno) → refusal_at m bytes o ≡ Some e → Refusal m bytes o e
-first_refusal m bytes (Some (obj.Door d)) e h = door_refusal m d bytes e h
-first_refusal m bytes None e h = subst (Refusal m bytes None) (some_refusal _ _ h) (no_door (λ d g. absurd (cc g)))
-first_refusal m bytes (Some (obj.Port n)) e h = subst (Refusal m bytes (Some (obj.Port n))) (some_refusal _ _ h) (no_door (λ d g. absurd (cc g)))
-first_refusal m bytes (Some (obj.PipeIn n)) e h = subst (Refusal m bytes (Some (obj.PipeIn n))) (some_refusal _ _ h) (no_door (λ d g. absurd (cc g)))
-first_refusal m bytes (Some (obj.PipeOut n)) e h = subst (Refusal m bytes (Some (obj.PipeOut n))) (some_refusal _ _ h) (no_door (λ d g. absurd (cc g)))
-
-no_door_refusal : (m : State) (bytes : List ℕ) (o : Option Obj) → ((d : ℕ) → o ≡ Some (obj.Door d) → ⊥) → refusal_at m bytes o ≡ Some EBADF
-no_door_refusal m bytes None h = refl
-no_door_refusal m bytes (Some (obj.Door d)) h = absurd (h d refl)
-no_door_refusal m bytes (Some (obj.Port n)) h = refl
-no_door_refusal m bytes (Some (obj.PipeIn n)) h = refl
-no_door_refusal m bytes (Some (obj.PipeOut n)) h = refl
-
-refusal_by : (m : State) (bytes : List ℕ) (o : Option Obj) (e : Errno) → Refusal m bytes o e → refusal_at m bytes o ≡ Some e
-refusal_by m bytes o e (no_door h) = no_door_refusal m bytes o h
-refusal_by m bytes o e (not_valid d h v) = ap (refusal_at m bytes) h ∙ grind (arith, v)
-refusal_by m bytes o e (too_long d h v l) = ap (refusal_at m bytes) h ∙ grind (arith, nat_tests, v, l)
-refusal_by m bytes o e (full_pool d h v l f) = ap (refusal_at m bytes) h ∙ grind (arith, nat_tests, v, l, f)
-
-none_of : (o : Option Errno) → ((e : Errno) → o ≡ Some e → ⊥) → o ≡ None
-none_of None h = refl
-none_of (Some e) h = absurd (h e refl)
-
--- what a Call answers, by its refusal
-
-data CallTells : Option Errno → Answer → Type 0 where
-  is_refused : (e : Errno) → CallTells (Some e) (answer.Failure e)
-  is_made : (c : ℕ) → CallTells None (answer.WaitCall c)
-
-unless_tells : (m : State) (t : ℕ) (r : Call) (o : Option Errno) → CallTells o (call_unless m t r o).answer
-unless_tells m t r (Some e) = is_refused e
-unless_tells m t r None = is_made r.number
-
-object_tells :
-    (m : State) (t : ℕ) (bytes : List ℕ) (rsize : ℕ) (o : Option Obj) →
-    CallTells (refusal_at m bytes o) (call_object m t bytes rsize o).answer
-object_tells m t bytes rsize None = is_refused EBADF
-object_tells m t bytes rsize (Some (obj.Door d)) = unless_tells m t (new_call m t d bytes rsize) (call_refusal m d bytes)
-object_tells m t bytes rsize (Some _) = is_refused EBADF
-
-step_tells :
-    (m : State) (t : ℕ) (fd : Fd) (bytes : List ℕ) (pass : List Pass) (rsize : ℕ) →
-    CallTells (refusal_at m bytes (object_at m (process_of m t) fd)) (step m t (Some (request.Call fd bytes pass rsize))).answer
-unfolding step
-step_tells m t fd bytes pass rsize = object_tells m t bytes rsize (object_at m (process_of m t) fd)
-
-refusal_told : (o : Option Errno) (a : Answer) (e : Errno) → CallTells o a → a ≡ answer.Failure e → o ≡ Some e
-refusal_told o a e (is_refused x) h = cc
-refusal_told o a e (is_made c) h = absurd (cc)
-
-told_refusal : (o : Option Errno) (a : Answer) (e : Errno) → CallTells o a → o ≡ Some e → a ≡ answer.Failure e
-told_refusal o a e (is_refused x) h = cc
-told_refusal o a e (is_made c) h = absurd (cc)
+-- a Call that is not refused answers the number of a call
 
 record IsMadeCall (a : Answer) : Type 0 where
   call : ℕ
   waits : a ≡ answer.WaitCall call
 
-told_call : (o : Option Errno) (a : Answer) → CallTells o a → o ≡ None → IsMadeCall a
-told_call o a (is_refused x) h = absurd (cc)
-told_call o a (is_made c) h = record { call = c; waits = refl }
+unless_makes : (m : State) (t : ℕ) (r : Call) (o : Option Errno) → o ≡ None → IsMadeCall (unless_refused m o (make_call m t r)).answer
+unless_makes m t r None h = record { call = r.number; waits = refl }
+unless_makes m t r (Some e) h = absurd (cc h)
+
+step_makes :
+    (m : State) (t : ℕ) (fd : Fd) (bytes : List ℕ) (pass : List Pass) (rsize : ℕ) →
+    refusal_at m bytes (object_at m (process_of m t) fd) ≡ None →
+    IsMadeCall (step m t (Some (request.Call fd bytes pass rsize))).answer
+unfolding step
+step_makes m t fd bytes pass rsize h =
+    unless_makes m t (new_call m t (door_named (object_at m (process_of m t) fd)) bytes [] rsize)
+    (refusal_at m bytes (object_at m (process_of m t) fd))
+    h
 
 -- records
 
@@ -156,26 +84,30 @@ not_gone : (o : Option Call) → live_in o ≡ true → stage_in o ≡ Some stag
 not_gone o e f = grind arith
 
 module _ (m : State) (xs : List Turn) (k : Known m xs) where
+  abbrev refusal_in : ℕ → Turn → Fd → List ℕ → Option Errno
+  refusal_in i x fd bytes = refusal_at (state_at m xs i) bytes (object_at (state_at m xs i) (process_at m xs i x.thread) fd)
+
   call_tells :
-      (i : ℕ) (x : Turn) (fd : Fd) (bytes : List ℕ) → IsCall m xs i x fd bytes →
-      CallTells (refusal_of m xs i x fd bytes) (answer_at m xs i x)
-  call_tells i x fd bytes h =
-      subst (λ q. CallTells (refusal_of m xs i x fd bytes) (step (state_at m xs i) x.thread q).answer) (sym h.request)
-      (step_tells (state_at m xs i) x.thread fd bytes h.pass h.rsize)
+      (i : ℕ) (x : Turn) (fd : Fd) (bytes : List ℕ) (e : Errno) → IsCall m xs i x fd bytes →
+      (answer_at m xs i x ≡ answer.Failure e) ↔ (refusal_in i x fd bytes ≡ Some e)
+  call_tells i x fd bytes e h =
+      entry_tells (state_at m xs i) x.thread x.request (request.Call fd bytes h.pass h.rsize) e h.request
 
   refused :
       (i : ℕ) (x : Turn) (fd : Fd) (bytes : List ℕ) (e : Errno) → IsCall m xs i x fd bytes →
-      (answer_at m xs i x ≡ answer.Failure e) ↔ IsRefusedBy m xs i x fd bytes e
+      (answer_at m xs i x ≡ answer.Failure e) ↔ IsRefusedBy m xs i x.thread fd bytes e
   refused i x fd bytes e h = (
-    λ a. first_refusal _ _ _ e (refusal_told (refusal_of m xs i x fd bytes) (answer_at m xs i x) e (call_tells i x fd bytes h) a),
-    λ r. told_refusal (refusal_of m xs i x fd bytes) (answer_at m xs i x) e (call_tells i x fd bytes h) (refusal_by _ _ _ e r),
+    λ a. table_of_refusal _ _ _ e ((call_tells i x fd bytes e h).0 a),
+    λ r. (call_tells i x fd bytes e h).1 (refusal_of_table _ _ _ e r),
   )
 
   not_refused :
       (i : ℕ) (x : Turn) (fd : Fd) (bytes : List ℕ) → IsCall m xs i x fd bytes →
-      ((e : Errno) → IsRefusedBy m xs i x fd bytes e → ⊥) → MakesOne m xs i x
+      ((e : Errno) → IsRefusedBy m xs i x.thread fd bytes e → ⊥) → MakesOne m xs i x
   not_refused i x fd bytes h e =
-      go (told_call (refusal_of m xs i x fd bytes) (answer_at m xs i x) (call_tells i x fd bytes h) (none_of _ (λ f g. e f (first_refusal _ _ _ f g))))
+      go
+      (subst (λ q. IsMadeCall (step (state_at m xs i) x.thread q).answer) (sym h.request)
+      (step_makes (state_at m xs i) x.thread fd bytes h.pass h.rsize (none_of _ (λ f g. e f (table_of_refusal _ _ _ f g)))))
     where
       go : IsMadeCall (answer_at m xs i x) → MakesOne m xs i x
       go a = record { call = a.call; makes = made_by m xs k i a.call x h.turn a.waits }
@@ -280,11 +212,11 @@ module _ (m : State) (xs : List Turn) (k : Known m xs) where
   gone :
       (i c : ℕ) (r : Call) → i ≤ length xs → record_of (state_at m xs i) c ≡ Some r → state_of (state_at m xs i) r.caller.0 ≡ is.Done →
       is_live r.stage ≡ false
-  gone i c r l e d = not_live _ r (state_of (state_at m xs i) r.caller.0) c e (λ h. subst (λ o. state_of (state_at m xs i) (caller_number o) ≡ is.Calling c) e ((k.invariant i l).consistent.coherent.calling c h)) d
+  gone i c r l e d = not_live _ r (state_of (state_at m xs i) r.caller.0) c e (λ h. subst (λ o. state_of (state_at m xs i) (caller_number o) ≡ is.Calling c) e ((k.invariant i l).consistent.coherent.waits.calling c h)) d
 
   gone_unanswered :
       (i c : ℕ) (x : Turn) → slice_get xs i ≡ Some x → IsCollect m xs i x c → stage_of (state_at m xs i) c ≡ Some stage.Gone → ⊥
-  gone_unanswered i c x e w g = not_gone _ ((invariant_before m xs k i x e).consistent.coherent.live c x.thread w.calling) g
+  gone_unanswered i c x e w g = not_gone _ ((invariant_before m xs k i x e).consistent.coherent.waits.live c x.thread w.calling) g
 
   pub cause_holds : HasCause m xs
   cause_holds =

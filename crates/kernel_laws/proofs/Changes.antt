@@ -10,7 +10,8 @@ use Rattle.dk_base.specs.declared.request.Request.TheVariants as request
 use Rattle.dk_base.specs.declared.answer.Answer.TheVariants as answer
 use Rattle.kernel_records.specs.declared.record.ThreadState.TheVariants as is
 use Rattle.kernel_records.specs.declared.record.CallStage.TheVariants as stage
-use Rattle.written_kernel.specs.Words.{State, at_stage, call_refusal, cookie_of, door_of, entry_of, new_call, now, object_at, process_of, state_of, tid, without_arguments_at}
+use Rattle.kernel_records.specs.Words.{at_stage, cookie_of, entry_of, tid, without_arguments_at}
+use Rattle.written_kernel.specs.Words.{State, call_tests, door_of, first_refusal, new_call, now, object_at, process_of, state_of}
 use Rattle.kernel_invariant.specs.Core.{has_arguments, underway_in}
 use Rattle.kernel_invariant.specs.Arrows.{Arrow, ByAct, ByGiving, EndsBy}
 use Rattle.kernel_invariant.specs.Arrows.ByAct.{stays, makes, enters, returns, ends, collects_results, collects_error}
@@ -22,27 +23,27 @@ use Rattle.kernel_laws.specs.Places.{is_answered_in, is_entered_in, is_returned_
 pub data Change (m : State) (t : ℕ) (q : Option Request) (a : Answer) (n : State) : Option Call → Option Call → Type 0 where
   made :
       (d rsize : ℕ) (fd : Fd) (bytes : List ℕ) (pass : List Pass) (s : CallStage) → q ≡ Some (request.Call fd bytes pass rsize) →
-      object_at m (process_of m t) fd ≡ Some (obj.Door d) → call_refusal m d bytes ≡ None →
-      a ≡ answer.WaitCall (new_call m t d bytes rsize).number → has_arguments s ≡ true →
-      Change m t q a n None (Some (at_stage (new_call m t d bytes rsize) s))
-  given : (r : Call) (u : ℕ) → r.stage ≡ stage.Queued → Change m t q a n (Some r) (Some (at_stage r (stage.Given (tid u))))
+      object_at m (process_of m t) fd ≡ Some (obj.Door d) → first_refusal (call_tests m (process_of m t) fd bytes pass) ≡ None →
+      a ≡ answer.WaitCall (new_call m t d bytes [] rsize).number → has_arguments s ≡ true →
+      Change m t q a n None (Some (at_stage s (new_call m t d bytes [] rsize)))
+  given : (r : Call) (u : ℕ) → r.stage ≡ stage.Queued → Change m t q a n (Some r) (Some (at_stage (stage.Given (tid u)) r))
   entered :
       (r : Call) → q ≡ None → state_of m t ≡ is.Given (item.Call r.number) → r.stage ≡ stage.Given (tid t) →
       a ≡ answer.Entered r.number (entry_of (door_of m r.door)) (cookie_of (door_of m r.door)) r.bytes [] →
-      Change m t q a n (Some r) (Some (without_arguments_at r (stage.Entered (tid t))))
+      Change m t q a n (Some r) (Some (without_arguments_at (stage.Entered (tid t)) r))
   returned :
       (r : Call) (bytes : List ℕ) (pass : List Pass) → q ≡ Some (request.Return bytes pass) →
       r.stage ≡ stage.Entered (tid t) → r.abandoned ≡ false → a ≡ answer.Wait →
-      Change m t q a n (Some r) (Some (without_arguments_at r (stage.Returned bytes [])))
+      Change m t q a n (Some r) (Some (without_arguments_at (stage.Returned bytes []) r))
   ended :
-      (r : Call) (e : Errno) → EndsBy m n r e → Change m t q a n (Some r) (Some (without_arguments_at r (stage.Ended e)))
+      (r : Call) (e : Errno) → EndsBy m n r e → Change m t q a n (Some r) (Some (without_arguments_at (stage.Ended e) r))
   results_collected :
       (r : Call) (bytes : List ℕ) (objects : List Obj) → q ≡ None → state_of m t ≡ is.Calling r.number → r.caller.0 ≡ t →
       r.stage ≡ stage.Returned bytes objects → a ≡ answer.Results bytes [] (nat_lt r.rsize (length bytes)) →
-      Change m t q a n (Some r) (Some (without_arguments_at r (stage.Answered (now m))))
+      Change m t q a n (Some r) (Some (without_arguments_at (stage.Answered (now m)) r))
   error_collected :
       (r : Call) (e : Errno) → q ≡ None → state_of m t ≡ is.Calling r.number → r.caller.0 ≡ t → r.stage ≡ stage.Ended e →
-      a ≡ answer.Failure e → Change m t q a n (Some r) (Some (without_arguments_at r (stage.Answered (now m))))
+      a ≡ answer.Failure e → Change m t q a n (Some r) (Some (without_arguments_at (stage.Answered (now m)) r))
 
 -- giving changes only a record that is Queued
 
@@ -69,14 +70,14 @@ module _ (m : State) (t : ℕ) (q : Option Request) (a : Answer) (n : State) whe
 
   made_then :
       (d rsize : ℕ) (fd : Fd) (bytes : List ℕ) (pass : List Pass) (b p : Option Call) → q ≡ Some (request.Call fd bytes pass rsize) →
-      object_at m (process_of m t) fd ≡ Some (obj.Door d) → call_refusal m d bytes ≡ None →
-      a ≡ answer.WaitCall (new_call m t d bytes rsize).number → b ≡ Some (new_call m t d bytes rsize) → ByGiving b p →
+      object_at m (process_of m t) fd ≡ Some (obj.Door d) → first_refusal (call_tests m (process_of m t) fd bytes pass) ≡ None →
+      a ≡ answer.WaitCall (new_call m t d bytes [] rsize).number → b ≡ Some (new_call m t d bytes [] rsize) → ByGiving b p →
       Change m t q a n None p
   made_then d rsize fd bytes pass b p e f g k l keeps =
       subst (λ z. Change m t q a n None z) (sym l) (made d rsize fd bytes pass stage.Queued e f g k refl)
   made_then d rsize fd bytes pass b p e f g k l (gives r u h) =
-      let same : new_call m t d bytes rsize ≡ r = cc in
-      subst (λ (z : Call). Change m t q a n None (Some (at_stage z (stage.Given (tid u))))) same
+      let same : new_call m t d bytes [] rsize ≡ r = cc in
+      subst (λ (z : Call). Change m t q a n None (Some (at_stage (stage.Given (tid u)) z))) same
       (made d rsize fd bytes pass (stage.Given (tid u)) e f g k refl)
 
   act_then : (o b p : Option Call) → ByAct m t q a n o b → ByGiving b p → (p ≡ o) ⊎ Change m t q a n o p

@@ -91,7 +91,7 @@ module _ (m : State) (xs : List Turn) (k : Known m xs) where
   made i d x door e b a =
       record {
         created = new_door (state_at m xs i) x.thread x.request _ _ door (arrow_at i d x e) b a;
-        number = (invariant_after m xs k i x e).consistent.coherent.door_number d door a;
+        number = (invariant_after m xs k i x e).consistent.coherent.doors.door_number d door a;
       }
 
   keeps_door :

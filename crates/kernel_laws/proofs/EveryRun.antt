@@ -8,16 +8,20 @@ use Rattle.kernel_invariant.specs.Invariant.{Invariant}
 use Rattle.kernel_laws.specs.Laws.{Laws}
 use Rattle.kernel_laws.specs.EventsShown.{EventsShown}
 use Rattle.kernel_laws.specs.Pools.{HasNoneIdle}
-use Rattle.kernel_laws.specs.Refused.{RefusedChangesNothing}
+use Rattle.kernel_laws.specs.Refused.{RefusedByFirstTest, RefusedChangesNothing}
 use Rattle.kernel_laws.proofs.Known.{Known, next}
+use Rattle.kernel_laws.proofs.Refusals.{entry_tells}
 use Rattle.kernel_laws.proofs.Runs.{known}
 use Rattle.kernel_laws.proofs.Once.{once_holds}
 use Rattle.kernel_laws.proofs.Match.{match_holds}
 use Rattle.kernel_laws.proofs.Cause.{cause_holds}
 use Rattle.kernel_laws.proofs.Creators.{made_by_creator}
 
-refused : (m : State) (xs : List Turn) → Known m xs → RefusedChangesNothing m xs
-refused m xs k i x r e f q a = next m xs k i x f ∙ (k.keeps i x f).refused r e q a
+by_first_test : (m : State) (xs : List Turn) → RefusedByFirstTest m xs
+by_first_test m xs i x r e f q = entry_tells (state_at m xs i) x.thread x.request r e q
+
+changes_nothing : (m : State) (xs : List Turn) → Known m xs → RefusedChangesNothing m xs
+changes_nothing m xs k i x r e f q a = next m xs k i x f ∙ (k.keeps i x f).refused r e q a
 
 events_shown : (m : State) (xs : List Turn) → Known m xs → EventsShown m xs
 events_shown m xs k =
@@ -35,7 +39,7 @@ all_hold m xs k =
       match = match_holds m xs k;
       cause = cause_holds m xs k;
       made_by_creator = made_by_creator m xs k;
-      refused = refused m xs k;
+      refused = record { by_first_test = by_first_test m xs; changes_nothing = changes_nothing m xs k };
       no_pool_has_both = λ i l. (k.invariant i l).given_out;
       events_shown = events_shown m xs k;
     }

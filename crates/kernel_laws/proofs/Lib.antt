@@ -1,3 +1,4 @@
+mod Refusals
 mod Changes
 mod Known
 mod Story

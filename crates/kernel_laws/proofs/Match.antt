@@ -9,7 +9,8 @@ use Rattle.dk_base.specs.declared.answer.Answer.TheVariants as answer
 use Rattle.kernel_records.specs.declared.record.CallStage.TheVariants as stage
 use Rattle.capabilities.specs.Words.{capability_of_pass}
 use Rattle.capabilities.specs.declared.table.TheConstants.{BUILT}
-use Rattle.written_kernel.specs.Words.{MayTurn, State, Turn, cookie_of, door_of, entry_of, state_at, tid, without_arguments_at}
+use Rattle.kernel_records.specs.Words.{cookie_of, entry_of, tid, without_arguments_at}
+use Rattle.written_kernel.specs.Words.{MayTurn, State, Turn, door_of, state_at}
 use Rattle.kernel_invariant.specs.Records.{door_at, owner_in, record_of, stage_in}
 use Rattle.kernel_invariant.specs.Core.{abandoned_in, core, has_arguments}
 use Rattle.kernel_invariant.specs.Events.{IsCallOf, IsCaller, IsMade, IsToldBy}
@@ -64,10 +65,10 @@ pub record GoesOn (s r : Call) (c : CallStage) : Type 0 where
   pub rsize : r.rsize ≡ s.rsize
   pub stage : r.stage ≡ c
 
-pub goes_on : (s r : Call) (c : CallStage) (o : Option Call) → o ≡ Some r → o ≡ Some (without_arguments_at s c) → GoesOn s r c
+pub goes_on : (s r : Call) (c : CallStage) (o : Option Call) → o ≡ Some r → o ≡ Some (without_arguments_at c s) → GoesOn s r c
 goes_on s r c o e f = go (sym e ∙ f)
   where
-    go : Some r ≡ Some (without_arguments_at s c) → GoesOn s r c
+    go : Some r ≡ Some (without_arguments_at c s) → GoesOn s r c
     go g = record { caller = grind arith; rsize = grind arith; stage = grind arith }
 
 -- what an accept shows, by the record that it entered
@@ -130,7 +131,7 @@ module _ (m : State) (xs : List Turn) (k : Known m xs) where
       go : IsCallOf x.request c (core (state_at m xs i)).made → IsMade (record_of (state_at m xs (i + 1)) c) → MakesCall m xs i x c
       go a b =
           only_by_call i c x b.made e
-          ((invariant_before m xs k i x e).consistent.coherent.unmade c (omega (arith, a.next)))
+          ((invariant_before m xs k i x e).consistent.coherent.calls.unmade c (omega (arith, a.next)))
           b.there
 
   new_at_least : (i c : ℕ) (x : Turn) → MakesCall m xs i x c → 1 ≤ rank_in (record_of (state_at m xs (i + 1)) c)

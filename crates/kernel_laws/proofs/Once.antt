@@ -8,10 +8,11 @@ use Rattle.dk_base.specs.declared.object.Item.TheVariants as item
 use Rattle.dk_base.specs.declared.answer.Answer.TheVariants as answer
 use Rattle.kernel_records.specs.declared.record.ThreadState.TheVariants as is
 use Rattle.kernel_records.specs.declared.record.CallStage.TheVariants as stage
-use Rattle.written_kernel.specs.Words.{State, Turn, caller_in, door_of, invocation_of, is_live, new_invocation, state_at, state_of, tid}
+use Rattle.kernel_records.specs.Words.{is_live, new_invocation, tid}
+use Rattle.written_kernel.specs.Words.{State, Turn, caller_in, door_of, invocation_of, state_at, state_of}
 use Rattle.kernel_invariant.specs.Records.{door_at, item_in, item_of, owner_in, record_of, stage_in, stage_of}
 use Rattle.kernel_invariant.specs.Core.{caller_number, door_in, is_outside, live_in}
-use Rattle.kernel_invariant.specs.Invariant.{IsCoherent}
+use Rattle.kernel_invariant.specs.Coherent.{IsCoherent}
 use Rattle.kernel_invariant.specs.Core.{core}
 use Rattle.kernel_invariant.specs.Events.{InvocationArrow, IsCaller, IsToldBy}
 use Rattle.kernel_invariant.specs.Events.InvocationArrow.{stays, begins, ends, leaves}
@@ -126,19 +127,19 @@ module _ (m : State) (xs : List Turn) (k : Known m xs) where
         stage_after = after;
         entered = becomes;
         nothing_else = λ d b. same_given c d (entered_by i d x e b).call (sym (entered_by i d x e b).given ∙ s) (number_of (state_at m xs i) d _ (entered_by i d x e b).before);
-        of_the_owner = owner_same (state_at m xs i) (record_of (state_at m xs i) c) _ before ∙ h.given_owner c x.thread before;
+        of_the_owner = owner_same (state_at m xs i) (record_of (state_at m xs i) c) _ before ∙ h.at_doors.given_owner c x.thread before;
         free_before = free;
-        invocation_after = begun _ _ _ _ _ x.thread c _ _ (invocations i x.thread x e) free (g.entered c x.thread after);
+        invocation_after = begun _ _ _ _ _ x.thread c _ _ (invocations i x.thread x e) free (g.invocations.entered c x.thread after);
       }
     where
       before : stage_of (state_at m xs i) c ≡ Some (stage.Given (tid x.thread))
-      before = h.given_back c x.thread s
+      before = h.waits.given_back c x.thread s
 
       after : HasEntered (state_at m xs (i + 1)) x.thread c
       after = ap (λ n. stage_of n c) (next m xs k i x e) ∙ (k.keeps i x e).accepted c q s
 
       free : invocation_of (state_at m xs i) x.thread ≡ None
-      free = h.outside x.thread (ap is_outside s)
+      free = h.servers.outside x.thread (ap is_outside s)
 
       becomes : BecomesEntered m xs c i
       becomes =
@@ -164,7 +165,7 @@ module _ (m : State) (xs : List Turn) (k : Known m xs) where
 
   in_its_invocation :
       (i t c : ℕ) → i ≤ length xs → HasEntered (state_at m xs i) t c → item_of (state_at m xs i) t ≡ Some (item.Call c)
-  in_its_invocation i t c l e = (k.invariant i l).consistent.coherent.entered c t e
+  in_its_invocation i t c l e = (k.invariant i l).consistent.coherent.invocations.entered c t e
 
   one_at_once :
       (i t c d : ℕ) → i ≤ length xs → HasEntered (state_at m xs i) t c → HasEntered (state_at m xs i) t d → c ≡ d
@@ -172,7 +173,7 @@ module _ (m : State) (xs : List Turn) (k : Known m xs) where
       same_item c d (item_of (state_at m xs i) t) (in_its_invocation i t c l e) (in_its_invocation i t d l f)
 
   live_call : (i c : ℕ) (x : Turn) → slice_get xs i ≡ Some x → IsCollect m xs i x c → live_in (record_of (state_at m xs i) c) ≡ true
-  live_call i c x e w = (invariant_before m xs k i x e).consistent.coherent.live c x.thread w.calling
+  live_call i c x e w = (invariant_before m xs k i x e).consistent.coherent.waits.live c x.thread w.calling
 
   pub collects : (i c : ℕ) (x : Turn) → slice_get xs i ≡ Some x → IsCollect m xs i x c → BecomesAnswered m xs c i
   collects i c x e w =
@@ -204,14 +205,14 @@ module _ (m : State) (xs : List Turn) (k : Known m xs) where
       (i c : ℕ) (x : Turn) → slice_get xs i ≡ Some x → IsCollect m xs i x c →
       caller_in (record_of (state_at m xs i) c) ≡ Some x.thread
   collects_own i c x e w =
-      live_caller x.thread _ (live_call i c x e w) ((invariant_before m xs k i x e).consistent.coherent.caller c x.thread w.calling)
+      live_caller x.thread _ (live_call i c x e w) ((invariant_before m xs k i x e).consistent.coherent.waits.caller c x.thread w.calling)
 
   caller_waits :
       (i c : ℕ) (r : Call) → i ≤ length xs → record_of (state_at m xs i) c ≡ Some r → is_live r.stage ≡ true →
       state_of (state_at m xs i) r.caller.0 ≡ is.Calling c
   caller_waits i c r l e f =
       subst (λ o. state_of (state_at m xs i) (caller_number o) ≡ is.Calling c) e
-      ((k.invariant i l).consistent.coherent.calling c (ap live_in e ∙ f))
+      ((k.invariant i l).consistent.coherent.waits.calling c (ap live_in e ∙ f))
 
   -- where results are collected, the call is Returned, and so was entered
 
@@ -296,7 +297,7 @@ module _ (m : State) (xs : List Turn) (k : Known m xs) where
         one_at_once = one_at_once;
         invocations = invocations;
         return_ends = return_ends m xs k;
-        none_when_done = λ i t l e. (k.invariant i l).consistent.coherent.outside t (ap is_outside e);
+        none_when_done = λ i t l e. (k.invariant i l).consistent.coherent.servers.outside t (ap is_outside e);
         collects = collects;
         only_by_collect = only_by_collect;
         caller_waits = caller_waits;

@@ -5,11 +5,13 @@ use native.Mathlib.Omega.{arith}
 use Rattle.written_kernel.specs.Types.{Call, CallStage}
 use Rattle.dk_base.specs.declared.answer.Answer.TheVariants as answer
 use Rattle.kernel_records.specs.declared.record.CallStage.TheVariants as stage
-use Rattle.written_kernel.specs.Words.{State, Turn, at_stage, cookie_of, door_of, entry_of, new_call, state_at, tid}
+use Rattle.kernel_records.specs.Words.{at_stage, cookie_of, entry_of, tid}
+use Rattle.written_kernel.specs.Words.{State, Turn, door_of, new_call, object_at, state_at}
 use Rattle.kernel_invariant.specs.Records.{record_of}
 use Rattle.kernel_invariant.specs.Core.{has_arguments}
 use Rattle.kernel_invariant.proofs.Calls.{find-number}
-use Rattle.kernel_laws.specs.Places.{IsAccept, MakesCall, answer_at, is_entered_in, is_entered_stage, is_returned_in}
+use Rattle.kernel_laws.specs.Places.{IsAccept, MakesCall, answer_at, is_entered_in, is_entered_stage, is_returned_in, process_at}
+use Rattle.kernel_laws.proofs.Refusals.{no_refusal}
 use Rattle.kernel_laws.proofs.Rows.{AnsweredRow, EndedRow, EnteredRow, IsOlder, MadeRow, Origin, ReturnedRow, ended_row, entered_row, is_ended_in, origin, returned_row}
 use Rattle.kernel_laws.proofs.Rows.Origin.{new, older}
 use Rattle.kernel_laws.proofs.Story.{Story}
@@ -36,7 +38,7 @@ abbrev OriginAt : State → List Turn → ℕ → Turn → Option Call → Call 
 OriginAt m xs i x o r = Origin (state_at m xs i) x.thread x.request (answer_at m xs i x) o r
 
 pub number_of : (m : State) (c : ℕ) (r : Call) → record_of m c ≡ Some r → r.number ≡ c
-number_of m c r e = find-number m.calls c r e
+number_of m c r e = find-number m.call_tree.calls c r e
 
 pub same_record : (o : Option Call) (r s : Call) → o ≡ Some r → o ≡ Some s → r ≡ s
 same_record o r s e f = cc
@@ -62,7 +64,7 @@ record NewRecord (r n : Call) (s : CallStage) : Type 0 where
   number : r.number ≡ n.number
   at_stage : r.stage ≡ s
 
-new_record : (r n : Call) (s : CallStage) → Some r ≡ Some (at_stage n s) → NewRecord r n s
+new_record : (r n : Call) (s : CallStage) → Some r ≡ Some (at_stage s n) → NewRecord r n s
 new_record r n s e =
     record {
       caller = grind arith;
@@ -88,7 +90,7 @@ made_here m xs c at x r f b a w =
       door = w.door;
       request = w.asked;
       names_door = w.names_door;
-      not_refused = w.not_refused;
+      not_refused = no_refusal (state_at m xs at) w.bytes (object_at (state_at m xs at) (process_at m xs at x.thread) w.fd) w.not_refused;
       answer = w.answers ∙ ap (λ (j : ℕ). answer.WaitCall j) (sym n.number ∙ number);
       none_before = b;
       made = r;
@@ -102,7 +104,7 @@ made_here m xs c at x r f b a w =
       waits = ap has_arguments n.at_stage ∙ w.waits;
     }
   where
-    n : NewRecord r (new_call (state_at m xs at) x.thread w.door w.bytes w.rsize) w.new_stage
+    n : NewRecord r (new_call (state_at m xs at) x.thread w.door w.bytes [] w.rsize) w.new_stage
     n = new_record r _ w.new_stage w.after
 
     number : r.number ≡ c

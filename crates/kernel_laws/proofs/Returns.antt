@@ -1,19 +1,17 @@
 -- A Return that is not refused ends the invocation of its thread, and hands over the results of the call that it had entered.
-use Rattle.std.specs.Prelude.{ℕ, ◌≡◌, ◌+◌, ◌==◌, ◌&&◌, ◌⊎◌, List, [], Option, Bool, true, false, Some, None, is_some, if◌then◌else◌, length, nat_lt, slice_get}
+use Rattle.std.specs.Prelude.{ℕ, ◌≡◌, ◌+◌, ◌⊎◌, List, Option, true, false, Some, None, slice_get}
 use Rattle.std.proofs.Common.{refl, sym, ap, ◌∙◌, inl, inr}
 use native.Mathlib.Omega.{arith}
 use Rattle.std.proofs.lemmas.Bool.Decides.{nat_tests}
 use Rattle.std.proofs.lemmas.Option.{slice_get_within}
-use Rattle.written_kernel.specs.Types.{Answer, Call, Inv, Item, Pass, Request, Thread}
-use Rattle.dk_base.specs.declared.limits.TheConstants.{DATA_MAX}
-use Rattle.dk_base.specs.declared.error.Errno.TheVariants.{E2BIG}
+use Rattle.written_kernel.specs.Types.{Answer, Call, Errno, Inv, Item, Pass, Request}
 use Rattle.dk_base.specs.declared.object.Item.TheVariants as item
 use Rattle.dk_base.specs.declared.request.Request.TheVariants as request
 use Rattle.dk_base.specs.declared.answer.Answer.TheVariants as answer
-use Rattle.kernel_records.specs.declared.record.ThreadState.TheVariants as is
 use Rattle.kernel_records.specs.declared.record.CallStage.TheVariants as stage
-use Rattle.written_kernel.specs.Words.{State, Turn, client, invocation_in, invocation_of, now, park, refused_act, return, return_for, return_to, state_at, step, thread_of, tid, with_call, with_invocation, without_arguments_at}
-use Rattle.written_kernel.proofs.Invocations.{invocation_of-settle, invocation_of-with_invocation, invocation_of-with_state}
+use Rattle.kernel_records.specs.Words.{tid}
+use Rattle.written_kernel.specs.Words.{State, Turn, act, invocation_of, now, process_of, refusal_of, return, state_at, step, unless_refused}
+use Rattle.written_kernel.proofs.Invocations.{invocation-park_thread, invocation_of-settle}
 use Rattle.kernel_invariant.specs.Records.{item_in, record_of, stage_in}
 use Rattle.kernel_invariant.specs.Arrows.EndsBy.{door_invalid}
 use Rattle.kernel_laws.specs.Places.{BecomesReturned, HasEntered, answer_at, is_returned_in}
@@ -21,33 +19,20 @@ use Rattle.kernel_laws.proofs.Changes.{Change}
 use Rattle.kernel_laws.proofs.Changes.Change.{made, given, entered, returned, ended, results_collected, error_collected}
 use Rattle.kernel_laws.proofs.Known.{ChangeAt, Known, next, stays_or_changes}
 
-none_left : (t : ℕ) (o : Option Thread) → (if (t == t) && is_some o then None else invocation_in o) ≡ None
-none_left t None = grind (arith, nat_tests)
-none_left t (Some x) = grind (arith, nat_tests)
-
-parked_none : (m : State) (t : ℕ) → invocation_of (park m t) t ≡ None
-parked_none m t =
-    invocation_of-with_state (with_invocation m t None) t t (is.Idle (now m))
-    ∙ invocation_of-with_invocation m t t None
-    ∙ none_left t (thread_of m t)
-
 return_leaves :
-    (m : State) (t : ℕ) (bytes : List ℕ) (o : Option Call) → (return_for m t bytes o).answer ≡ answer.Wait →
-    invocation_of (return_for m t bytes o).state t ≡ None
-return_leaves m t bytes None e = parked_none m t
-return_leaves m t bytes (Some r) e = unless (nat_lt DATA_MAX (length bytes)) e
-  where
-    unless :
-        (b : Bool) → (if b then refused_act m E2BIG else return_to m t bytes r).answer ≡ answer.Wait →
-        invocation_of (if b then refused_act m E2BIG else return_to m t bytes r).state t ≡ None
-    unless true f = absurd (cc f)
-    unless false f = parked_none (with_call m r.number (without_arguments_at r (stage.Returned bytes []))) t
+    (m : State) (t p : ℕ) (bytes : List ℕ) (pass : List Pass) (o : Option Errno) →
+    (unless_refused m o (return m t p bytes pass)).answer ≡ answer.Wait →
+    invocation_of (unless_refused m o (return m t p bytes pass)).state t ≡ None
+return_leaves m t p bytes pass (Some x) e = absurd (cc e)
+return_leaves m t p bytes pass None e = invocation-park_thread m.process_table t (now m) t ∙ grind (arith, nat_tests)
 
 step_leaves :
     (m : State) (t : ℕ) (bytes : List ℕ) (pass : List Pass) → (step m t (Some (request.Return bytes pass))).answer ≡ answer.Wait →
     invocation_of (step m t (Some (request.Return bytes pass))).state t ≡ None
 unfolding step
-step_leaves m t bytes pass e = invocation_of-settle (return m t bytes).state t ∙ return_leaves m t bytes (client m t) e
+step_leaves m t bytes pass e =
+    invocation_of-settle m (act m t (Some (request.Return bytes pass))).state t
+    ∙ return_leaves m t (process_of m t) bytes pass (refusal_of m t (process_of m t) (request.Return bytes pass)) e
 
 no_item : (o : Option Inv) (i : Item) → o ≡ None → item_in o ≡ Some i → ⊥
 no_item o i e f = grind arith
@@ -89,5 +74,5 @@ module _ (m : State) (xs : List Turn) (k : Known m xs) where
       go (inl same) =
           absurd
           (no_item (invocation_of (state_at m xs (i + 1)) x.thread) (item.Call c) (return_ends i x bytes pass e q a)
-          ((k.invariant (i + 1) (omega (arith, slice_get_within xs i x e))).consistent.coherent.entered c x.thread (ap stage_in same ∙ s)))
+          ((k.invariant (i + 1) (omega (arith, slice_get_within xs i x e))).consistent.coherent.invocations.entered c x.thread (ap stage_in same ∙ s)))
       go (inr w) = change_returns _ _ _ _ _ _ _ bytes pass w q s

@@ -10,7 +10,8 @@ use Rattle.dk_base.specs.declared.request.Request.TheVariants as request
 use Rattle.dk_base.specs.declared.answer.Answer.TheVariants as answer
 use Rattle.kernel_records.specs.declared.record.ThreadState.TheVariants as is
 use Rattle.kernel_records.specs.declared.record.CallStage.TheVariants as stage
-use Rattle.written_kernel.specs.Words.{State, at_stage, call_refusal, cookie_of, door_of, entry_of, new_call, object_at, process_of, state_of, tid, without_arguments_at}
+use Rattle.kernel_records.specs.Words.{at_stage, cookie_of, entry_of, tid, without_arguments_at}
+use Rattle.written_kernel.specs.Words.{State, call_tests, door_of, first_refusal, new_call, object_at, process_of, state_of}
 use Rattle.kernel_invariant.specs.Core.{has_arguments}
 use Rattle.kernel_invariant.specs.Arrows.{EndsBy}
 use Rattle.kernel_laws.specs.Places.{is_answered_in, is_entered_in, is_returned_in, is_entered_stage, is_returned_stage, is_answered_stage}
@@ -27,11 +28,11 @@ pub record MadeRow (m : State) (t : ℕ) (q : Option Request) (a : Answer) (p : 
   pub door : ℕ
   pub asked : q ≡ Some (request.Call fd bytes pass rsize)
   pub names_door : object_at m (process_of m t) fd ≡ Some (obj.Door door)
-  pub not_refused : call_refusal m door bytes ≡ None
-  pub answers : a ≡ answer.WaitCall (new_call m t door bytes rsize).number
+  pub not_refused : first_refusal (call_tests m (process_of m t) fd bytes pass) ≡ None
+  pub answers : a ≡ answer.WaitCall (new_call m t door bytes [] rsize).number
   pub new_stage : CallStage
   pub waits : has_arguments new_stage ≡ true
-  pub after : p ≡ Some (at_stage (new_call m t door bytes rsize) new_stage)
+  pub after : p ≡ Some (at_stage new_stage (new_call m t door bytes [] rsize))
 
 -- what a record has of an earlier one
 pub record IsOlder (s r : Call) : Type 0 where
@@ -45,10 +46,10 @@ pub data Origin (m : State) (t : ℕ) (q : Option Request) (a : Answer) (o : Opt
   new : o ≡ None → MadeRow m t q a (Some r) → Origin m t q a o r
   older : (s : Call) → o ≡ Some s → IsOlder s r → Origin m t q a o r
 
-older_there : (s r : Call) (c : CallStage) → Some (without_arguments_at s c) ≡ Some r → has_arguments c ≡ false → IsOlder s r
+older_there : (s r : Call) (c : CallStage) → Some (without_arguments_at c s) ≡ Some r → has_arguments c ≡ false → IsOlder s r
 older_there s r c e h = record { caller = grind arith; door = grind arith; rsize = grind arith; still = λ z. grind arith; bytes = λ z. grind arith }
 
-older_given : (s r : Call) (u : ℕ) → s.stage ≡ stage.Queued → Some (at_stage s (stage.Given (tid u))) ≡ Some r → IsOlder s r
+older_given : (s r : Call) (u : ℕ) → s.stage ≡ stage.Queued → Some (at_stage (stage.Given (tid u)) s) ≡ Some r → IsOlder s r
 older_given s r u h e = record { caller = grind arith; door = grind arith; rsize = grind arith; still = λ z. grind arith; bytes = λ z. grind arith }
 
 pub origin :
@@ -93,7 +94,7 @@ not_answered s e f = grind arith
 pub record EnteredRow (m : State) (t : ℕ) (q : Option Request) (a : Answer) (o p : Option Call) : Type 0 where
   pub call : Call
   pub before : o ≡ Some call
-  pub after : p ≡ Some (without_arguments_at call (stage.Entered (tid t)))
+  pub after : p ≡ Some (without_arguments_at (stage.Entered (tid t)) call)
   pub no_request : q ≡ None
   pub given : state_of m t ≡ is.Given (item.Call call.number)
   pub was_given : call.stage ≡ stage.Given (tid t)
@@ -114,7 +115,7 @@ pub record ReturnedRow (m : State) (t : ℕ) (q : Option Request) (a : Answer) (
   pub bytes : List ℕ
   pub pass : List Pass
   pub before : o ≡ Some call
-  pub after : p ≡ Some (without_arguments_at call (stage.Returned bytes []))
+  pub after : p ≡ Some (without_arguments_at (stage.Returned bytes []) call)
   pub asked : q ≡ Some (request.Return bytes pass)
   pub was_entered : call.stage ≡ stage.Entered (tid t)
   pub not_abandoned : call.abandoned ≡ false
@@ -145,7 +146,7 @@ pub record EndedRow (m n : State) (o p : Option Call) : Type 0 where
   pub call : Call
   pub error : Errno
   pub before : o ≡ Some call
-  pub after : p ≡ Some (without_arguments_at call (stage.Ended error))
+  pub after : p ≡ Some (without_arguments_at (stage.Ended error) call)
   pub ends : EndsBy m n call error
 
 pub ended_row :

@@ -1,28 +1,17 @@
--- Cause: a Call is refused exactly where the first of its tests that fails says so, and what a caller collects has its cause
+-- Cause: a Call is refused exactly where the first of its tests that holds says so, and what a caller collects has its cause
 -- at the one place where its call left the queue or its server.
-use Rattle.std.specs.Prelude.{ℕ, ◌≡◌, ◌+◌, ◌<◌, ◌≤◌, ◌↔◌, List, Option, true, false, Some, length, nat_lt, slice_get}
-use Rattle.written_kernel.specs.Types.{Answer, Call, Errno, Fd, Obj, Pass}
-use Rattle.dk_base.specs.declared.error.Errno.TheVariants.{E2BIG, EAGAIN, EBADF}
-use Rattle.dk_base.specs.declared.object.Obj.TheVariants as obj
+use Rattle.std.specs.Prelude.{ℕ, ◌≡◌, ◌+◌, ◌<◌, ◌≤◌, ◌↔◌, List, true, false, Some, length, nat_lt, slice_get}
+use Rattle.written_kernel.specs.Types.{Answer, Call, Errno, Fd, Pass}
+use Rattle.dk_base.specs.declared.error.Errno.TheVariants.{EBADF}
 use Rattle.dk_base.specs.declared.request.Request.TheVariants as request
 use Rattle.dk_base.specs.declared.answer.Answer.TheVariants as answer
 use Rattle.kernel_records.specs.declared.record.CallStage.TheVariants as stage
 use Rattle.kernel_records.specs.declared.record.ThreadState.TheVariants as is
-use Rattle.dk_base.specs.declared.limits.TheConstants.{DATA_MAX, QUEUE_MAX}
-use Rattle.written_kernel.specs.Words.{State, Turn, is_live, is_valid, object_at, pool_of, queue_length, state_at, state_of}
+use Rattle.kernel_records.specs.Words.{is_live}
+use Rattle.written_kernel.specs.Words.{State, Turn, is_valid, state_at, state_of}
 use Rattle.kernel_invariant.specs.Records.{record_of, stage_of}
 use Rattle.kernel_invariant.specs.Core.{underway_in}
-use Rattle.kernel_laws.specs.Places.{IsCollect, MakesCall, ReturnsCall, answer_at, process_at}
-
--- Why a Call of these bytes is refused, by what its descriptor names: a constructor for each test of door_call(3C), in their
--- order; where one fails, those before it passed.
-pub data Refusal (m : State) (bytes : List ℕ) (o : Option Obj) : Errno → Type 0 where
-  no_door : ((d : ℕ) → o ≡ Some (obj.Door d) → ⊥) → Refusal m bytes o EBADF
-  not_valid : (d : ℕ) → o ≡ Some (obj.Door d) → is_valid m d ≡ false → Refusal m bytes o EBADF
-  too_long : (d : ℕ) → o ≡ Some (obj.Door d) → is_valid m d ≡ true → DATA_MAX < length bytes → Refusal m bytes o E2BIG
-  full_pool :
-      (d : ℕ) → o ≡ Some (obj.Door d) → is_valid m d ≡ true → length bytes ≤ DATA_MAX → QUEUE_MAX ≤ queue_length m (pool_of m d) →
-      Refusal m bytes o EAGAIN
+use Rattle.kernel_laws.specs.Places.{IsCollect, IsRefusedBy, MakesCall, ReturnsCall, answer_at}
 
 -- the turn of place i is this Call
 pub record IsCall (m : State) (xs : List Turn) (i : ℕ) (x : Turn) (fd : Fd) (bytes : List ℕ) : Type 0 where
@@ -30,10 +19,6 @@ pub record IsCall (m : State) (xs : List Turn) (i : ℕ) (x : Turn) (fd : Fd) (b
   pub pass : List Pass
   pub rsize : ℕ
   pub request : x.request ≡ Some (request.Call fd bytes pass rsize)
-
--- its refusal in the state before
-abbrev pub IsRefusedBy : State → List Turn → ℕ → Turn → Fd → List ℕ → Errno → Type 0
-IsRefusedBy m xs i x fd bytes e = Refusal (state_at m xs i) bytes (object_at (state_at m xs i) (process_at m xs i x.thread) fd) e
 
 -- it makes a call
 pub record MakesOne (m : State) (xs : List Turn) (i : ℕ) (x : Turn) : Type 0 where
@@ -75,10 +60,10 @@ pub record IsCaused (m : State) (xs : List Turn) (c k : ℕ) (z : Turn) : Type 0
 pub record HasCause (m : State) (xs : List Turn) : Type 0 where
   pub refused :
       (i : ℕ) (x : Turn) (fd : Fd) (bytes : List ℕ) (e : Errno) → IsCall m xs i x fd bytes →
-      (answer_at m xs i x ≡ answer.Failure e) ↔ IsRefusedBy m xs i x fd bytes e
+      (answer_at m xs i x ≡ answer.Failure e) ↔ IsRefusedBy m xs i x.thread fd bytes e
   pub not_refused :
       (i : ℕ) (x : Turn) (fd : Fd) (bytes : List ℕ) → IsCall m xs i x fd bytes →
-      ((e : Errno) → IsRefusedBy m xs i x fd bytes e → ⊥) → MakesOne m xs i x
+      ((e : Errno) → IsRefusedBy m xs i x.thread fd bytes e → ⊥) → MakesOne m xs i x
   pub told : (k c : ℕ) (z : Turn) → slice_get xs k ≡ Some z → IsCollect m xs k z c → IsCaused m xs c k z
   pub exact : (c e k : ℕ) (a b : Answer) → Cause m xs c e k a → Cause m xs c e k b → TellsSame a b
   -- a call whose caller ended is Gone, or was answered before; and a call that is Gone is not collected

@@ -5,7 +5,7 @@ use Rattle.kernel_laws.specs.Once.{Once}
 use Rattle.kernel_laws.specs.Match.{Match}
 use Rattle.kernel_laws.specs.Cause.{HasCause}
 use Rattle.kernel_laws.specs.MadeByCreator.{MadeByCreator}
-use Rattle.kernel_laws.specs.Refused.{RefusedChangesNothing}
+use Rattle.kernel_laws.specs.Refused.{Refused}
 use Rattle.kernel_laws.specs.Pools.{NoPoolHasBoth}
 use Rattle.kernel_laws.specs.EventsShown.{EventsShown}
 
@@ -14,7 +14,7 @@ pub record AllLaws (m : State) (xs : List Turn) : Type 0 where
   pub match : Match m xs
   pub cause : HasCause m xs
   pub made_by_creator : MadeByCreator m xs
-  pub refused : RefusedChangesNothing m xs
+  pub refused : Refused m xs
   pub no_pool_has_both : NoPoolHasBoth m xs
   pub events_shown : EventsShown m xs
 

@@ -8,7 +8,8 @@ use Rattle.dk_base.specs.declared.request.Request.TheVariants as request
 use Rattle.dk_base.specs.declared.answer.Answer.TheVariants as answer
 use Rattle.kernel_records.specs.declared.record.CallStage.TheVariants as stage
 use Rattle.kernel_records.specs.declared.record.ThreadState.TheVariants as is
-use Rattle.written_kernel.specs.Words.{State, Turn, caller_in, invocation_of, is_live, new_invocation, process_of, state_at, state_of, tid}
+use Rattle.kernel_records.specs.Words.{is_live, new_invocation, tid}
+use Rattle.written_kernel.specs.Words.{State, Turn, caller_in, invocation_of, process_of, state_at, state_of}
 use Rattle.kernel_invariant.specs.Records.{item_of, owner_of_call, record_of, stage_of}
 use Rattle.kernel_invariant.specs.Events.{InvocationArrow}
 use Rattle.kernel_laws.specs.Places.{BecomesAnswered, BecomesEntered, HasEntered, IsAccept, IsCollect, answer_at}

@@ -1,15 +1,17 @@
 -- What is said of a place in a run: what its turn answers, what becomes true there, and which turns make, enter, return and
 -- collect a call. The states before and after the turn of place i are those at i and at i + 1.
 use Rattle.std.specs.Prelude.{ℕ, ◌≡◌, ◌+◌, ◌<◌, List, Option, Bool, true, false, Some, None, length, map, slice_get}
-use Rattle.written_kernel.specs.Types.{Answer, Call, CallStage, Door, Fd, Obj, Pass}
+use Rattle.written_kernel.specs.Types.{Answer, Call, CallStage, Door, Errno, Fd, Obj, Pass}
 use Rattle.dk_base.specs.declared.object.Obj.TheVariants as obj
 use Rattle.dk_base.specs.declared.request.Request.TheVariants as request
 use Rattle.dk_base.specs.declared.answer.Answer.TheVariants as answer
 use Rattle.kernel_records.specs.declared.record.CallStage.TheVariants as stage
 use Rattle.kernel_records.specs.declared.record.ThreadState.TheVariants as is
-use Rattle.written_kernel.specs.Words.{State, Turn, call_refusal, object_at, process_of, state_at, state_of, step, tid}
+use Rattle.kernel_records.specs.Words.{tid}
+use Rattle.written_kernel.specs.Words.{State, Turn, object_at, process_of, state_at, state_of, step}
 use Rattle.kernel_invariant.specs.Records.{record_of, stage_of}
 use Rattle.kernel_invariant.specs.Core.{abandoned_in, has_arguments}
+use Rattle.kernel_laws.specs.Refusals.{Refusal}
 
 -- what the turn of place i answers, if it is this turn
 abbrev pub answer_at : State → List Turn → ℕ → Turn → Answer
@@ -88,6 +90,10 @@ objects_passed m p pass = map (λ x. object_at m p x.fd) pass
 abbrev pub objects_at : State → ℕ → List Fd → List (Option Obj)
 objects_at m p fds = map (λ fd. object_at m p fd) fds
 
+-- at place i a Call of thread t through this descriptor, of these bytes, is refused with this error
+abbrev pub IsRefusedBy : State → List Turn → ℕ → ℕ → Fd → List ℕ → Errno → Type 0
+IsRefusedBy m xs i t fd bytes e = Refusal (state_at m xs i) bytes (object_at (state_at m xs i) (process_at m xs i t) fd) e
+
 -- the turn of place i is a Call, through a descriptor of a door, that makes call c
 pub record MakesCall (m : State) (xs : List Turn) (i : ℕ) (x : Turn) (c : ℕ) : Type 0 where
   pub turn : slice_get xs i ≡ Some x
@@ -98,7 +104,7 @@ pub record MakesCall (m : State) (xs : List Turn) (i : ℕ) (x : Turn) (c : ℕ)
   pub door : ℕ
   pub request : x.request ≡ Some (request.Call fd bytes pass rsize)
   pub names_door : object_at (state_at m xs i) (process_at m xs i x.thread) fd ≡ Some (obj.Door door)
-  pub not_refused : call_refusal (state_at m xs i) door bytes ≡ None
+  pub not_refused : (e : Errno) → IsRefusedBy m xs i x.thread fd bytes e → ⊥
   pub answer : answer_at m xs i x ≡ answer.WaitCall c
   pub none_before : record_of (state_at m xs i) c ≡ None
   -- the new record: the call is Queued, or Given at once

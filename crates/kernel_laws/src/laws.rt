@@ -2,8 +2,8 @@
 //! to the caller's proof.
 
 ghost use Rattle.std.specs.Prelude.{ℕ, ◌≡◌, ◌≤◌, ◌⊎◌, List, None, length};
-ghost use Rattle.written_kernel.specs.Types.{Request};
-ghost use Rattle.written_kernel.specs.Words.{IsOpening, IsRun, MayTurn, Pool, State, Turn, pick, queue_length, state_after, state_at};
+ghost use Rattle.written_kernel.specs.Types.{Pool};
+ghost use Rattle.written_kernel.specs.Words.{IsOpening, IsRun, State, Turn, calls_waiting, pick, state_after, state_at};
 ghost use Rattle.kernel_invariant.specs.Invariant.{Invariant};
 ghost use Rattle.kernel_laws.specs.Laws.{Laws};
 ghost use Rattle.kernel_laws.specs.Pools.{HasNoneIdle};
@@ -23,5 +23,5 @@ pub fn every_run()
 /// any turns, no waiting call and an idle thread (`calls`).
 pub fn no_pool_has_both()
     ensures items { (m : State) (xs : List Turn) → IsOpening m → IsRun m xs → HasNoneIdle (state_after m xs) }
-    ensures calls { (m : State) (xs : List Turn) → IsOpening m → (pool : Pool) → (queue_length (state_after m xs) pool ≡ 0) ⊎ (pick (state_after m xs) pool ≡ None) }
+    ensures calls { (m : State) (xs : List Turn) → IsOpening m → (pool : Pool) → (calls_waiting (state_after m xs) pool ≡ 0) ⊎ (pick (state_after m xs) pool ≡ None) }
 {}

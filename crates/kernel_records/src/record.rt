@@ -107,7 +107,6 @@ pub struct Thread {
 #[derive(Clone, Copy)]
 pub struct Door {
     pub number: u32,
-    pub made: u64,
     pub owner: Pid,
     pub entry: u32,
     pub cookie: u64,
@@ -116,13 +115,14 @@ pub struct Door {
     pub data_min: u64,
     pub desc_max: u64,
     pub revoked: bool,
+    /// The process that made it has ended.
+    pub owner_ended: bool,
 }
 
 /// A door attached to a path (fattach(3C)).
 #[derive(Clone, Copy)]
 pub struct Name {
     pub path: PathId,
-    pub made: u64,
     pub door: u32,
 }
 
@@ -154,6 +154,8 @@ pub struct Call {
     pub bytes: Bytes,
     pub objects: ObjList,
     pub rsize: u64,
+    /// Its door has DOOR_NO_CANCEL (door_create(3C)).
+    pub no_cancel: bool,
     pub abandoned: bool,
     pub stage: CallStage,
 }

@@ -1,6 +1,6 @@
--- Which threads, processes and entries a script declares, and which events and doors name only such.
+-- Which threads, processes and entries a script declares, and which events name only such.
 use Rattle.std.specs.Prelude.{ℕ, ◌≤◌, ◌<◌, length, Option, Some, None}
-use Rattle.script_requests.specs.Types.{Answer, Door, Event, Pid, Tid}
+use Rattle.script_requests.specs.Types.{Answer, Event, Pid, Tid}
 use Rattle.dk_base.specs.declared.answer.Answer.TheVariants.{Info, Client, Entered, EnteredNotice}
 use Rattle.script_lang.specs.Words.{ScriptValue}
 
@@ -34,10 +34,6 @@ pub record IsDeclaredEvent (script : ScriptValue) (e : Event) : Type 0 where
   pub thread : IsThread script e.thread.0
   pub root : IsThread script e.root.0
   pub answer : IsDeclaredAnswer script e.answer
-
-pub record IsDeclaredDoor (script : ScriptValue) (d : Door) : Type 0 where
-  pub owner : IsProcess script d.owner.0
-  pub entry : IsEntry script d.entry
 
 abbrev pub IsDeclaredThread : ScriptValue → Tid → Type 0
 IsDeclaredThread script t = IsThread script t.0

@@ -10,7 +10,6 @@ pub use Rattle.dk_base.specs.declared.number.Tid.{Tid}
 pub use Rattle.dk_base.specs.declared.object.EventRec.{EventRec}
 pub use Rattle.dk_base.specs.declared.object.Pass.{Pass}
 pub use Rattle.dk_base.specs.declared.object.Src.{Src}
-pub use Rattle.dk_base.specs.declared.record.Door.{Door}
 pub use Rattle.dk_base.specs.declared.request.Request.{Request}
 pub use Rattle.dk_base.specs.declared.set.Attrs.{Attrs}
 pub use Rattle.script_lang.specs.declared.bad.Bad.{Bad}

@@ -113,7 +113,7 @@ next p t h =
     in record {
       left = left;
       least = both.1;
-      can = least-is_runnable (state_of_run p) (length (state_of_run p).threads) t both.1;
+      can = least-is_runnable (state_of_run p) (length (state_of_run p).process_table.threads) t both.1;
       turns = turns_left-some p t both.1 left;
     }
 

@@ -13,13 +13,10 @@ use Rattle.kernel_laws.specs.Words.{Laws}
 use Rattle.sys_run.specs.Sys.{SysValue, history, state_of_run, next_turn, LawsOf, IsJournal}
 use Rattle.sys_run.specs.Threads.{is_any}
 use Rattle.sys_run.proofs.Journals.{length-history, le-not_lt, declared-history}
-use Rattle.sys_run.proofs.Systems.{least_runnable-kept, waiting_threads-kept}
+use Rattle.sys_run.proofs.Systems.{waiting_threads-kept}
 
-pub ending-budget :
-    (kept m : State) (t : ℕ) → StandsFor kept m → Some t ≡ least_runnable kept → Budget ≡ ending_of m
-ending-budget kept m t stands e =
-    let least : least_runnable m ≡ Some t = sym (e ∙ least_runnable-kept kept m stands)
-    in sym (ap (λ o. ending_with o (waiting_threads m)) least)
+pub ending-budget : (m : State) (t : ℕ) → Some t ≡ least_runnable m → Budget ≡ ending_of m
+ending-budget m t e = ap (λ o. ending_with o (waiting_threads m)) e
 
 waiting-some : (ts : List Tid) → true ≡ is_any ts → Stalled ≡ ending_waiting ts
 waiting-some [] h = cc
@@ -29,30 +26,26 @@ waiting-none : (ts : List Tid) → false ≡ is_any ts → Complete ≡ ending_w
 waiting-none [] h = refl
 waiting-none (t ∷ ts) h = cc
 
-none-runnable : (kept m : State) → StandsFor kept m → None ≡ least_runnable kept → ending_of m ≡ ending_waiting (waiting_threads m)
-none-runnable kept m stands e =
-    let least : least_runnable m ≡ None = sym (e ∙ least_runnable-kept kept m stands)
-    in ap (λ o. ending_with o (waiting_threads m)) least
+none-runnable : (m : State) → None ≡ least_runnable m → ending_waiting (waiting_threads m) ≡ ending_of m
+none-runnable m e = ap (λ o. ending_with o (waiting_threads m)) e
 
 pub ending-stalled :
-    (kept m : State) → StandsFor kept m → None ≡ least_runnable kept → true ≡ is_any (waiting_threads kept) → Stalled ≡ ending_of m
+    (kept m : State) → StandsFor kept m → None ≡ least_runnable m → true ≡ is_any (waiting_threads kept) → Stalled ≡ ending_of m
 ending-stalled kept m stands e any =
     waiting-some (waiting_threads m) (any ∙ ap is_any (waiting_threads-kept kept m stands))
-    ∙ sym (none-runnable kept m stands e)
+    ∙ none-runnable m e
 
 pub ending-complete :
-    (kept m : State) → StandsFor kept m → None ≡ least_runnable kept → false ≡ is_any (waiting_threads kept) → Complete ≡ ending_of m
+    (kept m : State) → StandsFor kept m → None ≡ least_runnable m → false ≡ is_any (waiting_threads kept) → Complete ≡ ending_of m
 ending-complete kept m stands e any =
     waiting-none (waiting_threads m) (any ∙ ap is_any (waiting_threads-kept kept m stands))
-    ∙ sym (none-runnable kept m stands e)
+    ∙ none-runnable m e
 
 -- the thread of the next turn
-pub next_turn-kept :
-    (p : SysValue) (kept : State) (o : Option ℕ) → StandsFor kept (state_of_run p) →
-    true ≡ nat_lt (length p.journal) p.script.budget → o ≡ least_runnable kept → o ≡ next_turn p
-next_turn-kept p kept o stands left e =
-    let test : nat_lt (length p.journal) p.script.budget ≡ true = sym left
-    in rw test (e ∙ least_runnable-kept kept (state_of_run p) stands)
+pub next_turn-least :
+    (p : SysValue) (o : Option ℕ) → true ≡ nat_lt (length p.journal) p.script.budget → o ≡ least_runnable (state_of_run p) →
+    o ≡ next_turn p
+next_turn-least p o left e = let test : nat_lt (length p.journal) p.script.budget ≡ true = sym left in rw test e
 
 -- the laws of every run, as they are told
 abbrev pub EveryRun : Type 0

@@ -1,12 +1,11 @@
 -- A script with its kernel, machines and journal: what holds at the begin, and after a turn.
-use Rattle.std.proofs.Common.{◌≡◌, ℕ, ◌+◌, ◌-◌, ◌≤◌, ◌<◌, List, [], length, Some, true, arith, refl, ap, sym, ◌∙◌, subst, zero, suc}
+use Rattle.std.proofs.Common.{◌≡◌, ℕ, ◌+◌, ◌-◌, ◌≤◌, ◌<◌, List, [], length, Some, true, arith, refl, ap, sym, ◌∙◌, subst}
 use Rattle.std.specs.Prelude.{slice_get, slice_set}
 use Rattle.std.proofs.Math.ListN.{length-set}
 use Rattle.written_kernel.specs.Types.{Event}
 use Rattle.script_lang.specs.Words.{ScriptValue}
 use Rattle.thread_machine.specs.declared.machine.Machine.{Machine}
-use Rattle.written_kernel.specs.Words.{StandsFor, State, forget, is_runnable, least_among, least_runnable, waiting_threads}
-use Rattle.written_kernel.proofs.Forget.{is_runnable-forget}
+use Rattle.written_kernel.specs.Words.{StandsFor, State, is_runnable, waiting_threads}
 use Rattle.written_kernel.proofs.Opening.{forget-opening}
 use Rattle.script_requests.specs.Words.{IsPlayable, IsThread}
 use Rattle.written_script.specs.Words.{History, opening_of}
@@ -113,14 +112,6 @@ IsSys-same script es es' kernel kernel' machines t x is has hes hk machine =
     })
 
 -- what the kernel sees of its threads is what its state has
-
-least_among-forget : (m : State) (n : ℕ) → least_among (forget m) n ≡ least_among m n
-least_among-forget m zero = refl
-least_among-forget m (suc n) = rw (least_among-forget m n, is_runnable-forget m (suc n)) refl
-
-pub least_runnable-kept : (kept m : State) → StandsFor kept m → least_runnable kept ≡ least_runnable m
-least_runnable-kept kept m stands =
-    ap least_runnable stands ∙ least_among-forget m (length m.threads)
 
 pub waiting_threads-kept : (kept m : State) → StandsFor kept m → waiting_threads kept ≡ waiting_threads m
 waiting_threads-kept kept m stands = ap waiting_threads stands

@@ -6,7 +6,7 @@ ghost use Rattle.written_script.specs.Words.{ending_of, is_over, scheduled_turns
 ghost use Rattle.sys_run.specs.Sys.{with_journal, history, state_of_run, with_turn, with_turns, turns_left, next_turn, scheduled_turn, threads_woken_by, LawsOf, IsJournal};
 
 use crate::opening::{first_machines, open};
-use crate::threads::{all_waiting, first_runnable, is_any_waiting};
+use crate::threads::{all_waiting, is_any_waiting};
 use crate::turn::take_turn;
 use dk_base::error::NoMemory;
 use dk_base::event::Event;
@@ -158,7 +158,7 @@ impl Sys {
         ensures { option_map tid_number result ≡ next_turn self.now }
     {
         if self.has_budget() {
-            first_runnable(&self.kernel)
+            self.kernel.least_runnable()
         } else {
             None
         }
@@ -200,7 +200,7 @@ impl Sys {
     pub fn ending(&self) -> Ending
         ensures { result ≡ ending_of (state_of_run self.now) }
     {
-        match first_runnable(&self.kernel) {
+        match self.kernel.least_runnable() {
             Some(_) => Ending::Budget,
             None if is_any_waiting(&self.kernel) => Ending::Stalled,
             None => Ending::Complete,

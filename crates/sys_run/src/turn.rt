@@ -1,61 +1,46 @@
 //! One turn of a thread: its request or the end of its wait, the kernel's step, and the event.
 ghost use Rattle.std.specs.Prelude.{◌≡◌, ◌+◌, ◌<◌, ◌≤◌, ◌∷◌, ◌++◌, [], length, IfOk, OnOk, OnErr, true, vec_len, vec_capacity};
 ghost use Rattle.dk_base.specs.declared.limits.TheConstants.{EVENTS_MAX};
-ghost use Rattle.written_kernel.specs.Words.{IsStep, MayTurn, StandsFor, State, is_runnable, step, what_of};
+ghost use Rattle.written_kernel.specs.Words.{IsStep, StandsFor, State, is_runnable, step, what_of};
 ghost use Rattle.script_requests.specs.Words.{Frame};
 ghost use Rattle.thread_machine.specs.Words.{HasRoomForAnswer, IsMachine, Stands};
 ghost use Rattle.sys_run.specs.Sys.{with_journal, state_of_run, with_turn, threads_woken_by, MachineStands, IsJournal};
-ghost use Rattle.sys_run.specs.TurnRequests.{request_if_running};
+ghost use Rattle.sys_run.specs.TurnRequests.{MayTake, request_if_running};
 
 use crate::what;
 use dk_base::error::NoMemory;
 use dk_base::event::{Event, Stepped, What};
 use dk_base::list::TidList;
 use dk_base::number::Tid;
-use dk_base::request::Request;
 use kernel_core::kernel::Kernel;
 use script_lang::script::Script;
 use std::alloc::Global;
 use thread_machine::machine::Machine;
 
-/// What a thread asks for at its turn: its next request where it runs, and nothing where its wait ends.
-fn ask(
+/// The kernel's step for a turn, and what it is: an entry with the machine's next request where the thread runs, else the end of
+/// its wait. Want of memory leaves the kernel as it was.
+fn step(
     alloc: Global,
     script: &Script,
-    kernel: &Kernel,
+    kernel: &mut Kernel,
     machine: &Machine,
     t: Tid,
-) -> Result<Option<Request>, NoMemory>
-    requires { IsMachine script.now machine.now }
-    ensures { IfOk result (λ r. (m : State) (f : Frame) → StandsFor kernel.now m → Stands script.now machine.now f → r ≡ request_if_running m t.0 f) }
+) -> Result<(What, Stepped), NoMemory>
+    requires machine { IsMachine script.now machine.now }
+    requires may { MayTake script.now kernel.old machine.now t.0 }
+    ensures what { IfOk result (λ x. (m : State) (f : Frame) → StandsFor kernel.old m → Stands script.now machine.now f → x.0 ≡ what_of m t.0 (request_if_running m t.0 f)) }
+    ensures step { IfOk result (λ x. (m : State) (f : Frame) → StandsFor kernel.old m → Stands script.now machine.now f → IsStep (step m t.0 (request_if_running m t.0 f)) kernel.new x.1) }
+    ensures err { OnErr result (kernel.new ≡ kernel.old) }
 {
     if kernel.is_running(t) {
         let request = machine.next(alloc, script)?;
-        Ok(Some(request))
+        let what = what::of_entry(&request);
+        let stepped = kernel.enter(t, request)?;
+        Ok((what, stepped))
     } else {
-        Ok(None)
-    }
-}
-
-/// The entry or the end of a wait that a turn is.
-fn what_of(kernel: &Kernel, t: Tid, request: &Option<Request>) -> What
-    ensures { (m : State) → StandsFor kernel.now m → result ≡ what_of m t.0 request.now }
-{
-    match request {
-        Some(request) => what::of_entry(request),
-        None => what::of_wait(kernel.state(t)),
-    }
-}
-
-/// The kernel's step for a turn. Want of memory leaves the kernel as it was.
-fn step(kernel: &mut Kernel, t: Tid, request: Option<Request>) -> Result<Stepped, NoMemory>
-    requires { (m : State) × StandsFor kernel.old m × MayTurn m t.0 request }
-    ensures step { IfOk result (λ s. (m : State) → StandsFor kernel.old m → IsStep (step m t.0 request) kernel.new s) }
-    ensures err { OnErr result (kernel.new ≡ kernel.old) }
-{
-    match request {
-        Some(request) => kernel.enter(t, request),
-        None => kernel.go_on(t),
+        let what = what::of_wait(kernel.state(t));
+        let stepped = kernel.go_on(t)?;
+        Ok((what, stepped))
     }
 }
 
@@ -83,10 +68,8 @@ fn turn(
     ensures kernel_err { OnErr result (kernel.new ≡ kernel.old) }
     ensures machine_err { OnErr result (machine.new ≡ machine.old) }
 {
-    let request = ask(alloc, script, kernel, machine, t)?;
-    let what = what_of(kernel, t, &request);
     let root = kernel.root(t);
-    let stepped = step(kernel, t, request)?;
+    let (what, stepped) = step(alloc, script, kernel, machine, t)?;
     machine.take(script, &stepped.answer);
     Ok(push_event(journal, t, root, what, stepped))
 }

@@ -3,8 +3,8 @@ ghost use Rattle.std.specs.Prelude.{◌≡◌};
 ghost use Rattle.written_kernel.specs.Words.{what_of_entry, what_of_wait};
 
 use dk_base::event::What;
-use kernel_records::record::ThreadState;
 use dk_base::request::Request;
+use kernel_records::record::ThreadState;
 
 pub(crate) fn of_entry(request: &Request) -> What
     ensures { result ≡ what_of_entry request.now }

@@ -1,23 +1,25 @@
--- Once a kernel has settled, no pool has both a waiting call and an idle thread.
-use Rattle.std.proofs.Common.{◌≡◌, ◌≤◌, ℕ, zero, suc, ◌==◌, ◌&&◌, Bool, true, false, if◌then◌else◌, nat_le, List, [], ◌∷◌, Option, None, Some, slice_get, length, map, filter, find, count_by, refl, sym, subst, eq-or-lt_of_le, ap, ◌∙◌, ◌⊎◌, inl, inr, ⊎_elim, arith}
+-- Once a kernel has settled, nothing waits in a pool that has an idle thread.
+use Rattle.std.proofs.Common.{◌≡◌, ◌≤◌, ℕ, zero, suc, ◌==◌, ◌&&◌, Bool, true, false, if◌then◌else◌, nat_le, List, [], ◌∷◌, Option, None, Some, option_map, slice_get, length, map, filter, count_by, refl, sym, subst, eq-or-lt_of_le, true≢false, ap, ◌∙◌, ◌⊎◌, inl, inr, ⊎_elim, arith}
+use Rattle.std.specs.List.{All}
 use Rattle.std.proofs.lemmas.Bool.Decides.{nat_tests}
 use Rattle.std.proofs.lemmas.List.Sums.{length-filter}
-use Rattle.written_kernel.specs.Types.{Call, CallStage, Item, Notice, Thread, ThreadState}
+use Rattle.std.proofs.lemmas.List.Elements.{All-nil, All-cons}
+use Rattle.written_kernel.specs.Types.{Call, CallStage, Item, Notice, Parked, Pool, Thread, Waiting}
 use Rattle.dk_base.specs.declared.object.Item.TheVariants as item
+use Rattle.kernel_records.specs.declared.pool.Pool.TheVariants.{Common, Private}
 use Rattle.kernel_records.specs.declared.record.ThreadState.TheVariants as is
 use Rattle.kernel_records.specs.declared.record.CallStage.TheVariants as stage
+use Rattle.kernel_records.specs.declared.record.NoticeStage.TheVariants as notice
 use Rattle.dk_base.specs.ByNumber.{at_number}
-use Rattle.written_kernel.specs.State.{State, tid, thread_of, with_state, with_state_in, at_stage, call_of, is_call, with_live_call, is_live, is_queued}
-use Rattle.written_kernel.specs.Pools.Pool.{Common, Private}
-use Rattle.written_kernel.specs.Pools.{Pool, Parked, Waiting, is_pool, pool_in, pool_of, parked_thread, parked_at, better_parked, later_parked, pick_among, pick, is_queued_call, waiting_call, waiting_notice, is_waiting_notice, with_notice, with_notices, waiting_items, is_queued_in, queue_length}
-use Rattle.written_kernel.specs.Settle.{give_call, give_notice, give_item, give_one, give_to, give_each, settle}
-use Rattle.written_kernel.specs.Kept.{is_live_call}
-use Rattle.written_kernel.proofs.Lists.{at_number-suc, numbered_within, length-with_at_number, at_number-renumbered_there}
-
--- x is an item of the list
-abbrev pub IsIn : {X : Type 0} → X → List X → Type 0
-IsIn x [] = ⊥
-IsIn x (y ∷ ys) = (x ≡ y) ⊎ IsIn x ys
+use Rattle.kernel_records.specs.Words.{NoticeList, ProcessTable, at_stage, better_parked, change_first, give_notice, give_notice_in, give_thread, is_live, is_live_call, is_pool, is_queued, is_queued_as, is_queued_in, is_waiting_notice, later_parked, parked_at, parked_thread, pick_among, pick_parked, thread_at, tid, thread_at_state, waiting_call}
+use Rattle.written_kernel.specs.State.{State, calls_waiting, pick, pool_of, waiting_items}
+use Rattle.written_kernel.specs.Settle.{give, give_each, give_one, give_to, settle}
+use Rattle.written_kernel.proofs.Threads.{map-change_thread, thread_at-change_thread}
+use Rattle.written_kernel.proofs.Lists.{at_number-suc, numbered_within, same_length, at_number-renumbered_there, map-with_at_number}
+use Rattle.written_kernel.proofs.Places.{IsInOrder, at_its_number, in_renumbered, order_same, place_of}
+pub use Rattle.written_kernel.proofs.Places.{IsIn}
+use Rattle.written_kernel.proofs.Waits.{IsWaiting, Passes, from_filter, from_waits, in_waits-notice}
+pub use Rattle.written_kernel.proofs.Waits.{in_waits}
 
 -- a queued call of this number stands in the list
 pub record HasQueued (rs : List Call) (c : ℕ) (r : Call) : Type 0 where
@@ -30,98 +32,134 @@ abbrev pub IsApart : List Call → Type 0
 IsApart [] = Unit {0}
 IsApart (q ∷ qs) = ((r : Call) → is_live_call q ≡ true → HasQueued qs q.number r → ⊥) × IsApart qs
 
--- calls
+abbrev pub notice_number : Notice → ℕ
+notice_number n = n.number
 
-queued_stays :
-    (rs : List Call) (c : ℕ) (x r : Call) → is_queued x.stage ≡ false → is_queued r.stage ≡ true →
-    IsIn r (with_live_call rs c x) → IsIn r rs
-queued_stays [] c x r n q h = h
-queued_stays (y ∷ ys) c x r n q h = go (is_call c y) (queued_stays ys c x r n q) h
-  where
-    go :
-        (b : Bool) → (IsIn r (with_live_call ys c x) → IsIn r ys) → IsIn r (if b then x ∷ ys else y ∷ with_live_call ys c x) →
-        IsIn r (y ∷ ys)
-    go true ih (inl e) = cc
-    go true ih (inr k) = inr k
-    go false ih (inl e) = inl e
-    go false ih (inr k) = inr (ih k)
+-- the calls after a queued one was given to a thread
 
-call_number : (c : ℕ) (r : Call) → is_call c r ≡ true → r.number ≡ c
-call_number c r e = grind (arith, nat_tests)
+abbrev given : ℕ → Call → Call
+given u r = at_stage (stage.Given (tid u)) r
 
-call_lives : (c : ℕ) (r : Call) → is_call c r ≡ true → is_live_call r ≡ true
-call_lives c r e = grind (arith, nat_tests)
+abbrev given_calls : ℕ → ℕ → List Call → List Call
+given_calls c u rs = change_first (is_queued_as c) (given u) rs
+
+given_not_queued : (u : ℕ) (r y : Call) → r ≡ given u y → is_queued r.stage ≡ true → ⊥
+given_not_queued u r y e q = true≢false (sym q ∙ ap (λ (z : Call). is_queued z.stage) e)
 
 queued_lives : (s : CallStage) → is_queued s ≡ true → is_live s ≡ true
 queued_lives stage.Queued e = refl
 queued_lives _ e = cc
 
-queued_is_call : (c : ℕ) (r : Call) → is_queued r.stage ≡ true → r.number ≡ c → is_call c r ≡ true
-queued_is_call c r q e = grind (arith, nat_tests, queued_lives r.stage q)
+queued_as : (c : ℕ) (r : Call) → is_queued_as c r ≡ true → (r.number ≡ c) × (is_queued r.stage ≡ true)
+queued_as c r e = (grind (arith, nat_tests), grind (arith, nat_tests))
 
--- where a call was replaced by one that is not queued, none of its number is queued
-none_queued :
-    (rs : List Call) (c : ℕ) (x r : Call) → is_queued x.stage ≡ false → IsApart rs → is_queued r.stage ≡ true →
-    r.number ≡ c → IsIn r (with_live_call rs c x) → ⊥
-none_queued [] c x r n a q e h = h
-none_queued (y ∷ ys) c x r n a q e h = go (is_call c y) refl (none_queued ys c x r n a.1 q e) h
+is_queued_there : (c : ℕ) (r : Call) → is_queued r.stage ≡ true → r.number ≡ c → is_queued_as c r ≡ true
+is_queued_there c r q e = grind (arith, nat_tests)
+
+queued_stays : (rs : List Call) (c u : ℕ) (r : Call) → is_queued r.stage ≡ true → IsIn r (given_calls c u rs) → IsIn r rs
+queued_stays [] c u r q h = h
+queued_stays (y ∷ ys) c u r q h = go (is_queued_as c y) (queued_stays ys c u r q) h
   where
     go :
-        (b : Bool) → is_call c y ≡ b → (IsIn r (with_live_call ys c x) → ⊥) →
-        IsIn r (if b then x ∷ ys else y ∷ with_live_call ys c x) → ⊥
-    go true f ih (inl k) = cc
+        (b : Bool) → (IsIn r (given_calls c u ys) → IsIn r ys) → IsIn r (if b then given u y ∷ ys else y ∷ given_calls c u ys) →
+        IsIn r (y ∷ ys)
+    go true ih (inl e) = absurd (given_not_queued u r y e q)
+    go true ih (inr k) = inr k
+    go false ih (inl e) = inl e
+    go false ih (inr k) = inr (ih k)
+
+-- none of its number is queued then
+none_queued :
+    (rs : List Call) (c u : ℕ) (r : Call) → IsApart rs → is_queued r.stage ≡ true → r.number ≡ c → IsIn r (given_calls c u rs) → ⊥
+none_queued [] c u r a q e h = h
+none_queued (y ∷ ys) c u r a q e h = go (is_queued_as c y) refl (none_queued ys c u r a.1 q e) h
+  where
+    go :
+        (b : Bool) → is_queued_as c y ≡ b → (IsIn r (given_calls c u ys) → ⊥) →
+        IsIn r (if b then given u y ∷ ys else y ∷ given_calls c u ys) → ⊥
+    go true f ih (inl k) = given_not_queued u r y k q
     go true f ih (inr k) =
-        a.0 r (call_lives c y f) (record { is_in = k; queued = q; number = e ∙ sym (call_number c y f) })
-    go false f ih (inl k) = let g : is_call c r ≡ true = queued_is_call c r q e in cc
+        let z : (y.number ≡ c) × (is_queued y.stage ≡ true) = queued_as c y f in
+        a.0 r (queued_lives y.stage z.1) (record { is_in = k; queued = q; number = e ∙ sym z.0 })
+    go false f ih (inl k) =
+        true≢false (sym (is_queued_there c r q e) ∙ ap (is_queued_as c) k ∙ f)
     go false f ih (inr k) = ih k
 
-still_apart :
-    (rs : List Call) (c : ℕ) (x : Call) → is_queued x.stage ≡ false → x.number ≡ c → IsApart rs → IsApart (with_live_call rs c x)
-still_apart [] c x n e a = a
-still_apart (y ∷ ys) c x n e a = go (is_call c y) refl (still_apart ys c x n e a.1)
+still_apart : (rs : List Call) (c u : ℕ) → IsApart rs → IsApart (given_calls c u rs)
+still_apart [] c u a = a
+still_apart (y ∷ ys) c u a = go (is_queued_as c y) refl (still_apart ys c u a.1)
   where
-    go : (b : Bool) → is_call c y ≡ b → IsApart (with_live_call ys c x) → IsApart (if b then x ∷ ys else y ∷ with_live_call ys c x)
+    go : (b : Bool) → is_queued_as c y ≡ b → IsApart (given_calls c u ys) → IsApart (if b then given u y ∷ ys else y ∷ given_calls c u ys)
     go true k ih = (
       λ r l h.
-          a.0 r (call_lives c y k)
-          (record { is_in = h.is_in; queued = h.queued; number = h.number ∙ e ∙ sym (call_number c y k) }),
+          a.0 r (queued_lives y.stage (queued_as c y k).1)
+          (record { is_in = h.is_in; queued = h.queued; number = h.number }),
       a.1,
     )
     go false k ih = (
       λ r l h.
-          a.0 r l
-          (record { is_in = queued_stays ys c x r n h.queued h.is_in; queued = h.queued; number = h.number }),
+          a.0 r l (record { is_in = queued_stays ys c u r h.queued h.is_in; queued = h.queued; number = h.number }),
       ih,
     )
 
-found_call :
-    (rs : List Call) (c : ℕ) (r : Call) → is_call c r ≡ true → IsIn r rs → find (is_call c) rs ≡ None → ⊥
-found_call [] c r f h e = h
-found_call (y ∷ ys) c r f h e = go (is_call c y) refl (found_call ys c r f) h e
-  where
-    go :
-        (b : Bool) → is_call c y ≡ b → (IsIn r ys → find (is_call c) ys ≡ None → ⊥) → (r ≡ y) ⊎ IsIn r ys →
-        (if b then Some y else find (is_call c) ys) ≡ None → ⊥
-    go true g ih k e = cc
-    go false g ih (inl k) e = cc
-    go false g ih (inr k) e = ih k e
+-- the notices after one of them was given to a thread
 
-found_number : (rs : List Call) (c : ℕ) (r : Call) → find (is_call c) rs ≡ Some r → is_call c r ≡ true
-found_number [] c r e = cc
-found_number (y ∷ ys) c r e = go (is_call c y) refl (found_number ys c r) e
+abbrev given_notice : ℕ → Notice → Notice
+given_notice u n = record n { stage = notice.Given (tid u) }
+
+give_notice-numbers :
+    (list : NoticeList) (n u : ℕ) → map notice_number (give_notice list n u).notices ≡ map notice_number list.notices
+give_notice-numbers list n u = go (at_number list.notices n) refl
   where
     go :
-        (b : Bool) → is_call c y ≡ b → (find (is_call c) ys ≡ Some r → is_call c r ≡ true) →
-        (if b then Some y else find (is_call c) ys) ≡ Some r → is_call c r ≡ true
-    go true g ih e = let k : y ≡ r = cc in subst (λ z. is_call c z ≡ true) k g
-    go false g ih e = ih e
+        (o : Option Notice) → at_number list.notices n ≡ o →
+        map notice_number (give_notice_in list n u o).notices ≡ map notice_number list.notices
+    go None e = refl
+    go (Some x) e =
+        map-with_at_number notice_number list.notices n (given_notice u x)
+        (λ y f. let same : x ≡ y = cc in ap notice_number same)
+
+pub notices_in_order :
+    (list : NoticeList) (n u : ℕ) → IsInOrder notice_number list.notices → IsInOrder notice_number (give_notice list n u).notices
+notices_in_order list n u h =
+    order_same notice_number list.notices (give_notice list n u).notices (give_notice-numbers list n u) h
+
+given_not_waiting : (u : ℕ) (n x : Notice) → n ≡ given_notice u x → is_waiting_notice n ≡ true → ⊥
+given_not_waiting u n x e q = true≢false (sym q ∙ ap is_waiting_notice e)
+
+notice_stays :
+    (list : NoticeList) (c u : ℕ) (n : Notice) → is_waiting_notice n ≡ true → IsIn n (give_notice list c u).notices →
+    IsIn n list.notices
+notice_stays list c u n q h = go (at_number list.notices c) h
+  where
+    go : (o : Option Notice) → IsIn n (give_notice_in list c u o).notices → IsIn n list.notices
+    go None k = k
+    go (Some x) k =
+        ⊎_elim (λ e. absurd (given_not_waiting u n x e q)) (λ l. l) (in_renumbered list.notices c (given_notice u x) n k)
+
+notice_gone :
+    (list : NoticeList) (c u : ℕ) (n : Notice) → IsInOrder notice_number list.notices → is_waiting_notice n ≡ true → n.number ≡ c →
+    IsIn n (give_notice list c u).notices → ⊥
+notice_gone list c u n o q e h = go (at_number list.notices c) refl there
+  where
+    there : at_number (give_notice list c u).notices c ≡ Some n
+    there =
+        ap (at_number (give_notice list c u).notices) (sym e)
+        ∙ at_its_number notice_number (give_notice list c u).notices n (notices_in_order list c u o) h
+
+    go : (o : Option Notice) → at_number list.notices c ≡ o → at_number (give_notice_in list c u o).notices c ≡ Some n → ⊥
+    go None f k = cc
+    go (Some x) f k =
+        let same : Some (given_notice u x) ≡ Some n =
+        grind (arith, nat_tests, at_number-renumbered_there list.notices c c (given_notice u x) x f) in
+        let it : given_notice u x ≡ n = cc in
+        given_not_waiting u n x (sym it) q
 
 -- idle threads get fewer
 
-record Fewer (m n : State) : Type 0 where
-  threads : length n.threads ≡ length m.threads
-  doors : n.doors ≡ m.doors
-  parked : (t : ℕ) → (parked_at n t ≡ parked_at m t) ⊎ (parked_at n t ≡ None)
+record FewerIdle (bindings : List (Option ℕ)) (before after : ProcessTable) : Type 0 where
+  threads : length after.threads ≡ length before.threads
+  parked : (t : ℕ) → (parked_at after bindings t ≡ parked_at before bindings t) ⊎ (parked_at after bindings t ≡ None)
 
 later_some : (best : Option Parked) (x : Parked) → later_parked best x ≡ None → ⊥
 later_some None x e = cc
@@ -153,239 +191,202 @@ fewer_better pool best best' o o' ih (inl same) e = ap (better_parked pool best'
     go None e = ih e
     go (Some x) e = at x (is_pool pool x.pool) e
 
-fewer_pick_among : (m n : State) (pool : Pool) (k : ℕ) → Fewer m n → pick_among m pool k ≡ None → pick_among n pool k ≡ None
-fewer_pick_among m n pool zero h e = refl
-fewer_pick_among m n pool (suc k) h e =
-    fewer_better pool (pick_among m pool k) (pick_among n pool k) (parked_at m (suc k)) (parked_at n (suc k))
-    (fewer_pick_among m n pool k h)
+fewer_pick_among :
+    (bindings : List (Option ℕ)) (before after : ProcessTable) (pool : Pool) (k : ℕ) → FewerIdle bindings before after →
+    pick_among before bindings pool k ≡ None → pick_among after bindings pool k ≡ None
+fewer_pick_among bindings before after pool zero h e = refl
+fewer_pick_among bindings before after pool (suc k) h e =
+    fewer_better pool
+    (pick_among before bindings pool k)
+    (pick_among after bindings pool k)
+    (parked_at before bindings (suc k))
+    (parked_at after bindings (suc k))
+    (fewer_pick_among bindings before after pool k h)
     (h.parked (suc k))
     e
 
-fewer_pick : (m n : State) (pool : Pool) → Fewer m n → pick m pool ≡ None → pick n pool ≡ None
-fewer_pick m n pool h e =
-    ap (pick_among n pool) h.threads ∙ fewer_pick_among m n pool (length m.threads) h e
-
-fewer_same : (m : State) → Fewer m m
-fewer_same m = record { threads = refl; doors = refl; parked = λ t. inl refl }
-
-fewer_then : {m n k : State} → Fewer m n → Fewer n k → Fewer m k
-fewer_then {m} {n} {k} h g =
-    record {
-      threads = g.threads ∙ h.threads;
-      doors = g.doors ∙ h.doors;
-      parked = λ t. go t (g.parked t) (h.parked t);
-    }
-  where
-    go :
-        (t : ℕ) → (parked_at k t ≡ parked_at n t) ⊎ (parked_at k t ≡ None) →
-        (parked_at n t ≡ parked_at m t) ⊎ (parked_at n t ≡ None) → (parked_at k t ≡ parked_at m t) ⊎ (parked_at k t ≡ None)
-    go t (inr e) p = inr e
-    go t (inl e) (inl f) = inl (e ∙ f)
-    go t (inl e) (inr f) = inr (e ∙ f)
+fewer_pick :
+    (bindings : List (Option ℕ)) (before after : ProcessTable) (pool : Pool) → FewerIdle bindings before after →
+    pick_parked before bindings pool ≡ None → pick_parked after bindings pool ≡ None
+fewer_pick bindings before after pool h e =
+    ap (pick_among after bindings pool) h.threads
+    ∙ fewer_pick_among bindings before after pool (length before.threads) h e
 
 -- a thread that is given something is idle no more
-given_fewer : (m : State) (u : ℕ) (i : Item) → Fewer m (with_state m u (is.Given i))
-given_fewer m u i = go (thread_of m u) refl
+given_fewer : (bindings : List (Option ℕ)) (table : ProcessTable) (u : ℕ) (i : Item) → FewerIdle bindings table (give_thread table u i)
+given_fewer bindings table u i =
+    record {
+      threads =
+          same_length (λ (x : Thread). x.number) (give_thread table u i).threads table.threads
+          (map-change_thread (λ (x : Thread). x.number) table u (thread_at_state (is.Given i)) (λ x. refl));
+      parked = λ t. rw (thread_at-change_thread table u t (thread_at_state (is.Given i))) (at t (t == u) (thread_at table u));
+    }
   where
     at :
-        (t : ℕ) (x : Thread) (b : Bool) →
-        (parked_thread m t (if b then Some (record x { state = is.Given i }) else thread_of m t) ≡ parked_at m t)
-        ⊎ (parked_thread m t (if b then Some (record x { state = is.Given i }) else thread_of m t) ≡ None)
-    at t x true = inr refl
-    at t x false = inl refl
+        (t : ℕ) (b : Bool) (o : Option Thread) →
+        (parked_thread bindings t (if b then option_map (thread_at_state (is.Given i)) o else thread_at table t) ≡ parked_at table bindings t)
+        ⊎ (parked_thread bindings t (if b then option_map (thread_at_state (is.Given i)) o else thread_at table t) ≡ None)
+    at t true None = inr refl
+    at t true (Some x) = inr refl
+    at t false o = inl refl
 
-    go : (o : Option Thread) → thread_of m u ≡ o → Fewer m (with_state_in m u (is.Given i) o)
-    go None e = fewer_same m
-    go (Some x) e =
-        record {
-          threads = length-with_at_number m.threads u (record x { state = is.Given i });
-          doors = refl;
-          parked =
-              λ t.
-              rw (at_number-renumbered_there m.threads u t (record x { state = is.Given i }) x e) (at t x (t == u));
-        }
+-- what giving leaves, by what is given
 
-give_item_fewer : (m : State) (i : Item) (u : ℕ) → Fewer m (give_item m i u)
-give_item_fewer m (item.Call c) u = go (call_of m c)
+give_one-pool : (m : State) (i : Item) (u d : ℕ) → pool_of (give_one m i u) d ≡ pool_of m d
+give_one-pool m (item.Call c) u d = refl
+give_one-pool m (item.Notice n) u d = refl
+
+give_one-pick : (m : State) (i : Item) (u : ℕ) (pool : Pool) → pick m pool ≡ None → pick (give_one m i u) pool ≡ None
+give_one-pick m (item.Call c) u pool e =
+    fewer_pick m.bindings m.process_table (give_thread m.process_table u (item.Call c)) pool
+    (given_fewer m.bindings m.process_table u (item.Call c))
+    e
+give_one-pick m (item.Notice n) u pool e =
+    fewer_pick m.bindings m.process_table (give_thread m.process_table u (item.Notice n)) pool
+    (given_fewer m.bindings m.process_table u (item.Notice n))
+    e
+
+call_stays :
+    (m : State) (i : Item) (u : ℕ) (r : Call) → is_queued r.stage ≡ true → IsIn r (give_one m i u).call_tree.calls →
+    IsIn r m.call_tree.calls
+call_stays m (item.Call c) u r q h = queued_stays m.call_tree.calls c u r q h
+call_stays m (item.Notice n) u r q h = h
+
+waiting_notice_stays :
+    (m : State) (i : Item) (u : ℕ) (n : Notice) → is_waiting_notice n ≡ true → IsIn n (give_one m i u).notice_list.notices →
+    IsIn n m.notice_list.notices
+waiting_notice_stays m (item.Call c) u n q h = h
+waiting_notice_stays m (item.Notice k) u n q h = notice_stays m.notice_list k u n q h
+
+item_stays : (m : State) (i : Item) (u : ℕ) (v : Waiting) → IsIn v (waiting_items (give_one m i u)) → IsIn v (waiting_items m)
+item_stays m i u v h = go (from_waits (give_one m i u) v h)
   where
-    go : (o : Option Call) → Fewer m (give_call m u o)
-    go None = fewer_same m
-    go (Some r) = record { threads = refl; doors = refl; parked = λ t. inl refl }
-give_item_fewer m (item.Notice n) u = go (at_number m.notices n)
-  where
-    go : (o : Option Notice) → Fewer m (give_notice m n u o)
-    go None = fewer_same m
-    go (Some x) = record { threads = refl; doors = refl; parked = λ t. inl refl }
+    go : IsWaiting (give_one m i u) v → IsIn v (waiting_items m)
+    go (inl (r, k)) =
+        subst (λ w. IsIn w (waiting_items m)) (sym k.same) (in_waits m r k.queued (call_stays m i u r k.queued k.is_in))
+    go (inr (n, k)) =
+        subst (λ w. IsIn w (waiting_items m)) (sym k.same)
+        (in_waits-notice m n k.waiting (waiting_notice_stays m i u n k.waiting k.is_in))
 
-give_one_fewer : (m : State) (i : Item) (u : ℕ) → Fewer m (give_one m i u)
-give_one_fewer m i u = fewer_then (give_item_fewer m i u) (given_fewer (give_item m i u) u i)
+-- some of the items, which are in order as far as they go
+module _ (Asked : Item → Type 0) where
+  record IsDistinct (m : State) : Type 0 where
+    calls : IsApart m.call_tree.calls
+    notices : (n : ℕ) → Asked (item.Notice n) → IsInOrder notice_number m.notice_list.notices
 
--- what giving leaves of the calls
+  given_distinct : (m : State) (i : Item) (u : ℕ) → IsDistinct m → IsDistinct (give_one m i u)
+  given_distinct m (item.Call c) u h =
+      record { calls = still_apart m.call_tree.calls c u h.calls; notices = h.notices }
+  given_distinct m (item.Notice n) u h =
+      record { calls = h.calls; notices = λ k a. notices_in_order m.notice_list n u (h.notices k a) }
 
-calls-with_state : (m : State) (t : ℕ) (s : ThreadState) → (with_state m t s).calls ≡ m.calls
-calls-with_state m t s = go (thread_of m t)
-  where
-    go : (o : Option Thread) → (with_state_in m t s o).calls ≡ m.calls
-    go None = refl
-    go (Some x) = refl
+  -- what was given waits no more
+  item_gone :
+      (m : State) (v : Waiting) (u : ℕ) → IsDistinct m → Asked v.item → IsIn v (waiting_items (give_one m v.item u)) → ⊥
+  item_gone m v u h a i = go (from_waits (give_one m v.item u) v i)
+    where
+      go : IsWaiting (give_one m v.item u) v → ⊥
+      go (inl (r, k)) =
+          none_queued m.call_tree.calls r.number u r h.calls k.queued refl
+          (subst (λ (w : Waiting). IsIn r (give_one m w.item u).call_tree.calls) k.same k.is_in)
+      go (inr (n, k)) =
+          notice_gone m.notice_list n.number u n
+          (h.notices n.number (subst (λ (w : Waiting). Asked w.item) k.same a))
+          k.waiting refl
+          (subst (λ (w : Waiting). IsIn n (give_one m w.item u).notice_list.notices) k.same k.is_in)
 
-given_stays : (m : State) (i : Item) (u : ℕ) (r : Call) → is_queued r.stage ≡ true → IsIn r (give_item m i u).calls → IsIn r m.calls
-given_stays m (item.Call c) u r q h = go (call_of m c) h
-  where
-    go : (o : Option Call) → IsIn r (give_call m u o).calls → IsIn r m.calls
-    go None h = h
-    go (Some x) h = queued_stays m.calls x.number (at_stage x (stage.Given (tid u))) r refl q h
-given_stays m (item.Notice n) u r q h = go (at_number m.notices n) h
-  where
-    go : (o : Option Notice) → IsIn r (give_notice m n u o).calls → IsIn r m.calls
-    go None h = h
-    go (Some x) h = h
+  -- each of them that waits stands in the list, or no thread is idle in its pool
+  abbrev IsPending : State → List Waiting → Type 0
+  IsPending m ws =
+      (v : Waiting) → Asked v.item → IsIn v (waiting_items m) → IsIn v ws ⊎ (pick m (pool_of m v.door) ≡ None)
 
-given_apart : (m : State) (i : Item) (u : ℕ) → IsApart m.calls → IsApart (give_item m i u).calls
-given_apart m (item.Call c) u a = go (call_of m c)
-  where
-    go : (o : Option Call) → IsApart (give_call m u o).calls
-    go None = a
-    go (Some x) = still_apart m.calls x.number (at_stage x (stage.Given (tid u))) refl refl a
-given_apart m (item.Notice n) u a = go (at_number m.notices n)
-  where
-    go : (o : Option Notice) → IsApart (give_notice m n u o).calls
-    go None = a
-    go (Some x) = a
+  pending_given :
+      (m : State) (w : Waiting) (ws : List Waiting) (u : ℕ) → IsDistinct m → IsPending m (w ∷ ws) →
+      IsPending (give_one m w.item u) ws
+  pending_given m w ws u d h v a k = go (h v a (item_stays m w.item u v k))
+    where
+      gone : v ≡ w → ⊥
+      gone e = item_gone m v u d a (subst (λ (x : Waiting). IsIn v (waiting_items (give_one m x.item u))) (sym e) k)
 
-given_gone :
-    (m : State) (c u : ℕ) (r : Call) → IsApart m.calls → is_queued r.stage ≡ true → r.number ≡ c →
-    IsIn r (give_item m (item.Call c) u).calls → ⊥
-given_gone m c u r a q e h = go (call_of m c) refl h
-  where
-    go : (o : Option Call) → call_of m c ≡ o → IsIn r (give_call m u o).calls → ⊥
-    go None f h = found_call m.calls c r (queued_is_call c r q e) h f
-    go (Some x) f h =
-        none_queued m.calls x.number (at_stage x (stage.Given (tid u))) r refl a q
-        (e ∙ sym (call_number c x (found_number m.calls c x f)))
-        h
+      go :
+          ((v ≡ w) ⊎ IsIn v ws) ⊎ (pick m (pool_of m v.door) ≡ None) →
+          IsIn v ws ⊎ (pick (give_one m w.item u) (pool_of (give_one m w.item u) v.door) ≡ None)
+      go (inl (inl e)) = absurd (gone e)
+      go (inl (inr i)) = inl i
+      go (inr e) =
+          inr
+          (ap (pick (give_one m w.item u)) (give_one-pool m w.item u v.door)
+          ∙ give_one-pick m w.item u (pool_of m v.door) e)
 
--- each queued call waits in the list, or no thread is idle in its pool
-abbrev IsPending : State → List Waiting → Type 0
-IsPending m ws =
-    (r : Call) → is_queued r.stage ≡ true → IsIn r m.calls →
-    IsIn (waiting_call r) ws ⊎ (pick m (pool_of m r.door) ≡ None)
+  give_to_distinct : (m : State) (w : Waiting) (o : Option Parked) → IsDistinct m → IsDistinct (give_to m w o)
+  give_to_distinct m w None d = d
+  give_to_distinct m w (Some x) d = given_distinct m w.item x.thread.0 d
 
-pending_given :
-    (m : State) (w : Waiting) (ws : List Waiting) (u : ℕ) → IsApart m.calls → IsPending m (w ∷ ws) →
-    IsPending (give_one m w.item u) ws
-pending_given m w ws u a h r q k = go (h r q (given_stays m w.item u r q there))
-  where
-    there : IsIn r (give_item m w.item u).calls
-    there = subst (IsIn r) (calls-with_state (give_item m w.item u) u (is.Given w.item)) k
+  give_to_pending :
+      (m : State) (w : Waiting) (ws : List Waiting) (o : Option Parked) → pick m (pool_of m w.door) ≡ o → IsDistinct m →
+      IsPending m (w ∷ ws) → IsPending (give_to m w o) ws
+  give_to_pending m w ws (Some x) e d h = pending_given m w ws x.thread.0 d h
+  give_to_pending m w ws None e d h = λ v a k. go v (h v a k)
+    where
+      go :
+          (v : Waiting) → ((v ≡ w) ⊎ IsIn v ws) ⊎ (pick m (pool_of m v.door) ≡ None) →
+          IsIn v ws ⊎ (pick m (pool_of m v.door) ≡ None)
+      go v (inl (inl f)) = inr (ap (λ (z : Waiting). pick m (pool_of m z.door)) f ∙ e)
+      go v (inl (inr i)) = inl i
+      go v (inr f) = inr f
 
-    same_pool : pool_of (give_one m w.item u) r.door ≡ pool_of m r.door
-    same_pool = ap (λ ds. pool_in (at_number ds r.door)) (give_one_fewer m w.item u).doors
+  give_each_pending : (m : State) (ws : List Waiting) → IsDistinct m → IsPending m ws → IsPending (give_each m ws) []
+  give_each_pending m [] d h = h
+  give_each_pending m (w ∷ ws) d h =
+      give_each_pending
+      (give_to m w (pick m (pool_of m w.door)))
+      ws
+      (give_to_distinct m w (pick m (pool_of m w.door)) d)
+      (give_to_pending m w ws (pick m (pool_of m w.door)) refl d h)
 
-    gone : waiting_call r ≡ w → ⊥
-    gone e =
-        given_gone m r.number u r a q refl
-        (subst (λ v. IsIn r (give_item m v.item u).calls) (sym e) there)
-
-    go :
-        ((waiting_call r ≡ w) ⊎ IsIn (waiting_call r) ws) ⊎ (pick m (pool_of m r.door) ≡ None) →
-        IsIn (waiting_call r) ws ⊎ (pick (give_one m w.item u) (pool_of (give_one m w.item u) r.door) ≡ None)
-    go (inl (inl e)) = absurd (gone e)
-    go (inl (inr i)) = inl i
-    go (inr e) =
-        inr
-        (ap (pick (give_one m w.item u)) same_pool
-        ∙ fewer_pick m (give_one m w.item u) (pool_of m r.door) (give_one_fewer m w.item u) e)
-
-give_to_apart : (m : State) (w : Waiting) (o : Option Parked) → IsApart m.calls → IsApart (give_to m w o).calls
-give_to_apart m w None a = a
-give_to_apart m w (Some x) a =
-    subst IsApart (sym (calls-with_state (give_item m w.item x.thread) x.thread (is.Given w.item)))
-    (given_apart m w.item x.thread a)
-
-give_to_pending :
-    (m : State) (w : Waiting) (ws : List Waiting) (o : Option Parked) → pick m (pool_of m w.door) ≡ o →
-    IsApart m.calls → IsPending m (w ∷ ws) → IsPending (give_to m w o) ws
-give_to_pending m w ws (Some x) e a h = pending_given m w ws x.thread a h
-give_to_pending m w ws None e a h = λ r q k. go r (h r q k)
-  where
-    go :
-        (r : Call) → ((waiting_call r ≡ w) ⊎ IsIn (waiting_call r) ws) ⊎ (pick m (pool_of m r.door) ≡ None) →
-        IsIn (waiting_call r) ws ⊎ (pick m (pool_of m r.door) ≡ None)
-    go r (inl (inl f)) = inr (ap (λ (v : Waiting). pick m (pool_of m v.door)) f ∙ e)
-    go r (inl (inr i)) = inl i
-    go r (inr f) = inr f
-
-give_each_pending : (m : State) (ws : List Waiting) → IsApart m.calls → IsPending m ws → IsPending (give_each m ws) []
-give_each_pending m [] a h = h
-give_each_pending m (w ∷ ws) a h =
-    give_each_pending
-    (give_to m w (pick m (pool_of m w.door)))
-    ws
-    (give_to_apart m w (pick m (pool_of m w.door)) a)
-    (give_to_pending m w ws (pick m (pool_of m w.door)) refl a h)
-
--- every queued call waits
-
-in_queued : (rs : List Call) (r : Call) → is_queued r.stage ≡ true → IsIn r rs → IsIn (waiting_call r) (map waiting_call (filter is_queued_call rs))
-in_queued [] r q h = h
-in_queued (y ∷ ys) r q h = go (is_queued_call y) refl (in_queued ys r q) h
-  where
-    rest : List Call
-    rest = filter is_queued_call ys
-
-    go :
-        (b : Bool) → is_queued_call y ≡ b → (IsIn r ys → IsIn (waiting_call r) (map waiting_call rest)) → (r ≡ y) ⊎ IsIn r ys →
-        IsIn (waiting_call r) (map waiting_call (if b then y ∷ rest else rest))
-    go true e ih (inl k) = inl (ap waiting_call k)
-    go true e ih (inr k) = inr (ih k)
-    go false e ih (inl k) = cc
-    go false e ih (inr k) = ih k
-
-in_notice : (ws : List Waiting) (n v : Waiting) → IsIn v ws → IsIn v (with_notice ws n)
-in_notice [] n v h = absurd h
-in_notice (w ∷ ws) n v h = go (nat_le w.made n.made) (in_notice ws n v) h
-  where
-    go : (b : Bool) → (IsIn v ws → IsIn v (with_notice ws n)) → (v ≡ w) ⊎ IsIn v ws → IsIn v (if b then w ∷ with_notice ws n else n ∷ w ∷ ws)
-    go true ih (inl k) = inl k
-    go true ih (inr k) = inr (ih k)
-    go false ih k = inr k
-
-in_notices : (ws ns : List Waiting) (v : Waiting) → IsIn v ws → IsIn v (with_notices ws ns)
-in_notices ws [] v h = h
-in_notices ws (n ∷ ns) v h = in_notices (with_notice ws n) ns v (in_notice ws n v h)
-
-pub in_waits : (m : State) (r : Call) → is_queued r.stage ≡ true → IsIn r m.calls → IsIn (waiting_call r) (waiting_items m)
-in_waits m r q h =
-    in_notices
-    (map waiting_call (filter is_queued_call m.calls))
-    (map waiting_notice (filter is_waiting_notice m.notices))
-    (waiting_call r)
-    (in_queued m.calls r q h)
+  given_out :
+      (m : State) → IsDistinct m → (v : Waiting) → Asked v.item → IsIn v (waiting_items (give m)) →
+      pick (give m) (pool_of (give m) v.door) ≡ None
+  given_out m d v a k =
+      ⊎_elim (λ none. absurd none) (λ e. e) (give_each_pending m (waiting_items m) d (λ w b i. inl i) v a k)
 
 -- what settling comes to
 
+abbrev IsCall : Item → Type 0
+IsCall (item.Call c) = Unit {0}
+IsCall (item.Notice n) = ⊥
+
 pub no_idle_for :
-    (m : State) → IsApart m.calls → (r : Call) → is_queued r.stage ≡ true → IsIn r (settle m).calls →
-    pick (settle m) (pool_of (settle m) r.door) ≡ None
-no_idle_for m a r q h =
-    ⊎_elim (λ none. absurd none) (λ e. e) (give_each_pending m (waiting_items m) a (λ x p k. inl (in_waits m x p k)) r q h)
+    (before m : State) → IsApart m.call_tree.calls → (r : Call) → is_queued r.stage ≡ true →
+    IsIn r (settle before m).call_tree.calls → pick (settle before m) (pool_of (settle before m) r.door) ≡ None
+no_idle_for before m a r q h =
+    given_out IsCall m (record { calls = a; notices = λ n none. absurd none }) (waiting_call r) tt (in_waits (give m) r q h)
 
-abbrev pub Passes : {X : Type 0} → (X → Bool) → List X → Type 0
-Passes {X} p xs = (x : X) × IsIn x xs × (p x ≡ true)
+-- where the notices have the numbers of their places, that holds of all that waits
+pub no_idle_for-item :
+    (before m : State) → IsApart m.call_tree.calls → IsInOrder notice_number m.notice_list.notices → (v : Waiting) →
+    IsIn v (waiting_items (settle before m)) → pick (settle before m) (pool_of (settle before m) v.door) ≡ None
+no_idle_for-item before m a o v h = given_out (λ i. Unit {0}) m (record { calls = a; notices = λ n u. o }) v tt h
 
-some_pass : {X : Type 0} (p : X → Bool) (xs : List X) → (filter p xs ≡ []) ⊎ Passes p xs
-some_pass p [] = inl refl
-some_pass p (y ∷ ys) = go (p y) refl (some_pass p ys)
+All-from_in : {X : Type 0} (P : X → Type 0) (xs : List X) → ((x : X) → IsIn x xs → P x) → All P xs
+All-from_in P [] h = All-nil P
+All-from_in P (x ∷ xs) h = All-cons P x xs (h x (inl refl)) (All-from_in P xs (λ y k. h y (inr k)))
+
+pub all_given_out :
+    (before m : State) → IsApart m.call_tree.calls → IsInOrder notice_number m.notice_list.notices →
+    All (λ w. pick (settle before m) (pool_of (settle before m) w.door) ≡ None) (waiting_items (settle before m))
+all_given_out before m a o =
+    All-from_in (λ w. pick (settle before m) (pool_of (settle before m) w.door) ≡ None) (waiting_items (settle before m))
+    (no_idle_for-item before m a o)
+
+some_pass : {X : Type 0} (p : X → Bool) (xs : List X) → (filter p xs ≡ []) ⊎ ((x : X) × Passes p xs x)
+some_pass p xs = go (filter p xs) refl
   where
-    go :
-        (b : Bool) → p y ≡ b → (filter p ys ≡ []) ⊎ Passes p ys →
-        ((if b then y ∷ filter p ys else filter p ys) ≡ []) ⊎ Passes p (y ∷ ys)
-    go true e ih = inr (y, inl refl, e)
-    go false e (inl k) = inl k
-    go false e (inr k) = inr (k.0, inr k.1, k.2)
+    go : (ys : List _) → filter p xs ≡ ys → (filter p xs ≡ []) ⊎ ((x : _) × Passes p xs x)
+    go [] e = inl e
+    go (y ∷ ys) e = inr (y, from_filter p xs y (subst (IsIn y) (sym e) (inl refl)))
 
-some_counted : {X : Type 0} (p : X → Bool) (xs : List X) → (count_by p xs ≡ 0) ⊎ Passes p xs
+some_counted : {X : Type 0} (p : X → Bool) (xs : List X) → (count_by p xs ≡ 0) ⊎ ((x : X) × Passes p xs x)
 some_counted p xs = ⊎_elim (λ e. inl (sym (length-filter p xs) ∙ ap length e)) inr (some_pass p xs)
 
 pub same_pool : (p q : Pool) → is_pool p q ≡ true → p ≡ q
@@ -395,8 +396,10 @@ same_pool (Common p) (Private q) e = cc
 same_pool (Private p) (Common q) e = cc
 
 pub no_pool_has_both :
-    (m : State) → IsApart m.calls → (pool : Pool) → (queue_length (settle m) pool ≡ 0) ⊎ (pick (settle m) pool ≡ None)
-no_pool_has_both m a pool = ⊎_elim inl (λ h. inr (idle h)) (some_counted (is_queued_in (settle m) pool) (settle m).calls)
+    (before m : State) → IsApart m.call_tree.calls → (pool : Pool) →
+    (calls_waiting (settle before m) pool ≡ 0) ⊎ (pick (settle before m) pool ≡ None)
+no_pool_has_both before m a pool =
+    ⊎_elim inl (λ h. inr (idle h)) (some_counted (is_queued_in (give m).doors pool) (give m).call_tree.calls)
   where
     first : (b c : Bool) → b && c ≡ true → b ≡ true
     first true c e = refl
@@ -406,12 +409,12 @@ no_pool_has_both m a pool = ⊎_elim inl (λ h. inr (idle h)) (some_counted (is_
     second true c e = e
     second false c e = cc
 
-    idle : Passes (is_queued_in (settle m) pool) (settle m).calls → pick (settle m) pool ≡ None
-    idle (r, k, e) =
-        ap (pick (settle m))
-        (same_pool pool (pool_of (settle m) r.door)
-        (second (is_queued r.stage) (is_pool pool (pool_of (settle m) r.door)) e))
-        ∙ no_idle_for m a r (first (is_queued r.stage) (is_pool pool (pool_of (settle m) r.door)) e) k
+    idle : (r : Call) × Passes (is_queued_in (give m).doors pool) (give m).call_tree.calls r → pick (give m) pool ≡ None
+    idle (r, k) =
+        ap (pick (give m))
+        (same_pool pool (pool_of (give m) r.door)
+        (second (is_queued r.stage) (is_pool pool (pool_of (give m) r.door)) k.passes))
+        ∙ no_idle_for before m a r (first (is_queued r.stage) (is_pool pool (pool_of (give m) r.door)) k.passes) k.is_in
 
 -- where the number of each queued call is that of no other live call
 
@@ -419,11 +422,6 @@ pub record HasUniqueNumbers (rs : List Call) : Type 0 where
   pub same :
       (i j : ℕ) (r q : Call) → slice_get rs i ≡ Some r → slice_get rs j ≡ Some q → is_queued r.stage ≡ true →
       is_live_call q ≡ true → q.number ≡ r.number → i ≡ j
-
-place_of : {X : Type 0} (x : X) (xs : List X) → IsIn x xs → (i : ℕ) × (slice_get xs i ≡ Some x)
-place_of x [] h = absurd h
-place_of x (y ∷ ys) (inl e) = (0, ap Some (sym e))
-place_of x (y ∷ ys) (inr h) = let p : (i : ℕ) × (slice_get ys i ≡ Some x) = place_of x ys h in (suc p.0, p.1)
 
 pub IsApart-from_unique : (rs : List Call) → HasUniqueNumbers rs → IsApart rs
 IsApart-from_unique [] h = tt
@@ -467,26 +465,28 @@ better_none pool best (Some y) e = go (is_pool pool y.pool) refl e
     go false f e = (e, λ x g. let k : y ≡ x = cc in subst (λ (z : Parked). is_pool pool z.pool ≡ false) k f)
 
 none_idle_among :
-    (m : State) (pool : Pool) (n t : ℕ) (x : Parked) → pick_among m pool n ≡ None → 1 ≤ t → t ≤ n →
-    parked_at m t ≡ Some x → is_pool pool x.pool ≡ false
-none_idle_among m pool zero t x e low high p = absurd (omega arith)
-none_idle_among m pool (suc n) t x e low high p =
-    ⊎_elim last (λ l. none_idle_among m pool n t x parts.0 low (omega arith) p) (eq-or-lt_of_le high)
+    (table : ProcessTable) (bindings : List (Option ℕ)) (pool : Pool) (n t : ℕ) (x : Parked) →
+    pick_among table bindings pool n ≡ None → 1 ≤ t → t ≤ n → parked_at table bindings t ≡ Some x → is_pool pool x.pool ≡ false
+none_idle_among table bindings pool zero t x e low high p = absurd (omega arith)
+none_idle_among table bindings pool (suc n) t x e low high p =
+    ⊎_elim last (λ l. none_idle_among table bindings pool n t x parts.0 low (omega arith) p) (eq-or-lt_of_le high)
   where
-    parts : (pick_among m pool n ≡ None) × ((y : Parked) → parked_at m (suc n) ≡ Some y → is_pool pool y.pool ≡ false)
-    parts = better_none pool (pick_among m pool n) (parked_at m (suc n)) e
+    parts :
+        (pick_among table bindings pool n ≡ None)
+        × ((y : Parked) → parked_at table bindings (suc n) ≡ Some y → is_pool pool y.pool ≡ false)
+    parts = better_none pool (pick_among table bindings pool n) (parked_at table bindings (suc n)) e
 
     last : t ≡ suc n → is_pool pool x.pool ≡ false
-    last f = parts.1 x (ap (parked_at m) (sym f) ∙ p)
+    last f = parts.1 x (ap (parked_at table bindings) (sym f) ∙ p)
 
 -- so where a pool has no pick, no thread is idle in it
 pub none_idle :
-    (m : State) (pool : Pool) (t : ℕ) (x : Parked) → pick m pool ≡ None → parked_at m t ≡ Some x →
+    (m : State) (pool : Pool) (t : ℕ) (x : Parked) → pick m pool ≡ None → parked_at m.process_table m.bindings t ≡ Some x →
     is_pool pool x.pool ≡ false
-none_idle m pool t x e p = go (thread_of m t) refl p
+none_idle m pool t x e p = go (thread_at m.process_table t) refl p
   where
-    go : (o : Option Thread) → thread_of m t ≡ o → parked_thread m t o ≡ Some x → is_pool pool x.pool ≡ false
+    go : (o : Option Thread) → thread_at m.process_table t ≡ o → parked_thread m.bindings t o ≡ Some x → is_pool pool x.pool ≡ false
     go None f q = cc
     go (Some y) f q =
-        let w : (1 ≤ t) × (t ≤ length m.threads) = numbered_within m.threads t y f in
-        none_idle_among m pool (length m.threads) t x e w.0 w.1 p
+        let w : (1 ≤ t) × (t ≤ length m.process_table.threads) = numbered_within m.process_table.threads t y f in
+        none_idle_among m.process_table m.bindings pool (length m.process_table.threads) t x e w.0 w.1 p

@@ -1,8 +1,13 @@
 pub mod Lists
+pub mod CallLists
+pub mod Threads
+pub mod Entries
 pub mod Forget
 pub mod Invocations
 pub mod Steps
 pub mod Runs
 pub mod Opening
+pub mod Places
+pub mod Waits
 pub mod Giving
 pub mod Numbers

@@ -1,19 +1,20 @@
 -- What holds of the states in which a run may begin.
-use Rattle.std.proofs.Common.{◌≡◌, ◌≤◌, flat_map, filter, ℕ, zero, suc, ◌+◌, ◌==◌, Bool, true, false, if◌then◌else◌, List, [], ◌∷◌, ◌++◌, Option, None, Some, option_map, unwrap_or, length, map, slice_get, refl, sym, subst, ap, ap₂, ◌∙◌, ◌⊎◌, inl, inr, ⊎_elim, arith}
+use Rattle.std.proofs.Common.{◌≡◌, ◌≤◌, flat_map, ℕ, zero, suc, ◌+◌, ◌==◌, Bool, true, false, if◌then◌else◌, List, [], ◌∷◌, ◌++◌, Option, None, Some, option_map, unwrap_or, length, map, replicate, slice_get, refl, sym, subst, ap, ap₂, ◌∙◌, ◌⊎◌, inl, inr, ⊎_elim, arith}
 use Rattle.std.proofs.lemmas.Bool.Decides.{nat_tests}
-use Rattle.std.proofs.lemmas.List.{length-map, map-append}
+use Rattle.std.proofs.lemmas.List.{length-map, length-replicate, map-append}
+use Rattle.dk_base.specs.ByNumber.{at_number}
+use Rattle.dk_base.specs.declared.limits.TheConstants.{THREADS_MAX}
 use Rattle.written_kernel.specs.Types.{Fd, Obj, Process, Thread}
 use Rattle.kernel_records.specs.declared.record.ProcessStage.TheVariants.{Live}
 use Rattle.kernel_records.specs.declared.record.ThreadState.TheVariants as is
-use Rattle.dk_base.specs.ByNumber.{at_number}
-use Rattle.written_kernel.specs.State.{State, thread_of, state_in, state_of, invocation_in, invocation_of, bound_in, bound_of, object_in, object_at}
-use Rattle.written_kernel.specs.Pools.{with_notices, waiting_call, is_queued_call, waiting_notice, is_waiting_notice, waiting_items}
+use Rattle.kernel_records.specs.Words.{bound_at, bound_in, empty_table, invocation_in, live_calls, object_in, object_named, state_in, table_in, items_in_order}
+use Rattle.written_kernel.specs.State.{State, bound_of, invocation_of, object_at, state_of, thread_of, waiting_items}
 use Rattle.written_kernel.specs.Walks.{walk, root}
-use Rattle.written_kernel.specs.References.{objects_in_table, named_object, objects_in_call, holdings}
-use Rattle.written_kernel.specs.Kept.{is_live_call, forget}
-use Rattle.written_kernel.specs.Opening.{new_process, empty_table, no_process, with_new_process, with_processes, opening_state, new_thread, with_new_thread, IsOpening}
+use Rattle.written_kernel.specs.References.{holdings, named_object, objects_in_call, objects_in_table}
+use Rattle.written_kernel.specs.Kept.{forget}
+use Rattle.written_kernel.specs.Opening.{IsOpening, new_process, new_thread, no_process, opening_state, with_new_process, with_new_thread, with_processes}
 use Rattle.written_kernel.specs.Opening.IsOpening.{processes, thread}
-use Rattle.written_kernel.proofs.Lists.{numbered_push, at_number-map, numbered_within}
+use Rattle.written_kernel.proofs.Lists.{numbered_push, at_number-map, at_number-suc, numbered_within}
 
 pub record IsOpeningProcess (p : ℕ) (x : Process) : Type 0 where
   pub number : x.number ≡ p
@@ -29,20 +30,15 @@ pub record IsOpeningThread (t : ℕ) (x : Thread) : Type 0 where
 abbrev pub opening_table : Process → List (Option Obj)
 opening_table x = empty_table x.limit
 
-abbrev pub unbound : Thread → Option ℕ
-unbound x = None
-
 pub record IsOpened (m : State) : Type 0 where
-  pub processes : (p : ℕ) (x : Process) → at_number m.processes p ≡ Some x → IsOpeningProcess p x
-  pub tables : m.tables ≡ map opening_table m.processes
+  pub processes : (p : ℕ) (x : Process) → at_number m.process_table.processes p ≡ Some x → IsOpeningProcess p x
+  pub tables : m.tables ≡ map opening_table m.process_table.processes
   pub threads : (t : ℕ) (x : Thread) → thread_of m t ≡ Some x → IsOpeningThread t x
-  pub bound : m.bound ≡ map unbound m.threads
+  pub bindings : m.bindings ≡ replicate THREADS_MAX None
   pub names : m.names ≡ []
   pub doors : m.doors ≡ []
-  pub calls_made : m.calls_made ≡ 0
-  pub calls : m.calls ≡ []
-  pub notices_made : m.notices_made ≡ 0
-  pub notices : m.notices ≡ []
+  pub call_tree : m.call_tree ≡ record { made = 0; calls = [] }
+  pub notice_list : m.notice_list ≡ record { made = 0; notices = [] }
   pub events : m.events ≡ 0
 
 -- what holds of each number holds with one item more, if it holds of that
@@ -64,13 +60,11 @@ no_process-opened =
       processes = λ p x e. absurd (none p x e);
       tables = refl;
       threads = λ t x e. absurd (none t x e);
-      bound = refl;
+      bindings = refl;
       names = refl;
       doors = refl;
-      calls_made = refl;
-      calls = refl;
-      notices_made = refl;
-      notices = refl;
+      call_tree = refl;
+      notice_list = refl;
       events = refl;
     }
   where
@@ -81,17 +75,15 @@ with_new_process-opened : (m : State) (limit : ℕ) → IsOpened m → IsOpened 
 with_new_process-opened m limit h =
     record {
       processes =
-          still_each IsOpeningProcess m.processes (new_process (length m.processes + 1) limit) h.processes
+          still_each IsOpeningProcess m.process_table.processes (new_process (length m.process_table.processes + 1) limit) h.processes
           (record { number = refl; made = refl; stage = refl });
-      tables = ap (λ ts. ts ++ empty_table limit ∷ []) h.tables ∙ sym (map-append opening_table m.processes (new_process (length m.processes + 1) limit ∷ []));
+      tables = ap (λ ts. ts ++ empty_table limit ∷ []) h.tables ∙ sym (map-append opening_table m.process_table.processes (new_process (length m.process_table.processes + 1) limit ∷ []));
       threads = h.threads;
-      bound = h.bound;
+      bindings = h.bindings;
       names = h.names;
       doors = h.doors;
-      calls_made = h.calls_made;
-      calls = h.calls;
-      notices_made = h.notices_made;
-      notices = h.notices;
+      call_tree = h.call_tree;
+      notice_list = h.notice_list;
       events = h.events;
     }
 
@@ -106,15 +98,13 @@ with_new_thread-opened m p spare h =
       processes = h.processes;
       tables = h.tables;
       threads =
-          still_each IsOpeningThread m.threads (new_thread (length m.threads + 1) p spare) h.threads
+          still_each IsOpeningThread m.process_table.threads (new_thread (length m.process_table.threads + 1) p spare) h.threads
           (record { number = refl; made = refl; invocation = refl; state = begins spare });
-      bound = ap (λ bs. bs ++ None ∷ []) h.bound ∙ sym (map-append unbound m.threads (new_thread (length m.threads + 1) p spare ∷ []));
+      bindings = h.bindings;
       names = h.names;
       doors = h.doors;
-      calls_made = h.calls_made;
-      calls = h.calls;
-      notices_made = h.notices_made;
-      notices = h.notices;
+      call_tree = h.call_tree;
+      notice_list = h.notice_list;
       events = h.events;
     }
   where
@@ -128,11 +118,11 @@ opened (thread {m} p spare h) = with_new_thread-opened m p spare (opened h)
 
 -- readers at such a state
 
-pub length-bound_opening : {m : State} → IsOpening m → length m.bound ≡ length m.threads
-length-bound_opening {m} h = ap length (opened h).bound ∙ length-map m.threads unbound
+pub length-bindings_opening : {m : State} → IsOpening m → length m.bindings ≡ THREADS_MAX
+length-bindings_opening {m} h = ap length (opened h).bindings ∙ length-replicate {A = Option ℕ} THREADS_MAX None
 
-pub length-tables_opening : {m : State} → IsOpening m → length m.tables ≡ length m.processes
-length-tables_opening {m} h = ap length (opened h).tables ∙ length-map m.processes opening_table
+pub length-tables_opening : {m : State} → IsOpening m → length m.tables ≡ length m.process_table.processes
+length-tables_opening {m} h = ap length (opened h).tables ∙ length-map m.process_table.processes opening_table
 
 pub invocation_of-opening : {m : State} → IsOpening m → (t : ℕ) → invocation_of m t ≡ None
 invocation_of-opening {m} h t = go (thread_of m t) refl
@@ -153,12 +143,17 @@ state_of-opening {m} h t = go (thread_of m t) refl
     go None e = inr (inr refl)
     go (Some x) e = ⊎_elim inl (λ d. inr (inl d)) ((opened h).threads t x e).state
 
-pub bound_of-opening : {m : State} → IsOpening m → (t : ℕ) → bound_of m t ≡ None
-bound_of-opening {m} h t = ap (λ bs. bound_in (at_number bs t)) (opened h).bound ∙ ap bound_in (at_number-map unbound m.threads t) ∙ go (thread_of m t)
+unbound : (n t : ℕ) → bound_at (replicate n None) t ≡ None
+unbound n zero = refl
+unbound n (suc k) = ap bound_in (at_number-suc (replicate n None) k) ∙ at n k
   where
-    go : (o : Option Thread) → bound_in (option_map unbound o) ≡ None
-    go None = refl
-    go (Some x) = refl
+    at : (n k : ℕ) → bound_in (slice_get (replicate n None) k) ≡ None
+    at zero k = refl
+    at (suc n) zero = refl
+    at (suc n) (suc k) = at n k
+
+pub bound_of-opening : {m : State} → IsOpening m → (t : ℕ) → bound_of m t ≡ None
+bound_of-opening {m} h t = ap (λ bs. bound_at bs t) (opened h).bindings ∙ unbound THREADS_MAX t
 
 empty_row : (n k : ℕ) → object_in (slice_get (empty_table n) k) ≡ None
 empty_row zero k = refl
@@ -167,21 +162,25 @@ empty_row (suc n) (suc k) = empty_row n k
 
 pub object_at-opening : {m : State} → IsOpening m → (p : ℕ) (fd : Fd) → object_at m p fd ≡ None
 object_at-opening {m} h p fd =
-    ap (λ ts. object_in (slice_get (unwrap_or (at_number ts p) []) fd.0)) (opened h).tables
-    ∙ ap (λ o. object_in (slice_get (unwrap_or o []) fd.0)) (at_number-map opening_table m.processes p) ∙ go (at_number m.processes p)
+    ap (λ ts. object_named (table_in ts p) fd) (opened h).tables
+    ∙ ap (λ (o : Option (List (Option Obj))). object_named (unwrap_or o []) fd) (at_number-map opening_table m.process_table.processes p)
+    ∙ go (at_number m.process_table.processes p)
   where
-    go : (o : Option Process) → object_in (slice_get (unwrap_or (option_map opening_table o) []) fd.0) ≡ None
+    go : (o : Option Process) → object_named (unwrap_or (option_map opening_table o) []) fd ≡ None
     go None = refl
     go (Some x) = empty_row x.limit fd.0
 
 pub root-opening : {m : State} → IsOpening m → (t : ℕ) → root m t ≡ t
-root-opening {m} h t = ap (λ n. walk n m t) (opened h).calls_made
+root-opening {m} h t = ap (λ tree. walk tree.made m t) (opened h).call_tree
 
 pub forget-opening : {m : State} → IsOpening m → forget m ≡ m
-forget-opening {m} h = ap (λ rs. record m { calls = filter is_live_call rs }) (opened h).calls ∙ sym (ap (λ rs. record m { calls = rs }) (opened h).calls)
+forget-opening {m} h =
+    ap (λ tree. record m { call_tree = live_calls tree }) (opened h).call_tree
+    ∙ sym (ap (λ tree. record m { call_tree = tree }) (opened h).call_tree)
 
 pub waiting_items-opening : {m : State} → IsOpening m → waiting_items m ≡ []
-waiting_items-opening {m} h = ap₂ (λ rs ns. with_notices (map waiting_call (filter is_queued_call rs)) (map waiting_notice (filter is_waiting_notice ns))) (opened h).calls (opened h).notices
+waiting_items-opening {m} h =
+    ap₂ (λ tree list. items_in_order tree.calls list.notices) (opened h).call_tree (opened h).notice_list
 
 in_empty_table : (n : ℕ) → objects_in_table (empty_table n) ≡ []
 in_empty_table zero = refl
@@ -194,5 +193,6 @@ in_empty_tables (x ∷ xs) = ap₂ (λ os us. os ++ us) (in_empty_table x.limit)
 -- nothing is held
 pub holdings-opening : {m : State} → IsOpening m → holdings m ≡ []
 holdings-opening {m} h =
-    ap₂ (λ us rs. us ++ flat_map objects_in_call rs) (ap₂ (λ ts ns. flat_map objects_in_table ts ++ map named_object ns) (opened h).tables (opened h).names) (opened h).calls
-    ∙ ap (λ os. os ++ [] ++ []) (in_empty_tables m.processes)
+    ap₂ (λ os tree. os ++ flat_map objects_in_call tree.calls)
+    (ap₂ (λ ts ns. flat_map objects_in_table ts ++ map named_object ns) (opened h).tables (opened h).names) (opened h).call_tree
+    ∙ ap (λ os. os ++ [] ++ []) (in_empty_tables m.process_table.processes)

@@ -1,12 +1,13 @@
 -- Runs: what one more turn adds, and the states on the way.
-use Rattle.std.proofs.Common.{◌≡◌, ℕ, zero, suc, ◌+◌, ◌≤◌, List, [], ◌∷◌, ◌++◌, Some, length, take, drop, slice_get, le_of_lt, refl, sym, subst, ap, ◌∙◌, arith, add-one, length-take, take-append-drop, take_all}
+use Rattle.std.proofs.Common.{◌≡◌, ℕ, zero, suc, ◌+◌, ◌≤◌, List, [], ◌∷◌, ◌++◌, Some, length, map, take, drop, slice_get, le_of_lt, refl, sym, subst, ap, ◌∙◌, arith, add-one, length-take, take-append-drop, take_all}
 use Rattle.std.proofs.lemmas.Option.{slice_get_within}
-use Rattle.written_kernel.specs.State.{State, process_of}
+use Rattle.written_kernel.specs.Types.{Door}
+use Rattle.written_kernel.specs.State.{State, door_of, process_of}
 use Rattle.written_kernel.specs.Step.{event_of}
 use Rattle.written_kernel.specs.Legal.{MayTurn}
 use Rattle.written_kernel.specs.Runs.{Turn, state_after_turn, state_after, state_at, events_of, IsRun}
 use Rattle.written_kernel.proofs.Lists.{Extends, Extends-same, Extends-then}
-use Rattle.written_kernel.proofs.Steps.{events-step, threads-step, process_of-step, names-step, doors-step}
+use Rattle.written_kernel.proofs.Steps.{events-step, threads-step, process_of-step, door_identity, IsSameDoor, door-extends, doors-step}
 
 -- one list of turns after another
 
@@ -56,7 +57,7 @@ pub events-state_after : (m : State) (xs : List Turn) → (state_after m xs).eve
 events-state_after m [] = omega arith
 events-state_after m (x ∷ xs) = omega (arith, events-state_after (state_after_turn m x) xs, events-step m x.thread x.request)
 
-pub threads-state_after : (m : State) (xs : List Turn) → length (state_after m xs).threads ≡ length m.threads
+pub threads-state_after : (m : State) (xs : List Turn) → length (state_after m xs).process_table.threads ≡ length m.process_table.threads
 threads-state_after m [] = refl
 threads-state_after m (x ∷ xs) = threads-state_after (state_after_turn m x) xs ∙ threads-step m x.thread x.request
 
@@ -64,13 +65,14 @@ pub process_of-state_after : (m : State) (xs : List Turn) (t : ℕ) → process_
 process_of-state_after m [] t = refl
 process_of-state_after m (x ∷ xs) t = process_of-state_after (state_after_turn m x) xs t ∙ process_of-step m x.thread t x.request
 
-pub doors-state_after : (m : State) (xs : List Turn) → Extends m.doors (state_after m xs).doors
-doors-state_after m [] = Extends-same m.doors m.doors refl
+pub doors-state_after :
+    (m : State) (xs : List Turn) → Extends (map door_identity m.doors) (map door_identity (state_after m xs).doors)
+doors-state_after m [] = Extends-same (map door_identity m.doors) (map door_identity m.doors) refl
 doors-state_after m (x ∷ xs) = Extends-then (doors-step m x.thread x.request) (doors-state_after (state_after_turn m x) xs)
 
-pub names-state_after : (m : State) (xs : List Turn) → Extends m.names (state_after m xs).names
-names-state_after m [] = Extends-same m.names m.names refl
-names-state_after m (x ∷ xs) = Extends-then (names-step m x.thread x.request) (names-state_after (state_after_turn m x) xs)
+pub door_of-state_after :
+    (m : State) (xs : List Turn) (d : ℕ) (x : Door) → door_of m d ≡ Some x → IsSameDoor x (door_of (state_after m xs) d)
+door_of-state_after m xs d x e = door-extends m.doors (state_after m xs).doors d x (doors-state_after m xs) e
 
 -- the states on the way
 

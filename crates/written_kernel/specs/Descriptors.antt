@@ -1,46 +1,56 @@
 -- The acts of descriptors and names: fattach(3C), open(2) of an attached path, and the wait for a path.
-use Rattle.std.specs.Prelude.{ℕ, ◌++◌, [], ◌∷◌, Option, Some, None}
+use Rattle.std.specs.Prelude.{ℕ, List, [], ◌∷◌, Option, Bool, false, true, not, Some, None, is_none, is_some}
 use Rattle.written_kernel.specs.Types.{Fd, Name, Obj, PathId}
 use Rattle.dk_base.specs.declared.error.Errno.TheVariants.{EBADF, EBUSY, EINVAL, EMFILE, ENOENT}
 use Rattle.dk_base.specs.declared.object.Obj.TheVariants as obj
 use Rattle.dk_base.specs.declared.answer.Answer.TheVariants as answer
 use Rattle.kernel_records.specs.declared.record.ThreadState.TheVariants as is
-use Rattle.written_kernel.specs.State.{State, now, descriptor, table_of, object_at, with_row, name_of, with_state}
-use Rattle.written_kernel.specs.Acts.{ActResult, refused_act, lowest_free}
+use Rattle.kernel_records.specs.Words.{descriptor, free_place, lowest_free, with_name, with_row}
+use Rattle.written_kernel.specs.State.{State, object_at, name_of, table_of, with_state, with_table_of}
+use Rattle.written_kernel.specs.Acts.{ActResult, Test, refused_where}
+
+abbrev pub is_door : Option Obj → Bool
+is_door (Some (obj.Door d)) = true
+is_door _ = false
+
+-- the number of the door that is named, 0 for none
+abbrev pub door_named : Option Obj → ℕ
+door_named (Some (obj.Door d)) = d
+door_named _ = 0
+
+-- an object gets the lowest descriptor that is free, and the answer is that descriptor
+abbrev pub insert_object : State → ℕ → Obj → ActResult
+insert_object m p o =
+    record {
+      state = with_table_of m p (with_row (table_of m p) (free_place (table_of m p)) (Some o));
+      answer = answer.NewFd (descriptor (free_place (table_of m p)));
+    }
 
 -- fattach: EBADF, EINVAL for what is no door, EBUSY
 
-abbrev pub new_name : State → PathId → ℕ → Name
-new_name m path d = record { path = path; made = now m; door = d }
-
-abbrev pub with_name : State → Name → State
-with_name m n = record m { names = m.names ++ n ∷ [] }
-
-abbrev pub attach_unless : State → Name → Option Name → ActResult
-attach_unless m n (Some other) = refused_act m EBUSY
-attach_unless m n None = record { state = with_name m n; answer = answer.Done }
-
-abbrev pub attach_object : State → PathId → Option Obj → ActResult
-attach_object m path None = refused_act m EBADF
-attach_object m path (Some (obj.Door d)) = attach_unless m (new_name m path d) (name_of m path)
-attach_object m path (Some _) = refused_act m EINVAL
+abbrev pub attach_tests : State → ℕ → Fd → PathId → List Test
+attach_tests m p fd path =
+    refused_where (is_none (object_at m p fd)) EBADF
+    ∷ refused_where (not (is_door (object_at m p fd))) EINVAL
+    ∷ refused_where (is_some (name_of m path)) EBUSY
+    ∷ []
 
 abbrev pub attach : State → ℕ → Fd → PathId → ActResult
-attach m p fd path = attach_object m path (object_at m p fd)
+attach m p fd path =
+    record { state = record m { names = with_name m.names path (door_named (object_at m p fd)) }; answer = answer.Done }
 
 -- open: ENOENT, EMFILE; the door gets the lowest descriptor that is free
 
-abbrev pub open_at : State → ℕ → Name → Option ℕ → ActResult
-open_at m p n None = refused_act m EMFILE
-open_at m p n (Some place) =
-    record { state = with_row m p place (obj.Door n.door); answer = answer.NewFd (descriptor place) }
+abbrev pub open_tests : State → ℕ → PathId → List Test
+open_tests m p path =
+    refused_where (is_none (name_of m path)) ENOENT ∷ refused_where (is_none (lowest_free (table_of m p))) EMFILE ∷ []
 
-abbrev pub open_name : State → ℕ → Option Name → ActResult
-open_name m p None = refused_act m ENOENT
-open_name m p (Some n) = open_at m p n (lowest_free (table_of m p))
+abbrev pub door_attached : Option Name → ℕ
+door_attached None = 0
+door_attached (Some n) = n.door
 
 abbrev pub open_path : State → ℕ → PathId → ActResult
-open_path m p path = open_name m p (name_of m path)
+open_path m p path = insert_object m p (obj.Door (door_attached (name_of m path)))
 
 -- await: done where the path is attached, else the thread waits until it is
 

@@ -1,7 +1,8 @@
 -- The acts of doors: door_create(3C), door_call(3C), door_return(3C), and the ends of the waits that a door call and a
--- return begin.
-use Rattle.std.specs.Prelude.{ℕ, ◌+◌, ◌++◌, List, [], ◌∷◌, Option, false, if◌then◌else◌, Some, None, length, nat_le, nat_lt}
-use Rattle.written_kernel.specs.Types.{Attrs, Call, CallStage, Door, Errno, Fd, Inv, Item, Obj}
+-- return begin. An act's record update names the parts of the state that it changes. `p` is the process of the thread
+-- `t`.
+use Rattle.std.specs.Prelude.{ℕ, ◌+◌, ◌++◌, ◌&&◌, List, [], ◌∷◌, Option, false, not, Some, None, is_none, is_some, length, nat_le, nat_lt}
+use Rattle.written_kernel.specs.Types.{Answer, Attrs, Call, CallStage, Fd, Item, Obj, Pass}
 use Rattle.dk_base.specs.declared.error.Errno.TheVariants.{E2BIG, EAGAIN, EBADF, EMFILE}
 use Rattle.dk_base.specs.declared.object.Obj.TheVariants as obj
 use Rattle.dk_base.specs.declared.object.Item.TheVariants as item
@@ -9,157 +10,99 @@ use Rattle.dk_base.specs.declared.answer.Answer.TheVariants as answer
 use Rattle.kernel_records.specs.declared.record.ThreadState.TheVariants as is
 use Rattle.kernel_records.specs.declared.record.CallStage.TheVariants as stage
 use Rattle.dk_base.specs.declared.limits.TheConstants.{DATA_MAX, QUEUE_MAX}
-use Rattle.written_kernel.specs.State.{State, now, pid, tid, descriptor, table_of, object_at, with_row, door_of, is_valid, call_of, with_call, without_arguments_at, with_state, with_invocation, invocation_of}
-use Rattle.written_kernel.specs.Pools.{pool_of, queue_length}
-use Rattle.written_kernel.specs.Acts.{ActResult, refused_act, lowest_free, no_act}
+use Rattle.kernel_records.specs.Words.{collect_call, cookie_of, enter_call, enter_thread, entry_of, is_given_as, is_to_collect_as, lowest_free, no_cancel_of, open_call, park_thread, return_call, tid, set_thread_state, with_door}
+use Rattle.written_kernel.specs.State.{State, calls_waiting, client_call, door_of, find_call, is_valid, now, object_at, pool_of, table_of}
+use Rattle.written_kernel.specs.Acts.{ActResult, Test, no_act, refused_where}
+use Rattle.written_kernel.specs.Descriptors.{door_named, insert_object}
 
--- door_create: a door of the process under the next number, at the lowest descriptor that is free
+-- door_create: EMFILE; a door of the process under the next number, at the lowest descriptor that is free
 
-abbrev pub new_door : State → ℕ → ℕ → ℕ → Attrs → Door
-new_door m p entry cookie attrs =
-    record {
-      number = length m.doors + 1;
-      made = now m;
-      owner = pid p;
-      entry = entry;
-      cookie = cookie;
-      attrs = attrs;
-      data_max = 18446744073709551615;
-      data_min = 0;
-      desc_max = 2147483647;
-      revoked = false;
-    }
-
-abbrev pub with_door : State → Door → State
-with_door m d = record m { doors = m.doors ++ d ∷ [] }
-
-abbrev pub create_at : State → ℕ → Door → Option ℕ → ActResult
-create_at m p d None = refused_act m EMFILE
-create_at m p d (Some place) =
-    record { state = with_row (with_door m d) p place (obj.Door d.number); answer = answer.NewFd (descriptor place) }
+abbrev pub create_tests : State → ℕ → List Test
+create_tests m p = refused_where (is_none (lowest_free (table_of m p))) EMFILE ∷ []
 
 abbrev pub create : State → ℕ → ℕ → ℕ → Attrs → ActResult
-create m p entry cookie attrs = create_at m p (new_door m p entry cookie attrs) (lowest_free (table_of m p))
+create m p entry cookie attrs =
+    insert_object (record m { doors = with_door m.doors p entry cookie attrs }) p (obj.Door (length m.doors + 1))
 
--- door_call: the refusals in order, and a call that waits for a server thread
+-- door_call: the door and its limits, then its pool; a call that waits for a server thread
 
-abbrev pub call_refusal : State → ℕ → List ℕ → Option Errno
-call_refusal m d bytes =
-    if is_valid m d
-    then (if nat_lt DATA_MAX (length bytes) then Some E2BIG else (if nat_le QUEUE_MAX (queue_length m (pool_of m d)) then Some EAGAIN else None))
-    else Some EBADF
+-- EBADF for what is no valid door, E2BIG
+abbrev pub limit_tests : State → Option Obj → List ℕ → List Test
+limit_tests m o bytes = refused_where (not (is_valid m (door_named o))) EBADF ∷ refused_where (nat_lt DATA_MAX (length bytes)) E2BIG ∷ []
 
-abbrev pub new_call : State → ℕ → ℕ → List ℕ → ℕ → Call
-new_call m t d bytes rsize =
+-- EAGAIN for a full pool
+abbrev pub pool_tests : State → ℕ → List Test
+pool_tests m d = refused_where (nat_le QUEUE_MAX (calls_waiting m (pool_of m d))) EAGAIN ∷ []
+
+abbrev pub call_tests : State → ℕ → Fd → List ℕ → List Pass → List Test
+call_tests m p fd bytes pass = limit_tests m (object_at m p fd) bytes ++ pool_tests m (door_named (object_at m p fd))
+
+abbrev pub new_call : State → ℕ → ℕ → List ℕ → List Obj → ℕ → Call
+new_call m t d bytes objects rsize =
     record {
-      number = m.calls_made + 1;
+      number = m.call_tree.made + 1;
       made = now m;
       caller = tid t;
       door = d;
       bytes = bytes;
-      objects = [];
+      objects = objects;
       rsize = rsize;
+      no_cancel = no_cancel_of (door_of m d);
       abandoned = false;
       stage = stage.Queued;
     }
 
-abbrev pub with_new_call : State → Call → State
-with_new_call m r = record m { calls_made = r.number; calls = m.calls ++ r ∷ [] }
-
-abbrev pub open_call : State → ℕ → Call → ActResult
-open_call m t r =
-    record { state = with_state (with_new_call m r) t (is.Calling r.number); answer = answer.WaitCall r.number }
-
-abbrev pub call_unless : State → ℕ → Call → Option Errno → ActResult
-call_unless m t r (Some e) = refused_act m e
-call_unless m t r None = open_call m t r
-
-abbrev pub call_object : State → ℕ → List ℕ → ℕ → Option Obj → ActResult
-call_object m t bytes rsize (Some (obj.Door d)) = call_unless m t (new_call m t d bytes rsize) (call_refusal m d bytes)
-call_object m t bytes rsize _ = refused_act m EBADF
-
-abbrev pub call : State → ℕ → ℕ → Fd → List ℕ → ℕ → ActResult
-call m t p fd bytes rsize = call_object m t bytes rsize (object_at m p fd)
-
--- door_return: a client's call is Returned with the results, the invocation ends, and the thread is parked
-
-abbrev pub client_call : Option Call → Option Call
-client_call None = None
-client_call (Some r) = if r.abandoned then None else Some r
-
-abbrev pub client_item : State → Item → Option Call
-client_item m (item.Call c) = client_call (call_of m c)
-client_item m (item.Notice n) = None
-
-abbrev pub client_in : State → Option Inv → Option Call
-client_in m None = None
-client_in m (Some v) = client_item m v.item
-
--- the call that a thread is in, where its caller has not left
-abbrev pub client : State → ℕ → Option Call
-client m t = client_in m (invocation_of m t)
-
-abbrev pub park : State → ℕ → State
-park m t = with_state (with_invocation m t None) t (is.Idle (now m))
-
-abbrev pub return_to : State → ℕ → List ℕ → Call → ActResult
-return_to m t bytes r =
-    record { state = park (with_call m r.number (without_arguments_at r (stage.Returned bytes []))) t; answer = answer.Wait }
-
--- results without a client are dropped
-abbrev pub return_for : State → ℕ → List ℕ → Option Call → ActResult
-return_for m t bytes (Some r) = if nat_lt DATA_MAX (length bytes) then refused_act m E2BIG else return_to m t bytes r
-return_for m t bytes None = record { state = park m t; answer = answer.Wait }
-
-abbrev pub return : State → ℕ → List ℕ → ActResult
-return m t bytes = return_for m t bytes (client m t)
-
--- the end of the wait of a thread that was given a call: the invocation begins
-
-abbrev pub entry_of : Option Door → ℕ
-entry_of None = 0
-entry_of (Some d) = d.entry
-
-abbrev pub cookie_of : Option Door → ℕ
-cookie_of None = 0
-cookie_of (Some d) = d.cookie
-
-abbrev pub new_invocation : Item → Inv
-new_invocation i = record { item = i; cancelled = false }
-
-abbrev pub enter_call : State → ℕ → Call → State
-enter_call m t r =
-    with_state
-    (with_invocation (with_call m r.number (without_arguments_at r (stage.Entered (tid t)))) t (Some (new_invocation (item.Call r.number))))
-    t
-    is.Running
-
-abbrev pub accept_call : State → ℕ → Option Call → ActResult
-accept_call m t None = no_act m
-accept_call m t (Some r) =
+abbrev pub make_call : State → ℕ → Call → ActResult
+make_call m t r =
     record {
-      state = enter_call m t r;
+      state = record m { process_table = set_thread_state m.process_table t (is.Calling r.number); call_tree = open_call m.call_tree r };
+      answer = answer.WaitCall r.number;
+    }
+
+abbrev pub call : State → ℕ → ℕ → Fd → List ℕ → List Pass → ℕ → ActResult
+call m t p fd bytes pass rsize = make_call m t (new_call m t (door_named (object_at m p fd)) bytes [] rsize)
+
+-- door_return: E2BIG; the client's call is Returned with the results, the invocation ends, and the thread is parked. Results
+-- without a client are dropped.
+
+abbrev pub return_tests : State → ℕ → ℕ → List ℕ → List Pass → List Test
+return_tests m t p bytes pass = refused_where (is_some (client_call m t) && nat_lt DATA_MAX (length bytes)) E2BIG ∷ []
+
+abbrev pub return : State → ℕ → ℕ → List ℕ → List Pass → ActResult
+return m t p bytes pass =
+    record {
+      state = record m { process_table = park_thread m.process_table t (now m); call_tree = return_call m.call_tree t bytes [] };
+      answer = answer.Wait;
+    }
+
+-- the end of the wait of a thread that was given a call: the invocation begins, where there is such a call
+
+abbrev pub accept_call : State → ℕ → ℕ → Option Call → ActResult
+accept_call m t c None = no_act m
+accept_call m t c (Some r) =
+    record {
+      state = record m { process_table = enter_thread m.process_table t (item.Call c); call_tree = enter_call m.call_tree c t };
       answer = answer.Entered r.number (entry_of (door_of m r.door)) (cookie_of (door_of m r.door)) r.bytes [];
     }
 
-abbrev pub accept : State → ℕ → Item → ActResult
-accept m t (item.Call c) = accept_call m t (call_of m c)
-accept m t (item.Notice n) = no_act m
+abbrev pub accept : State → ℕ → ℕ → Item → ActResult
+accept m t p (item.Call c) = accept_call m t c (find_call m (is_given_as c t))
+accept m t p (item.Notice n) = no_act m
 
 -- the end of the wait of a caller: the results, or the error that its call ended with
 
-abbrev pub answer_call : State → ℕ → Call → State
-answer_call m t r = with_state (with_call m r.number (without_arguments_at r (stage.Answered (now m)))) t is.Running
+abbrev pub collect_answer : Call → CallStage → Answer
+collect_answer r (stage.Returned bytes objects) = answer.Results bytes [] (nat_lt r.rsize (length bytes))
+collect_answer r (stage.Ended e) = answer.Failure e
+collect_answer r _ = answer.Done
 
-abbrev pub collect_at : State → ℕ → Call → CallStage → ActResult
-collect_at m t r (stage.Returned bytes objects) =
-    record { state = answer_call m t r; answer = answer.Results bytes [] (nat_lt r.rsize (length bytes)) }
-collect_at m t r (stage.Ended e) = record { state = answer_call m t r; answer = answer.Failure e }
-collect_at m t r _ = no_act m
+abbrev pub collect_answer_in : Option Call → Answer
+collect_answer_in None = answer.Done
+collect_answer_in (Some r) = collect_answer r r.stage
 
-abbrev pub collect_call : State → ℕ → Option Call → ActResult
-collect_call m t None = no_act m
-collect_call m t (Some r) = collect_at m t r r.stage
-
-abbrev pub collect : State → ℕ → ℕ → ActResult
-collect m t c = collect_call m t (call_of m c)
+abbrev pub collect : State → ℕ → ℕ → ℕ → ActResult
+collect m t p c =
+    record {
+      state = record m { process_table = set_thread_state m.process_table t is.Running; call_tree = collect_call m.call_tree c (now m) };
+      answer = collect_answer_in (find_call m (is_to_collect_as c));
+    }

@@ -1,14 +1,12 @@
 -- What a kernel keeps of a written state: it forgets the calls that were answered, or whose callers ended.
-use Rattle.std.specs.Prelude.{◌≡◌, filter, Bool}
-use Rattle.written_kernel.specs.Types.{Call, Stepped}
-use Rattle.written_kernel.specs.State.{State, is_live}
+use Rattle.std.specs.Prelude.{◌≡◌}
+use Rattle.written_kernel.specs.Types.{Stepped}
+use Rattle.kernel_records.specs.Words.{live_calls}
+use Rattle.written_kernel.specs.State.{State}
 use Rattle.written_kernel.specs.Step.{Step}
 
-abbrev pub is_live_call : Call → Bool
-is_live_call r = is_live r.stage
-
 abbrev pub forget : State → State
-forget m = record m { calls = filter is_live_call m.calls }
+forget m = record m { call_tree = live_calls m.call_tree }
 
 -- what is kept stands for a written state
 abbrev pub StandsFor : State → State → Type 0

@@ -9,13 +9,13 @@ use Rattle.capabilities.specs.declared.table.TheConstants.{BUILT}
 use Rattle.written_kernel.specs.State.{State, invocation_of}
 use Rattle.written_kernel.specs.Turns.{is_runnable, is_running}
 
--- the threads and processes that a request names are there, and its counts are in range
-abbrev pub IsFit : State → Request → Type 0
-IsFit m (request.Interrupt thread) = (1 ≤ thread.0) × (thread.0 ≤ length m.threads)
-IsFit m (request.Kill process) = (1 ≤ process.0) × (process.0 ≤ length m.processes)
-IsFit m (request.Read fd max) = (1 ≤ max) × (max ≤ DATA_MAX)
-IsFit m (request.GetN port max nget wait) = max ≤ ANSWER_ITEMS_MAX
-IsFit m _ = Unit {0}
+-- the threads and processes that a request of thread t names are there, and its counts are in range
+abbrev pub IsFit : State → ℕ → Request → Type 0
+IsFit m t (request.Interrupt thread) = (1 ≤ thread.0) × (thread.0 ≤ length m.process_table.threads)
+IsFit m t (request.Kill process) = (1 ≤ process.0) × (process.0 ≤ length m.process_table.processes)
+IsFit m t (request.Read fd max) = (1 ≤ max) × (max ≤ DATA_MAX)
+IsFit m t (request.GetN port max nget wait) = max ≤ ANSWER_ITEMS_MAX
+IsFit m t _ = Unit {0}
 
 -- what a thread in an invocation may ask: it makes no call and does not exit, until those capabilities come
 abbrev pub MayInside : Option Inv → Request → Type 0
@@ -25,7 +25,7 @@ MayInside _ _ = Unit {0}
 
 pub record MayEnter (m : State) (t : ℕ) (r : Request) : Type 0 where
   pub running : is_running m t ≡ true
-  pub fit : IsFit m r
+  pub fit : IsFit m t r
   pub built : capability_of r ≤ BUILT
   pub inside : MayInside (invocation_of m t) r
   pub few : m.events < EVENTS_MAX

@@ -1,7 +1,6 @@
 pub mod Types
 pub mod State
 pub mod References
-pub mod Pools
 pub mod Walks
 pub mod Turns
 pub mod Acts

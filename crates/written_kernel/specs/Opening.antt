@@ -1,37 +1,33 @@
--- The opening state: processes, and threads that run or are dormant.
-use Rattle.std.specs.Prelude.{ℕ, ◌+◌, ◌++◌, List, [], ◌∷◌, Option, Bool, if◌then◌else◌, None, length, replicate}
-use Rattle.written_kernel.specs.Types.{Obj, Process, Thread, ThreadState}
+-- The opening state: processes, and threads of them that run or are dormant.
+use Rattle.std.specs.Prelude.{ℕ, ◌+◌, ◌++◌, List, [], ◌∷◌, Bool, if◌then◌else◌, None, length, replicate}
+use Rattle.written_kernel.specs.Types.{Process, Thread, ThreadState}
+use Rattle.dk_base.specs.declared.limits.TheConstants.{THREADS_MAX}
 use Rattle.kernel_records.specs.declared.record.ProcessStage.TheVariants.{Live}
 use Rattle.kernel_records.specs.declared.record.ThreadState.TheVariants as is
-use Rattle.written_kernel.specs.State.{State, pid}
+use Rattle.kernel_records.specs.Words.{empty_table, pid}
+use Rattle.written_kernel.specs.State.{State}
 
 abbrev pub new_process : ℕ → ℕ → Process
 new_process n limit = record { number = n; made = 0; limit = limit; stage = Live }
 
--- a table with a place for each descriptor that the process may have
-abbrev pub empty_table : ℕ → List (Option Obj)
-empty_table limit = replicate limit None
-
 abbrev pub no_process : State
 no_process =
     record {
-      processes = [];
-      threads = [];
-      bound = [];
+      process_table = record { processes = []; threads = [] };
+      bindings = replicate THREADS_MAX None;
       tables = [];
       names = [];
       doors = [];
-      calls_made = 0;
-      calls = [];
-      notices_made = 0;
-      notices = [];
+      call_tree = record { made = 0; calls = [] };
+      notice_list = record { made = 0; notices = [] };
       events = 0;
     }
 
 abbrev pub with_new_process : State → ℕ → State
 with_new_process m limit =
     record m {
-      processes = m.processes ++ new_process (length m.processes + 1) limit ∷ [];
+      process_table =
+          record m.process_table { processes = m.process_table.processes ++ new_process (length m.process_table.processes + 1) limit ∷ [] };
       tables = m.tables ++ empty_table limit ∷ [];
     }
 
@@ -47,13 +43,14 @@ abbrev pub opening_state : Bool → ThreadState
 opening_state spare = if spare then is.Dormant else is.Running
 
 abbrev pub new_thread : ℕ → ℕ → Bool → Thread
-new_thread n p spare =
-    record { number = n; made = 0; process = pid p; invocation = None; state = opening_state spare }
+new_thread n p spare = record { number = n; made = 0; process = pid p; invocation = None; state = opening_state spare }
 
 -- one thread more
 abbrev pub with_new_thread : State → ℕ → Bool → State
 with_new_thread m p spare =
-    record m { threads = m.threads ++ new_thread (length m.threads + 1) p spare ∷ []; bound = m.bound ++ None ∷ [] }
+    record m {
+      process_table = record m.process_table { threads = m.process_table.threads ++ new_thread (length m.process_table.threads + 1) p spare ∷ [] };
+    }
 
 -- the states in which a run may begin
 pub data IsOpening : State → Type 0 where

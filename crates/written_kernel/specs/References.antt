@@ -34,7 +34,7 @@ objects_in_call r = objects_in_transit r r.stage
 
 -- every object that is held, once for each holding
 abbrev pub holdings : State → List Obj
-holdings m = flat_map objects_in_table m.tables ++ map named_object m.names ++ flat_map objects_in_call m.calls
+holdings m = flat_map objects_in_table m.tables ++ map named_object m.names ++ flat_map objects_in_call m.call_tree.calls
 
 abbrev pub refs : State → Obj → List Obj
 refs m o = filter (is_object o) (holdings m)

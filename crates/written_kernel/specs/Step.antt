@@ -1,40 +1,64 @@
 -- One event: the act of a thread, and what follows it.
-use Rattle.std.specs.Prelude.{ℕ, ◌+◌, List, Option, Some, None}
-use Rattle.written_kernel.specs.Types.{Answer, Event, Request, ThreadState, Tid, What}
+use Rattle.std.specs.Prelude.{ℕ, ◌+◌, List, [], Option, Some, None}
+use Rattle.written_kernel.specs.Types.{Answer, Errno, Event, Request, ThreadState, Tid, What}
+use Rattle.dk_base.specs.declared.answer.Answer.TheVariants.{Data}
 use Rattle.dk_base.specs.declared.request.Request.TheVariants as request
 use Rattle.dk_base.specs.declared.event.What.TheVariants as what
 use Rattle.kernel_records.specs.declared.record.ThreadState.TheVariants as is
-use Rattle.written_kernel.specs.State.{State, tid, process_of, state_of}
-use Rattle.written_kernel.specs.Acts.{ActResult, no_act}
-use Rattle.written_kernel.specs.Doors.{create, call, return, accept, collect}
-use Rattle.written_kernel.specs.Descriptors.{attach, open_path, await, end_await}
+use Rattle.kernel_records.specs.Words.{tid}
+use Rattle.written_kernel.specs.State.{State, process_of, state_of, with_state}
+use Rattle.written_kernel.specs.Acts.{ActResult, Test, first_refusal, no_act, unless_refused}
+use Rattle.written_kernel.specs.Doors.{accept, call, call_tests, collect, create, create_tests, return, return_tests}
+use Rattle.written_kernel.specs.Descriptors.{attach, attach_tests, await, end_await, open_path, open_tests}
 use Rattle.written_kernel.specs.Leaving.{exit}
 use Rattle.written_kernel.specs.Settle.{settle}
 use Rattle.written_kernel.specs.Turns.{woken_threads}
 use Rattle.written_kernel.specs.Walks.{root}
 
--- a kernel entry of a thread of process p
-abbrev pub enter : State → ℕ → ℕ → Request → ActResult
-enter m t p (request.Create entry cookie attrs) = create m p entry cookie attrs
-enter m t p (request.Call fd bytes pass rsize) = call m t p fd bytes rsize
-enter m t p (request.Return bytes pass) = return m t bytes
-enter m t p (request.Attach fd path) = attach m p fd path
-enter m t p (request.Open path) = open_path m p path
-enter m t p (request.Await path) = await m t path
-enter m t p request.Exit = exit m t p
-enter m t p _ = no_act m
+-- what an entry of thread t of process p is tested for, in this order
+abbrev pub tests_of : State → ℕ → ℕ → Request → List Test
+tests_of m t p (request.Create entry cookie attrs) = create_tests m p
+tests_of m t p (request.Call fd bytes pass rsize) = call_tests m p fd bytes pass
+tests_of m t p (request.Return bytes pass) = return_tests m t p bytes pass
+tests_of m t p (request.Attach fd path) = attach_tests m p fd path
+tests_of m t p (request.Open path) = open_tests m p path
+tests_of m t p _ = []
 
--- the end of a wait, by what the thread waits for
-abbrev pub go_on : State → ℕ → ThreadState → ActResult
-go_on m t (is.Given item) = accept m t item
-go_on m t (is.Calling c) = collect m t c
-go_on m t (is.Awaiting path) = end_await m t
-go_on m t _ = no_act m
+-- what an entry is refused with, if it is
+abbrev pub refusal_of : State → ℕ → ℕ → Request → Option Errno
+refusal_of m t p r = first_refusal (tests_of m t p r)
+
+-- what an entry does that is not refused
+abbrev pub effect : State → ℕ → ℕ → Request → ActResult
+effect m t p (request.Create entry cookie attrs) = create m p entry cookie attrs
+effect m t p (request.Call fd bytes pass rsize) = call m t p fd bytes pass rsize
+effect m t p (request.Return bytes pass) = return m t p bytes pass
+effect m t p (request.Attach fd path) = attach m p fd path
+effect m t p (request.Open path) = open_path m p path
+effect m t p (request.Await path) = await m t path
+effect m t p request.Exit = exit m t p
+effect m t p _ = no_act m
+
+-- a kernel entry of thread t of process p
+abbrev pub enter : State → ℕ → ℕ → Request → ActResult
+enter m t p r = unless_refused m (refusal_of m t p r) (effect m t p r)
+
+-- a task's answer has no bytes here: who runs the thread computes them from the task's input
+abbrev pub end_work : State → ℕ → ActResult
+end_work m t = record { state = with_state m t is.Running; answer = Data [] }
+
+-- the end of a wait of thread t of process p, by what the thread waits for
+abbrev pub go_on : State → ℕ → ℕ → ThreadState → ActResult
+go_on m t p (is.Given item) = accept m t p item
+go_on m t p (is.Calling c) = collect m t p c
+go_on m t p (is.Awaiting path) = end_await m t
+go_on m t p (is.Working op input) = end_work m t
+go_on m t p _ = no_act m
 
 -- the act of a Running thread is its request; that of another thread is the end of its wait
 abbrev pub act : State → ℕ → Option Request → ActResult
 act m t (Some r) = enter m t (process_of m t) r
-act m t None = go_on m t (state_of m t)
+act m t None = go_on m t (process_of m t) (state_of m t)
 
 abbrev pub with_event_counted : State → State
 with_event_counted m = record m { events = m.events + 1 }
@@ -47,7 +71,11 @@ pub record Step : Type 0 where
 
 abbrev pub step_after : State → ActResult → Step
 step_after m a =
-    record { state = with_event_counted (settle a.state); answer = a.answer; woken = woken_threads m (with_event_counted (settle a.state)) }
+    record {
+      state = with_event_counted (settle m a.state);
+      answer = a.answer;
+      woken = woken_threads m (with_event_counted (settle m a.state));
+    }
 
 unfoldable pub step : State → ℕ → Option Request → Step
 step m t r = step_after m (act m t r)

@@ -1,18 +1,13 @@
 -- Which threads can take a turn.
 use Rattle.std.specs.Prelude.{ℕ, List, [], ◌∷◌, ◌++◌, Option, Bool, true, false, ◌&&◌, not, is_some, if◌then◌else◌, Some, None, zero, suc, length}
-use Rattle.written_kernel.specs.Types.{Call, CallStage, ThreadState, Tid}
+use Rattle.written_kernel.specs.Types.{ThreadState, Tid}
 use Rattle.kernel_records.specs.declared.record.ThreadState.TheVariants as is
-use Rattle.kernel_records.specs.declared.record.CallStage.TheVariants as stage
-use Rattle.written_kernel.specs.State.{State, tid, state_of, call_of, name_of}
+use Rattle.kernel_records.specs.Words.{is_to_collect_as, tid}
+use Rattle.written_kernel.specs.State.{State, find_call, name_of, state_of}
 
-abbrev pub is_to_collect : CallStage → Bool
-is_to_collect (stage.Returned bytes objects) = true
-is_to_collect (stage.Ended e) = true
-is_to_collect _ = false
-
-abbrev pub has_answer : Option Call → Bool
-has_answer None = false
-has_answer (Some r) = is_to_collect r.stage
+-- a call's caller can collect its results or its error
+abbrev pub has_answer : State → ℕ → Bool
+has_answer m c = is_some (find_call m (is_to_collect_as c))
 
 -- a thread that waits is runnable where its wait can end. What a port has comes with the ports.
 abbrev pub can_go_on : State → ThreadState → Bool
@@ -20,7 +15,7 @@ can_go_on m is.Dormant = false
 can_go_on m is.Running = true
 can_go_on m (is.Idle since) = false
 can_go_on m (is.Given item) = true
-can_go_on m (is.Calling c) = has_answer (call_of m c)
+can_go_on m (is.Calling c) = has_answer m c
 can_go_on m (is.Getting port max nget one interrupted) = interrupted
 can_go_on m (is.Awaiting path) = is_some (name_of m path)
 can_go_on m (is.Working op input) = true
@@ -49,7 +44,7 @@ least_among m zero = None
 least_among m (suc n) = least_or (least_among m n) (is_runnable m (suc n)) (suc n)
 
 abbrev pub least_runnable : State → Option ℕ
-least_runnable m = least_among m (length m.threads)
+least_runnable m = least_among m (length m.process_table.threads)
 
 -- the threads 1 to n that were not runnable and are, in order
 abbrev pub woken_among : State → State → ℕ → List Tid
@@ -58,7 +53,7 @@ woken_among before after (suc n) =
     woken_among before after n ++ (if not (is_runnable before (suc n)) && is_runnable after (suc n) then tid (suc n) ∷ [] else [])
 
 abbrev pub woken_threads : State → State → List Tid
-woken_threads before after = woken_among before after (length after.threads)
+woken_threads before after = woken_among before after (length after.process_table.threads)
 
 -- Calling, Getting or Awaiting: what a stalled run tells of
 abbrev pub is_waiting_state : ThreadState → Bool
@@ -73,4 +68,4 @@ waiting_among m (suc n) = waiting_among m n ++ (if is_waiting_state (state_of m 
 
 -- the threads that are Calling, Getting or Awaiting, in order
 abbrev pub waiting_threads : State → List Tid
-waiting_threads m = waiting_among m (length m.threads)
+waiting_threads m = waiting_among m (length m.process_table.threads)

@@ -28,3 +28,6 @@ pub use Rattle.kernel_records.specs.declared.record.Thread.{Thread}
 pub use Rattle.kernel_records.specs.declared.record.ThreadState.{ThreadState}
 pub use Rattle.dk_base.specs.declared.request.Request.{Request}
 pub use Rattle.dk_base.specs.declared.set.Attrs.{Attrs}
+pub use Rattle.kernel_records.specs.declared.pool.Parked.{Parked}
+pub use Rattle.kernel_records.specs.declared.pool.Pool.{Pool}
+pub use Rattle.kernel_records.specs.declared.pool.Waiting.{Waiting}

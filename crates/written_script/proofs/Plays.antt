@@ -71,7 +71,7 @@ one_more :
     IsLeastFirst script n (history_after script h t) ts → IsLeastFirst script (suc n) h (t ∷ ts)
 one_more script n h t ts e rest =
     record {
-      runnable = (least-is_runnable h.state (length h.state.threads) t e, rest.runnable);
+      runnable = (least-is_runnable h.state (length h.state.process_table.threads) t e, rest.runnable);
       least = (e, rest.least);
       few = let few : length ts ≤ n = rest.few in omega arith;
       over = by_end rest.over;

@@ -6,7 +6,8 @@ use Rattle.std.proofs.lemmas.List.Elements.{All-nil, All-head, All-tail, All-pus
 use Rattle.std.proofs.lemmas.Option.{slice_get_within}
 use Rattle.dk_base.specs.declared.answer.Answer.TheVariants as answer
 use Rattle.written_kernel.specs.Types.{Answer, Event, Thread}
-use Rattle.written_kernel.specs.Words.{IsEntering, IsRun, MayTurn, State, can_go_on, event_of, invocation_of, is_runnable, is_running, new_thread, no_process, opening, process_in, process_of, state_in, step, thread_of, with_new_process, with_new_thread, with_processes}
+use Rattle.kernel_records.specs.Words.{process_in, state_in}
+use Rattle.written_kernel.specs.Words.{IsEntering, IsRun, MayTurn, State, can_go_on, event_of, invocation_of, is_runnable, is_running, new_thread, no_process, opening, process_of, step, thread_of, with_new_process, with_new_thread, with_processes}
 use Rattle.written_kernel.proofs.Lists.{numbered_within, numbered_there}
 use Rattle.written_kernel.proofs.Invocations.{new_invocation-step}
 use Rattle.written_kernel.proofs.Opening.{opened, invocation_of-opening}
@@ -15,13 +16,13 @@ use Rattle.script_lang.specs.Types.{Line}
 use Rattle.script_line.specs.declared.line.Line.TheVariants as line
 use Rattle.script_requests.specs.Types.{Procedure, ScriptProcess, ScriptThread}
 use Rattle.script_lang.specs.Words.{ScriptValue}
-use Rattle.script_requests.specs.Words.{BodyStep, Frame, IsDeclaredAnswer, IsDeclaredDoor, IsDeclaredEvent, IsFitLine, IsNumberOf, IsPlayable, IsProcess, IsSound, IsSoundProcedure, IsSoundThread, IsThread, Variables, capability_of_spare, frame_after, frame_after_answer, frame_of, has_later_parts, is_later, is_later_line, is_later_procedure, is_later_thread, request_after, request_ahead, request_at, request_at_end}
+use Rattle.script_requests.specs.Words.{BodyStep, Frame, IsDeclaredAnswer, IsDeclaredEvent, IsFitLine, IsNumberOf, IsPlayable, IsProcess, IsSound, IsSoundProcedure, IsSoundThread, IsThread, Variables, capability_of_spare, frame_after, frame_after_answer, frame_of, has_later_parts, is_later, is_later_line, is_later_procedure, is_later_thread, request_after, request_ahead, request_at, request_at_end}
 use Rattle.script_requests.specs.Steps.BodyStep.{Do, When}
 use Rattle.script_requests.proofs.Elements.{All-at_number, All-none}
 use Rattle.script_requests.proofs.SoundFrames.{IsStep, AreSteps, AreLines, IsFrame, frame_of-frame, frame_after_answer-procedure}
-use Rattle.written_script.specs.DeclaredRuns.{IsDeclared}
+use Rattle.written_script.specs.DeclaredRuns.{IsDeclared, IsDeclaredDoor}
 use Rattle.written_script.specs.ScriptRuns.{History, limit_of, with_script_threads, opening_of, first_history, request_at_turn, history_after, run, run_from, AreRunnableFrom, IsAllowed, turns_from, turns_of}
-use Rattle.written_script.proofs.DeclaredStates.{IsKnown, MakesDeclared, AsksDeclared, step-known, root-declared, waiting-declared}
+use Rattle.written_script.proofs.DeclaredStates.{IsKnown, IsKnownCall, MakesDeclared, AsksDeclared, step-known, root-declared, waiting-declared}
 use Rattle.written_script.proofs.FitRequests.{HasThreads, IsFitSomewhere, fit-somewhere, IsBuiltLine, request-fit, request-built, request-inside}
 use Rattle.written_script.proofs.Histories.{frame_of-append, IsOpening-opening_of, events-run}
 
@@ -101,12 +102,12 @@ request_at_turn-declared script h t sound = by_test (is_running h.state t)
     by_test false = tt
 
 -- a runnable thread is there
-pub is_runnable-there : (m : State) (t : ℕ) → is_runnable m t ≡ true → IsNumberOf (length m.threads) t
+pub is_runnable-there : (m : State) (t : ℕ) → is_runnable m t ≡ true → IsNumberOf (length m.process_table.threads) t
 is_runnable-there m t h = by_thread (thread_of m t) refl h
   where
-    by_thread : (x : Option Thread) → thread_of m t ≡ x → can_go_on m (state_in x) ≡ true → IsNumberOf (length m.threads) t
+    by_thread : (x : Option Thread) → thread_of m t ≡ x → can_go_on m (state_in x) ≡ true → IsNumberOf (length m.process_table.threads) t
     by_thread None e h = absurd (false≢true h)
-    by_thread (Some x) e h = numbered_within m.threads t x e
+    by_thread (Some x) e h = numbered_within m.process_table.threads t x e
 
 -- what a history of a sound script keeps
 pub record IsKnownHistory (script : ScriptValue) (h : History) : Type 0 where
@@ -156,10 +157,10 @@ inside-history_after script h t kept u some = rw frame_of-append (by_cause (new_
 -- the thread of a turn is declared
 pub history_after-thread : (script : ScriptValue) (h : History) (t : ℕ) → IsKnownHistory script h → is_runnable h.state t ≡ true → IsThread script t
 history_after-thread script h t kept can =
-    let there : IsNumberOf (length h.state.threads) t = is_runnable-there h.state t can
+    let there : IsNumberOf (length h.state.process_table.threads) t = is_runnable-there h.state t can
     in let low : 1 ≤ t = there.0
-    in let high : t ≤ length h.state.threads = there.1
-    in let same : length h.state.threads ≡ length script.threads = kept.has.threads
+    in let high : t ≤ length h.state.process_table.threads = there.1
+    in let same : length h.state.process_table.threads ≡ length script.threads = kept.has.threads
     in let last : t ≤ length script.threads = omega arith
     in (low, last)
 
@@ -213,6 +214,7 @@ may_turn script h t playable kept can few = by_test (is_running h.state t) refl
               request-fit
               script
               h.state
+              t
               (frame_of script t h.events)
               kept.has
               (frame_of-frame (λ procedure. IsFitSomewhere script) script t h.events (fit-lines script playable.sound));
@@ -224,46 +226,46 @@ may_turn script h t playable kept can few = by_test (is_running h.state t) refl
 
 -- the begin
 
-threads-with_processes : (limits : List ℕ) (m : State) → (with_processes m limits).threads ≡ m.threads
+threads-with_processes : (limits : List ℕ) (m : State) → (with_processes m limits).process_table.threads ≡ m.process_table.threads
 threads-with_processes [] m = refl
 threads-with_processes (limit ∷ limits) m = threads-with_processes limits (with_new_process m limit)
 
-processes-with_processes : (limits : List ℕ) (m : State) → length (with_processes m limits).processes ≡ length m.processes + length limits
+processes-with_processes : (limits : List ℕ) (m : State) → length (with_processes m limits).process_table.processes ≡ length m.process_table.processes + length limits
 processes-with_processes [] m = omega arith
 processes-with_processes (limit ∷ limits) m =
-    let one : length (with_new_process m limit).processes ≡ length m.processes + 1 = simp length-append refl
-    in let rest : length (with_processes (with_new_process m limit) limits).processes ≡ length (with_new_process m limit).processes + length limits =
+    let one : length (with_new_process m limit).process_table.processes ≡ length m.process_table.processes + 1 = simp length-append refl
+    in let rest : length (with_processes (with_new_process m limit) limits).process_table.processes ≡ length (with_new_process m limit).process_table.processes + length limits =
     processes-with_processes limits (with_new_process m limit)
     in omega arith
 
-processes-with_script_threads : (xs : List ScriptThread) (m : State) → (with_script_threads m xs).processes ≡ m.processes
+processes-with_script_threads : (xs : List ScriptThread) (m : State) → (with_script_threads m xs).process_table.processes ≡ m.process_table.processes
 processes-with_script_threads [] m = refl
 processes-with_script_threads (x ∷ xs) m = processes-with_script_threads xs (with_new_thread m x.process.0 x.spare)
 
 threads-with_script_threads :
-    (xs : List ScriptThread) (m : State) → length (with_script_threads m xs).threads ≡ length m.threads + length xs
+    (xs : List ScriptThread) (m : State) → length (with_script_threads m xs).process_table.threads ≡ length m.process_table.threads + length xs
 threads-with_script_threads [] m = omega arith
 threads-with_script_threads (x ∷ xs) m =
-    let rest : length (with_script_threads (with_new_thread m x.process.0 x.spare) xs).threads ≡ length (with_new_thread m x.process.0 x.spare).threads + length xs =
+    let rest : length (with_script_threads (with_new_thread m x.process.0 x.spare) xs).process_table.threads ≡ length (with_new_thread m x.process.0 x.spare).process_table.threads + length xs =
     threads-with_script_threads xs (with_new_thread m x.process.0 x.spare)
-    in let one : length (with_new_thread m x.process.0 x.spare).threads ≡ length m.threads + 1 = simp length-append refl
+    in let one : length (with_new_thread m x.process.0 x.spare).process_table.threads ≡ length m.process_table.threads + 1 = simp length-append refl
     in omega arith
 
 limits-length : (xs : List ScriptProcess) → length (map limit_of xs) ≡ length xs
 limits-length [] = refl
 limits-length (x ∷ xs) = let rest : length (map limit_of xs) ≡ length xs = limits-length xs in omega arith
 
-pub threads-opening : (limits : List ℕ) → length (opening limits).threads ≡ 0
+pub threads-opening : (limits : List ℕ) → length (opening limits).process_table.threads ≡ 0
 threads-opening limits = ap length (threads-with_processes limits no_process)
 
 pub opening-has : (script : ScriptValue) → HasThreads script (opening_of script)
 opening-has script =
-    let none : length (opening (map limit_of script.processes)).threads ≡ 0 = threads-opening (map limit_of script.processes)
-    in let threads : length (opening_of script).threads ≡ length (opening (map limit_of script.processes)).threads + length script.threads =
+    let none : length (opening (map limit_of script.processes)).process_table.threads ≡ 0 = threads-opening (map limit_of script.processes)
+    in let threads : length (opening_of script).process_table.threads ≡ length (opening (map limit_of script.processes)).process_table.threads + length script.threads =
     threads-with_script_threads script.threads (opening (map limit_of script.processes))
-    in let processes : length (opening_of script).processes ≡ length (opening (map limit_of script.processes)).processes =
+    in let processes : length (opening_of script).process_table.processes ≡ length (opening (map limit_of script.processes)).process_table.processes =
     ap length (processes-with_script_threads script.threads (opening (map limit_of script.processes)))
-    in let limits : length (opening (map limit_of script.processes)).processes ≡ 0 + length (map limit_of script.processes) =
+    in let limits : length (opening (map limit_of script.processes)).process_table.processes ≡ 0 + length (map limit_of script.processes) =
     processes-with_processes (map limit_of script.processes) no_process
     in let same : length (map limit_of script.processes) ≡ length script.processes = limits-length script.processes
     in record { threads = omega arith; processes = omega arith }
@@ -272,8 +274,8 @@ abbrev OwnsProcess : ScriptValue → Thread → Type 0
 OwnsProcess script x = IsProcess script x.process.0
 
 owners-with_script_threads :
-    (script : ScriptValue) (xs : List ScriptThread) (m : State) → All (IsSoundThread script) xs → All (OwnsProcess script) m.threads →
-    All (OwnsProcess script) (with_script_threads m xs).threads
+    (script : ScriptValue) (xs : List ScriptThread) (m : State) → All (IsSoundThread script) xs → All (OwnsProcess script) m.process_table.threads →
+    All (OwnsProcess script) (with_script_threads m xs).process_table.threads
 owners-with_script_threads script [] m sound h = h
 owners-with_script_threads script (x ∷ xs) m sound h =
     owners-with_script_threads
@@ -283,12 +285,12 @@ owners-with_script_threads script (x ∷ xs) m sound h =
     (All-tail (IsSoundThread script) x xs sound)
     (All-push
     (OwnsProcess script)
-    m.threads
-    (new_thread (length m.threads + 1) x.process.0 x.spare)
+    m.process_table.threads
+    (new_thread (length m.process_table.threads + 1) x.process.0 x.spare)
     h
     (All-head (IsSoundThread script) x xs sound).process)
 
-opening-owners : (script : ScriptValue) → IsSound script → All (OwnsProcess script) (opening_of script).threads
+opening-owners : (script : ScriptValue) → IsSound script → All (OwnsProcess script) (opening_of script).process_table.threads
 opening-owners script sound =
     owners-with_script_threads
     script
@@ -297,19 +299,19 @@ opening-owners script sound =
     sound.threads
     (rw (threads-with_processes (map limit_of script.processes) no_process) (All-nil (OwnsProcess script)))
 
-owner-there : (script : ScriptValue) (m : State) (u : ℕ) → HasThreads script m → All (OwnsProcess script) m.threads → IsThread script u → IsProcess script (process_of m u)
+owner-there : (script : ScriptValue) (m : State) (u : ℕ) → HasThreads script m → All (OwnsProcess script) m.process_table.threads → IsThread script u → IsProcess script (process_of m u)
 owner-there script m u has all thread = by_thread (thread_of m u) refl
   where
     there : IsSome (thread_of m u)
     there =
         let low : 1 ≤ u = thread.0
         in let high : u ≤ length script.threads = thread.1
-        in let same : length m.threads ≡ length script.threads = has.threads
-        in numbered_there m.threads u low (omega arith)
+        in let same : length m.process_table.threads ≡ length script.threads = has.threads
+        in numbered_there m.process_table.threads u low (omega arith)
 
     by_thread : (o : Option Thread) → thread_of m u ≡ o → IsProcess script (process_in o)
     by_thread None e = absurd (false≢true (subst (λ (o : Option Thread). IsSome o) e there))
-    by_thread (Some x) e = All-at_number (OwnsProcess script) m.threads u x all e
+    by_thread (Some x) e = All-at_number (OwnsProcess script) m.process_table.threads u x all e
 
 pub IsKnownHistory-first_history : (script : ScriptValue) → IsSound script → IsKnownHistory script (first_history script)
 IsKnownHistory-first_history script sound =
@@ -319,7 +321,7 @@ IsKnownHistory-first_history script sound =
       owners = λ u thread. owner-there script (opening_of script) u (opening-has script) (opening-owners script sound) thread;
       known = record {
         doors = rw opens.doors (All-nil (IsDeclaredDoor script));
-        calls = rw opens.calls (All-nil _);
+        calls = rw opens.call_tree (All-nil (IsKnownCall script (length (opening_of script).doors)));
       };
       events = All-nil (IsDeclaredEvent script);
       inside = λ u some. absurd (false≢true (subst (λ o. IsSome o) (invocation_of-opening (IsOpening-opening_of script) u) some));

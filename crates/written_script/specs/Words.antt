@@ -1,5 +1,5 @@
 -- The words of this crate's specs, from one place, for the crates above.
-pub use Rattle.written_script.specs.DeclaredRuns.{IsDeclared}
+pub use Rattle.written_script.specs.DeclaredRuns.{IsDeclared, IsDeclaredDoor}
 pub use Rattle.written_script.specs.Endings.{ending_of, ending_waiting, ending_with}
 pub use Rattle.written_script.specs.Plays.{IsRefusedPlay, IsWholePlay}
 pub use Rattle.written_script.specs.RunText.{text_of_history}

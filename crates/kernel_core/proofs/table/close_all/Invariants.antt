@@ -1,5 +1,5 @@
 use Rattle.std.proofs.Common.{◌≡◌, ◌++◌, map, take, drop}
-use Rattle.written_kernel.specs.Words.{free_row}
+use Rattle.kernel_records.specs.Words.{free_row}
 use Rattle.kernel_core.proofs.table.close_all.Given as goal
 
 abbrev pub invariant-loop-row : goal.invariant-loop-row

@@ -1,15 +1,26 @@
 use Rattle.std.proofs.Common.{Some}
+use Rattle.kernel_core.specs.Stored.{stored_state}
+use Rattle.kernel_core.proofs.Kept.{kept_result, refused_result}
 use Rattle.kernel_core.proofs.Steps.{step_stands, step_within, step_small}
 use Rattle.kernel_core.proofs.kernel.Kernel.enter.Goals as goal
 
 pub invariant_of-self : goal.invariant_of-self
 invariant_of-self c =
-    step_within c.self.inside.store c.args.self.now c.run_entry.new.store c.args.t.0 (Some c.args.request) c.run_entry.result c.self.view_is c.self.invariant c.requires.few c.run_entry.ensures.step c.run_entry.ensures.err
+    let kept = stored_state c.self.inside.parts.store in
+    let new = stored_state c.enter.new.self.store in (
+      kept_result kept c.args.self.now new c.args.t.0 (Some c.args.request) c.enter.result c.self.view_is c.self.invariant.0 (record { running = c.requires.running; fit = c.requires.fit; built = c.requires.built; inside = c.requires.inside; few = c.requires.few }) c.enter.ensures.step c.enter.ensures.err,
+      step_within kept c.args.self.now new c.args.t.0 (Some c.args.request) c.enter.result c.self.view_is c.self.invariant.1 c.requires.few c.enter.ensures.step c.enter.ensures.err,
+      c.enter.ensures.current,
+    )
 
 pub returns-clause-step : goal.returns-clause-step
 returns-clause-step c =
-    step_stands c.self.inside.store c.args.self.now c.run_entry.new.store c.args.t.0 (Some c.args.request) c.run_entry.result c.self.view_is c.run_entry.ensures.step
+    step_stands (stored_state c.self.inside.parts.store) c.args.self.now (stored_state c.enter.new.self.store) c.args.t.0 (Some c.args.request) c.enter.result c.self.view_is c.enter.ensures.step
 
 pub returns-clause-small : goal.returns-clause-small
 returns-clause-small c =
-    step_small c.self.inside.store c.run_entry.new.store c.args.t.0 (Some c.args.request) c.run_entry.result c.self.invariant c.run_entry.ensures.step
+    step_small (stored_state c.self.inside.parts.store) (stored_state c.enter.new.self.store) c.args.t.0 (Some c.args.request) c.enter.result c.self.invariant.1 c.enter.ensures.step
+
+pub returns-clause-refused : goal.returns-clause-refused
+returns-clause-refused c =
+    refused_result (stored_state c.self.inside.parts.store) c.args.self.now (stored_state c.enter.new.self.store) c.args.t.0 c.args.request c.enter.result c.self.view_is c.self.invariant.0 (record { running = c.requires.running; fit = c.requires.fit; built = c.requires.built; inside = c.requires.inside; few = c.requires.few }) c.enter.ensures.step

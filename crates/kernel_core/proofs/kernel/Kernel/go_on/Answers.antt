@@ -1,15 +1,22 @@
 use Rattle.std.proofs.Common.{None}
+use Rattle.kernel_core.specs.Stored.{stored_state}
+use Rattle.kernel_core.proofs.Kept.{kept_result}
 use Rattle.kernel_core.proofs.Steps.{step_stands, step_within, step_small}
 use Rattle.kernel_core.proofs.kernel.Kernel.go_on.Goals as goal
 
 pub invariant_of-self : goal.invariant_of-self
 invariant_of-self c =
-    step_within c.self.inside.store c.args.self.now c.run_end_of_wait.new.store c.args.t.0 (None) c.run_end_of_wait.result c.self.view_is c.self.invariant c.requires.few c.run_end_of_wait.ensures.step c.run_end_of_wait.ensures.err
+    let kept = stored_state c.self.inside.parts.store in
+    let new = stored_state c.go_on.new.self.store in (
+      kept_result kept c.args.self.now new c.args.t.0 None c.go_on.result c.self.view_is c.self.invariant.0 c.requires c.go_on.ensures.step c.go_on.ensures.err,
+      step_within kept c.args.self.now new c.args.t.0 None c.go_on.result c.self.view_is c.self.invariant.1 c.requires.few c.go_on.ensures.step c.go_on.ensures.err,
+      c.go_on.ensures.current,
+    )
 
 pub returns-clause-step : goal.returns-clause-step
 returns-clause-step c =
-    step_stands c.self.inside.store c.args.self.now c.run_end_of_wait.new.store c.args.t.0 (None) c.run_end_of_wait.result c.self.view_is c.run_end_of_wait.ensures.step
+    step_stands (stored_state c.self.inside.parts.store) c.args.self.now (stored_state c.go_on.new.self.store) c.args.t.0 None c.go_on.result c.self.view_is c.go_on.ensures.step
 
 pub returns-clause-small : goal.returns-clause-small
 returns-clause-small c =
-    step_small c.self.inside.store c.run_end_of_wait.new.store c.args.t.0 (None) c.run_end_of_wait.result c.self.invariant c.run_end_of_wait.ensures.step
+    step_small (stored_state c.self.inside.parts.store) (stored_state c.go_on.new.self.store) c.args.t.0 None c.go_on.result c.self.invariant.1 c.go_on.ensures.step

@@ -1,0 +1,120 @@
+-- A kernel's events keep that what it keeps comes from a written state, and a refused entry changes nothing else.
+use Rattle.std.proofs.Common.{◌≡◌, ℕ, ◌+◌, Bool, List, Option, Some, None, Result, Ok, Err, IfOk, OnOk, OnErr, [], ◌∷◌, length, refl, subst, sym, ap, ◌∙◌, arith}
+use Rattle.written_kernel.specs.Types.{Errno, NoMemory, Request, Stepped, Tid}
+use Rattle.dk_base.specs.declared.answer.Answer.TheVariants.{Failure}
+use Rattle.written_kernel.specs.Words.{IsOpening, IsStep, MayTurn, StandsFor, State, forget, no_process, opening, step, with_event_counted, with_new_process, with_new_thread, with_processes}
+use Rattle.written_kernel.specs.Opening.IsOpening.{processes, thread}
+use Rattle.written_kernel.proofs.Forget.{IsStep-stands_for, is_runnable-forget}
+use Rattle.written_kernel.proofs.Opening.{forget-opening}
+use Rattle.written_kernel.proofs.Steps.{events-step}
+use Rattle.kernel_invariant.specs.Events.{Keeps}
+use Rattle.kernel_invariant.proofs.Events.{step_keeps}
+use Rattle.kernel_invariant.proofs.Openings.{opening_keeps}
+use Rattle.kernel_core.specs.declared.runnable.Runnable.{Runnable}
+use Rattle.kernel_core.specs.Kept.{IsKept}
+use Rattle.kernel_core.specs.Within.{IsWithin}
+use Rattle.kernel_core.specs.Woken.{IsCurrent, runnables}
+
+-- a turn of what is kept is a turn of what it stands for
+may_stands : (m : State) (t : ℕ) (q : Option Request) → MayTurn (forget m) t q → MayTurn m t q
+may_stands m t (Some r) may =
+    record { running = may.running; fit = may.fit; built = may.built; inside = may.inside; few = may.few }
+may_stands m t None may =
+    record { runnable = sym (is_runnable-forget m t) ∙ may.runnable; waits = may.waits; few = may.few }
+
+-- what is known of an event of a kept state
+record Stands (kept new : State) (t : ℕ) (q : Option Request) (s : Stepped) : Type 0 where
+  written : State
+  stands : StandsFor kept written
+  keeps : Keeps written t q
+  done : IsStep (step written t q) new s
+
+stands_of :
+    (kept new : State) (t : ℕ) (q : Option Request) (s : Stepped) → IsKept kept → MayTurn kept t q →
+    IsStep (step kept t q) new s → Stands kept new t q s
+stands_of kept new t q s k may h =
+    record {
+      written = k.written;
+      stands = k.stands;
+      keeps = step_keeps k.written t q k.invariant (may_stands k.written t q (subst (λ m. MayTurn m t q) k.stands may));
+      done = IsStep-stands_for kept k.written t q new s k.stands h;
+    }
+
+after_none : (n : ℕ) → n + 1 ≡ 0 → ⊥
+after_none n e = omega arith
+
+pub kept_step :
+    (kept new : State) (t : ℕ) (q : Option Request) (s : Stepped) → IsKept kept → MayTurn kept t q →
+    IsStep (step kept t q) new s → IsKept new
+kept_step kept new t q s k may h =
+    let w : Stands kept new t q s = stands_of kept new t q s k may h in
+    record {
+      written = (step w.written t q).state;
+      stands = w.done.state;
+      invariant = w.keeps.invariant;
+      opening =
+          λ e. absurd (after_none w.written.events (sym (events-step w.written t q) ∙ sym (ap (λ (m : State). m.events) w.done.state) ∙ e));
+    }
+
+pub refused_step :
+    (kept new : State) (t : ℕ) (r : Request) (s : Stepped) (e : Errno) → IsKept kept → MayTurn kept t (Some r) →
+    IsStep (step kept t (Some r)) new s → s.answer ≡ Failure e → new ≡ with_event_counted kept
+refused_step kept new t r s e k may h a =
+    let w : Stands kept new t (Some r) s = stands_of kept new t (Some r) s k may h in
+    w.done.state
+    ∙ ap forget (w.keeps.refused r e refl (sym w.done.answer ∙ a))
+    ∙ ap with_event_counted (sym w.stands)
+
+-- the same of a result
+
+pub kept_result :
+    (kept old new : State) (t : ℕ) (q : Option Request) (o : Result Stepped NoMemory) → kept ≡ old → IsKept kept →
+    MayTurn old t q → IfOk o (λ s. IsStep (step kept t q) new s) → OnErr o (new ≡ kept) → IsKept new
+kept_result kept old new t q (Ok s) same k may h e =
+    kept_step kept new t q s k (subst (λ m. MayTurn m t q) (sym same) may) h
+kept_result kept old new t q (Err x) same k may h e = subst IsKept (sym e) k
+
+pub refused_result :
+    (kept old new : State) (t : ℕ) (r : Request) (o : Result Stepped NoMemory) → kept ≡ old → IsKept kept →
+    MayTurn old t (Some r) → IfOk o (λ s. IsStep (step kept t (Some r)) new s) →
+    IfOk o (λ s. (e : Errno) → s.answer ≡ Failure e → new ≡ with_event_counted old)
+refused_result kept old new t r (Ok s) same k may h =
+    λ e a. refused_step kept new t r s e k (subst (λ m. MayTurn m t (Some r)) (sym same) may) h a ∙ ap with_event_counted same
+refused_result kept old new t r (Err x) same k may h = tt
+
+-- openings
+
+pub opening_kept : {m : State} → IsOpening m → IsKept m
+opening_kept {m} o =
+    record { written = m; stands = sym (forget-opening o); invariant = opening_keeps m o; opening = λ e. o }
+
+pub processes_kept : (limits : List ℕ) (m : State) → m ≡ opening limits → IsKept m
+processes_kept limits m e = subst IsKept (sym e) (opening_kept (processes limits))
+
+pub thread_kept : (old new : State) (p : ℕ) (spare : Bool) → IsKept old → old.events ≡ 0 → new ≡ with_new_thread old p spare → IsKept new
+thread_kept old new p spare k z e = subst IsKept (sym e) (opening_kept (thread p spare (k.opening z)))
+
+within_thread : (m : State) (p : ℕ) (spare : Bool) → IsWithin m → IsWithin (with_new_thread m p spare)
+within_thread m p spare w = record { events = w.events; doors = w.doors; calls_made = w.calls_made; bytes = w.bytes }
+
+-- another thread of a kernel that has made no event
+pub thread_result :
+    (old new : State) (p : ℕ) (spare : Bool) (o : Result Tid NoMemory) → IsKept old → IsWithin old → old.events ≡ 0 →
+    OnOk o (new ≡ with_new_thread old p spare) → OnErr o (new ≡ old) → IsKept new × IsWithin new
+thread_result old new p spare (Ok t) k w z h e =
+    (thread_kept old new p spare k z h, subst IsWithin (sym h) (within_thread old p spare w))
+thread_result old new p spare (Err x) k w z h e = (subst IsKept (sym e) k, subst IsWithin (sym e) w)
+
+threads-with_processes : (limits : List ℕ) (m : State) → (with_processes m limits).process_table.threads ≡ m.process_table.threads
+threads-with_processes [] m = refl
+threads-with_processes (limit ∷ limits) m = threads-with_processes limits (with_new_process m limit)
+
+-- an opening without threads
+pub opening_current : (r : Runnable) (limits : List ℕ) (m : State) → m ≡ opening limits → r.list.items ≡ [] → IsCurrent r m
+opening_current r limits m e h =
+    let none : length m.process_table.threads ≡ 0 =
+    ap (λ (k : State). length k.process_table.threads) e ∙ ap length (threads-with_processes limits no_process) in
+    record {
+      items = h ∙ ap (runnables m) (sym none);
+      room = record { list = omega (arith, none); next = omega (arith, none) };
+    }

@@ -1,0 +1,51 @@
+use Rattle.std.proofs.Common.{length, ap, sym, subst, ◌∙◌, arith}
+use Rattle.kernel_records.specs.Words.{CallTree}
+use Rattle.written_kernel.specs.Words.{State, forget, with_event_counted, woken_threads}
+use Rattle.kernel_core.specs.Stored.{stored_state}
+use Rattle.kernel_core.specs.Woken.{HasListRoom, IsCurrent}
+use Rattle.kernel_core.proofs.Grows.{events_settle, threads_settle}
+use Rattle.kernel_core.proofs.Readers.{current-forget}
+use Rattle.kernel_core.proofs.event.Parts.finish.Goals as goal
+
+pub count-requires : goal.count-requires
+count-requires c =
+    let m = stored_state c.args.self.now.store in
+    let same = ap (λ (k : State). k.events) (c.settle.ensures m) ∙ events_settle m m in
+    omega (arith, same, c.requires.few)
+
+pub advance-requires-clause-room : goal.advance-requires-clause-room
+advance-requires-clause-room c =
+    let m = stored_state c.args.self.now.store in
+    let same = ap (λ (k : State). length k.process_table.threads) (c.count.ensures ∙ ap with_event_counted (c.settle.ensures m)) ∙ threads_settle m m in
+    subst (λ n. HasListRoom c.args.self.now.runnable n) (sym same) c.requires.ready.room
+
+pub advance-requires-clause-threads : goal.advance-requires-clause-threads
+advance-requires-clause-threads c =
+    let m = stored_state c.args.self.now.store in
+    let same = ap (λ (k : State). length k.process_table.threads) (c.count.ensures ∙ ap with_event_counted (c.settle.ensures m)) ∙ threads_settle m m in
+    c.requires.ready.listed ∙ sym same
+
+pub advance-requires-clause-woken_room : goal.advance-requires-clause-woken_room
+advance-requires-clause-woken_room c =
+    let m = stored_state c.args.self.now.store in
+    let same = ap (λ (k : State). length k.process_table.threads) (c.count.ensures ∙ ap with_event_counted (c.settle.ensures m)) ∙ threads_settle m m in
+    omega (arith, same, c.requires.ready.woken_room)
+
+pub returns-clause-state : goal.returns-clause-state
+returns-clause-state c =
+    λ before.
+    ap (λ (tree : CallTree). record (stored_state c.count.new.self) { call_tree = tree }) c.forget.ensures
+    ∙ ap forget (c.count.ensures ∙ ap with_event_counted (c.settle.ensures before))
+
+pub returns-clause-woken : goal.returns-clause-woken
+returns-clause-woken c =
+    λ before h.
+    c.into_list.ensures
+    ∙ c.advance.ensures.woken before h
+    ∙ ap (woken_threads before) (c.count.ensures ∙ ap with_event_counted (c.settle.ensures before))
+
+pub returns-clause-current : goal.returns-clause-current
+returns-clause-current c =
+    subst (IsCurrent c.advance.new.self)
+    (sym (ap (λ (tree : CallTree). record (stored_state c.count.new.self) { call_tree = tree }) c.forget.ensures))
+    (current-forget c.advance.new.self (stored_state c.count.new.self) c.advance.ensures.current)

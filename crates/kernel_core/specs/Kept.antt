@@ -1,0 +1,10 @@
+-- What a kernel keeps comes from a written state of which the invariant holds; before the first event it is an opening.
+use Rattle.std.specs.Prelude.{◌≡◌}
+use Rattle.written_kernel.specs.Words.{IsOpening, StandsFor, State}
+use Rattle.kernel_invariant.specs.Invariant.{Invariant}
+
+pub record IsKept (kept : State) : Type 0 where
+  pub written : State
+  pub stands : StandsFor kept written
+  pub invariant : Invariant written
+  pub opening : kept.events ≡ 0 → IsOpening kept

@@ -1,0 +1,9 @@
+pub mod Numbers
+pub mod ProcessTable
+pub mod Tables
+pub mod Names
+pub mod Doors
+pub mod Calls
+pub mod Notices
+pub mod Pools
+pub mod Words

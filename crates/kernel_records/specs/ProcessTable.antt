@@ -1,0 +1,118 @@
+-- Processes and threads, numbered from 1 by their places. Every reader is total: a number that no thread has reads as that of a
+-- Done thread, and a writer at such a number changes nothing.
+use Rattle.std.specs.Prelude.{ℕ, List, Option, Bool, true, false, ◌==◌, ◌&&◌, not, if◌then◌else◌, Some, None, map}
+use Rattle.std.specs.List.{list_any}
+use Rattle.dk_base.specs.declared.object.Inv.{Inv}
+use Rattle.dk_base.specs.declared.object.Item.{Item}
+use Rattle.dk_base.specs.ByNumber.{at_number, with_at_number}
+use Rattle.kernel_records.specs.declared.record.Process.{Process}
+use Rattle.kernel_records.specs.declared.record.ProcessStage.{ProcessStage}
+use Rattle.kernel_records.specs.declared.record.ProcessStage.TheVariants.{Live, Ended}
+use Rattle.kernel_records.specs.declared.record.Thread.{Thread}
+use Rattle.kernel_records.specs.declared.record.ThreadState.{ThreadState}
+use Rattle.kernel_records.specs.declared.record.ThreadState.TheVariants as is
+
+pub record ProcessTable : Type 0 where
+  pub processes : List Process
+  pub threads : List Thread
+
+-- processes
+
+abbrev pub is_live_stage : ProcessStage → Bool
+is_live_stage Live = true
+is_live_stage Ended = false
+
+abbrev pub is_live_in : Option Process → Bool
+is_live_in None = false
+is_live_in (Some p) = is_live_stage p.stage
+
+abbrev pub ended_process : Process → Process
+ended_process p = record p { stage = Ended }
+
+-- threads
+
+abbrev pub thread_at : ProcessTable → ℕ → Option Thread
+thread_at table t = at_number table.threads t
+
+abbrev pub process_in : Option Thread → ℕ
+process_in None = 0
+process_in (Some x) = x.process.0
+
+abbrev pub state_in : Option Thread → ThreadState
+state_in None = is.Done
+state_in (Some x) = x.state
+
+abbrev pub invocation_in : Option Thread → Option Inv
+invocation_in None = None
+invocation_in (Some x) = x.invocation
+
+-- writers: what becomes of a thread
+
+abbrev pub change_thread_in : ProcessTable → ℕ → (Thread → Thread) → Option Thread → ProcessTable
+change_thread_in table t change None = table
+change_thread_in table t change (Some x) = record table { threads = with_at_number table.threads t (change x) }
+
+abbrev pub change_thread : ProcessTable → ℕ → (Thread → Thread) → ProcessTable
+change_thread table t change = change_thread_in table t change (thread_at table t)
+
+-- it turns to another state
+abbrev pub thread_at_state : ThreadState → Thread → Thread
+thread_at_state s x = record x { state = s }
+
+abbrev pub new_invocation : Item → Inv
+new_invocation i = record { item = i; cancelled = false }
+
+-- it enters the invocation of an item
+abbrev pub thread_in_invocation : Item → Thread → Thread
+thread_in_invocation i x = record x { invocation = Some (new_invocation i); state = is.Running }
+
+-- its invocation ends, and it is parked
+abbrev pub idle_thread : ℕ → Thread → Thread
+idle_thread now x = record x { invocation = None; state = is.Idle now }
+
+-- it ends
+abbrev pub ended_thread : Thread → Thread
+ended_thread x = record x { invocation = None; state = is.Done }
+
+abbrev pub set_thread_state : ProcessTable → ℕ → ThreadState → ProcessTable
+set_thread_state table t s = change_thread table t (thread_at_state s)
+
+abbrev pub give_thread : ProcessTable → ℕ → Item → ProcessTable
+give_thread table t i = change_thread table t (thread_at_state (is.Given i))
+
+abbrev pub enter_thread : ProcessTable → ℕ → Item → ProcessTable
+enter_thread table t i = change_thread table t (thread_in_invocation i)
+
+abbrev pub park_thread : ProcessTable → ℕ → ℕ → ProcessTable
+park_thread table t now = change_thread table t (idle_thread now)
+
+abbrev pub end_thread : ProcessTable → ℕ → ProcessTable
+end_thread table t = change_thread table t ended_thread
+
+-- the end of a process: all its threads end
+
+abbrev pub ended_thread_of : ℕ → Thread → Thread
+ended_thread_of p x = if x.process.0 == p then ended_thread x else x
+
+abbrev pub with_ended : ProcessTable → ℕ → Option Process → ProcessTable
+with_ended table p None = table
+with_ended table p (Some x) = record table { processes = with_at_number table.processes p (ended_process x) }
+
+abbrev pub with_ended_threads : ProcessTable → ℕ → ProcessTable
+with_ended_threads table p = record table { threads = map (ended_thread_of p) table.threads }
+
+abbrev pub end_process : ProcessTable → ℕ → ProcessTable
+end_process table p = with_ended (with_ended_threads table p) p (at_number table.processes p)
+
+-- a thread that keeps its process from ending
+abbrev pub is_active : ThreadState → Bool
+is_active is.Done = false
+is_active is.Dormant = false
+is_active _ = true
+
+abbrev pub keeps_alive : ℕ → ℕ → Thread → Bool
+keeps_alive t p x = (x.process.0 == p) && not (x.number == t) && is_active x.state
+
+-- whether a thread is the last of its process that is neither Done nor Dormant
+abbrev pub is_last : ProcessTable → ℕ → ℕ → Bool
+is_last table t p = not (list_any (keeps_alive t p) table.threads)

@@ -1,0 +1,83 @@
+-- Lists whose items have the numbers of their places, and changes that no number shows.
+use Rattle.std.proofs.Common.{◌≡◌, ◌≤◌, ℕ, zero, suc, ◌+◌, ◌-◌, ◌==◌, Bool, true, false, if◌then◌else◌, List, [], ◌∷◌, ◌++◌, Option, None, Some, option_map, length, map, slice_get, slice_set, refl, sym, ap, ◌∙◌, ◌⊎◌, inl, inr, ⊎_elim, arith}
+use Rattle.std.proofs.lemmas.Bool.Decides.{nat_tests}
+use Rattle.dk_base.specs.ByNumber.{at_number, with_at_number}
+use Rattle.kernel_records.specs.Words.{change_first}
+use Rattle.written_kernel.specs.Types.{Call}
+use Rattle.written_kernel.proofs.Lists.{at_number-suc, numbered_push, numbered_within, same_numbered}
+
+-- x is an item of the list
+abbrev pub IsIn : {X : Type 0} → X → List X → Type 0
+IsIn x [] = ⊥
+IsIn x (y ∷ ys) = (x ≡ y) ⊎ IsIn x ys
+
+-- each item has the number of its place
+abbrev pub IsInOrder : {X : Type 0} → (X → ℕ) → List X → Type 0
+IsInOrder {X} f xs = (k : ℕ) (x : X) → at_number xs k ≡ Some x → f x ≡ k
+
+pub order_none : {X : Type 0} (f : X → ℕ) → IsInOrder f []
+order_none f k x e = let w : (1 ≤ k) × (k ≤ 0) = numbered_within [] k x e in omega arith
+
+-- in lists that a reader of the number sees alike
+pub order_by :
+    {X Y : Type 0} (g : X → Y) (n : Y → ℕ) (xs ys : List X) → map g ys ≡ map g xs → IsInOrder (λ x. n (g x)) xs →
+    IsInOrder (λ x. n (g x)) ys
+order_by g n xs ys e h k x p = go (at_number xs k) refl (sym (ap (option_map g) p) ∙ same_numbered g ys xs k e)
+  where
+    go : (o : Option _) → at_number xs k ≡ o → Some (g x) ≡ option_map g o → n (g x) ≡ k
+    go None q r = cc
+    go (Some y) q r = let same : g x ≡ g y = cc in ap n same ∙ h k y q
+
+pub order_same : {X : Type 0} (f : X → ℕ) (xs ys : List X) → map f ys ≡ map f xs → IsInOrder f xs → IsInOrder f ys
+order_same f xs ys e h = order_by f (λ k. k) xs ys e h
+
+pub order_push : {X : Type 0} (f : X → ℕ) (xs : List X) (x : X) → f x ≡ length xs + 1 → IsInOrder f xs → IsInOrder f (xs ++ x ∷ [])
+order_push f xs x e h k y p = go (k == length xs + 1) refl (sym (numbered_push xs x k) ∙ p)
+  where
+    go : (b : Bool) → (k == length xs + 1) ≡ b → (if b then Some x else at_number xs k) ≡ Some y → f y ≡ k
+    go true t q =
+        let there : length xs + 1 ≡ k = grind (arith, nat_tests) in
+        let same : x ≡ y = cc in
+        ap f (sym same) ∙ e ∙ there
+    go false t q = h k y q
+
+pub place_of : {X : Type 0} (x : X) (xs : List X) → IsIn x xs → (i : ℕ) × (slice_get xs i ≡ Some x)
+place_of x [] h = absurd h
+place_of x (y ∷ ys) (inl e) = (0, ap Some (sym e))
+place_of x (y ∷ ys) (inr h) = let p : (i : ℕ) × (slice_get ys i ≡ Some x) = place_of x ys h in (suc p.0, p.1)
+
+-- an item is what its number finds
+pub at_its_number : {X : Type 0} (f : X → ℕ) (xs : List X) (x : X) → IsInOrder f xs → IsIn x xs → at_number xs (f x) ≡ Some x
+at_its_number f xs x h i =
+    let p : (k : ℕ) × (slice_get xs k ≡ Some x) = place_of x xs i in
+    let e : at_number xs (suc p.0) ≡ Some x = at_number-suc xs p.0 ∙ p.1 in
+    ap (at_number xs) (h (suc p.0) x e) ∙ e
+
+-- what stands in a list after an item was replaced
+
+in_set : {X : Type 0} (xs : List X) (i : ℕ) (x y : X) → IsIn y (slice_set xs i x) → (y ≡ x) ⊎ IsIn y xs
+in_set [] i x y h = absurd h
+in_set (z ∷ zs) zero x y (inl e) = inl e
+in_set (z ∷ zs) zero x y (inr k) = inr (inr k)
+in_set (z ∷ zs) (suc i) x y (inl e) = inr (inl e)
+in_set (z ∷ zs) (suc i) x y (inr k) = ⊎_elim inl (λ l. inr (inr l)) (in_set zs i x y k)
+
+pub in_renumbered : {X : Type 0} (xs : List X) (n : ℕ) (x y : X) → IsIn y (with_at_number xs n x) → (y ≡ x) ⊎ IsIn y xs
+in_renumbered xs n x y h = go (n == 0) h
+  where
+    go : (b : Bool) → IsIn y (if b then xs else slice_set xs (n - 1) x) → (y ≡ x) ⊎ IsIn y xs
+    go true k = inr k
+    go false k = in_set xs (n - 1) x y k
+
+-- a reader that does not see the change of a call
+pub map-change_first :
+    {Y : Type 0} (f : Call → Y) (test : Call → Bool) (change : Call → Call) → ((r : Call) → f (change r) ≡ f r) → (rs : List Call) →
+    map f (change_first test change rs) ≡ map f rs
+map-change_first f test change same [] = refl
+map-change_first f test change same (r ∷ rs) = go (test r) (map-change_first f test change same rs)
+  where
+    go :
+        (b : Bool) → map f (change_first test change rs) ≡ map f rs →
+        map f (if b then change r ∷ rs else r ∷ change_first test change rs) ≡ map f (r ∷ rs)
+    go true ih = ap (λ y. y ∷ map f rs) (same r)
+    go false ih = ap (λ ys. f r ∷ ys) ih
