@@ -1,6 +1,6 @@
 #!/bin/sh
-# Events per second and memory of `doors play`: one server, and one client or four that call it again and again, output to a
-# file. Run by hand, after `rt run` built the program in crates/doors; wants GNU time and date.
+# Events per second and memory of `doors play`: one server, and one client or more that call it again and again, output to a
+# file. The last two rows have the same calls in all, of one client and of 62. Run by hand, after `rt run` built the program in crates/doors; wants GNU time and date.
 #
 # usage: bench/play.sh [PROGRAM] [RUNS]
 set -eu
@@ -37,13 +37,20 @@ microseconds() {
     done | sort -n | head -n 1
 }
 
+# One row: so many clients, each with so many calls.
+row() {
+    script "$1" "$2" >"$folder/script"
+    least=$(microseconds)
+    play /usr/bin/time -q -f %M -o "$folder/memory"
+    events=$(tail -n 1 "$folder/trace" | cut -d ' ' -f 3)
+    echo "$1 $2 $events $least $((events * 1000000 / least)) $(cat "$folder/memory")"
+}
+
 echo 'clients calls events microseconds events/second KiB'
 for clients in 1 4; do
     for calls in 1 1000 4000 16000; do
-        script "$clients" "$calls" >"$folder/script"
-        least=$(microseconds)
-        play /usr/bin/time -q -f %M -o "$folder/memory"
-        events=$(tail -n 1 "$folder/trace" | cut -d ' ' -f 3)
-        echo "$clients $calls $events $least $((events * 1000000 / least)) $(cat "$folder/memory")"
+        row "$clients" "$calls"
     done
 done
+row 1 24000
+row 62 387
