@@ -1,5 +1,5 @@
 -- An entry is refused with the error of the first of its tests that holds; for a Call the table of its refusals says which.
-use Rattle.std.specs.Prelude.{ℕ, ◌≡◌, ◌++◌, ◌↔◌, List, Option, Bool, true, false, Some, None, if◌then◌else◌, not, length, nat_le, nat_lt}
+use Rattle.std.specs.Prelude.{ℕ, ◌≡◌, ◌++◌, ◌↔◌, List, [], Option, Bool, true, false, Some, None, if◌then◌else◌, not, length, nat_le, nat_lt}
 use Rattle.std.proofs.Common.{refl, sym, ap, subst, ◌∙◌}
 use native.Mathlib.Omega.{arith}
 use Rattle.std.proofs.lemmas.Bool.Decides.{nat_tests}
@@ -9,14 +9,14 @@ use Rattle.dk_base.specs.declared.limits.TheConstants.{DATA_MAX, QUEUE_MAX}
 use Rattle.dk_base.specs.declared.object.Obj.TheVariants as obj
 use Rattle.dk_base.specs.declared.request.Request.TheVariants as request
 use Rattle.dk_base.specs.declared.answer.Answer.TheVariants as answer
-use Rattle.written_kernel.specs.Words.{ActResult, State, await_name, calls_waiting, door_named, effect, first_refusal, is_valid, limit_tests, name_of, pool_of, pool_tests, process_of, refusal_of, step, unless_refused}
+use Rattle.written_kernel.specs.Words.{ActResult, State, await_name, calls_waiting, door_named, door_of, effect, first_refusal, is_valid, limit_tests, name_of, pool_of, pool_tests, process_of, refusal_of, step, unless_refused}
 use Rattle.kernel_laws.specs.Refusals.{Refusal}
 use Rattle.kernel_laws.specs.Refusals.Refusal.{no_door, not_valid, too_long, full_pool}
 
 -- a Call of these bytes through a descriptor of this object
 
 abbrev pub refusal_at : State → List ℕ → Option Obj → Option Errno
-refusal_at m bytes o = first_refusal (limit_tests m o bytes ++ pool_tests m (door_named o))
+refusal_at m bytes o = first_refusal (limit_tests (door_of m (door_named o)) bytes [] ++ pool_tests m (door_named o))
 
 some_refusal : (e f : Errno) → Some e ≡ Some f → e ≡ f
 some_refusal e f h = cc

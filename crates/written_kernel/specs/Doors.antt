@@ -2,7 +2,7 @@
 -- return begin. An act's record update names the parts of the state that it changes. `p` is the process of the thread
 -- `t`.
 use Rattle.std.specs.Prelude.{ℕ, ◌+◌, ◌++◌, ◌&&◌, List, [], ◌∷◌, Option, false, not, Some, None, is_none, is_some, length, nat_le, nat_lt}
-use Rattle.written_kernel.specs.Types.{Answer, Attrs, Call, CallStage, Fd, Item, Obj, Pass}
+use Rattle.written_kernel.specs.Types.{Answer, Attrs, Call, CallStage, Door, Fd, Item, Obj, Pass}
 use Rattle.dk_base.specs.declared.error.Errno.TheVariants.{E2BIG, EAGAIN, EBADF, EMFILE}
 use Rattle.dk_base.specs.declared.object.Obj.TheVariants as obj
 use Rattle.dk_base.specs.declared.object.Item.TheVariants as item
@@ -10,8 +10,8 @@ use Rattle.dk_base.specs.declared.answer.Answer.TheVariants as answer
 use Rattle.kernel_records.specs.declared.record.ThreadState.TheVariants as is
 use Rattle.kernel_records.specs.declared.record.CallStage.TheVariants as stage
 use Rattle.dk_base.specs.declared.limits.TheConstants.{DATA_MAX, QUEUE_MAX}
-use Rattle.kernel_records.specs.Words.{collect_call, cookie_of, enter_call, enter_thread, entry_of, is_given_as, is_to_collect_as, lowest_free, no_cancel_of, open_call, park_thread, return_call, tid, set_thread_state, with_door}
-use Rattle.written_kernel.specs.State.{State, calls_waiting, client_call, door_of, find_call, is_valid, now, object_at, pool_of, table_of}
+use Rattle.kernel_records.specs.Words.{collect_call, cookie_of, enter_call, enter_thread, entry_of, is_given_as, is_to_collect_as, is_valid_in, lowest_free, no_cancel_of, open_call, park_thread, return_call, tid, set_thread_state, with_door}
+use Rattle.written_kernel.specs.State.{State, calls_waiting, client_call, door_of, find_call, now, object_at, pool_of, table_of}
 use Rattle.written_kernel.specs.Acts.{ActResult, Test, no_act, refused_where}
 use Rattle.written_kernel.specs.Descriptors.{door_named, insert_object}
 
@@ -26,16 +26,17 @@ create m p entry cookie attrs =
 
 -- door_call: the door and its limits, then its pool; a call that waits for a server thread
 
--- EBADF for what is no valid door, E2BIG
-abbrev pub limit_tests : State → Option Obj → List ℕ → List Test
-limit_tests m o bytes = refused_where (not (is_valid m (door_named o))) EBADF ∷ refused_where (nat_lt DATA_MAX (length bytes)) E2BIG ∷ []
+-- of the door that is named, if one is: EBADF where it is not valid, E2BIG
+abbrev pub limit_tests : Option Door → List ℕ → List Pass → List Test
+limit_tests o bytes pass = refused_where (not (is_valid_in o)) EBADF ∷ refused_where (nat_lt DATA_MAX (length bytes)) E2BIG ∷ []
 
 -- EAGAIN for a full pool
 abbrev pub pool_tests : State → ℕ → List Test
 pool_tests m d = refused_where (nat_le QUEUE_MAX (calls_waiting m (pool_of m d))) EAGAIN ∷ []
 
 abbrev pub call_tests : State → ℕ → Fd → List ℕ → List Pass → List Test
-call_tests m p fd bytes pass = limit_tests m (object_at m p fd) bytes ++ pool_tests m (door_named (object_at m p fd))
+call_tests m p fd bytes pass =
+    limit_tests (door_of m (door_named (object_at m p fd))) bytes pass ++ pool_tests m (door_named (object_at m p fd))
 
 abbrev pub new_call : State → ℕ → ℕ → List ℕ → List Obj → ℕ → Call
 new_call m t d bytes objects rsize =
