@@ -1,11 +1,12 @@
 -- A kernel's events keep that what it keeps comes from a written state, and a refused entry changes nothing else.
-use Rattle.std.proofs.Common.{◌≡◌, ℕ, ◌+◌, Bool, List, Option, Some, None, Result, Ok, Err, IfOk, OnOk, OnErr, [], ◌∷◌, length, refl, subst, sym, ap, ◌∙◌, arith}
+use Rattle.std.proofs.Common.{◌≡◌, ℕ, ◌+◌, ◌<◌, Bool, List, Option, Some, None, Result, Ok, Err, IfOk, OnOk, OnErr, [], length, refl, subst, sym, ap, ◌∙◌, arith}
 use Rattle.written_kernel.specs.Types.{Errno, NoMemory, Request, Stepped, Tid}
 use Rattle.dk_base.specs.declared.answer.Answer.TheVariants.{Failure}
-use Rattle.written_kernel.specs.Words.{IsOpening, IsStep, MayTurn, StandsFor, State, forget, no_process, opening, step, with_event_counted, with_new_process, with_new_thread, with_processes}
+use Rattle.dk_base.specs.declared.limits.TheConstants.{THREADS_MAX}
+use Rattle.written_kernel.specs.Words.{IsOpening, IsStep, MayTurn, StandsFor, State, forget, opening, step, with_event_counted, with_new_thread}
 use Rattle.written_kernel.specs.Opening.IsOpening.{processes, thread}
 use Rattle.written_kernel.proofs.Forget.{IsStep-stands_for, is_runnable-forget}
-use Rattle.written_kernel.proofs.Opening.{forget-opening}
+use Rattle.written_kernel.proofs.Opening.{IsDeclaredIn, forget-opening, opening_threads}
 use Rattle.written_kernel.proofs.Steps.{events-step}
 use Rattle.kernel_invariant.specs.Events.{Keeps}
 use Rattle.kernel_invariant.proofs.Events.{step_keeps}
@@ -91,29 +92,28 @@ opening_kept {m} o =
 pub processes_kept : (limits : List ℕ) (m : State) → m ≡ opening limits → IsKept m
 processes_kept limits m e = subst IsKept (sym e) (opening_kept (processes limits))
 
-pub thread_kept : (old new : State) (p : ℕ) (spare : Bool) → IsKept old → old.events ≡ 0 → new ≡ with_new_thread old p spare → IsKept new
-thread_kept old new p spare k z e = subst IsKept (sym e) (opening_kept (thread p spare (k.opening z)))
+pub thread_kept :
+    (old new : State) (p : ℕ) (spare : Bool) → IsKept old → old.events ≡ 0 → IsDeclaredIn old p → length old.process_table.threads < THREADS_MAX →
+    new ≡ with_new_thread old p spare → IsKept new
+thread_kept old new p spare k z there few e = subst IsKept (sym e) (opening_kept (thread p spare there.0 there.1 few (k.opening z)))
 
 within_thread : (m : State) (p : ℕ) (spare : Bool) → IsWithin m → IsWithin (with_new_thread m p spare)
 within_thread m p spare w = record { events = w.events; doors = w.doors; calls_made = w.calls_made; bytes = w.bytes }
 
 -- another thread of a kernel that has made no event
 pub thread_result :
-    (old new : State) (p : ℕ) (spare : Bool) (o : Result Tid NoMemory) → IsKept old → IsWithin old → old.events ≡ 0 →
-    OnOk o (new ≡ with_new_thread old p spare) → OnErr o (new ≡ old) → IsKept new × IsWithin new
-thread_result old new p spare (Ok t) k w z h e =
-    (thread_kept old new p spare k z h, subst IsWithin (sym h) (within_thread old p spare w))
-thread_result old new p spare (Err x) k w z h e = (subst IsKept (sym e) k, subst IsWithin (sym e) w)
-
-threads-with_processes : (limits : List ℕ) (m : State) → (with_processes m limits).process_table.threads ≡ m.process_table.threads
-threads-with_processes [] m = refl
-threads-with_processes (limit ∷ limits) m = threads-with_processes limits (with_new_process m limit)
+    (old new : State) (p : ℕ) (spare : Bool) → IsKept old → IsWithin old → old.events ≡ 0 → IsDeclaredIn old p →
+    length old.process_table.threads < THREADS_MAX → (o : Result Tid NoMemory) → OnOk o (new ≡ with_new_thread old p spare) →
+    OnErr o (new ≡ old) → IsKept new × IsWithin new
+thread_result old new p spare k w z there few (Ok t) h e =
+    (thread_kept old new p spare k z there few h, subst IsWithin (sym h) (within_thread old p spare w))
+thread_result old new p spare k w z there few (Err x) h e = (subst IsKept (sym e) k, subst IsWithin (sym e) w)
 
 -- an opening without threads
 pub opening_current : (r : Runnable) (limits : List ℕ) (m : State) → m ≡ opening limits → r.list.items ≡ [] → IsCurrent r m
 opening_current r limits m e h =
     let none : length m.process_table.threads ≡ 0 =
-    ap (λ (k : State). length k.process_table.threads) e ∙ ap length (threads-with_processes limits no_process) in
+    ap (λ (k : State). length k.process_table.threads) e ∙ ap length (opening_threads limits) in
     record {
       items = h ∙ ap (runnables m) (sym none);
       room = record { list = omega (arith, none); next = omega (arith, none) };

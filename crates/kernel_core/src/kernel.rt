@@ -62,7 +62,8 @@ impl Kernel {
 
     /// Another thread of a process, which runs, or is a spare one that was not started.
     pub fn add_thread(&mut self, process: Pid, spare: bool) -> Result<Tid, ProcFault>
-        requires { self.old.events ≡ 0 }
+        requires opening { self.old.events ≡ 0 }
+        requires declared { (1 ≤ process.0) × (process.0 ≤ length self.old.process_table.processes) }
         ensures ok { OnOk result (self.new ≡ with_new_thread self.old process.0 spare) }
         ensures number { IfOk result (λ t. t.0 ≡ length self.old.process_table.threads + 1) }
         ensures full { (result ≡ Err Full) ↔ (length self.old.process_table.threads ≡ THREADS_MAX) }

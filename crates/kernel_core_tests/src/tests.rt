@@ -1,4 +1,4 @@
-ghost use Rattle.std.specs.Prelude.{ℕ, ◌≤◌, Option, IfOk, length};
+ghost use Rattle.std.specs.Prelude.{ℕ, ◌≡◌, ◌≤◌, Option, IfOk, length};
 ghost use Rattle.capabilities.specs.Words.{capability_of};
 ghost use Rattle.capabilities.specs.declared.table.TheConstants.{BUILT};
 ghost use Rattle.written_kernel.specs.Types.{Inv};
@@ -212,7 +212,9 @@ fn right_turns(alloc: Global, kernel: &mut Kernel) -> usize {
 }
 
 /// The same, after a thread was added to each of two processes.
-fn right_turns_of_two(alloc: Global, kernel: &mut Kernel) -> usize {
+fn right_turns_of_two(alloc: Global, kernel: &mut Kernel) -> usize
+    requires { length kernel.old.process_table.processes ≡ 2 }
+{
     if kernel.events() != 0 {
         return 0;
     }
@@ -225,8 +227,9 @@ fn right_turns_of_two(alloc: Global, kernel: &mut Kernel) -> usize {
     right_turns(alloc, kernel)
 }
 
+#[tactic(auto, using(written_kernel::proofs::Opening::opening_processes))]
 fn right_turns_of_new(alloc: Global, limits: &IdList) -> usize
-    requires { length limits.now ≤ 64 }
+    requires { length limits.now ≡ 2 }
 {
     match Kernel::new(alloc, limits) {
         Ok(mut kernel) => right_turns_of_two(alloc, &mut kernel),

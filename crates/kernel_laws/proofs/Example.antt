@@ -36,7 +36,9 @@ unfolding step
 answers = refl
 
 opens : IsOpening start
-opens = thread 2 false (thread 1 false (thread 1 false (processes (16 ∷ 16 ∷ []))))
+opens =
+    thread 2 false (lit≤ tt) (lit≤ tt) (lit< tt)
+    (thread 1 false (lit≤ tt) (lit≤ tt) (lit< tt) (thread 1 false (lit≤ tt) (lit≤ tt) (lit< tt) (processes (16 ∷ 16 ∷ []))))
 
 is_run : IsRun start turns
 unfolding step

@@ -1,13 +1,18 @@
 -- Opening a kernel process by process and thread by thread.
-use Rattle.std.proofs.Common.{◌≡◌, ℕ, ◌+◌, List, [], ◌∷◌, ◌++◌, take, drop, Some, Bool, false, arith, refl, ap, sym, ◌∙◌, zero, suc, map, option_map}
+use Rattle.std.proofs.Common.{◌≡◌, ℕ, ◌+◌, List, [], ◌∷◌, ◌++◌, take, drop, Option, None, Some, Bool, false, length, arith, refl, ap, sym, ◌∙◌, zero, suc, map, option_map}
 use Rattle.std.proofs.Common.{Result, Ok, Err}
 use Rattle.std.specs.Prelude.{slice_get, OnOk}
 use Rattle.std.specs.Result.{is_err}
 use Rattle.written_kernel.specs.Types.{Pid}
-use Rattle.written_kernel.specs.Words.{State, with_new_thread}
+use Rattle.std.proofs.lemmas.List.{length-map}
+use Rattle.written_kernel.specs.Words.{State, opening, with_new_thread}
+use Rattle.written_kernel.proofs.Opening.{IsDeclaredIn, opening_events, opening_processes}
 use Rattle.written_kernel.proofs.Lists.{at_number-suc}
 use Rattle.dk_base.specs.ByNumber.{at_number}
+use Rattle.script_lang.specs.Words.{ScriptValue}
 use Rattle.script_requests.specs.Types.{ScriptProcess, ScriptThread}
+use Rattle.script_requests.specs.Words.{IsProcess, IsSound, IsSoundThread}
+use Rattle.script_requests.proofs.Elements.{All-at_number}
 use Rattle.written_script.specs.Words.{limit_of, with_script_threads}
 
 at_number-at : {X Y : Type 0} (f : X → Y) (xs : List X) (k : ℕ) (y : Y) → option_map f (at_number xs (k + 1)) ≡ Some y → option_map f (slice_get xs k) ≡ Some y
@@ -19,6 +24,32 @@ take-map f [] k y e = cc
 take-map f (x ∷ []) zero y e = let same : f x ≡ y = cc in rw same refl
 take-map f (x ∷ z ∷ zs) zero y e = let same : f x ≡ y = cc in rw same refl
 take-map f (x ∷ xs) (suc k) y e = ap (λ ys. f x ∷ ys) (take-map f xs k y e)
+
+-- a kernel of these limits has made no event
+pub no_event-opening : (k : State) (limits : List ℕ) → k ≡ opening limits → k.events ≡ 0
+no_event-opening k limits e = ap (λ (m : State). m.events) e ∙ opening_events limits
+
+-- a kernel of a script's limits has the script's processes
+pub processes-opening :
+    (k : State) (limits : List ℕ) (xs : List ScriptProcess) → k ≡ opening limits → limits ≡ map limit_of xs →
+    length k.process_table.processes ≡ length xs
+processes-opening k limits xs e h =
+    ap (λ (m : State). length m.process_table.processes) e ∙ opening_processes limits ∙ ap length h ∙ length-map xs limit_of
+
+-- the process of a thread of a sound script is declared
+pub thread_process :
+    (script : ScriptValue) (m : State) (t : ℕ) (process : Pid) → IsSound script → length m.process_table.processes ≡ length script.processes →
+    option_map (λ (x : ScriptThread). x.process) (at_number script.threads t) ≡ Some process → IsDeclaredIn m process.0
+thread_process script m t process sound same e = go (at_number script.threads t) refl e
+  where
+    go :
+        (o : Option ScriptThread) → at_number script.threads t ≡ o → option_map (λ (x : ScriptThread). x.process) o ≡ Some process →
+        IsDeclaredIn m process.0
+    go None f h = cc
+    go (Some x) f h =
+        let it : x.process ≡ process = cc
+        in let of : IsProcess script x.process.0 = (All-at_number (IsSoundThread script) script.threads t x sound.threads f).process
+        in rw (same, ← it) of
 
 -- one process more
 pub limits_more :

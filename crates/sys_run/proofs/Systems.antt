@@ -35,7 +35,7 @@ IsSys-new script kernel machines playable k first count =
           subst
           (λ (h : History). StandsFor kernel h.state)
           (sym (history-new script))
-          (k ∙ sym (forget-opening (IsOpening-opening_of script)));
+          (k ∙ sym (forget-opening (IsOpening-opening_of script playable.sound)));
       machines_stand = first;
       machines_there = count;
     }

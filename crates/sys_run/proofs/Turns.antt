@@ -4,25 +4,14 @@ use Rattle.written_kernel.specs.Types.{Answer, Event, Request, Tid, What}
 use Rattle.thread_machine.specs.declared.machine.Machine.{Machine}
 use Rattle.thread_machine.specs.Words.{HasDeclaredEntry, Stands}
 use Rattle.kernel_records.specs.Words.{tid}
-use Rattle.written_kernel.specs.Words.{MayTurn, StandsFor, State, event_of, is_runnable, opening, root, step, what_of}
-use Rattle.written_kernel.specs.Opening.IsOpening.{processes}
-use Rattle.written_kernel.proofs.Opening.{opened}
+use Rattle.written_kernel.specs.Words.{MayTurn, StandsFor, State, event_of, is_runnable, root, step, what_of}
 use Rattle.script_requests.specs.Words.{frame_of}
 use Rattle.written_script.specs.Words.{request_at_turn}
-use Rattle.written_script.proofs.RunTurns.{history_after-answer, threads-opening}
+use Rattle.written_script.proofs.RunTurns.{history_after-answer}
 use Rattle.sys_run.specs.Sys.{SysValue, history, state_of_run, with_turn, IsJournal}
 use Rattle.sys_run.specs.TurnRequests.{MayTake, request_if_running}
 use Rattle.sys_run.proofs.Journals.{events-history, known-history, may_turn-of, history-with_turn}
 use Rattle.sys_run.proofs.Machines.{entered-declared}
-
--- an opening kernel has no event and no thread
-pub record IsEmpty (k : State) : Type 0 where
-  pub events : k.events ≡ 0
-  pub threads : length k.process_table.threads ≡ 0
-
-pub empty-opening : (k : State) (limits : List ℕ) → k ≡ opening limits → IsEmpty k
-empty-opening k limits e =
-    subst IsEmpty (sym e) (record { events = (opened (processes limits)).events; threads = threads-opening limits })
 
 -- what a thread asks for at its turn, by the frame to which the journal leads
 abbrev pub asked : SysValue → ℕ → Option Request

@@ -43,7 +43,8 @@ pub(crate) fn first_machines(alloc: Global, script: &Script) -> Result<Vec<Machi
 
 fn add_threads(kernel: &mut Kernel, script: &Script) -> Result<(), NoMemory>
     requires opening { kernel.old.events ≡ 0 }
-    requires few { length script.now.threads ≤ THREADS_MAX }
+    requires sound { IsSound script.now }
+    requires processes { length kernel.old.process_table.processes ≡ length script.now.processes }
     ensures { OnOk result (kernel.new ≡ with_script_threads kernel.old script.now.threads) }
 {
     for below in 0..script.threads() {

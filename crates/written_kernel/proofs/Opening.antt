@@ -1,5 +1,5 @@
 -- What holds of the states in which a run may begin.
-use Rattle.std.proofs.Common.{◌≡◌, ◌≤◌, flat_map, ℕ, zero, suc, ◌+◌, ◌==◌, Bool, true, false, if◌then◌else◌, List, [], ◌∷◌, ◌++◌, Option, None, Some, option_map, unwrap_or, length, map, replicate, slice_get, refl, sym, subst, ap, ap₂, ◌∙◌, ◌⊎◌, inl, inr, ⊎_elim, arith}
+use Rattle.std.proofs.Common.{◌≡◌, ◌<◌, ◌≤◌, flat_map, ℕ, zero, suc, ◌+◌, ◌==◌, Bool, true, false, if◌then◌else◌, List, [], ◌∷◌, ◌++◌, Option, None, Some, option_map, unwrap_or, length, length-append, map, replicate, slice_get, refl, sym, subst, ap, ap₂, ◌∙◌, ◌⊎◌, inl, inr, ⊎_elim, arith}
 use Rattle.std.proofs.lemmas.Bool.Decides.{nat_tests}
 use Rattle.std.proofs.lemmas.List.{length-map, length-replicate, map-append}
 use Rattle.dk_base.specs.ByNumber.{at_number}
@@ -12,7 +12,7 @@ use Rattle.written_kernel.specs.State.{State, bound_of, invocation_of, object_at
 use Rattle.written_kernel.specs.Walks.{walk, root}
 use Rattle.written_kernel.specs.References.{holdings, named_object, objects_in_call, objects_in_table}
 use Rattle.written_kernel.specs.Kept.{forget}
-use Rattle.written_kernel.specs.Opening.{IsOpening, new_process, new_thread, no_process, opening_state, with_new_process, with_new_thread, with_processes}
+use Rattle.written_kernel.specs.Opening.{IsOpening, new_process, new_thread, no_process, opening, opening_state, with_new_process, with_new_thread, with_processes}
 use Rattle.written_kernel.specs.Opening.IsOpening.{processes, thread}
 use Rattle.written_kernel.proofs.Lists.{numbered_push, at_number-map, at_number-suc, numbered_within}
 
@@ -27,6 +27,10 @@ pub record IsOpeningThread (t : ℕ) (x : Thread) : Type 0 where
   pub invocation : x.invocation ≡ None
   pub state : (x.state ≡ is.Running) ⊎ (x.state ≡ is.Dormant)
 
+-- a process of this number is there
+abbrev pub IsDeclaredIn : State → ℕ → Type 0
+IsDeclaredIn m p = (1 ≤ p) × (p ≤ length m.process_table.processes)
+
 abbrev pub opening_table : Process → List (Option Obj)
 opening_table x = empty_table x.limit
 
@@ -34,12 +38,54 @@ pub record IsOpened (m : State) : Type 0 where
   pub processes : (p : ℕ) (x : Process) → at_number m.process_table.processes p ≡ Some x → IsOpeningProcess p x
   pub tables : m.tables ≡ map opening_table m.process_table.processes
   pub threads : (t : ℕ) (x : Thread) → thread_of m t ≡ Some x → IsOpeningThread t x
+  pub declared : (t : ℕ) (x : Thread) → thread_of m t ≡ Some x → IsDeclaredIn m x.process.0
+  pub few_threads : length m.process_table.threads ≤ THREADS_MAX
   pub bindings : m.bindings ≡ replicate THREADS_MAX None
   pub names : m.names ≡ []
   pub doors : m.doors ≡ []
   pub call_tree : m.call_tree ≡ record { made = 0; calls = [] }
   pub notice_list : m.notice_list ≡ record { made = 0; notices = [] }
   pub events : m.events ≡ 0
+
+-- how many there are
+
+length-with_new_process :
+    (m : State) (limit : ℕ) → length (with_new_process m limit).process_table.processes ≡ length m.process_table.processes + 1
+length-with_new_process m limit =
+    length-append m.process_table.processes (new_process (length m.process_table.processes + 1) limit ∷ [])
+
+pub length-with_new_thread :
+    (m : State) (p : ℕ) (spare : Bool) → length (with_new_thread m p spare).process_table.threads ≡ length m.process_table.threads + 1
+length-with_new_thread m p spare = length-append m.process_table.threads (new_thread (length m.process_table.threads + 1) p spare ∷ [])
+
+length-with_processes :
+    (limits : List ℕ) (m : State) →
+    length (with_processes m limits).process_table.processes ≡ length m.process_table.processes + length limits
+length-with_processes [] m = omega arith
+length-with_processes (limit ∷ limits) m =
+    let one : length (with_new_process m limit).process_table.processes ≡ length m.process_table.processes + 1 = length-with_new_process m limit
+    in let rest : length (with_processes (with_new_process m limit) limits).process_table.processes ≡ length (with_new_process m limit).process_table.processes + length limits =
+    length-with_processes limits (with_new_process m limit)
+    in omega arith
+
+pub opening_processes : (limits : List ℕ) → length (opening limits).process_table.processes ≡ length limits
+opening_processes limits =
+    let all : length (opening limits).process_table.processes ≡ 0 + length limits = length-with_processes limits no_process in omega arith
+
+events-with_processes : (limits : List ℕ) (m : State) → (with_processes m limits).events ≡ m.events
+events-with_processes [] m = refl
+events-with_processes (limit ∷ limits) m = events-with_processes limits (with_new_process m limit)
+
+pub opening_events : (limits : List ℕ) → (opening limits).events ≡ 0
+opening_events limits = events-with_processes limits no_process
+
+threads-with_processes : (limits : List ℕ) (m : State) → (with_processes m limits).process_table.threads ≡ m.process_table.threads
+threads-with_processes [] m = refl
+threads-with_processes (limit ∷ limits) m = threads-with_processes limits (with_new_process m limit)
+
+-- an opening begins without threads
+pub opening_threads : (limits : List ℕ) → (opening limits).process_table.threads ≡ []
+opening_threads limits = threads-with_processes limits no_process
 
 -- what holds of each number holds with one item more, if it holds of that
 still_each :
@@ -60,6 +106,8 @@ no_process-opened =
       processes = λ p x e. absurd (none p x e);
       tables = refl;
       threads = λ t x e. absurd (none t x e);
+      declared = λ t x e. absurd (none t x e);
+      few_threads = omega arith;
       bindings = refl;
       names = refl;
       doors = refl;
@@ -71,6 +119,13 @@ no_process-opened =
     none : {X : Type 0} (k : ℕ) (x : X) → at_number [] k ≡ Some x → ⊥
     none {X} k x e = let w : (1 ≤ k) × (k ≤ 0) = numbered_within [] k x e in omega arith
 
+declared_still : (m : State) (limit p : ℕ) → IsDeclaredIn m p → IsDeclaredIn (with_new_process m limit) p
+declared_still m limit p h =
+    let more : length (with_new_process m limit).process_table.processes ≡ length m.process_table.processes + 1 = length-with_new_process m limit
+    in let low : 1 ≤ p = h.0
+    in let high : p ≤ length m.process_table.processes = h.1
+    in (low, omega arith)
+
 with_new_process-opened : (m : State) (limit : ℕ) → IsOpened m → IsOpened (with_new_process m limit)
 with_new_process-opened m limit h =
     record {
@@ -79,6 +134,8 @@ with_new_process-opened m limit h =
           (record { number = refl; made = refl; stage = refl });
       tables = ap (λ ts. ts ++ empty_table limit ∷ []) h.tables ∙ sym (map-append opening_table m.process_table.processes (new_process (length m.process_table.processes + 1) limit ∷ []));
       threads = h.threads;
+      declared = λ t x e. declared_still m limit x.process.0 (h.declared t x e);
+      few_threads = h.few_threads;
       bindings = h.bindings;
       names = h.names;
       doors = h.doors;
@@ -92,14 +149,24 @@ with_processes-opened m [] h = h
 with_processes-opened m (limit ∷ limits) h =
     with_processes-opened (with_new_process m limit) limits (with_new_process-opened m limit h)
 
-with_new_thread-opened : (m : State) (p : ℕ) (spare : Bool) → IsOpened m → IsOpened (with_new_thread m p spare)
-with_new_thread-opened m p spare h =
+with_new_thread-opened :
+    (m : State) (p : ℕ) (spare : Bool) → IsDeclaredIn m p → length m.process_table.threads < THREADS_MAX → IsOpened m →
+    IsOpened (with_new_thread m p spare)
+with_new_thread-opened m p spare there few h =
     record {
       processes = h.processes;
       tables = h.tables;
       threads =
           still_each IsOpeningThread m.process_table.threads (new_thread (length m.process_table.threads + 1) p spare) h.threads
           (record { number = refl; made = refl; invocation = refl; state = begins spare });
+      declared =
+          still_each (λ t (x : Thread). IsDeclaredIn m x.process.0) m.process_table.threads
+          (new_thread (length m.process_table.threads + 1) p spare)
+          h.declared
+          there;
+      few_threads =
+          let more : length (with_new_thread m p spare).process_table.threads ≡ length m.process_table.threads + 1 = length-with_new_thread m p spare in
+          omega arith;
       bindings = h.bindings;
       names = h.names;
       doors = h.doors;
@@ -114,7 +181,7 @@ with_new_thread-opened m p spare h =
 
 pub opened : {m : State} → IsOpening m → IsOpened m
 opened (processes limits) = with_processes-opened no_process limits no_process-opened
-opened (thread {m} p spare h) = with_new_thread-opened m p spare (opened h)
+opened (thread {m} p spare low high few h) = with_new_thread-opened m p spare (low, high) few (opened h)
 
 -- readers at such a state
 

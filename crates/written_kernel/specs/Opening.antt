@@ -1,5 +1,5 @@
 -- The opening state: processes, and threads of them that run or are dormant.
-use Rattle.std.specs.Prelude.{ℕ, ◌+◌, ◌++◌, List, [], ◌∷◌, Bool, if◌then◌else◌, None, length, replicate}
+use Rattle.std.specs.Prelude.{ℕ, ◌+◌, ◌<◌, ◌≤◌, ◌++◌, List, [], ◌∷◌, Bool, if◌then◌else◌, None, length, replicate}
 use Rattle.written_kernel.specs.Types.{Process, Thread, ThreadState}
 use Rattle.dk_base.specs.declared.limits.TheConstants.{THREADS_MAX}
 use Rattle.kernel_records.specs.declared.record.ProcessStage.TheVariants.{Live}
@@ -55,4 +55,7 @@ with_new_thread m p spare =
 -- the states in which a run may begin
 pub data IsOpening : State → Type 0 where
   processes : (limits : List ℕ) → IsOpening (opening limits)
-  thread : {m : State} (p : ℕ) (spare : Bool) → IsOpening m → IsOpening (with_new_thread m p spare)
+  -- a thread is of a process that is there, and there is a place for its binding
+  thread :
+      {m : State} (p : ℕ) (spare : Bool) → 1 ≤ p → p ≤ length m.process_table.processes → length m.process_table.threads < THREADS_MAX →
+      IsOpening m → IsOpening (with_new_thread m p spare)

@@ -1,14 +1,17 @@
 -- Runs of a script, one turn more at the end.
-use Rattle.std.proofs.Common.{◌≡◌, ℕ, ◌+◌, List, [], ◌∷◌, ◌++◌, length, true, arith, refl, sym, ap, ◌∙◌, suc, append-nil, append_assoc}
-use Rattle.std.specs.Prelude.{map}
+use Rattle.std.proofs.Common.{◌≡◌, ◌<◌, ◌≤◌, ℕ, ◌+◌, List, [], ◌∷◌, ◌++◌, length, true, arith, refl, sym, ap, ◌∙◌, suc, append-nil, append_assoc}
+use Rattle.std.specs.Prelude.{All, map}
+use Rattle.std.proofs.lemmas.List.{length-map}
+use Rattle.std.proofs.lemmas.List.Elements.{All-head, All-tail}
+use Rattle.dk_base.specs.declared.limits.TheConstants.{THREADS_MAX}
 use Rattle.written_kernel.specs.Types.{Event}
-use Rattle.written_kernel.specs.Words.{IsOpening, State, Turn, event_of, events_of, is_runnable, state_after}
+use Rattle.written_kernel.specs.Words.{IsOpening, State, Turn, event_of, events_of, is_runnable, opening, state_after, with_new_thread}
 use Rattle.written_kernel.specs.Opening.IsOpening.{processes, thread}
 use Rattle.written_kernel.proofs.Steps.{events-step}
-use Rattle.written_kernel.proofs.Opening.{opened}
+use Rattle.written_kernel.proofs.Opening.{length-with_new_thread, opening_events, opening_processes, opening_threads}
 use Rattle.script_requests.specs.Types.{ScriptThread}
 use Rattle.script_lang.specs.Words.{ScriptValue as Script}
-use Rattle.script_requests.specs.Words.{Frame, first_frame, frame_after, frame_from, frame_of}
+use Rattle.script_requests.specs.Words.{Frame, IsProcess, IsSound, IsSoundThread, first_frame, frame_after, frame_from, frame_of}
 use Rattle.written_script.specs.ScriptRuns.{History, first_history, request_at_turn, history_after, run, run_from, AreRunnableFrom, turns_from, turns_of, threads_of_events, opening_of, with_script_threads, limit_of, thread_of_event}
 
 pub run_from-append :
@@ -76,14 +79,51 @@ AreRunnableFrom-append script (u ∷ us) h t all here =
     (all.0, AreRunnableFrom-append script us (history_after script h u) t all.1 here)
 
 IsOpening-with_script_threads :
-    (xs : List ScriptThread) (m : State) → IsOpening m → IsOpening (with_script_threads m xs)
-IsOpening-with_script_threads [] m h = h
-IsOpening-with_script_threads (x ∷ xs) m h = IsOpening-with_script_threads xs _ (thread x.process.0 x.spare h)
+    (script : Script) (xs : List ScriptThread) (m : State) → length m.process_table.processes ≡ length script.processes →
+    length m.process_table.threads + length xs ≤ THREADS_MAX → All (IsSoundThread script) xs → IsOpening m →
+    IsOpening (with_script_threads m xs)
+IsOpening-with_script_threads script [] m same few sound h = h
+IsOpening-with_script_threads script (x ∷ xs) m same few sound h =
+    let of : IsProcess script x.process.0 = (All-head (IsSoundThread script) x xs sound).process
+    in let one : length (with_new_thread m x.process.0 x.spare).process_table.threads ≡ length m.process_table.threads + 1 =
+    length-with_new_thread m x.process.0 x.spare
+    in let low : 1 ≤ x.process.0 = of.0
+    in let last : x.process.0 ≤ length script.processes = of.1
+    in let high : x.process.0 ≤ length m.process_table.processes = omega arith
+    in let left : length m.process_table.threads < THREADS_MAX = omega arith
+    in let rest : length (with_new_thread m x.process.0 x.spare).process_table.threads + length xs ≤ THREADS_MAX = omega arith
+    in IsOpening-with_script_threads
+    script
+    xs
+    (with_new_thread m x.process.0 x.spare)
+    same
+    rest
+    (All-tail (IsSoundThread script) x xs sound)
+    (thread x.process.0 x.spare low high left h)
 
--- a script begins in an opening state
-pub IsOpening-opening_of : (script : Script) → IsOpening (opening_of script)
-IsOpening-opening_of script =
-    IsOpening-with_script_threads script.threads _ (processes (map limit_of script.processes))
+-- a sound script begins in an opening state
+pub IsOpening-opening_of : (script : Script) → IsSound script → IsOpening (opening_of script)
+IsOpening-opening_of script sound =
+    let limits = map limit_of script.processes
+    in let none : length (opening limits).process_table.threads ≡ 0 = ap length (opening_threads limits)
+    in let few : length script.threads ≤ THREADS_MAX = sound.few_threads
+    in IsOpening-with_script_threads
+    script
+    script.threads
+    (opening limits)
+    (opening_processes limits ∙ length-map script.processes limit_of)
+    (omega arith)
+    sound.threads
+    (processes limits)
+
+events-with_script_threads : (xs : List ScriptThread) (m : State) → (with_script_threads m xs).events ≡ m.events
+events-with_script_threads [] m = refl
+events-with_script_threads (x ∷ xs) m = events-with_script_threads xs (with_new_thread m x.process.0 x.spare)
+
+-- every script begins with no event
+pub events-opening_of : (script : Script) → (opening_of script).events ≡ 0
+events-opening_of script =
+    let limits = map limit_of script.processes in events-with_script_threads script.threads (opening limits) ∙ opening_events limits
 
 pub threads_of_events-append : (es fs : List Event) → threads_of_events (es ++ fs) ≡ threads_of_events es ++ threads_of_events fs
 threads_of_events-append [] fs = refl
@@ -118,7 +158,7 @@ events-run_from script (u ∷ us) h =
 pub events-run : (script : Script) (ts : List ℕ) → (run script ts).state.events ≡ length ts
 unfolding run
 events-run script ts =
-    let none : (opening_of script).events ≡ 0 = (opened (IsOpening-opening_of script)).events
+    let none : (opening_of script).events ≡ 0 = events-opening_of script
     in let rest : (run_from script (first_history script) ts).state.events ≡ (opening_of script).events + length ts =
     events-run_from script ts (first_history script)
     in omega arith

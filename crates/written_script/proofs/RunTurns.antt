@@ -1,20 +1,21 @@
 -- Each turn of a sound script is one that the kernel takes, and whatever its runs name is declared.
-use Rattle.std.proofs.Common.{◌≡◌, ℕ, ◌+◌, ◌≤◌, ◌<◌, ◌==◌, List, [], ◌∷◌, Option, Some, None, IsSome, Bool, true, false, if◌then◌else◌, ◌||◌, ◌⊎◌, inl, inr, length, map, arith, refl, sym, ap, ◌∙◌, subst, eq-eqb, length-append}
+use Rattle.std.proofs.Common.{◌≡◌, ℕ, ◌+◌, ◌≤◌, ◌<◌, ◌==◌, List, [], ◌∷◌, Option, Some, None, IsSome, Bool, true, false, if◌then◌else◌, ◌||◌, ◌⊎◌, inl, inr, length, map, arith, refl, sym, ap, ◌∙◌, subst, eq-eqb}
 use Rattle.std.specs.Prelude.{All}
 use Rattle.std.proofs.lemmas.Bool.{false≢true}
+use Rattle.std.proofs.lemmas.List.{length-map}
 use Rattle.std.proofs.lemmas.List.Elements.{All-nil, All-head, All-tail, All-push, All-weaker}
 use Rattle.std.proofs.lemmas.Option.{slice_get_within}
 use Rattle.dk_base.specs.declared.answer.Answer.TheVariants as answer
 use Rattle.written_kernel.specs.Types.{Answer, Event, Thread}
 use Rattle.kernel_records.specs.Words.{process_in, state_in}
-use Rattle.written_kernel.specs.Words.{IsEntering, IsRun, MayTurn, State, can_go_on, event_of, invocation_of, is_runnable, is_running, new_thread, no_process, opening, process_of, step, thread_of, with_new_process, with_new_thread, with_processes}
+use Rattle.written_kernel.specs.Words.{IsEntering, IsRun, MayTurn, State, can_go_on, event_of, invocation_of, is_runnable, is_running, new_thread, opening, process_of, step, thread_of, with_new_thread}
 use Rattle.written_kernel.proofs.Lists.{numbered_within, numbered_there}
 use Rattle.written_kernel.proofs.Invocations.{new_invocation-step}
-use Rattle.written_kernel.proofs.Opening.{opened, invocation_of-opening}
+use Rattle.written_kernel.proofs.Opening.{opened, invocation_of-opening, opening_processes, length-with_new_thread, opening_threads}
 use Rattle.written_kernel.proofs.Steps.{events-step, threads-step, processes-step, process_of-step}
 use Rattle.script_lang.specs.Types.{Line}
 use Rattle.script_line.specs.declared.line.Line.TheVariants as line
-use Rattle.script_requests.specs.Types.{Procedure, ScriptProcess, ScriptThread}
+use Rattle.script_requests.specs.Types.{Procedure, ScriptThread}
 use Rattle.script_lang.specs.Words.{ScriptValue}
 use Rattle.script_requests.specs.Words.{BodyStep, Frame, IsDeclaredAnswer, IsDeclaredEvent, IsFitLine, IsNumberOf, IsPlayable, IsProcess, IsSound, IsSoundProcedure, IsSoundThread, IsThread, Variables, capability_of_spare, frame_after, frame_after_answer, frame_of, has_later_parts, is_later, is_later_line, is_later_procedure, is_later_thread, request_after, request_ahead, request_at, request_at_end}
 use Rattle.script_requests.specs.Steps.BodyStep.{Do, When}
@@ -24,7 +25,7 @@ use Rattle.written_script.specs.DeclaredRuns.{IsDeclared, IsDeclaredDoor}
 use Rattle.written_script.specs.ScriptRuns.{History, limit_of, with_script_threads, opening_of, first_history, request_at_turn, history_after, run, run_from, AreRunnableFrom, IsAllowed, turns_from, turns_of}
 use Rattle.written_script.proofs.DeclaredStates.{IsKnown, IsKnownCall, MakesDeclared, AsksDeclared, step-known, root-declared, waiting-declared}
 use Rattle.written_script.proofs.FitRequests.{HasThreads, IsFitSomewhere, fit-somewhere, IsBuiltLine, request-fit, request-built, request-inside}
-use Rattle.written_script.proofs.Histories.{frame_of-append, IsOpening-opening_of, events-run}
+use Rattle.written_script.proofs.Histories.{frame_of-append, IsOpening-opening_of, events-opening_of, events-run}
 
 -- the lines of a sound script
 
@@ -226,18 +227,6 @@ may_turn script h t playable kept can few = by_test (is_running h.state t) refl
 
 -- the begin
 
-threads-with_processes : (limits : List ℕ) (m : State) → (with_processes m limits).process_table.threads ≡ m.process_table.threads
-threads-with_processes [] m = refl
-threads-with_processes (limit ∷ limits) m = threads-with_processes limits (with_new_process m limit)
-
-processes-with_processes : (limits : List ℕ) (m : State) → length (with_processes m limits).process_table.processes ≡ length m.process_table.processes + length limits
-processes-with_processes [] m = omega arith
-processes-with_processes (limit ∷ limits) m =
-    let one : length (with_new_process m limit).process_table.processes ≡ length m.process_table.processes + 1 = simp length-append refl
-    in let rest : length (with_processes (with_new_process m limit) limits).process_table.processes ≡ length (with_new_process m limit).process_table.processes + length limits =
-    processes-with_processes limits (with_new_process m limit)
-    in omega arith
-
 processes-with_script_threads : (xs : List ScriptThread) (m : State) → (with_script_threads m xs).process_table.processes ≡ m.process_table.processes
 processes-with_script_threads [] m = refl
 processes-with_script_threads (x ∷ xs) m = processes-with_script_threads xs (with_new_thread m x.process.0 x.spare)
@@ -248,26 +237,20 @@ threads-with_script_threads [] m = omega arith
 threads-with_script_threads (x ∷ xs) m =
     let rest : length (with_script_threads (with_new_thread m x.process.0 x.spare) xs).process_table.threads ≡ length (with_new_thread m x.process.0 x.spare).process_table.threads + length xs =
     threads-with_script_threads xs (with_new_thread m x.process.0 x.spare)
-    in let one : length (with_new_thread m x.process.0 x.spare).process_table.threads ≡ length m.process_table.threads + 1 = simp length-append refl
+    in let one : length (with_new_thread m x.process.0 x.spare).process_table.threads ≡ length m.process_table.threads + 1 =
+    length-with_new_thread m x.process.0 x.spare
     in omega arith
-
-limits-length : (xs : List ScriptProcess) → length (map limit_of xs) ≡ length xs
-limits-length [] = refl
-limits-length (x ∷ xs) = let rest : length (map limit_of xs) ≡ length xs = limits-length xs in omega arith
-
-pub threads-opening : (limits : List ℕ) → length (opening limits).process_table.threads ≡ 0
-threads-opening limits = ap length (threads-with_processes limits no_process)
 
 pub opening-has : (script : ScriptValue) → HasThreads script (opening_of script)
 opening-has script =
-    let none : length (opening (map limit_of script.processes)).process_table.threads ≡ 0 = threads-opening (map limit_of script.processes)
+    let none : length (opening (map limit_of script.processes)).process_table.threads ≡ 0 = ap length (opening_threads (map limit_of script.processes))
     in let threads : length (opening_of script).process_table.threads ≡ length (opening (map limit_of script.processes)).process_table.threads + length script.threads =
     threads-with_script_threads script.threads (opening (map limit_of script.processes))
     in let processes : length (opening_of script).process_table.processes ≡ length (opening (map limit_of script.processes)).process_table.processes =
     ap length (processes-with_script_threads script.threads (opening (map limit_of script.processes)))
-    in let limits : length (opening (map limit_of script.processes)).process_table.processes ≡ 0 + length (map limit_of script.processes) =
-    processes-with_processes (map limit_of script.processes) no_process
-    in let same : length (map limit_of script.processes) ≡ length script.processes = limits-length script.processes
+    in let limits : length (opening (map limit_of script.processes)).process_table.processes ≡ length (map limit_of script.processes) =
+    opening_processes (map limit_of script.processes)
+    in let same : length (map limit_of script.processes) ≡ length script.processes = length-map script.processes limit_of
     in record { threads = omega arith; processes = omega arith }
 
 abbrev OwnsProcess : ScriptValue → Thread → Type 0
@@ -297,7 +280,7 @@ opening-owners script sound =
     script.threads
     (opening (map limit_of script.processes))
     sound.threads
-    (rw (threads-with_processes (map limit_of script.processes) no_process) (All-nil (OwnsProcess script)))
+    (rw (opening_threads (map limit_of script.processes)) (All-nil (OwnsProcess script)))
 
 owner-there : (script : ScriptValue) (m : State) (u : ℕ) → HasThreads script m → All (OwnsProcess script) m.process_table.threads → IsThread script u → IsProcess script (process_of m u)
 owner-there script m u has all thread = by_thread (thread_of m u) refl
@@ -315,7 +298,7 @@ owner-there script m u has all thread = by_thread (thread_of m u) refl
 
 pub IsKnownHistory-first_history : (script : ScriptValue) → IsSound script → IsKnownHistory script (first_history script)
 IsKnownHistory-first_history script sound =
-    let opens = opened (IsOpening-opening_of script)
+    let opens = opened (IsOpening-opening_of script sound)
     in record {
       has = opening-has script;
       owners = λ u thread. owner-there script (opening_of script) u (opening-has script) (opening-owners script sound) thread;
@@ -324,7 +307,7 @@ IsKnownHistory-first_history script sound =
         calls = rw opens.call_tree (All-nil (IsKnownCall script (length (opening_of script).doors)));
       };
       events = All-nil (IsDeclaredEvent script);
-      inside = λ u some. absurd (false≢true (subst (λ o. IsSome o) (invocation_of-opening (IsOpening-opening_of script) u) some));
+      inside = λ u some. absurd (false≢true (subst (λ o. IsSome o) (invocation_of-opening (IsOpening-opening_of script sound) u) some));
     }
 
 -- whole runs
@@ -374,7 +357,7 @@ turns_from-run script (t ∷ ts) h playable kept few can =
 
 pub turns_of-run : (script : ScriptValue) (ts : List ℕ) → IsPlayable script → IsAllowed script ts → IsRun (opening_of script) (turns_of script ts)
 turns_of-run script ts playable allowed =
-    let none : (opening_of script).events ≡ 0 = (opened (IsOpening-opening_of script)).events
+    let none : (opening_of script).events ≡ 0 = events-opening_of script
     in let within : length ts ≤ script.budget = allowed.within
     in let small : script.budget ≤ 100000 = playable.sound.small_budget
     in let few : (opening_of script).events + length ts < 1000000 = omega arith
