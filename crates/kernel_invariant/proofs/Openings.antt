@@ -1,5 +1,5 @@
 -- An opening state meets the invariant.
-use Rattle.std.specs.Prelude.{ℕ, ◌≡◌, Option, Bool, true, false, Some, None, length, All}
+use Rattle.std.specs.Prelude.{ℕ, ◌≡◌, ◌≤◌, Option, Bool, true, false, Some, None, is_some, length, All}
 use Rattle.std.proofs.Common.{refl, sym, ap, subst, ⊎_elim}
 use native.Mathlib.Omega.{arith}
 use Rattle.std.proofs.lemmas.Bool.Decides.{nat_tests}
@@ -7,8 +7,9 @@ use Rattle.std.proofs.lemmas.List.Elements.{All-nil}
 use Rattle.written_kernel.specs.Types.{Process, Thread, ThreadState}
 use Rattle.kernel_records.specs.declared.record.ThreadState.TheVariants as is
 use Rattle.dk_base.specs.ByNumber.{at_number}
-use Rattle.kernel_records.specs.Words.{CallTree, NoticeList}
-use Rattle.written_kernel.specs.Words.{IsOpening, State, pick, pool_of, state_of, thread_of}
+use Rattle.kernel_records.specs.Words.{CallTree, NoticeList, process_in}
+use Rattle.written_kernel.specs.Words.{IsOpening, State, pick, pool_of, process_of, state_of, thread_of}
+use Rattle.written_kernel.proofs.Lists.{numbered_there}
 use Rattle.written_kernel.proofs.Opening.{bound_of-opening, invocation_of-opening, length-tables_opening, object_at-opening, opened, state_of-opening, waiting_items-opening}
 use Rattle.kernel_invariant.specs.Core.{Core, core, number_in, ended_in}
 use Rattle.kernel_invariant.specs.Coherent.{IsCoherent}
@@ -24,8 +25,9 @@ may_open _ = false
 coherent_of :
     (k : Core) → ((c : ℕ) → k.call c ≡ None) → ((d : ℕ) → k.door d ≡ None) → ((n : ℕ) → k.notice n ≡ None) →
     ((t : ℕ) → may_open (k.role t) ≡ true) → ((t : ℕ) → k.serves t ≡ None) → ((t n : ℕ) → k.number t ≡ Some n → n ≡ t) →
-    ((t : ℕ) → k.bound t ≡ None) → ((p : ℕ) → ended_in (k.proc p) ≡ false) → IsCoherent k
-coherent_of k calls doors notices states outside numbers unbound living =
+    ((t : ℕ) → k.bound t ≡ None) → ((p : ℕ) → ended_in (k.proc p) ≡ false) →
+    ((t n : ℕ) → k.number t ≡ Some n → is_some (k.proc (k.process t)) ≡ true) → IsCoherent k
+coherent_of k calls doors notices states outside numbers unbound living there =
     record {
       waits =
           record {
@@ -67,7 +69,7 @@ coherent_of k calls doors notices states outside numbers unbound living =
       doors = record { door_number = λ d x e. grind (arith, doors d); owner_ended = λ d x e. grind (arith, doors d) };
       bindings = record { bound_own = λ v d e. grind (arith, unbound v); bound_private = λ v d e. grind (arith, unbound v) };
       processes = record { ended_done = λ v e. grind (arith, living (k.process v)) };
-      threads = record { thread_number = λ v n e. grind (arith, numbers v n) };
+      threads = record { thread_number = λ v n e. grind (arith, numbers v n); process_there = there };
     }
 
 module _ (m : State) (o : IsOpening m) where
@@ -89,6 +91,17 @@ module _ (m : State) (o : IsOpening m) where
       go None e = refl
       go (Some x) e = grind (arith, ((opened o).processes p x e).stage)
 
+  there : (t n : ℕ) → number_in (thread_of m t) ≡ Some n → is_some (at_number m.process_table.processes (process_of m t)) ≡ true
+  there t n = go (thread_of m t) refl
+    where
+      go :
+          (x : Option Thread) → thread_of m t ≡ x → number_in x ≡ Some n →
+          is_some (at_number m.process_table.processes (process_in x)) ≡ true
+      go None e f = grind arith
+      go (Some x) e f =
+          let within : (1 ≤ x.process.0) × (x.process.0 ≤ length m.process_table.processes) = (opened o).declared t x e in
+          numbered_there m.process_table.processes x.process.0 within.0 within.1
+
   pub no_call_at_first : (c : ℕ) → (core m).call c ≡ None
   no_call_at_first c = grind (arith, (opened o).call_tree)
 
@@ -106,7 +119,7 @@ module _ (m : State) (o : IsOpening m) where
               in_order = subst (λ (tree : CallTree). IsInOrder 0 tree.calls) (sym (opened o).call_tree) tt;
               counted = subst (λ (tree : CallTree). length tree.calls ≡ tree.made) (sym (opened o).call_tree) refl;
               coherent =
-                  coherent_of (core m) no_call_at_first no_door no_notice states (invocation_of-opening o) numbers (bound_of-opening o) living;
+                  coherent_of (core m) no_call_at_first no_door no_notice states (invocation_of-opening o) numbers (bound_of-opening o) living there;
               tables = length-tables_opening o;
               no_rows = λ p fd e. object_at-opening o p fd;
               unbuilt = record { no_notices = ap (λ (list : NoticeList). list.notices) (opened o).notice_list; unbound = bound_of-opening o };

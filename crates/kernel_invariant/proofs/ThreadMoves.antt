@@ -264,5 +264,9 @@ end_keeps k p h l =
             bound_private = λ v d e. grind (arith, nat_tests, h.bindings.bound_private v d);
           };
       processes = record { ended_done = λ v e. grind (arith, nat_tests, h.processes.ended_done v) };
-      threads = h.threads;
+      threads =
+          record {
+            thread_number = h.threads.thread_number;
+            process_there = λ v n e. grind (arith, nat_tests, h.threads.process_there v n);
+          };
     }

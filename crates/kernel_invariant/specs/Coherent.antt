@@ -82,9 +82,12 @@ pub record AreBindings (bound : ℕ → Option ℕ) (door : ℕ → Option Door)
 pub record AreProcesses (role : ℕ → ThreadState) (process : ℕ → ℕ) (proc : ℕ → Option Process) : Type 0 where
   pub ended_done : (t : ℕ) → ended_in (proc (process t)) ≡ true → role t ≡ is.Done
 
--- a thread's record has the number that it is found under
-pub record AreThreads (number : ℕ → Option ℕ) : Type 0 where
+-- threads by themselves
+pub record AreThreads (process : ℕ → ℕ) (number : ℕ → Option ℕ) (proc : ℕ → Option Process) : Type 0 where
+  -- a thread's record has the number that it is found under
   pub thread_number : (t n : ℕ) → number t ≡ Some n → n ≡ t
+  -- the process of a thread is declared
+  pub process_there : (t n : ℕ) → number t ≡ Some n → is_some (proc (process t)) ≡ true
 
 -- A change of a core keeps by itself the parts that read nothing of what it changes.
 pub record IsCoherent (k : Core) : Type 0 where
@@ -98,4 +101,4 @@ pub record IsCoherent (k : Core) : Type 0 where
   pub doors : AreDoors k.door k.proc
   pub bindings : AreBindings k.bound k.door k.process
   pub processes : AreProcesses k.role k.process k.proc
-  pub threads : AreThreads k.number
+  pub threads : AreThreads k.process k.number k.proc
