@@ -1,16 +1,17 @@
 -- A kernel's events keep that what it keeps comes from a written state, and a refused entry changes nothing else.
-use Rattle.std.proofs.Common.{◌≡◌, ℕ, ◌+◌, ◌<◌, Bool, List, Option, Some, None, Result, Ok, Err, IfOk, OnOk, OnErr, [], length, refl, subst, sym, ap, ◌∙◌, arith}
+use Rattle.std.proofs.Common.{◌≡◌, ℕ, ◌+◌, ◌<◌, Bool, List, Option, Some, None, Result, Ok, Err, IfOk, OnOk, OnErr, [], length, refl, subst, sym, ap, ◌∙◌, arith, All}
 use Rattle.written_kernel.specs.Types.{Errno, NoMemory, Request, Stepped, Tid}
 use Rattle.dk_base.specs.declared.answer.Answer.TheVariants.{Failure}
 use Rattle.dk_base.specs.declared.limits.TheConstants.{THREADS_MAX}
-use Rattle.written_kernel.specs.Words.{IsOpening, IsStep, MayTurn, StandsFor, State, forget, opening, step, with_event_counted, with_new_thread}
+use Rattle.written_kernel.specs.Words.{IsOpening, IsStep, MayTurn, StandsFor, State, effect, forget, opening, pick, pool_of, process_of, refusal_of, step, unless_refused, waiting_items, with_event_counted, with_new_thread}
 use Rattle.written_kernel.specs.Opening.IsOpening.{processes, thread}
-use Rattle.written_kernel.proofs.Forget.{IsStep-stands_for, is_runnable-forget}
+use Rattle.written_kernel.proofs.Forget.{IsStep-stands_for, is_runnable-forget, refusal_of-forget, waiting_items-forget}
 use Rattle.written_kernel.proofs.Opening.{IsDeclaredIn, forget-opening, opening_threads}
 use Rattle.written_kernel.proofs.Steps.{events-step}
 use Rattle.kernel_invariant.specs.Events.{Keeps}
 use Rattle.kernel_invariant.proofs.Events.{step_keeps}
 use Rattle.kernel_invariant.proofs.Openings.{opening_keeps}
+use Rattle.kernel_invariant.proofs.Refusals.{refused_gives}
 use Rattle.kernel_core.specs.declared.runnable.Runnable.{Runnable}
 use Rattle.kernel_core.specs.Kept.{IsKept}
 use Rattle.kernel_core.specs.Within.{IsWithin}
@@ -57,14 +58,48 @@ kept_step kept new t q s k may h =
           λ e. absurd (after_none w.written.events (sym (events-step w.written t q) ∙ sym (ap (λ (m : State). m.events) w.done.state) ∙ e));
     }
 
+-- a refusal of what is kept is one of what it stands for
+refusal_stands :
+    (kept m : State) (t : ℕ) (r : Request) (e : Errno) → StandsFor kept m → refusal_of kept t (process_of kept t) r ≡ Some e →
+    refusal_of m t (process_of m t) r ≡ Some e
+refusal_stands kept m t r e h g =
+    sym (refusal_of-forget m t (process_of m t) r) ∙ sym (ap (λ k. refusal_of k t (process_of k t) r) h) ∙ g
+
+refused_answer : (m : State) (t : ℕ) (r : Request) (e : Errno) → refusal_of m t (process_of m t) r ≡ Some e → (step m t (Some r)).answer ≡ Failure e
+unfolding step
+refused_answer m t r e g = ap (λ o. (unless_refused m o (effect m t (process_of m t) r)).answer) g
+
 pub refused_step :
     (kept new : State) (t : ℕ) (r : Request) (s : Stepped) (e : Errno) → IsKept kept → MayTurn kept t (Some r) →
-    IsStep (step kept t (Some r)) new s → s.answer ≡ Failure e → new ≡ with_event_counted kept
-refused_step kept new t r s e k may h a =
-    let w : Stands kept new t (Some r) s = stands_of kept new t (Some r) s k may h in
-    w.done.state
-    ∙ ap forget (w.keeps.refused r e refl (sym w.done.answer ∙ a))
-    ∙ ap with_event_counted (sym w.stands)
+    IsStep (step kept t (Some r)) new s → refusal_of kept t (process_of kept t) r ≡ Some e →
+    (s.answer ≡ Failure e) × (new ≡ with_event_counted kept)
+refused_step kept new t r s e k may h g =
+    let w : Stands kept new t (Some r) s = stands_of kept new t (Some r) s k may h in (
+      h.answer ∙ refused_answer kept t r e g,
+      w.done.state
+          ∙ ap forget (w.keeps.refused r e refl (refusal_stands kept w.written t r e w.stands g))
+          ∙ ap with_event_counted (sym w.stands),
+    )
+
+-- no pool of a state has both a waiting item and an idle thread
+
+abbrev HasNoneIdle : State → Type 0
+HasNoneIdle m = All (λ w. pick m (pool_of m w.door) ≡ None) (waiting_items m)
+
+none_idle-forget : (m : State) → HasNoneIdle m → HasNoneIdle (forget m)
+none_idle-forget m h = subst (λ ws. All (λ w. pick (forget m) (pool_of (forget m) w.door) ≡ None) ws) (sym (waiting_items-forget m)) h
+
+none_idle-of_forget : (m : State) → HasNoneIdle (forget m) → HasNoneIdle m
+none_idle-of_forget m h = subst (λ ws. All (λ w. pick m (pool_of m w.door) ≡ None) ws) (waiting_items-forget m) h
+
+-- a refused entry of each state that a kernel stands for
+pub refused_stands :
+    (kept m : State) (t : ℕ) (r : Request) (e : Errno) → IsKept kept → StandsFor kept m →
+    refusal_of m t (process_of m t) r ≡ Some e → (step m t (Some r)).state ≡ with_event_counted m
+refused_stands kept m t r e k h g =
+    refused_gives m t r e
+    (none_idle-of_forget m (subst HasNoneIdle (sym k.stands ∙ h) (none_idle-forget k.written k.invariant.given_out)))
+    g
 
 -- the same of a result
 
@@ -78,9 +113,12 @@ kept_result kept old new t q (Err x) same k may h e = subst IsKept (sym e) k
 pub refused_result :
     (kept old new : State) (t : ℕ) (r : Request) (o : Result Stepped NoMemory) → kept ≡ old → IsKept kept →
     MayTurn old t (Some r) → IfOk o (λ s. IsStep (step kept t (Some r)) new s) →
-    IfOk o (λ s. (e : Errno) → s.answer ≡ Failure e → new ≡ with_event_counted old)
+    IfOk o (λ s. (e : Errno) → refusal_of old t (process_of old t) r ≡ Some e → (s.answer ≡ Failure e) × (new ≡ with_event_counted old))
 refused_result kept old new t r (Ok s) same k may h =
-    λ e a. refused_step kept new t r s e k (subst (λ m. MayTurn m t (Some r)) (sym same) may) h a ∙ ap with_event_counted same
+    λ e g.
+    let at : refusal_of kept t (process_of kept t) r ≡ Some e = ap (λ n. refusal_of n t (process_of n t) r) same ∙ g in
+    let told = refused_step kept new t r s e k (subst (λ m. MayTurn m t (Some r)) (sym same) may) h at in
+    (told.0, told.1 ∙ ap with_event_counted same)
 refused_result kept old new t r (Err x) same k may h = tt
 
 -- openings

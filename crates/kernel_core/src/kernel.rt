@@ -6,7 +6,7 @@ ghost use Rattle.written_kernel.specs.Types.{Errno};
 ghost use Rattle.dk_base.specs.declared.limits.TheConstants.{PROCESSES_MAX, THREADS_MAX, EVENTS_MAX};
 ghost use Rattle.capabilities.specs.declared.table.TheConstants.{BUILT};
 ghost use Rattle.capabilities.specs.Words.{capability_of};
-ghost use Rattle.written_kernel.specs.Words.{IsFit, IsStep, MayGoOn, MayInside, StandsFor, State, invocation_of, is_runnable, is_running, least_runnable, opening, root, state_of, step, with_event_counted, with_new_thread, with_processes};
+ghost use Rattle.written_kernel.specs.Words.{IsFit, IsStep, MayGoOn, MayInside, StandsFor, State, invocation_of, is_runnable, is_running, least_runnable, opening, process_of, refusal_of, root, state_of, step, with_event_counted, with_new_thread, with_processes};
 ghost use Rattle.kernel_core.specs.Kept.{IsKept};
 ghost use Rattle.kernel_core.specs.Stored.{stored_state};
 ghost use Rattle.kernel_core.specs.Within.{IsWithin, IsSmall};
@@ -78,7 +78,8 @@ impl Kernel {
         }
     }
 
-    /// A kernel entry of a thread that runs. Where it is refused, nothing changes but the number of events. Want of memory
+    /// A kernel entry of a thread that runs. Where it is refused, it answers the refusal and nothing changes but the
+    /// number of events. Want of memory
     /// leaves the kernel as it was.
     pub fn enter(&mut self, t: Tid, request: Request) -> Result<Stepped, NoMemory>
         requires running { is_running self.old t.0 ≡ true }
@@ -87,7 +88,8 @@ impl Kernel {
         requires inside { MayInside (invocation_of self.old t.0) request }
         requires few { self.old.events < EVENTS_MAX }
         ensures step { IfOk result (λ s. (m : State) → StandsFor self.old m → IsStep (step m t.0 (Some request)) self.new s) }
-        ensures refused { IfOk result (λ s. (e : Errno) → s.answer ≡ Failure e → self.new ≡ with_event_counted self.old) }
+        ensures refused { IfOk result (λ s. (e : Errno) → refusal_of self.old t.0 (process_of self.old t.0) request ≡ Some e → (s.answer ≡ Failure e) × (self.new ≡ with_event_counted self.old)) }
+        ensures refused_step { (m : State) → StandsFor self.old m → (e : Errno) → refusal_of m t.0 (process_of m t.0) request ≡ Some e → (step m t.0 (Some request)).state ≡ with_event_counted m }
         ensures small { IfOk result (λ s. IsSmall s.answer) }
         ensures err { OnErr result (self.new ≡ self.old) }
     {

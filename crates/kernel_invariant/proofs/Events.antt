@@ -46,5 +46,5 @@ step_keeps m t q h may =
       called = λ c e. step_called m t q c h may e;
       accepted = λ c e f. step_accepted m t q c h may e f;
       collected = λ c e f. step_collected m t q c h may e f;
-      refused = λ r e f g. step_refused m t q r e h may f g;
+      refused = λ r e f g. step_refused m t q r e h f g;
     }

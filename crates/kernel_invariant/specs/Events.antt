@@ -8,7 +8,7 @@ use Rattle.dk_base.specs.declared.answer.Answer.TheVariants as answer
 use Rattle.kernel_records.specs.declared.record.ThreadState.TheVariants as is
 use Rattle.kernel_records.specs.declared.record.CallStage.TheVariants as stage
 use Rattle.kernel_records.specs.Words.{new_invocation, tid}
-use Rattle.written_kernel.specs.Words.{State, door_of, invocation_of, process_of, state_of, step, with_event_counted}
+use Rattle.written_kernel.specs.Words.{State, door_of, invocation_of, process_of, refusal_of, state_of, step, with_event_counted}
 use Rattle.kernel_invariant.specs.Records.{record_of, stage_of}
 use Rattle.kernel_invariant.specs.Invariant.{Invariant}
 use Rattle.kernel_invariant.specs.Arrows.{Arrow}
@@ -88,11 +88,11 @@ pub record Keeps (m : State) (t : ℕ) (q : Option Request) : Type 0 where
       (u : ℕ) → InvocationArrow m t q (step m t q).answer (step m t q).state u (invocation_of m u) (invocation_of (step m t q).state u)
   pub doors : (d : ℕ) → DoorArrow m t q (door_of m d) (door_of (step m t q).state d)
   pub told : IsToldBy m t q (step m t q).answer
-  -- the acts that change a call do so
+  -- accept, collect and a new call do so
   pub called : (c : ℕ) → (step m t q).answer ≡ answer.WaitCall c → IsMade (record_of (step m t q).state c)
   pub accepted :
       (c : ℕ) → q ≡ None → state_of m t ≡ is.Given (item.Call c) → stage_of (step m t q).state c ≡ Some (stage.Entered (tid t))
   pub collected : (c : ℕ) → q ≡ None → state_of m t ≡ is.Calling c → IsAnsweredNow m (step m t q).state c
   -- an entry that is refused changes nothing but the number of events
   pub refused :
-      (r : Request) (e : Errno) → q ≡ Some r → (step m t q).answer ≡ answer.Failure e → (step m t q).state ≡ with_event_counted m
+      (r : Request) (e : Errno) → q ≡ Some r → refusal_of m t (process_of m t) r ≡ Some e → (step m t q).state ≡ with_event_counted m

@@ -65,7 +65,7 @@ pub record Once (m : State) (xs : List Turn) : Type 0 where
       (i t c : ℕ) → i ≤ length xs → HasEntered (state_at m xs i) t c → item_of (state_at m xs i) t ≡ Some (item.Call c)
   pub one_at_once :
       (i t c d : ℕ) → i ≤ length xs → HasEntered (state_at m xs i) t c → HasEntered (state_at m xs i) t d → c ≡ d
-  -- so between two invocations of a thread lies a Return of it
+  -- so between two invocations of a thread lies a Return of it, or its end
   pub invocations : (i t : ℕ) (x : Turn) → slice_get xs i ≡ Some x → InvocationMoves m xs i x t
   -- a Return that is not refused leaves its thread without one, and a thread that is Done has none
   pub return_ends :

@@ -15,7 +15,8 @@ RefusedByFirstTest m xs =
 abbrev pub RefusedChangesNothing : State → List Turn → Type 0
 RefusedChangesNothing m xs =
     (i : ℕ) (x : Turn) (r : Request) (e : Errno) → slice_get xs i ≡ Some x → x.request ≡ Some r →
-    answer_at m xs i x ≡ answer.Failure e → state_at m xs (i + 1) ≡ with_event_counted (state_at m xs i)
+    refusal_of (state_at m xs i) x.thread (process_at m xs i x.thread) r ≡ Some e →
+    state_at m xs (i + 1) ≡ with_event_counted (state_at m xs i)
 
 pub record Refused (m : State) (xs : List Turn) : Type 0 where
   pub by_first_test : RefusedByFirstTest m xs

@@ -1,6 +1,6 @@
-use Rattle.std.proofs.Common.{Some}
+use Rattle.std.proofs.Common.{◌≡◌, ◌∙◌, Some}
 use Rattle.kernel_core.specs.Stored.{stored_state}
-use Rattle.kernel_core.proofs.Kept.{kept_result, refused_result}
+use Rattle.kernel_core.proofs.Kept.{kept_result, refused_result, refused_stands}
 use Rattle.kernel_core.proofs.Steps.{step_stands, step_within, step_small}
 use Rattle.kernel_core.proofs.kernel.Kernel.enter.Goals as goal
 
@@ -24,3 +24,7 @@ returns-clause-small c =
 pub returns-clause-refused : goal.returns-clause-refused
 returns-clause-refused c =
     refused_result (stored_state c.self.inside.parts.store) c.args.self.now (stored_state c.enter.new.self.store) c.args.t.0 c.args.request c.enter.result c.self.view_is c.self.invariant.0 (record { running = c.requires.running; fit = c.requires.fit; built = c.requires.built; inside = c.requires.inside; few = c.requires.few }) c.enter.ensures.step
+
+pub returns-clause-refused_step : goal.returns-clause-refused_step
+returns-clause-refused_step c =
+    λ m h e g. refused_stands (stored_state c.self.inside.parts.store) m c.args.t.0 c.args.request e c.self.invariant.0 (c.self.view_is ∙ h) g
