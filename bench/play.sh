@@ -1,6 +1,6 @@
 #!/bin/sh
 # Events per second and memory of `doors play`: one server, and one client or more that call it again and again, output to a
-# file. The last two rows have the same calls in all, of one client and of 62. Run by hand, after `rt run` built the program in crates/doors; wants GNU time and date.
+# file. The last two lines have the same calls in all, of one client and of 62. Run by hand, after `rt run` built the program in crates/doors; wants GNU time and date.
 #
 # usage: bench/play.sh [PROGRAM] [RUNS]
 set -eu
@@ -37,8 +37,8 @@ microseconds() {
     done | sort -n | head -n 1
 }
 
-# One row: so many clients, each with so many calls.
-row() {
+# Measures so many clients, each with so many calls, and prints a line.
+measure() {
     script "$1" "$2" >"$folder/script"
     least=$(microseconds)
     play /usr/bin/time -q -f %M -o "$folder/memory"
@@ -49,8 +49,8 @@ row() {
 echo 'clients calls events microseconds events/second KiB'
 for clients in 1 4; do
     for calls in 1 1000 4000 16000; do
-        row "$clients" "$calls"
+        measure "$clients" "$calls"
     done
 done
-row 1 24000
-row 62 387
+measure 1 24000
+measure 62 387
