@@ -12,7 +12,7 @@ use Rattle.kernel_records.specs.Words.{CallTree, ProcessTable, change_first, is_
 use Rattle.written_kernel.specs.Words.{ActResult, State, await, await_name, create, create_tests, find_call, first_refusal, name_of, object_at, open_path, process_of, refused_where, state_of, thread_of, with_state, with_table_of}
 use Rattle.kernel_invariant.specs.Records.{has_number, record_of}
 use Rattle.kernel_invariant.specs.Core.{core, ended_in, is_ended_stage}
-use Rattle.kernel_invariant.specs.Coherent.{IsCoherent}
+use Rattle.kernel_invariant.specs.Coherent.{IsCoherent, is_unbuilt}
 use Rattle.kernel_invariant.specs.Invariant.{IsInOrder, IsConsistent}
 use Rattle.kernel_invariant.specs.Arrows.{ByAct}
 use Rattle.kernel_invariant.specs.Arrows.ByAct.{stays}
@@ -131,10 +131,10 @@ module _ (test : Call → Bool) (change : Call → Call) (same : (r : Call) → 
 
 pub turned_to :
     (m : State) (t : ℕ) (q : Option Request) (s : ThreadState) (a : Answer) → IsConsistent m → is_quiet (state_of m t) ≡ true →
-    is_quiet s ≡ true → Does m t q (act_result (with_state m t s) a)
-turned_to m t q s a h e f =
+    is_quiet s ≡ true → is_unbuilt s ≡ false → Does m t q (act_result (with_state m t s) a)
+turned_to m t q s a h e f u =
     does_thread m t q a _ s _ h (set_thread_state-turns m.process_table t s (there m t (λ d. grind arith)))
-    (turn_keeps (core m) t s h.coherent e f)
+    (turn_keeps (core m) t s h.coherent e f u)
 
 pub await_does :
     (m : State) (t : ℕ) (q : Option Request) (path : PathId) → IsConsistent m → state_of m t ≡ is.Running →
@@ -143,7 +143,7 @@ await_does m t q path h e = go (name_of m path)
   where
     go : (o : Option Name) → Does m t q (await_name m t path o)
     go (Some n) = does_nothing m t q _ h
-    go None = turned_to m t q (is.Awaiting path) _ h (grind arith) refl
+    go None = turned_to m t q (is.Awaiting path) _ h (grind arith) refl refl
 
 pub names_does : (m : State) (t : ℕ) (q : Option Request) (names : List Name) (a : Answer) → IsConsistent m → Does m t q (act_result (record m { names = names }) a)
 names_does m t q names a h =

@@ -70,6 +70,7 @@ call_keeps k t r h p =
       bindings = h.bindings;
       processes = processes_turn k.role k.process k.proc t _ h.processes (grind arith);
       threads = h.threads;
+      built = λ v. grind (arith, nat_tests, h.built v);
     }
 
 -- a thread enters the call that it was given
@@ -119,6 +120,7 @@ enter_keeps k t r h q g =
       bindings = h.bindings;
       processes = processes_turn k.role k.process k.proc t _ h.processes (grind arith);
       threads = h.threads;
+      built = λ v. grind (arith, nat_tests, h.built v);
     }
 
 -- a thread returns from its call, and is parked
@@ -159,6 +161,7 @@ return_keeps k t r bytes since h p q s a =
       bindings = h.bindings;
       processes = processes_turn k.role k.process k.proc t _ h.processes (grind arith);
       threads = h.threads;
+      built = λ v. grind (arith, nat_tests, h.built v);
     }
 
 -- a thread without a client is parked
@@ -199,6 +202,7 @@ park_keeps k t since h p q z =
       bindings = h.bindings;
       processes = processes_turn k.role k.process k.proc t _ h.processes (grind arith);
       threads = h.threads;
+      built = λ v. grind (arith, nat_tests, h.built v);
     }
 
 -- a caller collects the answer of its call
@@ -238,4 +242,5 @@ collect_keeps k t r at h q g z =
       bindings = h.bindings;
       processes = processes_turn k.role k.process k.proc t _ h.processes (grind arith);
       threads = h.threads;
+      built = λ v. grind (arith, nat_tests, h.built v);
     }

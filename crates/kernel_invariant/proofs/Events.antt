@@ -14,6 +14,7 @@ use Rattle.kernel_invariant.proofs.Serving.{step_serves}
 use Rattle.kernel_invariant.proofs.Doors.{step_holds}
 use Rattle.kernel_invariant.proofs.Answers.{Tells, act_tells, is_there}
 use Rattle.kernel_invariant.proofs.Waits.{step_accepted, step_collected}
+use Rattle.kernel_invariant.proofs.Built.{turn_built}
 use Rattle.kernel_invariant.proofs.Refusals.{step_refused}
 
 step_tells : (m : State) (t : ℕ) (q : Option Request) → Invariant m → IsToldBy m t q (step m t q).answer
@@ -47,4 +48,5 @@ step_keeps m t q h may =
       accepted = λ c e f. step_accepted m t q c h may e f;
       collected = λ c e f. step_collected m t q c h may e f;
       refused = λ r e f g. step_refused m t q r e h f g;
+      built = turn_built m t q h may;
     }

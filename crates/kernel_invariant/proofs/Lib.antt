@@ -13,6 +13,7 @@ pub mod Serving
 pub mod Doors
 pub mod Answers
 pub mod Waits
+pub mod Built
 pub mod Refusals
 pub mod Events
 pub mod Openings

@@ -53,8 +53,8 @@ go_on_does :
     (m : State) (t p : ℕ) (s : ThreadState) → IsConsistent m → state_of m t ≡ s → can_go_on m s ≡ true → Does m t None (go_on m t p s)
 go_on_does m t p (is.Given i) h e f = accept_does m t p i h e
 go_on_does m t p (is.Calling c) h e f = collect_does m t p c h e f
-go_on_does m t p (is.Awaiting path) h e f = turned_to m t None is.Running _ h (grind arith) refl
-go_on_does m t p (is.Working op input) h e f = turned_to m t None is.Running _ h (grind arith) refl
+go_on_does m t p (is.Awaiting path) h e f = turned_to m t None is.Running _ h (grind arith) refl refl
+go_on_does m t p (is.Working op input) h e f = turned_to m t None is.Running _ h (grind arith) refl refl
 go_on_does m t p s h e f = does_nothing m t None _ h
 
 pub act_does : (m : State) (t : ℕ) (q : Option Request) → IsConsistent m → MayTurn m t q → Does m t q (act m t q)

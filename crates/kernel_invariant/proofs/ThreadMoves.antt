@@ -11,7 +11,7 @@ use Rattle.kernel_records.specs.declared.record.ThreadState.TheVariants as is
 use Rattle.kernel_records.specs.declared.record.CallStage.TheVariants as stage
 use Rattle.kernel_records.specs.Words.{at_stage, ended_process, is_live_in, is_owned_by, is_queued, tid, with_owner_ended, without_arguments_at}
 use Rattle.kernel_invariant.specs.Core.{Core}
-use Rattle.kernel_invariant.specs.Coherent.{IsCoherent}
+use Rattle.kernel_invariant.specs.Coherent.{IsCoherent, is_unbuilt}
 use Rattle.kernel_invariant.specs.Records.{owner_in}
 use Rattle.kernel_invariant.proofs.Cores.{set_role, set_serves, set_call, set_door}
 use Rattle.kernel_invariant.proofs.Parts.{notices_serve, notices_turn, processes_turn}
@@ -26,8 +26,8 @@ is_quiet _ = false
 
 pub turn_keeps :
     (k : Core) (t : ℕ) (s : ThreadState) → IsCoherent k → is_quiet (k.role t) ≡ true → is_quiet s ≡ true →
-    IsCoherent (set_role k t s)
-turn_keeps k t s h p q =
+    is_unbuilt s ≡ false → IsCoherent (set_role k t s)
+turn_keeps k t s h p q u =
     record {
       waits =
           record {
@@ -52,6 +52,7 @@ turn_keeps k t s h p q =
       bindings = h.bindings;
       processes = processes_turn k.role k.process k.proc t s h.processes (grind arith);
       threads = h.threads;
+      built = λ v. grind (arith, nat_tests, h.built v);
     }
 
 pub door_keeps :
@@ -85,6 +86,7 @@ door_keeps k d h p q =
           };
       processes = h.processes;
       threads = h.threads;
+      built = λ v. grind (arith, nat_tests, h.built v);
     }
 
 -- a thread without an invocation ends
@@ -123,6 +125,7 @@ leave_keeps k t h p q =
       bindings = h.bindings;
       processes = processes_turn k.role k.process k.proc t _ h.processes (grind arith);
       threads = h.threads;
+      built = λ v. grind (arith, nat_tests, h.built v);
     }
 
 -- a waiting call is given to an idle thread of the process that made its door
@@ -179,6 +182,7 @@ give_keeps k r u h p =
       bindings = h.bindings;
       processes = processes_turn k.role k.process k.proc u _ h.processes (grind (arith, p.idle));
       threads = h.threads;
+      built = λ v. grind (arith, nat_tests, h.built v);
     }
 
 -- a process ends: its threads are done, and the calls that wait at its doors end
@@ -269,4 +273,5 @@ end_keeps k p h l =
             thread_number = h.threads.thread_number;
             process_there = λ v n e. grind (arith, nat_tests, h.threads.process_there v n);
           };
+      built = λ v. grind (arith, nat_tests, h.built v);
     }

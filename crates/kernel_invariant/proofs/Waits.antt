@@ -36,7 +36,7 @@ stage_stays m t q c s d e f =
 -- accept
 
 -- the call that a thread was given is found
-given_found : (m : State) (t c : ℕ) → IsConsistent m → state_of m t ≡ is.Given (item.Call c) → is_some (find_call m (is_given_as c t)) ≡ true
+pub given_found : (m : State) (t c : ℕ) → IsConsistent m → state_of m t ≡ is.Given (item.Call c) → is_some (find_call m (is_given_as c t)) ≡ true
 given_found m t c h e = go (record_of m c) refl
   where
     go : (o : Option Call) → record_of m c ≡ o → is_some (find_call m (is_given_as c t)) ≡ true

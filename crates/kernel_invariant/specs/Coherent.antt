@@ -1,5 +1,5 @@
 -- What holds of threads, calls, notices, doors and processes at each time, in parts by what they read.
-use Rattle.std.specs.Prelude.{ℕ, ◌≡◌, ◌<◌, ◌≤◌, [], Option, not, true, false, Some, None, is_some}
+use Rattle.std.specs.Prelude.{ℕ, ◌≡◌, ◌<◌, ◌≤◌, [], Option, Bool, not, true, false, Some, None, is_some}
 use Rattle.written_kernel.specs.Types.{Call, Door, Inv, NoticeStage, Process, ThreadState}
 use Rattle.dk_base.specs.declared.object.Item.TheVariants as item
 use Rattle.kernel_records.specs.declared.record.ThreadState.TheVariants as is
@@ -89,6 +89,14 @@ pub record AreThreads (process : ℕ → ℕ) (number : ℕ → Option ℕ) (pro
   -- the process of a thread is declared
   pub process_there : (t n : ℕ) → number t ≡ Some n → is_some (proc (process t)) ≡ true
 
+-- what no built kind of event makes of a thread: it goes as the capabilities come
+abbrev pub is_unbuilt : ThreadState → Bool
+is_unbuilt (is.Given (item.Notice n)) = true
+is_unbuilt (is.Getting port max nget one interrupted) = true
+is_unbuilt (is.Working op input) = true
+is_unbuilt is.FailedReturn = true
+is_unbuilt _ = false
+
 -- A change of a core keeps by itself the parts that read nothing of what it changes.
 pub record IsCoherent (k : Core) : Type 0 where
   pub waits : AreWaits k.role k.call
@@ -102,3 +110,4 @@ pub record IsCoherent (k : Core) : Type 0 where
   pub bindings : AreBindings k.bound k.door k.process
   pub processes : AreProcesses k.role k.process k.proc
   pub threads : AreThreads k.process k.number k.proc
+  pub built : (t : ℕ) → is_unbuilt (k.role t) ≡ false

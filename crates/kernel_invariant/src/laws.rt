@@ -3,12 +3,17 @@
 
 ghost use Rattle.std.specs.Prelude.{ℕ, Option};
 ghost use Rattle.written_kernel.specs.Types.{Request};
-ghost use Rattle.written_kernel.specs.Words.{MayTurn, State};
+ghost use Rattle.written_kernel.specs.Words.{IsOpening, MayTurn, State};
 ghost use Rattle.kernel_invariant.specs.Invariant.{Invariant};
 ghost use Rattle.kernel_invariant.specs.Events.{Keeps};
 
 /// Every event that may be keeps the invariant, calls, invocations and doors take the arrows of their tables, what its answer
-/// tells is so, and an entry that is refused changes nothing but the number of events.
+/// tells is so, an entry that is refused changes nothing but the number of events, and the act is one that is built.
 pub fn every_event()
     ensures { (m : State) (t : ℕ) (q : Option Request) → Invariant m → MayTurn m t q → Keeps m t q }
+{}
+
+/// The invariant holds of every opening, before the first event.
+pub fn every_opening()
+    ensures { (m : State) → IsOpening m → Invariant m }
 {}

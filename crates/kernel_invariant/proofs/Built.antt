@@ -1,0 +1,42 @@
+-- A turn's act is one that is built.
+use Rattle.std.specs.Prelude.{ℕ, ◌≡◌, ◌≤◌, Option, true, false, Some, None, is_some}
+use Rattle.std.proofs.Common.{refl}
+use native.Mathlib.Omega.{arith}
+use Rattle.dk_base.specs.declared.object.Item.TheVariants as item
+use Rattle.dk_base.specs.declared.request.Request.TheVariants as request
+use Rattle.written_kernel.specs.Types.{Request, ThreadState}
+use Rattle.kernel_records.specs.declared.record.ThreadState.TheVariants as is
+use Rattle.capabilities.specs.Words.{capability_of}
+use Rattle.capabilities.specs.declared.table.TheConstants.{BUILT}
+use Rattle.written_kernel.specs.Words.{MayTurn, State, can_go_on, is_running_state, state_of}
+use Rattle.kernel_invariant.specs.Coherent.{is_unbuilt}
+use Rattle.kernel_invariant.specs.Invariant.{IsConsistent, Invariant}
+use Rattle.kernel_invariant.specs.Events.{IsBuiltEnd, IsBuiltEntry, IsBuiltTurn, IsMade}
+use Rattle.kernel_invariant.proofs.Waits.{given_found}
+
+entry_built : (r : Request) → capability_of r ≤ BUILT → IsBuiltEntry r
+entry_built (request.Create entry cookie attrs) h = tt
+entry_built (request.Call fd bytes pass rsize) h = tt
+entry_built (request.Return bytes pass) h = tt
+entry_built (request.Attach fd path) h = tt
+entry_built (request.Open path) h = tt
+entry_built (request.Await path) h = tt
+entry_built request.Exit h = tt
+entry_built r h = omega arith
+
+made_of : {X : Type 0} (o : Option X) → is_some o ≡ true → IsMade o
+made_of None e = absurd (grind arith)
+made_of (Some x) e = record { made = x; there = refl }
+
+end_built :
+    (m : State) (t : ℕ) (s : ThreadState) → IsConsistent m → state_of m t ≡ s → can_go_on m s ≡ true → is_running_state s ≡ false →
+    is_unbuilt s ≡ false → IsBuiltEnd m t s
+end_built m t (is.Given (item.Call c)) h e f g u = made_of _ (given_found m t c h e)
+end_built m t (is.Calling c) h e f g u = made_of _ f
+end_built m t (is.Awaiting path) h e f g u = made_of _ f
+end_built m t s h e f g u = grind arith
+
+pub turn_built : (m : State) (t : ℕ) (q : Option Request) → Invariant m → MayTurn m t q → IsBuiltTurn m t q
+turn_built m t (Some r) h may = entry_built r may.built
+turn_built m t None h may =
+    end_built m t (state_of m t) h.consistent refl may.runnable may.waits (h.consistent.coherent.built t)
