@@ -1,5 +1,5 @@
 -- What an act and what follows it add to a state: a door and a call at most, and calls of few bytes.
-use Rattle.std.proofs.Common.{◌≡◌, ℕ, suc, ◌+◌, ◌≤◌, ◌&&◌, ◌++◌, Bool, true, false, if◌then◌else◌, not, nat_lt, is_some, List, [], ◌∷◌, Option, Some, None, length, map, find, filter, refl, ap, ◌∙◌, subst, arith, length-append}
+use Rattle.std.proofs.Common.{◌≡◌, ℕ, suc, ◌+◌, ◌≤◌, ◌&&◌, ◌++◌, Bool, true, false, if◌then◌else◌, not, nat_lt, is_some, List, [], ◌∷◌, Option, Some, None, length, map, find, filter, refl, ap, ◌∙◌, subst, sym, arith, length-append}
 use Rattle.std.proofs.lemmas.Bool.{ltb-false}
 use Rattle.std.proofs.lemmas.List.{length-map}
 use Rattle.written_kernel.specs.Types.{Attrs, Call, CallStage, Door, Errno, Fd, Item, Name, Parked, Pass, PathId, Process, Request, Thread, ThreadState, Waiting}
@@ -9,8 +9,8 @@ use Rattle.dk_base.specs.declared.request.Request.TheVariants as request
 use Rattle.kernel_records.specs.declared.record.ThreadState.TheVariants as is
 use Rattle.kernel_records.specs.declared.record.CallStage.TheVariants as stage
 use Rattle.dk_base.specs.ByNumber.{at_number}
-use Rattle.kernel_records.specs.Words.{CallTree, ProcessTable, at_stage, change_first, change_thread, change_thread_in, end_process, ended_thread, ended_thread_of, idle_thread, is_client_call_of, is_given_as, is_last, is_owned_by, is_queued, is_queued_as, is_to_collect_as, thread_at, thread_at_state, thread_in_invocation, tid, with_ended, with_ended_threads, without_arguments_at}
-use Rattle.written_kernel.specs.Words.{ActResult, State, accept, accept_call, act, attach, await, await_name, call, call_tests, client_call, collect, collect_answer, collect_answer_in, create, door_named, effect, ended_call, enter, exit, find_call, first_refusal, give_each, give_one, give_to, go_on, is_valid, leave_process, leave_thread, name_of, new_call, no_act, now, object_at, open_path, pick, pool_of, process_of, refusal_of, refused_act, return, return_tests, settle, state_of, unless_refused, waiting_items}
+use Rattle.kernel_records.specs.Words.{CallTree, ProcessTable, at_stage, change_first, change_thread, change_thread_in, end_process, ended_thread, ended_thread_of, idle_thread, is_client_call_of, is_given_as, is_last, is_live_call, is_owned_by, is_queued, is_queued_as, is_to_collect_as, thread_at, thread_at_state, thread_in_invocation, tid, with_ended, with_ended_threads, without_arguments_at}
+use Rattle.written_kernel.specs.Words.{ActResult, StandsFor, State, accept, accept_call, act, attach, await, await_name, call, call_tests, client_call, collect, collect_answer, collect_answer_in, create, door_named, effect, ended_call, enter, exit, find_call, first_refusal, give_each, give_one, give_to, go_on, is_valid, leave_process, leave_thread, name_of, new_call, no_act, now, object_at, open_path, pick, pool_of, process_of, refusal_of, refused_act, return, return_tests, settle, state_of, unless_refused, waiting_items}
 use Rattle.written_kernel.proofs.Lists.{length-with_at_number}
 use Rattle.kernel_core.specs.Within.{IsSmallStage, IsSmallCall, AreSmall, IsSmall}
 
@@ -106,6 +106,23 @@ filter-small p [] h = h
 filter-small p (x ∷ rs) h =
     elim (p x) as (λ b. AreSmall (if b then x ∷ filter p rs else filter p rs))
     [ true ↦ (h.0, filter-small p rs h.1) | false ↦ filter-small p rs h.1 ]
+
+length-filter : (p : Call → Bool) (rs : List Call) → length (filter p rs) ≤ length rs
+length-filter p [] = omega arith
+length-filter p (x ∷ rs) =
+    elim (p x) as (λ b. length (if b then x ∷ filter p rs else filter p rs) ≤ suc (length rs))
+    [ true ↦ let e = length-filter p rs in omega arith | false ↦ let e = length-filter p rs in omega arith ]
+
+-- what is forgotten adds nothing
+pub grows_kept : (k : ℕ) (m n o : State) → Grows k m n → StandsFor o n → Grows k m o
+grows_kept k m n o g e = subst (Grows k m) (sym e) (record {
+  threads = g.threads;
+  calls = omega (arith, g.calls, length-filter is_live_call n.call_tree.calls);
+  doors = g.doors;
+  calls_made = g.calls_made;
+  events = g.events;
+  bytes = λ h. filter-small is_live_call n.call_tree.calls (g.bytes h);
+})
 
 without_arguments_at-small : (r : Call) (s : CallStage) → IsSmallStage s → IsSmallCall (without_arguments_at s r)
 without_arguments_at-small r s h = record { arguments = omega arith; results = h }

@@ -1,4 +1,6 @@
 pub mod Places
+pub mod Live
+pub mod Idle
 pub mod Grows
 pub mod Steps
 pub mod Readers

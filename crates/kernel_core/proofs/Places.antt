@@ -11,7 +11,7 @@ use Rattle.kernel_records.specs.Words.{change_first}
 pub numbered_here : {X : Type 0} (xs : List X) (n : ℕ) (d : X) → 0 < n → n - 1 < length xs → at_number xs n ≡ Some (get_or xs (n - 1) d)
 numbered_here xs n d p h = let e = slice_get-get_or xs (n - 1) d h in grind (arith, nat_tests)
 
-position_is : {X : Type 0} (p : X → Bool) (xs : List X) (i : ℕ) → position p xs ≡ Some i → i ≡ position_or_len p xs
+pub position_is : {X : Type 0} (p : X → Bool) (xs : List X) (i : ℕ) → position p xs ≡ Some i → i ≡ position_or_len p xs
 position_is p xs i h = grind (arith, nat_tests)
 
 none_there : {X : Type 0} (p : X → Bool) (xs : List X) → position p xs ≡ None → length xs ≤ position_or_len p xs

@@ -12,8 +12,7 @@ use Rattle.std.proofs.lemmas.Option.{slice_get-get_or}
 use Rattle.std.proofs.lemmas.Bool.Decides.{nat_tests}
 use Rattle.dk_base.specs.ByNumber.{at_number}
 use Rattle.written_kernel.proofs.Lists.{numbered_past, numbered_there, numbered_within}
-use Rattle.kernel_core.specs.declared.runnable.Runnable.{Runnable}
-use Rattle.kernel_core.specs.Woken.{IsCurrent, runnables}
+use Rattle.kernel_core.specs.Woken.{runnables}
 
 pub runnable_stands : (kept m : State) (t : ℕ) → StandsFor kept m → is_runnable kept t ≡ is_runnable m t
 runnable_stands kept m t e = ap (λ k. is_runnable k t) e ∙ is_runnable-forget m t
@@ -85,11 +84,6 @@ runnables-forget m zero = refl
 runnables-forget m (suc n) =
     ap (λ xs. xs ++ is_runnable (forget m) (suc n) ∷ []) (runnables-forget m n)
     ∙ ap (λ b. runnables m n ++ b ∷ []) (is_runnable-forget m (suc n))
-
--- the list of a state is that of what is kept of it
-pub current-forget : (r : Runnable) (m : State) → IsCurrent r m → IsCurrent r (forget m)
-current-forget r m h =
-    record { items = h.items ∙ sym (runnables-forget m (length m.process_table.threads)); room = h.room }
 
 -- the least of the threads up to one more
 pub least_more :

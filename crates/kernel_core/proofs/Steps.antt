@@ -9,9 +9,11 @@ use Rattle.kernel_core.specs.Woken.{HasListRoom, IsCurrent, IsReady, IsReadyToSe
 use Rattle.kernel_core.proofs.Readers.{length_runnables}
 use Rattle.kernel_records.specs.Words.{is_live_call}
 use Rattle.written_kernel.specs.Words.{IsStep, StandsFor, State, act, forget, no_process, settle, step, with_event_counted, with_new_process, with_processes, woken_threads}
+use Rattle.kernel_core.specs.Kept.{HasLiveCalls}
 use Rattle.kernel_core.specs.Numbers.{HasNumbersLeft}
 use Rattle.kernel_core.specs.Within.{IsWithin, IsSmall}
-use Rattle.written_kernel.proofs.Forget.{IsStep-stands_for}
+use Rattle.written_kernel.proofs.Forget.{IsStep-stands_for, forget-forget, settle-forget, woken_threads-forget}
+use Rattle.kernel_core.proofs.Live.{live_state, settle_live}
 use Rattle.kernel_core.proofs.Grows.{Grows, act-tidy, settle-grows, filter-small}
 
 pub step-within : (m : State) (t : ℕ) (r : Option Request) → IsWithin m → m.events < 1000000 → IsWithin (forget (step m t r).state)
@@ -67,17 +69,37 @@ no_process-within = record { events = omega arith; doors = omega arith; calls_ma
 pub opening-within : (limits : List ℕ) (none m : State) → none ≡ no_process → m ≡ with_processes none limits → IsWithin m
 opening-within limits none m e h = subst IsWithin (sym (h ∙ ap (λ n. with_processes n limits) e)) (with_processes-within limits no_process no_process-within)
 
+-- threads are woken the same where what is kept is the same
+woken_alike : (m x y : State) → forget x ≡ forget y → woken_threads m x ≡ woken_threads m y
+woken_alike m x y e = sym (woken_threads-forget m x) ∙ ap (woken_threads (forget m)) e ∙ woken_threads-forget m y
+
 -- an act and what follows it are a step
 pub stepped :
-    (m n new : State) (t : ℕ) (r : Option Request) (s : Stepped) → n ≡ (act m t r).state → s.answer ≡ (act m t r).answer →
-    new ≡ forget (with_event_counted (settle m n)) → s.woken ≡ woken_threads m (with_event_counted (settle m n)) → IsStep (step m t r) new s
+    (m n new : State) (t : ℕ) (r : Option Request) (s : Stepped) → HasLiveCalls m → StandsFor n (act m t r).state →
+    s.answer ≡ (act m t r).answer → new ≡ forget (with_event_counted (settle m n)) →
+    s.woken ≡ woken_threads m (with_event_counted (settle m n)) → IsStep (step m t r) new s
 unfolding step
-stepped m n new t r s e answer state woken_is =
+stepped m n new t r s h e answer state woken_is =
     record {
-      state = state ∙ ap (λ x. forget (with_event_counted (settle m x))) e;
+      state = state ∙ settled;
       answer = answer;
-      woken = woken_is ∙ ap (λ x. woken_threads m (with_event_counted (settle m x))) e;
+      woken = woken_is ∙ woken_alike m (with_event_counted (settle m n)) (with_event_counted (settle m (act m t r).state)) settled;
     }
+  where
+    alike : forget n ≡ forget (act m t r).state
+    alike = ap forget e ∙ forget-forget (act m t r).state
+
+    settled : forget (with_event_counted (settle m n)) ≡ forget (with_event_counted (settle m (act m t r).state))
+    settled =
+        ap with_event_counted
+        (subst (λ k. forget (settle k n) ≡ forget (settle m (act m t r).state)) (live_state m h)
+        (settle-forget m n (act m t r).state alike))
+
+-- what settles is kept whole
+pub settled_kept :
+    (before m n : State) → HasLiveCalls m → n ≡ with_event_counted (settle before m) →
+    n ≡ forget (with_event_counted (settle before m))
+settled_kept before m n h e = e ∙ ap with_event_counted (sym (live_state (settle before m) (settle_live before m h)))
 
 -- what was taken before an event suffices after its act
 pub ready_after :

@@ -1,6 +1,7 @@
 //! The act of a turn: an entry, unless it is refused, or the end of a wait.
 ghost use Rattle.std.specs.Prelude.{◌≡◌, []};
-ghost use Rattle.written_kernel.specs.Words.{effect, end_work, enter, go_on, process_of, refusal_of, state_of};
+ghost use Rattle.written_kernel.specs.Words.{StandsFor, effect, end_work, enter, go_on, process_of, refusal_of, state_of};
+ghost use Rattle.kernel_core.specs.Kept.{HasLiveCalls};
 ghost use Rattle.kernel_core.specs.Numbers.{HasNumbersLeft};
 ghost use Rattle.kernel_core.specs.Stored.{HasRoom, stored_state};
 
@@ -69,7 +70,8 @@ fn effect(store: &mut Store, alloc: Global, t: Tid, p: Pid, request: Request) ->
 pub fn enter(store: &mut Store, alloc: Global, t: Tid, request: Request) -> Answer
     requires numbers { HasNumbersLeft (stored_state store.old) }
     requires room { HasRoom store.old }
-    ensures state { stored_state store.new ≡ (enter (stored_state store.old) t.0 (process_of (stored_state store.old) t.0) request).state }
+    requires live { HasLiveCalls (stored_state store.old) }
+    ensures state { StandsFor (stored_state store.new) (enter (stored_state store.old) t.0 (process_of (stored_state store.old) t.0) request).state }
     ensures answer { result ≡ (enter (stored_state store.old) t.0 (process_of (stored_state store.old) t.0) request).answer }
 {
     let p = store.processes.process_of(t);
@@ -92,8 +94,8 @@ fn end_work(store: &mut Store, alloc: Global, t: Tid) -> Answer
 
 /// The end of a wait, by what the thread waits for.
 pub fn go_on(store: &mut Store, alloc: Global, t: Tid) -> Answer
-    requires { HasNumbersLeft (stored_state store.old) }
-    ensures state { stored_state store.new ≡ (go_on (stored_state store.old) t.0 (process_of (stored_state store.old) t.0) (state_of (stored_state store.old) t.0)).state }
+    requires live { HasLiveCalls (stored_state store.old) }
+    ensures state { StandsFor (stored_state store.new) (go_on (stored_state store.old) t.0 (process_of (stored_state store.old) t.0) (state_of (stored_state store.old) t.0)).state }
     ensures answer { result ≡ (go_on (stored_state store.old) t.0 (process_of (stored_state store.old) t.0) (state_of (stored_state store.old) t.0)).answer }
 {
     let p = store.processes.process_of(t);

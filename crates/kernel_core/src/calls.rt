@@ -1,14 +1,17 @@
 //! Door calls in the order in which they were made.
-ghost use Rattle.std.specs.Prelude.{◌≡◌, ◌<◌, [], find, map, filter, position, vec_len, vec_capacity, OnOk, IfNone};
+ghost use Rattle.std.specs.Prelude.{◌≡◌, ◌<◌, [], ℕ, find, map, position, vec_len, vec_capacity, OnOk, IfNone};
 ghost use Rattle.std.specs.Option.{option_copied};
+ghost use Rattle.std.specs.List.{list_any};
 ghost use Rattle.dk_base.specs.ByNumber.{at_number};
-ghost use Rattle.kernel_records.specs.Words.{collect_call, enter_call, give_call, is_client_call_of, is_given_as, is_live_call, is_owned_by, is_queued_as, is_to_collect_as, is_served_by, live_calls, open_call, return_call};
+ghost use Rattle.kernel_records.specs.Words.{collect_call, enter_call, give_call, is_client_call_of, is_given_as, is_owned_by, is_queued_as, is_to_collect_as, is_served_by, live_calls, open_call, return_call};
 ghost use Rattle.written_kernel.specs.Words.{end_calls, ended_call};
+ghost use Rattle.kernel_core.specs.Kept.{AreLive};
 ghost use Rattle.kernel_core.specs.Stored.{tree_in, without_arguments, given_at};
+ghost use Rattle.kernel_core.specs.Idle.{is_ready_call};
 
 use crate::numbered::numbered_item;
 use crate::stage::{
-    is_client_call_of, is_given_as, is_live_call, is_queued, is_queued_as, is_served_by,
+    is_client_call_of, is_given_as, is_queued, is_queued_as, is_ready_call, is_served_by,
     is_to_collect_as,
 };
 use dk_base::error::{Errno, NoMemory};
@@ -80,12 +83,6 @@ fn end_all(alloc: Global, calls: &mut [Call], doors: &[Door], p: Pid)
     }
 }
 
-fn retain_live(calls: &mut Vec<Call>)
-    ensures { calls.new.items ≡ filter is_live_call calls.old.items }
-{
-    calls.retain(|call| is_live_call(call));
-}
-
 /// The place of call `c`, where it waits for a server thread.
 fn place_queued(calls: &[Call], c: u32) -> Option<usize>
     ensures { result ≡ position (is_queued_as c) calls.now }
@@ -152,6 +149,13 @@ impl Calls {
         self.list.iter().find(|call| is_to_collect_as(call, c))
     }
 
+    /// Whether there is a call that its caller can collect.
+    pub fn has_ready(&self) -> bool
+        ensures { result ≡ list_any is_ready_call self.now.list.items }
+    {
+        self.list.iter().any(|call| is_ready_call(call))
+    }
+
     /// Room for another call.
     pub fn reserve(&mut self) -> Result<(), NoMemory>
         ensures tree { tree_in self.new ≡ tree_in self.old }
@@ -208,17 +212,16 @@ impl Calls {
         }
     }
 
-    /// A caller collects its call. The record as it was is handed out.
-    #[tactic(auto, using(crate::proofs::Places::changed_at, crate::proofs::Places::changed_nowhere, crate::proofs::Places::find_at, crate::proofs::Places::find_nowhere))]
-    pub fn collect(&mut self, alloc: Global, c: u32, at: u64) -> Option<Call>
-        ensures after { tree_in self.new ≡ collect_call (tree_in self.old) c at }
+    /// A caller collects its call, which is handed out and forgotten.
+    pub fn collect(&mut self, c: u32) -> Option<Call>
+        requires { AreLive self.old.list.items }
+        ensures after { (at : ℕ) → tree_in self.new ≡ live_calls (collect_call (tree_in self.old) c at) }
         ensures before { result ≡ find (is_to_collect_as c) self.old.list.items }
     {
         let Some(place) = place_ready(&self.list, c) else {
             return None;
         };
-        let call = &mut self.list[place];
-        Some(move_on(alloc, call, CallStage::Answered { at }))
+        Some(self.list.remove(place))
     }
 
     /// Ends the calls that wait at a door of a process.
@@ -226,12 +229,5 @@ impl Calls {
         ensures { tree_in self.new ≡ end_calls (tree_in self.old) doors.now p.0 }
     {
         end_all(alloc, &mut self.list, doors, p);
-    }
-
-    /// Forgets the calls that were answered or left.
-    pub fn forget(&mut self)
-        ensures { tree_in self.new ≡ live_calls (tree_in self.old) }
-    {
-        retain_live(&mut self.list);
     }
 }

@@ -1,7 +1,8 @@
 //! The acts of doors, of calls of them, and of their invocations.
 ghost use Rattle.std.specs.Prelude.{◌≡◌, []};
 ghost use Rattle.kernel_records.specs.Words.{cookie_of, entry_of, is_given_as, no_cancel_of};
-ghost use Rattle.written_kernel.specs.Words.{accept, accept_call, call, call_tests, client_call, collect, collect_answer, collect_answer_in, create, create_tests, door_of, find_call, first_refusal, new_call, return, return_tests};
+ghost use Rattle.written_kernel.specs.Words.{StandsFor, accept, accept_call, call, call_tests, client_call, collect, collect_answer, collect_answer_in, create, create_tests, door_of, find_call, first_refusal, new_call, return, return_tests};
+ghost use Rattle.kernel_core.specs.Kept.{HasLiveCalls};
 ghost use Rattle.kernel_core.specs.Numbers.{HasNumbersLeft};
 ghost use Rattle.kernel_core.specs.Stored.{HasRoom, stored_state};
 
@@ -203,14 +204,13 @@ fn outcome(alloc: Global, call: Call) -> Answer
     }
 }
 
-/// The end of the wait of a caller: the results, or the error that its call ended with.
+/// The end of the wait of a caller: the results, or the error that its call ended with. The call is forgotten.
 pub fn collect(store: &mut Store, alloc: Global, t: Tid, p: Pid, c: u32) -> Answer
-    requires { HasNumbersLeft (stored_state store.old) }
-    ensures state { stored_state store.new ≡ (collect (stored_state store.old) t.0 p.0 c).state }
+    requires { HasLiveCalls (stored_state store.old) }
+    ensures state { StandsFor (stored_state store.new) (collect (stored_state store.old) t.0 p.0 c).state }
     ensures answer { result ≡ (collect (stored_state store.old) t.0 p.0 c).answer }
 {
-    let at = store.now();
-    let call = store.calls.collect(alloc, c, at);
+    let call = store.calls.collect(c);
     store.processes.turn(t, ThreadState::Running);
     match call {
         Some(call) => outcome(alloc, call),

@@ -2,6 +2,7 @@
 ghost use Rattle.std.specs.Prelude.{◌≡◌, ◌+◌, ◌<◌, length, Some, None, IfOk, OnOk, OnErr};
 ghost use Rattle.dk_base.specs.declared.limits.TheConstants.{EVENTS_MAX, THREADS_MAX};
 ghost use Rattle.written_kernel.specs.Words.{IsStep, State, forget, settle, step, with_event_counted, with_new_thread, woken_threads};
+ghost use Rattle.kernel_core.specs.Kept.{HasLiveCalls};
 ghost use Rattle.kernel_core.specs.Numbers.{HasNumbersLeft};
 ghost use Rattle.kernel_core.specs.Stored.{HasRoom, stored_state};
 ghost use Rattle.kernel_core.specs.Woken.{IsCurrent, IsReady, IsReadyToSettle};
@@ -59,6 +60,7 @@ impl Parts {
     /// What follows an act.
     #[tactic(auto, using(crate::proofs::Grows::events_settle, crate::proofs::Grows::threads_settle))]
     fn finish(&mut self, mut woken: Room<Tid>, answer: Answer) -> Stepped
+        requires live { HasLiveCalls (stored_state self.old.store) }
         requires few { self.old.store.events < EVENTS_MAX }
         requires ready { IsReadyToSettle self.old woken }
         ensures state { (before : State) → stored_state self.new.store ≡ forget (with_event_counted (settle before (stored_state self.old.store))) }
@@ -69,7 +71,6 @@ impl Parts {
         settle(&mut self.store, &mut self.waiting);
         self.store.count();
         self.runnable.advance(&self.store, &mut woken);
-        self.store.calls.forget();
         Stepped {
             answer,
             woken: woken.into_list(),
@@ -80,6 +81,7 @@ impl Parts {
     #[tactic(auto, unfolding(written_kernel::specs::Step::step))]
     pub fn enter(&mut self, alloc: Global, t: Tid, request: Request) -> Result<Stepped, NoMemory>
         requires numbers { HasNumbersLeft (stored_state self.old.store) }
+        requires live { HasLiveCalls (stored_state self.old.store) }
         requires current { IsCurrent self.old.runnable (stored_state self.old.store) }
         ensures step { IfOk result (λ s. IsStep (step (stored_state self.old.store) t.0 (Some request)) (stored_state self.new.store) s) }
         ensures current { IsCurrent self.new.runnable (stored_state self.new.store) }
@@ -94,6 +96,7 @@ impl Parts {
     #[tactic(auto, unfolding(written_kernel::specs::Step::step))]
     pub fn go_on(&mut self, alloc: Global, t: Tid) -> Result<Stepped, NoMemory>
         requires numbers { HasNumbersLeft (stored_state self.old.store) }
+        requires live { HasLiveCalls (stored_state self.old.store) }
         requires current { IsCurrent self.old.runnable (stored_state self.old.store) }
         ensures step { IfOk result (λ s. IsStep (step (stored_state self.old.store) t.0 None) (stored_state self.new.store) s) }
         ensures current { IsCurrent self.new.runnable (stored_state self.new.store) }

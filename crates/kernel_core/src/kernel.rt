@@ -78,9 +78,8 @@ impl Kernel {
         }
     }
 
-    /// A kernel entry of a thread that runs. Where it is refused, it answers the refusal and nothing changes but the
-    /// number of events. Want of memory
-    /// leaves the kernel as it was.
+    /// A kernel entry of a thread that runs. Where it is refused, it answers the refusal and nothing changes but the number
+    /// of events. Want of memory leaves the kernel as it was.
     pub fn enter(&mut self, t: Tid, request: Request) -> Result<Stepped, NoMemory>
         requires running { is_running self.old t.0 ≡ true }
         requires fit { IsFit self.old t.0 request }

@@ -6,9 +6,10 @@ ghost use Rattle.kernel_records.specs.declared.record.ThreadState.TheVariants.{D
 ghost use Rattle.dk_base.specs.ByNumber.{at_number};
 ghost use Rattle.kernel_records.specs.Words.{ProcessTable, end_process, end_thread, ended_thread, ended_thread_of, enter_thread, give_thread, idle_thread, invocation_in, is_last, keeps_alive, park_thread, process_in, set_thread_state, state_in, thread_at, thread_at_state, thread_in_invocation, with_ended, with_ended_threads};
 ghost use Rattle.written_kernel.specs.Words.{new_process, new_thread};
+ghost use Rattle.kernel_core.specs.Idle.{is_idle_thread};
 
 use crate::numbered::numbered_item;
-use crate::stage::is_active;
+use crate::stage::{is_active, is_idle_thread};
 use dk_base::error::NoMemory;
 use dk_base::number::{Pid, Tid};
 use dk_base::object::{Inv, Item};
@@ -185,6 +186,13 @@ impl Processes {
         ensures { result ≡ is_last self.now t.0 p.0 }
     {
         !has_another(&self.threads, t, p)
+    }
+
+    /// Whether a thread is parked.
+    pub fn has_idle(&self) -> bool
+        ensures { result ≡ list_any is_idle_thread self.now.threads }
+    {
+        self.threads.iter().any(|thread| is_idle_thread(thread))
     }
 
     /// A thread turns to another state. A number that no thread has changes nothing, here and below.

@@ -28,8 +28,9 @@ fn list_runnable(store: &Store, list: &mut Room<bool>)
     ensures items { list.new.items ≡ runnables (stored_state store.now) (length (stored_state store.now).process_table.threads) }
     ensures spare { list.old.spare ≤ length list.new.items + list.new.spare }
 {
+    let ready = store.calls.has_ready();
     for i in 0..store.processes.thread_count() {
-        list.push(runnable(store, Tid(i + 1)));
+        list.push(runnable(store, Tid(i + 1), ready));
     }
 }
 

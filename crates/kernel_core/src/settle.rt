@@ -1,8 +1,10 @@
 //! What follows each act: what waits is given to idle threads.
 ghost use Rattle.std.specs.Prelude.{◌≡◌, ◌<◌, ◌≤◌, [], length};
+ghost use Rattle.std.specs.List.{list_any};
 ghost use Rattle.std.specs.Option.{option_copied};
 ghost use Rattle.kernel_records.specs.Words.{better_parked, later_parked, parked_at};
 ghost use Rattle.written_kernel.specs.Words.{State, bound_of, give_each, give_one, give_to, pick, pool_of, settle};
+ghost use Rattle.kernel_core.specs.Idle.{is_idle_thread};
 ghost use Rattle.kernel_core.specs.Stored.{stored_state};
 
 use crate::store::{Store, is_same_pool};
@@ -78,11 +80,25 @@ fn give_to(store: &mut Store, waiting: &Waiting)
     }
 }
 
+/// The same, for which nothing is to be done where no thread is idle. Whether one is idle afterwards.
+fn give_next(store: &mut Store, idle: bool, waiting: &Waiting) -> bool
+    requires { idle ≡ list_any is_idle_thread (stored_state store.old).process_table.threads }
+    ensures state { stored_state store.new ≡ give_to (stored_state store.old) waiting.now (pick (stored_state store.old) (pool_of (stored_state store.old) waiting.now.door)) }
+    ensures idle { result ≡ list_any is_idle_thread (stored_state store.new).process_table.threads }
+{
+    if !idle {
+        return false;
+    }
+    give_to(store, waiting);
+    store.processes.has_idle()
+}
+
 fn give_each(store: &mut Store, waiting: &[Waiting])
     ensures { stored_state store.new ≡ give_each (stored_state store.old) waiting.now }
 {
+    let mut idle = store.processes.has_idle();
     for item in waiting {
-        give_to(store, item);
+        idle = give_next(store, idle, item);
     }
 }
 
@@ -92,6 +108,8 @@ pub fn settle(store: &mut Store, waiting: &mut Room<Waiting>)
     requires room { length store.old.calls.list.items ≤ waiting.old.spare }
     ensures { (before : State) → stored_state store.new ≡ settle before (stored_state store.old) }
 {
-    store.list_waiting(waiting);
-    give_each(store, waiting.slice());
+    if store.processes.has_idle() {
+        store.list_waiting(waiting);
+        give_each(store, waiting.slice());
+    }
 }

@@ -1,22 +1,10 @@
 ghost use Rattle.std.specs.Prelude.{◌≡◌};
-ghost use Rattle.kernel_records.specs.Words.{is_active, is_client_call_of, is_entered_by, is_given_as, is_given_to, is_live, is_live_call, is_queued, is_queued_as, is_to_collect_as, is_served_by, is_to_collect};
+ghost use Rattle.kernel_records.specs.Words.{is_active, is_client_call_of, is_entered_by, is_given_as, is_given_to, is_queued, is_queued_as, is_to_collect_as, is_served_by, is_to_collect};
 ghost use Rattle.written_kernel.specs.Words.{is_running_state};
+ghost use Rattle.kernel_core.specs.Idle.{is_idle_thread, is_ready_call};
 
 use dk_base::number::Tid;
-use kernel_records::record::{Call, CallStage, ThreadState};
-
-fn is_live(stage: &CallStage) -> bool
-    ensures { result ≡ is_live stage.now }
-{
-    !matches!(stage, CallStage::Gone | CallStage::Answered { .. })
-}
-
-/// Whether a call is neither answered nor left by a caller that ended.
-pub fn is_live_call(call: &Call) -> bool
-    ensures { result ≡ is_live_call call.now }
-{
-    is_live(&call.stage)
-}
+use kernel_records::record::{Call, CallStage, Thread, ThreadState};
 
 pub fn is_queued(stage: &CallStage) -> bool
     ensures { result ≡ is_queued stage.now }
@@ -82,6 +70,20 @@ pub fn is_to_collect_as(call: &Call, c: u32) -> bool
     ensures { result ≡ is_to_collect_as c call.now }
 {
     call.number == c && is_to_collect(&call.stage)
+}
+
+/// Whether a call's caller can collect it.
+pub fn is_ready_call(call: &Call) -> bool
+    ensures { result ≡ is_ready_call call.now }
+{
+    is_to_collect(&call.stage)
+}
+
+/// Whether a thread is parked.
+pub fn is_idle_thread(thread: &Thread) -> bool
+    ensures { result ≡ is_idle_thread thread.now }
+{
+    matches!(thread.state, ThreadState::Idle { .. })
 }
 
 /// Whether a thread keeps its process from ending.

@@ -1,8 +1,10 @@
 //! Which threads can take a turn.
 ghost use Rattle.std.specs.Prelude.{◌≡◌, is_some};
 ghost use Rattle.std.specs.Option.{option_map};
+ghost use Rattle.std.specs.List.{list_any};
 ghost use Rattle.written_kernel.specs.Words.{caller_of, has_answer, is_runnable, root};
 ghost use Rattle.kernel_core.specs.Stored.{stored_state};
+ghost use Rattle.kernel_core.specs.Idle.{is_ready_call};
 
 use crate::store::Store;
 use dk_base::number::Tid;
@@ -15,8 +17,9 @@ fn has_answer(store: &Store, c: u32) -> bool
     store.calls.ready(c).is_some()
 }
 
-/// Whether a thread runs, or its wait can end.
-pub fn runnable(store: &Store, t: Tid) -> bool
+/// Whether a thread runs, or its wait can end. `ready` is whether there is a call to collect: without one no caller is asked for.
+pub fn runnable(store: &Store, t: Tid, ready: bool) -> bool
+    requires { ready ≡ list_any is_ready_call (stored_state store.now).call_tree.calls }
     ensures { result ≡ is_runnable (stored_state store.now) t.0 }
 {
     match store.processes.state(t) {
@@ -24,7 +27,7 @@ pub fn runnable(store: &Store, t: Tid) -> bool
         | ThreadState::Given { .. }
         | ThreadState::Working { .. }
         | ThreadState::FailedReturn => true,
-        ThreadState::Calling { call } => has_answer(store, *call),
+        ThreadState::Calling { call } => ready && has_answer(store, *call),
         ThreadState::Getting { interrupted, .. } => *interrupted,
         ThreadState::Awaiting { path } => store.name_of(*path).is_some(),
         ThreadState::Dormant | ThreadState::Idle { .. } | ThreadState::Done => false,

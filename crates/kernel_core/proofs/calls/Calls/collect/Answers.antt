@@ -1,13 +1,17 @@
-use Rattle.std.proofs.Common.{Some, ap, sym, ◌∙◌}
+use Rattle.std.proofs.Common.{ap, sym, ◌∙◌}
 use Rattle.kernel_records.specs.declared.record.CallStage.TheVariants as stage
-use Rattle.kernel_records.specs.Words.{is_to_collect_as, without_arguments_at}
-use Rattle.kernel_core.proofs.Places.{changed_there, changed_nowhere, found_there, find_nowhere}
+use Rattle.kernel_records.specs.Words.{is_live_call, is_to_collect_as, without_arguments_at}
+use Rattle.std.specs.Prelude.{filter}
+use Rattle.kernel_core.proofs.Places.{changed_nowhere, found_there, find_nowhere}
+use Rattle.kernel_core.proofs.Live.{live_same, removed_there}
 use Rattle.kernel_core.proofs.calls.Calls.collect.Goals as goal
 
 pub returns-in_default-clause-after : goal.returns-in_default-clause-after
 returns-in_default-clause-after c =
+    λ at.
     ap (λ rs. record { made = c.args.self.now.made; calls = rs })
-    (sym (changed_nowhere (is_to_collect_as c.args.c) (without_arguments_at (stage.Answered c.args.at)) c.args.self.now.list.items (cc)))
+    (sym (ap (filter is_live_call) (changed_nowhere (is_to_collect_as c.args.c) (without_arguments_at (stage.Answered at)) c.args.self.now.list.items (cc))
+    ∙ live_same c.args.self.now.list.items c.requires))
 
 pub returns-in_default-clause-before : goal.returns-in_default-clause-before
 returns-in_default-clause-before c =
@@ -16,10 +20,11 @@ returns-in_default-clause-before c =
 
 pub returns-clause-after : goal.returns-clause-after
 returns-clause-after c =
+    λ at.
     ap (λ rs. record { made = c.args.self.now.made; calls = rs })
-    (changed_there (is_to_collect_as c.args.c) (without_arguments_at (stage.Answered c.args.at)) c.args.self.now.list.items c.in-Some.place _ c.move_on.new.call (cc) c.index_mut-call.ensures.value c.move_on.ensures.after)
+    (c.remove.ensures.items
+    ∙ removed_there c.args.c at c.args.self.now.list.items c.in-Some.place c.remove.result c.requires (cc))
 
 pub returns-clause-before : goal.returns-clause-before
 returns-clause-before c =
-    ap (λ r. Some r) c.move_on.ensures.before
-    ∙ found_there (is_to_collect_as c.args.c) c.args.self.now.list.items c.in-Some.place _ (cc) c.index_mut-call.ensures.value
+    found_there (is_to_collect_as c.args.c) c.args.self.now.list.items c.in-Some.place _ (cc) c.remove.ensures.value

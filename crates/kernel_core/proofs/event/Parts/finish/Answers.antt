@@ -1,10 +1,9 @@
 use Rattle.std.proofs.Common.{length, ap, sym, subst, ◌∙◌, arith}
-use Rattle.kernel_records.specs.Words.{CallTree}
-use Rattle.written_kernel.specs.Words.{State, forget, with_event_counted, woken_threads}
+use Rattle.written_kernel.specs.Words.{State, with_event_counted, woken_threads}
 use Rattle.kernel_core.specs.Stored.{stored_state}
-use Rattle.kernel_core.specs.Woken.{HasListRoom, IsCurrent}
+use Rattle.kernel_core.specs.Woken.{HasListRoom}
 use Rattle.kernel_core.proofs.Grows.{events_settle, threads_settle}
-use Rattle.kernel_core.proofs.Readers.{current-forget}
+use Rattle.kernel_core.proofs.Steps.{settled_kept}
 use Rattle.kernel_core.proofs.event.Parts.finish.Goals as goal
 
 pub count-requires : goal.count-requires
@@ -34,8 +33,8 @@ advance-requires-clause-woken_room c =
 pub returns-clause-state : goal.returns-clause-state
 returns-clause-state c =
     λ before.
-    ap (λ (tree : CallTree). record (stored_state c.count.new.self) { call_tree = tree }) c.forget.ensures
-    ∙ ap forget (c.count.ensures ∙ ap with_event_counted (c.settle.ensures before))
+    settled_kept before (stored_state c.args.self.now.store) (stored_state c.count.new.self) c.requires.live
+    (c.count.ensures ∙ ap with_event_counted (c.settle.ensures before))
 
 pub returns-clause-woken : goal.returns-clause-woken
 returns-clause-woken c =
@@ -43,9 +42,3 @@ returns-clause-woken c =
     c.into_list.ensures
     ∙ c.advance.ensures.woken before h
     ∙ ap (woken_threads before) (c.count.ensures ∙ ap with_event_counted (c.settle.ensures before))
-
-pub returns-clause-current : goal.returns-clause-current
-returns-clause-current c =
-    subst (IsCurrent c.advance.new.self)
-    (sym (ap (λ (tree : CallTree). record (stored_state c.count.new.self) { call_tree = tree }) c.forget.ensures))
-    (current-forget c.advance.new.self (stored_state c.count.new.self) c.advance.ensures.current)

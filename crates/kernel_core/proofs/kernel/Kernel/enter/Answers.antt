@@ -1,6 +1,7 @@
-use Rattle.std.proofs.Common.{◌≡◌, ◌∙◌, Some}
+use Rattle.std.proofs.Common.{◌∙◌, Some}
 use Rattle.kernel_core.specs.Stored.{stored_state}
 use Rattle.kernel_core.proofs.Kept.{kept_result, refused_result, refused_stands}
+use Rattle.kernel_core.proofs.Live.{stands_live}
 use Rattle.kernel_core.proofs.Steps.{step_stands, step_within, step_small}
 use Rattle.kernel_core.proofs.kernel.Kernel.enter.Goals as goal
 
@@ -12,6 +13,10 @@ invariant_of-self c =
       step_within kept c.args.self.now new c.args.t.0 (Some c.args.request) c.enter.result c.self.view_is c.self.invariant.1 c.requires.few c.enter.ensures.step c.enter.ensures.err,
       c.enter.ensures.current,
     )
+
+pub enter-requires-clause-live : goal.enter-requires-clause-live
+enter-requires-clause-live c =
+    stands_live (stored_state c.self.inside.parts.store) c.self.invariant.0.written c.self.invariant.0.stands
 
 pub returns-clause-step : goal.returns-clause-step
 returns-clause-step c =

@@ -1,6 +1,7 @@
 use Rattle.std.proofs.Common.{None}
 use Rattle.kernel_core.specs.Stored.{stored_state}
 use Rattle.kernel_core.proofs.Kept.{kept_result}
+use Rattle.kernel_core.proofs.Live.{stands_live}
 use Rattle.kernel_core.proofs.Steps.{step_stands, step_within, step_small}
 use Rattle.kernel_core.proofs.kernel.Kernel.go_on.Goals as goal
 
@@ -12,6 +13,10 @@ invariant_of-self c =
       step_within kept c.args.self.now new c.args.t.0 None c.go_on.result c.self.view_is c.self.invariant.1 c.requires.few c.go_on.ensures.step c.go_on.ensures.err,
       c.go_on.ensures.current,
     )
+
+pub go_on-requires-clause-live : goal.go_on-requires-clause-live
+go_on-requires-clause-live c =
+    stands_live (stored_state c.self.inside.parts.store) c.self.invariant.0.written c.self.invariant.0.stands
 
 pub returns-clause-step : goal.returns-clause-step
 returns-clause-step c =

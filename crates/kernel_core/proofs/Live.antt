@@ -1,0 +1,157 @@
+-- A kernel keeps live calls alone: acts and giving leave live calls live, and a call that is answered leaves the list.
+use Rattle.std.proofs.Common.{◌≡◌, ℕ, suc, ◌+◌, ◌<◌, ◌++◌, ◌&&◌, Bool, true, false, not, cond, if◌then◌else◌, List, [], ◌∷◌, Option, Some, None, filter, length, map, remove, refl, sym, subst, ap, ◌∙◌, arith, position}
+use Rattle.std.specs.List.{position_or_len}
+use Rattle.written_kernel.specs.Types.{Call, Door, Errno, Item, Name, Parked, PathId, Request, ThreadState, Waiting}
+use Rattle.dk_base.specs.declared.error.Errno.TheVariants.{EBADF}
+use Rattle.dk_base.specs.declared.object.Item.TheVariants as item
+use Rattle.dk_base.specs.declared.request.Request.TheVariants as request
+use Rattle.kernel_records.specs.declared.record.ThreadState.TheVariants as is
+use Rattle.kernel_records.specs.declared.record.CallStage.TheVariants as stage
+use Rattle.dk_base.specs.ByNumber.{at_number}
+use Rattle.kernel_records.specs.Words.{at_stage, change_first, is_client_call_of, is_given_as, is_last, is_live_call, is_owned_by, is_queued, is_queued_as, is_to_collect_as, tid, without_arguments_at}
+use Rattle.written_kernel.specs.Words.{State, StandsFor, accept, accept_call, await, await_name, effect, ended_call, enter, exit, find_call, forget, give_each, give_one, give_to, go_on, leave_process, leave_thread, name_of, pick, pool_of, refusal_of, settle, unless_refused, waiting_items}
+use Rattle.std.proofs.lemmas.List.Quantifiers.{position-Some}
+use Rattle.kernel_core.specs.Kept.{AreLive, HasLiveCalls}
+use Rattle.kernel_core.proofs.Places.{position_is}
+
+-- lists
+
+pub live_filter : (rs : List Call) → AreLive (filter is_live_call rs)
+live_filter [] = tt
+live_filter (r ∷ rs) = go (is_live_call r) refl (live_filter rs)
+  where
+    go :
+        (b : Bool) → is_live_call r ≡ b → AreLive (filter is_live_call rs) →
+        AreLive (cond b (r ∷ filter is_live_call rs) (filter is_live_call rs))
+    go true e h = (e, h)
+    go false e h = h
+
+pub live_same : (rs : List Call) → AreLive rs → filter is_live_call rs ≡ rs
+live_same [] h = refl
+live_same (r ∷ rs) h =
+    ap (λ b. cond b (r ∷ filter is_live_call rs) (filter is_live_call rs)) h.0 ∙ ap (λ xs. r ∷ xs) (live_same rs h.1)
+
+changed_live :
+    (test : Call → Bool) (change : Call → Call) (rs : List Call) → ((r : Call) → is_live_call (change r) ≡ true) → AreLive rs →
+    AreLive (change_first test change rs)
+changed_live test change [] s h = tt
+changed_live test change (r ∷ rs) s h =
+    elim (test r) as (λ b. AreLive (if b then change r ∷ rs else r ∷ change_first test change rs))
+    [ true ↦ (s r, h.1) | false ↦ (h.0, changed_live test change rs s h.1) ]
+
+pushed_live : (rs : List Call) (r : Call) → is_live_call r ≡ true → AreLive rs → AreLive (rs ++ r ∷ [])
+pushed_live [] r e h = (e, tt)
+pushed_live (x ∷ rs) r e h = (h.0, pushed_live rs r e h.1)
+
+ended_live : (doors : List Door) (p : ℕ) (r : Call) → is_live_call r ≡ true → is_live_call (ended_call doors p r) ≡ true
+ended_live doors p r e = go (is_queued r.stage && is_owned_by p (at_number doors r.door))
+  where
+    go : (b : Bool) → is_live_call (if b then without_arguments_at (stage.Ended EBADF) r else r) ≡ true
+    go true = refl
+    go false = e
+
+all_ended_live : (doors : List Door) (p : ℕ) (rs : List Call) → AreLive rs → AreLive (map (ended_call doors p) rs)
+all_ended_live doors p [] h = tt
+all_ended_live doors p (r ∷ rs) h = (ended_live doors p r h.0, all_ended_live doors p rs h.1)
+
+-- a call that is answered leaves the list
+pub first_removed :
+    (test : Call → Bool) (change : Call → Call) (rs : List Call) → ((r : Call) → is_live_call (change r) ≡ false) → AreLive rs →
+    position_or_len test rs < length rs → filter is_live_call (change_first test change rs) ≡ remove rs (position_or_len test rs)
+first_removed test change [] s h k = absurd (omega arith)
+first_removed test change (r ∷ rs) s h k =
+    elim (test r) as (λ b. cond (not b) (1 + position_or_len test rs) 0 < suc (length rs) → filter is_live_call (if b then change r ∷ rs else r ∷ change_first test change rs) ≡ remove (r ∷ rs) (cond (not b) (1 + position_or_len test rs) 0)) [
+      | true ↦ λ _. ap (λ b. cond b (change r ∷ filter is_live_call rs) (filter is_live_call rs)) (s r) ∙ live_same rs h.1
+      | false ↦ λ z.
+          let e : 1 + position_or_len test rs ≡ suc (position_or_len test rs) = omega arith in
+          rw e (ap (λ b. cond b (r ∷ filter is_live_call (change_first test change rs)) (filter is_live_call (change_first test change rs))) h.0 ∙ ap (λ xs. r ∷ xs) (first_removed test change rs s h.1 (omega arith)))
+    ] k
+
+pub removed_there :
+    (c at : ℕ) (rs : List Call) (i : ℕ) (d : Call) → AreLive rs → position (is_to_collect_as c) rs ≡ Some i →
+    remove rs i ≡ filter is_live_call (change_first (is_to_collect_as c) (without_arguments_at (stage.Answered at)) rs)
+removed_there c at rs i d h e =
+    let k = position_is (is_to_collect_as c) rs i e in
+    let w = position-Some (is_to_collect_as c) rs i d e in
+    let z = first_removed (is_to_collect_as c) (without_arguments_at (stage.Answered at)) rs (λ r. refl) h (omega (arith, k, w.0)) in
+    ap (remove rs) k ∙ sym z
+
+-- states
+
+pub live_state : (m : State) → HasLiveCalls m → forget m ≡ m
+live_state m h = ap (λ rs. record m { call_tree = record m.call_tree { calls = rs } }) (live_same m.call_tree.calls h)
+
+pub live_forget : (m : State) → HasLiveCalls (forget m)
+live_forget m = live_filter m.call_tree.calls
+
+pub stands_live : (kept m : State) → StandsFor kept m → HasLiveCalls kept
+stands_live kept m e = subst HasLiveCalls (sym e) (live_forget m)
+
+-- what is such a state of which all calls are live stands for it
+pub is_kept : (n m : State) → HasLiveCalls m → n ≡ m → StandsFor n m
+is_kept n m h e = e ∙ sym (live_state m h)
+
+-- acts: no entry forgets a call
+
+await_live : (m : State) (t : ℕ) (path : PathId) → HasLiveCalls m → HasLiveCalls (await m t path).state
+await_live m t path h = go (name_of m path)
+  where
+    go : (o : Option Name) → HasLiveCalls (await_name m t path o).state
+    go None = h
+    go (Some n) = h
+
+exit_live : (m : State) (t p : ℕ) → HasLiveCalls m → HasLiveCalls (exit m t p).state
+exit_live m t p h = go (is_last m.process_table t p)
+  where
+    go : (b : Bool) → HasLiveCalls (if b then leave_process m p else leave_thread m t)
+    go true = all_ended_live m.doors p m.call_tree.calls h
+    go false = h
+
+effect_live : (m : State) (t p : ℕ) (r : Request) → HasLiveCalls m → HasLiveCalls (effect m t p r).state
+effect_live m t p (request.Call fd bytes pass rsize) h = pushed_live m.call_tree.calls _ refl h
+effect_live m t p (request.Return bytes pass) h = changed_live (is_client_call_of t) _ m.call_tree.calls (λ r. refl) h
+effect_live m t p (request.Await path) h = await_live m t path h
+effect_live m t p request.Exit h = exit_live m t p h
+effect_live m t p _ h = h
+
+pub enter_live : (m : State) (t p : ℕ) (r : Request) → HasLiveCalls m → HasLiveCalls (enter m t p r).state
+enter_live m t p r h = go (refusal_of m t p r)
+  where
+    go : (o : Option Errno) → HasLiveCalls (unless_refused m o (effect m t p r)).state
+    go (Some e) = h
+    go None = effect_live m t p r h
+
+accept_live : (m : State) (t p : ℕ) (i : Item) → HasLiveCalls m → HasLiveCalls (accept m t p i).state
+accept_live m t p (item.Call c) h = go (find_call m (is_given_as c t))
+  where
+    go : (o : Option Call) → HasLiveCalls (accept_call m t c o).state
+    go None = h
+    go (Some r) = changed_live (is_given_as c t) _ m.call_tree.calls (λ r. refl) h
+accept_live m t p (item.Notice n) h = h
+
+-- the end of a wait forgets no call, but for a collect
+pub go_on_live :
+    (m : State) (t p : ℕ) (s : ThreadState) → HasLiveCalls m → ((c : ℕ) → s ≡ is.Calling c → ⊥) → HasLiveCalls (go_on m t p s).state
+go_on_live m t p (is.Given i) h e = accept_live m t p i h
+go_on_live m t p (is.Calling c) h e = absurd (e c refl)
+go_on_live m t p (is.Awaiting path) h e = h
+go_on_live m t p (is.Working op input) h e = h
+go_on_live m t p s h e = h
+
+-- giving
+
+give_one_live : (m : State) (i : Item) (u : ℕ) → HasLiveCalls m → HasLiveCalls (give_one m i u)
+give_one_live m (item.Call c) u h = changed_live (is_queued_as c) (at_stage (stage.Given (tid u))) m.call_tree.calls (λ r. refl) h
+give_one_live m (item.Notice n) u h = h
+
+give_to_live : (m : State) (w : Waiting) (o : Option Parked) → HasLiveCalls m → HasLiveCalls (give_to m w o)
+give_to_live m w None h = h
+give_to_live m w (Some x) h = give_one_live m w.item x.thread.0 h
+
+give_each_live : (ws : List Waiting) (m : State) → HasLiveCalls m → HasLiveCalls (give_each m ws)
+give_each_live [] m h = h
+give_each_live (w ∷ ws) m h =
+    give_each_live ws (give_to m w (pick m (pool_of m w.door))) (give_to_live m w (pick m (pool_of m w.door)) h)
+
+pub settle_live : (before m : State) → HasLiveCalls m → HasLiveCalls (settle before m)
+settle_live before m h = give_each_live (waiting_items m) m h

@@ -1,0 +1,36 @@
+use Rattle.std.proofs.Common.{arith}
+use Rattle.written_kernel.specs.Words.{go_on, process_of, state_of}
+use Rattle.kernel_core.specs.Stored.{stored_state}
+use Rattle.kernel_core.proofs.Live.{go_on_live, is_kept}
+use Rattle.kernel_core.proofs.acts.go_on.Goals as goal
+
+pub returns-in-Given-clause-state : goal.returns-in-Given-clause-state
+returns-in-Given-clause-state c =
+    let m = stored_state c.args.store.now in
+    let s = state_of m c.args.t.0 in
+    let p = process_of m c.args.t.0 in
+    is_kept (stored_state c.accept.new.store) (go_on m c.args.t.0 p s).state (go_on_live m c.args.t.0 p s c.requires.live (λ k e. grind arith)) (grind arith)
+
+pub returns-in-Awaiting-clause-state : goal.returns-in-Awaiting-clause-state
+returns-in-Awaiting-clause-state c =
+    let m = stored_state c.args.store.now in
+    let s = state_of m c.args.t.0 in
+    let p = process_of m c.args.t.0 in
+    is_kept (stored_state c.found.new.store) (go_on m c.args.t.0 p s).state (go_on_live m c.args.t.0 p s c.requires.live (λ k e. grind arith)) (grind arith)
+
+pub returns-in-Working-clause-state : goal.returns-in-Working-clause-state
+returns-in-Working-clause-state c =
+    let m = stored_state c.args.store.now in
+    let s = state_of m c.args.t.0 in
+    let p = process_of m c.args.t.0 in
+    is_kept (stored_state c.end_work.new.store) (go_on m c.args.t.0 p s).state (go_on_live m c.args.t.0 p s c.requires.live (λ k e. grind arith)) (grind arith)
+
+pub returns-in_default : goal.returns-in_default
+returns-in_default c =
+    let m = stored_state c.args.store.now in
+    let s = state_of m c.args.t.0 in
+    let p = process_of m c.args.t.0 in
+    record {
+      state = is_kept m (go_on m c.args.t.0 p s).state (go_on_live m c.args.t.0 p s c.requires.live (λ k e. grind arith)) (grind arith);
+      answer = grind arith;
+    }
