@@ -1,16 +1,16 @@
 -- What an act and what follows it add to a state: a door and a call at most, and calls of few bytes.
-use Rattle.std.proofs.Common.{◌≡◌, ℕ, suc, ◌+◌, ◌≤◌, ◌&&◌, ◌++◌, Bool, true, false, if◌then◌else◌, not, nat_lt, is_some, List, [], ◌∷◌, Option, Some, None, length, map, find, filter, refl, ap, ◌∙◌, subst, sym, arith, length-append}
+use Rattle.std.proofs.Common.{◌≡◌, ℕ, suc, ◌+◌, ◌≤◌, ◌&&◌, ◌++◌, Bool, true, false, if◌then◌else◌, not, nat_lt, is_some, List, [], ◌∷◌, Option, Some, None, length, map, find, filter, refl, ap, ◌∙◌, subst, sym, arith, length-append, ◌||◌}
 use Rattle.std.proofs.lemmas.Bool.{ltb-false}
 use Rattle.std.proofs.lemmas.List.{length-map}
-use Rattle.written_kernel.specs.Types.{Attrs, Call, CallStage, Door, Errno, Fd, Item, Name, Parked, Pass, PathId, Process, Request, Thread, ThreadState, Waiting}
-use Rattle.dk_base.specs.declared.error.Errno.TheVariants.{EBADF, E2BIG}
+use Rattle.written_kernel.specs.Types.{Attrs, Call, CallStage, Door, Errno, Fd, Item, Name, Parked, Pass, PathId, Process, Request, Thread, ThreadState, Waiting, Param}
+use Rattle.dk_base.specs.declared.error.Errno.TheVariants.{EBADF, E2BIG, ENFILE, ENOBUFS, ENOTSUP}
 use Rattle.dk_base.specs.declared.object.Item.TheVariants as item
 use Rattle.dk_base.specs.declared.request.Request.TheVariants as request
 use Rattle.kernel_records.specs.declared.record.ThreadState.TheVariants as is
 use Rattle.kernel_records.specs.declared.record.CallStage.TheVariants as stage
 use Rattle.dk_base.specs.ByNumber.{at_number}
-use Rattle.kernel_records.specs.Words.{CallTree, ProcessTable, at_stage, change_first, change_thread, change_thread_in, end_process, ended_thread, ended_thread_of, idle_thread, is_client_call_of, is_given_as, is_last, is_live_call, is_owned_by, is_queued, is_queued_as, is_to_collect_as, thread_at, thread_at_state, thread_in_invocation, tid, with_ended, with_ended_threads, without_arguments_at}
-use Rattle.written_kernel.specs.Words.{ActResult, StandsFor, State, accept, accept_call, act, attach, await, await_name, call, call_tests, client_call, collect, collect_answer, collect_answer_in, create, door_named, effect, ended_call, enter, exit, find_call, first_refusal, give_each, give_one, give_to, go_on, is_valid, leave_process, leave_thread, name_of, new_call, no_act, now, object_at, open_path, pick, pool_of, process_of, refusal_of, refused_act, return, return_tests, settle, state_of, unless_refused, waiting_items}
+use Rattle.kernel_records.specs.Words.{CallTree, ProcessTable, at_stage, change_first, change_thread, change_thread_in, end_process, ended_thread, ended_thread_of, first_refusal, idle_thread, is_client_call_of, is_given_as, is_last, is_live_call, is_owned_by, is_queued, is_queued_as, is_to_collect_as, thread_at, thread_at_state, thread_in_invocation, tid, with_ended, with_ended_threads, without_arguments_at, Test, change_door, change_door_in, refused_where, with_param, has_refused_size, has_too_many, is_valid_in, refuses_descriptors_in}
+use Rattle.written_kernel.specs.Words.{ActResult, StandsFor, State, accept, accept_call, act, attach, await, await_name, call, call_tests, client_call, collect, collect_answer, collect_answer_in, create, door_named, effect, ended_call, enter, exit, find_call, give_each, give_one, give_to, go_on, leave_process, leave_thread, name_of, new_call, no_act, now, object_at, open_path, pick, pool_of, process_of, refusal_of, refused_act, return, return_tests, settle, state_of, unless_refused, waiting_items, close, dup, detach, set_parameter, door_at, door_of, pool_tests}
 use Rattle.written_kernel.proofs.Lists.{length-with_at_number}
 use Rattle.kernel_core.specs.Within.{IsSmallStage, IsSmallCall, AreSmall, IsSmall}
 
@@ -183,6 +183,28 @@ attach-tidy m p fd path = door-tidy m (attach m p fd path).state (attach m p fd 
 open_path-tidy : (m : State) (p : ℕ) (path : PathId) → IsTidy m (open_path m p path)
 open_path-tidy m p path = door-tidy m (open_path m p path).state (open_path m p path) refl refl refl refl (omega arith) tt
 
+close-tidy : (m : State) (p : ℕ) (fd : Fd) → IsTidy m (close m p fd)
+close-tidy m p fd = door-tidy m (close m p fd).state (close m p fd) refl refl refl refl (omega arith) tt
+
+dup-tidy : (m : State) (p : ℕ) (fd : Fd) → IsTidy m (dup m p fd)
+dup-tidy m p fd = door-tidy m (dup m p fd).state (dup m p fd) refl refl refl refl (omega arith) tt
+
+detach-tidy : (m : State) (path : PathId) → IsTidy m (detach m path)
+detach-tidy m path = door-tidy m (detach m path).state (detach m path) refl refl refl refl (omega arith) tt
+
+length-change_door : (doors : List Door) (d : ℕ) (change : Door → Door) → length (change_door doors d change) ≡ length doors
+length-change_door doors d change = go (at_number doors d)
+  where
+    go : (o : Option Door) → length (change_door_in doors d change o) ≡ length doors
+    go None = refl
+    go (Some x) = length-with_at_number doors d (change x)
+
+set_parameter-tidy : (m : State) (p : ℕ) (fd : Fd) (x : Param) (value : ℕ) → IsTidy m (set_parameter m p fd x value)
+set_parameter-tidy m p fd x value =
+    door-tidy m (set_parameter m p fd x value).state (set_parameter m p fd x value) refl refl refl refl
+    (omega (arith, length-change_door m.doors (door_at m p fd) (with_param x value)))
+    tt
+
 await-tidy : (m : State) (t : ℕ) (path : PathId) → IsTidy m (await m t path)
 await-tidy m t path = go (name_of m path)
   where
@@ -190,19 +212,48 @@ await-tidy m t path = go (name_of m path)
     go (Some n) = record { grows = grows_same 1 m; small = λ h. tt }
     go None = record { grows = thread-grows 1 m t (thread_at_state (is.Awaiting path)); small = λ h. tt }
 
+-- the act of a test that did not hold
+passes : (b : Bool) (e : Errno) (xs : List Test) → first_refusal (refused_where b e ∷ xs) ≡ None → (b ≡ false) × (first_refusal xs ≡ None)
+passes true e xs h = absurd (grind arith)
+passes false e xs h = (refl, h)
+
 -- the bytes of a call that is not refused
 few_bytes : (m : State) (p : ℕ) (fd : Fd) (bytes : List ℕ) (pass : List Pass) → first_refusal (call_tests m p fd bytes pass) ≡ None → length bytes ≤ 4096
-few_bytes m p fd bytes pass e = go (is_valid m (door_named (object_at m p fd))) (nat_lt 4096 (length bytes)) refl e
+few_bytes m p fd bytes pass e =
+    let valid = passes (not (is_valid_in o)) EBADF from_size e in
+    let size = passes (has_refused_size n o) ENOBUFS from_refusing valid.1 in
+    let refusing = passes (nat_lt 0 k && refuses_descriptors_in o) ENOTSUP from_many size.1 in
+    let many = passes (has_too_many k o) ENFILE from_long refusing.1 in
+    let long = passes (nat_lt 4096 n || nat_lt 16 k) E2BIG (pool_tests m d) many.1 in
+    go (nat_lt 4096 n) (nat_lt 16 k) refl long.0
   where
-    rest : Option Errno
-    rest = first_refusal (Rattle.written_kernel.specs.Doors.pool_tests m (door_named (object_at m p fd)))
+    d : ℕ
+    d = door_named (object_at m p fd)
 
-    go :
-        (valid many : Bool) → nat_lt 4096 (length bytes) ≡ many →
-        (if not valid then Some EBADF else (if many then Some E2BIG else rest)) ≡ None → length bytes ≤ 4096
-    go true true q e = cc
-    go true false q e = ltb-false 4096 (length bytes) q
-    go false many q e = cc
+    o : Option Door
+    o = door_of m d
+
+    n : ℕ
+    n = length bytes
+
+    k : ℕ
+    k = length pass
+
+    from_long : List Test
+    from_long = refused_where (nat_lt 4096 n || nat_lt 16 k) E2BIG ∷ pool_tests m d
+
+    from_many : List Test
+    from_many = refused_where (has_too_many k o) ENFILE ∷ from_long
+
+    from_refusing : List Test
+    from_refusing = refused_where (nat_lt 0 k && refuses_descriptors_in o) ENOTSUP ∷ from_many
+
+    from_size : List Test
+    from_size = refused_where (has_refused_size n o) ENOBUFS ∷ from_refusing
+
+    go : (a b : Bool) → nat_lt 4096 (length bytes) ≡ a → (a || b) ≡ false → length bytes ≤ 4096
+    go true b q h = absurd (grind arith)
+    go false b q h = ltb-false 4096 (length bytes) q
 
 call-tidy :
     (m : State) (t p : ℕ) (fd : Fd) (bytes : List ℕ) (pass : List Pass) (rsize : ℕ) → length bytes ≤ 4096 →
@@ -226,14 +277,14 @@ call-tidy m t p fd bytes pass rsize few =
 few_results :
     (m : State) (t p : ℕ) (bytes : List ℕ) (pass : List Pass) → first_refusal (return_tests m t p bytes pass) ≡ None →
     is_some (client_call m t) ≡ true → length bytes ≤ 4096
-few_results m t p bytes pass e h = go (is_some (client_call m t)) (nat_lt 4096 (length bytes)) refl h e
+few_results m t p bytes pass e h = go (is_some (client_call m t)) (nat_lt 4096 (length bytes)) (nat_lt 16 (length pass)) refl h e
   where
     go :
-        (there many : Bool) → nat_lt 4096 (length bytes) ≡ many → there ≡ true →
-        (if there && many then Some E2BIG else None) ≡ None → length bytes ≤ 4096
-    go true true q f e = cc
-    go true false q f e = ltb-false 4096 (length bytes) q
-    go false many q f e = cc
+        (there many over : Bool) → nat_lt 4096 (length bytes) ≡ many → there ≡ true →
+        (if there && (many || over) then Some E2BIG else None) ≡ None → length bytes ≤ 4096
+    go true true over q f e = cc
+    go true false over q f e = ltb-false 4096 (length bytes) q
+    go false many over q f e = cc
 
 return-tidy :
     (m : State) (t p : ℕ) (bytes : List ℕ) (pass : List Pass) → first_refusal (return_tests m t p bytes pass) ≡ None →
@@ -319,11 +370,15 @@ effect-tidy : (m : State) (t p : ℕ) (r : Request) → refusal_of m t p r ≡ N
 effect-tidy m t p (request.Create entry cookie attrs) e = create-tidy m p entry cookie attrs
 effect-tidy m t p (request.Call fd bytes pass rsize) e = call-tidy m t p fd bytes pass rsize (few_bytes m p fd bytes pass e)
 effect-tidy m t p (request.Return bytes pass) e = return-tidy m t p bytes pass e
+effect-tidy m t p (request.SetParam fd param value) e = set_parameter-tidy m p fd param value
+effect-tidy m t p (request.Close fd) e = close-tidy m p fd
+effect-tidy m t p (request.Dup fd) e = dup-tidy m p fd
 effect-tidy m t p (request.Attach fd path) e = attach-tidy m p fd path
+effect-tidy m t p (request.Detach path) e = detach-tidy m path
 effect-tidy m t p (request.Open path) e = open_path-tidy m p path
 effect-tidy m t p (request.Await path) e = await-tidy m t path
 effect-tidy m t p request.Exit e = exit-tidy m t p
-effect-tidy m t p _ e = no_act-tidy m
+effect-tidy m t p _ e = record { grows = grows_same 1 m; small = λ h. tt }
 
 pub enter-tidy : (m : State) (t p : ℕ) (r : Request) → IsTidy m (enter m t p r)
 enter-tidy m t p r = go (refusal_of m t p r) refl

@@ -1,13 +1,14 @@
 -- Where no thread is idle nothing is given, and where no call is to be collected no caller can go on.
-use Rattle.std.proofs.Common.{◌≡◌, ℕ, zero, suc, Bool, false, List, [], ◌∷◌, Option, Some, None, find, is_some, length, slice_get, refl, sym, ap, ◌∙◌, arith}
+use Rattle.std.proofs.Common.{◌≡◌, ℕ, zero, suc, Bool, false, List, [], ◌∷◌, Option, Some, None, find, is_some, length, slice_get, refl, sym, ap, ◌∙◌, arith, true}
 use Rattle.std.specs.List.{list_any}
 use Rattle.std.proofs.lemmas.Bool.Decides.{nat_tests}
-use Rattle.written_kernel.specs.Types.{Call, Pool, Thread, ThreadState, Waiting}
+use Rattle.written_kernel.specs.Types.{Call, Pool, Thread, ThreadState, Waiting, Parked}
 use Rattle.kernel_records.specs.declared.record.ThreadState.TheVariants as is
 use Rattle.dk_base.specs.ByNumber.{at_number}
-use Rattle.kernel_records.specs.Words.{ProcessTable, better_parked, is_to_collect_as, parked_at, parked_in, parked_thread, pick_among, thread_at}
-use Rattle.written_kernel.specs.Words.{State, give_each, give_to, pick, pool_of}
-use Rattle.kernel_core.specs.Idle.{is_idle_state, is_idle_thread, is_ready_call}
+use Rattle.kernel_records.specs.Words.{ProcessTable, better_parked, is_done, is_idle, is_idle_thread, is_to_collect_as, parked_at, parked_in, parked_thread, pick_among, thread_at}
+use Rattle.written_kernel.specs.Words.{State, give_each, give_to, is_running, is_running_state, pick, pool_of, state_of}
+use Rattle.kernel_invariant.proofs.Picks.{IsPick, parked_is, pick_is}
+use Rattle.kernel_core.specs.Ready.{is_ready_call}
 
 -- lists
 
@@ -31,7 +32,7 @@ none_ready c (r ∷ rs) e =
 
 -- threads
 
-not_parked : (t : ℕ) (pool : Pool) (s : ThreadState) → is_idle_state s ≡ false → parked_in t pool s ≡ None
+not_parked : (t : ℕ) (pool : Pool) (s : ThreadState) → is_idle s ≡ false → parked_in t pool s ≡ None
 not_parked t pool (is.Idle since) e = absurd (grind arith)
 not_parked t pool s e = grind arith
 
@@ -63,3 +64,24 @@ pub none_given : (ws : List Waiting) (m : State) → list_any is_idle_thread m.p
 none_given [] m e = refl
 none_given (w ∷ ws) m e =
     ap (λ o. give_each (give_to m w o) ws) (none_picked m (pool_of m w.door) e) ∙ none_given ws m e
+
+-- the pick of a pool is idle
+pub picked_idle : (m : State) (pool : Pool) (y : Parked) → pick m pool ≡ Some y → is_idle (state_of m y.thread.0) ≡ true
+picked_idle m pool y e =
+    let p : IsPick m pool y = pick_is m pool y e in
+    ap is_idle (parked_is m y.thread.0 y p.parked).idle
+
+-- what a thread that runs is not
+pub running_not_done : (m : State) (t : ℕ) → is_running m t ≡ true → is_done (state_of m t) ≡ false
+running_not_done m t e = go (state_of m t) e
+  where
+    go : (s : ThreadState) → is_running_state s ≡ true → is_done s ≡ false
+    go is.Running e = refl
+    go s e = grind arith
+
+pub running_not_idle : (m : State) (t : ℕ) → is_running m t ≡ true → is_idle (state_of m t) ≡ false
+running_not_idle m t e = go (state_of m t) e
+  where
+    go : (s : ThreadState) → is_running_state s ≡ true → is_idle s ≡ false
+    go is.Running e = refl
+    go s e = grind arith

@@ -1,12 +1,15 @@
 -- A kernel's events keep that what it keeps comes from a written state, and a refused entry changes nothing else.
-use Rattle.std.proofs.Common.{◌≡◌, ℕ, ◌+◌, ◌<◌, Bool, List, Option, Some, None, Result, Ok, Err, IfOk, OnOk, OnErr, [], length, refl, subst, sym, ap, ◌∙◌, arith, All}
-use Rattle.written_kernel.specs.Types.{Errno, NoMemory, Request, Stepped, Tid}
+use Rattle.std.proofs.Common.{◌≡◌, ℕ, ◌+◌, ◌<◌, Bool, List, Option, Some, None, Result, Ok, Err, IfOk, OnOk, OnErr, [], length, refl, subst, sym, ap, ◌∙◌, arith, All, true, is_some}
+use Rattle.written_kernel.specs.Types.{Errno, NoMemory, Request, Stepped, Tid, Process}
 use Rattle.dk_base.specs.declared.answer.Answer.TheVariants.{Failure}
 use Rattle.dk_base.specs.declared.limits.TheConstants.{THREADS_MAX}
-use Rattle.written_kernel.specs.Words.{IsOpening, IsStep, MayTurn, StandsFor, State, effect, forget, opening, pick, pool_of, process_of, refusal_of, step, unless_refused, waiting_items, with_event_counted, with_new_thread}
+use Rattle.written_kernel.specs.Words.{IsOpening, IsStep, MayTurn, StandsFor, State, effect, forget, opening, pick, pool_of, process_of, refusal_of, step, unless_refused, waiting_items, with_event_counted, with_new_thread, is_live_process}
 use Rattle.written_kernel.specs.Opening.IsOpening.{processes, thread}
 use Rattle.written_kernel.proofs.Forget.{IsStep-stands_for, is_runnable-forget, refusal_of-forget, waiting_items-forget}
-use Rattle.written_kernel.proofs.Opening.{IsDeclaredIn, forget-opening, opening_threads}
+use Rattle.dk_base.specs.ByNumber.{at_number}
+use Rattle.kernel_records.specs.Words.{is_live_in, is_live_stage}
+use Rattle.written_kernel.proofs.Lists.{numbered_there}
+use Rattle.written_kernel.proofs.Opening.{IsDeclaredIn, forget-opening, opened, opening_threads}
 use Rattle.written_kernel.proofs.Steps.{events-step}
 use Rattle.kernel_invariant.specs.Events.{Keeps}
 use Rattle.kernel_invariant.proofs.Events.{step_keeps}
@@ -126,6 +129,14 @@ refused_result kept old new t r (Err x) same k may h = tt
 pub opening_kept : {m : State} → IsOpening m → IsKept m
 opening_kept {m} o =
     record { written = m; stands = sym (forget-opening o); invariant = opening_keeps m o; opening = λ e. o }
+
+-- the processes of an opening live
+pub opening_lives : (m : State) (p : ℕ) → IsOpening m → IsDeclaredIn m p → is_live_process m p ≡ true
+opening_lives m p o there = go (at_number m.process_table.processes p) refl (numbered_there m.process_table.processes p there.0 there.1)
+  where
+    go : (x : Option Process) → at_number m.process_table.processes p ≡ x → is_some x ≡ true → is_live_in x ≡ true
+    go None e f = grind arith
+    go (Some x) e f = ap is_live_stage ((opened o).processes p x e).stage
 
 pub processes_kept : (limits : List ℕ) (m : State) → m ≡ opening limits → IsKept m
 processes_kept limits m e = subst IsKept (sym e) (opening_kept (processes limits))

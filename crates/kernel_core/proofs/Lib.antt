@@ -5,3 +5,5 @@ pub mod Grows
 pub mod Steps
 pub mod Readers
 pub mod Kept
+pub mod Tests
+pub mod Counted

@@ -3,4 +3,4 @@ pub mod Numbers
 pub mod Stored
 pub mod Within
 pub mod Woken
-pub mod Idle
+pub mod Ready

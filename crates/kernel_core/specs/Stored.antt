@@ -4,6 +4,7 @@ use Rattle.written_kernel.specs.Types.{Call, CallStage, Tid}
 use Rattle.kernel_records.specs.declared.record.CallStage.TheVariants.{Given}
 use Rattle.kernel_records.specs.Words.{CallTree, at_stage, without_arguments_at}
 use Rattle.written_kernel.specs.Words.{State}
+use Rattle.name_space.specs.Words.{HasRoomForName}
 use Rattle.kernel_core.specs.declared.calls.Calls.{Calls}
 use Rattle.kernel_core.specs.declared.store.Store.{Store}
 
@@ -17,7 +18,7 @@ stored_state store =
       process_table = store.processes;
       bindings = store.bindings.items;
       tables = store.tables.items;
-      names = store.names.items;
+      names = store.names.names;
       doors = store.doors.items;
       call_tree = tree_in store.calls;
       notice_list = record { made = 0; notices = [] };
@@ -26,8 +27,8 @@ stored_state store =
 
 -- another name, door and call take no memory
 pub record HasRoom (store : Store) : Type 0 where
-  pub names : vec_len store.names < vec_capacity store.names
-  pub doors : vec_len store.doors < vec_capacity store.doors
+  pub names : HasRoomForName store.names
+  pub doors : 0 < store.doors.spare
   pub calls : vec_len store.calls.list < vec_capacity store.calls.list
 
 abbrev pub without_arguments : Call → CallStage → Call

@@ -1,13 +1,21 @@
 //! The act of a turn: an entry, unless it is refused, or the end of a wait.
-ghost use Rattle.std.specs.Prelude.{◌≡◌, []};
-ghost use Rattle.written_kernel.specs.Words.{StandsFor, effect, end_work, enter, go_on, process_of, refusal_of, state_of};
+ghost use Rattle.std.specs.Prelude.{◌≡◌, [], None, false, true};
+ghost use Rattle.kernel_records.specs.Words.{is_done, is_idle};
+ghost use Rattle.written_kernel.specs.Words.{StandsFor, effect, end_work, enter, go_on, is_running, process_of, refusal_of, state_of};
 ghost use Rattle.kernel_core.specs.Kept.{HasLiveCalls};
 ghost use Rattle.kernel_core.specs.Numbers.{HasNumbersLeft};
 ghost use Rattle.kernel_core.specs.Stored.{HasRoom, stored_state};
 
-use crate::descriptors::{attach, attach_refusal, await_path, found, open_path, open_refusal};
+use crate::descriptors::{
+    attach, attach_refusal, await_path, close, close_refusal, detach, detach_refusal, dup,
+    dup_refusal, found, open_path, open_refusal,
+};
 use crate::doors::{
     accept, call, call_refusal, collect, create, create_refusal, return_from, return_refusal,
+};
+use crate::information::{
+    credentials, credentials_refusal, door_refusal, information, parameter, set_parameter,
+    set_parameter_refusal,
 };
 use crate::leaving::exit;
 use crate::store::Store;
@@ -24,7 +32,7 @@ fn refusal_of(store: &Store, t: Tid, p: Pid, request: &Request) -> Option<Errno>
     ensures { result ≡ refusal_of (stored_state store.now) t.0 p.0 request.now }
 {
     match request {
-        Request::Create { .. } => create_refusal(store, p),
+        Request::Create { attrs, .. } => create_refusal(store, p, *attrs),
         Request::Call {
             door,
             bytes,
@@ -32,16 +40,27 @@ fn refusal_of(store: &Store, t: Tid, p: Pid, request: &Request) -> Option<Errno>
             ..
         } => call_refusal(store, p, *door, bytes, pass),
         Request::Return { bytes, pass } => return_refusal(store, t, p, bytes, pass),
+        Request::Info { fd } => door_refusal(store, p, *fd),
+        Request::GetParam { fd, .. } => door_refusal(store, p, *fd),
+        Request::SetParam { fd, param, value } => {
+            set_parameter_refusal(store, p, *fd, *param, *value)
+        }
+        Request::Cred => credentials_refusal(store, t),
+        Request::Close { fd } => close_refusal(store, p, *fd),
+        Request::Dup { fd } => dup_refusal(store, p, *fd),
         Request::Attach { fd, path } => attach_refusal(store, p, *fd, *path),
+        Request::Detach { path } => detach_refusal(store, *path),
         Request::Open { path } => open_refusal(store, p, *path),
         _ => None,
     }
 }
 
-/// What an entry does that is not refused.
+/// What an entry of a thread that runs does where it is not refused.
 fn effect(store: &mut Store, alloc: Global, t: Tid, p: Pid, request: Request) -> Answer
     requires numbers { HasNumbersLeft (stored_state store.old) }
     requires room { HasRoom store.old }
+    requires running { is_running (stored_state store.old) t.0 ≡ true }
+    requires allowed { refusal_of (stored_state store.old) t.0 p.0 request ≡ None }
     ensures state { stored_state store.new ≡ (effect (stored_state store.old) t.0 p.0 request).state }
     ensures answer { result ≡ (effect (stored_state store.old) t.0 p.0 request).answer }
 {
@@ -58,7 +77,14 @@ fn effect(store: &mut Store, alloc: Global, t: Tid, p: Pid, request: Request) ->
             rsize,
         } => call(store, alloc, t, p, door, bytes, &pass, rsize),
         Request::Return { bytes, pass } => return_from(store, alloc, t, p, bytes, &pass),
+        Request::Info { fd } => information(store, p, fd),
+        Request::GetParam { fd, param } => parameter(store, p, fd, param),
+        Request::SetParam { fd, param, value } => set_parameter(store, p, fd, param, value),
+        Request::Cred => credentials(store, t),
+        Request::Close { fd } => close(store, p, fd),
+        Request::Dup { fd } => dup(store, p, fd),
         Request::Attach { fd, path } => attach(store, p, fd, path),
+        Request::Detach { path } => detach(store, path),
         Request::Open { path } => open_path(store, p, path),
         Request::Await { path } => await_path(store, t, path),
         Request::Exit => exit(store, alloc, t, p),
@@ -66,11 +92,12 @@ fn effect(store: &mut Store, alloc: Global, t: Tid, p: Pid, request: Request) ->
     }
 }
 
-/// A kernel entry of a thread.
+/// A kernel entry of a thread that runs.
 pub fn enter(store: &mut Store, alloc: Global, t: Tid, request: Request) -> Answer
     requires numbers { HasNumbersLeft (stored_state store.old) }
     requires room { HasRoom store.old }
     requires live { HasLiveCalls (stored_state store.old) }
+    requires running { is_running (stored_state store.old) t.0 ≡ true }
     ensures state { StandsFor (stored_state store.new) (enter (stored_state store.old) t.0 (process_of (stored_state store.old) t.0) request).state }
     ensures answer { result ≡ (enter (stored_state store.old) t.0 (process_of (stored_state store.old) t.0) request).answer }
 {
@@ -83,6 +110,8 @@ pub fn enter(store: &mut Store, alloc: Global, t: Tid, request: Request) -> Answ
 
 /// The end of a task. Who runs the thread computes its bytes.
 fn end_work(store: &mut Store, alloc: Global, t: Tid) -> Answer
+    requires not_done { is_done (state_of (stored_state store.old) t.0) ≡ false }
+    requires not_idle { is_idle (state_of (stored_state store.old) t.0) ≡ false }
     ensures state { stored_state store.new ≡ (end_work (stored_state store.old) t.0).state }
     ensures answer { result ≡ (end_work (stored_state store.old) t.0).answer }
 {

@@ -7,9 +7,8 @@ ghost use Rattle.kernel_records.specs.Words.{collect_call, enter_call, give_call
 ghost use Rattle.written_kernel.specs.Words.{end_calls, ended_call};
 ghost use Rattle.kernel_core.specs.Kept.{AreLive};
 ghost use Rattle.kernel_core.specs.Stored.{tree_in, without_arguments, given_at};
-ghost use Rattle.kernel_core.specs.Idle.{is_ready_call};
+ghost use Rattle.kernel_core.specs.Ready.{is_ready_call};
 
-use crate::numbered::numbered_item;
 use crate::stage::{
     is_client_call_of, is_given_as, is_queued, is_queued_as, is_ready_call, is_served_by,
     is_to_collect_as,
@@ -17,7 +16,8 @@ use crate::stage::{
 use dk_base::error::{Errno, NoMemory};
 use dk_base::list::{Bytes, ObjList};
 use dk_base::number::{Pid, Tid};
-use kernel_records::record::{Call, CallStage, Door};
+use door_object::doors::Doors;
+use kernel_records::record::{Call, CallStage};
 use std::alloc::Global;
 use std::mem;
 
@@ -54,17 +54,17 @@ fn give(call: &mut Call, to: Tid)
     call.stage = CallStage::Given { to };
 }
 
-fn is_owned(doors: &[Door], d: u32, p: Pid) -> bool
-    ensures { result ≡ is_owned_by p.0 (at_number doors.now d) }
+fn is_owned(doors: &Doors, d: u32, p: Pid) -> bool
+    ensures { result ≡ is_owned_by p.0 (at_number doors.now.items d) }
 {
-    match numbered_item(doors, d) {
+    match doors.door(d) {
         Some(door) => door.owner.0 == p.0,
         None => false,
     }
 }
 
-fn end_call(alloc: Global, call: &mut Call, doors: &[Door], p: Pid)
-    ensures { call.new ≡ ended_call doors.now p.0 call.old }
+fn end_call(alloc: Global, call: &mut Call, doors: &Doors, p: Pid)
+    ensures { call.new ≡ ended_call doors.now.items p.0 call.old }
 {
     if is_queued(&call.stage) && is_owned(doors, call.door, p) {
         call.bytes = Bytes::new(alloc);
@@ -75,8 +75,8 @@ fn end_call(alloc: Global, call: &mut Call, doors: &[Door], p: Pid)
     }
 }
 
-fn end_all(alloc: Global, calls: &mut [Call], doors: &[Door], p: Pid)
-    ensures { calls.new ≡ map (ended_call doors.now p.0) calls.old }
+fn end_all(alloc: Global, calls: &mut [Call], doors: &Doors, p: Pid)
+    ensures { calls.new ≡ map (ended_call doors.now.items p.0) calls.old }
 {
     for call in calls.iter_mut() {
         end_call(alloc, call, doors, p);
@@ -225,8 +225,8 @@ impl Calls {
     }
 
     /// Ends the calls that wait at a door of a process.
-    pub fn end_waiting(&mut self, alloc: Global, doors: &[Door], p: Pid)
-        ensures { tree_in self.new ≡ end_calls (tree_in self.old) doors.now p.0 }
+    pub fn end_waiting(&mut self, alloc: Global, doors: &Doors, p: Pid)
+        ensures { tree_in self.new ≡ end_calls (tree_in self.old) doors.now.items p.0 }
     {
         end_all(alloc, &mut self.list, doors, p);
     }

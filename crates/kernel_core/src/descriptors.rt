@@ -1,7 +1,8 @@
-//! The acts of descriptors and names.
-ghost use Rattle.std.specs.Prelude.{◌≡◌};
-ghost use Rattle.kernel_records.specs.Words.{free_place};
-ghost use Rattle.written_kernel.specs.Words.{attach, attach_tests, await, door_attached, door_named, end_await, first_refusal, name_of, object_at, open_path, open_tests, table_of, insert_object};
+//! The acts of descriptors and names. What needs a free or an open descriptor, or a free path, has the condition that it is
+//! not refused.
+ghost use Rattle.std.specs.Prelude.{◌≡◌, None, false, is_none, true};
+ghost use Rattle.kernel_records.specs.Words.{first_refusal, is_done, is_idle, lowest_free};
+ghost use Rattle.written_kernel.specs.Words.{attach, attach_tests, await, close, close_tests, detach, detach_tests, door_named, dup, dup_tests, end_await, insert_object, is_running, object_at, open_path, open_tests, state_of, table_of};
 ghost use Rattle.kernel_core.specs.Stored.{HasRoom, stored_state};
 
 use crate::store::Store;
@@ -21,24 +22,59 @@ pub fn door_named(store: &Store, p: Pid, fd: Fd) -> u32
     }
 }
 
-/// The lowest descriptor that is free, 0 where none is.
-fn free_place(store: &Store, p: Pid) -> u32
-    ensures { result ≡ free_place (table_of (stored_state store.now) p.0) }
-{
-    match store.lowest_free(p) {
-        Some(place) => place,
-        None => 0,
-    }
-}
-
-/// An object gets the lowest descriptor that is free.
+/// An object gets the lowest descriptor that is free, of which there is one.
 pub fn add_row(store: &mut Store, p: Pid, object: Obj) -> Answer
+    requires { is_none (lowest_free (table_of (stored_state store.old) p.0)) ≡ false }
     ensures state { stored_state store.new ≡ (insert_object (stored_state store.old) p.0 object).state }
     ensures answer { result ≡ (insert_object (stored_state store.old) p.0 object).answer }
 {
-    let place = free_place(store, p);
-    store.put_row(p, place, object);
-    Answer::NewFd { fd: Fd(place) }
+    let fd = store.insert(p, object);
+    Answer::NewFd { fd }
+}
+
+/// close(2): EBADF.
+pub fn close_refusal(store: &Store, p: Pid, fd: Fd) -> Option<Errno>
+    ensures { result ≡ first_refusal (close_tests (stored_state store.now) p.0 fd) }
+{
+    if store.object_at(p, fd).is_none() {
+        return Some(Errno::EBADF);
+    }
+    None
+}
+
+/// close(2): the descriptor is free again.
+pub fn close(store: &mut Store, p: Pid, fd: Fd) -> Answer
+    requires { first_refusal (close_tests (stored_state store.old) p.0 fd) ≡ None }
+    ensures state { stored_state store.new ≡ (close (stored_state store.old) p.0 fd).state }
+    ensures answer { result ≡ (close (stored_state store.old) p.0 fd).answer }
+{
+    store.close(p, fd);
+    Answer::Done
+}
+
+/// dup(2): EBADF, EMFILE.
+pub fn dup_refusal(store: &Store, p: Pid, fd: Fd) -> Option<Errno>
+    ensures { result ≡ first_refusal (dup_tests (stored_state store.now) p.0 fd) }
+{
+    if store.object_at(p, fd).is_none() {
+        return Some(Errno::EBADF);
+    }
+    if store.is_full(p) {
+        return Some(Errno::EMFILE);
+    }
+    None
+}
+
+/// dup(2): the same object at the lowest descriptor that is free.
+pub fn dup(store: &mut Store, p: Pid, fd: Fd) -> Answer
+    requires { first_refusal (dup_tests (stored_state store.old) p.0 fd) ≡ None }
+    ensures state { stored_state store.new ≡ (dup (stored_state store.old) p.0 fd).state }
+    ensures answer { result ≡ (dup (stored_state store.old) p.0 fd).answer }
+{
+    match store.object_at(p, fd) {
+        Some(object) => add_row(store, p, object),
+        None => Answer::Done,
+    }
 }
 
 /// fattach(3C): EBADF, EINVAL for what is no door, or EBUSY.
@@ -47,7 +83,7 @@ pub fn attach_refusal(store: &Store, p: Pid, fd: Fd, path: PathId) -> Option<Err
 {
     match store.object_at(p, fd) {
         None => Some(Errno::EBADF),
-        Some(Obj::Door(_)) if store.name_of(path).is_some() => Some(Errno::EBUSY),
+        Some(Obj::Door(_)) if store.has_name(path) => Some(Errno::EBUSY),
         Some(Obj::Door(_)) => None,
         Some(_) => Some(Errno::EINVAL),
     }
@@ -55,12 +91,32 @@ pub fn attach_refusal(store: &Store, p: Pid, fd: Fd, path: PathId) -> Option<Err
 
 /// fattach(3C): the door is attached to the path.
 pub fn attach(store: &mut Store, p: Pid, fd: Fd, path: PathId) -> Answer
-    requires { HasRoom store.old }
+    requires room { HasRoom store.old }
+    requires allowed { first_refusal (attach_tests (stored_state store.old) p.0 fd path) ≡ None }
     ensures state { stored_state store.new ≡ (attach (stored_state store.old) p.0 fd path).state }
     ensures answer { result ≡ (attach (stored_state store.old) p.0 fd path).answer }
 {
     let door = door_named(store, p, fd);
-    store.add_name(path, door);
+    store.attach(path, door);
+    Answer::Done
+}
+
+/// fdetach(3C): EINVAL for a path without a door.
+pub fn detach_refusal(store: &Store, path: PathId) -> Option<Errno>
+    ensures { result ≡ first_refusal (detach_tests (stored_state store.now) path) }
+{
+    if !store.has_name(path) {
+        return Some(Errno::EINVAL);
+    }
+    None
+}
+
+/// fdetach(3C): the path has no door any more.
+pub fn detach(store: &mut Store, path: PathId) -> Answer
+    ensures state { stored_state store.new ≡ (detach (stored_state store.old) path).state }
+    ensures answer { result ≡ (detach (stored_state store.old) path).answer }
+{
+    store.detach(path);
     Answer::Done
 }
 
@@ -68,40 +124,33 @@ pub fn attach(store: &mut Store, p: Pid, fd: Fd, path: PathId) -> Answer
 pub fn open_refusal(store: &Store, p: Pid, path: PathId) -> Option<Errno>
     ensures { result ≡ first_refusal (open_tests (stored_state store.now) p.0 path) }
 {
-    if store.name_of(path).is_none() {
+    if !store.has_name(path) {
         return Some(Errno::ENOENT);
     }
-    if store.lowest_free(p).is_none() {
+    if store.is_full(p) {
         return Some(Errno::EMFILE);
     }
     None
 }
 
-/// The number of the door that is attached to a path, 0 for none.
-fn door_attached(store: &Store, path: PathId) -> u32
-    ensures { result ≡ door_attached (name_of (stored_state store.now) path) }
-{
-    match store.name_of(path) {
-        Some(name) => name.door,
-        None => 0,
-    }
-}
-
 /// open(2) of a path with a door: the door at the lowest descriptor that is free.
 pub fn open_path(store: &mut Store, p: Pid, path: PathId) -> Answer
+    requires { first_refusal (open_tests (stored_state store.old) p.0 path) ≡ None }
     ensures state { stored_state store.new ≡ (open_path (stored_state store.old) p.0 path).state }
     ensures answer { result ≡ (open_path (stored_state store.old) p.0 path).answer }
 {
-    let door = door_attached(store, path);
+    let door = store.door_attached(path);
     add_row(store, p, Obj::Door(door))
 }
 
-/// Done where a door is attached to the path, else the thread waits until one is.
+/// Done where a door is attached to the path, else the thread, which runs, waits until one is.
+#[tactic(auto, using(crate::proofs::Idle::running_not_done, crate::proofs::Idle::running_not_idle))]
 pub fn await_path(store: &mut Store, t: Tid, path: PathId) -> Answer
+    requires { is_running (stored_state store.old) t.0 ≡ true }
     ensures state { stored_state store.new ≡ (await (stored_state store.old) t.0 path).state }
     ensures answer { result ≡ (await (stored_state store.old) t.0 path).answer }
 {
-    if store.name_of(path).is_some() {
+    if store.has_name(path) {
         return Answer::Done;
     }
     store.processes.turn(t, ThreadState::Awaiting { path });
@@ -110,6 +159,8 @@ pub fn await_path(store: &mut Store, t: Tid, path: PathId) -> Answer
 
 /// The end of the wait for a path.
 pub fn found(store: &mut Store, t: Tid) -> Answer
+    requires not_done { is_done (state_of (stored_state store.old) t.0) ≡ false }
+    requires not_idle { is_idle (state_of (stored_state store.old) t.0) ≡ false }
     ensures state { stored_state store.new ≡ (end_await (stored_state store.old) t.0).state }
     ensures answer { result ≡ (end_await (stored_state store.old) t.0).answer }
 {

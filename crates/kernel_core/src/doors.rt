@@ -1,7 +1,9 @@
 //! The acts of doors, of calls of them, and of their invocations.
-ghost use Rattle.std.specs.Prelude.{◌≡◌, []};
-ghost use Rattle.kernel_records.specs.Words.{cookie_of, entry_of, is_given_as, no_cancel_of};
-ghost use Rattle.written_kernel.specs.Words.{StandsFor, accept, accept_call, call, call_tests, client_call, collect, collect_answer, collect_answer_in, create, create_tests, door_of, find_call, first_refusal, new_call, return, return_tests};
+ghost use Rattle.std.specs.Prelude.{◌≡◌, [], None, false, length, true};
+ghost use Rattle.dk_base.specs.declared.object.Item.TheVariants as item;
+ghost use Rattle.kernel_records.specs.declared.record.ThreadState.TheVariants as is;
+ghost use Rattle.kernel_records.specs.Words.{cookie_of, entry_of, first_refusal, is_done, is_given_as, is_idle, limit_tests, no_cancel_of};
+ghost use Rattle.written_kernel.specs.Words.{StandsFor, accept, accept_call, call, call_tests, collect, collect_answer, create, create_tests, door_of, find_call, is_running, new_call, pool_tests, return, return_tests, state_of};
 ghost use Rattle.kernel_core.specs.Kept.{HasLiveCalls};
 ghost use Rattle.kernel_core.specs.Numbers.{HasNumbersLeft};
 ghost use Rattle.kernel_core.specs.Stored.{HasRoom, stored_state};
@@ -10,19 +12,23 @@ use crate::descriptors::{add_row, door_named};
 use crate::store::Store;
 use dk_base::answer::Answer;
 use dk_base::error::Errno;
-use dk_base::limits::{DATA_MAX, QUEUE_MAX};
+use dk_base::limits::{DATA_MAX, PASS_MAX, QUEUE_MAX};
 use dk_base::list::{Bytes, FdList, ObjList, PassList};
 use dk_base::number::{Fd, Pid, Tid};
 use dk_base::object::{Item, Obj};
 use dk_base::set::Attrs;
+use door_object::doors::Doors;
 use kernel_records::record::{Call, CallStage, ThreadState};
 use std::alloc::Global;
 
-/// door_create(3C): EMFILE.
-pub fn create_refusal(store: &Store, p: Pid) -> Option<Errno>
-    ensures { result ≡ first_refusal (create_tests (stored_state store.now) p.0) }
+/// door_create(3C): EINVAL for attributes that only door_info(3C) tells, EMFILE.
+pub fn create_refusal(store: &Store, p: Pid, attrs: Attrs) -> Option<Errno>
+    ensures { result ≡ first_refusal (create_tests (stored_state store.now) p.0 attrs) }
 {
-    if store.lowest_free(p).is_none() {
+    if Doors::check_create(attrs).is_some() {
+        return Some(Errno::EINVAL);
+    }
+    if store.is_full(p) {
         return Some(Errno::EMFILE);
     }
     None
@@ -32,6 +38,7 @@ pub fn create_refusal(store: &Store, p: Pid) -> Option<Errno>
 pub fn create(store: &mut Store, p: Pid, entry: u32, cookie: u64, attrs: Attrs) -> Answer
     requires numbers { HasNumbersLeft (stored_state store.old) }
     requires room { HasRoom store.old }
+    requires allowed { first_refusal (create_tests (stored_state store.old) p.0 attrs) ≡ None }
     ensures state { stored_state store.new ≡ (create (stored_state store.old) p.0 entry cookie attrs).state }
     ensures answer { result ≡ (create (stored_state store.old) p.0 entry cookie attrs).answer }
 {
@@ -39,21 +46,34 @@ pub fn create(store: &mut Store, p: Pid, entry: u32, cookie: u64, attrs: Attrs) 
     add_row(store, p, Obj::Door(number))
 }
 
-/// door_call(3C): EBADF, E2BIG, EAGAIN.
+/// EAGAIN where as many calls as may wait in a door's pool.
+fn pool_refusal(store: &Store, d: u32) -> Option<Errno>
+    ensures { result ≡ first_refusal (pool_tests (stored_state store.now) d) }
+{
+    if store.calls_waiting(&store.pool_of(d)) >= QUEUE_MAX {
+        return Some(Errno::EAGAIN);
+    }
+    None
+}
+
+/// What the limits of a door refuse: EBADF for no door or one that is not valid, ENOBUFS, ENOTSUP, ENFILE, E2BIG.
+fn limit_refusal(store: &Store, d: u32, bytes: &Bytes, pass: &PassList) -> Option<Errno>
+    ensures { result ≡ first_refusal (limit_tests (door_of (stored_state store.now) d) (length bytes.now) (length pass.now)) }
+{
+    store
+        .doors
+        .limit_refusal(d, bytes.len() as u64, pass.len() as u64)
+}
+
+/// door_call(3C): what the door's limits refuse, then EAGAIN.
 pub fn call_refusal(store: &Store, p: Pid, fd: Fd, bytes: &Bytes, pass: &PassList) -> Option<Errno>
     ensures { result ≡ first_refusal (call_tests (stored_state store.now) p.0 fd bytes.now pass.now) }
 {
     let door = door_named(store, p, fd);
-    if !store.is_valid(door) {
-        return Some(Errno::EBADF);
+    match limit_refusal(store, door, bytes, pass) {
+        Some(error) => Some(error),
+        None => pool_refusal(store, door),
     }
-    if bytes.len() > DATA_MAX {
-        return Some(Errno::E2BIG);
-    }
-    if store.calls_waiting(&store.pool_of(door)) >= QUEUE_MAX {
-        return Some(Errno::EAGAIN);
-    }
-    None
 }
 
 fn has_no_cancel(store: &Store, d: u32) -> bool
@@ -84,7 +104,8 @@ fn new_call(alloc: Global, store: &Store, t: Tid, d: u32, bytes: Bytes, rsize: u
     }
 }
 
-/// door_call(3C): a call that waits for a server thread.
+/// door_call(3C): a call that waits for a server thread, by a thread that runs.
+#[tactic(auto, using(crate::proofs::Idle::running_not_done, crate::proofs::Idle::running_not_idle))]
 pub fn call(
     store: &mut Store,
     alloc: Global,
@@ -97,6 +118,7 @@ pub fn call(
 ) -> Answer
     requires numbers { HasNumbersLeft (stored_state store.old) }
     requires room { HasRoom store.old }
+    requires running { is_running (stored_state store.old) t.0 ≡ true }
     ensures state { stored_state store.new ≡ (call (stored_state store.old) t.0 p.0 fd bytes pass.now rsize).state }
     ensures answer { result ≡ (call (stored_state store.old) t.0 p.0 fd bytes pass.now rsize).answer }
 {
@@ -120,13 +142,14 @@ pub fn return_refusal(
 ) -> Option<Errno>
     ensures { result ≡ first_refusal (return_tests (stored_state store.now) t.0 p.0 bytes.now pass.now) }
 {
-    if store.calls.client(t).is_some() && bytes.len() > DATA_MAX {
+    if store.calls.client(t).is_some() && (bytes.len() > DATA_MAX || pass.len() > PASS_MAX) {
         return Some(Errno::E2BIG);
     }
     None
 }
 
-/// door_return(3C): the results go to the client, or are dropped where there is none, and the thread is parked.
+/// door_return(3C): the results go to the client, or are dropped where there is none, and the thread, which runs, is parked.
+#[tactic(auto, using(crate::proofs::Idle::running_not_done, crate::proofs::Idle::running_not_idle))]
 pub fn return_from(
     store: &mut Store,
     alloc: Global,
@@ -135,7 +158,8 @@ pub fn return_from(
     bytes: Bytes,
     pass: &PassList,
 ) -> Answer
-    requires { HasNumbersLeft (stored_state store.old) }
+    requires numbers { HasNumbersLeft (stored_state store.old) }
+    requires running { is_running (stored_state store.old) t.0 ≡ true }
     ensures state { stored_state store.new ≡ (return (stored_state store.old) t.0 p.0 bytes pass.now).state }
     ensures answer { result ≡ (return (stored_state store.old) t.0 p.0 bytes pass.now).answer }
 {
@@ -157,8 +181,9 @@ fn entry_point(store: &Store, d: u32) -> (u32, u64)
     }
 }
 
-/// The invocation of a call begins, where the thread was given it.
+/// The invocation of a call begins, of a thread that was given it.
 fn enter_call(store: &mut Store, alloc: Global, t: Tid, c: u32) -> Answer
+    requires { state_of (stored_state store.old) t.0 ≡ is.Given (item.Call c) }
     ensures state { stored_state store.new ≡ (accept_call (stored_state store.old) t.0 c (find_call (stored_state store.old) (is_given_as c t.0))).state }
     ensures answer { result ≡ (accept_call (stored_state store.old) t.0 c (find_call (stored_state store.old) (is_given_as c t.0))).answer }
 {
@@ -179,6 +204,7 @@ fn enter_call(store: &mut Store, alloc: Global, t: Tid, c: u32) -> Answer
 
 /// The end of the wait of a thread that was given an item: its invocation begins.
 pub fn accept(store: &mut Store, alloc: Global, t: Tid, p: Pid, item: Item) -> Answer
+    requires { state_of (stored_state store.old) t.0 ≡ is.Given item }
     ensures state { stored_state store.new ≡ (accept (stored_state store.old) t.0 p.0 item).state }
     ensures answer { result ≡ (accept (stored_state store.old) t.0 p.0 item).answer }
 {
@@ -206,7 +232,9 @@ fn outcome(alloc: Global, call: Call) -> Answer
 
 /// The end of the wait of a caller: the results, or the error that its call ended with. The call is forgotten.
 pub fn collect(store: &mut Store, alloc: Global, t: Tid, p: Pid, c: u32) -> Answer
-    requires { HasLiveCalls (stored_state store.old) }
+    requires live { HasLiveCalls (stored_state store.old) }
+    requires not_done { is_done (state_of (stored_state store.old) t.0) ≡ false }
+    requires not_idle { is_idle (state_of (stored_state store.old) t.0) ≡ false }
     ensures state { StandsFor (stored_state store.new) (collect (stored_state store.old) t.0 p.0 c).state }
     ensures answer { result ≡ (collect (stored_state store.old) t.0 p.0 c).answer }
 {

@@ -1,7 +1,7 @@
 //! One event: the memory that it can need is taken first, then the act, and what follows it.
-ghost use Rattle.std.specs.Prelude.{◌≡◌, ◌+◌, ◌<◌, length, Some, None, IfOk, OnOk, OnErr};
+ghost use Rattle.std.specs.Prelude.{◌≡◌, ◌+◌, ◌<◌, length, true, Some, None, IfOk, OnOk, OnErr};
 ghost use Rattle.dk_base.specs.declared.limits.TheConstants.{EVENTS_MAX, THREADS_MAX};
-ghost use Rattle.written_kernel.specs.Words.{IsStep, State, forget, settle, step, with_event_counted, with_new_thread, woken_threads};
+ghost use Rattle.written_kernel.specs.Words.{IsStep, State, forget, is_live_process, is_running, settle, step, with_event_counted, with_new_thread, woken_threads};
 ghost use Rattle.kernel_core.specs.Kept.{HasLiveCalls};
 ghost use Rattle.kernel_core.specs.Numbers.{HasNumbersLeft};
 ghost use Rattle.kernel_core.specs.Stored.{HasRoom, stored_state};
@@ -32,6 +32,7 @@ impl Parts {
     /// Another thread of a process.
     pub fn add_thread(&mut self, process: Pid, spare: bool) -> Result<Tid, NoMemory>
         requires few { length self.old.store.processes.threads < THREADS_MAX }
+        requires lives { is_live_process (stored_state self.old.store) process.0 ≡ true }
         requires current { IsCurrent self.old.runnable (stored_state self.old.store) }
         ensures ok { OnOk result (stored_state self.new.store ≡ with_new_thread (stored_state self.old.store) process.0 spare) }
         ensures number { IfOk result (λ t. t.0 ≡ length self.old.store.processes.threads + 1) }
@@ -39,7 +40,9 @@ impl Parts {
         ensures err { OnErr result (stored_state self.new.store ≡ stored_state self.old.store) }
     {
         self.runnable.reserve(&self.store)?;
-        let thread = self.store.processes.add_thread(process, spare)?;
+        let Ok(thread) = self.store.processes.add_thread(process, spare) else {
+            return Err(NoMemory);
+        };
         self.runnable.list_all(&self.store);
         Ok(thread)
     }
@@ -80,6 +83,7 @@ impl Parts {
     /// The event of a kernel entry.
     #[tactic(auto, unfolding(written_kernel::specs::Step::step))]
     pub fn enter(&mut self, alloc: Global, t: Tid, request: Request) -> Result<Stepped, NoMemory>
+        requires running { is_running (stored_state self.old.store) t.0 ≡ true }
         requires numbers { HasNumbersLeft (stored_state self.old.store) }
         requires live { HasLiveCalls (stored_state self.old.store) }
         requires current { IsCurrent self.old.runnable (stored_state self.old.store) }

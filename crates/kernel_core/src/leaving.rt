@@ -1,6 +1,6 @@
 //! The acts of leaving.
-ghost use Rattle.std.specs.Prelude.{◌≡◌};
-ghost use Rattle.written_kernel.specs.Words.{exit, leave_process};
+ghost use Rattle.std.specs.Prelude.{◌≡◌, true};
+ghost use Rattle.written_kernel.specs.Words.{exit, is_running, leave_process};
 ghost use Rattle.kernel_core.specs.Stored.{stored_state};
 
 use crate::store::Store;
@@ -18,15 +18,17 @@ fn leave_process(store: &mut Store, alloc: Global, p: Pid)
     store.end_doors(p);
 }
 
-/// A thread ends, and its process with it where the thread is its last.
+/// A thread that runs ends, and its process with it where the thread is its last.
+#[tactic(auto, using(crate::proofs::Idle::running_not_done))]
 pub fn exit(store: &mut Store, alloc: Global, t: Tid, p: Pid) -> Answer
+    requires { is_running (stored_state store.old) t.0 ≡ true }
     ensures state { stored_state store.new ≡ (exit (stored_state store.old) t.0 p.0).state }
     ensures answer { result ≡ (exit (stored_state store.old) t.0 p.0).answer }
 {
     if store.processes.is_last(t, p) {
         leave_process(store, alloc, p);
     } else {
-        store.processes.end_thread(t);
+        let _ = store.processes.end_thread(t);
     }
     Answer::Done
 }

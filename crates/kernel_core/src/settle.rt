@@ -1,10 +1,9 @@
 //! What follows each act: what waits is given to idle threads.
-ghost use Rattle.std.specs.Prelude.{◌≡◌, ◌<◌, ◌≤◌, [], length};
+ghost use Rattle.std.specs.Prelude.{◌≡◌, ◌<◌, ◌≤◌, [], length, true};
 ghost use Rattle.std.specs.List.{list_any};
 ghost use Rattle.std.specs.Option.{option_copied};
-ghost use Rattle.kernel_records.specs.Words.{better_parked, later_parked, parked_at};
-ghost use Rattle.written_kernel.specs.Words.{State, bound_of, give_each, give_one, give_to, pick, pool_of, settle};
-ghost use Rattle.kernel_core.specs.Idle.{is_idle_thread};
+ghost use Rattle.kernel_records.specs.Words.{better_parked, is_idle, is_idle_thread, later_parked, parked_at};
+ghost use Rattle.written_kernel.specs.Words.{State, bound_of, give_each, give_one, give_to, pick, pool_of, settle, state_of};
 ghost use Rattle.kernel_core.specs.Stored.{stored_state};
 
 use crate::store::{Store, is_same_pool};
@@ -60,8 +59,9 @@ fn pick(store: &Store, pool: &Pool) -> Option<Parked>
     best
 }
 
-/// An item to a thread. There are no notices yet.
+/// An item to an idle thread. There are no notices yet.
 fn give_one(store: &mut Store, item: Item, t: Tid)
+    requires { is_idle (state_of (stored_state store.old) t.0) ≡ true }
     ensures { stored_state store.new ≡ give_one (stored_state store.old) item t.0 }
 {
     store.processes.give(t, item);

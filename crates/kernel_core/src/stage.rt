@@ -1,10 +1,10 @@
 ghost use Rattle.std.specs.Prelude.{◌≡◌};
-ghost use Rattle.kernel_records.specs.Words.{is_active, is_client_call_of, is_entered_by, is_given_as, is_given_to, is_queued, is_queued_as, is_to_collect_as, is_served_by, is_to_collect};
+ghost use Rattle.kernel_records.specs.Words.{is_client_call_of, is_entered_by, is_given_as, is_given_to, is_queued, is_queued_as, is_to_collect_as, is_served_by, is_to_collect};
 ghost use Rattle.written_kernel.specs.Words.{is_running_state};
-ghost use Rattle.kernel_core.specs.Idle.{is_idle_thread, is_ready_call};
+ghost use Rattle.kernel_core.specs.Ready.{is_ready_call};
 
 use dk_base::number::Tid;
-use kernel_records::record::{Call, CallStage, Thread, ThreadState};
+use kernel_records::record::{Call, CallStage, ThreadState};
 
 pub fn is_queued(stage: &CallStage) -> bool
     ensures { result ≡ is_queued stage.now }
@@ -77,20 +77,6 @@ pub fn is_ready_call(call: &Call) -> bool
     ensures { result ≡ is_ready_call call.now }
 {
     is_to_collect(&call.stage)
-}
-
-/// Whether a thread is parked.
-pub fn is_idle_thread(thread: &Thread) -> bool
-    ensures { result ≡ is_idle_thread thread.now }
-{
-    matches!(thread.state, ThreadState::Idle { .. })
-}
-
-/// Whether a thread keeps its process from ending.
-pub fn is_active(state: &ThreadState) -> bool
-    ensures { result ≡ is_active state.now }
-{
-    !matches!(state, ThreadState::Done | ThreadState::Dormant)
 }
 
 pub fn is_running_state(state: &ThreadState) -> bool

@@ -1,60 +1,39 @@
 //! What the kernel holds, by subject.
-ghost use Rattle.std.specs.Prelude.{◌≡◌, ◌+◌, ◌<◌, [], length, replicate, None, Some, IfOk, OnOk, OnErr};
-ghost use Rattle.std.specs.Option.{option_copied};
+ghost use Rattle.std.specs.Prelude.{◌≡◌, ◌+◌, ◌<◌, [], length, replicate, None, Some, true, false, is_none, is_some, IfOk, OnOk, OnErr};
 ghost use Rattle.dk_base.specs.declared.limits.TheConstants.{PROCESSES_MAX, EVENTS_MAX};
-ghost use Rattle.kernel_records.specs.Words.{close_table, end_owner, is_pool, is_private, is_queued_in, is_valid_door, is_valid_in, lowest_free, name_in, pool_in, pool_of_door, queue_length, with_door, with_name, with_owner_ended, with_row};
-ghost use Rattle.dk_base.specs.ByNumber.{at_number};
-ghost use Rattle.written_kernel.specs.Words.{bound_of, calls_waiting, door_of, is_valid, name_of, no_process, now, object_at, pool_of, table_of, waiting_items, with_event_counted, with_new_process, with_table_of};
+ghost use Rattle.kernel_records.specs.Words.{close_row, close_table, descriptor, door_attached, end_owner, free_place, has_told_attributes, insert_row, is_pool, is_queued_in, lowest_free, queue_length, set_param, set_param_tests, first_refusal, with_door, with_name, without_name};
+ghost use Rattle.written_kernel.specs.Words.{bound_of, calls_waiting, door_of, name_of, no_process, now, object_at, pool_of, table_of, waiting_items, with_event_counted, with_new_process, with_table_of};
 ghost use Rattle.kernel_core.specs.Numbers.{HasNumbersLeft};
 ghost use Rattle.kernel_core.specs.Stored.{HasRoom, stored_state};
 
 use crate::calls::Calls;
 use crate::numbered::numbered_item;
-use crate::processes::Processes;
 use crate::stage::is_queued;
-use crate::table::Table;
 use dk_base::error::NoMemory;
 use dk_base::limits::THREADS_MAX;
 use dk_base::list::Room;
 use dk_base::number::{Fd, PathId, Pid, Tid};
 use dk_base::object::{Item, Obj};
+use dk_base::request::Param;
 use dk_base::set::Attrs;
+use door_object::doors::Doors;
+use fd_table::table::FdTable;
 use kernel_records::pool::{Pool, Waiting};
-use kernel_records::record::{Call, Door, Name};
+use kernel_records::record::{Call, Door};
+use name_space::names::Names;
+use proc_table::procs::Procs;
 use std::alloc::Global;
 
 /// What the kernel holds. It keeps the calls that are live, and there are no notices yet.
 #[derive(Drop)]
 pub struct Store {
-    pub processes: Processes,
+    pub processes: Procs,
     pub bindings: Vec<Option<u32>>,
-    pub tables: Vec<Table>,
-    pub names: Vec<Name>,
-    pub doors: Vec<Door>,
+    pub tables: Vec<FdTable>,
+    pub names: Names,
+    pub doors: Doors,
     pub calls: Calls,
     pub events: u64,
-}
-
-fn is_private(attrs: Attrs) -> bool
-    ensures { result ≡ is_private attrs }
-{
-    attrs.0 & Attrs::PRIVATE.0 == Attrs::PRIVATE.0
-}
-
-fn is_valid_door(door: &Door) -> bool
-    ensures { result ≡ is_valid_door door.now }
-{
-    !door.revoked && !door.owner_ended
-}
-
-fn pool_of_door(door: &Door) -> Pool
-    ensures { result ≡ pool_of_door door.now }
-{
-    if is_private(door.attrs) {
-        Pool::Private(door.number)
-    } else {
-        Pool::Common(door.owner)
-    }
 }
 
 pub fn is_same_pool(a: &Pool, b: &Pool) -> bool
@@ -67,36 +46,20 @@ pub fn is_same_pool(a: &Pool, b: &Pool) -> bool
     }
 }
 
-/// The pool that serves a door.
-fn pool_of(doors: &[Door], d: u32) -> Pool
-    ensures { result ≡ pool_in (at_number doors.now d) }
+fn is_queued_in(doors: &Doors, pool: &Pool, call: &Call) -> bool
+    ensures { result ≡ is_queued_in doors.now.items pool.now call.now }
 {
-    match numbered_item(doors, d) {
-        Some(door) => pool_of_door(door),
-        None => Pool::Common(Pid(0)),
-    }
-}
-
-fn is_queued_in(doors: &[Door], pool: &Pool, call: &Call) -> bool
-    ensures { result ≡ is_queued_in doors.now pool.now call.now }
-{
-    is_queued(&call.stage) && is_same_pool(pool, &pool_of(doors, call.door))
+    is_queued(&call.stage) && is_same_pool(pool, &doors.pool_of(call.door))
 }
 
 /// How many of these calls wait in a pool.
-fn queue_length(doors: &[Door], calls: &[Call], pool: &Pool) -> usize
-    ensures { result ≡ queue_length doors.now calls.now pool.now }
+fn queue_length(doors: &Doors, calls: &[Call], pool: &Pool) -> usize
+    ensures { result ≡ queue_length doors.now.items calls.now pool.now }
 {
     calls
         .iter()
         .filter(|call| is_queued_in(doors, pool, call))
         .count()
-}
-
-fn name_of<'a>(names: &'a [Name], path: PathId) -> Option<&'a Name>
-    ensures { option_copied result ≡ name_in names.now path }
-{
-    names.iter().find(|name| name.path.0 == path.0)
 }
 
 /// Places for the bindings of threads, of which none is bound.
@@ -109,33 +72,17 @@ fn no_bindings(alloc: Global, places: u32) -> Result<Vec<Option<u32>>, NoMemory>
     }
 }
 
-fn end_door(door: &mut Door, p: Pid)
-    ensures { door.new ≡ with_owner_ended p.0 door.old }
-{
-    if door.owner.0 == p.0 {
-        door.owner_ended = true;
-    }
-}
-
-fn end_doors(doors: &mut [Door], p: Pid)
-    ensures { doors.new ≡ end_owner doors.old p.0 }
-{
-    for door in doors.iter_mut() {
-        end_door(door, p);
-    }
-}
-
 impl Store {
     pub fn new(alloc: Global) -> Result<Self, NoMemory>
         ensures { IfOk result (λ s. stored_state s ≡ no_process) }
     {
         let bindings = no_bindings(alloc, THREADS_MAX)?;
         Ok(Store {
-            processes: Processes::new(alloc),
+            processes: Procs::new(alloc),
             bindings,
             tables: Vec::new(alloc),
-            names: Vec::new(alloc),
-            doors: Vec::new(alloc),
+            names: Names::new(alloc),
+            doors: Doors::new(alloc),
             calls: Calls::new(alloc),
             events: 0,
         })
@@ -147,11 +94,13 @@ impl Store {
         ensures ok { OnOk result (stored_state self.new ≡ with_new_process (stored_state self.old) limit) }
         ensures err { OnErr result (stored_state self.new ≡ stored_state self.old) }
     {
-        let table = Table::empty(alloc, limit)?;
+        let table = FdTable::new(alloc, limit)?;
         if self.tables.reserve(1).is_err() {
             return Err(NoMemory);
         }
-        self.processes.add_process(limit)?;
+        if self.processes.add_proc(limit).is_err() {
+            return Err(NoMemory);
+        }
         let _ = self.tables.push(table);
         Ok(())
     }
@@ -161,9 +110,8 @@ impl Store {
         ensures state { stored_state self.new ≡ stored_state self.old }
         ensures room { OnOk result (HasRoom self.new) }
     {
-        if self.names.reserve(1).is_err() || self.doors.reserve(1).is_err() {
-            return Err(NoMemory);
-        }
+        self.names.reserve()?;
+        self.doors.reserve()?;
         self.calls.reserve()
     }
 
@@ -182,49 +130,49 @@ impl Store {
         ensures { result ≡ object_at (stored_state self.now) p.0 fd }
     {
         match numbered_item(&self.tables, p.0) {
-            Some(table) => table.object(fd),
+            Some(table) => table.get(fd),
             None => None,
         }
     }
 
-    /// The lowest descriptor of a process that is free.
-    pub fn lowest_free(&self, p: Pid) -> Option<u32>
-        ensures { result ≡ lowest_free (table_of (stored_state self.now) p.0) }
+    /// Whether a process has no free descriptor.
+    pub fn is_full(&self, p: Pid) -> bool
+        ensures { result ≡ is_none (lowest_free (table_of (stored_state self.now) p.0)) }
     {
         match numbered_item(&self.tables, p.0) {
-            Some(table) => table.lowest_free(),
-            None => None,
+            Some(table) => table.is_full(),
+            None => true,
         }
     }
 
-    /// The door attached to a path.
-    pub fn name_of(&self, path: PathId) -> Option<&Name>
-        ensures { option_copied result ≡ name_of (stored_state self.now) path }
+    /// Whether a door is attached to a path.
+    pub fn has_name(&self, path: PathId) -> bool
+        ensures { result ≡ is_some (name_of (stored_state self.now) path) }
     {
-        name_of(&self.names, path)
+        self.names.has(path)
+    }
+
+    /// The number of the door that is attached to a path, 0 for none.
+    pub fn door_attached(&self, path: PathId) -> u32
+        ensures { result ≡ door_attached (name_of (stored_state self.now) path) }
+    {
+        match self.names.look(path) {
+            Ok(door) => door,
+            Err(_) => 0,
+        }
     }
 
     pub fn door(&self, d: u32) -> Option<Door>
         ensures { result ≡ door_of (stored_state self.now) d }
     {
-        numbered_item(&self.doors, d).copied()
-    }
-
-    /// A door is valid where it is not revoked and its owner has not ended.
-    pub fn is_valid(&self, d: u32) -> bool
-        ensures { result ≡ is_valid (stored_state self.now) d }
-    {
-        match numbered_item(&self.doors, d) {
-            Some(door) => is_valid_door(door),
-            None => false,
-        }
+        self.doors.door(d)
     }
 
     /// The pool that serves a door.
     pub fn pool_of(&self, d: u32) -> Pool
         ensures { result ≡ pool_of (stored_state self.now) d }
     {
-        pool_of(&self.doors, d)
+        self.doors.pool_of(d)
     }
 
     /// How many calls wait in a pool.
@@ -234,19 +182,26 @@ impl Store {
         queue_length(&self.doors, &self.calls.list, pool)
     }
 
-    /// A place of a process's table names this object. A place that isn't there changes nothing.
-    #[tactic(auto, using(crate::proofs::Places::numbered_here))]
-    pub fn put_row(&mut self, p: Pid, place: u32, object: Obj)
-        ensures { stored_state self.new ≡ with_table_of (stored_state self.old) p.0 (with_row (table_of (stored_state self.old) p.0) place (Some object)) }
+    /// An object gets the lowest free descriptor of a process that has one.
+    pub fn insert(&mut self, p: Pid, object: Obj) -> Fd
+        requires { is_some (lowest_free (table_of (stored_state self.old) p.0)) ≡ true }
+        ensures state { stored_state self.new ≡ with_table_of (stored_state self.old) p.0 (insert_row (table_of (stored_state self.old) p.0) object) }
+        ensures fd { result ≡ descriptor (free_place (table_of (stored_state self.old) p.0)) }
     {
-        if p.0 == 0 {
-            return;
+        let table = &mut self.tables[p.0 as usize - 1];
+        match table.insert(object) {
+            Ok(fd) => fd,
+            Err(_) => Fd(0),
         }
-        let index = p.0 as usize - 1;
-        if index < self.tables.len() {
-            let table = &mut self.tables[index];
-            table.put(place, Some(object));
-        }
+    }
+
+    /// Closes a descriptor of a process that names something.
+    pub fn close(&mut self, p: Pid, fd: Fd)
+        requires { is_some (object_at (stored_state self.old) p.0 fd) ≡ true }
+        ensures { stored_state self.new ≡ with_table_of (stored_state self.old) p.0 (close_row (table_of (stored_state self.old) p.0) fd.0) }
+    {
+        let table = &mut self.tables[p.0 as usize - 1];
+        let _ = table.remove(fd);
     }
 
     /// Closes each descriptor of a process.
@@ -264,42 +219,49 @@ impl Store {
         }
     }
 
-    /// Attaches a door to a path, which takes no memory.
-    pub fn add_name(&mut self, path: PathId, door: u32)
-        requires { HasRoom self.old }
+    /// Attaches a door to a path that has none, which takes no memory.
+    pub fn attach(&mut self, path: PathId, door: u32)
+        requires room { HasRoom self.old }
+        requires free { is_some (name_of (stored_state self.old) path) ≡ false }
         ensures { stored_state self.new ≡ record (stored_state self.old) { names = with_name (stored_state self.old).names path door } }
     {
-        let _ = self.names.push(Name { path, door });
+        let _ = self.names.attach(path, door);
     }
 
-    /// Another door, under the next number, which takes no memory.
+    /// A path has no door any more.
+    pub fn detach(&mut self, path: PathId)
+        ensures { stored_state self.new ≡ record (stored_state self.old) { names = without_name (stored_state self.old).names path } }
+    {
+        let _ = self.names.detach(path);
+    }
+
+    /// Another door, under the next number, which takes no memory. The attributes are none that door_create(3C) refuses.
     pub fn add_door(&mut self, owner: Pid, entry: u32, cookie: u64, attrs: Attrs) -> u32
         requires numbers { HasNumbersLeft (stored_state self.old) }
         requires room { HasRoom self.old }
+        requires allowed { has_told_attributes attrs ≡ false }
         ensures state { stored_state self.new ≡ record (stored_state self.old) { doors = with_door (stored_state self.old).doors owner.0 entry cookie attrs } }
         ensures number { result ≡ length (stored_state self.old).doors + 1 }
     {
-        let number = self.doors.len() as u32 + 1;
-        let _ = self.doors.push(Door {
-            number,
-            owner,
-            entry,
-            cookie,
-            attrs,
-            data_max: u64::MAX,
-            data_min: 0,
-            desc_max: 2_147_483_647,
-            revoked: false,
-            owner_ended: false,
-        });
-        number
+        match self.doors.create(owner, entry, cookie, attrs) {
+            Ok(number) => number,
+            Err(_) => 0,
+        }
+    }
+
+    /// A parameter of a door, where door_setparam(3C) by process `p` is not refused.
+    pub fn set_param(&mut self, d: u32, p: Pid, param: Param, value: u64)
+        requires { first_refusal (set_param_tests p.0 (door_of (stored_state self.old) d) param value) ≡ None }
+        ensures { stored_state self.new ≡ record (stored_state self.old) { doors = set_param (stored_state self.old).doors d param value } }
+    {
+        let _ = self.doors.setparam(d, p, param, value);
     }
 
     /// The doors of a process that ends are no longer valid.
     pub fn end_doors(&mut self, p: Pid)
         ensures { stored_state self.new ≡ record (stored_state self.old) { doors = end_owner (stored_state self.old).doors p.0 } }
     {
-        end_doors(&mut self.doors, p);
+        self.doors.owner_ended(p);
     }
 
     /// Lists what waits for a thread, the oldest first.

@@ -4,7 +4,7 @@ ghost use Rattle.std.specs.Option.{option_map};
 ghost use Rattle.std.specs.List.{list_any};
 ghost use Rattle.written_kernel.specs.Words.{caller_of, has_answer, is_runnable, root};
 ghost use Rattle.kernel_core.specs.Stored.{stored_state};
-ghost use Rattle.kernel_core.specs.Idle.{is_ready_call};
+ghost use Rattle.kernel_core.specs.Ready.{is_ready_call};
 
 use crate::store::Store;
 use dk_base::number::Tid;
@@ -29,7 +29,7 @@ pub fn runnable(store: &Store, t: Tid, ready: bool) -> bool
         | ThreadState::FailedReturn => true,
         ThreadState::Calling { call } => ready && has_answer(store, *call),
         ThreadState::Getting { interrupted, .. } => *interrupted,
-        ThreadState::Awaiting { path } => store.name_of(*path).is_some(),
+        ThreadState::Awaiting { path } => store.has_name(*path),
         ThreadState::Dormant | ThreadState::Idle { .. } | ThreadState::Done => false,
     }
 }

@@ -3,13 +3,14 @@ use Rattle.std.specs.Prelude.{ℕ, ◌≡◌, ◌+◌, List, [], ◌∷◌, Opti
 use Rattle.std.proofs.Common.{refl, sym, ap, subst, ◌∙◌}
 use native.Mathlib.Omega.{arith}
 use Rattle.std.proofs.lemmas.Bool.Decides.{nat_tests}
-use Rattle.written_kernel.specs.Types.{Answer, Attrs, Call, Door, Fd, Inv, Name, Obj, PathId, Process, ProcessStage, Request, Thread, ThreadState}
-use Rattle.dk_base.specs.declared.error.Errno.TheVariants.{EMFILE}
+use Rattle.written_kernel.specs.Types.{Answer, Attrs, Call, Door, Fd, Inv, Name, Obj, Param, PathId, Process, ProcessStage, Request, Thread, ThreadState}
+use Rattle.dk_base.specs.declared.error.Errno.TheVariants.{EINVAL, EMFILE}
+use Rattle.dk_base.specs.declared.request.Param.TheVariants as param
 use Rattle.kernel_records.specs.declared.record.ThreadState.TheVariants as is
 use Rattle.kernel_records.specs.declared.record.ProcessStage.TheVariants.{Live, Ended}
 use Rattle.dk_base.specs.ByNumber.{at_number}
-use Rattle.kernel_records.specs.Words.{CallTree, ProcessTable, change_first, is_live_in, is_live_stage, lowest_free, new_door, state_in, with_door}
-use Rattle.written_kernel.specs.Words.{ActResult, State, await, await_name, create, create_tests, find_call, first_refusal, name_of, object_at, open_path, process_of, refused_where, state_of, thread_of, with_state, with_table_of}
+use Rattle.kernel_records.specs.Words.{CallTree, ProcessTable, change_door_in, change_first, first_refusal, has_told_attributes, is_live_in, is_live_stage, lowest_free, new_door, refused_where, set_param, state_in, with_door, with_param}
+use Rattle.written_kernel.specs.Words.{ActResult, State, await, await_name, create, create_tests, door_of, find_call, name_of, object_at, process_of, state_of, thread_of, with_state, with_table_of}
 use Rattle.kernel_invariant.specs.Records.{has_number, record_of}
 use Rattle.kernel_invariant.specs.Core.{core, ended_in, is_ended_stage}
 use Rattle.kernel_invariant.specs.Coherent.{IsCoherent, is_unbuilt}
@@ -18,8 +19,8 @@ use Rattle.kernel_invariant.specs.Arrows.{ByAct}
 use Rattle.kernel_invariant.specs.Arrows.ByAct.{stays}
 use Rattle.written_kernel.proofs.Lists.{at_number-with_at_number, length-with_at_number, numbered_past, numbered_there, numbered_within}
 use Rattle.kernel_invariant.proofs.Calls.{IsInOrder-change_first, find-change_first, find-found, length-change_first}
-use Rattle.kernel_invariant.proofs.Cores.{IsThere, Turns, act-core, set_thread_state-turns, upd, with_door-core}
-use Rattle.kernel_invariant.proofs.ThreadMoves.{turn_keeps, door_keeps, is_quiet}
+use Rattle.kernel_invariant.proofs.Cores.{IsThere, Turns, act-core, change_door-core, set_thread_state-turns, upd, with_door-core}
+use Rattle.kernel_invariant.proofs.ThreadMoves.{IsSameButLimits, turn_keeps, door_keeps, is_quiet, limits_keep}
 
 pub record Does (m : State) (t : ℕ) (q : Option Request) (a : ActResult) : Type 0 where
   pub consistent : IsConsistent a.state
@@ -184,11 +185,47 @@ with_table_of_keeps m p table h e =
       unbuilt = record { no_notices = h.unbuilt.no_notices; unbound = h.unbuilt.unbound };
     }
 
-pub open_does :
-    (m : State) (t : ℕ) (q : Option Request) (path : PathId) → IsConsistent m → state_of m t ≡ is.Running →
-    Does m t q (open_path m (process_of m t) path)
-open_does m t q path h e =
-    record { consistent = with_table_of_keeps m (process_of m t) _ h (not_ended m t h e); arrows = λ c. stays }
+-- the thread's process has another table
+pub rows_does :
+    (m : State) (t : ℕ) (q : Option Request) (table : List (Option Obj)) (a : Answer) → IsConsistent m → state_of m t ≡ is.Running →
+    Does m t q (act_result (with_table_of m (process_of m t) table) a)
+rows_does m t q table a h e =
+    record { consistent = with_table_of_keeps m (process_of m t) table h (not_ended m t h e); arrows = λ c. stays }
+
+-- doors
+
+doors_consistent :
+    (m : State) (doors : List Door) → IsConsistent m → IsCoherent (core (record m { doors = doors })) →
+    IsConsistent (record m { doors = doors })
+doors_consistent m doors h k =
+    record {
+      in_order = h.in_order;
+      counted = h.counted;
+      coherent = k;
+      tables = h.tables;
+      no_rows = h.no_rows;
+      unbuilt = record { no_notices = h.unbuilt.no_notices; unbound = h.unbuilt.unbound };
+    }
+
+same_but_limits : (x : Param) (value : ℕ) (y : Door) → IsSameButLimits y (with_param x value y)
+same_but_limits param.DataMax value y = record { number = refl; owner = refl; attrs = refl; revoked = refl; owner_ended = refl }
+same_but_limits param.DataMin value y = record { number = refl; owner = refl; attrs = refl; revoked = refl; owner_ended = refl }
+same_but_limits param.DescMax value y = record { number = refl; owner = refl; attrs = refl; revoked = refl; owner_ended = refl }
+
+pub set_param_does :
+    (m : State) (t : ℕ) (q : Option Request) (d : ℕ) (x : Param) (value : ℕ) (a : Answer) → IsConsistent m →
+    Does m t q (act_result (record m { doors = set_param m.doors d x value }) a)
+set_param_does m t q d x value a h =
+    record { consistent = doors_consistent m (set_param m.doors d x value) h (go (door_of m d) refl); arrows = λ c. stays }
+  where
+    go : (o : Option Door) → door_of m d ≡ o → IsCoherent (core (record m { doors = set_param m.doors d x value }))
+    go None e =
+        subst (λ (doors : List Door). IsCoherent (core (record m { doors = doors })))
+        (sym (ap (change_door_in m.doors d (with_param x value)) e))
+        h.coherent
+    go (Some y) e =
+        subst IsCoherent (sym (change_door-core m d (with_param x value) y e))
+        (limits_keep (core m) d y (with_param x value y) h.coherent e (same_but_limits x value y))
 
 -- a process that is there and has not ended is live
 pub lives : (o : Option Process) → is_some o ≡ true → ended_in o ≡ false → is_live_in o ≡ true
@@ -200,15 +237,21 @@ lives (Some x) e f = go x.stage f
     go Ended f = grind arith
 
 -- a table with a free place is there
-has_place : (o : Option (List (Option Obj))) → first_refusal (refused_where (is_none (lowest_free (unwrap_or o []))) EMFILE ∷ []) ≡ None → is_some o ≡ true
-has_place None e = grind arith
-has_place (Some rows) e = refl
+has_place :
+    (told : Bool) (o : Option (List (Option Obj))) →
+    first_refusal (refused_where told EINVAL ∷ refused_where (is_none (lowest_free (unwrap_or o []))) EMFILE ∷ []) ≡ None →
+    is_some o ≡ true
+has_place true None e = grind arith
+has_place false None e = grind arith
+has_place told (Some rows) e = refl
 
 -- a door is made by a process that is there, since its table has a place
 creator_lives :
-    (m : State) (t : ℕ) → IsConsistent m → state_of m t ≡ is.Running → first_refusal (create_tests m (process_of m t)) ≡ None →
+    (m : State) (t : ℕ) (attrs : Attrs) → IsConsistent m → state_of m t ≡ is.Running →
+    first_refusal (create_tests m (process_of m t) attrs) ≡ None →
     is_live_in (at_number m.process_table.processes (process_of m t)) ≡ true
-creator_lives m t h e f = go (at_number m.tables (process_of m t)) refl (has_place (at_number m.tables (process_of m t)) f)
+creator_lives m t attrs h e f =
+    go (at_number m.tables (process_of m t)) refl (has_place (has_told_attributes attrs) (at_number m.tables (process_of m t)) f)
   where
     go : (o : Option (List (Option Obj))) → at_number m.tables (process_of m t) ≡ o → is_some o ≡ true → is_live_in (at_number m.process_table.processes (process_of m t)) ≡ true
     go None g s = grind arith
@@ -218,7 +261,7 @@ creator_lives m t h e f = go (at_number m.tables (process_of m t)) refl (has_pla
 
 pub create_does :
     (m : State) (t : ℕ) (q : Option Request) (entry cookie : ℕ) (attrs : Attrs) → IsConsistent m → state_of m t ≡ is.Running →
-    first_refusal (create_tests m (process_of m t)) ≡ None → Does m t q (create m (process_of m t) entry cookie attrs)
+    first_refusal (create_tests m (process_of m t) attrs) ≡ None → Does m t q (create m (process_of m t) entry cookie attrs)
 create_does m t q entry cookie attrs h e f =
     record { consistent = with_table_of_keeps n (process_of m t) _ made (not_ended m t h e); arrows = λ c. stays }
   where
@@ -230,13 +273,6 @@ create_does m t q entry cookie attrs h e f =
 
     made : IsConsistent n
     made =
-        record {
-          in_order = h.in_order;
-          counted = h.counted;
-          coherent =
-              subst IsCoherent (sym (with_door-core m d refl))
-              (door_keeps (core m) d h.coherent (numbered_past m.doors d.number (grind arith)) (grind (arith, creator_lives m t h e f)));
-          tables = h.tables;
-          no_rows = h.no_rows;
-          unbuilt = record { no_notices = h.unbuilt.no_notices; unbound = h.unbuilt.unbound };
-        }
+        doors_consistent m (with_door m.doors (process_of m t) entry cookie attrs) h
+        (subst IsCoherent (sym (with_door-core m d refl))
+        (door_keeps (core m) d h.coherent (numbered_past m.doors d.number (grind arith)) (grind (arith, creator_lives m t attrs h e f))))

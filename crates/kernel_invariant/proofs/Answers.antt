@@ -3,7 +3,7 @@ use Rattle.std.specs.Prelude.{ℕ, ◌≡◌, List, [], Option, Some, None}
 use Rattle.std.proofs.Common.{refl, sym, ap, subst, ◌∙◌}
 use native.Mathlib.Omega.{arith}
 use Rattle.std.proofs.lemmas.Bool.Decides.{nat_tests}
-use Rattle.written_kernel.specs.Types.{Answer, Call, CallStage, Errno, Fd, Item, Name, Pass, PathId, Request, ThreadState}
+use Rattle.written_kernel.specs.Types.{Answer, Call, CallStage, DoorInfo, Errno, Fd, Item, Name, Pass, PathId, Pid, Request, ThreadState}
 use Rattle.dk_base.specs.declared.object.Item.TheVariants as item
 use Rattle.dk_base.specs.declared.request.Request.TheVariants as request
 use Rattle.dk_base.specs.declared.answer.Answer.TheVariants as answer
@@ -45,6 +45,17 @@ new_fd m t r n fd = record { told = tt; there = tt; same = tt }
 done : (m : State) (t : ℕ) (r : Request) (n : State) → Tells m t (Some r) (act_result n answer.Done)
 done m t r n = record { told = tt; there = tt; same = tt }
 
+-- what is told of a door and of a client
+
+informs : (m : State) (t : ℕ) (r : Request) (n : State) (info : DoorInfo) → Tells m t (Some r) (act_result n (answer.Info info))
+informs m t r n info = record { told = tt; there = tt; same = tt }
+
+values : (m : State) (t : ℕ) (r : Request) (n : State) (value : ℕ) → Tells m t (Some r) (act_result n (answer.Param value))
+values m t r n value = record { told = tt; there = tt; same = tt }
+
+names : (m : State) (t : ℕ) (r : Request) (n : State) (process : Pid) → Tells m t (Some r) (act_result n (answer.Client process))
+names m t r n process = record { told = tt; there = tt; same = tt }
+
 waits : (m : State) (t : ℕ) (r : Request) (n : State) → Tells m t (Some r) (act_result n answer.Wait)
 waits m t r n = record { told = tt; there = tt; same = tt }
 
@@ -72,6 +83,10 @@ effect_tells : (m : State) (t p : ℕ) (r : Request) → IsConsistent m → Tell
 effect_tells m t p (request.Create entry cookie attrs) h = new_fd m t _ _ _
 effect_tells m t p (request.Call fd bytes pass rsize) h = call_tells m t p fd bytes pass rsize h
 effect_tells m t p (request.Return bytes pass) h = waits m t _ _
+effect_tells m t p (request.Info fd) h = informs m t _ _ _
+effect_tells m t p (request.GetParam fd x) h = values m t _ _ _
+effect_tells m t p request.Cred h = names m t _ _ _
+effect_tells m t p (request.Dup fd) h = new_fd m t _ _ _
 effect_tells m t p (request.Open path) h = new_fd m t _ _ _
 effect_tells m t p (request.Await path) h = await_tells m t _ path
 effect_tells m t p r h = done m t _ _

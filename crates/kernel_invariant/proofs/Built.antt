@@ -1,28 +1,44 @@
 -- A turn's act is one that is built.
-use Rattle.std.specs.Prelude.{ℕ, ◌≡◌, ◌≤◌, Option, true, false, Some, None, is_some}
+use Rattle.std.specs.Prelude.{ℕ, ◌≡◌, ◌≤◌, List, [], ◌∷◌, Option, true, false, Some, None, is_some}
 use Rattle.std.proofs.Common.{refl}
 use native.Mathlib.Omega.{arith}
 use Rattle.dk_base.specs.declared.object.Item.TheVariants as item
 use Rattle.dk_base.specs.declared.request.Request.TheVariants as request
-use Rattle.written_kernel.specs.Types.{Request, ThreadState}
+use Rattle.written_kernel.specs.Types.{Fd, Inv, Pass, Request, ThreadState}
 use Rattle.kernel_records.specs.declared.record.ThreadState.TheVariants as is
-use Rattle.capabilities.specs.Words.{capability_of}
+use Rattle.capabilities.specs.Words.{capability_of, capability_of_pass}
 use Rattle.capabilities.specs.declared.table.TheConstants.{BUILT}
-use Rattle.written_kernel.specs.Words.{MayTurn, State, can_go_on, is_running_state, state_of}
+use Rattle.written_kernel.specs.Words.{MayInside, MayTurn, State, can_go_on, is_running_state, state_of, invocation_of}
 use Rattle.kernel_invariant.specs.Coherent.{is_unbuilt}
 use Rattle.kernel_invariant.specs.Invariant.{IsConsistent, Invariant}
 use Rattle.kernel_invariant.specs.Events.{IsBuiltEnd, IsBuiltEntry, IsBuiltTurn, IsMade}
+use Rattle.kernel_invariant.proofs.Steps.{no_exit_inside}
 use Rattle.kernel_invariant.proofs.Waits.{given_found}
 
-entry_built : (r : Request) → capability_of r ≤ BUILT → IsBuiltEntry r
-entry_built (request.Create entry cookie attrs) h = tt
-entry_built (request.Call fd bytes pass rsize) h = tt
-entry_built (request.Return bytes pass) h = tt
-entry_built (request.Attach fd path) h = tt
-entry_built (request.Open path) h = tt
-entry_built (request.Await path) h = tt
-entry_built request.Exit h = tt
-entry_built r h = omega arith
+no_pass : (pass : List Pass) → capability_of_pass pass ≤ BUILT → pass ≡ []
+no_pass [] h = refl
+no_pass (p ∷ ps) h = absurd (omega arith)
+
+no_invocation : (o : Option Inv) (fd : Fd) (bytes : List ℕ) (pass : List Pass) (rsize : ℕ) → MayInside o (request.Call fd bytes pass rsize) → o ≡ None
+no_invocation None fd bytes pass rsize h = refl
+no_invocation (Some v) fd bytes pass rsize h = absurd h
+
+entry_built : (m : State) (t : ℕ) (r : Request) → capability_of r ≤ BUILT → MayInside (invocation_of m t) r → IsBuiltEntry m t r
+entry_built m t (request.Create entry cookie attrs) h i = h
+entry_built m t (request.Call fd bytes pass rsize) h i = (no_pass pass h, no_invocation (invocation_of m t) fd bytes pass rsize i)
+entry_built m t (request.Return bytes pass) h i = no_pass pass h
+entry_built m t (request.Info fd) h i = tt
+entry_built m t (request.GetParam fd x) h i = tt
+entry_built m t (request.SetParam fd x value) h i = tt
+entry_built m t request.Cred h i = tt
+entry_built m t (request.Close fd) h i = tt
+entry_built m t (request.Dup fd) h i = tt
+entry_built m t (request.Attach fd path) h i = tt
+entry_built m t (request.Detach path) h i = tt
+entry_built m t (request.Open path) h i = tt
+entry_built m t (request.Await path) h i = tt
+entry_built m t request.Exit h i = no_exit_inside (invocation_of m t) i
+entry_built m t r h i = omega arith
 
 made_of : {X : Type 0} (o : Option X) → is_some o ≡ true → IsMade o
 made_of None e = absurd (grind arith)
@@ -37,6 +53,6 @@ end_built m t (is.Awaiting path) h e f g u = made_of _ f
 end_built m t s h e f g u = grind arith
 
 pub turn_built : (m : State) (t : ℕ) (q : Option Request) → Invariant m → MayTurn m t q → IsBuiltTurn m t q
-turn_built m t (Some r) h may = entry_built r may.built
+turn_built m t (Some r) h may = entry_built m t r may.built may.inside
 turn_built m t None h may =
-    end_built m t (state_of m t) h.consistent refl may.runnable may.waits (h.consistent.coherent.built t)
+    end_built m t (state_of m t) h.consistent refl may.runnable may.waits (h.consistent.coherent.has_built_state t)

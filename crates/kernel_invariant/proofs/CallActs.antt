@@ -1,12 +1,13 @@
 -- The acts that change a call: door_call, accept, door_return and collect.
-use Rattle.std.specs.Prelude.{ℕ, ◌≡◌, List, [], ◌∷◌, Option, Bool, true, false, Some, None, is_some}
+use Rattle.std.specs.Prelude.{ℕ, ◌≡◌, List, [], ◌∷◌, Option, Bool, true, false, not, if◌then◌else◌, Some, None, is_some}
 use Rattle.std.proofs.Common.{refl, sym, ap, subst}
 use native.Mathlib.Omega.{arith}
 use Rattle.std.proofs.Common.{length-append}
 use Rattle.std.proofs.lemmas.Bool.Decides.{nat_tests}
-use Rattle.written_kernel.specs.Types.{Answer, Call, CallStage, Fd, Item, Obj, Pass, Request}
-use Rattle.kernel_records.specs.Words.{is_client_call_of, is_given_as, is_given_to, is_entered_by, is_to_collect, is_to_collect_as, open_call, park_thread, set_thread_state, tid, without_arguments_at}
-use Rattle.written_kernel.specs.Words.{State, accept, accept_call, call, call_tests, client_call, collect, collect_answer, collect_answer_in, door_named, find_call, first_refusal, invocation_of, is_valid, make_call, new_call, now, object_at, process_of, return, state_of}
+use Rattle.written_kernel.specs.Types.{Answer, Call, CallStage, Errno, Fd, Item, Obj, Pass, Request}
+use Rattle.kernel_records.specs.Words.{first_refusal, is_client_call_of, is_entered_by, is_given_as, is_given_to, is_to_collect, is_to_collect_as, open_call, park_thread, set_thread_state, tid, without_arguments_at}
+use Rattle.written_kernel.specs.Words.{State, accept, accept_call, call, call_tests, client_call, collect, collect_answer, collect_answer_in, door_named, find_call, invocation_of, is_valid, make_call, new_call, now, object_at, process_of, return, state_of}
+use Rattle.dk_base.specs.declared.error.Errno.TheVariants.{EBADF}
 use Rattle.dk_base.specs.declared.object.Obj.TheVariants as obj
 use Rattle.dk_base.specs.declared.object.Item.TheVariants as item
 use Rattle.dk_base.specs.declared.request.Request.TheVariants as request
@@ -33,7 +34,11 @@ record_found m test r h f = find-found test m.call_tree.calls 0 r h.in_order f
 call_is_valid :
     (m : State) (p : ℕ) (fd : Fd) (bytes : List ℕ) (pass : List Pass) → first_refusal (call_tests m p fd bytes pass) ≡ None →
     is_valid m (door_named (object_at m p fd)) ≡ true
-call_is_valid m p fd bytes pass e = grind arith
+call_is_valid m p fd bytes pass e = first (is_valid m (door_named (object_at m p fd))) _ e
+  where
+    first : (valid : Bool) (others : Option Errno) → (if not valid then Some EBADF else others) ≡ None → valid ≡ true
+    first true others f = refl
+    first false others f = cc
 
 pub names_door : (m : State) (o : Option Obj) → is_valid m (door_named o) ≡ true → o ≡ Some (obj.Door (door_named o))
 names_door m None e = grind (arith, nat_tests)

@@ -70,7 +70,7 @@ call_keeps k t r h p =
       bindings = h.bindings;
       processes = processes_turn k.role k.process k.proc t _ h.processes (grind arith);
       threads = h.threads;
-      built = λ v. grind (arith, nat_tests, h.built v);
+      has_built_state = λ v. grind (arith, nat_tests, h.has_built_state v);
     }
 
 -- a thread enters the call that it was given
@@ -120,7 +120,7 @@ enter_keeps k t r h q g =
       bindings = h.bindings;
       processes = processes_turn k.role k.process k.proc t _ h.processes (grind arith);
       threads = h.threads;
-      built = λ v. grind (arith, nat_tests, h.built v);
+      has_built_state = λ v. grind (arith, nat_tests, h.has_built_state v);
     }
 
 -- a thread returns from its call, and is parked
@@ -161,7 +161,7 @@ return_keeps k t r bytes since h p q s a =
       bindings = h.bindings;
       processes = processes_turn k.role k.process k.proc t _ h.processes (grind arith);
       threads = h.threads;
-      built = λ v. grind (arith, nat_tests, h.built v);
+      has_built_state = λ v. grind (arith, nat_tests, h.has_built_state v);
     }
 
 -- a thread without a client is parked
@@ -202,7 +202,7 @@ park_keeps k t since h p q z =
       bindings = h.bindings;
       processes = processes_turn k.role k.process k.proc t _ h.processes (grind arith);
       threads = h.threads;
-      built = λ v. grind (arith, nat_tests, h.built v);
+      has_built_state = λ v. grind (arith, nat_tests, h.has_built_state v);
     }
 
 -- a caller collects the answer of its call
@@ -242,5 +242,5 @@ collect_keeps k t r at h q g z =
       bindings = h.bindings;
       processes = processes_turn k.role k.process k.proc t _ h.processes (grind arith);
       threads = h.threads;
-      built = λ v. grind (arith, nat_tests, h.built v);
+      has_built_state = λ v. grind (arith, nat_tests, h.has_built_state v);
     }

@@ -5,12 +5,13 @@ use native.Mathlib.Omega.{arith}
 use Rattle.std.proofs.lemmas.Bool.Decides.{nat_tests}
 use Rattle.written_kernel.specs.Types.{Call, Door, Inv, Item, Thread, ThreadState}
 use Rattle.kernel_records.specs.declared.record.ThreadState.TheVariants as is
-use Rattle.kernel_records.specs.Words.{CallTree, ProcessTable, change_thread, end_thread, ended_thread, enter_thread, idle_thread, invocation_in, new_invocation, park_thread, process_in, set_thread_state, state_in, thread_at, thread_at_state, thread_in_invocation}
+use Rattle.kernel_records.specs.Words.{CallTree, ProcessTable, change_door, change_thread, end_thread, ended_thread, enter_thread, idle_thread, invocation_in, new_invocation, park_thread, process_in, set_thread_state, state_in, thread_at, thread_at_state, thread_in_invocation}
 use Rattle.dk_base.specs.ByNumber.{at_number}
 use Rattle.written_kernel.specs.Words.{State}
 use Rattle.kernel_invariant.specs.Records.{has_number}
 use Rattle.kernel_invariant.specs.Core.{Core, core, number_in}
 use Rattle.written_kernel.proofs.Invocations.{invocation-end_thread, invocation-enter_thread, invocation-park_thread, invocation-set_thread_state}
+use Rattle.written_kernel.proofs.Doors.{at_number-change_door}
 use Rattle.written_kernel.proofs.Lists.{numbered_push}
 use Rattle.written_kernel.proofs.Threads.{processes-change_thread, thread_at-change_thread}
 
@@ -195,6 +196,26 @@ with_door-core m d n =
       number = λ u. refl;
       bound = λ u. refl;
       door = λ j. grind (arith, nat_tests, numbered_push m.doors d j);
+      proc = λ u. refl;
+      call = λ u. refl;
+      made = refl;
+      notice = λ u. refl;
+    })
+
+pub change_door-core :
+    (m : State) (d : ℕ) (change : Door → Door) (x : Door) → at_number m.doors d ≡ Some x →
+    core (record m { doors = change_door m.doors d change }) ≡ record (core m) { door = upd (core m).door d (Some (change x)) }
+change_door-core m d change x e =
+    same_core _ _
+    (record {
+      role = λ u. refl;
+      serves = λ u. refl;
+      process = λ u. refl;
+      number = λ u. refl;
+      bound = λ u. refl;
+      door =
+          λ j. at_number-change_door m.doors d j change
+          ∙ ap (λ (o : Option Door). if j == d then option_map change o else at_number m.doors j) e;
       proc = λ u. refl;
       call = λ u. refl;
       made = refl;

@@ -3,13 +3,15 @@ use Rattle.std.specs.Prelude.{ℕ, ◌≡◌, ◌+◌, Option, Bool, true, false
 use Rattle.std.proofs.Common.{refl, sym, subst}
 use native.Mathlib.Omega.{arith}
 use Rattle.std.proofs.lemmas.Bool.Decides.{nat_tests}
-use Rattle.written_kernel.specs.Types.{Attrs, Call, Door, Errno, Item, Name, PathId, Request, ThreadState}
+use Rattle.written_kernel.specs.Types.{Attrs, Call, Door, Errno, Item, Name, Param, PathId, Request, ThreadState}
 use Rattle.dk_base.specs.declared.object.Item.TheVariants as item
+use Rattle.dk_base.specs.declared.request.Param.TheVariants as param
 use Rattle.dk_base.specs.declared.request.Request.TheVariants as request
 use Rattle.kernel_records.specs.declared.record.ThreadState.TheVariants as is
 use Rattle.dk_base.specs.ByNumber.{at_number}
-use Rattle.kernel_records.specs.Words.{is_given_as, is_last, new_door, with_door, with_owner_ended}
+use Rattle.kernel_records.specs.Words.{is_given_as, is_last, new_door, set_param, with_door, with_owner_ended, with_param}
 use Rattle.written_kernel.specs.Words.{MayTurn, State, accept, accept_call, act, await, await_name, door_of, effect, enter, exit, find_call, go_on, leave_process, leave_thread, name_of, process_of, refusal_of, state_of, step, unless_refused}
+use Rattle.written_kernel.proofs.Doors.{at_number-change_door}
 use Rattle.written_kernel.proofs.Lists.{at_number-map, numbered_push, numbered_past}
 use Rattle.kernel_invariant.specs.Invariant.{Invariant}
 use Rattle.kernel_invariant.specs.Events.{DoorArrow}
@@ -44,6 +46,26 @@ create_holds m t entry cookie attrs d = subst (λ o. DoorArrow m t q (door_of m 
         subst (λ o. DoorArrow m t q o (Some x)) (sym (numbered_past m.doors d (grind (arith, nat_tests))))
         (created x (record { request = refl; owner = refl }))
 
+-- a parameter of a door
+param_holds :
+    (m : State) (t : ℕ) (q : Option Request) (x : Param) (value : ℕ) (o : Option Door) → DoorArrow m t q o (option_map (with_param x value) o)
+param_holds m t q x value None = none
+param_holds m t q param.DataMax value (Some y) = kept y _ (record { number = refl; owner = refl; entry = refl; cookie = refl; attrs = refl })
+param_holds m t q param.DataMin value (Some y) = kept y _ (record { number = refl; owner = refl; entry = refl; cookie = refl; attrs = refl })
+param_holds m t q param.DescMax value (Some y) = kept y _ (record { number = refl; owner = refl; entry = refl; cookie = refl; attrs = refl })
+
+set_param_holds :
+    (m : State) (t : ℕ) (q : Option Request) (x : Param) (value e d : ℕ) → DoorArrow m t q (door_of m d) (at_number (set_param m.doors e x value) d)
+set_param_holds m t q x value e d =
+    subst (λ o. DoorArrow m t q (door_of m d) o) (sym (at_number-change_door m.doors e d (with_param x value))) (go (d == e) refl)
+  where
+    go : (b : Bool) → (d == e) ≡ b → DoorArrow m t q (door_of m d) (if b then option_map (with_param x value) (door_of m e) else door_of m d)
+    go false g = stays m t q (door_of m d)
+    go true g =
+        let here : e ≡ d = grind (arith, nat_tests) in
+        subst (λ (j : ℕ). DoorArrow m t q (door_of m j) (option_map (with_param x value) (door_of m e))) here
+        (param_holds m t q x value (door_of m e))
+
 await_holds : (m : State) (t : ℕ) (q : Option Request) (path : PathId) (d : ℕ) → Holds m t q (await m t path).state d
 await_holds m t q path d = go (name_of m path)
   where
@@ -69,6 +91,7 @@ exit_holds m t q p d = go (is_last m.process_table t p)
 
 effect_holds : (m : State) (t : ℕ) (r : Request) (d : ℕ) → Holds m t (Some r) (effect m t (process_of m t) r).state d
 effect_holds m t (request.Create entry cookie attrs) d = create_holds m t entry cookie attrs d
+effect_holds m t (request.SetParam fd x value) d = set_param_holds m t _ x value _ d
 effect_holds m t (request.Await path) d = await_holds m t _ path d
 effect_holds m t request.Exit d = exit_holds m t _ (process_of m t) d
 effect_holds m t r d = stays m t _ (door_of m d)

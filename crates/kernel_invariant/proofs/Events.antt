@@ -48,5 +48,5 @@ step_keeps m t q h may =
       accepted = λ c e f. step_accepted m t q c h may e f;
       collected = λ c e f. step_collected m t q c h may e f;
       refused = λ r e f g. step_refused m t q r e h f g;
-      built = turn_built m t q h may;
+      is_built = turn_built m t q h may;
     }

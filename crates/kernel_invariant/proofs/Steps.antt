@@ -12,7 +12,7 @@ use Rattle.kernel_invariant.specs.Invariant.{IsConsistent, Invariant}
 use Rattle.kernel_invariant.specs.Arrows.{ByAct, EndsBy, Arrow}
 use Rattle.kernel_invariant.specs.Arrows.ByAct.{stays, makes, enters, returns, ends, collects_results, collects_error}
 use Rattle.kernel_invariant.specs.Arrows.EndsBy.{door_invalid}
-use Rattle.kernel_invariant.proofs.Acts.{Does, does_nothing, create_does, names_does, open_does, await_does, turned_to}
+use Rattle.kernel_invariant.proofs.Acts.{Does, does_nothing, create_does, names_does, rows_does, set_param_does, await_does, turned_to}
 use Rattle.kernel_invariant.proofs.CallActs.{call_does, return_does, accept_does, collect_does}
 use Rattle.kernel_invariant.proofs.Exits.{exit_does}
 use Rattle.kernel_invariant.proofs.Settling.{Settles, settle_does}
@@ -34,8 +34,12 @@ effect_does :
 effect_does m t (request.Create entry cookie attrs) h e i f = create_does m t _ entry cookie attrs h e f
 effect_does m t (request.Call fd bytes pass rsize) h e i f = call_does m t rsize fd bytes pass h e f
 effect_does m t (request.Return bytes pass) h e i f = return_does m t (process_of m t) bytes pass h e
+effect_does m t (request.SetParam fd x value) h e i f = set_param_does m t _ _ x value _ h
+effect_does m t (request.Close fd) h e i f = rows_does m t _ _ _ h e
+effect_does m t (request.Dup fd) h e i f = rows_does m t _ _ _ h e
 effect_does m t (request.Attach fd path) h e i f = names_does m t _ _ _ h
-effect_does m t (request.Open path) h e i f = open_does m t _ path h e
+effect_does m t (request.Detach path) h e i f = names_does m t _ _ _ h
+effect_does m t (request.Open path) h e i f = rows_does m t _ _ _ h e
 effect_does m t (request.Await path) h e i f = await_does m t _ path h e
 effect_does m t request.Exit h e i f = exit_does m t _ h e (no_exit_inside (invocation_of m t) i)
 effect_does m t r h e i f = does_nothing m t _ _ h

@@ -1,19 +1,19 @@
 -- The other atomic changes of the core: a thread turns to another wait, a door is made, a call is given, threads leave, and
 -- a process ends. Each keeps what holds of a core.
-use Rattle.std.specs.Prelude.{ℕ, ◌≡◌, Bool, not, true, false, ◌==◌, ◌&&◌, if◌then◌else◌, Some, None, option_map}
-use Rattle.std.proofs.Common.{refl}
+use Rattle.std.specs.Prelude.{ℕ, ◌≡◌, Option, Bool, not, true, false, ◌==◌, ◌&&◌, if◌then◌else◌, Some, None, is_some, option_map}
+use Rattle.std.proofs.Common.{refl, sym, ap, ap₂, subst, ◌∙◌}
 use native.Mathlib.Omega.{arith}
 use Rattle.std.proofs.lemmas.Bool.Decides.{nat_tests}
 use Rattle.dk_base.specs.declared.error.Errno.TheVariants.{EBADF}
 use Rattle.dk_base.specs.declared.object.Item.TheVariants as item
-use Rattle.written_kernel.specs.Types.{Call, Door, ThreadState}
+use Rattle.written_kernel.specs.Types.{Call, Door, Pid, ThreadState}
 use Rattle.kernel_records.specs.declared.record.ThreadState.TheVariants as is
 use Rattle.kernel_records.specs.declared.record.CallStage.TheVariants as stage
-use Rattle.kernel_records.specs.Words.{at_stage, ended_process, is_live_in, is_owned_by, is_queued, tid, with_owner_ended, without_arguments_at}
-use Rattle.kernel_invariant.specs.Core.{Core}
+use Rattle.kernel_records.specs.Words.{at_stage, ended_process, has_no_cancel, is_live_in, is_owned_by, is_private, is_queued, is_valid_in, no_cancel_of, tid, with_owner_ended, without_arguments_at}
+use Rattle.kernel_invariant.specs.Core.{Core, door_in, private_in}
 use Rattle.kernel_invariant.specs.Coherent.{IsCoherent, is_unbuilt}
 use Rattle.kernel_invariant.specs.Records.{owner_in}
-use Rattle.kernel_invariant.proofs.Cores.{set_role, set_serves, set_call, set_door}
+use Rattle.kernel_invariant.proofs.Cores.{set_role, set_serves, set_call, set_door, upd}
 use Rattle.kernel_invariant.proofs.Parts.{notices_serve, notices_turn, processes_turn}
 
 -- states in which a thread is in no call but the one that it serves
@@ -52,7 +52,7 @@ turn_keeps k t s h p q u =
       bindings = h.bindings;
       processes = processes_turn k.role k.process k.proc t s h.processes (grind arith);
       threads = h.threads;
-      built = λ v. grind (arith, nat_tests, h.built v);
+      has_built_state = λ v. grind (arith, nat_tests, h.has_built_state v);
     }
 
 pub door_keeps :
@@ -86,8 +86,83 @@ door_keeps k d h p q =
           };
       processes = h.processes;
       threads = h.threads;
-      built = λ v. grind (arith, nat_tests, h.built v);
+      has_built_state = λ v. grind (arith, nat_tests, h.has_built_state v);
     }
+
+-- what a change of a door's parameters leaves
+pub record IsSameButLimits (x y : Door) : Type 0 where
+  pub number : y.number ≡ x.number
+  pub owner : y.owner ≡ x.owner
+  pub attrs : y.attrs ≡ x.attrs
+  pub revoked : y.revoked ≡ x.revoked
+  pub owner_ended : y.owner_ended ≡ x.owner_ended
+
+-- a reader that sees no difference between two doors sees none where one becomes the other
+reads_same :
+    {X : Type 0} (f : Option Door → X) (doors : ℕ → Option Door) (d e : ℕ) (x y : Door) → doors d ≡ Some x →
+    f (Some y) ≡ f (Some x) → f (upd doors d (Some y) e) ≡ f (doors e)
+reads_same f doors d e x y there same = go (e == d) refl
+  where
+    go : (b : Bool) → (e == d) ≡ b → f (if b then Some y else doors e) ≡ f (doors e)
+    go true g =
+        let here : d ≡ e = grind (arith, nat_tests) in
+        same ∙ ap f (sym there) ∙ ap (λ (j : ℕ). f (doors j)) here
+    go false g = refl
+
+pub limits_keep :
+    (k : Core) (d : ℕ) (x y : Door) → IsCoherent k → k.door d ≡ Some x → IsSameButLimits x y →
+    IsCoherent (record k { door = upd k.door d (Some y) })
+limits_keep k d x y h there s =
+    record {
+      waits = h.waits;
+      invocations = h.invocations;
+      notices_given = h.notices_given;
+      notices_entered = h.notices_entered;
+      servers = h.servers;
+      calls = h.calls;
+      at_doors =
+          record {
+            door_there = λ c r e. reads is_some refl r.door ∙ h.at_doors.door_there c r e;
+            no_cancel = λ c r e. h.at_doors.no_cancel c r e ∙ sym (reads no_cancel_of (ap has_no_cancel s.attrs) r.door);
+            waiting_valid = λ c e. reads is_valid_in valid (door_in (k.call c)) ∙ h.at_doors.waiting_valid c e;
+            given_owner = λ c v e. reads owner_in owner (door_in (k.call c)) ∙ h.at_doors.given_owner c v e;
+            entered_owner = λ c v e. reads owner_in owner (door_in (k.call c)) ∙ h.at_doors.entered_owner c v e;
+          };
+      doors = record { door_number = λ e z f. numbers e z (e == d) refl f; owner_ended = λ e z f. ended e z (e == d) f };
+      bindings =
+          record {
+            bound_own = λ v e f. reads owner_in owner e ∙ h.bindings.bound_own v e f;
+            bound_private = λ v e f. reads private_in (ap is_private s.attrs) e ∙ h.bindings.bound_private v e f;
+          };
+      processes = h.processes;
+      threads = h.threads;
+      has_built_state = h.has_built_state;
+    }
+  where
+    reads : {X : Type 0} (f : Option Door → X) → f (Some y) ≡ f (Some x) → (e : ℕ) → f (upd k.door d (Some y) e) ≡ f (k.door e)
+    reads f same e = reads_same f k.door d e x y there same
+
+    valid : is_valid_in (Some y) ≡ is_valid_in (Some x)
+    valid = ap₂ (λ (a : Bool) (b : Bool). not a && not b) s.revoked s.owner_ended
+
+    owner : owner_in (Some y) ≡ owner_in (Some x)
+    owner = ap (λ (p : Pid). Some p.0) s.owner
+
+    numbers : (e : ℕ) (z : Door) (b : Bool) → (e == d) ≡ b → (if b then Some y else k.door e) ≡ Some z → z.number ≡ e
+    numbers e z true g f =
+        let same : y ≡ z = cc in
+        let here : d ≡ e = grind (arith, nat_tests) in
+        ap (λ (w : Door). w.number) (sym same) ∙ s.number ∙ h.doors.door_number d x there ∙ here
+    numbers e z false g f = h.doors.door_number e z f
+
+    ended :
+        (e : ℕ) (z : Door) (b : Bool) → (if b then Some y else k.door e) ≡ Some z →
+        z.owner_ended ≡ not (is_live_in (k.proc z.owner.0))
+    ended e z true f =
+        let same : y ≡ z = cc in
+        subst (λ (w : Door). w.owner_ended ≡ not (is_live_in (k.proc w.owner.0))) same
+        (s.owner_ended ∙ h.doors.owner_ended d x there ∙ ap (λ (p : Pid). not (is_live_in (k.proc p.0))) (sym s.owner))
+    ended e z false f = h.doors.owner_ended e z f
 
 -- a thread without an invocation ends
 abbrev pub left_core : Core → ℕ → Core
@@ -125,7 +200,7 @@ leave_keeps k t h p q =
       bindings = h.bindings;
       processes = processes_turn k.role k.process k.proc t _ h.processes (grind arith);
       threads = h.threads;
-      built = λ v. grind (arith, nat_tests, h.built v);
+      has_built_state = λ v. grind (arith, nat_tests, h.has_built_state v);
     }
 
 -- a waiting call is given to an idle thread of the process that made its door
@@ -182,7 +257,7 @@ give_keeps k r u h p =
       bindings = h.bindings;
       processes = processes_turn k.role k.process k.proc u _ h.processes (grind (arith, p.idle));
       threads = h.threads;
-      built = λ v. grind (arith, nat_tests, h.built v);
+      has_built_state = λ v. grind (arith, nat_tests, h.has_built_state v);
     }
 
 -- a process ends: its threads are done, and the calls that wait at its doors end
@@ -273,5 +348,5 @@ end_keeps k p h l =
             thread_number = h.threads.thread_number;
             process_there = λ v n e. grind (arith, nat_tests, h.threads.process_there v n);
           };
-      built = λ v. grind (arith, nat_tests, h.built v);
+      has_built_state = λ v. grind (arith, nat_tests, h.has_built_state v);
     }

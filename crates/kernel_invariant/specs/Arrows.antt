@@ -9,8 +9,8 @@ use Rattle.dk_base.specs.declared.request.Request.TheVariants as request
 use Rattle.dk_base.specs.declared.answer.Answer.TheVariants as answer
 use Rattle.kernel_records.specs.declared.record.ThreadState.TheVariants as is
 use Rattle.kernel_records.specs.declared.record.CallStage.TheVariants as stage
-use Rattle.kernel_records.specs.Words.{at_stage, cookie_of, entry_of, tid, without_arguments_at}
-use Rattle.written_kernel.specs.Words.{State, call_tests, door_of, first_refusal, is_valid, new_call, now, object_at, process_of, state_of}
+use Rattle.kernel_records.specs.Words.{at_stage, cookie_of, entry_of, first_refusal, tid, without_arguments_at}
+use Rattle.written_kernel.specs.Words.{State, call_tests, door_of, is_valid, new_call, now, object_at, process_of, state_of}
 
 -- Why a call ends without results, by an event from state m to state n: a constructor for each cause. The caller does not
 -- end in the event.

@@ -110,4 +110,4 @@ pub record IsCoherent (k : Core) : Type 0 where
   pub bindings : AreBindings k.bound k.door k.process
   pub processes : AreProcesses k.role k.process k.proc
   pub threads : AreThreads k.process k.number k.proc
-  pub built : (t : ℕ) → is_unbuilt (k.role t) ≡ false
+  pub has_built_state : (t : ℕ) → is_unbuilt (k.role t) ≡ false

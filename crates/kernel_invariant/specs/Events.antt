@@ -1,6 +1,6 @@
 -- What every event does: it keeps the invariant; each call's record takes arrows of the table, and the invocation of each
 -- thread one of its own; what its answer tells is so; doors are made and kept; and a refused entry changes nothing.
-use Rattle.std.specs.Prelude.{ℕ, ◌≡◌, ◌+◌, Option, List, Some, None}
+use Rattle.std.specs.Prelude.{ℕ, ◌≡◌, ◌+◌, ◌≤◌, Option, List, [], Some, None}
 use Rattle.written_kernel.specs.Types.{Answer, Door, Errno, Fd, Inv, Item, Pass, Request, ThreadState}
 use Rattle.dk_base.specs.declared.object.Item.TheVariants as item
 use Rattle.dk_base.specs.declared.request.Request.TheVariants as request
@@ -8,6 +8,8 @@ use Rattle.dk_base.specs.declared.answer.Answer.TheVariants as answer
 use Rattle.kernel_records.specs.declared.record.ThreadState.TheVariants as is
 use Rattle.kernel_records.specs.declared.record.CallStage.TheVariants as stage
 use Rattle.kernel_records.specs.Words.{is_given_as, is_to_collect_as, new_invocation, tid}
+use Rattle.capabilities.specs.Capability.{capability_of_attrs}
+use Rattle.capabilities.specs.declared.table.TheConstants.{BUILT}
 use Rattle.written_kernel.specs.Words.{State, door_of, find_call, invocation_of, name_of, process_of, refusal_of, state_of, step, with_event_counted}
 use Rattle.kernel_invariant.specs.Records.{record_of, stage_of}
 use Rattle.kernel_invariant.specs.Invariant.{Invariant}
@@ -80,16 +82,23 @@ pub record IsMade {X : Type 0} (o : Option X) : Type 0 where
 abbrev pub IsAnsweredNow : State → State → ℕ → Type 0
 IsAnsweredNow m n c = stage_of n c ≡ Some (stage.Answered (m.events + 1))
 
--- the entries that are built
-abbrev pub IsBuiltEntry : Request → Type 0
-IsBuiltEntry (request.Create entry cookie attrs) = Unit {0}
-IsBuiltEntry (request.Call fd bytes pass rsize) = Unit {0}
-IsBuiltEntry (request.Return bytes pass) = Unit {0}
-IsBuiltEntry (request.Attach fd path) = Unit {0}
-IsBuiltEntry (request.Open path) = Unit {0}
-IsBuiltEntry (request.Await path) = Unit {0}
-IsBuiltEntry request.Exit = Unit {0}
-IsBuiltEntry r = ⊥
+-- the entries that are built: descriptors are not passed yet, and a thread in an invocation neither calls nor exits
+abbrev pub IsBuiltEntry : State → ℕ → Request → Type 0
+IsBuiltEntry m t (request.Create entry cookie attrs) = capability_of_attrs attrs ≤ BUILT
+IsBuiltEntry m t (request.Call fd bytes pass rsize) = (pass ≡ []) × (invocation_of m t ≡ None)
+IsBuiltEntry m t (request.Return bytes pass) = pass ≡ []
+IsBuiltEntry m t (request.Info fd) = Unit {0}
+IsBuiltEntry m t (request.GetParam fd param) = Unit {0}
+IsBuiltEntry m t (request.SetParam fd param value) = Unit {0}
+IsBuiltEntry m t request.Cred = Unit {0}
+IsBuiltEntry m t (request.Close fd) = Unit {0}
+IsBuiltEntry m t (request.Dup fd) = Unit {0}
+IsBuiltEntry m t (request.Attach fd path) = Unit {0}
+IsBuiltEntry m t (request.Detach path) = Unit {0}
+IsBuiltEntry m t (request.Open path) = Unit {0}
+IsBuiltEntry m t (request.Await path) = Unit {0}
+IsBuiltEntry m t request.Exit = invocation_of m t ≡ None
+IsBuiltEntry m t r = ⊥
 
 -- the ends of waits that are built, each with what the thread waits for
 abbrev pub IsBuiltEnd : State → ℕ → ThreadState → Type 0
@@ -99,7 +108,7 @@ IsBuiltEnd m t (is.Awaiting path) = IsMade (name_of m path)
 IsBuiltEnd m t s = ⊥
 
 abbrev pub IsBuiltTurn : State → ℕ → Option Request → Type 0
-IsBuiltTurn m t (Some r) = IsBuiltEntry r
+IsBuiltTurn m t (Some r) = IsBuiltEntry m t r
 IsBuiltTurn m t None = IsBuiltEnd m t (state_of m t)
 
 pub record Keeps (m : State) (t : ℕ) (q : Option Request) : Type 0 where
@@ -119,4 +128,4 @@ pub record Keeps (m : State) (t : ℕ) (q : Option Request) : Type 0 where
   pub refused :
       (r : Request) (e : Errno) → q ≡ Some r → refusal_of m t (process_of m t) r ≡ Some e → (step m t q).state ≡ with_event_counted m
   -- an act that is not built is never reached
-  pub built : IsBuiltTurn m t q
+  pub is_built : IsBuiltTurn m t q

@@ -39,12 +39,12 @@ unless_makes m t r (Some e) h = absurd (cc h)
 
 step_makes :
     (m : State) (t : ℕ) (fd : Fd) (bytes : List ℕ) (pass : List Pass) (rsize : ℕ) →
-    refusal_at m bytes (object_at m (process_of m t) fd) ≡ None →
+    refusal_at m (length bytes) (length pass) (object_at m (process_of m t) fd) ≡ None →
     IsMadeCall (step m t (Some (request.Call fd bytes pass rsize))).answer
 unfolding step
 step_makes m t fd bytes pass rsize h =
     unless_makes m t (new_call m t (door_named (object_at m (process_of m t) fd)) bytes [] rsize)
-    (refusal_at m bytes (object_at m (process_of m t) fd))
+    (refusal_at m (length bytes) (length pass) (object_at m (process_of m t) fd))
     h
 
 -- records
@@ -84,30 +84,31 @@ not_gone : (o : Option Call) → live_in o ≡ true → stage_in o ≡ Some stag
 not_gone o e f = grind arith
 
 module _ (m : State) (xs : List Turn) (k : Known m xs) where
-  abbrev refusal_in : ℕ → Turn → Fd → List ℕ → Option Errno
-  refusal_in i x fd bytes = refusal_at (state_at m xs i) bytes (object_at (state_at m xs i) (process_at m xs i x.thread) fd)
+  abbrev refusal_in : ℕ → Turn → Fd → List ℕ → List Pass → Option Errno
+  refusal_in i x fd bytes pass =
+      refusal_at (state_at m xs i) (length bytes) (length pass) (object_at (state_at m xs i) (process_at m xs i x.thread) fd)
 
   call_tells :
-      (i : ℕ) (x : Turn) (fd : Fd) (bytes : List ℕ) (e : Errno) → IsCall m xs i x fd bytes →
-      (answer_at m xs i x ≡ answer.Failure e) ↔ (refusal_in i x fd bytes ≡ Some e)
+      (i : ℕ) (x : Turn) (fd : Fd) (bytes : List ℕ) (e : Errno) → (h : IsCall m xs i x fd bytes) →
+      (answer_at m xs i x ≡ answer.Failure e) ↔ (refusal_in i x fd bytes h.pass ≡ Some e)
   call_tells i x fd bytes e h =
       entry_tells (state_at m xs i) x.thread x.request (request.Call fd bytes h.pass h.rsize) e h.request
 
   refused :
-      (i : ℕ) (x : Turn) (fd : Fd) (bytes : List ℕ) (e : Errno) → IsCall m xs i x fd bytes →
-      (answer_at m xs i x ≡ answer.Failure e) ↔ IsRefusedBy m xs i x.thread fd bytes e
+      (i : ℕ) (x : Turn) (fd : Fd) (bytes : List ℕ) (e : Errno) → (h : IsCall m xs i x fd bytes) →
+      (answer_at m xs i x ≡ answer.Failure e) ↔ IsRefusedBy m xs i x.thread fd bytes h.pass e
   refused i x fd bytes e h = (
-    λ a. table_of_refusal _ _ _ e ((call_tells i x fd bytes e h).0 a),
-    λ r. (call_tells i x fd bytes e h).1 (refusal_of_table _ _ _ e r),
+    λ a. table_of_refusal _ _ _ _ e ((call_tells i x fd bytes e h).0 a),
+    λ r. (call_tells i x fd bytes e h).1 (refusal_of_table _ _ _ _ e r),
   )
 
   not_refused :
-      (i : ℕ) (x : Turn) (fd : Fd) (bytes : List ℕ) → IsCall m xs i x fd bytes →
-      ((e : Errno) → IsRefusedBy m xs i x.thread fd bytes e → ⊥) → MakesOne m xs i x
+      (i : ℕ) (x : Turn) (fd : Fd) (bytes : List ℕ) → (h : IsCall m xs i x fd bytes) →
+      ((e : Errno) → IsRefusedBy m xs i x.thread fd bytes h.pass e → ⊥) → MakesOne m xs i x
   not_refused i x fd bytes h e =
       go
       (subst (λ q. IsMadeCall (step (state_at m xs i) x.thread q).answer) (sym h.request)
-      (step_makes (state_at m xs i) x.thread fd bytes h.pass h.rsize (none_of _ (λ f g. e f (table_of_refusal _ _ _ f g)))))
+      (step_makes (state_at m xs i) x.thread fd bytes h.pass h.rsize (none_of _ (λ f g. e f (table_of_refusal _ _ _ _ f g)))))
     where
       go : IsMadeCall (answer_at m xs i x) → MakesOne m xs i x
       go a = record { call = a.call; makes = made_by m xs k i a.call x h.turn a.waits }

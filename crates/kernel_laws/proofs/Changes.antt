@@ -10,8 +10,8 @@ use Rattle.dk_base.specs.declared.request.Request.TheVariants as request
 use Rattle.dk_base.specs.declared.answer.Answer.TheVariants as answer
 use Rattle.kernel_records.specs.declared.record.ThreadState.TheVariants as is
 use Rattle.kernel_records.specs.declared.record.CallStage.TheVariants as stage
-use Rattle.kernel_records.specs.Words.{at_stage, cookie_of, entry_of, tid, without_arguments_at}
-use Rattle.written_kernel.specs.Words.{State, call_tests, door_of, first_refusal, new_call, now, object_at, process_of, state_of}
+use Rattle.kernel_records.specs.Words.{at_stage, cookie_of, entry_of, first_refusal, tid, without_arguments_at}
+use Rattle.written_kernel.specs.Words.{State, call_tests, door_of, new_call, now, object_at, process_of, state_of}
 use Rattle.kernel_invariant.specs.Core.{has_arguments, underway_in}
 use Rattle.kernel_invariant.specs.Arrows.{Arrow, ByAct, ByGiving, EndsBy}
 use Rattle.kernel_invariant.specs.Arrows.ByAct.{stays, makes, enters, returns, ends, collects_results, collects_error}

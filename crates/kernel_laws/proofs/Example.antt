@@ -1,14 +1,16 @@
 -- A legal run: a client calls a server's door, with the answers of its events. So the laws speak of something.
-use Rattle.std.specs.Prelude.{◌≡◌, List, [], ◌∷◌, map, false, Some, None}
+use Rattle.std.specs.Prelude.{◌≡◌, List, [], ◌∷◌, ◌++◌, map, false, Some, None}
 use Rattle.std.proofs.Common.{refl, lit<, lit≤}
+use Rattle.dk_base.specs.declared.request.Param.TheVariants as param
 use Rattle.dk_base.specs.declared.request.Request.TheVariants as request
 use Rattle.written_kernel.specs.Types.{Answer, Event}
 use Rattle.dk_base.specs.declared.answer.Answer.TheVariants as answer
 use Rattle.written_kernel.specs.Words.{IsOpening, IsRun, State, Turn, events_of, opening, step, with_new_thread}
 use Rattle.written_kernel.specs.Opening.IsOpening.{processes, thread}
+use Rattle.written_kernel.proofs.Runs.{IsRun-append}
 use Rattle.kernel_laws.specs.Places.{BecomesAnswered, BecomesEntered, BecomesReturned}
 use Rattle.kernel_laws.specs.Cause.{Leaves}
-use Rattle.dk_base.specs.declared.error.Errno.TheVariants.{EBADF}
+use Rattle.dk_base.specs.declared.error.Errno.TheVariants.{EBADF, EINVAL, ENOBUFS, EPERM}
 
 abbrev start : State
 start = with_new_thread (with_new_thread (with_new_thread (opening (16 ∷ 16 ∷ [])) 1 false) 1 false) 2 false
@@ -127,3 +129,122 @@ left_is_run = (
 leaves_at_exit : Leaves alone left_turns 1 4
 unfolding step
 leaves_at_exit = record { within = lit< tt; underway = refl; over = refl }
+
+-- a third: a door is told of, which one descriptor holds and then two and a name; its creator sets the most bytes that it takes,
+-- which a caller may not and is held to; a server asks for its client; and a path is detached once
+
+abbrev door_turns : List Turn
+door_turns =
+    record { thread = 1; request = Some (request.Create 5 7 (record { 0 = 0 })) }
+    ∷ record { thread = 1; request = Some (request.Create 5 7 (record { 0 = 4 })) }
+    ∷ record { thread = 1; request = Some (request.Dup (record { 0 = 0 })) }
+    ∷ record { thread = 1; request = Some (request.Close (record { 0 = 0 })) }
+    ∷ record { thread = 1; request = Some (request.Close (record { 0 = 0 })) }
+    ∷ record { thread = 1; request = Some (request.Info (record { 0 = 1 })) }
+    ∷ record { thread = 1; request = Some (request.Attach (record { 0 = 1 }) (record { 0 = 0 })) }
+    ∷ record { thread = 1; request = Some (request.SetParam (record { 0 = 1 }) param.DataMax 3) }
+    ∷ record { thread = 1; request = Some (request.GetParam (record { 0 = 1 }) param.DataMax) }
+    ∷ record { thread = 1; request = Some request.Cred }
+    ∷ []
+
+abbrev client_turns : List Turn
+client_turns =
+    record { thread = 2; request = Some (request.Return [] []) }
+    ∷ record { thread = 3; request = Some (request.Open (record { 0 = 0 })) }
+    ∷ record { thread = 3; request = Some (request.Info (record { 0 = 0 })) }
+    ∷ record { thread = 3; request = Some (request.SetParam (record { 0 = 0 }) param.DataMin 1) }
+    ∷ record { thread = 3; request = Some (request.Call (record { 0 = 0 }) (1 ∷ 2 ∷ 3 ∷ 4 ∷ []) [] 100) }
+    ∷ record { thread = 3; request = Some (request.Call (record { 0 = 0 }) (1 ∷ 2 ∷ []) [] 100) }
+    ∷ record { thread = 2; request = None }
+    ∷ record { thread = 2; request = Some request.Cred }
+    ∷ record { thread = 1; request = Some (request.Detach (record { 0 = 0 })) }
+    ∷ record { thread = 1; request = Some (request.Detach (record { 0 = 0 })) }
+    ∷ []
+
+abbrev told_turns : List Turn
+told_turns = door_turns ++ client_turns
+
+told_answers :
+    map answer_of (events_of start told_turns) ≡
+    answer.NewFd (record { 0 = 0 })
+    ∷ answer.Failure EINVAL
+    ∷ answer.NewFd (record { 0 = 1 })
+    ∷ answer.Done
+    ∷ answer.Failure EBADF
+    ∷ answer.Info (record { target = Some (record { 0 = 1 }); entry = 5; cookie = 7; attrs = record { 0 = 36 }; unique = 1 })
+    ∷ answer.Done
+    ∷ answer.Done
+    ∷ answer.Param 3
+    ∷ answer.Failure EINVAL
+    ∷ answer.Wait
+    ∷ answer.NewFd (record { 0 = 0 })
+    ∷ answer.Info (record { target = Some (record { 0 = 1 }); entry = 5; cookie = 7; attrs = record { 0 = 0 }; unique = 1 })
+    ∷ answer.Failure EPERM
+    ∷ answer.Failure ENOBUFS
+    ∷ answer.WaitCall 1
+    ∷ answer.Entered 1 5 7 (1 ∷ 2 ∷ []) []
+    ∷ answer.Client (record { 0 = 2 })
+    ∷ answer.Done
+    ∷ answer.Failure EINVAL
+    ∷ []
+unfolding step
+told_answers = refl
+
+told_is_run : IsRun start told_turns
+unfolding step
+told_is_run =
+    IsRun-append start door_turns client_turns (
+      record { running = refl; fit = tt; built = lit≤ tt; inside = tt; few = lit< tt },
+      (
+        record { running = refl; fit = tt; built = lit≤ tt; inside = tt; few = lit< tt },
+        (
+          record { running = refl; fit = tt; built = lit≤ tt; inside = tt; few = lit< tt },
+          (
+            record { running = refl; fit = tt; built = lit≤ tt; inside = tt; few = lit< tt },
+            (
+              record { running = refl; fit = tt; built = lit≤ tt; inside = tt; few = lit< tt },
+              (
+                record { running = refl; fit = tt; built = lit≤ tt; inside = tt; few = lit< tt },
+                (
+                  record { running = refl; fit = tt; built = lit≤ tt; inside = tt; few = lit< tt },
+                  (
+                    record { running = refl; fit = tt; built = lit≤ tt; inside = tt; few = lit< tt },
+                    (
+                      record { running = refl; fit = tt; built = lit≤ tt; inside = tt; few = lit< tt },
+                      (record { running = refl; fit = tt; built = lit≤ tt; inside = tt; few = lit< tt }, tt),
+                    ),
+                  ),
+                ),
+              ),
+            ),
+          ),
+        ),
+      ),
+    ) (
+      record { running = refl; fit = tt; built = lit≤ tt; inside = tt; few = lit< tt },
+      (
+        record { running = refl; fit = tt; built = lit≤ tt; inside = tt; few = lit< tt },
+        (
+          record { running = refl; fit = tt; built = lit≤ tt; inside = tt; few = lit< tt },
+          (
+            record { running = refl; fit = tt; built = lit≤ tt; inside = tt; few = lit< tt },
+            (
+              record { running = refl; fit = tt; built = lit≤ tt; inside = tt; few = lit< tt },
+              (
+                record { running = refl; fit = tt; built = lit≤ tt; inside = tt; few = lit< tt },
+                (
+                  record { runnable = refl; waits = refl; few = lit< tt },
+                  (
+                    record { running = refl; fit = tt; built = lit≤ tt; inside = tt; few = lit< tt },
+                    (
+                      record { running = refl; fit = tt; built = lit≤ tt; inside = tt; few = lit< tt },
+                      (record { running = refl; fit = tt; built = lit≤ tt; inside = tt; few = lit< tt }, tt),
+                    ),
+                  ),
+                ),
+              ),
+            ),
+          ),
+        ),
+      ),
+    )

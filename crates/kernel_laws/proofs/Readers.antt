@@ -1,5 +1,5 @@
 -- What the story of a call tells: the Call that made it, and the accept, the Return and the end that it had.
-use Rattle.std.specs.Prelude.{ℕ, ◌≡◌, ◌+◌, ◌<◌, List, [], Option, true, Some, None, slice_get}
+use Rattle.std.specs.Prelude.{ℕ, ◌≡◌, ◌+◌, ◌<◌, List, [], Option, true, Some, None, length, slice_get}
 use Rattle.std.proofs.Common.{sym, ap, ◌∙◌}
 use native.Mathlib.Omega.{arith}
 use Rattle.written_kernel.specs.Types.{Call, CallStage}
@@ -90,7 +90,10 @@ made_here m xs c at x r f b a w =
       door = w.door;
       request = w.asked;
       names_door = w.names_door;
-      not_refused = no_refusal (state_at m xs at) w.bytes (object_at (state_at m xs at) (process_at m xs at x.thread) w.fd) w.not_refused;
+      not_refused =
+          no_refusal (state_at m xs at) (length w.bytes) (length w.pass)
+          (object_at (state_at m xs at) (process_at m xs at x.thread) w.fd)
+          w.not_refused;
       answer = w.answers ∙ ap (λ (j : ℕ). answer.WaitCall j) (sym n.number ∙ number);
       none_before = b;
       made = r;

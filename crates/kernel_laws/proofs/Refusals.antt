@@ -1,66 +1,244 @@
 -- An entry is refused with the error of the first of its tests that holds; for a Call the table of its refusals says which.
-use Rattle.std.specs.Prelude.{ℕ, ◌≡◌, ◌++◌, ◌↔◌, List, [], Option, Bool, true, false, Some, None, if◌then◌else◌, not, length, nat_le, nat_lt}
-use Rattle.std.proofs.Common.{refl, sym, ap, subst, ◌∙◌}
+use Rattle.std.specs.Prelude.{ℕ, ◌≡◌, ◌<◌, ◌≤◌, ◌++◌, ◌&&◌, ◌||◌, ◌↔◌, ◌⊎◌, Option, Bool, true, false, Some, None, if◌then◌else◌, bit_and, not, nat_le, nat_lt}
+use Rattle.std.proofs.Common.{refl, sym, ap, subst, ◌∙◌, inl, inr}
 use native.Mathlib.Omega.{arith}
-use Rattle.std.proofs.lemmas.Bool.Decides.{nat_tests}
-use Rattle.written_kernel.specs.Types.{Answer, Errno, Name, Obj, PathId, Request}
-use Rattle.dk_base.specs.declared.error.Errno.TheVariants.{E2BIG, EAGAIN, EBADF}
-use Rattle.dk_base.specs.declared.limits.TheConstants.{DATA_MAX, QUEUE_MAX}
+use Rattle.std.proofs.lemmas.Bool.Decides.{nat_tests, not_from_Decides, Decides-and, Decides-eqb, Decides-ltb, Decides-or}
+use Rattle.std.specs.Bool.{Decides}
+use Rattle.written_kernel.specs.Types.{Answer, Door, Errno, Name, Obj, PathId, Request}
+use Rattle.dk_base.specs.declared.error.Errno.TheVariants.{E2BIG, EAGAIN, EBADF, ENFILE, ENOBUFS, ENOTSUP}
+use Rattle.dk_base.specs.declared.limits.TheConstants.{DATA_MAX, PASS_MAX, QUEUE_MAX}
 use Rattle.dk_base.specs.declared.object.Obj.TheVariants as obj
 use Rattle.dk_base.specs.declared.request.Request.TheVariants as request
 use Rattle.dk_base.specs.declared.answer.Answer.TheVariants as answer
-use Rattle.written_kernel.specs.Words.{ActResult, State, await_name, calls_waiting, door_named, door_of, effect, first_refusal, is_valid, limit_tests, name_of, pool_of, pool_tests, process_of, refusal_of, step, unless_refused}
-use Rattle.kernel_laws.specs.Refusals.{Refusal}
-use Rattle.kernel_laws.specs.Refusals.Refusal.{no_door, not_valid, too_long, full_pool}
+use Rattle.written_kernel.specs.Words.{ActResult, State, await_name, calls_waiting, door_named, door_of, effect, is_valid, name_of, pool_of, pool_tests, process_of, refusal_of, step, unless_refused}
+use Rattle.kernel_records.specs.Words.{first_refusal, has_refused_size, has_too_many, limit_tests, refuses_descriptors_in}
+use Rattle.kernel_laws.specs.Refusals.{HasRefusedSize, HasTooMany, Refusal, RefusesPassed}
+use Rattle.kernel_laws.specs.Refusals.Refusal.{no_door, not_valid, refused_size, takes_none, too_many, too_long, full_pool}
 
--- a Call of these bytes through a descriptor of this object
+-- a Call of so many bytes and descriptors through a descriptor of this object
 
-abbrev pub refusal_at : State → List ℕ → Option Obj → Option Errno
-refusal_at m bytes o = first_refusal (limit_tests (door_of m (door_named o)) bytes [] ++ pool_tests m (door_named o))
+abbrev pub refusal_at : State → ℕ → ℕ → Option Obj → Option Errno
+refusal_at m size descriptors o =
+    first_refusal (limit_tests (door_of m (door_named o)) size descriptors ++ pool_tests m (door_named o))
 
 some_refusal : (e f : Errno) → Some e ≡ Some f → e ≡ f
 some_refusal e f h = cc
 
-door_refusal : (m : State) (d : ℕ) (bytes : List ℕ) (e : Errno) → refusal_at m bytes (Some (obj.Door d)) ≡ Some e → Refusal m bytes (Some (obj.Door d)) e
-door_refusal m d bytes e h =
-    go (is_valid m d) (nat_lt DATA_MAX (length bytes)) (nat_le QUEUE_MAX (calls_waiting m (pool_of m d))) refl refl refl h
+-- the tests, in their order, by what each gives
+
+abbrev refuses_passed : ℕ → Option Door → Bool
+refuses_passed descriptors o = nat_lt 0 descriptors && refuses_descriptors_in o
+
+abbrev is_over : ℕ → ℕ → Bool
+is_over size descriptors = nat_lt DATA_MAX size || nat_lt PASS_MAX descriptors
+
+abbrev is_full : State → ℕ → Bool
+is_full m d = nat_le QUEUE_MAX (calls_waiting m (pool_of m d))
+
+abbrev first_of : Bool → Bool → Bool → Bool → Bool → Bool → Option Errno
+first_of valid size passed many over full =
+    if not valid
+    then Some EBADF
+    else (
+    if size
+    then Some ENOBUFS
+    else (
+    if passed
+    then Some ENOTSUP
+    else (if many then Some ENFILE else (if over then Some E2BIG else (if full then Some EAGAIN else None)))
+    )
+    )
+
+-- what is over a limit, and what is not
+
+over_limit : (size descriptors : ℕ) → is_over size descriptors ≡ true → (DATA_MAX < size) ⊎ (PASS_MAX < descriptors)
+over_limit size descriptors h = go (nat_lt DATA_MAX size) (nat_lt PASS_MAX descriptors) refl refl h
   where
     go :
-        (v l f : Bool) → is_valid m d ≡ v → nat_lt DATA_MAX (length bytes) ≡ l → nat_le QUEUE_MAX (calls_waiting m (pool_of m d)) ≡ f →
-        (if not v then Some EBADF else (if l then Some E2BIG else (if f then Some EAGAIN else None))) ≡ Some e →
-        Refusal m bytes (Some (obj.Door d)) e
-    go false l f a b c g = subst (Refusal m bytes (Some (obj.Door d))) (some_refusal _ _ g) (not_valid d refl a)
-    go true true f a b c g = subst (Refusal m bytes (Some (obj.Door d))) (some_refusal _ _ g) (too_long d refl a (grind (arith, nat_tests, b)))
-    go true false true a b c g =
-        subst (Refusal m bytes (Some (obj.Door d))) (some_refusal _ _ g) (full_pool d refl a (grind (arith, nat_tests, b)) (grind (arith, nat_tests, c)))
-    go true false false a b c g = absurd (cc g)
+        (a b : Bool) → nat_lt DATA_MAX size ≡ a → nat_lt PASS_MAX descriptors ≡ b → (a || b) ≡ true →
+        (DATA_MAX < size) ⊎ (PASS_MAX < descriptors)
+    go true b x y z = inl (grind (arith, nat_tests, x))
+    go false true x y z = inr (grind (arith, nat_tests, y))
+    go false false x y z = absurd (cc z)
 
-pub table_of_refusal : (m : State) (bytes : List ℕ) (o : Option Obj) (e : Errno) → refusal_at m bytes o ≡ Some e → Refusal m bytes o e
-table_of_refusal m bytes (Some (obj.Door d)) e h = door_refusal m d bytes e h
-table_of_refusal m bytes None e h = subst (Refusal m bytes None) (some_refusal _ _ h) (no_door (λ d g. absurd (cc g)))
-table_of_refusal m bytes (Some (obj.Port n)) e h = subst (Refusal m bytes (Some (obj.Port n))) (some_refusal _ _ h) (no_door (λ d g. absurd (cc g)))
-table_of_refusal m bytes (Some (obj.PipeIn n)) e h = subst (Refusal m bytes (Some (obj.PipeIn n))) (some_refusal _ _ h) (no_door (λ d g. absurd (cc g)))
-table_of_refusal m bytes (Some (obj.PipeOut n)) e h = subst (Refusal m bytes (Some (obj.PipeOut n))) (some_refusal _ _ h) (no_door (λ d g. absurd (cc g)))
+within_limits : (size descriptors : ℕ) → is_over size descriptors ≡ false → (size ≤ DATA_MAX) × (descriptors ≤ PASS_MAX)
+within_limits size descriptors h = go (nat_lt DATA_MAX size) (nat_lt PASS_MAX descriptors) refl refl h
+  where
+    go :
+        (a b : Bool) → nat_lt DATA_MAX size ≡ a → nat_lt PASS_MAX descriptors ≡ b → (a || b) ≡ false →
+        (size ≤ DATA_MAX) × (descriptors ≤ PASS_MAX)
+    go false false x y z = (grind (arith, nat_tests, x), grind (arith, nat_tests, y))
+    go true b x y z = absurd (cc z)
+    go false true x y z = absurd (cc z)
 
-no_door_refusal : (m : State) (bytes : List ℕ) (o : Option Obj) → ((d : ℕ) → o ≡ Some (obj.Door d) → ⊥) → refusal_at m bytes o ≡ Some EBADF
-no_door_refusal m bytes None h = refl
-no_door_refusal m bytes (Some (obj.Door d)) h = absurd (h d refl)
-no_door_refusal m bytes (Some (obj.Port n)) h = refl
-no_door_refusal m bytes (Some (obj.PipeIn n)) h = refl
-no_door_refusal m bytes (Some (obj.PipeOut n)) h = refl
+over_is : (size descriptors : ℕ) → (DATA_MAX < size) ⊎ (PASS_MAX < descriptors) → is_over size descriptors ≡ true
+over_is size descriptors (inl h) = grind (arith, nat_tests, h)
+over_is size descriptors (inr h) = grind (arith, nat_tests, h)
 
-pub refusal_of_table : (m : State) (bytes : List ℕ) (o : Option Obj) (e : Errno) → Refusal m bytes o e → refusal_at m bytes o ≡ Some e
-refusal_of_table m bytes o e (no_door h) = no_door_refusal m bytes o h
-refusal_of_table m bytes o e (not_valid d h v) = ap (refusal_at m bytes) h ∙ grind (arith, v)
-refusal_of_table m bytes o e (too_long d h v l) = ap (refusal_at m bytes) h ∙ grind (arith, nat_tests, v, l)
-refusal_of_table m bytes o e (full_pool d h v l f) = ap (refusal_at m bytes) h ∙ grind (arith, nat_tests, v, l, f)
+within_is : (size descriptors : ℕ) → size ≤ DATA_MAX → descriptors ≤ PASS_MAX → is_over size descriptors ≡ false
+within_is size descriptors h k = grind (arith, nat_tests, h, k)
+
+-- each test of a door's limits decides what the table spells out
+
+size_decides : (size : ℕ) (o : Option Door) → Decides (has_refused_size size o) (HasRefusedSize size o)
+size_decides size None = (λ h. absurd (cc h), λ h. absurd h)
+size_decides size (Some d) = Decides-or _ _ (Decides-ltb d.data_max size) (Decides-ltb size d.data_min)
+
+passed_decides : (descriptors : ℕ) (o : Option Door) → Decides (refuses_passed descriptors o) (RefusesPassed descriptors o)
+passed_decides descriptors None = (λ h. absurd (both_false (nat_lt 0 descriptors) h), λ h. absurd h)
+  where
+    both_false : (a : Bool) → (a && false) ≡ true → ⊥
+    both_false true z = cc
+    both_false false z = cc
+passed_decides descriptors (Some d) = Decides-and _ _ (Decides-ltb 0 descriptors) (Decides-eqb (bit_and d.attrs.0 64) 64)
+
+many_decides : (descriptors : ℕ) (o : Option Door) → Decides (has_too_many descriptors o) (HasTooMany descriptors o)
+many_decides descriptors None = (λ h. absurd (cc h), λ h. absurd h)
+many_decides descriptors (Some d) = Decides-ltb d.desc_max descriptors
+
+false_where_not : (P : Type 0) (b : Bool) → Decides b P → (P → ⊥) → b ≡ false
+false_where_not P false decides h = refl
+false_where_not P true decides h = absurd (h (decides.0 refl))
+
+-- the table says why
+
+door_refusal :
+    (m : State) (d size descriptors : ℕ) (e : Errno) → refusal_at m size descriptors (Some (obj.Door d)) ≡ Some e →
+    Refusal m size descriptors (Some (obj.Door d)) e
+door_refusal m d size descriptors e h =
+    go
+    (is_valid m d)
+    (has_refused_size size (door_of m d))
+    (refuses_passed descriptors (door_of m d))
+    (has_too_many descriptors (door_of m d))
+    (is_over size descriptors)
+    (is_full m d)
+    refl
+    refl
+    refl
+    refl
+    refl
+    refl
+    h
+  where
+    -- with the error that a test has
+    has : (x : Errno) → Some x ≡ Some e → Refusal m size descriptors (Some (obj.Door d)) x → Refusal m size descriptors (Some (obj.Door d)) e
+    has x g r = subst (Refusal m size descriptors (Some (obj.Door d))) (some_refusal x e g) r
+
+    no_size : has_refused_size size (door_of m d) ≡ false → HasRefusedSize size (door_of m d) → ⊥
+    no_size = not_from_Decides _ (size_decides size (door_of m d))
+
+    none_passed : refuses_passed descriptors (door_of m d) ≡ false → RefusesPassed descriptors (door_of m d) → ⊥
+    none_passed = not_from_Decides _ (passed_decides descriptors (door_of m d))
+
+    not_many : has_too_many descriptors (door_of m d) ≡ false → HasTooMany descriptors (door_of m d) → ⊥
+    not_many = not_from_Decides _ (many_decides descriptors (door_of m d))
+
+    go :
+        (valid refused passed many over full : Bool) → is_valid m d ≡ valid → has_refused_size size (door_of m d) ≡ refused →
+        refuses_passed descriptors (door_of m d) ≡ passed → has_too_many descriptors (door_of m d) ≡ many →
+        is_over size descriptors ≡ over → is_full m d ≡ full → first_of valid refused passed many over full ≡ Some e →
+        Refusal m size descriptors (Some (obj.Door d)) e
+    go false s p n o f u v w x y z g = has EBADF g (not_valid d refl u)
+    go true true p n o f u v w x y z g = has ENOBUFS g (refused_size d refl u ((size_decides size (door_of m d)).0 v))
+    go true false true n o f u v w x y z g =
+        has ENOTSUP g (takes_none d refl u (no_size v) ((passed_decides descriptors (door_of m d)).0 w))
+    go true false false true o f u v w x y z g =
+        has ENFILE g (too_many d refl u (no_size v) (none_passed w) ((many_decides descriptors (door_of m d)).0 x))
+    go true false false false true f u v w x y z g =
+        has E2BIG g (too_long d refl u (no_size v) (none_passed w) (not_many x) (over_limit size descriptors y))
+    go true false false false false true u v w x y z g =
+        let within : (size ≤ DATA_MAX) × (descriptors ≤ PASS_MAX) = within_limits size descriptors y in
+        has EAGAIN g
+        (full_pool d refl u (no_size v) (none_passed w) (not_many x) within.0 within.1 (grind (arith, nat_tests, z)))
+    go true false false false false false u v w x y z g = absurd (cc g)
+
+pub table_of_refusal :
+    (m : State) (size descriptors : ℕ) (o : Option Obj) (e : Errno) → refusal_at m size descriptors o ≡ Some e →
+    Refusal m size descriptors o e
+table_of_refusal m size descriptors (Some (obj.Door d)) e h = door_refusal m d size descriptors e h
+table_of_refusal m size descriptors None e h =
+    subst (Refusal m size descriptors None) (some_refusal _ _ h) (no_door (λ d g. absurd (cc g)))
+table_of_refusal m size descriptors (Some (obj.Port n)) e h =
+    subst (Refusal m size descriptors (Some (obj.Port n))) (some_refusal _ _ h) (no_door (λ d g. absurd (cc g)))
+table_of_refusal m size descriptors (Some (obj.PipeIn n)) e h =
+    subst (Refusal m size descriptors (Some (obj.PipeIn n))) (some_refusal _ _ h) (no_door (λ d g. absurd (cc g)))
+table_of_refusal m size descriptors (Some (obj.PipeOut n)) e h =
+    subst (Refusal m size descriptors (Some (obj.PipeOut n))) (some_refusal _ _ h) (no_door (λ d g. absurd (cc g)))
+
+no_door_refusal :
+    (m : State) (size descriptors : ℕ) (o : Option Obj) → ((d : ℕ) → o ≡ Some (obj.Door d) → ⊥) →
+    refusal_at m size descriptors o ≡ Some EBADF
+no_door_refusal m size descriptors None h = refl
+no_door_refusal m size descriptors (Some (obj.Door d)) h = absurd (h d refl)
+no_door_refusal m size descriptors (Some (obj.Port n)) h = refl
+no_door_refusal m size descriptors (Some (obj.PipeIn n)) h = refl
+no_door_refusal m size descriptors (Some (obj.PipeOut n)) h = refl
+
+-- and what the table says is so
+
+module _ (m : State) (d size descriptors : ℕ) where
+  -- what the tests of a call through a descriptor of door d give, if these are what they find
+  by_tests :
+      (o : Option Obj) (valid refused passed many over full : Bool) → o ≡ Some (obj.Door d) → is_valid m d ≡ valid →
+      has_refused_size size (door_of m d) ≡ refused → refuses_passed descriptors (door_of m d) ≡ passed →
+      has_too_many descriptors (door_of m d) ≡ many → is_over size descriptors ≡ over → is_full m d ≡ full →
+      refusal_at m size descriptors o ≡ first_of valid refused passed many over full
+  by_tests o valid refused passed many over full h u v w x y z =
+      ap (refusal_at m size descriptors) h
+      ∙ ap (λ (b : Bool). first_of b (has_refused_size size (door_of m d)) (refuses_passed descriptors (door_of m d)) (has_too_many descriptors (door_of m d)) (is_over size descriptors) (is_full m d)) u
+      ∙ ap (λ (b : Bool). first_of valid b (refuses_passed descriptors (door_of m d)) (has_too_many descriptors (door_of m d)) (is_over size descriptors) (is_full m d)) v
+      ∙ ap (λ (b : Bool). first_of valid refused b (has_too_many descriptors (door_of m d)) (is_over size descriptors) (is_full m d)) w
+      ∙ ap (λ (b : Bool). first_of valid refused passed b (is_over size descriptors) (is_full m d)) x
+      ∙ ap (λ (b : Bool). first_of valid refused passed many b (is_full m d)) y
+      ∙ ap (λ (b : Bool). first_of valid refused passed many over b) z
+
+-- where a type of the table does not hold, its test is false
+
+size_is_false :
+    (m : State) (d size : ℕ) → (HasRefusedSize size (door_of m d) → ⊥) → has_refused_size size (door_of m d) ≡ false
+size_is_false m d size = false_where_not _ _ (size_decides size (door_of m d))
+
+passed_is_false :
+    (m : State) (d descriptors : ℕ) → (RefusesPassed descriptors (door_of m d) → ⊥) →
+    refuses_passed descriptors (door_of m d) ≡ false
+passed_is_false m d descriptors = false_where_not _ _ (passed_decides descriptors (door_of m d))
+
+many_is_false :
+    (m : State) (d descriptors : ℕ) → (HasTooMany descriptors (door_of m d) → ⊥) →
+    has_too_many descriptors (door_of m d) ≡ false
+many_is_false m d descriptors = false_where_not _ _ (many_decides descriptors (door_of m d))
+
+pub refusal_of_table :
+    (m : State) (size descriptors : ℕ) (o : Option Obj) (e : Errno) → Refusal m size descriptors o e →
+    refusal_at m size descriptors o ≡ Some e
+refusal_of_table m size descriptors o e (no_door h) = no_door_refusal m size descriptors o h
+refusal_of_table m size descriptors o e (not_valid d h u) =
+    by_tests m d size descriptors o false _ _ _ _ _ h u refl refl refl refl refl
+refusal_of_table m size descriptors o e (refused_size d h u v) =
+    by_tests m d size descriptors o true true _ _ _ _ h u ((size_decides size (door_of m d)).1 v) refl refl refl refl
+refusal_of_table m size descriptors o e (takes_none d h u v w) =
+    by_tests m d size descriptors o true false true _ _ _ h u (size_is_false m d size v)
+    ((passed_decides descriptors (door_of m d)).1 w) refl refl refl
+refusal_of_table m size descriptors o e (too_many d h u v w x) =
+    by_tests m d size descriptors o true false false true _ _ h u (size_is_false m d size v) (passed_is_false m d descriptors w)
+    ((many_decides descriptors (door_of m d)).1 x) refl refl
+refusal_of_table m size descriptors o e (too_long d h u v w x y) =
+    by_tests m d size descriptors o true false false false true _ h u (size_is_false m d size v)
+    (passed_is_false m d descriptors w) (many_is_false m d descriptors x) (over_is size descriptors y) refl
+refusal_of_table m size descriptors o e (full_pool d h u v w x s n z) =
+    by_tests m d size descriptors o true false false false false true h u (size_is_false m d size v)
+    (passed_is_false m d descriptors w) (many_is_false m d descriptors x) (within_is size descriptors s n)
+    (grind (arith, nat_tests, z))
 
 none_and_some : (o : Option Errno) (e : Errno) → o ≡ None → o ≡ Some e → ⊥
 none_and_some o e f g = cc
 
 -- no refusal of the table where no test holds
-pub no_refusal : (m : State) (bytes : List ℕ) (o : Option Obj) → refusal_at m bytes o ≡ None → (e : Errno) → Refusal m bytes o e → ⊥
-no_refusal m bytes o h e r = none_and_some _ e h (refusal_of_table m bytes o e r)
+pub no_refusal :
+    (m : State) (size descriptors : ℕ) (o : Option Obj) → refusal_at m size descriptors o ≡ None → (e : Errno) →
+    Refusal m size descriptors o e → ⊥
+no_refusal m size descriptors o h e r = none_and_some _ e h (refusal_of_table m size descriptors o e r)
 
 pub none_of : (o : Option Errno) → ((e : Errno) → o ≡ Some e → ⊥) → o ≡ None
 none_of None h = refl
@@ -81,7 +259,14 @@ effect_is_done m t p (request.Await path) e h = await_is_done m t path (name_of 
 effect_is_done m t p (request.Create entry cookie attrs) e h = cc
 effect_is_done m t p (request.Call fd bytes pass rsize) e h = cc
 effect_is_done m t p (request.Return bytes pass) e h = cc
+effect_is_done m t p (request.Info fd) e h = cc
+effect_is_done m t p (request.GetParam fd x) e h = cc
+effect_is_done m t p (request.SetParam fd x value) e h = cc
+effect_is_done m t p request.Cred e h = cc
+effect_is_done m t p (request.Close fd) e h = cc
+effect_is_done m t p (request.Dup fd) e h = cc
 effect_is_done m t p (request.Attach fd path) e h = cc
+effect_is_done m t p (request.Detach path) e h = cc
 effect_is_done m t p (request.Open path) e h = cc
 effect_is_done m t p request.Exit e h = cc
 effect_is_done m t p r e h = grind arith

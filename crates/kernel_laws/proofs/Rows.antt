@@ -10,8 +10,8 @@ use Rattle.dk_base.specs.declared.request.Request.TheVariants as request
 use Rattle.dk_base.specs.declared.answer.Answer.TheVariants as answer
 use Rattle.kernel_records.specs.declared.record.ThreadState.TheVariants as is
 use Rattle.kernel_records.specs.declared.record.CallStage.TheVariants as stage
-use Rattle.kernel_records.specs.Words.{at_stage, cookie_of, entry_of, tid, without_arguments_at}
-use Rattle.written_kernel.specs.Words.{State, call_tests, door_of, first_refusal, new_call, object_at, process_of, state_of}
+use Rattle.kernel_records.specs.Words.{at_stage, cookie_of, entry_of, first_refusal, tid, without_arguments_at}
+use Rattle.written_kernel.specs.Words.{State, call_tests, door_of, new_call, object_at, process_of, state_of}
 use Rattle.kernel_invariant.specs.Core.{has_arguments}
 use Rattle.kernel_invariant.specs.Arrows.{EndsBy}
 use Rattle.kernel_laws.specs.Places.{is_answered_in, is_entered_in, is_returned_in, is_entered_stage, is_returned_stage, is_answered_stage}

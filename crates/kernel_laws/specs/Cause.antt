@@ -59,11 +59,11 @@ pub record IsCaused (m : State) (xs : List Turn) (c k : ℕ) (z : Turn) : Type 0
 
 pub record HasCause (m : State) (xs : List Turn) : Type 0 where
   pub refused :
-      (i : ℕ) (x : Turn) (fd : Fd) (bytes : List ℕ) (e : Errno) → IsCall m xs i x fd bytes →
-      (answer_at m xs i x ≡ answer.Failure e) ↔ IsRefusedBy m xs i x.thread fd bytes e
+      (i : ℕ) (x : Turn) (fd : Fd) (bytes : List ℕ) (e : Errno) → (asked : IsCall m xs i x fd bytes) →
+      (answer_at m xs i x ≡ answer.Failure e) ↔ IsRefusedBy m xs i x.thread fd bytes asked.pass e
   pub not_refused :
-      (i : ℕ) (x : Turn) (fd : Fd) (bytes : List ℕ) → IsCall m xs i x fd bytes →
-      ((e : Errno) → IsRefusedBy m xs i x.thread fd bytes e → ⊥) → MakesOne m xs i x
+      (i : ℕ) (x : Turn) (fd : Fd) (bytes : List ℕ) → (asked : IsCall m xs i x fd bytes) →
+      ((e : Errno) → IsRefusedBy m xs i x.thread fd bytes asked.pass e → ⊥) → MakesOne m xs i x
   pub told : (k c : ℕ) (z : Turn) → slice_get xs k ≡ Some z → IsCollect m xs k z c → IsCaused m xs c k z
   pub exact : (c e k : ℕ) (a b : Answer) → Cause m xs c e k a → Cause m xs c e k b → TellsSame a b
   -- a call whose caller ended is Gone, or was answered before; and a call that is Gone is not collected

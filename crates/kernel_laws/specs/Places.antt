@@ -90,9 +90,10 @@ objects_passed m p pass = map (λ x. object_at m p x.fd) pass
 abbrev pub objects_at : State → ℕ → List Fd → List (Option Obj)
 objects_at m p fds = map (λ fd. object_at m p fd) fds
 
--- at place i a Call of thread t through this descriptor, of these bytes, is refused with this error
-abbrev pub IsRefusedBy : State → List Turn → ℕ → ℕ → Fd → List ℕ → Errno → Type 0
-IsRefusedBy m xs i t fd bytes e = Refusal (state_at m xs i) bytes (object_at (state_at m xs i) (process_at m xs i t) fd) e
+-- at place i a Call of thread t through this descriptor, of these bytes and descriptors, is refused with this error
+abbrev pub IsRefusedBy : State → List Turn → ℕ → ℕ → Fd → List ℕ → List Pass → Errno → Type 0
+IsRefusedBy m xs i t fd bytes pass e =
+    Refusal (state_at m xs i) (length bytes) (length pass) (object_at (state_at m xs i) (process_at m xs i t) fd) e
 
 -- the turn of place i is a Call, through a descriptor of a door, that makes call c
 pub record MakesCall (m : State) (xs : List Turn) (i : ℕ) (x : Turn) (c : ℕ) : Type 0 where
@@ -104,7 +105,7 @@ pub record MakesCall (m : State) (xs : List Turn) (i : ℕ) (x : Turn) (c : ℕ)
   pub door : ℕ
   pub request : x.request ≡ Some (request.Call fd bytes pass rsize)
   pub names_door : object_at (state_at m xs i) (process_at m xs i x.thread) fd ≡ Some (obj.Door door)
-  pub not_refused : (e : Errno) → IsRefusedBy m xs i x.thread fd bytes e → ⊥
+  pub not_refused : (e : Errno) → IsRefusedBy m xs i x.thread fd bytes pass e → ⊥
   pub answer : answer_at m xs i x ≡ answer.WaitCall c
   pub none_before : record_of (state_at m xs i) c ≡ None
   -- the new record: the call is Queued, or Given at once

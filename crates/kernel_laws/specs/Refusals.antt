@@ -1,17 +1,48 @@
 -- What a Call is refused with.
-use Rattle.std.specs.Prelude.{ℕ, ◌≡◌, ◌<◌, ◌≤◌, List, Option, true, false, Some, length}
-use Rattle.written_kernel.specs.Types.{Errno, Obj}
-use Rattle.dk_base.specs.declared.error.Errno.TheVariants.{E2BIG, EAGAIN, EBADF}
+use Rattle.std.specs.Prelude.{ℕ, ◌≡◌, ◌<◌, ◌≤◌, ◌⊎◌, Option, true, false, Some, None, bit_and}
+use Rattle.written_kernel.specs.Types.{Door, Errno, Obj}
+use Rattle.dk_base.specs.declared.error.Errno.TheVariants.{E2BIG, EAGAIN, EBADF, ENFILE, ENOBUFS, ENOTSUP}
 use Rattle.dk_base.specs.declared.object.Obj.TheVariants as obj
-use Rattle.dk_base.specs.declared.limits.TheConstants.{DATA_MAX, QUEUE_MAX}
-use Rattle.written_kernel.specs.Words.{State, calls_waiting, is_valid, pool_of}
+use Rattle.dk_base.specs.declared.limits.TheConstants.{DATA_MAX, PASS_MAX, QUEUE_MAX}
+use Rattle.written_kernel.specs.Words.{State, calls_waiting, door_of, is_valid, pool_of}
 
--- Why a Call of these bytes is refused, by what its descriptor names: a constructor for each test of door_call(3C), in their
--- order; where one holds, those before it do not.
-pub data Refusal (m : State) (bytes : List ℕ) (o : Option Obj) : Errno → Type 0 where
-  no_door : ((d : ℕ) → o ≡ Some (obj.Door d) → ⊥) → Refusal m bytes o EBADF
-  not_valid : (d : ℕ) → o ≡ Some (obj.Door d) → is_valid m d ≡ false → Refusal m bytes o EBADF
-  too_long : (d : ℕ) → o ≡ Some (obj.Door d) → is_valid m d ≡ true → DATA_MAX < length bytes → Refusal m bytes o E2BIG
+-- The limits of a door, by its record alone: the words of which the step's tests of them are made have no part here.
+
+-- more bytes than the door's greatest size, or fewer than its least
+abbrev pub HasRefusedSize : ℕ → Option Door → Type 0
+HasRefusedSize size None = ⊥
+HasRefusedSize size (Some d) = (d.data_max < size) ⊎ (size < d.data_min)
+
+-- descriptors are passed, and the door takes none: it has the attribute DOOR_REFUSE_DESC, 64
+abbrev pub RefusesPassed : ℕ → Option Door → Type 0
+RefusesPassed descriptors None = ⊥
+RefusesPassed descriptors (Some d) = (0 < descriptors) × (bit_and d.attrs.0 64 ≡ 64)
+
+-- more descriptors than the most that the door takes
+abbrev pub HasTooMany : ℕ → Option Door → Type 0
+HasTooMany descriptors None = ⊥
+HasTooMany descriptors (Some d) = d.desc_max < descriptors
+
+-- Why a Call of so many bytes and so many descriptors is refused, by what its descriptor names: a constructor for each test of
+-- door_call(3C), in their order; where one holds, those before it do not.
+pub data Refusal (m : State) (size descriptors : ℕ) (o : Option Obj) : Errno → Type 0 where
+  no_door : ((d : ℕ) → o ≡ Some (obj.Door d) → ⊥) → Refusal m size descriptors o EBADF
+  not_valid : (d : ℕ) → o ≡ Some (obj.Door d) → is_valid m d ≡ false → Refusal m size descriptors o EBADF
+  refused_size :
+      (d : ℕ) → o ≡ Some (obj.Door d) → is_valid m d ≡ true → HasRefusedSize size (door_of m d) →
+      Refusal m size descriptors o ENOBUFS
+  takes_none :
+      (d : ℕ) → o ≡ Some (obj.Door d) → is_valid m d ≡ true → (HasRefusedSize size (door_of m d) → ⊥) →
+      RefusesPassed descriptors (door_of m d) → Refusal m size descriptors o ENOTSUP
+  too_many :
+      (d : ℕ) → o ≡ Some (obj.Door d) → is_valid m d ≡ true → (HasRefusedSize size (door_of m d) → ⊥) →
+      (RefusesPassed descriptors (door_of m d) → ⊥) → HasTooMany descriptors (door_of m d) →
+      Refusal m size descriptors o ENFILE
+  too_long :
+      (d : ℕ) → o ≡ Some (obj.Door d) → is_valid m d ≡ true → (HasRefusedSize size (door_of m d) → ⊥) →
+      (RefusesPassed descriptors (door_of m d) → ⊥) → (HasTooMany descriptors (door_of m d) → ⊥) →
+      (DATA_MAX < size) ⊎ (PASS_MAX < descriptors) → Refusal m size descriptors o E2BIG
   full_pool :
-      (d : ℕ) → o ≡ Some (obj.Door d) → is_valid m d ≡ true → length bytes ≤ DATA_MAX → QUEUE_MAX ≤ calls_waiting m (pool_of m d) →
-      Refusal m bytes o EAGAIN
+      (d : ℕ) → o ≡ Some (obj.Door d) → is_valid m d ≡ true → (HasRefusedSize size (door_of m d) → ⊥) →
+      (RefusesPassed descriptors (door_of m d) → ⊥) → (HasTooMany descriptors (door_of m d) → ⊥) → size ≤ DATA_MAX →
+      descriptors ≤ PASS_MAX → QUEUE_MAX ≤ calls_waiting m (pool_of m d) → Refusal m size descriptors o EAGAIN

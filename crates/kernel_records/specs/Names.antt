@@ -1,5 +1,5 @@
 -- The doors attached to paths.
-use Rattle.std.specs.Prelude.{ℕ, ◌==◌, ◌++◌, [], ◌∷◌, List, Option, Bool, find}
+use Rattle.std.specs.Prelude.{ℕ, ◌==◌, ◌++◌, [], ◌∷◌, List, Option, Bool, None, Some, filter, find, not}
 use Rattle.dk_base.specs.declared.number.PathId.{PathId}
 use Rattle.kernel_records.specs.declared.record.Name.{Name}
 
@@ -11,3 +11,15 @@ name_in names path = find (has_path path) names
 
 abbrev pub with_name : List Name → PathId → ℕ → List Name
 with_name names path d = names ++ record { path = path; door = d } ∷ []
+
+-- the number of the door that is attached, 0 for none
+abbrev pub door_attached : Option Name → ℕ
+door_attached None = 0
+door_attached (Some n) = n.door
+
+abbrev pub has_other_path : PathId → Name → Bool
+has_other_path path n = not (has_path path n)
+
+-- without the name of a path
+abbrev pub without_name : List Name → PathId → List Name
+without_name names path = filter (has_other_path path) names

@@ -1,6 +1,6 @@
 -- Processes and threads, numbered from 1 by their places. Every reader is total: a number that no thread has reads as that of a
 -- Done thread, and a writer at such a number changes nothing.
-use Rattle.std.specs.Prelude.{ℕ, List, Option, Bool, true, false, ◌==◌, ◌&&◌, not, if◌then◌else◌, Some, None, map}
+use Rattle.std.specs.Prelude.{ℕ, List, Option, Bool, true, false, ◌==◌, ◌&&◌, not, if◌then◌else◌, Some, None, count_by, map}
 use Rattle.std.specs.List.{list_any}
 use Rattle.dk_base.specs.declared.object.Inv.{Inv}
 use Rattle.dk_base.specs.declared.object.Item.{Item}
@@ -11,12 +11,17 @@ use Rattle.kernel_records.specs.declared.record.ProcessStage.TheVariants.{Live, 
 use Rattle.kernel_records.specs.declared.record.Thread.{Thread}
 use Rattle.kernel_records.specs.declared.record.ThreadState.{ThreadState}
 use Rattle.kernel_records.specs.declared.record.ThreadState.TheVariants as is
+use Rattle.kernel_records.specs.Numbers.{pid}
 
 pub record ProcessTable : Type 0 where
   pub processes : List Process
   pub threads : List Thread
 
 -- processes
+
+-- as it is made, with the number of descriptors that it may have
+abbrev pub new_process : ℕ → ℕ → Process
+new_process n limit = record { number = n; made = 0; limit = limit; stage = Live }
 
 abbrev pub is_live_stage : ProcessStage → Bool
 is_live_stage Live = true
@@ -30,6 +35,13 @@ abbrev pub ended_process : Process → Process
 ended_process p = record p { stage = Ended }
 
 -- threads
+
+abbrev pub opening_state : Bool → ThreadState
+opening_state spare = if spare then is.Dormant else is.Running
+
+-- as it is made: a spare thread is Dormant
+abbrev pub new_thread : ℕ → ℕ → Bool → Thread
+new_thread n p spare = record { number = n; made = 0; process = pid p; invocation = None; state = opening_state spare }
 
 abbrev pub thread_at : ProcessTable → ℕ → Option Thread
 thread_at table t = at_number table.threads t
@@ -116,3 +128,23 @@ keeps_alive t p x = (x.process.0 == p) && not (x.number == t) && is_active x.sta
 -- whether a thread is the last of its process that is neither Done nor Dormant
 abbrev pub is_last : ProcessTable → ℕ → ℕ → Bool
 is_last table t p = not (list_any (keeps_alive t p) table.threads)
+
+-- the threads of a process that are neither Done nor Dormant
+
+abbrev pub is_active_of : ℕ → Thread → Bool
+is_active_of p x = (x.process.0 == p) && is_active x.state
+
+abbrev pub active_threads : ProcessTable → ℕ → ℕ
+active_threads table p = count_by (is_active_of p) table.threads
+
+-- a thread that is parked stands in a pool, and one that ended has left for good
+abbrev pub is_idle : ThreadState → Bool
+is_idle (is.Idle since) = true
+is_idle _ = false
+
+abbrev pub is_idle_thread : Thread → Bool
+is_idle_thread x = is_idle x.state
+
+abbrev pub is_done : ThreadState → Bool
+is_done is.Done = true
+is_done _ = false

@@ -1,8 +1,10 @@
 -- The descriptors of a process: a place for each that it may have. The tables stand at the places of their processes.
-use Rattle.std.specs.Prelude.{ℕ, List, [], Option, Some, None, is_none, map, position, replicate, slice_get, slice_set, unwrap_or}
+use Rattle.std.specs.Prelude.{ℕ, List, [], ◌∷◌, Option, Bool, false, ◌==◌, Some, None, count_by, filter_map, is_none, map, position, replicate, slice_get, slice_set, unwrap_or}
 use Rattle.dk_base.specs.declared.number.Fd.{Fd}
 use Rattle.dk_base.specs.declared.object.Obj.{Obj}
+use Rattle.dk_base.specs.declared.object.Obj.TheVariants as obj
 use Rattle.dk_base.specs.ByNumber.{at_number, with_at_number}
+use Rattle.kernel_records.specs.Numbers.{descriptor}
 
 abbrev pub empty_table : ℕ → List (Option Obj)
 empty_table limit = replicate limit None
@@ -27,6 +29,35 @@ free_place table = unwrap_or (lowest_free table) 0
 abbrev pub with_row : List (Option Obj) → ℕ → Option Obj → List (Option Obj)
 with_row table place o = slice_set table place o
 
+-- the table with this object at its lowest free descriptor
+abbrev pub insert_row : List (Option Obj) → Obj → List (Option Obj)
+insert_row table o = with_row table (free_place table) (Some o)
+
+-- the same for several, one after the other
+abbrev pub insert_rows : List (Option Obj) → List Obj → List (Option Obj)
+insert_rows table [] = table
+insert_rows table (o ∷ os) = insert_rows (insert_row table o) os
+
+-- the descriptors that they get
+abbrev pub new_descriptors : List (Option Obj) → List Obj → List Fd
+new_descriptors table [] = []
+new_descriptors table (o ∷ os) = descriptor (free_place table) ∷ new_descriptors (insert_row table o) os
+
+-- the table with a descriptor closed; every closing of one descriptor is this
+abbrev pub close_row : List (Option Obj) → ℕ → List (Option Obj)
+close_row table place = with_row table place None
+
+-- how many descriptors are free
+abbrev pub free_rows : List (Option Obj) → ℕ
+free_rows table = count_by is_none table
+
+abbrev pub row_object : Option Obj → Option Obj
+row_object row = row
+
+-- what is named, in order of descriptor
+abbrev pub objects_of : List (Option Obj) → List Obj
+objects_of table = filter_map row_object table
+
 abbrev pub free_row : Option Obj → Option Obj
 free_row o = None
 
@@ -39,3 +70,16 @@ table_in tables p = unwrap_or (at_number tables p) []
 
 abbrev pub with_table : List (List (Option Obj)) → ℕ → List (Option Obj) → List (List (Option Obj))
 with_table tables p table = with_at_number tables p table
+
+-- objects
+
+abbrev pub is_object : Obj → Obj → Bool
+is_object (obj.Door a) (obj.Door b) = a == b
+is_object (obj.Port a) (obj.Port b) = a == b
+is_object (obj.PipeIn a) (obj.PipeIn b) = a == b
+is_object (obj.PipeOut a) (obj.PipeOut b) = a == b
+is_object _ _ = false
+
+-- how many of these objects are this one
+abbrev pub count_object : Obj → List Obj → ℕ
+count_object o os = count_by (is_object o) os

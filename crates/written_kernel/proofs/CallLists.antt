@@ -1,12 +1,13 @@
 -- Lists of calls of which only the live ones are kept: what a look-up finds there, and what a change gives. A test that only
 -- live calls meet sees no difference.
-use Rattle.std.proofs.Common.{◌≡◌, ℕ, Bool, false, List, [], ◌∷◌, ◌++◌, length, map, filter, find, count_by, true≢false, refl, sym, ap, ◌∙◌, arith}
+use Rattle.std.proofs.Common.{◌≡◌, ℕ, Bool, false, List, [], ◌∷◌, ◌++◌, length, map, filter, find, count_by, flat_map, if◌then◌else◌, true, true≢false, refl, sym, ap, ◌∙◌, arith}
 use Rattle.std.proofs.lemmas.List.Sums.{length-filter}
 use Rattle.std.proofs.lemmas.List.Elements.{filter-append}
 use Rattle.written_kernel.specs.Types.{Call, CallStage, Door, Obj, Pool}
 use Rattle.kernel_records.specs.declared.record.CallStage.TheVariants as stage
 use Rattle.kernel_records.specs.Words.{CallTree, at_stage, change_first, collect_call, enter_call, give_call, is_client_call_of, is_entered_by, is_given_as, is_given_to, is_live, is_live_call, is_queued, is_queued_as, is_queued_call, is_queued_in, is_to_collect_as, is_served_by, is_to_collect, live_calls, open_call, return_call, tid, without_arguments_at}
 use Rattle.written_kernel.specs.Leaving.{end_calls, ended_call}
+use Rattle.written_kernel.specs.References.{objects_in_call, objects_in_transit}
 
 -- tests that only live calls meet
 
@@ -68,6 +69,23 @@ module _ (test : Call → Bool) (only_live : IsOfLiveCalls test) where
 
   pub count_by-live : (xs : List Call) → count_by test (filter is_live_call xs) ≡ count_by test xs
   count_by-live xs = sym (length-filter test (filter is_live_call xs)) ∙ ap length (filter-live xs) ∙ length-filter test xs
+
+-- a call that is answered or left holds no object
+no_objects : (r : Call) (s : CallStage) → is_live s ≡ false → objects_in_transit r s ≡ []
+no_objects r stage.Gone e = refl
+no_objects r (stage.Answered k) e = refl
+no_objects r _ e = absurd (true≢false e)
+
+pub objects-live : (xs : List Call) → flat_map objects_in_call (filter is_live_call xs) ≡ flat_map objects_in_call xs
+objects-live [] = refl
+objects-live (r ∷ rs) = go (is_live_call r) refl (objects-live rs)
+  where
+    go :
+        (b : Bool) → is_live_call r ≡ b → flat_map objects_in_call (filter is_live_call rs) ≡ flat_map objects_in_call rs →
+        flat_map objects_in_call (if b then r ∷ filter is_live_call rs else filter is_live_call rs)
+        ≡ flat_map objects_in_call (r ∷ rs)
+    go true e ih = ap (λ os. objects_in_call r ++ os) ih
+    go false e ih = ih ∙ ap (λ os. os ++ flat_map objects_in_call rs) (sym (no_objects r r.stage e))
 
 pub live-live : (xs : List Call) → filter is_live_call (filter is_live_call xs) ≡ filter is_live_call xs
 live-live = filter-live is_live_call (λ r e. e)

@@ -1,14 +1,16 @@
 -- A kernel may forget the calls that were answered or whose callers ended: what a step gives is the same.
-use Rattle.std.proofs.Common.{◌≡◌, ℕ, zero, suc, Bool, true, false, if◌then◌else◌, List, [], ◌∷◌, Option, None, Some, is_some, length, map, filter, refl, sym, subst, ap, ◌∙◌}
+use Rattle.std.proofs.Common.{◌≡◌, ℕ, zero, suc, Bool, true, false, if◌then◌else◌, List, [], ◌∷◌, Option, None, Some, is_some, ◌++◌, flat_map, length, map, filter, refl, sym, subst, ap, ◌∙◌}
 use Rattle.std.specs.Option.{option_map_or}
-use Rattle.written_kernel.specs.Types.{Answer, Call, Errno, Item, Name, Parked, PathId, Pool, Request, Stepped, ThreadState, Waiting}
+use Rattle.written_kernel.specs.Types.{Answer, Call, Errno, Item, Name, Obj, Parked, PathId, Pool, Request, Stepped, ThreadState, Waiting}
+use Rattle.dk_base.specs.declared.answer.Answer.TheVariants as answer
 use Rattle.dk_base.specs.declared.object.Item.TheVariants as item
+use Rattle.dk_base.specs.declared.object.Obj.TheVariants as obj
 use Rattle.dk_base.specs.declared.request.Request.TheVariants as request
 use Rattle.kernel_records.specs.declared.record.ThreadState.TheVariants as is
-use Rattle.kernel_records.specs.Words.{CallTree, give_call, is_client_call_of, is_given_as, is_last, is_queued_call, is_queued_in, is_to_collect_as, is_served_by, is_waiting_notice, live_calls, waiting_call, waiting_notice, with_notices}
+use Rattle.kernel_records.specs.Words.{CallTree, first_refusal, give_call, is_client_call_of, is_given_as, is_last, is_queued_call, is_queued_in, is_served_by, is_to_collect_as, info_in, is_waiting_notice, live_calls, objects_of, pid, waiting_call, waiting_notice, with_notices}
 use Rattle.written_kernel.specs.Step.{step}
-use Rattle.written_kernel.specs.Words.{ActResult, IsStep, StandsFor, State, Step, accept, accept_call, act, await, await_name, call, calls_waiting, caller_in, caller_of, can_go_on, client_call, collect, collect_answer_in, door_named, effect, end_calls, enter, tests_of, exit, find_call, first_refusal, forget, give, give_each, give_one, give_to, go_on, invocation_of, is_runnable, is_running, leave_process, leave_thread, name_of, new_call, now, no_act, object_at, pick, pool_of, process_of, refusal_of, return, root, served_by, settle, state_of, step_after, unless_refused, waiting_items, walk, with_event_counted, woken_among, woken_threads}
-use Rattle.written_kernel.proofs.CallLists.{HaveSameLive, IsOfLiveCalls, client_is_live, collect_call-live, count_by-live, end_calls-live, enter_call-live, filter-live, find-live, give_call-live, given_as_is_live, live_calls-live, open_call-live, queued_call_is_live, queued_in_is_live, ready_as_is_live, return_call-live, served_is_live}
+use Rattle.written_kernel.specs.Words.{ActResult, IsStep, StandsFor, State, Step, accept, accept_call, act, await, await_name, call, calls_waiting, caller_in, caller_of, can_go_on, client_call, client_process, collect, collect_answer_in, credentials, door_at, door_named, door_of, effect, end_calls, enter, tests_of, exit, find_call, forget, give, give_each, give_one, give_to, go_on, holdings, information_of, invocation_of, is_runnable, is_running, leave_process, leave_thread, name_of, named_object, new_call, now, no_act, object_at, pick, pool_of, process_of, refs, refusal_of, return, root, served_by, settle, state_of, step_after, unless_refused, waiting_items, walk, with_event_counted, woken_among, woken_threads}
+use Rattle.written_kernel.proofs.CallLists.{HaveSameLive, IsOfLiveCalls, client_is_live, collect_call-live, count_by-live, end_calls-live, enter_call-live, filter-live, find-live, give_call-live, given_as_is_live, live_calls-live, objects-live, open_call-live, queued_call_is_live, queued_in_is_live, ready_as_is_live, return_call-live, served_is_live}
 
 -- The readers of calls. What reads none is the same by its form.
 
@@ -29,6 +31,18 @@ waiting_items-forget m =
     ap
     (λ xs. with_notices (map waiting_call xs) (map waiting_notice (filter is_waiting_notice m.notice_list.notices)))
     (filter-live is_queued_call queued_call_is_live m.call_tree.calls)
+
+-- a call that is forgotten held no object
+
+holdings-forget : (m : State) → holdings (forget m) ≡ holdings m
+holdings-forget m = ap (λ os. flat_map objects_of m.tables ++ map named_object m.names ++ os) (objects-live m.call_tree.calls)
+
+pub refs-forget : (m : State) (o : Obj) → refs (forget m) o ≡ refs m o
+refs-forget m o = ap (filter _) (holdings-forget m)
+
+client_process-forget : (m : State) (o : Option Call) → client_process (forget m) o ≡ client_process m o
+client_process-forget m None = refl
+client_process-forget m (Some r) = refl
 
 pub pick-forget : (m : State) (pool : Pool) → pick (forget m) pool ≡ pick m pool
 pick-forget m pool = refl
@@ -118,6 +132,22 @@ exit-forget m t p = record { state = go (is_last m.process_table t p); answer = 
         alike_calls (leave_process m p) (end_calls (live_calls m.call_tree) m.doors p) (end_calls-live m.call_tree m.doors p)
     go false = forget-forget (leave_thread m t)
 
+information_of-forget : (m : State) (p d : ℕ) → SameAct (information_of (forget m) p d) (information_of m p d)
+information_of-forget m p d =
+    record {
+      state = forget-forget m;
+      answer = ap (λ os. answer.Info (info_in p (length os) (door_of m d))) (refs-forget m (obj.Door d));
+    }
+
+credentials-forget : (m : State) (t : ℕ) → SameAct (credentials (forget m) t) (credentials m t)
+credentials-forget m t =
+    record {
+      state = forget-forget m;
+      answer =
+          ap (λ o. answer.Client (pid (client_process (forget m) o))) (client_call-forget m t)
+          ∙ ap (λ p. answer.Client (pid p)) (client_process-forget m (client_call m t));
+    }
+
 accept-forget : (m : State) (t p : ℕ) (i : Item) → SameAct (accept (forget m) t p i) (accept m t p i)
 accept-forget m t p (item.Call c) =
     subst
@@ -136,6 +166,7 @@ pub tests_of-forget : (m : State) (t p : ℕ) (r : Request) → tests_of (forget
 tests_of-forget m t p (request.Call fd bytes pass rsize) =
     rw (calls_waiting-forget m (pool_of m (door_named (object_at m p fd))))
 tests_of-forget m t p (request.Return bytes pass) = rw (client_call-forget m t)
+tests_of-forget m t p request.Cred = rw (client_call-forget m t)
 tests_of-forget m t p _ = refl
 
 pub refusal_of-forget : (m : State) (t p : ℕ) (r : Request) → refusal_of (forget m) t p r ≡ refusal_of m t p r
@@ -149,6 +180,8 @@ effect-forget m t p (request.Call fd bytes pass rsize) =
     refl
 effect-forget m t p (request.Return bytes pass) =
     same_act (return m t p bytes pass) (return_call-live m.call_tree t bytes []) refl
+effect-forget m t p (request.Info fd) = information_of-forget m p (door_at m p fd)
+effect-forget m t p request.Cred = credentials-forget m t
 effect-forget m t p (request.Await path) = await-forget m t path
 effect-forget m t p request.Exit = exit-forget m t p
 effect-forget m t p r = kept_act (effect m t p r)

@@ -1,6 +1,7 @@
 pub mod Lists
 pub mod CallLists
 pub mod Threads
+pub mod Doors
 pub mod Entries
 pub mod Forget
 pub mod Invocations

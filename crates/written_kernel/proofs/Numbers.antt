@@ -4,18 +4,20 @@ use Rattle.std.proofs.Common.{◌≡◌, ℕ, ◌+◌, ◌==◌, ◌&&◌, Bool,
 use Rattle.std.specs.List.{All}
 use Rattle.std.proofs.lemmas.List.{length-map}
 use Rattle.std.proofs.lemmas.List.Elements.{All-nil}
-use Rattle.written_kernel.specs.Types.{Attrs, Call, Door, Item, Name, Notice, Parked, PathId, Pool, Process, Request, Thread, ThreadState, Waiting}
+use Rattle.written_kernel.specs.Types.{Attrs, Call, Door, Item, Name, Notice, Param, Parked, PathId, Pool, Process, Request, Thread, ThreadState, Waiting}
 use Rattle.dk_base.specs.declared.error.Errno.TheVariants.{EBADF}
 use Rattle.dk_base.specs.declared.object.Item.TheVariants as item
+use Rattle.dk_base.specs.declared.request.Param.TheVariants as param
 use Rattle.dk_base.specs.declared.request.Request.TheVariants as request
 use Rattle.kernel_records.specs.declared.record.ThreadState.TheVariants as is
 use Rattle.kernel_records.specs.declared.record.CallStage.TheVariants as stage
 use Rattle.kernel_records.specs.declared.record.NoticeStage.TheVariants as notice
 use Rattle.dk_base.specs.ByNumber.{at_number}
-use Rattle.kernel_records.specs.Words.{CallTree, NoticeList, at_stage, change_first, give_notice, is_client_call_of, is_given_as, is_last, is_owned_by, is_queued, is_queued_as, is_queued_in, is_to_collect_as, is_waiting_notice, new_door, open_call, with_owner_ended, tid, with_door, without_arguments_at}
+use Rattle.kernel_records.specs.Words.{CallTree, NoticeList, at_stage, change_first, give_notice, is_client_call_of, is_given_as, is_last, is_owned_by, is_queued, is_queued_as, is_queued_in, is_to_collect_as, is_waiting_notice, new_door, open_call, set_param, tid, with_door, with_owner_ended, with_param, without_arguments_at}
 use Rattle.written_kernel.specs.State.{State, calls_waiting, find_call, name_of, now, object_at, pick, pool_of, process_of, state_of, waiting_items}
 use Rattle.written_kernel.specs.Descriptors.{await_name, door_named}
 use Rattle.written_kernel.specs.Doors.{accept, accept_call, new_call}
+use Rattle.written_kernel.specs.Information.{door_at}
 use Rattle.written_kernel.specs.Leaving.{dropped_notice, ended_call, exit, leave_process, leave_thread}
 use Rattle.written_kernel.specs.Settle.{give_each, give_one, give_to, settle}
 use Rattle.written_kernel.specs.Step.{act, effect, enter, go_on, step}
@@ -24,6 +26,7 @@ use Rattle.written_kernel.specs.Runs.{Turn, state_after, state_after_turn}
 use Rattle.written_kernel.proofs.Lists.{map-map_same, same_length}
 use Rattle.written_kernel.proofs.Places.{map-change_first, order_by, order_none, order_push, order_same}
 pub use Rattle.written_kernel.proofs.Places.{IsInOrder}
+use Rattle.written_kernel.proofs.Doors.{map-change_door}
 use Rattle.written_kernel.proofs.Entries.{enter_either}
 use Rattle.written_kernel.proofs.Opening.{IsOpened, opened, waiting_items-opening}
 use Rattle.written_kernel.proofs.Steps.{ThreadIdentity, thread_identity, ProcessIdentity, process_identity, step-keeps}
@@ -83,6 +86,24 @@ one_door_more m p entry cookie attrs l =
       calls_made = l.calls_made;
       calls = l.calls;
       doors = order_push door_number m.doors (new_door (length m.doors + 1) p entry cookie attrs) refl l.doors;
+      notices = l.notices;
+    }
+
+with_param-number : (x : Param) (value : ℕ) (d : Door) → door_number (with_param x value d) ≡ door_number d
+with_param-number param.DataMax value d = refl
+with_param-number param.DataMin value d = refl
+with_param-number param.DescMax value d = refl
+
+one_door_changes :
+    (m : State) (d : ℕ) (x : Param) (value : ℕ) → IsListed m → AreListed m.call_tree (set_param m.doors d x value) m.notice_list
+one_door_changes m d x value l =
+    record {
+      calls_made = l.calls_made;
+      calls = l.calls;
+      doors =
+          order_same door_number m.doors (set_param m.doors d x value)
+          (map-change_door door_number m.doors d (with_param x value) (with_param-number x value))
+          l.doors;
       notices = l.notices;
     }
 
@@ -156,6 +177,7 @@ effect-listed m t p (request.Call fd bytes pass rsize) l =
     one_call_more m (new_call m t (door_named (object_at m p fd)) bytes [] rsize) refl l
 effect-listed m t p (request.Return bytes pass) l =
     one_call_moves m (is_client_call_of t) (without_arguments_at (stage.Returned bytes [])) (λ r. refl) l
+effect-listed m t p (request.SetParam fd x value) l = one_door_changes m (door_at m p fd) x value l
 effect-listed m t p (request.Await path) l = await-listed m t path (name_of m path) l
 effect-listed m t p request.Exit l = exit-listed m t p l
 effect-listed m t p _ l = l

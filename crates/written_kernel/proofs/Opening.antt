@@ -7,12 +7,12 @@ use Rattle.dk_base.specs.declared.limits.TheConstants.{THREADS_MAX}
 use Rattle.written_kernel.specs.Types.{Fd, Obj, Process, Thread}
 use Rattle.kernel_records.specs.declared.record.ProcessStage.TheVariants.{Live}
 use Rattle.kernel_records.specs.declared.record.ThreadState.TheVariants as is
-use Rattle.kernel_records.specs.Words.{bound_at, bound_in, empty_table, invocation_in, live_calls, object_in, object_named, state_in, table_in, items_in_order}
+use Rattle.kernel_records.specs.Words.{bound_at, bound_in, empty_table, invocation_in, items_in_order, live_calls, new_process, new_thread, object_in, object_named, objects_of, opening_state, state_in, table_in}
 use Rattle.written_kernel.specs.State.{State, bound_of, invocation_of, object_at, state_of, thread_of, waiting_items}
 use Rattle.written_kernel.specs.Walks.{walk, root}
-use Rattle.written_kernel.specs.References.{holdings, named_object, objects_in_call, objects_in_table}
+use Rattle.written_kernel.specs.References.{holdings, named_object, objects_in_call}
 use Rattle.written_kernel.specs.Kept.{forget}
-use Rattle.written_kernel.specs.Opening.{IsOpening, new_process, new_thread, no_process, opening, opening_state, with_new_process, with_new_thread, with_processes}
+use Rattle.written_kernel.specs.Opening.{IsOpening, no_process, opening, with_new_process, with_new_thread, with_processes}
 use Rattle.written_kernel.specs.Opening.IsOpening.{processes, thread}
 use Rattle.written_kernel.proofs.Lists.{numbered_push, at_number-map, at_number-suc, numbered_within}
 
@@ -249,11 +249,11 @@ pub waiting_items-opening : {m : State} → IsOpening m → waiting_items m ≡ 
 waiting_items-opening {m} h =
     ap₂ (λ tree list. items_in_order tree.calls list.notices) (opened h).call_tree (opened h).notice_list
 
-in_empty_table : (n : ℕ) → objects_in_table (empty_table n) ≡ []
+in_empty_table : (n : ℕ) → objects_of (empty_table n) ≡ []
 in_empty_table zero = refl
 in_empty_table (suc n) = in_empty_table n
 
-in_empty_tables : (ps : List Process) → flat_map objects_in_table (map opening_table ps) ≡ []
+in_empty_tables : (ps : List Process) → flat_map objects_of (map opening_table ps) ≡ []
 in_empty_tables [] = refl
 in_empty_tables (x ∷ xs) = ap₂ (λ os us. os ++ us) (in_empty_table x.limit) (in_empty_tables xs)
 
@@ -261,5 +261,5 @@ in_empty_tables (x ∷ xs) = ap₂ (λ os us. os ++ us) (in_empty_table x.limit)
 pub holdings-opening : {m : State} → IsOpening m → holdings m ≡ []
 holdings-opening {m} h =
     ap₂ (λ os tree. os ++ flat_map objects_in_call tree.calls)
-    (ap₂ (λ ts ns. flat_map objects_in_table ts ++ map named_object ns) (opened h).tables (opened h).names) (opened h).call_tree
+    (ap₂ (λ ts ns. flat_map objects_of ts ++ map named_object ns) (opened h).tables (opened h).names) (opened h).call_tree
     ∙ ap (λ os. os ++ [] ++ []) (in_empty_tables m.process_table.processes)

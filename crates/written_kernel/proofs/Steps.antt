@@ -2,11 +2,12 @@
 use Rattle.std.proofs.Common.{◌≡◌, ℕ, ◌+◌, ◌==◌, Bool, true, false, if◌then◌else◌, List, [], ◌∷◌, ◌++◌, Option, None, Some, option_map, length, map, unwrap_or, refl, sym, ap, ◌∙◌, length-set}
 use Rattle.std.proofs.lemmas.List.{length-map, map-append}
 use Rattle.dk_base.specs.ByNumber.{at_number}
-use Rattle.written_kernel.specs.Types.{Attrs, Call, Door, Item, Name, Obj, Parked, PathId, Pid, Process, Request, Thread, ThreadState, Waiting}
+use Rattle.written_kernel.specs.Types.{Attrs, Call, Door, Item, Name, Obj, Param, Parked, PathId, Pid, Process, Request, Thread, ThreadState, Waiting}
 use Rattle.dk_base.specs.declared.object.Item.TheVariants as item
+use Rattle.dk_base.specs.declared.request.Param.TheVariants as param
 use Rattle.dk_base.specs.declared.request.Request.TheVariants as request
 use Rattle.kernel_records.specs.declared.record.ThreadState.TheVariants as is
-use Rattle.kernel_records.specs.Words.{CallTree, NoticeList, ProcessTable, close_table, end_process, ended_thread, ended_process, free_place, free_row, is_given_as, is_last, with_owner_ended, process_in, thread_at_state, with_door, with_ended, with_ended_threads, with_row, change_thread}
+use Rattle.kernel_records.specs.Words.{CallTree, NoticeList, ProcessTable, close_table, end_process, ended_thread, ended_process, free_place, free_row, is_given_as, is_last, process_in, set_param, thread_at_state, with_door, with_ended, with_ended_threads, with_owner_ended, with_param, with_row, change_thread}
 use Rattle.written_kernel.specs.State.{State, door_of, find_call, name_of, pick, pool_of, process_of, state_of, table_of, thread_of, waiting_items, with_state, with_table_of}
 use Rattle.written_kernel.specs.Descriptors.{await, await_name, insert_object}
 use Rattle.written_kernel.specs.Doors.{accept, accept_call, create}
@@ -16,6 +17,7 @@ use Rattle.written_kernel.specs.Step.{act, effect, enter, go_on, step}
 use Rattle.written_kernel.proofs.Entries.{enter_either}
 use Rattle.written_kernel.proofs.Lists.{same_length, same_numbered, at_number-map, at_number-extends, map-with_at_number, map-map_same, Extends, Extends-same, Extends-then}
 use Rattle.written_kernel.proofs.Threads.{map-end_process, map-change_thread, processes-change_thread}
+use Rattle.written_kernel.proofs.Doors.{map-change_door}
 
 -- what of a thread, of a process and of a door never changes
 
@@ -109,10 +111,14 @@ with_table_of-keeps m p table e =
       events = refl;
     }
 
+-- another object, or none, at a place
+with_row-keeps :
+    (m : State) (p place : ℕ) (o : Option Obj) → Keeps m (with_table_of m p (with_row (table_of m p) place o))
+with_row-keeps m p place o =
+    with_table_of-keeps m p (with_row (table_of m p) place o) (length-set (table_of m p) place o)
+
 insert_object-keeps : (m : State) (p : ℕ) (o : Obj) → Keeps m (insert_object m p o).state
-insert_object-keeps m p o =
-    with_table_of-keeps m p (with_row (table_of m p) (free_place (table_of m p)) (Some o))
-    (length-set (table_of m p) (free_place (table_of m p)) (Some o))
+insert_object-keeps m p o = with_row-keeps m p (free_place (table_of m p)) (Some o)
 
 doors-push : (xs : List Door) (d : Door) → Extends (map door_identity xs) (map door_identity (xs ++ d ∷ []))
 doors-push xs d = record { rest = door_identity d ∷ []; is = map-append door_identity xs (d ∷ []) }
@@ -121,6 +127,26 @@ with_door-keeps :
     (m : State) (p entry cookie : ℕ) (attrs : Attrs) → Keeps m (record m { doors = with_door m.doors p entry cookie attrs })
 with_door-keeps m p entry cookie attrs =
     record { processes = refl; threads = refl; bindings = refl; tables = refl; doors = doors-push m.doors _; events = refl }
+
+door_identity-with_param : (x : Param) (value : ℕ) (d : Door) → door_identity (with_param x value d) ≡ door_identity d
+door_identity-with_param param.DataMax value d = refl
+door_identity-with_param param.DataMin value d = refl
+door_identity-with_param param.DescMax value d = refl
+
+-- a parameter is none of what a door was made as
+set_param-keeps :
+    (m : State) (d : ℕ) (x : Param) (value : ℕ) → Keeps m (record m { doors = set_param m.doors d x value })
+set_param-keeps m d x value =
+    record {
+      processes = refl;
+      threads = refl;
+      bindings = refl;
+      tables = refl;
+      doors =
+          Extends-same (map door_identity m.doors) _
+          (map-change_door door_identity m.doors d (with_param x value) (door_identity-with_param x value));
+      events = refl;
+    }
 
 -- acts
 
@@ -184,7 +210,11 @@ effect-keeps : (m : State) (t p : ℕ) (r : Request) → Keeps m (effect m t p r
 effect-keeps m t p (request.Create entry cookie attrs) = create-keeps m p entry cookie attrs
 effect-keeps m t p (request.Call fd bytes pass rsize) = thread-keeps m t _ _ m.notice_list (λ x. refl)
 effect-keeps m t p (request.Return bytes pass) = thread-keeps m t _ _ m.notice_list (λ x. refl)
+effect-keeps m t p (request.SetParam fd x value) = set_param-keeps m _ x value
+effect-keeps m t p (request.Close fd) = with_row-keeps m p fd.0 None
+effect-keeps m t p (request.Dup fd) = with_row-keeps m p _ _
 effect-keeps m t p (request.Attach fd path) = names-keeps m _
+effect-keeps m t p (request.Detach path) = names-keeps m _
 effect-keeps m t p (request.Open path) = insert_object-keeps m p _
 effect-keeps m t p (request.Await path) = await-keeps m t path
 effect-keeps m t p request.Exit = exit-keeps m t p

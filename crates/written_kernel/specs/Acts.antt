@@ -1,6 +1,6 @@
 -- What an act gives: the state after it, before the kernel settles, and the answer. An entry is refused by the first of its
 -- tests that holds, and then changes nothing.
-use Rattle.std.specs.Prelude.{List, [], ◌∷◌, Option, Bool, if◌then◌else◌, Some, None}
+use Rattle.std.specs.Prelude.{Option, Some, None}
 use Rattle.written_kernel.specs.Types.{Answer, Errno}
 use Rattle.dk_base.specs.declared.answer.Answer.TheVariants.{Failure, Done}
 use Rattle.written_kernel.specs.State.{State}
@@ -8,19 +8,6 @@ use Rattle.written_kernel.specs.State.{State}
 pub record ActResult : Type 0 where
   pub state : State
   pub answer : Answer
-
--- a test of an entry, and the error where it holds; those after the first that holds do not count
-pub record Test : Type 0 where
-  pub holds : Bool
-  pub error : Errno
-
--- where this holds the entry is refused with this error
-abbrev pub refused_where : Bool → Errno → Test
-refused_where holds error = record { holds = holds; error = error }
-
-abbrev pub first_refusal : List Test → Option Errno
-first_refusal [] = None
-first_refusal (x ∷ xs) = if x.holds then Some x.error else first_refusal xs
 
 abbrev pub refused_act : State → Errno → ActResult
 refused_act m e = record { state = m; answer = Failure e }

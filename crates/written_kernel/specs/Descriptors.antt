@@ -1,13 +1,14 @@
--- The acts of descriptors and names: fattach(3C), open(2) of an attached path, and the wait for a path.
+-- The acts of descriptors and names: close(2), dup(2), fattach(3C), fdetach(3C), open(2) of an attached path, and the wait
+-- for a path.
 use Rattle.std.specs.Prelude.{ℕ, List, [], ◌∷◌, Option, Bool, false, true, not, Some, None, is_none, is_some}
 use Rattle.written_kernel.specs.Types.{Fd, Name, Obj, PathId}
 use Rattle.dk_base.specs.declared.error.Errno.TheVariants.{EBADF, EBUSY, EINVAL, EMFILE, ENOENT}
 use Rattle.dk_base.specs.declared.object.Obj.TheVariants as obj
 use Rattle.dk_base.specs.declared.answer.Answer.TheVariants as answer
 use Rattle.kernel_records.specs.declared.record.ThreadState.TheVariants as is
-use Rattle.kernel_records.specs.Words.{descriptor, free_place, lowest_free, with_name, with_row}
+use Rattle.kernel_records.specs.Words.{Test, close_row, descriptor, door_attached, free_place, insert_row, lowest_free, refused_where, with_name, with_row, without_name}
 use Rattle.written_kernel.specs.State.{State, object_at, name_of, table_of, with_state, with_table_of}
-use Rattle.written_kernel.specs.Acts.{ActResult, Test, refused_where}
+use Rattle.written_kernel.specs.Acts.{ActResult}
 
 abbrev pub is_door : Option Obj → Bool
 is_door (Some (obj.Door d)) = true
@@ -22,7 +23,28 @@ door_named _ = 0
 abbrev pub insert_object : State → ℕ → Obj → ActResult
 insert_object m p o =
     record {
-      state = with_table_of m p (with_row (table_of m p) (free_place (table_of m p)) (Some o));
+      state = with_table_of m p (insert_row (table_of m p) o);
+      answer = answer.NewFd (descriptor (free_place (table_of m p)));
+    }
+
+-- close: EBADF; the descriptor is free again
+
+abbrev pub close_tests : State → ℕ → Fd → List Test
+close_tests m p fd = refused_where (is_none (object_at m p fd)) EBADF ∷ []
+
+abbrev pub close : State → ℕ → Fd → ActResult
+close m p fd = record { state = with_table_of m p (close_row (table_of m p) fd.0); answer = answer.Done }
+
+-- dup: EBADF, EMFILE; the same object at the lowest descriptor that is free
+
+abbrev pub dup_tests : State → ℕ → Fd → List Test
+dup_tests m p fd =
+    refused_where (is_none (object_at m p fd)) EBADF ∷ refused_where (is_none (lowest_free (table_of m p))) EMFILE ∷ []
+
+abbrev pub dup : State → ℕ → Fd → ActResult
+dup m p fd =
+    record {
+      state = with_table_of m p (with_row (table_of m p) (free_place (table_of m p)) (object_at m p fd));
       answer = answer.NewFd (descriptor (free_place (table_of m p)));
     }
 
@@ -39,15 +61,19 @@ abbrev pub attach : State → ℕ → Fd → PathId → ActResult
 attach m p fd path =
     record { state = record m { names = with_name m.names path (door_named (object_at m p fd)) }; answer = answer.Done }
 
+-- fdetach: EINVAL; the path has no door
+
+abbrev pub detach_tests : State → PathId → List Test
+detach_tests m path = refused_where (is_none (name_of m path)) EINVAL ∷ []
+
+abbrev pub detach : State → PathId → ActResult
+detach m path = record { state = record m { names = without_name m.names path }; answer = answer.Done }
+
 -- open: ENOENT, EMFILE; the door gets the lowest descriptor that is free
 
 abbrev pub open_tests : State → ℕ → PathId → List Test
 open_tests m p path =
     refused_where (is_none (name_of m path)) ENOENT ∷ refused_where (is_none (lowest_free (table_of m p))) EMFILE ∷ []
-
-abbrev pub door_attached : Option Name → ℕ
-door_attached None = 0
-door_attached (Some n) = n.door
 
 abbrev pub open_path : State → ℕ → PathId → ActResult
 open_path m p path = insert_object m p (obj.Door (door_attached (name_of m path)))

@@ -1,24 +1,25 @@
 -- The acts of doors: door_create(3C), door_call(3C), door_return(3C), and the ends of the waits that a door call and a
 -- return begin. An act's record update names the parts of the state that it changes. `p` is the process of the thread
 -- `t`.
-use Rattle.std.specs.Prelude.{ℕ, ◌+◌, ◌++◌, ◌&&◌, List, [], ◌∷◌, Option, false, not, Some, None, is_none, is_some, length, nat_le, nat_lt}
-use Rattle.written_kernel.specs.Types.{Answer, Attrs, Call, CallStage, Door, Fd, Item, Obj, Pass}
-use Rattle.dk_base.specs.declared.error.Errno.TheVariants.{E2BIG, EAGAIN, EBADF, EMFILE}
+use Rattle.std.specs.Prelude.{ℕ, ◌+◌, ◌++◌, ◌&&◌, ◌||◌, List, [], ◌∷◌, Option, false, Some, None, is_none, is_some, length, nat_le, nat_lt}
+use Rattle.written_kernel.specs.Types.{Answer, Attrs, Call, CallStage, Fd, Item, Obj, Pass}
+use Rattle.dk_base.specs.declared.error.Errno.TheVariants.{E2BIG, EAGAIN, EINVAL, EMFILE}
 use Rattle.dk_base.specs.declared.object.Obj.TheVariants as obj
 use Rattle.dk_base.specs.declared.object.Item.TheVariants as item
 use Rattle.dk_base.specs.declared.answer.Answer.TheVariants as answer
 use Rattle.kernel_records.specs.declared.record.ThreadState.TheVariants as is
 use Rattle.kernel_records.specs.declared.record.CallStage.TheVariants as stage
-use Rattle.dk_base.specs.declared.limits.TheConstants.{DATA_MAX, QUEUE_MAX}
-use Rattle.kernel_records.specs.Words.{collect_call, cookie_of, enter_call, enter_thread, entry_of, is_given_as, is_to_collect_as, is_valid_in, lowest_free, no_cancel_of, open_call, park_thread, return_call, tid, set_thread_state, with_door}
+use Rattle.dk_base.specs.declared.limits.TheConstants.{DATA_MAX, PASS_MAX, QUEUE_MAX}
+use Rattle.kernel_records.specs.Words.{Test, collect_call, cookie_of, enter_call, enter_thread, entry_of, has_told_attributes, is_given_as, is_to_collect_as, limit_tests, lowest_free, no_cancel_of, open_call, park_thread, refused_where, return_call, set_thread_state, tid, with_door}
 use Rattle.written_kernel.specs.State.{State, calls_waiting, client_call, door_of, find_call, now, object_at, pool_of, table_of}
-use Rattle.written_kernel.specs.Acts.{ActResult, Test, no_act, refused_where}
+use Rattle.written_kernel.specs.Acts.{ActResult, no_act}
 use Rattle.written_kernel.specs.Descriptors.{door_named, insert_object}
 
--- door_create: EMFILE; a door of the process under the next number, at the lowest descriptor that is free
+-- door_create: EINVAL, EMFILE; a door of the process under the next number, at the lowest descriptor that is free
 
-abbrev pub create_tests : State → ℕ → List Test
-create_tests m p = refused_where (is_none (lowest_free (table_of m p))) EMFILE ∷ []
+abbrev pub create_tests : State → ℕ → Attrs → List Test
+create_tests m p attrs =
+    refused_where (has_told_attributes attrs) EINVAL ∷ refused_where (is_none (lowest_free (table_of m p))) EMFILE ∷ []
 
 abbrev pub create : State → ℕ → ℕ → ℕ → Attrs → ActResult
 create m p entry cookie attrs =
@@ -26,17 +27,13 @@ create m p entry cookie attrs =
 
 -- door_call: the door and its limits, then its pool; a call that waits for a server thread
 
--- of the door that is named, if one is: EBADF where it is not valid, E2BIG
-abbrev pub limit_tests : Option Door → List ℕ → List Pass → List Test
-limit_tests o bytes pass = refused_where (not (is_valid_in o)) EBADF ∷ refused_where (nat_lt DATA_MAX (length bytes)) E2BIG ∷ []
-
 -- EAGAIN for a full pool
 abbrev pub pool_tests : State → ℕ → List Test
 pool_tests m d = refused_where (nat_le QUEUE_MAX (calls_waiting m (pool_of m d))) EAGAIN ∷ []
 
 abbrev pub call_tests : State → ℕ → Fd → List ℕ → List Pass → List Test
 call_tests m p fd bytes pass =
-    limit_tests (door_of m (door_named (object_at m p fd))) bytes pass ++ pool_tests m (door_named (object_at m p fd))
+    limit_tests (door_of m (door_named (object_at m p fd))) (length bytes) (length pass) ++ pool_tests m (door_named (object_at m p fd))
 
 abbrev pub new_call : State → ℕ → ℕ → List ℕ → List Obj → ℕ → Call
 new_call m t d bytes objects rsize =
@@ -67,7 +64,8 @@ call m t p fd bytes pass rsize = make_call m t (new_call m t (door_named (object
 -- without a client are dropped.
 
 abbrev pub return_tests : State → ℕ → ℕ → List ℕ → List Pass → List Test
-return_tests m t p bytes pass = refused_where (is_some (client_call m t) && nat_lt DATA_MAX (length bytes)) E2BIG ∷ []
+return_tests m t p bytes pass =
+    refused_where (is_some (client_call m t) && (nat_lt DATA_MAX (length bytes) || nat_lt PASS_MAX (length pass))) E2BIG ∷ []
 
 abbrev pub return : State → ℕ → ℕ → List ℕ → List Pass → ActResult
 return m t p bytes pass =

@@ -7,6 +7,7 @@ pub mod Acts
 pub mod Answers
 pub mod Doors
 pub mod Descriptors
+pub mod Information
 pub mod Leaving
 pub mod Settle
 pub mod Step

@@ -1,14 +1,8 @@
 -- The opening state: processes, and threads of them that run or are dormant.
-use Rattle.std.specs.Prelude.{ℕ, ◌+◌, ◌<◌, ◌≤◌, ◌++◌, List, [], ◌∷◌, Bool, if◌then◌else◌, None, length, replicate}
-use Rattle.written_kernel.specs.Types.{Process, Thread, ThreadState}
+use Rattle.std.specs.Prelude.{ℕ, ◌+◌, ◌<◌, ◌≤◌, ◌++◌, List, [], ◌∷◌, Bool, None, length, replicate}
 use Rattle.dk_base.specs.declared.limits.TheConstants.{THREADS_MAX}
-use Rattle.kernel_records.specs.declared.record.ProcessStage.TheVariants.{Live}
-use Rattle.kernel_records.specs.declared.record.ThreadState.TheVariants as is
-use Rattle.kernel_records.specs.Words.{empty_table, pid}
+use Rattle.kernel_records.specs.Words.{empty_table, new_process, new_thread}
 use Rattle.written_kernel.specs.State.{State}
-
-abbrev pub new_process : ℕ → ℕ → Process
-new_process n limit = record { number = n; made = 0; limit = limit; stage = Live }
 
 abbrev pub no_process : State
 no_process =
@@ -38,12 +32,6 @@ with_processes m (limit ∷ limits) = with_processes (with_new_process m limit) 
 -- processes with these limits, and nothing else
 abbrev pub opening : List ℕ → State
 opening limits = with_processes no_process limits
-
-abbrev pub opening_state : Bool → ThreadState
-opening_state spare = if spare then is.Dormant else is.Running
-
-abbrev pub new_thread : ℕ → ℕ → Bool → Thread
-new_thread n p spare = record { number = n; made = 0; process = pid p; invocation = None; state = opening_state spare }
 
 -- one thread more
 abbrev pub with_new_thread : State → ℕ → Bool → State

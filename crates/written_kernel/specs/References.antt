@@ -1,24 +1,11 @@
 -- The references of an object: rows of tables, names, argument objects of calls that are Queued or Given, and result
 -- objects of calls that are Returned.
-use Rattle.std.specs.Prelude.{List, [], ◌∷◌, ◌++◌, Option, Bool, false, ◌==◌, Some, None, map, filter, flat_map}
+use Rattle.std.specs.Prelude.{List, [], ◌++◌, map, filter, flat_map}
 use Rattle.written_kernel.specs.Types.{Call, CallStage, Name, Obj}
 use Rattle.dk_base.specs.declared.object.Obj.TheVariants as obj
 use Rattle.kernel_records.specs.declared.record.CallStage.TheVariants as stage
+use Rattle.kernel_records.specs.Words.{is_object, objects_of}
 use Rattle.written_kernel.specs.State.{State}
-
-abbrev pub is_object : Obj → Obj → Bool
-is_object (obj.Door a) (obj.Door b) = a == b
-is_object (obj.Port a) (obj.Port b) = a == b
-is_object (obj.PipeIn a) (obj.PipeIn b) = a == b
-is_object (obj.PipeOut a) (obj.PipeOut b) = a == b
-is_object _ _ = false
-
-abbrev pub objects_in_row : Option Obj → List Obj
-objects_in_row None = []
-objects_in_row (Some o) = o ∷ []
-
-abbrev pub objects_in_table : List (Option Obj) → List Obj
-objects_in_table rows = flat_map objects_in_row rows
 
 abbrev pub named_object : Name → Obj
 named_object n = obj.Door n.door
@@ -34,7 +21,7 @@ objects_in_call r = objects_in_transit r r.stage
 
 -- every object that is held, once for each holding
 abbrev pub holdings : State → List Obj
-holdings m = flat_map objects_in_table m.tables ++ map named_object m.names ++ flat_map objects_in_call m.call_tree.calls
+holdings m = flat_map objects_of m.tables ++ map named_object m.names ++ flat_map objects_in_call m.call_tree.calls
 
 abbrev pub refs : State → Obj → List Obj
 refs m o = filter (is_object o) (holdings m)

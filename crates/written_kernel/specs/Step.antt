@@ -5,11 +5,12 @@ use Rattle.dk_base.specs.declared.answer.Answer.TheVariants.{Data}
 use Rattle.dk_base.specs.declared.request.Request.TheVariants as request
 use Rattle.dk_base.specs.declared.event.What.TheVariants as what
 use Rattle.kernel_records.specs.declared.record.ThreadState.TheVariants as is
-use Rattle.kernel_records.specs.Words.{tid}
+use Rattle.kernel_records.specs.Words.{Test, first_refusal, tid}
 use Rattle.written_kernel.specs.State.{State, process_of, state_of, with_state}
-use Rattle.written_kernel.specs.Acts.{ActResult, Test, first_refusal, no_act, unless_refused}
+use Rattle.written_kernel.specs.Acts.{ActResult, no_act, unless_refused}
 use Rattle.written_kernel.specs.Doors.{accept, call, call_tests, collect, create, create_tests, return, return_tests}
-use Rattle.written_kernel.specs.Descriptors.{attach, attach_tests, await, end_await, open_path, open_tests}
+use Rattle.written_kernel.specs.Descriptors.{attach, attach_tests, await, close, close_tests, detach, detach_tests, dup, dup_tests, end_await, open_path, open_tests}
+use Rattle.written_kernel.specs.Information.{credentials, credentials_tests, door_tests, information, parameter, set_parameter, set_parameter_tests}
 use Rattle.written_kernel.specs.Leaving.{exit}
 use Rattle.written_kernel.specs.Settle.{settle}
 use Rattle.written_kernel.specs.Turns.{woken_threads}
@@ -17,10 +18,17 @@ use Rattle.written_kernel.specs.Walks.{root}
 
 -- what an entry of thread t of process p is tested for, in this order
 abbrev pub tests_of : State → ℕ → ℕ → Request → List Test
-tests_of m t p (request.Create entry cookie attrs) = create_tests m p
+tests_of m t p (request.Create entry cookie attrs) = create_tests m p attrs
 tests_of m t p (request.Call fd bytes pass rsize) = call_tests m p fd bytes pass
 tests_of m t p (request.Return bytes pass) = return_tests m t p bytes pass
+tests_of m t p (request.Info fd) = door_tests m p fd
+tests_of m t p (request.GetParam fd param) = door_tests m p fd
+tests_of m t p (request.SetParam fd param value) = set_parameter_tests m p fd param value
+tests_of m t p request.Cred = credentials_tests m t
+tests_of m t p (request.Close fd) = close_tests m p fd
+tests_of m t p (request.Dup fd) = dup_tests m p fd
 tests_of m t p (request.Attach fd path) = attach_tests m p fd path
+tests_of m t p (request.Detach path) = detach_tests m path
 tests_of m t p (request.Open path) = open_tests m p path
 tests_of m t p _ = []
 
@@ -33,7 +41,14 @@ abbrev pub effect : State → ℕ → ℕ → Request → ActResult
 effect m t p (request.Create entry cookie attrs) = create m p entry cookie attrs
 effect m t p (request.Call fd bytes pass rsize) = call m t p fd bytes pass rsize
 effect m t p (request.Return bytes pass) = return m t p bytes pass
+effect m t p (request.Info fd) = information m p fd
+effect m t p (request.GetParam fd param) = parameter m p fd param
+effect m t p (request.SetParam fd param value) = set_parameter m p fd param value
+effect m t p request.Cred = credentials m t
+effect m t p (request.Close fd) = close m p fd
+effect m t p (request.Dup fd) = dup m p fd
 effect m t p (request.Attach fd path) = attach m p fd path
+effect m t p (request.Detach path) = detach m path
 effect m t p (request.Open path) = open_path m p path
 effect m t p (request.Await path) = await m t path
 effect m t p request.Exit = exit m t p

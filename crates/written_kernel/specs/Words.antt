@@ -1,17 +1,18 @@
 -- The words of this crate's specs, from one place, for the crates above.
-pub use Rattle.written_kernel.specs.Acts.{ActResult, Test, first_refusal, no_act, refused_act, refused_where, unless_refused}
+pub use Rattle.written_kernel.specs.Acts.{ActResult, no_act, refused_act, unless_refused}
 pub use Rattle.written_kernel.specs.Answers.{IsEntering}
-pub use Rattle.written_kernel.specs.Descriptors.{attach, attach_tests, await, await_name, door_attached, door_named, end_await, insert_object, is_door, open_path, open_tests}
-pub use Rattle.written_kernel.specs.Doors.{accept, accept_call, call, call_tests, collect, collect_answer, collect_answer_in, create, create_tests, limit_tests, make_call, new_call, pool_tests, return, return_tests}
+pub use Rattle.written_kernel.specs.Descriptors.{attach, attach_tests, await, await_name, close, close_tests, detach, detach_tests, door_named, dup, dup_tests, end_await, insert_object, is_door, open_path, open_tests}
+pub use Rattle.written_kernel.specs.Doors.{accept, accept_call, call, call_tests, collect, collect_answer, collect_answer_in, create, create_tests, make_call, new_call, pool_tests, return, return_tests}
+pub use Rattle.written_kernel.specs.Information.{client_process, credentials, credentials_tests, door_at, door_tests, information, information_of, parameter, set_parameter, set_parameter_tests}
 pub use Rattle.written_kernel.specs.Kept.{IsStep, StandsFor, forget}
 pub use Rattle.written_kernel.specs.Leaving.{drop_notices, dropped_notice, end_calls, ended_call, exit, leave_process, leave_thread}
 pub use Rattle.written_kernel.specs.Legal.{IsFit, MayEnter, MayGoOn, MayInside, MayTurn}
-pub use Rattle.written_kernel.specs.Opening.{IsOpening, new_process, new_thread, no_process, opening, opening_state, with_new_process, with_new_thread, with_processes}
-pub use Rattle.written_kernel.specs.References.{holdings, is_object, named_object, objects_in_call, objects_in_row, objects_in_table, objects_in_transit, refs}
+pub use Rattle.written_kernel.specs.Opening.{IsOpening, no_process, opening, with_new_process, with_new_thread, with_processes}
+pub use Rattle.written_kernel.specs.References.{holdings, named_object, objects_in_call, objects_in_transit, refs}
 pub use Rattle.written_kernel.specs.Runs.{IsRun, Turn, events_of, state_after, state_after_turn, state_at}
 pub use Rattle.written_kernel.specs.Settle.{give, give_each, give_one, give_to, settle}
 pub use Rattle.written_kernel.specs.State.{State, bound_of, calls_waiting, client_call, door_of, find_call, invocation_of, is_live_process, is_valid, name_of, now, object_at, pick, pool_of, process_of, state_of, table_of, thread_of, waiting_items, with_state, with_table_of}
 pub use Rattle.written_kernel.specs.Step.{Step, act, effect, end_work, enter, event_of, go_on, refusal_of, step_after, tests_of, what_of, what_of_entry, what_of_wait, with_event_counted}
-unfoldable pub use Rattle.written_kernel.specs.Step.{step}
 pub use Rattle.written_kernel.specs.Turns.{can_go_on, has_answer, is_runnable, is_running, is_running_state, is_waiting_state, least_among, least_or, least_runnable, waiting_among, waiting_threads, woken_among, woken_threads}
 pub use Rattle.written_kernel.specs.Walks.{caller_in, caller_of, root, served_by, walk}
+unfoldable pub use Rattle.written_kernel.specs.Step.{step}

@@ -1,23 +1,29 @@
 -- What the doors and calls of a state name is declared, and so is what the answers of its events name.
-use Rattle.std.proofs.Common.{◌≡◌, ℕ, ◌+◌, ◌≤◌, ◌==◌, ◌&&◌, not, zero, suc, List, [], ◌∷◌, ◌++◌, Option, Some, None, Bool, true, false, if◌then◌else◌, IsSome, length, arith, refl, length-append, append-nil}
+use Rattle.std.proofs.Common.{◌≡◌, ℕ, ◌+◌, ◌≤◌, ◌==◌, ◌&&◌, not, zero, suc, List, [], ◌∷◌, ◌++◌, Option, Some, None, Bool, true, false, if◌then◌else◌, IsSome, is_none, length, arith, refl, sym, ap, subst, length-append, append-nil}
 use Rattle.std.specs.Prelude.{All}
 use Rattle.std.specs.Option.{option_map_or}
+use Rattle.std.proofs.lemmas.Bool.{false≢true}
 use Rattle.std.proofs.lemmas.List.{length-map}
-use Rattle.std.proofs.lemmas.List.Elements.{All-nil, All-cons, All-head, All-tail, All-push, All-weaker, All-map}
-use Rattle.written_kernel.specs.Types.{Call, CallStage, Door, Errno, Item, Name, Parked, PathId, Request, ThreadState, Waiting}
-use Rattle.dk_base.specs.declared.error.Errno.TheVariants.{EBADF}
+use Rattle.std.proofs.lemmas.List.Elements.{All-nil, All-cons, All-head, All-tail, All-push, All-weaker, All-map, All-filter}
+use Rattle.written_kernel.specs.Types.{Call, CallStage, Door, Errno, Fd, Item, Name, Obj, Param, Parked, PathId, Request, ThreadState, Waiting}
+use Rattle.dk_base.specs.declared.answer.Answer.TheVariants as answer
+use Rattle.dk_base.specs.declared.error.Errno.TheVariants.{EBADF, EINVAL, ENOENT}
 use Rattle.dk_base.specs.declared.object.Item.TheVariants as item
+use Rattle.dk_base.specs.declared.object.Obj.TheVariants as obj
+use Rattle.dk_base.specs.declared.request.Param.TheVariants as param
 use Rattle.dk_base.specs.declared.request.Request.TheVariants as request
 use Rattle.kernel_records.specs.declared.record.CallStage.TheVariants as stage
 use Rattle.kernel_records.specs.declared.record.ThreadState.TheVariants as is
-use Rattle.dk_base.specs.ByNumber.{at_number}
-use Rattle.kernel_records.specs.Words.{at_stage, change_first, entry_of, is_client_call_of, is_given_as, is_last, is_owned_by, is_queued, is_queued_as, is_served_by, is_to_collect_as, is_valid_in, new_door, tid, with_owner_ended, without_arguments_at}
-use Rattle.written_kernel.specs.Words.{ActResult, State, accept, accept_call, act, await, await_name, caller_in, collect, collect_answer, collect_answer_in, door_named, door_of, effect, ended_call, enter, exit, find_call, give_each, give_one, give_to, go_on, is_valid, is_waiting_state, leave_process, leave_thread, name_of, new_call, now, object_at, pick, pool_of, process_of, refusal_of, root, served_by, settle, state_of, step, unless_refused, waiting_among, waiting_items, waiting_threads, walk}
-use Rattle.written_kernel.proofs.Lists.{numbered_within, numbered_there}
+use Rattle.dk_base.specs.ByNumber.{at_number, with_at_number}
+use Rattle.kernel_records.specs.Words.{at_stage, change_door_in, change_first, door_attached, entry_of, has_other_path, has_path, info_in, is_client_call_of, is_given_as, is_last, is_owned_by, is_queued, is_queued_as, is_served_by, is_to_collect_as, is_valid_in, new_door, set_param, tid, with_name, with_owner_ended, with_param, with_row, without_arguments_at, without_name}
+use Rattle.written_kernel.specs.Words.{ActResult, State, accept, accept_call, act, await, await_name, caller_in, client_call, client_process, collect, collect_answer, collect_answer_in, door_at, door_named, door_of, effect, ended_call, enter, exit, find_call, give_each, give_one, give_to, go_on, is_door, is_valid, is_waiting_state, leave_process, leave_thread, name_of, new_call, now, object_at, pick, pool_of, process_of, refusal_of, root, served_by, settle, state_of, step, table_of, unless_refused, waiting_among, waiting_items, waiting_threads, walk, with_table_of}
+use Rattle.written_kernel.proofs.Lists.{length-with_at_number, numbered_within, numbered_there}
 use Rattle.script_lang.specs.Words.{ScriptValue}
+use Rattle.script_requests.specs.DeclaredNames.{IsTarget}
 use Rattle.script_requests.specs.Words.{IsDeclaredAnswer, IsDeclaredThread, IsEntry, IsNumberOf, IsProcess, IsThread}
 use Rattle.script_requests.proofs.Elements.{All-at_number, All-find}
 use Rattle.written_script.specs.DeclaredRuns.{IsDeclaredDoor}
+use Rattle.written_script.proofs.DeclaredObjects.{All-with_at_number, AreKnownNames, AreKnownRows, IsKnownName, IsKnownObject, closed-known, none-known, row-known}
 
 -- a call's caller is declared, and its door was made
 pub record IsKnownCall (script : ScriptValue) (made : ℕ) (r : Call) : Type 0 where
@@ -27,13 +33,20 @@ pub record IsKnownCall (script : ScriptValue) (made : ℕ) (r : Call) : Type 0 w
 abbrev pub AreKnownCalls : ScriptValue → ℕ → List Call → Type 0
 AreKnownCalls script made rs = All (IsKnownCall script made) rs
 
-pub record AreKnown (script : ScriptValue) (ds : List Door) (rs : List Call) : Type 0 where
+pub record AreKnown (script : ScriptValue) (ds : List Door) (rs : List Call) (ts : List (List (Option Obj))) (ns : List Name) : Type 0 where
   pub doors : All (IsDeclaredDoor script) ds
   pub calls : AreKnownCalls script (length ds) rs
+  -- descriptors and names are of doors that were made
+  pub rows : AreKnownRows (length ds) ts
+  pub names : AreKnownNames (length ds) ns
 
 -- no other part of a state matters, so a change of another part keeps this as it is
 abbrev pub IsKnown : ScriptValue → State → Type 0
-IsKnown script m = AreKnown script m.doors m.call_tree.calls
+IsKnown script m = AreKnown script m.doors m.call_tree.calls m.tables m.names
+
+-- threads are of declared processes
+abbrev pub HasOwners : ScriptValue → State → Type 0
+HasOwners script m = (u : ℕ) → IsThread script u → IsProcess script (process_of m u)
 
 -- what an act leaves and answers
 record IsKnownAct (script : ScriptValue) (a : ActResult) : Type 0 where
@@ -72,21 +85,31 @@ changed_calls script made test change keeps (r ∷ rs) all =
 changed-known :
     (script : ScriptValue) (m : State) (test : Call → Bool) (change : Call → Call) →
     ((r : Call) → IsKnownCall script (length m.doors) r → IsKnownCall script (length m.doors) (change r)) →
-    IsKnown script m → AreKnown script m.doors (change_first test change m.call_tree.calls)
+    IsKnown script m → AreKnown script m.doors (change_first test change m.call_tree.calls) m.tables m.names
 changed-known script m test change keeps h =
-    record { doors = h.doors; calls = changed_calls script (length m.doors) test change keeps m.call_tree.calls h.calls }
+    record {
+      doors = h.doors;
+      calls = changed_calls script (length m.doors) test change keeps m.call_tree.calls h.calls;
+      rows = h.rows;
+      names = h.names;
+    }
 
 opened-known :
     (script : ScriptValue) (m : State) (r : Call) → IsKnown script m → IsKnownCall script (length m.doors) r →
-    AreKnown script m.doors (m.call_tree.calls ++ r ∷ [])
+    AreKnown script m.doors (m.call_tree.calls ++ r ∷ []) m.tables m.names
 opened-known script m r h here =
-    record { doors = h.doors; calls = All-push (IsKnownCall script (length m.doors)) m.call_tree.calls r h.calls here }
+    record {
+      doors = h.doors;
+      calls = All-push (IsKnownCall script (length m.doors)) m.call_tree.calls r h.calls here;
+      rows = h.rows;
+      names = h.names;
+    }
 
 -- changes of the doors
 
 with_door-known :
     (script : ScriptValue) (m : State) (d : Door) → IsKnown script m → IsDeclaredDoor script d →
-    AreKnown script (m.doors ++ d ∷ []) m.call_tree.calls
+    AreKnown script (m.doors ++ d ∷ []) m.call_tree.calls m.tables m.names
 with_door-known script m d h here =
     let one : length (m.doors ++ d ∷ []) ≡ length m.doors + 1 = simp length-append refl
     in record {
@@ -95,19 +118,57 @@ with_door-known script m d h here =
           All-weaker
           (IsKnownCall script (length m.doors))
           (IsKnownCall script (length (m.doors ++ d ∷ [])))
-          (λ r known. more r known one)
+          (λ r known. record { caller = known.caller; door = more r.door known.door one })
           m.call_tree.calls
           h.calls;
+      rows = λ p fd n e. more n (h.rows p fd n e) one;
+      names =
+          All-weaker
+          (IsKnownName (length m.doors))
+          (IsKnownName (length (m.doors ++ d ∷ [])))
+          (λ n known. more n.door known one)
+          m.names
+          h.names;
     }
   where
     more :
-        (r : Call) → IsKnownCall script (length m.doors) r → length (m.doors ++ d ∷ []) ≡ length m.doors + 1 →
-        IsKnownCall script (length (m.doors ++ d ∷ [])) r
-    more r known one =
-        let low : 1 ≤ r.door = known.door.0
-        in let high : r.door ≤ length m.doors = known.door.1
-        in let up : r.door ≤ length (m.doors ++ d ∷ []) = omega arith
-        in record { caller = known.caller; door = (low, up) }
+        (n : ℕ) → IsNumberOf (length m.doors) n → length (m.doors ++ d ∷ []) ≡ length m.doors + 1 →
+        IsNumberOf (length (m.doors ++ d ∷ [])) n
+    more n known one =
+        let low : 1 ≤ n = known.0
+        in let high : n ≤ length m.doors = known.1
+        in let up : n ≤ length (m.doors ++ d ∷ []) = omega arith
+        in (low, up)
+
+-- the parameters of a door
+
+with_param-declared :
+    (script : ScriptValue) (x : Param) (value : ℕ) (d : Door) → IsDeclaredDoor script d → IsDeclaredDoor script (with_param x value d)
+with_param-declared script param.DataMax value d h = record { owner = h.owner; entry = h.entry }
+with_param-declared script param.DataMin value d h = record { owner = h.owner; entry = h.entry }
+with_param-declared script param.DescMax value d h = record { owner = h.owner; entry = h.entry }
+
+set_param-known :
+    (script : ScriptValue) (m : State) (d : ℕ) (x : Param) (value : ℕ) → IsKnown script m →
+    AreKnown script (set_param m.doors d x value) m.call_tree.calls m.tables m.names
+set_param-known script m d x value h = by_door (door_of m d) refl
+  where
+    by_door :
+        (o : Option Door) → door_of m d ≡ o →
+        AreKnown script (change_door_in m.doors d (with_param x value) o) m.call_tree.calls m.tables m.names
+    by_door None e = h
+    by_door (Some y) e =
+        let same : length m.doors ≡ length (with_at_number m.doors d (with_param x value y)) =
+        sym (length-with_at_number m.doors d (with_param x value y))
+        in record {
+          doors =
+              All-with_at_number (IsDeclaredDoor script) m.doors d (with_param x value y)
+              (with_param-declared script x value y (All-at_number (IsDeclaredDoor script) m.doors d y h.doors e))
+              h.doors;
+          calls = subst (λ (n : ℕ). AreKnownCalls script n m.call_tree.calls) same h.calls;
+          rows = subst (λ (n : ℕ). AreKnownRows n m.tables) same h.rows;
+          names = subst (λ (n : ℕ). AreKnownNames n m.names) same h.names;
+        }
 
 ended_door : (script : ScriptValue) (p : ℕ) (d : Door) → IsDeclaredDoor script d → IsDeclaredDoor script (with_owner_ended p d)
 ended_door script p d h = by_test (d.owner.0 == p)
@@ -152,7 +213,24 @@ leave_process-known script m p h =
           (λ r known. ended_call-known script (length m.doors) m.doors p r known)
           m.call_tree.calls
           h.calls));
+      rows =
+          subst (λ (n : ℕ). AreKnownRows n (leave_process m p).tables) (sym (length-map m.doors (with_owner_ended p)))
+          (closed-known (length m.doors) m.tables p h.rows);
+      names = subst (λ (n : ℕ). AreKnownNames n m.names) (sym (length-map m.doors (with_owner_ended p))) h.names;
     }
+
+-- changes of a table and of the names
+
+with_row-known :
+    (script : ScriptValue) (m : State) (p place : ℕ) (o : Option Obj) → IsKnown script m → IsKnownObject (length m.doors) o →
+    IsKnown script (with_table_of m p (with_row (table_of m p) place o))
+with_row-known script m p place o h here =
+    record { doors = h.doors; calls = h.calls; rows = row-known (length m.doors) m.tables p place o here h.rows; names = h.names }
+
+names-known :
+    (script : ScriptValue) (m : State) (names : List Name) → IsKnown script m → AreKnownNames (length m.doors) names →
+    AreKnown script m.doors m.call_tree.calls m.tables names
+names-known script m names h here = record { doors = h.doors; calls = h.calls; rows = h.rows; names = here }
 
 -- entries
 
@@ -177,9 +255,71 @@ valid_door m d h = by_door (door_of m d) refl h
     by_door None e f = cc
     by_door (Some x) e f = numbered_within m.doors d x e
 
+not_missing : {X : Type 0} {o : Option X} → IsSome o → o ≡ None → ⊥
+not_missing {X} {o} some none = cc
+
 holds_unless : (b : Bool) (other : Option Errno) → (if not b then Some EBADF else other) ≡ None → b ≡ true
 holds_unless true other h = refl
 holds_unless false other h = cc
+
+-- the door of a descriptor that names one
+named_door : (script : ScriptValue) (m : State) (p : ℕ) (fd : Fd) → IsKnown script m → is_door (object_at m p fd) ≡ true → IsNumberOf (length m.doors) (door_at m p fd)
+named_door script m p fd h door = by_object (object_at m p fd) refl door
+  where
+    by_object : (o : Option Obj) → object_at m p fd ≡ o → is_door o ≡ true → IsNumberOf (length m.doors) (door_named o)
+    by_object (Some (obj.Door d)) e f = h.rows p fd d e
+    by_object None e f = absurd (false≢true f)
+    by_object (Some (obj.Port n)) e f = absurd (false≢true f)
+    by_object (Some (obj.PipeIn n)) e f = absurd (false≢true f)
+    by_object (Some (obj.PipeOut n)) e f = absurd (false≢true f)
+
+attached-known :
+    (script : ScriptValue) (m : State) (path : PathId) (other : Option Errno) → IsKnown script m →
+    (if is_none (name_of m path) then Some ENOENT else other) ≡ None →
+    IsKnownObject (length m.doors) (Some (obj.Door (door_attached (name_of m path))))
+attached-known script m path other h e d f = subst (IsNumberOf (length m.doors)) (ap door_named f) (by_name (name_of m path) refl e)
+  where
+    by_name :
+        (o : Option Name) → name_of m path ≡ o → (if is_none o then Some ENOENT else other) ≡ None →
+        IsNumberOf (length m.doors) (door_attached o)
+    by_name None g k = absurd (cc k)
+    by_name (Some n) g k = All-find (IsKnownName (length m.doors)) (has_path path) m.names n h.names g
+
+-- the second test of fattach(3C)
+names_door_then :
+    (none b : Bool) (other : Option Errno) → (if none then Some EBADF else (if not b then Some EINVAL else other)) ≡ None → b ≡ true
+names_door_then none true other h = refl
+names_door_then true false other h = absurd (cc h)
+names_door_then false false other h = absurd (cc h)
+
+-- what door_info(3C) tells names what is declared
+info-known :
+    (script : ScriptValue) (m : State) (p refs d : ℕ) → IsKnown script m → IsNumberOf (length m.doors) d →
+    IsDeclaredAnswer script (answer.Info (info_in p refs (door_of m d)))
+info-known script m p refs d h here = by_door (door_of m d) refl
+  where
+    by_target : (y : Door) → IsDeclaredDoor script y → (b : Bool) → IsTarget script (if b then None else Some y.owner)
+    by_target y declared true = tt
+    by_target y declared false = declared.owner
+
+    by_door : (o : Option Door) → door_of m d ≡ o → IsDeclaredAnswer script (answer.Info (info_in p refs o))
+    by_door None e = absurd (not_missing (numbered_there m.doors d here.0 here.1) e)
+    by_door (Some y) e =
+        let declared : IsDeclaredDoor script y = All-at_number (IsDeclaredDoor script) m.doors d y h.doors e
+        in (by_target y declared y.owner_ended, declared.entry)
+
+-- the process of a client, where there is one
+client-known :
+    (script : ScriptValue) (m : State) (t : ℕ) (other : Option Errno) → IsKnown script m → HasOwners script m →
+    (if is_none (client_call m t) then Some EINVAL else other) ≡ None → IsProcess script (client_process m (client_call m t))
+client-known script m t other h owners e = by_call (client_call m t) refl e
+  where
+    by_call :
+        (o : Option Call) → client_call m t ≡ o → (if is_none o then Some EINVAL else other) ≡ None →
+        IsProcess script (client_process m o)
+    by_call None g k = absurd (cc k)
+    by_call (Some r) g k =
+        owners r.caller.0 (All-find (IsKnownCall script (length m.doors)) (is_client_call_of t) m.call_tree.calls r h.calls g).caller
 
 -- the door that a request makes is one of its process and of a declared entry
 abbrev pub MakesDeclared : ScriptValue → Request → Type 0
@@ -189,14 +329,27 @@ MakesDeclared script r = Unit {0}
 -- an entry that is not refused
 effect-known :
     (script : ScriptValue) (m : State) (t p : ℕ) (r : Request) → IsKnown script m → IsThread script t → IsProcess script p →
-    MakesDeclared script r → refusal_of m t p r ≡ None → IsKnownAct script (effect m t p r)
-effect-known script m t p (request.Create entry cookie attrs) h thread process made e =
+    HasOwners script m → MakesDeclared script r → refusal_of m t p r ≡ None → IsKnownAct script (effect m t p r)
+effect-known script m t p (request.Create entry cookie attrs) h thread process owners made e =
     record {
-      state =
-          with_door-known script m (new_door (length m.doors + 1) p entry cookie attrs) h (record { owner = process; entry = made });
+      state = with_row-known script n p _ (Some (obj.Door (length m.doors + 1))) (with_door-known script m x h (record { owner = process; entry = made })) new;
       answer = tt;
     }
-effect-known script m t p (request.Call fd bytes pass rsize) h thread process made e =
+  where
+    x : Door
+    x = new_door (length m.doors + 1) p entry cookie attrs
+
+    n : State
+    n = record m { doors = m.doors ++ x ∷ [] }
+
+    new : IsKnownObject (length n.doors) (Some (obj.Door (length m.doors + 1)))
+    new d f =
+        let same : length m.doors + 1 ≡ d = ap door_named f
+        in let one : length (m.doors ++ x ∷ []) ≡ length m.doors + 1 = length-append m.doors (x ∷ [])
+        in let low : 1 ≤ d = omega arith
+        in let high : d ≤ length (m.doors ++ x ∷ []) = omega arith
+        in (low, high)
+effect-known script m t p (request.Call fd bytes pass rsize) h thread process owners made e =
     record {
       state =
           opened-known
@@ -210,30 +363,60 @@ effect-known script m t p (request.Call fd bytes pass rsize) h thread process ma
           });
       answer = tt;
     }
-effect-known script m t p (request.Return bytes pass) h thread process made e =
+effect-known script m t p (request.Return bytes pass) h thread process owners made e =
     record {
       state = changed-known script m (is_client_call_of t) _ (emptied script (length m.doors) (stage.Returned bytes [])) h;
       answer = tt;
     }
-effect-known script m t p (request.Attach fd path) h thread process made e = record { state = h; answer = tt }
-effect-known script m t p (request.Open path) h thread process made e = record { state = h; answer = tt }
-effect-known script m t p (request.Await path) h thread process made e = await-known script m t path h
-effect-known script m t p request.Exit h thread process made e = exit-known script m t p h
-effect-known script m t p _ h thread process made e = record { state = h; answer = tt }
+effect-known script m t p (request.Info fd) h thread process owners made e =
+    record {
+      state = h;
+      answer =
+          info-known script m p _ (door_at m p fd) h (named_door script m p fd h (holds_unless (is_door (object_at m p fd)) _ e));
+    }
+effect-known script m t p (request.GetParam fd x) h thread process owners made e = record { state = h; answer = tt }
+effect-known script m t p (request.SetParam fd x value) h thread process owners made e =
+    record { state = set_param-known script m (door_at m p fd) x value h; answer = tt }
+effect-known script m t p request.Cred h thread process owners made e =
+    record { state = h; answer = client-known script m t _ h owners e }
+effect-known script m t p (request.Close fd) h thread process owners made e =
+    record { state = with_row-known script m p fd.0 None h (none-known (length m.doors)); answer = tt }
+effect-known script m t p (request.Dup fd) h thread process owners made e =
+    record { state = with_row-known script m p _ (object_at m p fd) h (h.rows p fd); answer = tt }
+effect-known script m t p (request.Attach fd path) h thread process owners made e =
+    record {
+      state =
+          names-known script m (with_name m.names path (door_named (object_at m p fd))) h
+          (All-push (IsKnownName (length m.doors)) m.names (record { path = path; door = door_at m p fd }) h.names
+          (named_door script m p fd h (names_door_then (is_none (object_at m p fd)) (is_door (object_at m p fd)) _ e)));
+      answer = tt;
+    }
+effect-known script m t p (request.Detach path) h thread process owners made e =
+    record {
+      state =
+          names-known script m (without_name m.names path) h
+          (All-filter (has_other_path path) (IsKnownName (length m.doors)) m.names h.names);
+      answer = tt;
+    }
+effect-known script m t p (request.Open path) h thread process owners made e =
+    record {
+      state = with_row-known script m p _ (Some (obj.Door (door_attached (name_of m path)))) h (attached-known script m path _ h e);
+      answer = tt;
+    }
+effect-known script m t p (request.Await path) h thread process owners made e = await-known script m t path h
+effect-known script m t p request.Exit h thread process owners made e = exit-known script m t p h
+effect-known script m t p _ h thread process owners made e = record { state = h; answer = tt }
 
 enter-known :
     (script : ScriptValue) (m : State) (t p : ℕ) (r : Request) → IsKnown script m → IsThread script t → IsProcess script p →
-    MakesDeclared script r → IsKnownAct script (enter m t p r)
-enter-known script m t p r h thread process made = by_refusal (refusal_of m t p r) refl
+    HasOwners script m → MakesDeclared script r → IsKnownAct script (enter m t p r)
+enter-known script m t p r h thread process owners made = by_refusal (refusal_of m t p r) refl
   where
     by_refusal : (o : Option Errno) → refusal_of m t p r ≡ o → IsKnownAct script (unless_refused m o (effect m t p r))
     by_refusal (Some error) e = record { state = h; answer = tt }
-    by_refusal None e = effect-known script m t p r h thread process made e
+    by_refusal None e = effect-known script m t p r h thread process owners made e
 
 -- ends of waits
-
-not_missing : {X : Type 0} {o : Option X} → IsSome o → o ≡ None → ⊥
-not_missing {X} {o} some none = cc
 
 -- the door of a known call is there
 entry-known :
@@ -312,17 +495,18 @@ pub record IsKnownStep (script : ScriptValue) (m : State) (t : ℕ) (r : Option 
   pub answer : IsDeclaredAnswer script (step m t r).answer
 
 act-known :
-    (script : ScriptValue) (m : State) (t : ℕ) (r : Option Request) → IsKnown script m → IsThread script t →
-    IsProcess script (process_of m t) → AsksDeclared script r → IsKnownAct script (act m t r)
-act-known script m t (Some r) h thread process made = enter-known script m t (process_of m t) r h thread process made
-act-known script m t None h thread process made = go_on-known script m t (process_of m t) (state_of m t) h
+    (script : ScriptValue) (m : State) (t : ℕ) (r : Option Request) → IsKnown script m → IsThread script t → HasOwners script m →
+    AsksDeclared script r → IsKnownAct script (act m t r)
+act-known script m t (Some r) h thread owners made =
+    enter-known script m t (process_of m t) r h thread (owners t thread) owners made
+act-known script m t None h thread owners made = go_on-known script m t (process_of m t) (state_of m t) h
 
 pub step-known :
-    (script : ScriptValue) (m : State) (t : ℕ) (r : Option Request) → IsKnown script m → IsThread script t →
-    IsProcess script (process_of m t) → AsksDeclared script r → IsKnownStep script m t r
+    (script : ScriptValue) (m : State) (t : ℕ) (r : Option Request) → IsKnown script m → IsThread script t → HasOwners script m →
+    AsksDeclared script r → IsKnownStep script m t r
 unfolding step
-step-known script m t r h thread process made =
-    let acted : IsKnownAct script (act m t r) = act-known script m t r h thread process made
+step-known script m t r h thread owners made =
+    let acted : IsKnownAct script (act m t r) = act-known script m t r h thread owners made
     in record { state = settle-known script m (act m t r).state acted.state; answer = acted.answer }
 
 -- the end of a walk from a declared thread is declared

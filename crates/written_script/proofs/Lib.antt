@@ -7,5 +7,6 @@ pub mod BudgetRow
 pub mod RefusedRow
 pub mod LoopsRow
 pub mod FitRequests
+pub mod DeclaredObjects
 pub mod DeclaredStates
 pub mod RunTurns

@@ -7,11 +7,11 @@ use Rattle.std.proofs.lemmas.List.Elements.{All-nil, All-head, All-tail, All-pus
 use Rattle.std.proofs.lemmas.Option.{slice_get_within}
 use Rattle.dk_base.specs.declared.answer.Answer.TheVariants as answer
 use Rattle.written_kernel.specs.Types.{Answer, Event, Thread}
-use Rattle.kernel_records.specs.Words.{process_in, state_in}
-use Rattle.written_kernel.specs.Words.{IsEntering, IsRun, MayTurn, State, can_go_on, event_of, invocation_of, is_runnable, is_running, new_thread, opening, process_of, step, thread_of, with_new_thread}
+use Rattle.kernel_records.specs.Words.{new_thread, process_in, state_in}
+use Rattle.written_kernel.specs.Words.{IsEntering, IsRun, MayTurn, State, can_go_on, event_of, invocation_of, is_runnable, is_running, opening, process_of, step, thread_of, with_new_thread}
 use Rattle.written_kernel.proofs.Lists.{numbered_within, numbered_there}
 use Rattle.written_kernel.proofs.Invocations.{new_invocation-step}
-use Rattle.written_kernel.proofs.Opening.{opened, invocation_of-opening, opening_processes, length-with_new_thread, opening_threads}
+use Rattle.written_kernel.proofs.Opening.{opened, invocation_of-opening, object_at-opening, opening_processes, length-with_new_thread, opening_threads}
 use Rattle.written_kernel.proofs.Steps.{events-step, threads-step, processes-step, process_of-step}
 use Rattle.script_lang.specs.Types.{Line}
 use Rattle.script_line.specs.declared.line.Line.TheVariants as line
@@ -23,6 +23,7 @@ use Rattle.script_requests.proofs.Elements.{All-at_number, All-none}
 use Rattle.script_requests.proofs.SoundFrames.{IsStep, AreSteps, AreLines, IsFrame, frame_of-frame, frame_after_answer-procedure}
 use Rattle.written_script.specs.DeclaredRuns.{IsDeclared, IsDeclaredDoor}
 use Rattle.written_script.specs.ScriptRuns.{History, limit_of, with_script_threads, opening_of, first_history, request_at_turn, history_after, run, run_from, AreRunnableFrom, IsAllowed, turns_from, turns_of}
+use Rattle.written_script.proofs.DeclaredObjects.{IsKnownName, no_rows-known}
 use Rattle.written_script.proofs.DeclaredStates.{IsKnown, IsKnownCall, MakesDeclared, AsksDeclared, step-known, root-declared, waiting-declared}
 use Rattle.written_script.proofs.FitRequests.{HasThreads, IsFitSomewhere, fit-somewhere, IsBuiltLine, request-fit, request-built, request-inside}
 use Rattle.written_script.proofs.Histories.{frame_of-append, IsOpening-opening_of, events-opening_of, events-run}
@@ -170,7 +171,7 @@ pub IsKnownHistory-history_after :
     IsKnownHistory script (history_after script h t)
 IsKnownHistory-history_after script h t sound kept can =
     let thread : IsThread script t = history_after-thread script h t kept can
-    in let after = step-known script h.state t (request_at_turn script h t) kept.known thread (kept.owners t thread) (request_at_turn-declared script h t sound)
+    in let after = step-known script h.state t (request_at_turn script h t) kept.known thread kept.owners (request_at_turn-declared script h t sound)
     in record {
       has = record {
         threads = threads-step h.state t (request_at_turn script h t) ∙ kept.has.threads;
@@ -194,7 +195,7 @@ pub history_after-answer :
     IsDeclaredAnswer script (step h.state t (request_at_turn script h t)).answer
 history_after-answer script h t sound kept can =
     let thread : IsThread script t = history_after-thread script h t kept can
-    in (step-known script h.state t (request_at_turn script h t) kept.known thread (kept.owners t thread) (request_at_turn-declared script h t sound)).answer
+    in (step-known script h.state t (request_at_turn script h t) kept.known thread kept.owners (request_at_turn-declared script h t sound)).answer
 
 -- each runnable thread's turn is one that the kernel takes
 pub may_turn :
@@ -305,6 +306,10 @@ IsKnownHistory-first_history script sound =
       known = record {
         doors = rw opens.doors (All-nil (IsDeclaredDoor script));
         calls = rw opens.call_tree (All-nil (IsKnownCall script (length (opening_of script).doors)));
+        rows =
+            no_rows-known (length (opening_of script).doors) (opening_of script).tables
+            (object_at-opening (IsOpening-opening_of script sound));
+        names = rw opens.names (All-nil (IsKnownName (length (opening_of script).doors)));
       };
       events = All-nil (IsDeclaredEvent script);
       inside = λ u some. absurd (false≢true (subst (λ o. IsSome o) (invocation_of-opening (IsOpening-opening_of script sound) u) some));

@@ -6,7 +6,7 @@ use std::test::Fail;
 use thread_machine::later::later;
 
 /// Lines of a thread that need no later capability, and lines that do.
-const BUILT_LINES: [&str; 10] = [
+const BUILT_LINES: [&str; 18] = [
     "create d e 0",
     "attach 1 p",
     "open v p",
@@ -17,20 +17,17 @@ const BUILT_LINES: [&str; 10] = [
     "repeat 2\nserve\nend",
     "if ok\nserve\nend",
     "if EBADF\nend",
-];
-
-const LATER_LINES: [&str; 45] = [
     "close 1",
     "dup v 1",
     "detach p",
-    "create d e 0 local",
-    "create d e 0 revoked",
-    "create d e 0 is-unref",
-    "create d e 0 refuse-desc",
+    "create d e 0 local revoked is-unref refuse-desc",
     "info 1",
     "getparam 1 data-max",
     "setparam 1 data-max 1",
     "cred",
+];
+
+const LATER_LINES: [&str; 34] = [
     "call r 1 \"\" desc 1",
     "return \"\" desc 1",
     "create d e 0 private",
@@ -57,9 +54,9 @@ const LATER_LINES: [&str; 45] = [
     "associate 1 1 in 1",
     "dissociate 1 1",
     "work v upper \"\"",
-    "if ok\nclose 1\nend",
-    "repeat 2\nserve\nclose 1\nend",
-    "serve\nclose 1",
+    "if ok\nrevoke 1\nend",
+    "repeat 2\nserve\nrevoke 1\nend",
+    "serve\nrevoke 1",
     "create d e 0 private local",
     "work v digest \"\"",
     "get 1 nowait",
@@ -71,7 +68,7 @@ const LATER_LINES: [&str; 45] = [
 const LATER_SCRIPTS: [(&str, &str, &str); 3] = [
     ("serve", "serve", "spare s"),
     ("serve", "call r 1 \"\"", ""),
-    ("serve", "if ok\nclose 1\nend", ""),
+    ("serve", "if ok\nrevoke 1\nend", ""),
 ];
 
 fn is_later_text(alloc: Global, text: &str) -> Option<bool> {

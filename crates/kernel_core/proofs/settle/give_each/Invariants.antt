@@ -2,7 +2,7 @@ use Rattle.std.proofs.Common.{◌≡◌, drop}
 use Rattle.std.specs.List.{list_any}
 use Rattle.written_kernel.specs.Words.{give_each}
 use Rattle.kernel_core.specs.Stored.{stored_state}
-use Rattle.kernel_core.specs.Idle.{is_idle_thread}
+use Rattle.kernel_records.specs.Words.{is_idle_thread}
 use Rattle.kernel_core.proofs.settle.give_each.Given as goal
 
 abbrev pub invariant-loop-item : goal.invariant-loop-item

@@ -3,7 +3,7 @@ use Rattle.dk_base.specs.declared.limits.TheConstants.{THREADS_MAX}
 use Rattle.written_kernel.specs.Words.{State}
 use Rattle.written_kernel.proofs.Opening.{IsDeclaredIn}
 use Rattle.kernel_core.specs.Stored.{stored_state}
-use Rattle.kernel_core.proofs.Kept.{thread_result}
+use Rattle.kernel_core.proofs.Kept.{opening_lives, thread_result}
 use Rattle.kernel_core.proofs.kernel.Kernel.add_thread.Goals as goal
 
 pub invariant_of-self : goal.invariant_of-self
@@ -16,3 +16,9 @@ invariant_of-self c =
     thread_result old (stored_state c.add_thread.new.self.store) c.args.process.0 c.args.spare c.self.invariant.0 c.self.invariant.1
     (ap (λ (k : State). k.events) c.self.view_is ∙ c.requires.opening) there few c.add_thread.result c.add_thread.ensures.ok c.add_thread.ensures.err in
     (kept.0, kept.1, c.add_thread.ensures.current)
+
+pub add_thread-requires-clause-lives : goal.add_thread-requires-clause-lives
+add_thread-requires-clause-lives c =
+    let old = stored_state c.self.inside.parts.store in
+    let there : IsDeclaredIn old c.args.process.0 = subst (λ k. IsDeclaredIn k c.args.process.0) (sym c.self.view_is) c.requires.declared in
+    opening_lives old c.args.process.0 (c.self.invariant.0.opening (ap (λ (k : State). k.events) c.self.view_is ∙ c.requires.opening)) there

@@ -1,0 +1,5 @@
+//! The descriptors of a process.
+#![tactic(auto)]
+
+mod rows;
+pub mod table;

@@ -1,0 +1,141 @@
+//! Descriptors of a process.
+ghost use Rattle.std.specs.Prelude.{◌+◌, ◌≤◌, length};
+ghost use Rattle.dk_base.specs.declared.limits.TheConstants.{DESCRIPTORS_MAX};
+
+use dk_base::error::Errno;
+use dk_base::list::{ObjList, Room};
+use dk_base::number::Fd;
+use dk_base::object::Obj;
+use fd_table::table::FdTable;
+use std::alloc::Global;
+use std::test::Fail;
+
+/// Whether the next objects get the numbers from 0 on, this many.
+fn gives_numbers(table: &mut FdTable, many: u32) -> bool {
+    for number in 0..many {
+        if table.insert(Obj::Door(1)) != Ok(Fd(number)) {
+            return false;
+        }
+    }
+    true
+}
+
+fn is_full(table: &mut FdTable) -> bool {
+    table.free() == 0
+        && table.lowest_free().is_none()
+        && table.insert(Obj::Door(1)) == Err(Errno::EMFILE)
+}
+
+fn fills(alloc: Global, limit: u32) -> bool
+    requires { limit ≤ DESCRIPTORS_MAX }
+{
+    match FdTable::new(alloc, limit) {
+        Ok(mut table) => {
+            table.free() == limit && gives_numbers(&mut table, limit) && is_full(&mut table)
+        }
+        Err(_) => false,
+    }
+}
+
+#[test]
+fn tables_have_limits(rt: HostRuntime) {
+    assert!(rt; fills(rt.alloc(), 0));
+    assert!(rt; fills(rt.alloc(), 1));
+    assert!(rt; fills(rt.alloc(), 256));
+}
+
+/// What is asked of a table, and what it answers.
+#[derive(Clone, Copy)]
+enum Act {
+    Insert(Obj, Result<Fd, Errno>),
+    Remove(Fd, Result<Obj, Errno>),
+    Dup(Fd, Result<Fd, Errno>),
+    Get(Fd, Option<Obj>),
+}
+
+/// A table of three rows. The last act leaves the rows 0 and 2.
+const ACTS: [Act; 15] = [
+    Act::Insert(Obj::Door(1), Ok(Fd(0))),
+    Act::Insert(Obj::Port(1), Ok(Fd(1))),
+    Act::Dup(Fd(0), Ok(Fd(2))),
+    Act::Dup(Fd(1), Err(Errno::EMFILE)),
+    Act::Dup(Fd(3), Err(Errno::EBADF)),
+    Act::Remove(Fd(1), Ok(Obj::Port(1))),
+    Act::Remove(Fd(1), Err(Errno::EBADF)),
+    Act::Remove(Fd(0), Ok(Obj::Door(1))),
+    Act::Dup(Fd(1), Err(Errno::EBADF)),
+    Act::Insert(Obj::PipeIn(1), Ok(Fd(0))),
+    Act::Insert(Obj::PipeOut(1), Ok(Fd(1))),
+    Act::Insert(Obj::Door(2), Err(Errno::EMFILE)),
+    Act::Get(Fd(2), Some(Obj::Door(1))),
+    Act::Get(Fd(3), None),
+    Act::Remove(Fd(1), Ok(Obj::PipeOut(1))),
+];
+
+fn does(table: &mut FdTable, act: Act) -> bool {
+    match act {
+        Act::Insert(object, gives) => table.insert(object) == gives,
+        Act::Remove(fd, gives) => table.remove(fd) == gives,
+        Act::Dup(fd, gives) => table.dup(fd) == gives,
+        Act::Get(fd, gives) => table.get(fd) == gives,
+    }
+}
+
+fn does_all(table: &mut FdTable) -> bool {
+    for act in ACTS {
+        if !does(table, act) {
+            return false;
+        }
+    }
+    true
+}
+
+/// Whether these objects are drained, and every row is free then.
+fn drains(table: &mut FdTable, into: &mut Room<Obj>, expected: &[Obj]) -> bool
+    requires { 3 ≤ into.old.spare }
+{
+    if table.len() != 3 {
+        return false;
+    }
+    table.drain(into);
+    table.free() == 3 && into.slice() == expected
+}
+
+#[test]
+fn the_lowest_number_is_given_again(rt: HostRuntime) -> Result<(), Fail> {
+    let mut drained = Room::with_room(rt.alloc(), 3)?;
+    let mut table = FdTable::new(rt.alloc(), 3)?;
+    assert!(rt; does_all(&mut table));
+    assert!(rt; drains(&mut table, &mut drained, &[Obj::PipeIn(1), Obj::Door(1)]));
+    Ok(())
+}
+
+/// Whether the first objects are refused with nothing changed, and the others get these numbers.
+fn gives_all_or_none(
+    table: &mut FdTable,
+    many: &ObjList,
+    few: &ObjList,
+    into: &mut Room<Fd>,
+    expected: &[Fd],
+) -> bool
+    requires { length many.now + length few.now ≤ into.old.spare }
+{
+    let free = table.free();
+    table.insert_all(many, into) == Err(Errno::EMFILE)
+        && table.free() == free
+        && into.len() == 0
+        && table.insert_all(few, into) == Ok(())
+        && into.slice() == expected
+}
+
+#[test]
+fn all_objects_get_numbers_or_none(rt: HostRuntime) -> Result<(), Fail> {
+    let alloc = rt.alloc();
+    let many = ObjList::from_slice(alloc, &[Obj::Port(1), Obj::Port(2), Obj::Port(3)])?;
+    let few = ObjList::from_slice(alloc, &[Obj::Port(1), Obj::Port(2)])?;
+    let mut given = Room::with_room(alloc, 5)?;
+    let mut table = FdTable::new(alloc, 3)?;
+    assert!(rt; table.insert(Obj::Door(1)) == Ok(Fd(0)));
+    assert!(rt; gives_all_or_none(&mut table, &many, &few, &mut given, &[Fd(1), Fd(2)]));
+    Ok(())
+}

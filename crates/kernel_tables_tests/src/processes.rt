@@ -1,0 +1,86 @@
+//! Processes and threads: when there is room for no more, and which thread is the last of its process.
+
+use dk_base::error::ProcFault;
+use dk_base::number::{Pid, Tid};
+use kernel_records::record::ThreadState;
+use proc_table::procs::Procs;
+
+/// Whether a process is added, under this number.
+fn is_process_added(procs: &mut Procs, number: u32) -> bool {
+    matches!(procs.add_proc(256), Ok(p) if p.0 == number)
+}
+
+/// Whether a thread is added to a process that lives, under this number.
+fn is_thread_added(procs: &mut Procs, p: Pid, spare: bool, number: u32) -> bool {
+    procs.is_live(p) && matches!(procs.add_thread(p, spare), Ok(t) if t.0 == number)
+}
+
+fn are_processes_full_at_64(procs: &mut Procs) -> bool {
+    for number in 1..65 {
+        if !is_process_added(procs, number) {
+            return false;
+        }
+    }
+    matches!(procs.add_proc(0), Err(ProcFault::Full)) && procs.process_count() == 64
+}
+
+#[test]
+fn there_are_at_most_64_processes(rt: HostRuntime) {
+    let mut procs = Procs::new(rt.alloc());
+    assert!(rt; are_processes_full_at_64(&mut procs));
+}
+
+fn are_threads_full_at_64(procs: &mut Procs) -> bool {
+    if !is_process_added(procs, 1) {
+        return false;
+    }
+    for number in 1..65 {
+        if !is_thread_added(procs, Pid(1), number > 32, number) {
+            return false;
+        }
+    }
+    procs.is_live(Pid(1))
+        && matches!(procs.add_thread(Pid(1), true), Err(ProcFault::Full))
+        && procs.thread_count() == 64
+}
+
+#[test]
+fn there_are_at_most_64_threads(rt: HostRuntime) {
+    let mut procs = Procs::new(rt.alloc());
+    assert!(rt; are_threads_full_at_64(&mut procs));
+}
+
+/// Process 1 has thread 1 and a spare, process 2 has threads 3 and 4.
+fn are_two_processes_added(procs: &mut Procs) -> bool {
+    is_process_added(procs, 1)
+        && is_process_added(procs, 2)
+        && is_thread_added(procs, Pid(1), false, 1)
+        && is_thread_added(procs, Pid(1), true, 2)
+        && is_thread_added(procs, Pid(2), false, 3)
+        && is_thread_added(procs, Pid(2), false, 4)
+}
+
+/// Whether a thread that runs ends, and was the last of its process or was not.
+fn is_ended(procs: &mut Procs, t: Tid, last: bool) -> bool {
+    match procs.state(t) {
+        ThreadState::Running => procs.end_thread(t) == last,
+        _ => false,
+    }
+}
+
+fn are_last_threads_known(procs: &mut Procs) -> bool {
+    are_two_processes_added(procs)
+        && procs.active_threads(Pid(1)) == 1
+        && procs.active_threads(Pid(2)) == 2
+        && procs.is_last(Tid(1), Pid(1))
+        && !procs.is_last(Tid(2), Pid(1))
+        && is_ended(procs, Tid(1), true)
+        && is_ended(procs, Tid(3), false)
+        && is_ended(procs, Tid(4), true)
+}
+
+#[test]
+fn a_spare_thread_keeps_no_process(rt: HostRuntime) {
+    let mut procs = Procs::new(rt.alloc());
+    assert!(rt; are_last_threads_known(&mut procs));
+}

@@ -1,0 +1,317 @@
+//! Processes and threads.
+ghost use Rattle.std.specs.Prelude.{◌≡◌, ◌+◌, ◌<◌, ◌≤◌, ◌++◌, ◌∷◌, ◌↔◌, [], true, false, length, map, count_by, IfOk, OnOk, OnErr};
+ghost use Rattle.std.specs.List.{list_any};
+ghost use Rattle.dk_base.specs.declared.error.ProcFault.TheVariants.{Full};
+ghost use Rattle.dk_base.specs.declared.limits.TheConstants.{PROCESSES_MAX, THREADS_MAX};
+ghost use Rattle.dk_base.specs.ByNumber.{at_number};
+ghost use Rattle.kernel_records.specs.declared.record.ThreadState.TheVariants.{Done};
+ghost use Rattle.kernel_records.specs.Words.{ProcessTable, active_threads, end_process, end_thread, ended_thread_of, enter_thread, give_thread, invocation_in, is_active_of, is_done, is_idle, is_idle_thread, is_last, is_live_in, keeps_alive, new_process, new_thread, opening_state, park_thread, process_in, set_thread_state, state_in, thread_at, with_ended};
+
+use crate::numbered::numbered_item;
+use crate::thread::{end, end_with, enter, is_active_of, is_idle_thread, keeps_alive, park, turn};
+use dk_base::error::ProcFault;
+use dk_base::limits::{PROCESSES_MAX, THREADS_MAX};
+use dk_base::number::{Pid, Tid};
+use dk_base::object::{Inv, Item};
+use kernel_records::record::{Process, ProcessStage, Thread, ThreadState};
+use std::alloc::Global;
+use std::marker::Model;
+
+/// Processes and threads, numbered from 1: at most 64 of each. A number that no thread has reads as that of a Done thread
+/// of process 0, and each change but `end_process` is of a thread that has not ended, so such a number is never written to.
+#[derive(Drop)]
+pub struct Procs {
+    processes: Vec<Process>,
+    threads: Vec<Thread>,
+    /// The state that a number reads as which no thread has.
+    absent: ThreadState,
+}
+
+impl Model for Procs {
+    ghost Value = { ProcessTable };
+
+    ghost view = { λ p. record { processes = p.processes.items; threads = p.threads.items } };
+
+    ghost invariant = { λ p. (p.absent ≡ Done) × (length p.processes.items ≤ PROCESSES_MAX) × (length p.threads.items ≤ THREADS_MAX) };
+}
+
+/// What a thread is at as it is added.
+fn opening_state(spare: bool) -> ThreadState
+    ensures { result ≡ opening_state spare }
+{
+    if spare {
+        ThreadState::Dormant
+    } else {
+        ThreadState::Running
+    }
+}
+
+/// The place of a thread that has not ended.
+#[tactic(auto, using(crate::proofs::Places::thread_there))]
+fn place_of(threads: &[Thread], t: Tid) -> usize
+    requires { is_done (state_in (at_number threads.now t.0)) ≡ false }
+    ensures there { result < length threads.now }
+    ensures place { result + 1 ≡ t.0 }
+{
+    t.0 as usize - 1
+}
+
+/// Whether a thread other than `t` keeps the process from ending.
+fn has_another(threads: &[Thread], t: Tid, p: Pid) -> bool
+    ensures { result ≡ list_any (keeps_alive t.0 p.0) threads.now }
+{
+    threads.iter().any(|thread| keeps_alive(thread, t, p))
+}
+
+fn count_active(threads: &[Thread], p: Pid) -> usize
+    ensures { result ≡ count_by (is_active_of p.0) threads.now }
+{
+    threads
+        .iter()
+        .filter(|thread| is_active_of(thread, p))
+        .count()
+}
+
+fn end_all(threads: &mut [Thread], p: Pid)
+    ensures { threads.new ≡ map (ended_thread_of p.0) threads.old }
+{
+    for thread in threads.iter_mut() {
+        end_with(thread, p);
+    }
+}
+
+impl Procs {
+    /// No process and no thread yet. It takes no memory.
+    pub fn new(alloc: Global) -> Self
+        ensures { result ≡ record { processes = []; threads = [] } }
+    {
+        Procs {
+            processes: Vec::new(alloc),
+            threads: Vec::new(alloc),
+            absent: ThreadState::Done,
+        }
+    }
+
+    /// Another process, which lives, under the next number. It may have `limit` descriptors.
+    /// It is Full exactly where 64 processes are there, and Memory is want of memory. Either leaves all as it was.
+    pub fn add_proc(&mut self, limit: u32) -> Result<Pid, ProcFault>
+        ensures ok { OnOk result (self.new ≡ record self.old { processes = self.old.processes ++ new_process (length self.old.processes + 1) limit ∷ [] }) }
+        ensures number { IfOk result (λ p. p.0 ≡ length self.old.processes + 1) }
+        ensures full { (result ≡ Err Full) ↔ (length self.old.processes ≡ PROCESSES_MAX) }
+        ensures err { OnErr result (self.new ≡ self.old) }
+    {
+        let count = self.processes.len() as u32;
+        if count == PROCESSES_MAX {
+            return Err(ProcFault::Full);
+        }
+        let number = count + 1;
+        let process = Process {
+            number,
+            made: 0,
+            limit,
+            stage: ProcessStage::Live,
+        };
+        match self.processes.push(process) {
+            Ok(()) => Ok(Pid(number)),
+            Err(_) => Err(ProcFault::Memory),
+        }
+    }
+
+    /// Another thread of a process that lives, under the next number: one that runs, or a spare one that is Dormant.
+    /// It is Full exactly where 64 threads are there, and Memory is want of memory. Either leaves all as it was.
+    pub fn add_thread(&mut self, p: Pid, spare: bool) -> Result<Tid, ProcFault>
+        requires { is_live_in (at_number self.old.processes p.0) ≡ true }
+        ensures ok { OnOk result (self.new ≡ record self.old { threads = self.old.threads ++ new_thread (length self.old.threads + 1) p.0 spare ∷ [] }) }
+        ensures number { IfOk result (λ t. t.0 ≡ length self.old.threads + 1) }
+        ensures full { (result ≡ Err Full) ↔ (length self.old.threads ≡ THREADS_MAX) }
+        ensures err { OnErr result (self.new ≡ self.old) }
+    {
+        let count = self.threads.len() as u32;
+        if count == THREADS_MAX {
+            return Err(ProcFault::Full);
+        }
+        let number = count + 1;
+        let thread = Thread {
+            number,
+            made: 0,
+            process: p,
+            invocation: None,
+            state: opening_state(spare),
+        };
+        match self.threads.push(thread) {
+            Ok(()) => Ok(Tid(number)),
+            Err(_) => Err(ProcFault::Memory),
+        }
+    }
+
+    /// How many processes there are, ended ones with them: 0 to 64.
+    pub fn process_count(&self) -> u32
+        ensures count { result ≡ length self.now.processes }
+        ensures few { length self.now.processes ≤ PROCESSES_MAX }
+    {
+        self.processes.len() as u32
+    }
+
+    /// How many threads there are, ended ones and spares with them: 0 to 64.
+    pub fn thread_count(&self) -> u32
+        ensures count { result ≡ length self.now.threads }
+        ensures few { length self.now.threads ≤ THREADS_MAX }
+    {
+        self.threads.len() as u32
+    }
+
+    /// Whether a process lives. A number that no process has doesn't.
+    pub fn is_live(&self, p: Pid) -> bool
+        ensures { result ≡ is_live_in (at_number self.now.processes p.0) }
+    {
+        match numbered_item(&self.processes, p.0) {
+            Some(process) => matches!(process.stage, ProcessStage::Live),
+            None => false,
+        }
+    }
+
+    /// A thread's process, 0 for a number that no thread has.
+    pub fn process_of(&self, t: Tid) -> Pid
+        ensures { result.0 ≡ process_in (thread_at self.now t.0) }
+    {
+        match numbered_item(&self.threads, t.0) {
+            Some(thread) => thread.process,
+            None => Pid(0),
+        }
+    }
+
+    /// What a thread is at. A number that no thread has reads as Done.
+    pub fn state(&self, t: Tid) -> &ThreadState
+        ensures { result.now ≡ state_in (thread_at self.now t.0) }
+    {
+        match numbered_item(&self.threads, t.0) {
+            Some(thread) => &thread.state,
+            None => &self.absent,
+        }
+    }
+
+    /// The invocation of a server procedure that a thread is in. A number that no thread has is in none.
+    pub fn invocation(&self, t: Tid) -> Option<Inv>
+        ensures { result ≡ invocation_in (thread_at self.now t.0) }
+    {
+        match numbered_item(&self.threads, t.0) {
+            Some(thread) => thread.invocation,
+            None => None,
+        }
+    }
+
+    /// Whether no thread of a process but `t` is neither Done nor Dormant.
+    pub fn is_last(&self, t: Tid, p: Pid) -> bool
+        ensures { result ≡ is_last self.now t.0 p.0 }
+    {
+        !has_another(&self.threads, t, p)
+    }
+
+    /// Whether a thread is parked.
+    pub fn has_idle(&self) -> bool
+        ensures { result ≡ list_any is_idle_thread self.now.threads }
+    {
+        self.threads.iter().any(|thread| is_idle_thread(thread))
+    }
+
+    /// How many threads of a process are neither Done nor Dormant: 0 to 64.
+    pub fn active_threads(&self, p: Pid) -> u32
+        ensures { result ≡ active_threads self.now p.0 }
+    {
+        count_active(&self.threads, p) as u32
+    }
+
+    /// A thread that has not ended turns to another state.
+    #[tactic(auto, using(crate::proofs::Places::numbered_here))]
+    fn set_state(&mut self, t: Tid, state: ThreadState)
+        requires { is_done (state_in (thread_at self.old t.0)) ≡ false }
+        ensures { self.new ≡ set_thread_state self.old t.0 state }
+    {
+        let place = place_of(&self.threads, t);
+        let thread = &mut self.threads[place];
+        turn(thread, state);
+    }
+
+    /// A thread that is neither Done nor Idle turns to another such state. It neither ends nor enters or leaves a pool of idle
+    /// threads, which the conditions say for what stands above; the change itself needs only that the thread has not ended.
+    pub fn turn(&mut self, t: Tid, state: ThreadState)
+        requires not_done { is_done (state_in (thread_at self.old t.0)) ≡ false }
+        requires not_idle { is_idle (state_in (thread_at self.old t.0)) ≡ false }
+        requires to_not_done { is_done state ≡ false }
+        requires to_not_idle { is_idle state ≡ false }
+        ensures { self.new ≡ set_thread_state self.old t.0 state }
+    {
+        self.set_state(t, state);
+    }
+
+    /// An item is given to a thread that is Idle, which leaves its pool (door_call(3C)).
+    #[tactic(auto, using(crate::proofs::Places::idle_is_not_done))]
+    pub fn give(&mut self, t: Tid, item: Item)
+        requires { is_idle (state_in (thread_at self.old t.0)) ≡ true }
+        ensures { self.new ≡ give_thread self.old t.0 item }
+    {
+        self.set_state(t, ThreadState::Given { item });
+    }
+
+    /// A thread enters the invocation of the item that it was given, and runs. The change itself needs only that the thread
+    /// has not ended; that it is this item is for what stands above.
+    #[tactic(auto, using(crate::proofs::Places::numbered_here))]
+    pub fn enter(&mut self, t: Tid, item: Item)
+        requires { state_in (thread_at self.old t.0) ≡ ThreadState.Given item }
+        ensures { self.new ≡ enter_thread self.old t.0 item }
+    {
+        let place = place_of(&self.threads, t);
+        let thread = &mut self.threads[place];
+        enter(thread, item);
+    }
+
+    /// A thread's invocation ends, and it is parked since an event (door_return(3C)). That it was not Idle, so that it enters
+    /// a pool, is for what stands above.
+    #[tactic(auto, using(crate::proofs::Places::numbered_here))]
+    pub fn park(&mut self, t: Tid, since: u64)
+        requires not_done { is_done (state_in (thread_at self.old t.0)) ≡ false }
+        requires not_idle { is_idle (state_in (thread_at self.old t.0)) ≡ false }
+        ensures { self.new ≡ park_thread self.old t.0 since }
+    {
+        let place = place_of(&self.threads, t);
+        let thread = &mut self.threads[place];
+        park(thread, since);
+    }
+
+    /// A thread ends, and leaves the invocation that it is in. Says whether it was the last thread of its process that was
+    /// neither Done nor Dormant.
+    #[tactic(auto, using(crate::proofs::Places::numbered_here))]
+    pub fn end_thread(&mut self, t: Tid) -> bool
+        requires { is_done (state_in (thread_at self.old t.0)) ≡ false }
+        ensures state { self.new ≡ end_thread self.old t.0 }
+        ensures last { result ≡ is_last self.old t.0 (process_in (thread_at self.old t.0)) }
+    {
+        let last = self.is_last(t, self.process_of(t));
+        let place = place_of(&self.threads, t);
+        let thread = &mut self.threads[place];
+        end(thread);
+        last
+    }
+
+    #[tactic(auto, using(crate::proofs::Places::numbered_here))]
+    fn mark_ended(&mut self, p: Pid)
+        ensures { self.new ≡ with_ended self.old p.0 (at_number self.old.processes p.0) }
+    {
+        if p.0 == 0 {
+            return;
+        }
+        let place = p.0 as usize - 1;
+        if place < self.processes.len() {
+            self.processes[place].stage = ProcessStage::Ended;
+        }
+    }
+
+    /// A process ends with all its threads, each of which leaves the invocation that it is in. A number that no process has
+    /// ends no process.
+    pub fn end_process(&mut self, p: Pid)
+        ensures { self.new ≡ end_process self.old p.0 }
+    {
+        end_all(&mut self.threads, p);
+        self.mark_ended(p);
+    }
+}

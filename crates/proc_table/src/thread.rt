@@ -1,0 +1,83 @@
+//! What becomes of one thread, and what is asked of one.
+ghost use Rattle.std.specs.Prelude.{◌≡◌};
+ghost use Rattle.kernel_records.specs.Words.{ended_thread, ended_thread_of, idle_thread, is_active, is_active_of, is_idle_thread, keeps_alive, thread_at_state, thread_in_invocation};
+
+use dk_base::number::{Pid, Tid};
+use dk_base::object::{Inv, Item};
+use kernel_records::record::{Thread, ThreadState};
+
+/// Whether a thread at this keeps its process from ending.
+fn is_active(state: &ThreadState) -> bool
+    ensures { result ≡ is_active state.now }
+{
+    !matches!(state, ThreadState::Done | ThreadState::Dormant)
+}
+
+pub fn is_idle_thread(thread: &Thread) -> bool
+    ensures { result ≡ is_idle_thread thread.now }
+{
+    matches!(thread.state, ThreadState::Idle { .. })
+}
+
+/// Whether this is a thread of process `p` that is neither Done nor Dormant.
+pub fn is_active_of(thread: &Thread, p: Pid) -> bool
+    ensures { result ≡ is_active_of p.0 thread.now }
+{
+    thread.process.0 == p.0 && is_active(&thread.state)
+}
+
+/// Whether this is a thread other than `t` that keeps process `p` from ending.
+pub fn keeps_alive(thread: &Thread, t: Tid, p: Pid) -> bool
+    ensures { result ≡ keeps_alive t.0 p.0 thread.now }
+{
+    thread.process.0 == p.0 && thread.number != t.0 && is_active(&thread.state)
+}
+
+/// It turns to another state.
+pub fn turn(thread: &mut Thread, state: ThreadState)
+    ensures { thread.new ≡ thread_at_state state thread.old }
+{
+    thread.state = state;
+}
+
+/// It enters the invocation of an item.
+pub fn enter(thread: &mut Thread, item: Item)
+    ensures { thread.new ≡ thread_in_invocation item thread.old }
+{
+    thread.invocation = Some(Inv {
+        item,
+        cancelled: false,
+    });
+    thread.state = ThreadState::Running;
+}
+
+/// It is in no invocation any more, and turns to another state.
+fn leave(thread: &mut Thread, state: ThreadState)
+    ensures { thread.new ≡ record thread.old { invocation = None; state = state } }
+{
+    thread.invocation = None;
+    thread.state = state;
+}
+
+/// Its invocation ends, and it is parked.
+pub fn park(thread: &mut Thread, since: u64)
+    ensures { thread.new ≡ idle_thread since thread.old }
+{
+    leave(thread, ThreadState::Idle { since });
+}
+
+/// It ends.
+pub fn end(thread: &mut Thread)
+    ensures { thread.new ≡ ended_thread thread.old }
+{
+    leave(thread, ThreadState::Done);
+}
+
+/// It ends where it is of process `p`.
+pub fn end_with(thread: &mut Thread, p: Pid)
+    ensures { thread.new ≡ ended_thread_of p.0 thread.old }
+{
+    if thread.process.0 == p.0 {
+        end(thread);
+    }
+}

@@ -1,0 +1,121 @@
+-- The descriptors and the names of a state are of doors that were made: what keeps this so, and changes of lists of doors.
+use Rattle.std.proofs.Common.{◌≡◌, ℕ, ◌-◌, ◌==◌, ◌&&◌, zero, suc, List, [], ◌∷◌, Option, Some, None, Bool, true, false, if◌then◌else◌, ◌⊎◌, inl, inr, is_some, option_map, unwrap_or, slice_get, slice_set, refl, sym, ap, ◌∙◌}
+use Rattle.std.specs.Prelude.{All}
+use Rattle.std.proofs.lemmas.List.Elements.{All-cons, All-head, All-tail}
+use Rattle.std.proofs.lemmas.Option.{slice_get-map}
+use Rattle.written_kernel.specs.Types.{Fd, Name, Obj}
+use Rattle.dk_base.specs.declared.object.Obj.TheVariants as obj
+use Rattle.dk_base.specs.ByNumber.{at_number, with_at_number}
+use Rattle.kernel_records.specs.Words.{close_table, free_row, object_in, object_named, table_in, with_row, with_table}
+use Rattle.written_kernel.proofs.Lists.{at_number-with_at_number, slice_get-slice_set}
+use Rattle.script_requests.specs.Words.{IsNumberOf}
+
+-- of so many doors that were made
+
+abbrev pub IsKnownObject : ℕ → Option Obj → Type 0
+IsKnownObject made o = (d : ℕ) → o ≡ Some (obj.Door d) → IsNumberOf made d
+
+abbrev pub AreKnownRows : ℕ → List (List (Option Obj)) → Type 0
+AreKnownRows made tables = (p : ℕ) (fd : Fd) → IsKnownObject made (object_named (table_in tables p) fd)
+
+abbrev pub IsKnownName : ℕ → Name → Type 0
+IsKnownName made n = IsNumberOf made n.door
+
+abbrev pub AreKnownNames : ℕ → List Name → Type 0
+AreKnownNames made names = All (IsKnownName made) names
+
+-- objects
+
+pub none-known : (made : ℕ) → IsKnownObject made None
+none-known made d e = absurd (cc e)
+
+pub same-known : (made : ℕ) (o p : Option Obj) → p ≡ o → IsKnownObject made o → IsKnownObject made p
+same-known made o p e h d f = h d (sym e ∙ f)
+
+-- rows
+
+pub no_rows-known : (made : ℕ) (tables : List (List (Option Obj))) → ((p : ℕ) (fd : Fd) → object_named (table_in tables p) fd ≡ None) → AreKnownRows made tables
+no_rows-known made tables none p fd = same-known made None (object_named (table_in tables p) fd) (none p fd) (none-known made)
+
+-- what a descriptor names where a process has another table
+object-with_table :
+    (tables : List (List (Option Obj))) (p : ℕ) (table : List (Option Obj)) (q : ℕ) (fd : Fd) →
+    (object_named (table_in (with_table tables p table) q) fd ≡ object_named table fd)
+    ⊎ (object_named (table_in (with_table tables p table) q) fd ≡ object_named (table_in tables q) fd)
+object-with_table tables p table q fd =
+    by_test
+    ((q == p) && is_some (at_number tables p))
+    (ap (λ (o : Option (List (Option Obj))). object_named (unwrap_or o []) fd) (at_number-with_at_number tables p q table))
+  where
+    by_test :
+        (b : Bool) →
+        object_named (table_in (with_table tables p table) q) fd
+        ≡ object_named (unwrap_or (if b then Some table else at_number tables q) []) fd →
+        (object_named (table_in (with_table tables p table) q) fd ≡ object_named table fd)
+        ⊎ (object_named (table_in (with_table tables p table) q) fd ≡ object_named (table_in tables q) fd)
+    by_test true e = inl e
+    by_test false e = inr e
+
+pub table-known :
+    (made : ℕ) (tables : List (List (Option Obj))) (p : ℕ) (table : List (Option Obj)) →
+    ((fd : Fd) → IsKnownObject made (object_named table fd)) → AreKnownRows made tables →
+    AreKnownRows made (with_table tables p table)
+table-known made tables p table here h q fd = by_table (object-with_table tables p table q fd)
+  where
+    by_table :
+        (object_named (table_in (with_table tables p table) q) fd ≡ object_named table fd)
+        ⊎ (object_named (table_in (with_table tables p table) q) fd ≡ object_named (table_in tables q) fd) →
+        IsKnownObject made (object_named (table_in (with_table tables p table) q) fd)
+    by_table (inl e) = same-known made (object_named table fd) _ e (here fd)
+    by_table (inr e) = same-known made (object_named (table_in tables q) fd) _ e (h q fd)
+
+-- another object, or none, at a place of a table
+object-with_row :
+    (made : ℕ) (table : List (Option Obj)) (place : ℕ) (o : Option Obj) (fd : Fd) → IsKnownObject made o →
+    IsKnownObject made (object_named table fd) → IsKnownObject made (object_named (with_row table place o) fd)
+object-with_row made table place o fd here h =
+    by_test ((fd.0 == place) && is_some (slice_get table place)) (ap object_in (slice_get-slice_set table place fd.0 o))
+  where
+    by_test :
+        (b : Bool) → object_named (with_row table place o) fd ≡ object_in (if b then Some o else slice_get table fd.0) →
+        IsKnownObject made (object_named (with_row table place o) fd)
+    by_test true e = same-known made o _ e here
+    by_test false e = same-known made (object_named table fd) _ e h
+
+pub row-known :
+    (made : ℕ) (tables : List (List (Option Obj))) (p place : ℕ) (o : Option Obj) → IsKnownObject made o →
+    AreKnownRows made tables → AreKnownRows made (with_table tables p (with_row (table_in tables p) place o))
+row-known made tables p place o here h =
+    table-known made tables p (with_row (table_in tables p) place o)
+    (λ fd. object-with_row made (table_in tables p) place o fd here (h p fd))
+    h
+
+closed_row : (table : List (Option Obj)) (fd : Fd) → object_named (close_table table) fd ≡ None
+closed_row table fd = ap object_in (slice_get-map free_row table fd.0) ∙ by_row (slice_get table fd.0)
+  where
+    by_row : (o : Option (Option Obj)) → object_in (option_map free_row o) ≡ None
+    by_row None = refl
+    by_row (Some row) = refl
+
+pub closed-known :
+    (made : ℕ) (tables : List (List (Option Obj))) (p : ℕ) → AreKnownRows made tables →
+    AreKnownRows made (with_table tables p (close_table (table_in tables p)))
+closed-known made tables p h =
+    table-known made tables p (close_table (table_in tables p))
+    (λ fd. same-known made None _ (closed_row (table_in tables p) fd) (none-known made))
+    h
+
+-- what holds of each element of a list, where one becomes another
+
+All-slice_set : {X : Type 0} (P : X → Type 0) (xs : List X) (i : ℕ) (x : X) → P x → All P xs → All P (slice_set xs i x)
+All-slice_set P [] i x here all = all
+All-slice_set P (y ∷ ys) zero x here all = All-cons P x ys here (All-tail P y ys all)
+All-slice_set P (y ∷ ys) (suc i) x here all =
+    All-cons P y (slice_set ys i x) (All-head P y ys all) (All-slice_set P ys i x here (All-tail P y ys all))
+
+pub All-with_at_number : {X : Type 0} (P : X → Type 0) (xs : List X) (n : ℕ) (x : X) → P x → All P xs → All P (with_at_number xs n x)
+All-with_at_number P xs n x here all = by_test (n == 0)
+  where
+    by_test : (b : Bool) → All P (if b then xs else slice_set xs (n - 1) x)
+    by_test true = all
+    by_test false = All-slice_set P xs (n - 1) x here all
