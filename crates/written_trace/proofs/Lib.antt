@@ -1,0 +1,14 @@
+pub mod Differences
+pub mod EventLines
+pub mod Leaving
+pub mod Legal
+pub mod LineFeeds
+pub mod OneDifference
+pub mod PlayedOn
+pub mod Replays
+pub mod ScheduledText
+pub mod ScriptNames
+pub mod TextOfLines
+pub mod TraceLines
+pub mod TraceParts
+pub mod Walks

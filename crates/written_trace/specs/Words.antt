@@ -1,0 +1,12 @@
+-- The words of this crate's specs, from one place, for the crates above.
+pub use Rattle.written_trace.specs.FirstDifferences.{IsFirstDifference, IsNamedTurn, IsOtherTurn, IsWanted, OfEachTrace, line_at, lines_before, lines_through}
+pub use Rattle.written_trace.specs.LegalTraces.{IsLegal, IsTextOf, IsTrace, tail_text}
+pub use Rattle.written_trace.specs.Replays.{numbered_thread, scheduled}
+pub use Rattle.written_trace.specs.TraceInput.{AreParts, HasNoTrace, before_place, begins_with_trace_line, is_trace_line, line_after_last, script_part, trace_line, trace_part, trace_place_from}
+unfoldable pub use Rattle.written_trace.specs.TraceInput.{trace_place}
+pub use Rattle.written_trace.specs.Turns.{HasReadableLine, begins_with_digit, event_lines, turn_words}
+unfoldable pub use Rattle.written_trace.specs.Turns.{turns_in}
+unfoldable pub use Rattle.written_trace.specs.VerdictText.{verdict_text}
+pub use Rattle.written_trace.specs.VerdictText.{worded_text}
+pub use Rattle.written_trace.specs.Verdicts.{end_line_after, if_runnable, is_found, is_tail_line, line_after, line_of_turn, turn_in_line, verdict_after_end, verdict_at_end, verdict_from, verdict_after_tail, verdict_of_turn, verdict_without_line}
+unfoldable pub use Rattle.written_trace.specs.Verdicts.{verdict}
