@@ -1,0 +1,5 @@
+//! Tests of verdicts on traces.
+#![tactic(auto)]
+
+#[cfg(test)]
+mod tests;
