@@ -3,8 +3,9 @@
 # program in crates/doors/out, so this comes after it. A word names another program.
 #
 # tests/COMMAND/NAME.in is an input of `doors COMMAND`. NAME.out is the output, or NAME.end what the output ends with, and
-# NAME.status the status, 0 where there is none. examples/NAME.doors is played to NAME.trace. In the pages a block that
-# begins with ```doors is a script, and the next that begins with ```trace is what `play` writes for it.
+# NAME.status the status, 0 where there is none. examples/NAME.doors is played to NAME.trace, which `check` finds legal, and
+# illegal with a change. In the pages a block that begins with ```doors is a script, and the next that begins with ```trace
+# is what `play` writes for it.
 
 # Each page has at least one script.
 pages="README.md docs/TUTORIAL.md"
@@ -100,6 +101,71 @@ examples() {
     done
 }
 
+# Writes an input of `check` for each change of the trace of an example into TO: each line cut, doubled, and exchanged with
+# the next, and each byte of the middle line changed to the next printable one. Prints for each the first line that is
+# another one than in the trace, the file's name, and what stands in that line now. No two lines of
+# a trace are the same, since events are numbered: so a change begins where its line stands, and a doubled one a line later.
+changes() {
+    awk -v to="$2" '
+        function text(from, upto,    i, all) {
+            all = ""
+            for (i = from; i <= upto; i++) all = all lines[i] "\n"
+            return all
+        }
+        function put(name, line, trace,    stands) {
+            split(trace, stands, "\n")
+            printf "%s", script "trace\n" trace >(to "/" name)
+            close(to "/" name)
+            print line, name, stands[line]
+        }
+        BEGIN { for (i = 32; i < 127; i++) printable = printable sprintf("%c", i) }
+        FILENAME ~ /doors$/ { script = script $0 "\n"; next }
+        { lines[++n] = $0 }
+        END {
+            for (i = 1; i <= n; i++) {
+                put("line_" i "_cut", i, text(1, i - 1) text(i + 1, n))
+                put("line_" i "_doubled", i + 1, text(1, i) text(i, n))
+                if (i < n) put("line_" i "_exchanged", i, text(1, i - 1) lines[i + 1] "\n" lines[i] "\n" text(i + 2, n))
+            }
+            middle = int((n + 1) / 2)
+            line = lines[middle]
+            for (i = 1; i <= length(line); i++) {
+                next_one = substr(printable, index(printable, substr(line, i, 1)) % 95 + 1, 1)
+                lines[middle] = substr(line, 1, i - 1) next_one substr(line, i + 1)
+                put("byte_" i "_of_line_" middle, middle, text(1, n))
+            }
+        }' "$1" "${1%.doors}.trace"
+}
+
+# Of each example: its trace is legal, and each changed one illegal at exactly the first line that differs.
+changed_traces() {
+    to=$work/changed
+    mkdir -p "$to"
+    for input in examples/*.doors; do
+        trace=${input%.doors}.trace
+        echo "legal $(grep -c '^[0-9]' "$trace")" >"$work/legal"
+        { cat "$input" && echo trace && cat "$trace"; } >"$to/whole"
+        run check <"$to/whole"
+        judge "$input with its trace" $? 0 "$work/legal"
+        changes "$input" "$to" >"$work/table"
+        [ -s "$work/table" ] || fail "$input" "no changes of its trace"
+        while IFS=' ' read -r line name stands; do
+            run check <"$to/$name"
+            found=$?
+            { IFS= read -r first && IFS= read -r want && IFS= read -r have; } <"$work/out" || first="no three lines"
+            if [ $found -ne 9 ] || ! is_quiet 9; then
+                fail "$input, $name" "status $found, and 9 is wanted"
+            elif [ "$first" != "illegal line $line" ] || [ "$have" != "have${stands:+ $stands}" ]; then
+                fail "$input, $name" "'$first' and '$have', where line $line is '$stands'"
+            elif [ "${want#want}" = "$want" ] || [ "$want" = "want${stands:+ $stands}" ]; then
+                fail "$input, $name" "'$want' where '$have'"
+            else
+                pass
+            fi
+        done <"$work/table"
+    done
+}
+
 # The status that goes with a trace, or with the line for a bad script.
 status_of() {
     case $(tail -n 1 "$1") in
@@ -178,6 +244,11 @@ words() {
     usage play play
     usage play show
     usage show play
+    usage check check
+    usage check play
+    usage show check
+    usage CHECK
+    usage " check"
     usage load 0
     usage run
     usage --help
@@ -186,17 +257,19 @@ words() {
 
 # Output that cannot be written, and input that cannot be read.
 faults() {
-    for word in play show walk; do
-        "$program" $word <"$echo_script" >/dev/full 2>"$work/err"
+    for word in play show check walk; do
+        input=$echo_script
+        [ $word != check ] || input=$checked
+        "$program" $word <"$input" >/dev/full 2>"$work/err"
         found=$?
         : >"$work/out"
         judge "$word to a full output" $found 7 "$work/nothing"
-        "$program" $word <"$echo_script" 2>"$work/err" >&-
+        "$program" $word <"$input" 2>"$work/err" >&-
         found=$?
         : >"$work/out"
         judge "$word to a closed output" $found 7 "$work/nothing"
     done
-    for word in play show; do
+    for word in play show check; do
         run $word <&-
         judge "$word of a closed input" $? 6 "$work/nothing"
         run $word <tests
@@ -220,10 +293,33 @@ sizes() {
     judge "play of 1048576 bytes" $? 0 "$work/complete"
     run show <"$work/longest"
     judge "show of 1048576 bytes" $? 0 "$work/canonical"
-    for word in play show; do
+    for word in play show check; do
         run $word <"$work/too_long"
         judge "$word of 1048577 bytes" $? 2 "$work/size"
     done
+    # the limit is the script's, and not the trace's
+    printf 'trace\nend complete 0\n' >"$work/trace"
+    echo "legal 0" >"$work/legal"
+    echo "bad line 1048563 trace" >"$work/no_trace"
+    run check <"$work/longest"
+    judge "check of 1048576 bytes without a trace" $? 2 "$work/no_trace"
+    cat "$work/longest" "$work/trace" >"$work/checked"
+    run check <"$work/checked"
+    judge "check of a script of 1048576 bytes" $? 0 "$work/legal"
+    cat "$work/too_long" "$work/trace" >"$work/checked"
+    run check <"$work/checked"
+    judge "check of a script of 1048577 bytes" $? 2 "$work/size"
+    { echo && cat "$work/longest" "$work/trace"; } >"$work/checked"
+    run check <"$work/checked"
+    judge "check of 1048577 bytes without a header" $? 2 "$work/size"
+    # one byte above the limit of the whole input
+    { printf 'doors script 1\ntrace\n' && head -c 403701740 /dev/zero; } | run check
+    judge "check of 403701761 bytes" $? 2 "$work/size"
+    dd if=/dev/zero bs=1048577 count=1 2>"$work/dd" | tr '\000' 'x' >"$work/line"
+    { printf 'doors script 1\ntrace\n' && cat "$work/line"; } >"$work/checked"
+    { printf 'illegal line 1\nwant end complete 0\nhave ' && cat "$work/line" && echo; } >"$work/long_line"
+    run check <"$work/checked"
+    judge "check of a line of 1048577 bytes" $? 9 "$work/long_line"
 }
 
 # Writes the file with a write for each byte, far enough apart that each is read by itself.
@@ -239,10 +335,12 @@ slowly() {
 byte_by_byte() {
     slowly "$echo_script" | run play
     judge "play byte by byte" $? 0 examples/echo.trace
+    slowly "$checked" | run check
+    judge "check byte by byte" $? 0 "${checked%.in}.out"
 }
 
 every_status() {
-    for status in 0 1 2 3 4 6 7 8; do
+    for status in 0 1 2 3 4 6 7 8 9; do
         case "$seen " in
         *" $status "*) pass ;;
         *) fail "status $status" "no case wants it" ;;
@@ -251,6 +349,7 @@ every_status() {
 }
 
 echo_script=examples/echo.doors
+checked=tests/check/thread_that_exits.in
 : >"$work/nothing"
 for program in "$@"; do
     if [ ! -f "$program" ] || [ ! -x "$program" ]; then
@@ -260,7 +359,9 @@ for program in "$@"; do
     seen=
     folder play
     folder show
+    folder check
     examples
+    changed_traces
     for page in $pages; do page "$page"; done
     words
     faults

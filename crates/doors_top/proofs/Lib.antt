@@ -1,2 +1,4 @@
+pub mod Checks
 pub mod Fronts
+pub mod LineCounts
 pub mod Plays

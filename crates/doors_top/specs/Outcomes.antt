@@ -6,12 +6,16 @@ use Rattle.doors_top.specs.declared.status.Status.{Status}
 use Rattle.doors_top.specs.declared.status.Status.TheVariants as status
 use Rattle.doors_top.specs.declared.reading.ReadText.{ReadText}
 use Rattle.doors_top.specs.declared.reading.ReadText.TheVariants.{Whole, TooLong}
-use Rattle.doors_top.specs.Status.{status_of_ending}
-use Rattle.script_line.specs.declared.reason.Reason.TheVariants.{Size}
+use Rattle.doors_top.specs.declared.script_in.TheConstants.{SCRIPT_LIMIT}
+use Rattle.doors_top.specs.Input.{text_within_limit}
+use Rattle.doors_top.specs.Status.{status_of_ending, status_of_verdict}
+use Rattle.script_line.specs.declared.reason.Reason.TheVariants.{Size, Trace}
 use Rattle.script_requests.specs.Types.{Bad}
 use Rattle.script_lang.specs.Words.{ScriptValue, bad_line, bad_text, canonical_text, parse_result}
 use Rattle.script_requests.specs.Words.{has_later_parts, refused_text}
 use Rattle.written_script.specs.Words.{History, Refusal, ending_of, refusal, run, text_of_history, turns_before, turns_of_play}
+use Rattle.written_trace.specs.declared.verdict.Verdict.{Verdict}
+use Rattle.written_trace.specs.Words.{line_after_last, script_part, trace_part, verdict, verdict_text}
 
 -- the words of the command line
 
@@ -33,12 +37,15 @@ is_play words = is_only (codes "play") words
 abbrev pub is_show : List (List ℕ) → Bool
 is_show words = is_only (codes "show") words
 
+abbrev pub is_check : List (List ℕ) → Bool
+is_check words = is_only (codes "check") words
+
 abbrev pub is_run : List (List ℕ) → Bool
 is_run words = is_only (codes "run") words
 
 -- the words are a command that is built
 abbrev pub is_command : List (List ℕ) → Bool
-is_command words = is_play words || is_show words
+is_command words = is_play words || is_show words || is_check words
 
 -- an answer with the text that was written
 pub record Outcome : Type 0 where
@@ -102,3 +109,31 @@ outcome_of_shown (Err bad) = outcome_of_bad bad
 -- what `show` makes of what was read: the canonical text of the script, or its first bad line
 abbrev pub outcome_of_show : ReadText → Outcome
 outcome_of_show read = outcome_of_shown (script_of_input read)
+
+-- the script that a part of an input spells, which may have as many bytes as a script
+abbrev pub script_of_part : List ℕ → Result ScriptValue Bad
+script_of_part text = script_of_input (text_within_limit text SCRIPT_LIMIT)
+
+abbrev pub outcome_of_verdict : Verdict → Outcome
+outcome_of_verdict found = record { status = status_of_verdict found; text = verdict_text found }
+
+-- no line `trace` follows the script: the line is one past the last
+abbrev pub outcome_of_trace : ScriptValue → List ℕ → Option (List ℕ) → Outcome
+outcome_of_trace script text None = outcome_of_bad (bad_line (line_after_last text) Trace)
+outcome_of_trace script text (Some trace) = outcome_of_verdict (verdict script trace)
+
+abbrev pub outcome_of_accepted : ScriptValue → List ℕ → Option (List ℕ) → Outcome
+outcome_of_accepted script text trace = if has_later_parts script then outcome_of_later else outcome_of_trace script text trace
+
+abbrev pub outcome_of_parsed : Result ScriptValue Bad → List ℕ → Option (List ℕ) → Outcome
+outcome_of_parsed (Ok script) text trace = outcome_of_accepted script text trace
+outcome_of_parsed (Err bad) text trace = outcome_of_bad bad
+
+-- of the script part of an input, and of the trace after it, if there is one
+abbrev pub outcome_of_parts : List ℕ → Option (List ℕ) → Outcome
+outcome_of_parts text trace = outcome_of_parsed (script_of_part text) text trace
+
+-- what `check` makes of what was read: the verdict on the trace that follows the script, or what is bad of the script part
+abbrev pub outcome_of_check : ReadText → Outcome
+outcome_of_check (Whole input) = outcome_of_parts (script_part input) (trace_part input)
+outcome_of_check TooLong = outcome_of_bad (bad_line 0 Size)

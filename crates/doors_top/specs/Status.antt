@@ -4,6 +4,8 @@ use Rattle.doors_top.specs.declared.status.Status.{Status}
 use Rattle.doors_top.specs.declared.status.Status.TheVariants.{Complete, Stalled, Script, Usage, Budget, Memory, ReadFault, WriteFault, Turn, Illegal}
 use Rattle.script_requests.specs.declared.ending.Ending.{Ending}
 use Rattle.script_requests.specs.declared.ending.Ending.TheVariants as ending
+use Rattle.written_trace.specs.declared.verdict.Verdict.{Verdict}
+use Rattle.written_trace.specs.declared.verdict.Verdict.TheVariants.{Legal, Differs}
 
 abbrev pub status_code : Status → ℕ
 status_code Complete = 0
@@ -18,7 +20,7 @@ status_code Turn = 8
 status_code Illegal = 9
 
 abbrev pub status_message : Status → Option (List ℕ)
-status_message Usage = Some (codes "doors: give one word, play or show, and a script as the input; read on in README.md (run, check and load are not built yet)")
+status_message Usage = Some (codes "doors: give one word, play, show or check, and a script as the input (check: a script, a line trace and a trace); read on in README.md (run and load are not built yet)")
 status_message Memory = Some (codes "doors: out of memory")
 status_message ReadFault = Some (codes "doors: the standard input could not be read")
 status_message WriteFault = Some (codes "doors: the standard output could not be written")
@@ -28,3 +30,7 @@ abbrev pub status_of_ending : Ending → Status
 status_of_ending ending.Complete = Complete
 status_of_ending ending.Stalled = Stalled
 status_of_ending ending.Budget = Budget
+
+abbrev pub status_of_verdict : Verdict → Status
+status_of_verdict (Legal events) = Complete
+status_of_verdict (Differs line want have) = Illegal

@@ -1,18 +1,21 @@
 -- What the top call promises.
-use Rattle.std.specs.Prelude.{ℕ, ◌≡◌, ⊤, true, false, List, Option, Some, None, IfSome, IfOk}
+use Rattle.std.specs.Prelude.{ℕ, ◌≡◌, ◌⊎◌, ⊤, true, false, List, Option, Some, None, Ok, IfSome, IfOk}
 use Rattle.std.specs.Io.KnownBytes.{Appends}
 use Rattle.doors_top.specs.declared.status.Status.{Status}
 use Rattle.doors_top.specs.declared.status.Status.TheVariants as status
+use Rattle.doors_top.specs.declared.status.Status.TheVariants.{Complete, Illegal}
 use Rattle.doors_top.specs.declared.reading.ReadText.{ReadText}
 use Rattle.doors_top.specs.declared.reading.ReadText.TheVariants.{Whole, TooLong}
-use Rattle.doors_top.specs.declared.script_in.TheConstants.{SCRIPT_LIMIT}
-use Rattle.doors_top.specs.Outcomes.{is_command, is_play, is_show, outcome_of_play, outcome_of_show, script_of_input, usage}
+use Rattle.doors_top.specs.declared.script_in.TheConstants.{CHECK_LIMIT, SCRIPT_LIMIT}
+use Rattle.doors_top.specs.Outcomes.{Outcome, is_check, is_command, is_play, is_show, outcome_of_check, outcome_of_play, outcome_of_show, script_of_input, script_of_part, usage}
 use Rattle.doors_top.specs.Input.{text_within_limit, IsWithinLimit, LeavesNone, LeavesRest}
 use Rattle.doors_top.specs.Output.{AppendsFront}
 use Rattle.dk_base.specs.Words.{Rose}
 use Rattle.kernel_laws.specs.Words.{Laws}
 use Rattle.script_lang.specs.Words.{IsDecided, ScriptValue, parse_result}
 use Rattle.script_requests.specs.Words.{has_later_parts}
+use Rattle.written_trace.specs.declared.verdict.Verdict.TheVariants.{Differs, Legal}
+use Rattle.written_trace.specs.Words.{AreParts, HasNoTrace, IsFirstDifference, IsLegal, script_part, trace_part, verdict_text}
 use Rattle.written_script.specs.Words.{IsRefusedPlay, IsWholePlay, Refusal, opening_of, refusal, turns_before, turns_of, turns_of_play}
 
 -- a status that says what was asked, and not that memory, a read or a write failed
@@ -83,6 +86,74 @@ pub record ShowsFront (left_old left_new held_old held_new : Option (List ℕ)) 
   pub is_read : IsRead SCRIPT_LIMIT left_old left_new read
   pub text : AppendsFront held_old held_new (outcome_of_show read).text
 
+-- a script that is accepted and needs nothing that is not built, with the line `trace` and a trace after it
+pub record HasTrace (read : ReadText) : Type 0 where
+  pub input : List ℕ
+  pub whole : read ≡ Whole input
+  pub script : ScriptValue
+  pub spelled : script_of_part (script_part input) ≡ Ok script
+  pub built : has_later_parts script ≡ false
+  pub trace : List ℕ
+  pub follows : trace_part input ≡ Some trace
+
+-- the trace is that of a legal run, of which the laws of every run hold, and the text tells how many events it has
+pub record IsFoundLegal (script : ScriptValue) (trace text : List ℕ) : Type 0 where
+  pub events : ℕ
+  pub legal : IsLegal script trace events
+  pub laws : LawsOfTurns script legal.turns
+  pub told : text ≡ verdict_text (Legal events)
+
+-- the text tells the first line at which the trace leaves the traces of all legal runs, and what is wanted there
+pub record IsFoundIllegal (script : ScriptValue) (trace text : List ℕ) : Type 0 where
+  pub line : ℕ
+  pub want : List ℕ
+  pub have : List ℕ
+  pub first : IsFirstDifference script trace line want have
+  pub told : text ≡ verdict_text (Differs line want have)
+
+-- the parts of an input have the first line `trace` between them, or there is none
+abbrev pub HasParts : List ℕ → Option (List ℕ) → Type 0
+HasParts input None = HasNoTrace input
+HasParts input (Some trace) = AreParts input (script_part input) trace
+
+abbrev pub InputHasParts : ReadText → Type 0
+InputHasParts (Whole input) = HasParts input (trace_part input)
+InputHasParts TooLong = ⊤
+
+-- the script part spells just one script, or none, and then the line is its first bad one
+abbrev pub IsDecidedPart : ReadText → Type 0
+IsDecidedPart (Whole input) = IsDecidedText (text_within_limit (script_part input) SCRIPT_LIMIT)
+IsDecidedPart TooLong = ⊤
+
+-- what is said of the outcome of `check`, with no walk over the lines of a trace
+pub record IsChecked (read : ReadText) (outcome : Outcome) : Type 0 where
+  pub parts : InputHasParts read
+  pub spelled : IsDecidedPart read
+  -- where a trace follows an accepted script, it is judged
+  pub judged : HasTrace read → (outcome.status ≡ Complete) ⊎ (outcome.status ≡ Illegal)
+  -- Complete exactly where that is the trace of a legal run
+  pub legal : outcome.status ≡ Complete → (has : HasTrace read) × IsFoundLegal has.script has.trace outcome.text
+  pub legal_exact : (has : HasTrace read) (events : ℕ) → IsLegal has.script has.trace events → (outcome.status ≡ Complete) × (outcome.text ≡ verdict_text (Legal events))
+  -- Illegal exactly where it leaves the traces of all legal runs
+  pub illegal : outcome.status ≡ Illegal → (has : HasTrace read) × IsFoundIllegal has.script has.trace outcome.text
+  pub illegal_exact : (has : HasTrace read) (line : ℕ) (want have : List ℕ) → IsFirstDifference has.script has.trace line want have →
+      (outcome.status ≡ Illegal) × (outcome.text ≡ verdict_text (Differs line want have))
+
+-- `check` answered what its outcome is for what was read, and wrote exactly its text
+pub record Checks (left_old left_new held_old held_new : Option (List ℕ)) (answer : Status) : Type 0 where
+  pub read : ReadText
+  pub is_read : IsRead CHECK_LIMIT left_old left_new read
+  pub status : answer ≡ (outcome_of_check read).status
+  pub text : Appends held_old held_new (outcome_of_check read).text
+  pub checked : IsChecked read (outcome_of_check read)
+
+-- `check` wrote a front of its outcome's text
+pub record ChecksFront (left_old left_new held_old held_new : Option (List ℕ)) : Type 0 where
+  pub read : ReadText
+  pub is_read : IsRead CHECK_LIMIT left_old left_new read
+  pub text : AppendsFront held_old held_new (outcome_of_check read).text
+  pub checked : IsChecked read (outcome_of_check read)
+
 -- The promises: a command has a record of its own, and a field in `AnswersWords`.
 
 -- what `play` promises
@@ -98,6 +169,13 @@ pub record AnswersShow (left_old left_new held_old held_new : Option (List ℕ))
   pub whole : IsAnswer answer → Shows left_old left_new held_old held_new answer
   -- a write failed, and a front of the text was written
   pub front : answer ≡ status.WriteFault → ShowsFront left_old left_new held_old held_new
+
+-- what `check` promises
+pub record AnswersCheck (left_old left_new held_old held_new : Option (List ℕ)) (answer : Status) : Type 0 where
+  -- the whole answer: the outcome's status, and all of its text
+  pub whole : IsAnswer answer → Checks left_old left_new held_old held_new answer
+  -- a write failed, and a front of the text was written
+  pub front : answer ≡ status.WriteFault → ChecksFront left_old left_new held_old held_new
 
 -- what words that are no command are answered with
 pub record AnswersUsage (held_old held_new : Option (List ℕ)) (answer : Status) : Type 0 where
@@ -132,6 +210,8 @@ pub record AnswersWords
   pub play : is_play words ≡ true → AnswersPlay (left input_old) (left input_new) (held output_old) (held output_new) answer
   -- the word is `show`
   pub show : is_show words ≡ true → AnswersShow (left input_old) (left input_new) (held output_old) (held output_new) answer
+  -- the word is `check`
+  pub check : is_check words ≡ true → AnswersCheck (left input_old) (left input_new) (held output_old) (held output_new) answer
   -- the words are no command
   pub usage : is_command words ≡ false → AnswersUsage (held output_old) (held output_new) answer
   -- they are no command, and nothing is read

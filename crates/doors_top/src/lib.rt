@@ -1,6 +1,7 @@
 //! The commands, from the words of the command line to the exit status.
 #![tactic(auto)]
 
+pub mod check;
 pub mod play;
 pub mod reading;
 pub mod reply;

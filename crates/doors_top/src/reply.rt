@@ -25,7 +25,7 @@ pub fn fixed_reply(alloc: Global, status: Status, line: &[u8]) -> Result<Reply, 
     Ok(Reply { status, text })
 }
 
-/// The reply for a text that spells no script.
+/// The reply that tells what is bad of an input.
 pub fn reply_for_bad(alloc: Global, bad: Bad) -> Result<Reply, NoMemory>
     ensures status { IfOk result (λ reply. reply.status ≡ Status.Script) }
     ensures text { IfOk result (λ reply. reply.text ≡ (outcome_of_bad bad).text) }

@@ -5,11 +5,11 @@ ghost use Rattle.doors_top.specs.Status.{status_code, status_message};
 /// How a command ended.
 #[derive(Clone, Copy, Debug, PartialEq, Eq)]
 pub enum Status {
-    /// No thread can go on, and none waits for another.
+    /// `play`: no thread can go on, and none waits for another. `show`: the input is a script. `check`: the trace is that of a legal run.
     Complete,
     /// No thread can go on, and some wait in a call, at a port or for a path.
     Stalled,
-    /// The input is no script, or one that cannot be played yet.
+    /// The input is no script, or too long, or a script that cannot be played yet, or one without a line `trace` for `check`.
     Script,
     /// The words are no command.
     Usage,
@@ -23,7 +23,7 @@ pub enum Status {
     WriteFault,
     /// A turn of the schedule is refused.
     Turn,
-    /// The trace is not legal.
+    /// `check`: the trace is that of no legal run.
     Illegal,
 }
 
@@ -52,7 +52,7 @@ impl Status {
     {
         match self {
             Status::Usage => Some(
-                "doors: give one word, play or show, and a script as the input; read on in README.md (run, check and load are not built yet)",
+                "doors: give one word, play, show or check, and a script as the input (check: a script, a line trace and a trace); read on in README.md (run and load are not built yet)",
             ),
             Status::Memory => Some("doors: out of memory"),
             Status::ReadFault => Some("doors: the standard input could not be read"),

@@ -2,14 +2,15 @@
 ghost use Rattle.std.specs.Prelude.{◌≡◌, ◌≢◌, false};
 ghost use Rattle.std.specs.Io.KnownBytes.{Appends};
 ghost use Rattle.dk_base.specs.Words.{Rose};
-ghost use Rattle.doors_top.specs.Outcomes.{texts, is_play, is_show, is_run};
-ghost use Rattle.doors_top.specs.Top.{AnswersPlay, AnswersShow, AnswersUsage, AnswersWords, IsAnswer, LeavesInput, LeavesOutput};
+ghost use Rattle.doors_top.specs.Outcomes.{texts, is_check, is_play, is_run, is_show};
+ghost use Rattle.doors_top.specs.Top.{AnswersCheck, AnswersPlay, AnswersShow, AnswersUsage, AnswersWords, IsAnswer, LeavesInput, LeavesOutput};
 ghost use Rattle.doors_top.specs.Output.{AppendsFront};
 
+use crate::check::check;
 use crate::play::play;
 use crate::reading::{ReadingFault, read_all};
 use crate::reply::{Reply, fixed_reply};
-use crate::script_in::SCRIPT_LIMIT;
+use crate::script_in::{CHECK_LIMIT, SCRIPT_LIMIT};
 use crate::show::show;
 use crate::status::Status;
 use crate::writing::write_all;
@@ -39,6 +40,12 @@ fn is_show_word(words: &[&str]) -> bool
     ensures { result ≡ is_show (texts words.now) }
 {
     is_word(words, "show")
+}
+
+fn is_check_word(words: &[&str]) -> bool
+    ensures { result ≡ is_check (texts words.now) }
+{
+    is_word(words, "check")
 }
 
 fn is_run_word(words: &[&str]) -> bool
@@ -103,8 +110,24 @@ fn show_input<S: Source, O: Sink>(alloc: Global, src: &mut S, out: &mut O) -> St
     }
 }
 
+fn check_input<S: Source, O: Sink>(alloc: Global, src: &mut S, out: &mut O) -> Status
+    ensures answer { AnswersCheck (S.left src.old) (S.left src.new) (O.held out.old) (O.held out.new) result }
+    ensures input { LeavesInput S.left S.faults src.old src.new result }
+    ensures output { LeavesOutput O.faults out.old out.new result }
+{
+    match read_all(alloc, src, CHECK_LIMIT) {
+        Ok(read) => match check(alloc, &read) {
+            Ok(reply) => write_reply(out, &reply),
+            Err(_) => Status::Memory,
+        },
+        Err(ReadingFault::Memory) => Status::Memory,
+        Err(ReadingFault::Failed) => Status::ReadFault,
+    }
+}
+
 /// The commands but `run`. `play` reads a script to the end of the input and writes the trace of the run that its turns
-/// make; `show` writes the canonical text of a script. Other words are answered with the usage line, and nothing is read.
+/// make; `show` writes the canonical text of a script; `check` reads a script, the line `trace` and a trace, and writes whether
+/// that is the trace of a legal run of the script. Other words are answered with the usage line, and nothing is read.
 /// An answer comes with its whole text, WriteFault with a front of it. The text is made whole before the first write, so
 /// with ReadFault and with Memory the output is as it was. What is left of the input is the end of what was left.
 pub fn plain_main<S: Source, O: Sink>(
@@ -120,6 +143,8 @@ pub fn plain_main<S: Source, O: Sink>(
         play_input(alloc, src, out)
     } else if is_show_word(words) {
         show_input(alloc, src, out)
+    } else if is_check_word(words) {
+        check_input(alloc, src, out)
     } else {
         write_usage(alloc, out)
     }

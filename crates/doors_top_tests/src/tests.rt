@@ -67,7 +67,7 @@ const CANONICAL: &str =
     "doors script 1\nbudget 100000\nprocess a limit 256\nthread t\nsend 3 1 2\nreturn \"A\\x0a\" + $v desc $d!\nend\n";
 
 /// The words and the input, and then how many of its bytes are left, the output and the status.
-const ANSWERS: [(&[&str], &str, usize, &str, Status); 10] = [
+const ANSWERS: [(&[&str], &str, usize, &str, Status); 13] = [
     (&["play"], ECHO, 0, ECHO_TRACE, Status::Complete),
     (&["show"], SPACED, 0, CANONICAL, Status::Complete),
     // a wait that nothing ends
@@ -129,6 +129,22 @@ const ANSWERS: [(&[&str], &str, usize, &str, Status); 10] = [
         "1 t t exit ok\nrefused turn 2 t\n",
         Status::Turn,
     ),
+    (
+        &["check"],
+        "doors script 1\nprocess p\nthread t\nend\ntrace\n1 t t exit ok\nend complete 1\n",
+        0,
+        "legal 1\n",
+        Status::Complete,
+    ),
+    (
+        &["check"],
+        "doors script 1\nprocess p\nthread t\nend\ntrace\n1 t t exit ok\nend stalled 1 t\n",
+        0,
+        "illegal line 2\nwant end complete 1\nhave end stalled 1 t\n",
+        Status::Illegal,
+    ),
+    // no line `trace`
+    (&["check"], ECHO, 0, "bad line 17 trace\n", Status::Script),
 ];
 
 #[test]
@@ -150,11 +166,13 @@ fn commands_are_answered(rt: HostRuntime) -> Result<(), Fail> {
 
 /// The word, the read and the write of five bytes that fail, and then how many bytes of the input are left, the output and
 /// the status.
-const FAULTS: [(&str, (u64, u64), usize, &str, Status); 4] = [
+const FAULTS: [(&str, (u64, u64), usize, &str, Status); 6] = [
     ("play", (9, 0), 126, "", Status::ReadFault),
     ("play", (0, 3), 0, "1 s s crea", Status::WriteFault),
     ("show", (9, 0), 126, "", Status::ReadFault),
     ("show", (0, 3), 0, "doors scri", Status::WriteFault),
+    ("check", (9, 0), 126, "", Status::ReadFault),
+    ("check", (0, 3), 0, "bad line 1", Status::WriteFault),
 ];
 
 #[test]
