@@ -1,5 +1,5 @@
 -- The text of a run: a line for each event, and the end line.
-use Rattle.std.specs.Prelude.{ℕ, List, [], ◌∷◌, ◌++◌, length, flat_map, codes, decimal}
+use Rattle.std.specs.Prelude.{ℕ, List, [], ◌∷◌, ◌++◌, Option, Some, None, length, flat_map, codes, decimal}
 use Rattle.std.specs.List.{join_with_byte}
 use Rattle.script_requests.specs.Types.{Event, Tid}
 use Rattle.script_lang.specs.Words.{ScriptValue}
@@ -58,3 +58,8 @@ refused_line_of script turn thread = codes "refused turn " ++ decimal turn ++ sp
 -- the text of a run that ends before a refused turn
 unfoldable pub refused_text : ScriptValue → List Event → ℕ → Tid → List ℕ
 refused_text script events turn thread = lines_text script events ++ refused_line_of script turn thread ++ 10 ∷ []
+
+-- a line `tail N`, or none
+abbrev pub tail_text : Option ℕ → List ℕ
+tail_text None = []
+tail_text (Some n) = codes "tail " ++ decimal n ++ 10 ∷ []

@@ -8,7 +8,7 @@ pub use Rattle.script_requests.specs.Requests.{Frame, arguments, body_or_empty, 
 pub use Rattle.script_requests.specs.Sound.{IsFitLine, IsPlayable, IsSound, IsSoundProcedure, IsSoundThread}
 pub use Rattle.script_requests.specs.Steps.{BodyStep, blocks_of, copies, innermost_block, line_before, next_steps, outer_blocks, steps_of_body, tested_condition, tested_steps, times_of}
 pub use Rattle.script_requests.specs.TraceNames.{NamesThread, is_some_word, second_word, thread_in_line, thread_named}
-pub use Rattle.script_requests.specs.TraceText.{ending_word, lines_text, spaced_name, waiting_text}
+pub use Rattle.script_requests.specs.TraceText.{ending_word, lines_text, spaced_name, tail_text, waiting_text}
 unfoldable pub use Rattle.script_requests.specs.TraceText.{end_line_of, line_of, refused_line_of, refused_text, trace_text}
 pub use Rattle.script_requests.specs.Variables.{Value, Variables, data_of, empty_value, fd_of, no_variables, or_no_descriptor, pass_of, piece_bytes, set_each, set_variable, values_of, vars_of, with_both, with_bytes, with_descriptor}
 unfoldable pub use Rattle.script_requests.specs.Variables.{greatest_data}

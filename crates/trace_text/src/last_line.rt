@@ -1,7 +1,7 @@
 //! The last lines of traces. Want of memory may leave a part of what was to be added.
 
-ghost use Rattle.std.specs.Prelude.{◌≡◌, ◌++◌, flat_map, OnOk};
-ghost use Rattle.script_requests.specs.Words.{end_line_of, ending_word, refused_line_of, spaced_name, waiting_text};
+ghost use Rattle.std.specs.Prelude.{◌≡◌, ◌++◌, Some, flat_map, OnOk};
+ghost use Rattle.script_requests.specs.Words.{end_line_of, ending_word, refused_line_of, spaced_name, tail_text, waiting_text};
 
 use super::append::{push_counted, push_word};
 use dk_base::error::NoMemory;
@@ -73,4 +73,12 @@ pub fn push_refused_line(
 {
     push_counted(text, "refused turn ", u64::from(turn))?;
     text.word(script.name_of_thread(thread))
+}
+
+/// Adds the line `tail N`.
+pub fn push_tail(text: &mut Writer, tail: u64) -> Result<(), NoMemory>
+    ensures { OnOk result (text.new ≡ text.old ++ tail_text (Some tail)) }
+{
+    push_counted(text, "tail ", tail)?;
+    text.end_line()
 }

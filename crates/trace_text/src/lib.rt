@@ -11,5 +11,5 @@ mod trace;
 mod turn;
 mod what_word;
 
-pub use trace::{end_line, line, text_before_refused, text_of_run};
+pub use trace::{end_line, line, text_before_refused, text_of_run, text_with_tail};
 pub use turn::thread_of;

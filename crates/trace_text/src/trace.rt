@@ -1,10 +1,10 @@
 //! Lines and whole texts of traces.
 
-ghost use Rattle.std.specs.Prelude.{◌≡◌, IfOk};
-ghost use Rattle.script_requests.specs.Words.{end_line_of, line_of, refused_text, trace_text};
+ghost use Rattle.std.specs.Prelude.{◌≡◌, ◌++◌, Some, IfOk, OnOk};
+ghost use Rattle.script_requests.specs.Words.{end_line_of, line_of, refused_text, tail_text, trace_text};
 
 use super::event_line::{push_line, push_lines};
-use super::last_line::{push_end_line, push_refused_line};
+use super::last_line::{push_end_line, push_refused_line, push_tail};
 use dk_base::error::NoMemory;
 use dk_base::event::Event;
 use dk_base::list::{Bytes, TidList};
@@ -40,9 +40,25 @@ pub fn end_line(
     Ok(text.into_bytes())
 }
 
+/// Adds the line of each event and the end line.
+#[tactic(auto, unfolding(script_requests::specs::TraceText::trace_text))]
+fn push_run(
+    alloc: Global,
+    text: &mut Writer,
+    script: &Script,
+    events: &[Event],
+    ending: Ending,
+    waiting: &TidList,
+) -> Result<(), NoMemory>
+    ensures { OnOk result (text.new ≡ text.old ++ trace_text script.now events.now ending waiting.now) }
+{
+    push_lines(alloc, text, script, events)?;
+    push_end_line(text, script, ending, events.len() as u64, waiting.slice())?;
+    text.end_line()
+}
+
 /// The text of a run with these events and this end; `waiting` are the threads that wait at the end, of which a stalled
 /// run tells.
-#[tactic(auto, unfolding(script_requests::specs::TraceText::trace_text))]
 pub fn text_of_run(
     alloc: Global,
     script: &Script,
@@ -53,15 +69,24 @@ pub fn text_of_run(
     ensures { IfOk result (λ text. text ≡ trace_text script.now events.now ending waiting.now) }
 {
     let mut text = Writer::new(alloc)?;
-    push_lines(alloc, &mut text, script, events)?;
-    push_end_line(
-        &mut text,
-        script,
-        ending,
-        events.len() as u64,
-        waiting.slice(),
-    )?;
-    text.end_line()?;
+    push_run(alloc, &mut text, script, events, ending, waiting)?;
+    Ok(text.into_bytes())
+}
+
+/// As `text_of_run`, with the line `tail N` after it, for any number.
+pub fn text_with_tail(
+    alloc: Global,
+    script: &Script,
+    events: &[Event],
+    ending: Ending,
+    waiting: &TidList,
+    tail: u64,
+) -> Result<Bytes, NoMemory>
+    ensures { IfOk result (λ text. text ≡ trace_text script.now events.now ending waiting.now ++ tail_text (Some tail)) }
+{
+    let mut text = Writer::new(alloc)?;
+    push_run(alloc, &mut text, script, events, ending, waiting)?;
+    push_tail(&mut text, tail)?;
     Ok(text.into_bytes())
 }
 

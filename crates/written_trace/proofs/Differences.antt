@@ -2,11 +2,12 @@
 use Rattle.std.proofs.Common.{◌≡◌, inl, inr, ℕ, suc, ◌+◌, ◌-◌, ◌≤◌, List, [], ◌∷◌, ◌++◌, length, take, Option, Some, unwrap_or, refl, sym, ap, ◌∙◌, subst, arith, zero-add}
 use Rattle.std.specs.Prelude.{IfSome, slice_get}
 use Rattle.script_text.specs.Words.{lines_of}
+use Rattle.script_requests.specs.Words.{tail_text}
 use Rattle.script_lang.specs.Words.{ScriptValue, spells}
 use Rattle.written_script.specs.Words.{IsAllowed, first_history, run, text_of_history}
 use Rattle.written_trace.specs.declared.verdict.Verdict.TheVariants.{Legal, Differs}
 use Rattle.written_trace.specs.FirstDifferences.{IsFirstDifference, IsNamedTurn, IsOtherTurn, IsWanted, OfEachTrace, lines_through}
-use Rattle.written_trace.specs.LegalTraces.{IsLegal, IsTextOf, IsTrace, tail_text}
+use Rattle.written_trace.specs.LegalTraces.{IsLegal, IsTextOf, IsTrace}
 use Rattle.written_trace.specs.Verdicts.{end_line_after, verdict, verdict_from}
 use Rattle.written_trace.proofs.Leaving.{IsLeft, IsWantedAfter, OfEachFrom, ReadableFrom, left, trace_from}
 use Rattle.written_trace.proofs.Legal.{legal_again, readable_run, small_budget}

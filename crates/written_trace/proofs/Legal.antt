@@ -5,13 +5,13 @@ use Rattle.std.proofs.lemmas.List.Elements.{All-weaker}
 use Rattle.script_text.specs.Words.{lines_of, text_of_lines}
 use Rattle.script_lang.specs.Words.{ScriptValue, spells}
 use Rattle.script_requests.specs.DeclaredNames.{IsDeclaredEvent}
-use Rattle.script_requests.specs.Words.{second_word, thread_named}
+use Rattle.script_requests.specs.Words.{second_word, tail_text, thread_named}
 use Rattle.script_requests.proofs.SoundScripts.{sound-spelled}
 use Rattle.written_script.specs.Words.{IsAllowed, IsWholePlay, first_history, refusal, run, text_of_history, threads_of_events, turns_of_play}
 use Rattle.written_script.proofs.RunTurns.{run-declared}
 use Rattle.written_script.proofs.Plays.{whole-play}
 use Rattle.written_trace.specs.declared.verdict.Verdict.TheVariants.{Legal}
-use Rattle.written_trace.specs.LegalTraces.{IsLegal, IsTextOf, IsTrace, tail_text}
+use Rattle.written_trace.specs.LegalTraces.{IsLegal, IsTextOf, IsTrace}
 use Rattle.written_trace.specs.Turns.{HasReadableLine, turn_words, turns_in}
 use Rattle.written_trace.specs.Verdicts.{end_line_after, verdict, verdict_from}
 use Rattle.written_trace.proofs.EventLines.{is_event_line}

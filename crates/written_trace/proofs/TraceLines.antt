@@ -9,10 +9,10 @@ use Rattle.script_text.specs.Words.{is_one_line, lines_of, text_of_lines}
 use Rattle.script_text.proofs.TextLines.{text_of_lines-append}
 use Rattle.script_lang.specs.Words.{ScriptValue, spells}
 use Rattle.script_requests.specs.Types.{Event}
-use Rattle.script_requests.specs.Words.{end_line_of, line_of, lines_text, second_word, thread_named, trace_text}
+use Rattle.script_requests.specs.Words.{end_line_of, line_of, lines_text, second_word, tail_text, thread_named, trace_text}
 use Rattle.written_kernel.specs.Words.{event_of, waiting_threads}
 use Rattle.written_script.specs.Words.{History, ending_of, first_history, history_after, request_at_turn, run, run_from, text_of_history, threads_of_events}
-use Rattle.written_trace.specs.LegalTraces.{IsTextOf, tail_text}
+use Rattle.written_trace.specs.LegalTraces.{IsTextOf}
 use Rattle.written_trace.specs.Turns.{HasReadableLine, begins_with_digit, event_lines}
 use Rattle.written_trace.specs.Verdicts.{end_line_after}
 use Rattle.written_trace.proofs.EventLines.{end_line_no_digit}

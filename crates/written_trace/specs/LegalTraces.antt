@@ -1,12 +1,8 @@
 -- Which texts are traces of legal runs, with no walk over their lines.
-use Rattle.std.specs.Prelude.{ℕ, ◌≡◌, ◌≤◌, ◌⊎◌, true, List, [], ◌∷◌, ◌++◌, Option, Some, None, IfSome, length, codes, decimal}
+use Rattle.std.specs.Prelude.{ℕ, ◌≡◌, ◌≤◌, ◌⊎◌, true, List, [], ◌∷◌, ◌++◌, Option, IfSome, length}
 use Rattle.script_lang.specs.Words.{ScriptValue}
+use Rattle.script_requests.specs.Words.{tail_text}
 use Rattle.written_script.specs.Words.{IsAllowed, is_over, run, text_of_history}
-
--- a line `tail N`, or none
-abbrev pub tail_text : Option ℕ → List ℕ
-tail_text None = []
-tail_text (Some n) = codes "tail " ++ decimal n ++ 10 ∷ []
 
 -- the text is this one, or this one without its last line feed, which is 10
 abbrev pub IsTextOf : List ℕ → List ℕ → Type 0
