@@ -1,0 +1,86 @@
+-- What a look under the lock finds, takes and leaves.
+use Rattle.std.specs.Prelude.{ℕ, ◌≡◌, ◌+◌, ◌==◌, ◌||◌, Bool, true, false, List, [], ◌∷◌, ◌++◌, Option, Some, None, find}
+use Rattle.std.specs.List.{list_any}
+use Rattle.written_kernel.specs.Types.{Tid}
+use Rattle.written_kernel.specs.Words.{State, is_runnable}
+use Rattle.written_script.specs.Words.{is_over}
+use Rattle.sys_run.specs.Sys.{SysValue, history, state_of_run, threads_woken_by, with_turn}
+use Rattle.kernel_lock.specs.declared.turns.Next.{Next}
+use Rattle.kernel_lock.specs.declared.turns.Next.TheVariants as next
+use Rattle.kernel_lock.specs.declared.turns.ToNotify.{ToNotify}
+use Rattle.kernel_lock.specs.declared.turns.Turn.{Turn}
+use Rattle.kernel_lock.specs.declared.turns.Turn.TheVariants as turn
+
+-- what lies under the lock, with the turns of one driver
+pub record UnderLock : Type 0 where
+  pub sys : SysValue
+  pub stopped : Bool
+  pub refused : List Tid
+  pub turns : ℕ
+
+abbrev pub held : SysValue → Bool → List Tid → ℕ → UnderLock
+held sys stopped refused turns = record { sys = sys; stopped = stopped; refused = refused; turns = turns }
+
+-- no turn may be taken any more: the run was stopped, or is over
+abbrev pub has_ended : SysValue → Bool → Bool
+has_ended sys stopped = stopped || is_over sys.script (history sys)
+
+abbrev pub is_member : List Tid → ℕ → Bool
+is_member threads t = list_any (λ (other : Tid). other.0 == t) threads
+
+-- whether one of the woken threads is one of these
+abbrev pub is_any_of : List Tid → List Tid → Bool
+is_any_of threads woken = list_any (λ (t : Tid). is_member threads t.0) woken
+
+-- want of memory takes no turn, and stops the run
+abbrev pub stopped_by : UnderLock → UnderLock
+stopped_by h = held h.sys true h.refused h.turns
+
+-- one step was taken, and one turn booked
+abbrev pub after_turn : UnderLock → ℕ → UnderLock
+after_turn h t = held (with_turn h.sys t) h.stopped h.refused (h.turns + 1)
+
+-- whom to notify: exactly the threads that the step made runnable, and all at the end
+pub record IsToNotify (old new : UnderLock) (t : ℕ) (whom : ToNotify) : Type 0 where
+  pub woken : whom.woken ≡ threads_woken_by old.sys t
+  pub calling : whom.calling ≡ is_any_of old.refused whom.woken
+  pub over : whom.over ≡ is_over new.sys.script (history new.sys)
+
+pub record IsTaken (old new : UnderLock) (t : ℕ) (whom : ToNotify) : Type 0 where
+  pub may : is_runnable (state_of_run old.sys) t ≡ true
+  pub goes_on : has_ended old.sys old.stopped ≡ false
+  pub after : new ≡ after_turn old t
+  pub told : IsToNotify old new t whom
+
+-- a driver waits only while its thread is not runnable and the run goes on
+pub record IsWait (old new : UnderLock) (t : ℕ) : Type 0 where
+  pub not_runnable : is_runnable (state_of_run old.sys) t ≡ false
+  pub goes_on : has_ended old.sys old.stopped ≡ false
+  pub same : new ≡ old
+
+pub record IsEnd (old new : UnderLock) : Type 0 where
+  pub ended : has_ended old.sys old.stopped ≡ true
+  pub same : new ≡ old
+
+abbrev pub IsTurn : UnderLock → UnderLock → ℕ → Turn → Type 0
+IsTurn old new t (turn.Taken whom) = IsTaken old new t whom
+IsTurn old new t turn.Waits = IsWait old new t
+IsTurn old new t turn.Ended = IsEnd old new
+
+-- the first of these threads that is runnable
+abbrev pub first_runnable_of : State → List Tid → Option Tid
+first_runnable_of m threads = find (λ (t : Tid). is_runnable m t.0) threads
+
+-- the calling thread waits only while none of its threads is runnable and the run goes on
+pub record IsNextOf (h : UnderLock) (first : Option Tid) : Type 0 where
+  pub goes_on : has_ended h.sys h.stopped ≡ false
+  pub first_is : first_runnable_of (state_of_run h.sys) h.refused ≡ first
+
+abbrev pub IsNext : UnderLock → Next → Type 0
+IsNext h (next.Runnable t) = IsNextOf h (Some t)
+IsNext h next.Waits = IsNextOf h None
+IsNext h next.Ended = has_ended h.sys h.stopped ≡ true
+
+-- the start of this thread is marked as refused
+abbrev pub with_refused : UnderLock → Tid → UnderLock
+with_refused h t = held h.sys h.stopped (h.refused ++ t ∷ []) h.turns

@@ -1,0 +1,89 @@
+//! The lock, with a condition variable for each driver.
+ghost use Rattle.std.specs.Prelude.{◌≡◌, length};
+
+use crate::running::Running;
+use crate::turns::ToNotify;
+use dk_base::error::NoMemory;
+use dk_base::number::Tid;
+use std::alloc::Global;
+use std::sync::ledger::{Book, Ledger};
+use std::sync::{Condvar, Mutex};
+use sys_run::sys::Sys;
+
+/// What all drivers share: the run under its lock, and a condition variable for each driver.
+#[derive(Drop)]
+pub struct Shared<L: Ledger> {
+    pub(crate) running: Mutex<Running<L>>,
+    /// Where the calling thread waits.
+    pub(crate) calling: Condvar,
+    /// Where the drivers of the script's threads wait, in order.
+    condvars: Vec<Condvar>,
+}
+
+fn condvars(alloc: Global, threads: u32) -> Result<Vec<Condvar>, NoMemory> {
+    let mut condvars = Vec::new(alloc);
+    for _ in 0..threads {
+        if condvars.push(Condvar::new()).is_err() {
+            return Err(NoMemory);
+        }
+    }
+    Ok(condvars)
+}
+
+impl<L: Ledger> Shared<L> {
+    /// A run under its lock, with room for a mark for each thread whose start is refused. Want of memory drops the run.
+    pub fn new(alloc: Global, sys: Sys, book: Book<L>) -> Result<Self, NoMemory>
+        requires { book.total ≡ length sys.journal }
+    {
+        let threads = sys.script().threads();
+        let condvars = condvars(alloc, threads)?;
+        let Ok(refused) = Vec::with_capacity(alloc, threads as usize) else {
+            return Err(NoMemory);
+        };
+        Ok(Shared {
+            running: Mutex::new(Running::new(sys, refused, book)),
+            calling: Condvar::new(),
+            condvars,
+        })
+    }
+
+    /// What lay under the lock.
+    pub(crate) fn into_running(self) -> Running<L> {
+        let Shared {
+            running,
+            calling: _,
+            condvars: _,
+        } = self;
+        running.into_inner()
+    }
+
+    /// Where a thread's driver waits. For a number that the script does not declare it is where the calling thread waits, who is
+    /// notified at the end.
+    pub(crate) fn condvar(&self, t: Tid) -> &Condvar {
+        match self.condvars.get((t.0 as usize).wrapping_sub(1)) {
+            Some(condvar) => condvar,
+            None => &self.calling,
+        }
+    }
+
+    /// Notifies those whose threads a turn woke, or all at the end of the run.
+    pub(crate) fn notify(&self, whom: &ToNotify) {
+        if whom.over {
+            return self.notify_all();
+        }
+        if whom.calling {
+            self.calling.notify_one();
+        }
+        for t in whom.woken.slice() {
+            self.condvar(*t).notify_one();
+        }
+    }
+
+    /// Notifies all.
+    pub(crate) fn notify_all(&self) {
+        self.calling.notify_all();
+        for condvar in &self.condvars {
+            condvar.notify_all();
+        }
+    }
+}

@@ -1,0 +1,36 @@
+//! What a look under the lock gives.
+use dk_base::list::TidList;
+use dk_base::number::Tid;
+
+/// Whom to notify after a turn.
+#[derive(Drop)]
+pub struct ToNotify {
+    /// The threads that were not runnable before and are now.
+    pub woken: TidList,
+    /// Whether the calling thread drives one of them.
+    pub calling: bool,
+    /// Whether the run is over, so that all are notified.
+    pub over: bool,
+}
+
+/// What a driver finds under the lock.
+#[derive(Drop)]
+pub enum Turn {
+    /// It took one turn.
+    Taken(ToNotify),
+    /// Its thread is not runnable, and the run goes on.
+    Waits,
+    /// The run is over, or was stopped.
+    Ended,
+}
+
+/// What the calling thread finds under the lock.
+#[derive(Clone, Copy)]
+pub enum Next {
+    /// This thread, whose start was refused, is runnable.
+    Runnable(Tid),
+    /// None of them is runnable, and the run goes on.
+    Waits,
+    /// The run is over, or was stopped.
+    Ended,
+}

@@ -1,0 +1,5 @@
+//! Tests of whole runs on threads.
+#![tactic(auto)]
+
+#[cfg(test)]
+mod tests;
