@@ -6,6 +6,10 @@
 # NAME.status the status, 0 where there is none. examples/NAME.doors is played to NAME.trace, which `check` finds legal, and
 # illegal with a change. In the pages a block that begins with ```doors is a script, and the next that begins with ```trace
 # is what `play` writes for it.
+#
+# Threads make many traces of one script: what `run` writes for tests/run/NAME.in without NAME.out is to be one that `check`
+# finds legal and that `play` makes again from its turns, and NAME.status has each status that may come. Every script of the
+# other commands and of the pages is run so too.
 
 # Each page has at least one script.
 pages="README.md docs/TUTORIAL.md"
@@ -38,8 +42,12 @@ fail() {
     echo "$program: $1: $2"
 }
 
+# What ends a program that waits without end, with status 124, where the system has it.
+most=
+if command -v timeout >"$work/timeout"; then most="timeout 120"; fi
+
 # run WORD..: over the standard input.
-run() { "$program" "$@" >"$work/out" 2>"$work/err"; }
+run() { $most "$program" "$@" >"$work/out" 2>"$work/err"; }
 
 # Whether the error stream is as it is to be at this status: one line at 3, 5, 6 and 7, and nothing at others.
 is_quiet() {
@@ -72,12 +80,15 @@ keep_end() {
     mv "$work/tail" "$work/out"
 }
 
+# The statuses that an input NAME may have.
+statuses_of() {
+    if [ -f "$1.status" ]; then cat "$1.status"; else echo 0; fi
+}
+
 # Each NAME.in of the folder, which is named for the command.
 folder() {
     for input in "tests/$1"/*.in; do
         name=${input%.in}
-        status=0
-        [ ! -f "$name.status" ] || status=$(cat "$name.status")
         text=$name.out
         run "$1" <"$input"
         found=$?
@@ -85,7 +96,12 @@ folder() {
             text=$name.end
             keep_end "$text"
         fi
-        judge "$input" $found "$status" "$text"
+        if [ "$1" = run ] && [ ! -f "$text" ]; then
+            judge_run "$input" $found "$(statuses_of "$name")" "$input"
+            judge_replay "$input" $found "$input"
+        else
+            judge "$input" $found "$(statuses_of "$name")" "$text"
+        fi
     done
 }
 
@@ -178,6 +194,135 @@ status_of() {
     esac
 }
 
+# An input of `check`: the script, whose last line may lack its line feed, and the trace.
+with_trace() {
+    cat "$1"
+    [ -z "$(tail -c 1 "$1")" ] || echo
+    echo trace
+    cat "$2"
+}
+
+# is_one_of WORD WORDS
+is_one_of() { case " $2 " in *" $1 "*) ;; *) return 1 ;; esac; }
+
+# judge_run NAME FOUND STATUSES SCRIPT: the last output, with the status FOUND, is to be the trace of a legal run of the
+# script with a line `tail N` behind it, and its status one of these. Leaves the trace in $work/ran, and the same without
+# the line `tail N` in $work/trace.
+judge_run() {
+    cp "$work/out" "$work/ran"
+    sed '$d' "$work/ran" >"$work/trace"
+    echo "legal $(grep -c '^[0-9]' "$work/ran")" >"$work/legal"
+    seen="$seen $2"
+    if ! is_one_of "$2" "$3"; then
+        fail "$1" "status $2, and one of '$3' is wanted"
+    elif [ "$(tail -n 1 "$work/ran" | cut -c 1-5)" != "tail " ]; then
+        fail "$1" "no line 'tail N' at the end"
+    elif [ "$2" -ne "$(status_of "$work/trace")" ]; then
+        fail "$1" "status $2, and the run's last line is $(tail -n 1 "$work/trace")"
+    elif ! is_quiet "$2"; then
+        fail "$1" "the error stream has $(wc -l <"$work/err") lines: $(head -n 1 "$work/err")"
+    else
+        with_trace "$4" "$work/ran" >"$work/to_check"
+        run check <"$work/to_check"
+        judge "$1, checked" $? 0 "$work/legal"
+    fi
+}
+
+# The canonical text of the script, with the turns of the trace as its schedule, in lines of 16 names.
+with_turns() {
+    "$program" show <"$1" | sed '/^schedule /d'
+    awk '/^[0-9]/ { line = line " " $2; if (++n % 16 == 0) { print "schedule" line; line = "" } }
+        END { if (line != "") print "schedule" line }' "$2"
+}
+
+# judge_replay NAME STATUS SCRIPT: of the run that was judged last, what `play` makes of its turns.
+judge_replay() {
+    with_turns "$3" "$work/ran" >"$work/replay"
+    run play <"$work/replay"
+    judge "$1, replayed" $? "$2" "$work/trace"
+}
+
+# What `run` makes of a script: the line of `play` where that is one for a bad script, and else a legal run. A schedule is
+# passed over, so that a refused one tells nothing of it.
+run_as_play() {
+    run play <"$1"
+    cp "$work/out" "$work/played"
+    run run <"$1"
+    found=$?
+    case $(head -n 1 "$work/played") in
+    "bad line "*) judge "run of $1" $found 2 "$work/played" ;;
+    *)
+        judge_run "run of $1" $found "0 1 4" "$1"
+        judge_replay "run of $1" $found "$1"
+        ;;
+    esac
+}
+
+# Every script that there is.
+runs() {
+    for input in examples/*.doors tests/play/*.in tests/show/*.in "$work"/*.md/*.in; do
+        run_as_play "$input"
+    done
+}
+
+# Runs of one script, each of them legal, and illegal at the line that is cut: a line of the trace that changes from run to run.
+many_runs() {
+    input=tests/run/four_clients_of_two_servers.in
+    i=0
+    while [ $i -lt 200 ]; do
+        i=$((i + 1))
+        run run <"$input"
+        judge_run "$input, run $i" $? 0 "$input"
+        cut=$((i % ($(wc -l <"$work/trace") - 1) + 1))
+        sed "${cut}d" "$work/ran" >"$work/cut"
+        with_trace "$input" "$work/cut" >"$work/to_check"
+        run check <"$work/to_check"
+        found=$?
+        if [ $found -eq 9 ] && [ "$(head -n 1 "$work/out")" = "illegal line $cut" ]; then
+            pass
+        else
+            fail "$input, run $i without line $cut" "status $found, $(head -n 1 "$work/out")"
+        fi
+    done
+}
+
+# limited KIB WORD..: the program in so much address space, with stacks of 8192 KiB. 125 where the system has no such limits.
+limited() (
+    { ulimit -s 8192 && ulimit -v "$1"; } 2>"$work/no_limit" || exit 125
+    if [ "$1" -le 9000 ] && dd if=/dev/zero of=/dev/null bs=8388608 count=1 2>"$work/no_limit"; then exit 125; fi
+    shift
+    run "$@"
+)
+
+# Starts of threads that the system refuses, as there is no room for some or all of their stacks. Where there is none for the
+# program either, it ends with 5.
+refused_starts() {
+    input=tests/run/four_clients_of_two_servers.in
+    for size in 9000 14000 24000 32000 40000 60000; do
+        limited $size run <"$input"
+        found=$?
+        case $found in
+        125) ;;
+        5)
+            judge "$input in $size KiB" 5 5 "$work/nothing"
+            ;;
+        *)
+            judge_run "$input in $size KiB" $found 0 "$input"
+            [ $size -gt 9000 ] || judge_tail "$input in $size KiB"
+            ;;
+        esac
+    done
+}
+
+# Of the last run: the calling thread took all turns.
+judge_tail() {
+    if [ "$(tail -n 1 "$work/ran")" = "tail $(grep -c '^[0-9]' "$work/ran")" ]; then
+        pass
+    else
+        fail "$1" "$(tail -n 1 "$work/ran"), where no thread could be started"
+    fi
+}
+
 # Writes the page's scripts and traces into TO/N.in and TO/N.out, a line for each block without the other into TO/lone, and
 # how many pairs there are.
 pairs() {
@@ -250,14 +395,19 @@ words() {
     usage CHECK
     usage " check"
     usage load 0
-    usage run
+    usage RUN
+    usage "run "
+    usage run run
+    usage run play
+    usage play run
+    usage run 2
     usage --help
     usage "$(printf '\377')"
 }
 
 # Output that cannot be written, and input that cannot be read.
 faults() {
-    for word in play show check walk; do
+    for word in play run show check walk; do
         input=$echo_script
         [ $word != check ] || input=$checked
         "$program" $word <"$input" >/dev/full 2>"$work/err"
@@ -269,7 +419,7 @@ faults() {
         : >"$work/out"
         judge "$word to a closed output" $found 7 "$work/nothing"
     done
-    for word in play show check; do
+    for word in play run show check; do
         run $word <&-
         judge "$word of a closed input" $? 6 "$work/nothing"
         run $word <tests
@@ -291,9 +441,11 @@ sizes() {
     printf 'doors script 1\nbudget 100000\n' >"$work/canonical"
     run play <"$work/longest"
     judge "play of 1048576 bytes" $? 0 "$work/complete"
+    run run <"$work/longest"
+    judge_run "run of 1048576 bytes" $? 0 "$work/longest"
     run show <"$work/longest"
     judge "show of 1048576 bytes" $? 0 "$work/canonical"
-    for word in play show check; do
+    for word in play run show check; do
         run $word <"$work/too_long"
         judge "$word of 1048577 bytes" $? 2 "$work/size"
     done
@@ -335,6 +487,8 @@ slowly() {
 byte_by_byte() {
     slowly "$echo_script" | run play
     judge "play byte by byte" $? 0 examples/echo.trace
+    slowly "$echo_script" | run run
+    judge_run "run byte by byte" $? 0 "$echo_script"
     slowly "$checked" | run check
     judge "check byte by byte" $? 0 "${checked%.in}.out"
 }
@@ -358,11 +512,15 @@ for program in "$@"; do
     fi
     seen=
     folder play
+    folder run
     folder show
     folder check
     examples
     changed_traces
     for page in $pages; do page "$page"; done
+    runs
+    many_runs
+    refused_starts
     words
     faults
     sizes

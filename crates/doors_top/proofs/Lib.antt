@@ -2,3 +2,5 @@ pub mod Checks
 pub mod Fronts
 pub mod LineCounts
 pub mod Plays
+pub mod Replays
+pub mod Runs

@@ -1,6 +1,7 @@
 -- What comes of reading all that a source has, up to a limit.
 use Rattle.std.specs.Prelude.{◌≡◌, ℕ, ◌≤◌, nat_le, if◌then◌else◌, ⊤, List, [], length, Option, Some}
 use Rattle.std.specs.Io.KnownBytes.{Consumes}
+use Rattle.script_lang.specs.Words.{ScriptValue, spells}
 use Rattle.doors_top.specs.declared.reading.ReadText.{ReadText}
 use Rattle.doors_top.specs.declared.reading.ReadText.TheVariants.{Whole, TooLong}
 
@@ -20,3 +21,7 @@ LeavesNone TooLong left = ⊤
 -- what is left is the end of what was left, where that is told
 abbrev pub LeavesRest : Option (List ℕ) → Option (List ℕ) → Type 0
 LeavesRest old new = (read : List ℕ) × Consumes old new read
+
+-- some text spells the script
+abbrev pub IsSpelled : ScriptValue → Type 0
+IsSpelled script = (source : List ℕ) × spells source script

@@ -1,5 +1,5 @@
 -- What each command answers and writes, as a function of its words and of what was read.
-use Rattle.std.specs.Prelude.{ℕ, List, [], ◌∷◌, ◌||◌, Option, Some, None, Result, Ok, Err, Bool, false, bytes_eq, codes, map, if◌then◌else◌}
+use Rattle.std.specs.Prelude.{ℕ, List, [], ◌∷◌, ◌++◌, ◌||◌, Option, Some, None, Result, Ok, Err, Bool, false, bytes_eq, codes, map, if◌then◌else◌}
 use Rattle.std.specs.Borrow.{Bor}
 use Rattle.written_kernel.specs.Types.{Tid}
 use Rattle.doors_top.specs.declared.status.Status.{Status}
@@ -12,7 +12,7 @@ use Rattle.doors_top.specs.Status.{status_of_ending, status_of_verdict}
 use Rattle.script_line.specs.declared.reason.Reason.TheVariants.{Size, Trace}
 use Rattle.script_requests.specs.Types.{Bad}
 use Rattle.script_lang.specs.Words.{ScriptValue, bad_line, bad_text, canonical_text, parse_result}
-use Rattle.script_requests.specs.Words.{has_later_parts, refused_text}
+use Rattle.script_requests.specs.Words.{has_later_parts, refused_text, tail_text}
 use Rattle.written_script.specs.Words.{History, Refusal, ending_of, refusal, run, text_of_history, turns_before, turns_of_play}
 use Rattle.written_trace.specs.declared.verdict.Verdict.{Verdict}
 use Rattle.written_trace.specs.Words.{line_after_last, script_part, trace_part, verdict, verdict_text}
@@ -45,12 +45,15 @@ is_run words = is_only (codes "run") words
 
 -- the words are a command that is built
 abbrev pub is_command : List (List ℕ) → Bool
-is_command words = is_play words || is_show words || is_check words
+is_command words = is_play words || is_run words || is_show words || is_check words
 
 -- an answer with the text that was written
 pub record Outcome : Type 0 where
   pub status : Status
   pub text : List ℕ
+
+abbrev pub outcome_with : Status → List ℕ → Outcome
+outcome_with status text = record { status = status; text = text }
 
 abbrev pub usage : Outcome
 usage = record { status = status.Usage; text = codes "usage: doors play|run|show|check|load N\n" }
@@ -101,6 +104,14 @@ outcome_of_played (Err bad) = outcome_of_bad bad
 -- what `play` makes of what was read: the text of the run of the script, or its first bad line
 abbrev pub outcome_of_play : ReadText → Outcome
 outcome_of_play read = outcome_of_played (script_of_input read)
+
+-- what is answered and written of the run of these turns, with this number in the line `tail N`
+abbrev pub outcome_of_run : ScriptValue → List ℕ → ℕ → Outcome
+outcome_of_run script turns tail =
+    record {
+      status = status_of_ending (ending_of (run script turns).state);
+      text = text_of_history script (run script turns) ++ tail_text (Some tail);
+    }
 
 abbrev pub outcome_of_shown : Result ScriptValue Bad → Outcome
 outcome_of_shown (Ok script) = record { status = status.Complete; text = canonical_text script }

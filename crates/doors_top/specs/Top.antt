@@ -1,5 +1,5 @@
 -- What the top call promises.
-use Rattle.std.specs.Prelude.{ℕ, ◌≡◌, ◌⊎◌, ⊤, true, false, List, Option, Some, None, Ok, IfSome, IfOk}
+use Rattle.std.specs.Prelude.{ℕ, ◌≡◌, ◌≤◌, ◌⊎◌, ⊤, Bool, true, false, List, length, Option, Some, None, Result, Ok, Err, IfSome, IfOk}
 use Rattle.std.specs.Io.KnownBytes.{Appends}
 use Rattle.doors_top.specs.declared.status.Status.{Status}
 use Rattle.doors_top.specs.declared.status.Status.TheVariants as status
@@ -7,16 +7,17 @@ use Rattle.doors_top.specs.declared.status.Status.TheVariants.{Complete, Illegal
 use Rattle.doors_top.specs.declared.reading.ReadText.{ReadText}
 use Rattle.doors_top.specs.declared.reading.ReadText.TheVariants.{Whole, TooLong}
 use Rattle.doors_top.specs.declared.script_in.TheConstants.{CHECK_LIMIT, SCRIPT_LIMIT}
-use Rattle.doors_top.specs.Outcomes.{Outcome, is_check, is_command, is_play, is_show, outcome_of_check, outcome_of_play, outcome_of_show, script_of_input, script_of_part, usage}
+use Rattle.doors_top.specs.Outcomes.{Outcome, is_check, is_command, is_play, is_run, is_show, outcome_of_bad, outcome_of_check, outcome_of_later, outcome_of_play, outcome_of_run, outcome_of_show, script_of_input, script_of_part, usage}
 use Rattle.doors_top.specs.Input.{text_within_limit, IsWithinLimit, LeavesNone, LeavesRest}
 use Rattle.doors_top.specs.Output.{AppendsFront}
 use Rattle.dk_base.specs.Words.{Rose}
 use Rattle.kernel_laws.specs.Words.{Laws}
 use Rattle.script_lang.specs.Words.{IsDecided, ScriptValue, parse_result}
+use Rattle.script_requests.specs.Types.{Bad}
 use Rattle.script_requests.specs.Words.{has_later_parts}
 use Rattle.written_trace.specs.declared.verdict.Verdict.TheVariants.{Differs, Legal}
-use Rattle.written_trace.specs.Words.{AreParts, HasNoTrace, IsFirstDifference, IsLegal, script_part, trace_part, verdict_text}
-use Rattle.written_script.specs.Words.{IsRefusedPlay, IsWholePlay, Refusal, opening_of, refusal, turns_before, turns_of, turns_of_play}
+use Rattle.written_trace.specs.Words.{AreParts, HasNoTrace, IsFirstDifference, IsLegal, script_part, trace_part, turns_in, verdict, verdict_text}
+use Rattle.written_script.specs.Words.{IsAllowed, IsRefusedPlay, IsWholePlay, Refusal, is_over, opening_of, refusal, run, turns_before, turns_of, turns_of_play}
 
 -- a status that says what was asked, and not that memory, a read or a write failed
 abbrev pub IsAnswer : Status → Type 0
@@ -71,6 +72,56 @@ pub record PlaysFront (left_old left_new held_old held_new : Option (List ℕ)) 
   pub read : ReadText
   pub is_read : IsRead SCRIPT_LIMIT left_old left_new read
   pub text : AppendsFront held_old held_new (outcome_of_play read).text
+
+-- what was answered and written is of a run of the script that is over, whatever order its turns have
+pub record IsOfSomeRun (script : ScriptValue) (made : Outcome) : Type 0 where
+  -- the turns are those of the lines that were written
+  pub turns : List ℕ
+  pub written : turns_in script made.text ≡ turns
+  -- each thread is runnable at its turn, and the budget is not exceeded
+  pub allowed : IsAllowed script turns
+  -- no thread is runnable at the end, or the budget is used up
+  pub over : is_over script (run script turns) ≡ true
+  -- the number of the line `tail N`; whose turns it counts is not said
+  pub tail : ℕ
+  pub small : tail ≤ length turns
+  -- the status is that of the run's end, and the text is the run's with that line
+  pub of_turns : made ≡ outcome_of_run script turns tail
+  pub laws : LawsOfTurns script turns
+  -- the verdict of `check` on the text
+  pub legal : verdict script made.text ≡ Legal (length turns)
+
+-- the script needs a capability that is not built, or it is run
+abbrev pub RunsOrLater : ScriptValue → Bool → Outcome → Type 0
+RunsOrLater script true made = made ≡ outcome_of_later
+RunsOrLater script false made = IsOfSomeRun script made
+
+abbrev pub RunsParsed : Result ScriptValue Bad → Outcome → Type 0
+RunsParsed (Ok script) made = RunsOrLater script (has_later_parts script) made
+RunsParsed (Err bad) made = made ≡ outcome_of_bad bad
+
+-- `run` made this of what was read
+abbrev pub IsOutcomeOfRun : ReadText → Outcome → Type 0
+IsOutcomeOfRun read made = RunsParsed (script_of_input read) made
+
+-- `run` answered an outcome of what was read, and wrote exactly its text
+pub record Runs (left_old left_new held_old held_new : Option (List ℕ)) (answer : Status) : Type 0 where
+  pub read : ReadText
+  pub is_read : IsRead SCRIPT_LIMIT left_old left_new read
+  pub made : Outcome
+  pub status : answer ≡ made.status
+  pub text : Appends held_old held_new made.text
+  pub spelled : IsDecidedText read
+  pub outcome : IsOutcomeOfRun read made
+
+-- `run` wrote a front of the text of an outcome
+pub record RunsFront (left_old left_new held_old held_new : Option (List ℕ)) : Type 0 where
+  pub read : ReadText
+  pub is_read : IsRead SCRIPT_LIMIT left_old left_new read
+  pub made : Outcome
+  pub text : AppendsFront held_old held_new made.text
+  pub spelled : IsDecidedText read
+  pub outcome : IsOutcomeOfRun read made
 
 -- `show` answered what its outcome is for what was read, and wrote exactly its text
 pub record Shows (left_old left_new held_old held_new : Option (List ℕ)) (answer : Status) : Type 0 where
@@ -163,6 +214,13 @@ pub record AnswersPlay (left_old left_new held_old held_new : Option (List ℕ))
   -- a write failed, and a front of the text was written
   pub front : answer ≡ status.WriteFault → PlaysFront left_old left_new held_old held_new
 
+-- what `run` promises
+pub record AnswersRun (left_old left_new held_old held_new : Option (List ℕ)) (answer : Status) : Type 0 where
+  -- the whole answer: an outcome's status, and all of its text
+  pub whole : IsAnswer answer → Runs left_old left_new held_old held_new answer
+  -- a write failed, and a front of the text was written
+  pub front : answer ≡ status.WriteFault → RunsFront left_old left_new held_old held_new
+
 -- what `show` promises
 pub record AnswersShow (left_old left_new held_old held_new : Option (List ℕ)) (answer : Status) : Type 0 where
   -- the whole answer: the outcome's status, and all of its text
@@ -208,6 +266,8 @@ pub record AnswersWords
     (words : List (List ℕ)) (input_old input_new : Input) (output_old output_new : Output) (answer : Status) : Type 0 where
   -- the word is `play`
   pub play : is_play words ≡ true → AnswersPlay (left input_old) (left input_new) (held output_old) (held output_new) answer
+  -- the word is `run`
+  pub run : is_run words ≡ true → AnswersRun (left input_old) (left input_new) (held output_old) (held output_new) answer
   -- the word is `show`
   pub show : is_show words ≡ true → AnswersShow (left input_old) (left input_new) (held output_old) (held output_new) answer
   -- the word is `check`

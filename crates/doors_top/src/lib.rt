@@ -2,9 +2,11 @@
 #![tactic(auto)]
 
 pub mod check;
+pub mod laws;
 pub mod play;
 pub mod reading;
 pub mod reply;
+pub mod run;
 pub mod script_in;
 pub mod show;
 pub mod status;

@@ -16,23 +16,11 @@ use crate::status::Status;
 use dk_base::error::NoMemory;
 use dk_base::number::Tid;
 use script_lang::script::Script;
-use script_requests::ending::Ending;
 use std::alloc::Global;
 use sys_run::laws;
 use sys_run::sys::{Played, Sys};
 use thread_machine::later::later;
 use trace_text::{text_before_refused, text_of_run};
-
-fn status_of(ending: Ending) -> Status
-    ensures value { result ≡ status_of_ending ending }
-    ensures answer { IsAnswer result }
-{
-    match ending {
-        Ending::Complete => Status::Complete,
-        Ending::Stalled => Status::Stalled,
-        Ending::Budget => Status::Budget,
-    }
-}
 
 /// The text of a run that ends after its last turn.
 fn reply_at_end(alloc: Global, sys: &Sys) -> Result<Reply, NoMemory>
@@ -44,7 +32,7 @@ fn reply_at_end(alloc: Global, sys: &Sys) -> Result<Reply, NoMemory>
     let waiting = sys.waiting()?;
     let text = text_of_run(alloc, sys.script(), sys.journal(), ending, &waiting)?;
     Ok(Reply {
-        status: status_of(ending),
+        status: Status::of_ending(ending),
         text,
     })
 }

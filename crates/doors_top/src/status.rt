@@ -1,15 +1,18 @@
 ghost use Rattle.std.specs.Prelude.{◌≡◌};
 ghost use Rattle.std.specs.Option.{option_copied};
-ghost use Rattle.doors_top.specs.Status.{status_code, status_message};
+ghost use Rattle.doors_top.specs.Status.{status_code, status_message, status_of_ending};
+ghost use Rattle.doors_top.specs.Top.{IsAnswer};
+
+use script_requests::ending::Ending;
 
 /// How a command ended.
 #[derive(Clone, Copy, Debug, PartialEq, Eq)]
 pub enum Status {
-    /// `play`: no thread can go on, and none waits for another. `show`: the input is a script. `check`: the trace is that of a legal run.
+    /// `play`, `run`: no thread can go on, and none waits for another. `show`: the input is a script. `check`: the trace is that of a legal run.
     Complete,
     /// No thread can go on, and some wait in a call, at a port or for a path.
     Stalled,
-    /// The input is no script, or too long, or a script that cannot be played yet, or one without a line `trace` for `check`.
+    /// The input is no script, or too long, or a script that cannot be run yet, or one without a line `trace` for `check`.
     Script,
     /// The words are no command.
     Usage,
@@ -28,6 +31,18 @@ pub enum Status {
 }
 
 impl Status {
+    /// The status of a run that ended so.
+    pub(crate) fn of_ending(ending: Ending) -> Self
+        ensures value { result ≡ status_of_ending ending }
+        ensures answer { IsAnswer result }
+    {
+        match ending {
+            Ending::Complete => Status::Complete,
+            Ending::Stalled => Status::Stalled,
+            Ending::Budget => Status::Budget,
+        }
+    }
+
     /// The exit status.
     pub fn code(self) -> u8
         ensures { result ≡ status_code self }
@@ -52,7 +67,7 @@ impl Status {
     {
         match self {
             Status::Usage => Some(
-                "doors: give one word, play, show or check, and a script as the input (check: a script, a line trace and a trace); read on in README.md (run and load are not built yet)",
+                "doors: give one word, play, run, show or check, and a script as the input (check: a script, a line trace and a trace); read on in README.md (load is not built yet)",
             ),
             Status::Memory => Some("doors: out of memory"),
             Status::ReadFault => Some("doors: the standard input could not be read"),

@@ -3,13 +3,14 @@ ghost use Rattle.std.specs.Prelude.{◌≡◌, ◌≢◌, false};
 ghost use Rattle.std.specs.Io.KnownBytes.{Appends};
 ghost use Rattle.dk_base.specs.Words.{Rose};
 ghost use Rattle.doors_top.specs.Outcomes.{texts, is_check, is_play, is_run, is_show};
-ghost use Rattle.doors_top.specs.Top.{AnswersCheck, AnswersPlay, AnswersShow, AnswersUsage, AnswersWords, IsAnswer, LeavesInput, LeavesOutput};
+ghost use Rattle.doors_top.specs.Top.{AnswersCheck, AnswersPlay, AnswersRun, AnswersShow, AnswersUsage, AnswersWords, IsAnswer, LeavesInput, LeavesOutput};
 ghost use Rattle.doors_top.specs.Output.{AppendsFront};
 
 use crate::check::check;
 use crate::play::play;
 use crate::reading::{ReadingFault, read_all};
 use crate::reply::{Reply, fixed_reply};
+use crate::run::run;
 use crate::script_in::{CHECK_LIMIT, SCRIPT_LIMIT};
 use crate::show::show;
 use crate::status::Status;
@@ -125,6 +126,27 @@ fn check_input<S: Source, O: Sink>(alloc: Global, src: &mut S, out: &mut O) -> S
     }
 }
 
+fn run_input<R: Threads + Wait + Sync, S: Source, O: Sink, G: Gate + Sync>(
+    rt: &R,
+    alloc: Global,
+    src: &mut S,
+    out: &mut O,
+    gate: &G,
+) -> Status
+    ensures answer { AnswersRun (S.left src.old) (S.left src.new) (O.held out.old) (O.held out.new) result }
+    ensures input { LeavesInput S.left S.faults src.old src.new result }
+    ensures output { LeavesOutput O.faults out.old out.new result }
+{
+    match read_all(alloc, src, SCRIPT_LIMIT) {
+        Ok(read) => match run(rt, alloc, &read, gate) {
+            Ok(reply) => write_reply(out, &reply),
+            Err(_) => Status::Memory,
+        },
+        Err(ReadingFault::Memory) => Status::Memory,
+        Err(ReadingFault::Failed) => Status::ReadFault,
+    }
+}
+
 /// The commands but `run`. `play` reads a script to the end of the input and writes the trace of the run that its turns
 /// make; `show` writes the canonical text of a script; `check` reads a script, the line `trace` and a trace, and writes whether
 /// that is the trace of a legal run of the script. Other words are answered with the usage line, and nothing is read.
@@ -150,20 +172,22 @@ pub fn plain_main<S: Source, O: Sink>(
     }
 }
 
-/// The top call: what the program does, from its words to its exit status. `run` is not built yet and is answered as
-/// words that are no command; all other words are those of `plain_main`. The promise is the same.
+/// The top call: what the program does, from its words to its exit status. `run` reads a script to the end of the input, drives
+/// each of its threads on a thread of its own, or on the calling one where none could be started, and writes the trace of the run
+/// that they made, and the line `tail N`. A driver passes the gate before it looks for its turn. All other words are those of
+/// `plain_main`. The promise is the same, and holds where the call returns: with `run` it may wait.
 pub fn doors_main<R: Threads + Wait + Sync, S: Source, O: Sink, G: Gate + Sync>(
-    _rt: &R,
+    rt: &R,
     alloc: Global,
     words: &[&str],
     src: &mut S,
     out: &mut O,
-    _gate: &G,
+    gate: &G,
 ) -> Status
     ensures { AnswersWords S.left S.faults O.held O.faults (texts words.now) src.old src.new out.old out.new result }
 {
     if is_run_word(words) {
-        write_usage(alloc, out)
+        run_input(rt, alloc, src, out, gate)
     } else {
         plain_main(alloc, words, src, out)
     }

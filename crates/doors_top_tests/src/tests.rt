@@ -67,7 +67,7 @@ const CANONICAL: &str =
     "doors script 1\nbudget 100000\nprocess a limit 256\nthread t\nsend 3 1 2\nreturn \"A\\x0a\" + $v desc $d!\nend\n";
 
 /// The words and the input, and then how many of its bytes are left, the output and the status.
-const ANSWERS: [(&[&str], &str, usize, &str, Status); 13] = [
+const ANSWERS: [(&[&str], &str, usize, &str, Status); 19] = [
     (&["play"], ECHO, 0, ECHO_TRACE, Status::Complete),
     (&["show"], SPACED, 0, CANONICAL, Status::Complete),
     // a wait that nothing ends
@@ -106,8 +106,52 @@ const ANSWERS: [(&[&str], &str, usize, &str, Status); 13] = [
         "usage: doors play|run|show|check|load N\n",
         Status::Usage,
     ),
+    // the schedule is passed over
     (
         &["run"],
+        "doors script 1\nprocess p\nthread t\nend\nschedule t t\n",
+        0,
+        "1 t t exit ok\nend complete 1\ntail 0\n",
+        Status::Complete,
+    ),
+    // no thread to start
+    (
+        &["run"],
+        "doors script 1\n",
+        0,
+        "end complete 0\ntail 0\n",
+        Status::Complete,
+    ),
+    (
+        &["run"],
+        "doors script 1\nprocess p\nthread t\nawait never\nend\n",
+        0,
+        "1 t t await wait\nend stalled 1 t\ntail 0\n",
+        Status::Stalled,
+    ),
+    (
+        &["run"],
+        "doors script 1\nbudget 2\nprocess p\nthread t\nrepeat 9\nopen d x\nend\nend\n",
+        0,
+        "1 t t open ENOENT\n2 t t open ENOENT\nend budget 2\ntail 0\n",
+        Status::Budget,
+    ),
+    (
+        &["run"],
+        "doors script 1\nprocess a\nthread t\nrepeat 2\nend\nend\n",
+        0,
+        "bad line 5 body\n",
+        Status::Script,
+    ),
+    (
+        &["run"],
+        "doors script 1\nprocess a\nspare s\n",
+        0,
+        "bad line 0 later\n",
+        Status::Script,
+    ),
+    (
+        &["run", "run"],
         ECHO,
         166,
         "usage: doors play|run|show|check|load N\n",
@@ -164,27 +208,32 @@ fn commands_are_answered(rt: HostRuntime) -> Result<(), Fail> {
     Ok(())
 }
 
-/// The word, the read and the write of five bytes that fail, and then how many bytes of the input are left, the output and
-/// the status.
-const FAULTS: [(&str, (u64, u64), usize, &str, Status); 6] = [
-    ("play", (9, 0), 126, "", Status::ReadFault),
-    ("play", (0, 3), 0, "1 s s crea", Status::WriteFault),
-    ("show", (9, 0), 126, "", Status::ReadFault),
-    ("show", (0, 3), 0, "doors scri", Status::WriteFault),
-    ("check", (9, 0), 126, "", Status::ReadFault),
-    ("check", (0, 3), 0, "bad line 1", Status::WriteFault),
+/// One thread that exits, in 38 bytes.
+const EXIT: &str = "doors script 1\nprocess p\nthread t\nend\n";
+
+/// The word, the input, the read and the write of five bytes that fail, and then how many bytes of the input are left, the
+/// output and the status.
+const FAULTS: [(&str, &str, (u64, u64), usize, &str, Status); 8] = [
+    ("play", ECHO, (9, 0), 126, "", Status::ReadFault),
+    ("play", ECHO, (0, 3), 0, "1 s s crea", Status::WriteFault),
+    ("run", EXIT, (3, 0), 28, "", Status::ReadFault),
+    ("run", EXIT, (0, 3), 0, "1 t t exit", Status::WriteFault),
+    ("show", ECHO, (9, 0), 126, "", Status::ReadFault),
+    ("show", ECHO, (0, 3), 0, "doors scri", Status::WriteFault),
+    ("check", ECHO, (9, 0), 126, "", Status::ReadFault),
+    ("check", ECHO, (0, 3), 0, "bad line 1", Status::WriteFault),
 ];
 
 #[test]
 fn reads_and_writes_fail(rt: HostRuntime) -> Result<(), Fail> {
     let alloc = rt.alloc();
-    for (word, failing, left, output, status) in FAULTS {
+    for (word, input, failing, left, output, status) in FAULTS {
         let expected = Expected {
             left,
             output,
             status,
         };
-        let is_cut = is_answer(&rt, alloc, &[word], ECHO, 5, failing, &expected)?;
+        let is_cut = is_answer(&rt, alloc, &[word], input, 5, failing, &expected)?;
         assert!(rt; is_cut, "{word}: {output}");
     }
     Ok(())
