@@ -1,6 +1,7 @@
 -- Door calls, in the order in which they were made. A call is looked up by its stage, with its number or its thread. A writer
 -- moves the first such call to its next stage; where there is none it changes nothing.
 use Rattle.std.specs.Prelude.{ℕ, ◌++◌, List, [], ◌∷◌, Bool, true, false, ◌==◌, ◌&&◌, ◌||◌, not, if◌then◌else◌, filter}
+use Rattle.dk_base.specs.declared.error.Errno.TheVariants.{EMFILE}
 use Rattle.dk_base.specs.declared.object.Obj.{Obj}
 use Rattle.kernel_records.specs.declared.record.Call.{Call}
 use Rattle.kernel_records.specs.declared.record.CallStage.{CallStage}
@@ -86,6 +87,10 @@ give_call tree c u = record tree { calls = change_first (is_queued_as c) (at_sta
 
 abbrev pub enter_call : CallTree → ℕ → ℕ → CallTree
 enter_call tree c t = record tree { calls = change_first (is_given_as c t) (without_arguments_at (stage.Entered (tid t))) tree.calls }
+
+-- the call that a thread was given ends EMFILE
+abbrev pub fail_call : CallTree → ℕ → ℕ → CallTree
+fail_call tree c t = record tree { calls = change_first (is_given_as c t) (without_arguments_at (stage.Ended EMFILE)) tree.calls }
 
 -- the client's call is returned; without a client nothing changes
 abbrev pub return_call : CallTree → ℕ → List ℕ → List Obj → CallTree

@@ -2,6 +2,7 @@ pub mod Numbers
 pub mod Refusals
 pub mod ProcessTable
 pub mod Tables
+pub mod Passing
 pub mod Names
 pub mod Doors
 pub mod Calls

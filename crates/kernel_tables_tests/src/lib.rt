@@ -1,4 +1,4 @@
-//! Tests of the tables of the kernel: descriptors, names, processes and threads, doors.
+//! Tests of the tables of the kernel: descriptors, and those that are passed, names, processes and threads, doors.
 #![tactic(auto)]
 
 #[cfg(test)]
@@ -7,5 +7,7 @@ mod descriptors;
 mod doors;
 #[cfg(test)]
 mod names;
+#[cfg(test)]
+mod passing;
 #[cfg(test)]
 mod processes;
