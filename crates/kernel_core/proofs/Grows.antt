@@ -1,16 +1,18 @@
--- What an act and what follows it add to a state: a door and a call at most, and calls of few bytes.
+-- What an act and what follows it add to a state: a door and a call at most, and calls of few bytes and objects.
 use Rattle.std.proofs.Common.{◌≡◌, ℕ, suc, ◌+◌, ◌≤◌, ◌&&◌, ◌++◌, Bool, true, false, if◌then◌else◌, not, nat_lt, is_some, List, [], ◌∷◌, Option, Some, None, length, map, find, filter, refl, ap, ◌∙◌, subst, sym, arith, length-append, ◌||◌}
-use Rattle.std.proofs.lemmas.Bool.{ltb-false}
+use Rattle.std.specs.List.{cons_option}
+use Rattle.std.proofs.lemmas.Bool.{ltb-false, or_parts}
 use Rattle.std.proofs.lemmas.List.{length-map}
-use Rattle.written_kernel.specs.Types.{Attrs, Call, CallStage, Door, Errno, Fd, Item, Name, Parked, Pass, PathId, Process, Request, Thread, ThreadState, Waiting, Param}
-use Rattle.dk_base.specs.declared.error.Errno.TheVariants.{EBADF, E2BIG, ENFILE, ENOBUFS, ENOTSUP}
+use Rattle.written_kernel.specs.Types.{Attrs, Call, CallStage, Door, Errno, Fd, Item, Name, Obj, Parked, Pass, PathId, Process, Request, Thread, ThreadState, Waiting, Param}
+use Rattle.dk_base.specs.declared.error.Errno.TheVariants.{EBADF, E2BIG, EMFILE, ENFILE, ENOBUFS, ENOTSUP}
 use Rattle.dk_base.specs.declared.object.Item.TheVariants as item
 use Rattle.dk_base.specs.declared.request.Request.TheVariants as request
+use Rattle.dk_base.specs.declared.answer.Answer.TheVariants as answer
 use Rattle.kernel_records.specs.declared.record.ThreadState.TheVariants as is
 use Rattle.kernel_records.specs.declared.record.CallStage.TheVariants as stage
 use Rattle.dk_base.specs.ByNumber.{at_number}
-use Rattle.kernel_records.specs.Words.{CallTree, ProcessTable, at_stage, change_first, change_thread, change_thread_in, end_process, ended_thread, ended_thread_of, first_refusal, idle_thread, is_client_call_of, is_given_as, is_last, is_live_call, is_owned_by, is_queued, is_queued_as, is_to_collect_as, thread_at, thread_at_state, thread_in_invocation, tid, with_ended, with_ended_threads, without_arguments_at, Test, change_door, change_door_in, refused_where, with_param, has_refused_size, has_too_many, is_valid_in, refuses_descriptors_in}
-use Rattle.written_kernel.specs.Words.{ActResult, StandsFor, State, accept, accept_call, act, attach, await, await_name, call, call_tests, client_call, collect, collect_answer, collect_answer_in, create, door_named, effect, ended_call, enter, exit, find_call, give_each, give_one, give_to, go_on, leave_process, leave_thread, name_of, new_call, no_act, now, object_at, open_path, pick, pool_of, process_of, refusal_of, refused_act, return, return_tests, settle, state_of, unless_refused, waiting_items, close, dup, detach, set_parameter, door_at, door_of, pool_tests}
+use Rattle.kernel_records.specs.Words.{CallTree, ProcessTable, at_stage, change_first, change_thread, change_thread_in, end_process, ended_thread, ended_thread_of, first_refusal, idle_thread, insert_row, is_client_call_of, is_given_as, is_last, is_live_call, is_owned_by, is_queued, is_queued_as, is_to_collect_as, new_descriptors, object_passed, objects_passed, thread_at, thread_at_state, thread_in_invocation, tid, with_ended, with_ended_threads, without_arguments_at, Test, change_door, change_door_in, refused_where, with_param, has_refused_size, has_too_many, is_valid_in, refuses_descriptors_in}
+use Rattle.written_kernel.specs.Words.{ActResult, StandsFor, State, accept, accept_call, act, attach, await, await_name, begin_call, call, call_tests, client_call, collect, collect_answer, collect_answer_in, create, door_named, effect, ended_call, enter, exit, fail_begin, find_call, give_each, give_one, give_to, go_on, has_room, leave_process, leave_thread, name_of, new_call, no_act, now, object_at, objects_collected_in, open_path, pass_tests, pick, pool_of, process_of, refusal_of, refused_act, return, return_tests, settle, state_of, table_of, tables_after_collect, tables_after_pass, tables_with, unless_refused, waiting_items, close, dup, detach, set_parameter, door_at, door_of, pool_tests}
 use Rattle.written_kernel.proofs.Lists.{length-with_at_number}
 use Rattle.kernel_core.specs.Within.{IsSmallStage, IsSmallCall, AreSmall, IsSmall}
 
@@ -20,11 +22,11 @@ pub record Grows (k : ℕ) (m n : State) : Type 0 where
   pub doors : length n.doors ≤ length m.doors + k
   pub calls_made : n.call_tree.made ≤ m.call_tree.made + k
   pub events : n.events ≡ m.events
-  pub bytes : AreSmall m.call_tree.calls → AreSmall n.call_tree.calls
+  pub small : AreSmall m.call_tree.calls → AreSmall n.call_tree.calls
 
 pub grows_same : (k : ℕ) (m : State) → Grows k m m
 grows_same k m =
-    record { threads = refl; calls = omega arith; doors = omega arith; calls_made = omega arith; events = refl; bytes = λ h. h }
+    record { threads = refl; calls = omega arith; doors = omega arith; calls_made = omega arith; events = refl; small = λ h. h }
 
 pub grows_then : (k j i : ℕ) (m n o : State) → k ≡ j + i → Grows j m n → Grows i n o → Grows k m o
 grows_then k j i m n o e g h =
@@ -34,7 +36,7 @@ grows_then k j i m n o e g h =
       doors = omega (arith, g.doors, h.doors);
       calls_made = omega (arith, g.calls_made, h.calls_made);
       events = h.events ∙ g.events;
-      bytes = λ s. h.bytes (g.bytes s);
+      small = λ s. h.small (g.small s);
     }
 
 -- threads
@@ -62,7 +64,7 @@ thread-grows k m t change =
       doors = omega arith;
       calls_made = omega arith;
       events = refl;
-      bytes = λ h. h;
+      small = λ h. h;
     }
 
 -- calls
@@ -121,28 +123,28 @@ grows_kept k m n o g e = subst (Grows k m) (sym e) (record {
   doors = g.doors;
   calls_made = g.calls_made;
   events = g.events;
-  bytes = λ h. filter-small is_live_call n.call_tree.calls (g.bytes h);
+  small = λ h. filter-small is_live_call n.call_tree.calls (g.small h);
 })
 
 without_arguments_at-small : (r : Call) (s : CallStage) → IsSmallStage s → IsSmallCall (without_arguments_at s r)
-without_arguments_at-small r s h = record { arguments = omega arith; results = h }
+without_arguments_at-small r s h = record { arguments = omega arith; objects = omega arith; results = h }
 
--- an act that changes one thread and one call
+-- an act that changes one thread, tables and one call
 call-grows :
-    (m : State) (t : ℕ) (turn : Thread → Thread) (test : Call → Bool) (change : Call → Call) →
+    (m : State) (t : ℕ) (turn : Thread → Thread) (tables : List (List (Option Obj))) (test : Call → Bool) (change : Call → Call) →
     (AreSmall m.call_tree.calls → AreSmall (change_first test change m.call_tree.calls)) →
-    Grows 1 m (record m { process_table = change_thread m.process_table t turn; call_tree = record m.call_tree { calls = change_first test change m.call_tree.calls } })
-call-grows m t turn test change s =
+    Grows 1 m (record m { process_table = change_thread m.process_table t turn; tables = tables; call_tree = record m.call_tree { calls = change_first test change m.call_tree.calls } })
+call-grows m t turn tables test change s =
     record {
       threads = length-change_thread m.process_table t turn;
       calls = omega (arith, length-change_first test change m.call_tree.calls);
       doors = omega arith;
       calls_made = omega arith;
       events = refl;
-      bytes = s;
+      small = s;
     }
 
--- acts: what they add, and answers of few bytes
+-- acts: what they add, and answers of few bytes and descriptors
 
 pub record IsTidy (m : State) (a : ActResult) : Type 0 where
   pub grows : Grows 1 m a.state
@@ -166,7 +168,7 @@ door-tidy m n a e threads calls events doors small =
             doors = doors;
             calls_made = let same = ap (λ (tree : CallTree). tree.made) calls in omega arith;
             events = events;
-            bytes = λ h. subst AreSmall (ap (λ (tree : CallTree). tree.calls) (let back : m.call_tree ≡ n.call_tree = cc in back)) h;
+            small = λ h. subst AreSmall (ap (λ (tree : CallTree). tree.calls) (let back : m.call_tree ≡ n.call_tree = cc in back)) h;
           });
       small = λ h. small;
     }
@@ -217,15 +219,34 @@ passes : (b : Bool) (e : Errno) (xs : List Test) → first_refusal (refused_wher
 passes true e xs h = absurd (grind arith)
 passes false e xs h = (refl, h)
 
--- the bytes of a call that is not refused
-few_bytes : (m : State) (p : ℕ) (fd : Fd) (bytes : List ℕ) (pass : List Pass) → first_refusal (call_tests m p fd bytes pass) ≡ None → length bytes ≤ 4096
-few_bytes m p fd bytes pass e =
+-- few of these bytes and descriptors
+abbrev IsFew : List ℕ → List Pass → Type 0
+IsFew bytes pass = (length bytes ≤ 4096) × (length pass ≤ 16)
+
+few_of : (bytes : List ℕ) (pass : List Pass) → (nat_lt 4096 (length bytes) || nat_lt 16 (length pass)) ≡ false → IsFew bytes pass
+few_of bytes pass h =
+    let parts = or_parts (nat_lt 4096 (length bytes)) (nat_lt 16 (length pass)) h in (
+      ltb-false 4096 (length bytes) parts.0,
+      ltb-false 16 (length pass) parts.1,
+    )
+
+few_more : (n : ℕ) (o : Option Obj) (os : List Obj) → length os ≤ n → length (cons_option o os) ≤ suc n
+few_more n None os h = omega arith
+few_more n (Some p) os h = omega arith
+
+few_passed : (table : List (Option Obj)) (pass : List Pass) → length (objects_passed table pass) ≤ length pass
+few_passed table [] = omega arith
+few_passed table (x ∷ xs) = few_more (length xs) (object_passed table x) (objects_passed table xs) (few_passed table xs)
+
+-- what goes with a call that is not refused
+few_arguments :
+    (m : State) (p : ℕ) (fd : Fd) (bytes : List ℕ) (pass : List Pass) → first_refusal (call_tests m p fd bytes pass) ≡ None → IsFew bytes pass
+few_arguments m p fd bytes pass e =
     let valid = passes (not (is_valid_in o)) EBADF from_size e in
     let size = passes (has_refused_size n o) ENOBUFS from_refusing valid.1 in
     let refusing = passes (nat_lt 0 k && refuses_descriptors_in o) ENOTSUP from_many size.1 in
     let many = passes (has_too_many k o) ENFILE from_long refusing.1 in
-    let long = passes (nat_lt 4096 n || nat_lt 16 k) E2BIG (pool_tests m d) many.1 in
-    go (nat_lt 4096 n) (nat_lt 16 k) refl long.0
+    few_of bytes pass (passes (nat_lt 4096 n || nat_lt 16 k) E2BIG (pass_tests m p pass ++ pool_tests m d) many.1).0
   where
     d : ℕ
     d = door_named (object_at m p fd)
@@ -240,7 +261,7 @@ few_bytes m p fd bytes pass e =
     k = length pass
 
     from_long : List Test
-    from_long = refused_where (nat_lt 4096 n || nat_lt 16 k) E2BIG ∷ pool_tests m d
+    from_long = refused_where (nat_lt 4096 n || nat_lt 16 k) E2BIG ∷ pass_tests m p pass ++ pool_tests m d
 
     from_many : List Test
     from_many = refused_where (has_too_many k o) ENFILE ∷ from_long
@@ -251,15 +272,12 @@ few_bytes m p fd bytes pass e =
     from_size : List Test
     from_size = refused_where (has_refused_size n o) ENOBUFS ∷ from_refusing
 
-    go : (a b : Bool) → nat_lt 4096 (length bytes) ≡ a → (a || b) ≡ false → length bytes ≤ 4096
-    go true b q h = absurd (grind arith)
-    go false b q h = ltb-false 4096 (length bytes) q
-
 call-tidy :
-    (m : State) (t p : ℕ) (fd : Fd) (bytes : List ℕ) (pass : List Pass) (rsize : ℕ) → length bytes ≤ 4096 →
+    (m : State) (t p : ℕ) (fd : Fd) (bytes : List ℕ) (pass : List Pass) (rsize : ℕ) → IsFew bytes pass →
     IsTidy m (call m t p fd bytes pass rsize)
 call-tidy m t p fd bytes pass rsize few =
-    let r = new_call m t (door_named (object_at m p fd)) bytes [] rsize in
+    let objects = objects_passed (table_of m p) pass in
+    let r = new_call m t (door_named (object_at m p fd)) bytes objects rsize in
     record {
       grows =
           record {
@@ -268,7 +286,7 @@ call-tidy m t p fd bytes pass rsize few =
             doors = omega arith;
             calls_made = omega arith;
             events = refl;
-            bytes = λ h. push-small m.call_tree.calls r (record { arguments = few; results = tt }) h;
+            small = λ h. push-small m.call_tree.calls r (record { arguments = few.0; objects = omega (arith, few.1, few_passed (table_of m p) pass); results = tt }) h;
           };
       small = λ h. tt;
     }
@@ -276,52 +294,85 @@ call-tidy m t p fd bytes pass rsize few =
 -- the results of a return that is not refused go to a client only where they are few
 few_results :
     (m : State) (t p : ℕ) (bytes : List ℕ) (pass : List Pass) → first_refusal (return_tests m t p bytes pass) ≡ None →
-    is_some (client_call m t) ≡ true → length bytes ≤ 4096
-few_results m t p bytes pass e h = go (is_some (client_call m t)) (nat_lt 4096 (length bytes)) (nat_lt 16 (length pass)) refl h e
+    is_some (client_call m t) ≡ true → IsFew bytes pass
+few_results m t p bytes pass e h =
+    few_of bytes pass
+    (with_client (is_some (client_call m t)) (nat_lt 4096 (length bytes) || nat_lt 16 (length pass)) h
+    (passes (is_some (client_call m t) && (nat_lt 4096 (length bytes) || nat_lt 16 (length pass))) E2BIG (pass_tests m p pass) e).0)
   where
-    go :
-        (there many over : Bool) → nat_lt 4096 (length bytes) ≡ many → there ≡ true →
-        (if there && (many || over) then Some E2BIG else None) ≡ None → length bytes ≤ 4096
-    go true true over q f e = cc
-    go true false over q f e = ltb-false 4096 (length bytes) q
-    go false many over q f e = cc
+    with_client : (there many : Bool) → there ≡ true → (there && many) ≡ false → many ≡ false
+    with_client true many f g = g
+    with_client false many f g = cc
 
 return-tidy :
     (m : State) (t p : ℕ) (bytes : List ℕ) (pass : List Pass) → first_refusal (return_tests m t p bytes pass) ≡ None →
     IsTidy m (return m t p bytes pass)
 return-tidy m t p bytes pass e =
+    let objects = objects_passed (table_of m p) pass in
+    let returned = stage.Returned bytes objects in
     record {
       grows =
-          call-grows m t (idle_thread (now m)) (is_client_call_of t) (without_arguments_at (stage.Returned bytes []))
-          (change_found-small (is_client_call_of t) (without_arguments_at (stage.Returned bytes [])) m.call_tree.calls
-          (λ f r h. without_arguments_at-small r (stage.Returned bytes []) (few_results m t p bytes pass e f)));
+          call-grows m t (idle_thread (now m)) (tables_after_pass m p pass) (is_client_call_of t) (without_arguments_at returned)
+          (change_found-small (is_client_call_of t) (without_arguments_at returned) m.call_tree.calls
+          (λ f r h.
+          let few = few_results m t p bytes pass e f in
+          without_arguments_at-small r returned (few.0, omega (arith, few.1, few_passed (table_of m p) pass))));
       small = λ h. tt;
     }
+
+-- each object gets one descriptor
+length-new_descriptors : (table : List (Option Obj)) (objects : List Obj) → length (new_descriptors table objects) ≡ length objects
+length-new_descriptors table [] = refl
+length-new_descriptors table (o ∷ os) = ap suc (length-new_descriptors (insert_row table o) os)
+
+-- a call that a thread was given, at another stage
+given-grows :
+    (m : State) (t c : ℕ) (turn : Thread → Thread) (tables : List (List (Option Obj))) (s : CallStage) → IsSmallStage s →
+    Grows 1 m (record m { process_table = change_thread m.process_table t turn; tables = tables; call_tree = record m.call_tree { calls = change_first (is_given_as c t) (without_arguments_at s) m.call_tree.calls } })
+given-grows m t c turn tables s few =
+    call-grows m t turn tables (is_given_as c t) (without_arguments_at s)
+    (change_first-small (is_given_as c t) (without_arguments_at s) (λ x h. without_arguments_at-small x s few) m.call_tree.calls)
 
 accept-tidy : (m : State) (t p : ℕ) (i : Item) → IsTidy m (accept m t p i)
 accept-tidy m t p (item.Call c) = go (find_call m (is_given_as c t)) refl
   where
-    go : (o : Option Call) → find_call m (is_given_as c t) ≡ o → IsTidy m (accept_call m t c o)
-    go None e = no_act-tidy m
-    go (Some r) e =
+    begins :
+        (r : Call) (b : Bool) → (AreSmall m.call_tree.calls → IsSmallCall r) →
+        IsTidy m (if b then begin_call m t p c r else fail_begin m t c r)
+    begins r true few =
         record {
-          grows =
-              call-grows m t (thread_in_invocation (item.Call c)) (is_given_as c t) (without_arguments_at (stage.Entered (tid t)))
-              (change_first-small (is_given_as c t) (without_arguments_at (stage.Entered (tid t)))
-              (λ x h. without_arguments_at-small x (stage.Entered (tid t)) tt) m.call_tree.calls);
-          small = λ h. ((find-small (is_given_as c t) m.call_tree.calls r e h).arguments, omega arith);
+          grows = given-grows m t c (thread_in_invocation (item.Call c)) (tables_with m p r.objects) (stage.Entered (tid t)) tt;
+          small = λ h. ((few h).arguments, omega (arith, (few h).objects, length-new_descriptors (table_of m p) r.objects));
         }
+    begins r false few =
+        record {
+          grows = given-grows m t c (idle_thread (now m)) m.tables (stage.Ended EMFILE) tt;
+          small = λ h. tt;
+        }
+
+    go : (o : Option Call) → find_call m (is_given_as c t) ≡ o → IsTidy m (accept_call m t p c o)
+    go None e = no_act-tidy m
+    go (Some r) e = begins r (has_room m p r.objects) (find-small (is_given_as c t) m.call_tree.calls r e)
 accept-tidy m t p (item.Notice n) = no_act-tidy m
 
-collect_answer-small : (m : State) (c : ℕ) → AreSmall m.call_tree.calls → IsSmall (collect_answer_in (find_call m (is_to_collect_as c)))
-collect_answer-small m c h = go (find_call m (is_to_collect_as c)) refl
+collect_answer-small : (m : State) (p c : ℕ) → AreSmall m.call_tree.calls → IsSmall (collect_answer_in m p (find_call m (is_to_collect_as c)))
+collect_answer-small m p c h = go (find_call m (is_to_collect_as c)) refl
   where
-    at : (r : Call) (s : CallStage) → IsSmallStage s → IsSmall (collect_answer r s)
-    at r (stage.Returned bytes objects) few = (few, omega arith)
+    results :
+        (r : Call) (bytes : List ℕ) (objects : List Obj) (b : Bool) → IsSmallStage (stage.Returned bytes objects) →
+        IsSmall
+        (if b
+        then answer.Results bytes (new_descriptors (table_of m p) objects) (nat_lt r.rsize (length bytes))
+        else answer.Failure EMFILE)
+    results r bytes objects true few = (few.0, omega (arith, few.1, length-new_descriptors (table_of m p) objects))
+    results r bytes objects false few = tt
+
+    at : (r : Call) (s : CallStage) → IsSmallStage s → IsSmall (collect_answer m p r s)
+    at r (stage.Returned bytes objects) few = results r bytes objects (has_room m p objects) few
     at r (stage.Ended e) few = tt
     at r _ few = tt
 
-    go : (o : Option Call) → find_call m (is_to_collect_as c) ≡ o → IsSmall (collect_answer_in o)
+    go : (o : Option Call) → find_call m (is_to_collect_as c) ≡ o → IsSmall (collect_answer_in m p o)
     go None e = tt
     go (Some r) e = at r r.stage (find-small (is_to_collect_as c) m.call_tree.calls r e h).results
 
@@ -329,10 +380,10 @@ collect-tidy : (m : State) (t p c : ℕ) → IsTidy m (collect m t p c)
 collect-tidy m t p c =
     record {
       grows =
-          call-grows m t (thread_at_state is.Running) (is_to_collect_as c) (without_arguments_at (stage.Answered (now m)))
+          call-grows m t (thread_at_state is.Running) (tables_after_collect m p (objects_collected_in (find_call m (is_to_collect_as c)))) (is_to_collect_as c) (without_arguments_at (stage.Answered (now m)))
           (change_first-small (is_to_collect_as c) (without_arguments_at (stage.Answered (now m)))
           (λ x h. without_arguments_at-small x (stage.Answered (now m)) tt) m.call_tree.calls);
-      small = collect_answer-small m c;
+      small = collect_answer-small m p c;
     }
 
 -- leaving
@@ -354,7 +405,7 @@ leave_process-grows m p =
       doors = omega (arith, length-map m.doors (Rattle.kernel_records.specs.Doors.with_owner_ended p));
       calls_made = omega arith;
       events = refl;
-      bytes = ended_calls-small m.doors p m.call_tree.calls;
+      small = ended_calls-small m.doors p m.call_tree.calls;
     }
 
 exit-tidy : (m : State) (t p : ℕ) → IsTidy m (exit m t p)
@@ -368,7 +419,7 @@ exit-tidy m t p = record { grows = go (is_last m.process_table t p); small = λ 
 
 effect-tidy : (m : State) (t p : ℕ) (r : Request) → refusal_of m t p r ≡ None → IsTidy m (effect m t p r)
 effect-tidy m t p (request.Create entry cookie attrs) e = create-tidy m p entry cookie attrs
-effect-tidy m t p (request.Call fd bytes pass rsize) e = call-tidy m t p fd bytes pass rsize (few_bytes m p fd bytes pass e)
+effect-tidy m t p (request.Call fd bytes pass rsize) e = call-tidy m t p fd bytes pass rsize (few_arguments m p fd bytes pass e)
 effect-tidy m t p (request.Return bytes pass) e = return-tidy m t p bytes pass e
 effect-tidy m t p (request.SetParam fd param value) e = set_parameter-tidy m p fd param value
 effect-tidy m t p (request.Close fd) e = close-tidy m p fd
@@ -408,9 +459,9 @@ give_one-grows m (item.Call c) u =
       doors = omega arith;
       calls_made = omega arith;
       events = refl;
-      bytes =
+      small =
           change_first-small (is_queued_as c) (at_stage (stage.Given (tid u)))
-          (λ r h. record { arguments = h.arguments; results = tt }) m.call_tree.calls;
+          (λ r h. record { arguments = h.arguments; objects = h.objects; results = tt }) m.call_tree.calls;
     }
 give_one-grows m (item.Notice n) u =
     record {
@@ -419,7 +470,7 @@ give_one-grows m (item.Notice n) u =
       doors = omega arith;
       calls_made = omega arith;
       events = refl;
-      bytes = λ h. h;
+      small = λ h. h;
     }
 
 give_to-grows : (m : State) (w : Waiting) (o : Option Parked) → Grows 0 m (give_to m w o)

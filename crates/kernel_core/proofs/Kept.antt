@@ -147,7 +147,7 @@ pub thread_kept :
 thread_kept old new p spare k z there few e = subst IsKept (sym e) (opening_kept (thread p spare there.0 there.1 few (k.opening z)))
 
 within_thread : (m : State) (p : ℕ) (spare : Bool) → IsWithin m → IsWithin (with_new_thread m p spare)
-within_thread m p spare w = record { events = w.events; doors = w.doors; calls_made = w.calls_made; bytes = w.bytes }
+within_thread m p spare w = record { events = w.events; doors = w.doors; calls_made = w.calls_made; small = w.small }
 
 -- another thread of a kernel that has made no event
 pub thread_result :

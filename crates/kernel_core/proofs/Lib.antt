@@ -1,4 +1,5 @@
 pub mod Places
+pub mod Tables
 pub mod Live
 pub mod Idle
 pub mod Grows

@@ -9,7 +9,7 @@ use Rattle.kernel_records.specs.declared.record.ThreadState.TheVariants as is
 use Rattle.kernel_records.specs.declared.record.CallStage.TheVariants as stage
 use Rattle.dk_base.specs.ByNumber.{at_number}
 use Rattle.kernel_records.specs.Words.{at_stage, change_first, is_client_call_of, is_given_as, is_last, is_live_call, is_owned_by, is_queued, is_queued_as, is_to_collect_as, tid, without_arguments_at}
-use Rattle.written_kernel.specs.Words.{State, StandsFor, accept, accept_call, await, await_name, effect, ended_call, enter, exit, find_call, forget, give_each, give_one, give_to, go_on, leave_process, leave_thread, name_of, pick, pool_of, refusal_of, settle, unless_refused, waiting_items}
+use Rattle.written_kernel.specs.Words.{State, StandsFor, accept, accept_call, await, await_name, begin_call, effect, ended_call, enter, exit, fail_begin, find_call, forget, give_each, give_one, give_to, go_on, has_room, leave_process, leave_thread, name_of, pick, pool_of, refusal_of, settle, unless_refused, waiting_items}
 use Rattle.std.proofs.lemmas.List.Quantifiers.{position-Some}
 use Rattle.kernel_core.specs.Kept.{AreLive, HasLiveCalls}
 use Rattle.kernel_core.proofs.Places.{position_is}
@@ -124,9 +124,13 @@ enter_live m t p r h = go (refusal_of m t p r)
 accept_live : (m : State) (t p : ℕ) (i : Item) → HasLiveCalls m → HasLiveCalls (accept m t p i).state
 accept_live m t p (item.Call c) h = go (find_call m (is_given_as c t))
   where
-    go : (o : Option Call) → HasLiveCalls (accept_call m t c o).state
+    begins : (r : Call) (b : Bool) → HasLiveCalls (if b then begin_call m t p c r else fail_begin m t c r).state
+    begins r true = changed_live (is_given_as c t) _ m.call_tree.calls (λ x. refl) h
+    begins r false = changed_live (is_given_as c t) _ m.call_tree.calls (λ x. refl) h
+
+    go : (o : Option Call) → HasLiveCalls (accept_call m t p c o).state
     go None = h
-    go (Some r) = changed_live (is_given_as c t) _ m.call_tree.calls (λ r. refl) h
+    go (Some r) = begins r (has_room m p r.objects)
 accept_live m t p (item.Notice n) h = h
 
 -- the end of a wait forgets no call, but for a collect

@@ -26,12 +26,12 @@ step-within m t r w few =
       events = omega arith;
       doors = omega arith;
       calls_made = omega arith;
-      bytes = filter-small is_live_call (settle m n).call_tree.calls (h.bytes (g.bytes w.bytes));
+      small = filter-small is_live_call (settle m n).call_tree.calls (h.small (g.small w.small));
     }
 
 pub step-small : (m : State) (t : ℕ) (r : Option Request) → IsWithin m → IsSmall (step m t r).answer
 unfolding step
-step-small m t r w = (act-tidy m t r).small w.bytes
+step-small m t r w = (act-tidy m t r).small w.small
 
 pub numbers_left : (m : State) → IsWithin m → m.events < 1000000 → HasNumbersLeft m
 numbers_left m w few = record { events = few; doors = omega arith; calls = omega arith }
@@ -61,10 +61,10 @@ step_small kept new t r (Err e) w h = tt
 with_processes-within : (limits : List ℕ) (m : State) → IsWithin m → IsWithin (with_processes m limits)
 with_processes-within [] m w = w
 with_processes-within (limit ∷ limits) m w =
-    with_processes-within limits (with_new_process m limit) (record { events = w.events; doors = w.doors; calls_made = w.calls_made; bytes = w.bytes })
+    with_processes-within limits (with_new_process m limit) (record { events = w.events; doors = w.doors; calls_made = w.calls_made; small = w.small })
 
 no_process-within : IsWithin no_process
-no_process-within = record { events = omega arith; doors = omega arith; calls_made = omega arith; bytes = tt }
+no_process-within = record { events = omega arith; doors = omega arith; calls_made = omega arith; small = tt }
 
 pub opening-within : (limits : List ℕ) (none m : State) → none ≡ no_process → m ≡ with_processes none limits → IsWithin m
 opening-within limits none m e h = subst IsWithin (sym (h ∙ ap (λ n. with_processes n limits) e)) (with_processes-within limits no_process no_process-within)

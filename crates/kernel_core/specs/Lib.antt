@@ -4,3 +4,4 @@ pub mod Stored
 pub mod Within
 pub mod Woken
 pub mod Ready
+pub mod Handed

@@ -1,4 +1,4 @@
--- What a kernel's numbers and bytes stay within.
+-- What a kernel's numbers, bytes and objects in transit stay within.
 use Rattle.std.specs.Prelude.{◌≤◌, length, List, [], ◌∷◌}
 use Rattle.written_kernel.specs.Types.{Answer, Call, CallStage}
 use Rattle.dk_base.specs.declared.answer.Answer.TheVariants as answer
@@ -7,12 +7,13 @@ use Rattle.dk_base.specs.declared.limits.TheConstants.{DATA_MAX, EVENTS_MAX, PAS
 use Rattle.written_kernel.specs.Words.{State}
 
 abbrev pub IsSmallStage : CallStage → Type 0
-IsSmallStage (stage.Returned bytes objects) = length bytes ≤ DATA_MAX
+IsSmallStage (stage.Returned bytes objects) = (length bytes ≤ DATA_MAX) × (length objects ≤ PASS_MAX)
 IsSmallStage _ = Unit {0}
 
--- the bytes of a call's arguments and of its results are at most 4,096
+-- a call's arguments and its results have at most 4,096 bytes and 16 objects
 pub record IsSmallCall (r : Call) : Type 0 where
   pub arguments : length r.bytes ≤ DATA_MAX
+  pub objects : length r.objects ≤ PASS_MAX
   pub results : IsSmallStage r.stage
 
 abbrev pub AreSmall : List Call → Type 0
@@ -24,7 +25,7 @@ pub record IsWithin (m : State) : Type 0 where
   pub events : m.events ≤ EVENTS_MAX
   pub doors : length m.doors ≤ m.events
   pub calls_made : m.call_tree.made ≤ m.events
-  pub bytes : AreSmall m.call_tree.calls
+  pub small : AreSmall m.call_tree.calls
 
 -- at most 4,096 bytes, 16 descriptors and 64 events
 abbrev pub IsSmall : Answer → Type 0

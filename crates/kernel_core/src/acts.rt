@@ -1,7 +1,8 @@
 //! The act of a turn: an entry, unless it is refused, or the end of a wait.
-ghost use Rattle.std.specs.Prelude.{◌≡◌, [], None, false, true};
+ghost use Rattle.std.specs.Prelude.{◌≡◌, ◌≤◌, [], None, false, length, true};
 ghost use Rattle.kernel_records.specs.Words.{is_done, is_idle};
 ghost use Rattle.written_kernel.specs.Words.{StandsFor, effect, end_work, enter, go_on, is_running, process_of, refusal_of, state_of};
+ghost use Rattle.kernel_core.specs.Handed.{count_passed, objects_at_end};
 ghost use Rattle.kernel_core.specs.Kept.{HasLiveCalls};
 ghost use Rattle.kernel_core.specs.Numbers.{HasNumbersLeft};
 ghost use Rattle.kernel_core.specs.Stored.{HasRoom, stored_state};
@@ -21,8 +22,9 @@ use crate::leaving::exit;
 use crate::store::Store;
 use dk_base::answer::Answer;
 use dk_base::error::Errno;
-use dk_base::list::Bytes;
-use dk_base::number::{Pid, Tid};
+use dk_base::list::{Bytes, Room};
+use dk_base::number::{Fd, Pid, Tid};
+use dk_base::object::Obj;
 use dk_base::request::Request;
 use kernel_records::record::ThreadState;
 use std::alloc::Global;
@@ -55,12 +57,32 @@ fn refusal_of(store: &Store, t: Tid, p: Pid, request: &Request) -> Option<Errno>
     }
 }
 
-/// What an entry of a thread that runs does where it is not refused.
-fn effect(store: &mut Store, alloc: Global, t: Tid, p: Pid, request: Request) -> Answer
+/// How many descriptors an entry passes.
+pub fn count_passed(request: &Request) -> usize
+    ensures { result ≡ count_passed request.now }
+{
+    match request {
+        Request::Call { pass, .. } => pass.len(),
+        Request::Return { pass, .. } => pass.len(),
+        _ => 0,
+    }
+}
+
+/// What an entry of a thread that runs does where it is not refused. What is passed goes into `objects`.
+fn effect(
+    store: &mut Store,
+    alloc: Global,
+    t: Tid,
+    p: Pid,
+    request: Request,
+    objects: Room<Obj>,
+) -> Answer
     requires numbers { HasNumbersLeft (stored_state store.old) }
     requires room { HasRoom store.old }
     requires running { is_running (stored_state store.old) t.0 ≡ true }
     requires allowed { refusal_of (stored_state store.old) t.0 p.0 request ≡ None }
+    requires empty { objects.items ≡ [] }
+    requires spare { count_passed request ≤ objects.spare }
     ensures state { stored_state store.new ≡ (effect (stored_state store.old) t.0 p.0 request).state }
     ensures answer { result ≡ (effect (stored_state store.old) t.0 p.0 request).answer }
 {
@@ -75,8 +97,10 @@ fn effect(store: &mut Store, alloc: Global, t: Tid, p: Pid, request: Request) ->
             bytes,
             pass,
             rsize,
-        } => call(store, alloc, t, p, door, bytes, &pass, rsize),
-        Request::Return { bytes, pass } => return_from(store, alloc, t, p, bytes, &pass),
+        } => call(store, t, p, door, bytes, &pass, rsize, objects),
+        Request::Return { bytes, pass } => {
+            return_from(store, alloc, t, p, bytes, &pass, objects)
+        }
         Request::Info { fd } => information(store, p, fd),
         Request::GetParam { fd, param } => parameter(store, p, fd, param),
         Request::SetParam { fd, param, value } => set_parameter(store, p, fd, param, value),
@@ -92,19 +116,27 @@ fn effect(store: &mut Store, alloc: Global, t: Tid, p: Pid, request: Request) ->
     }
 }
 
-/// A kernel entry of a thread that runs.
-pub fn enter(store: &mut Store, alloc: Global, t: Tid, request: Request) -> Answer
+/// A kernel entry of a thread that runs. What it passes goes into `objects`.
+pub fn enter(
+    store: &mut Store,
+    alloc: Global,
+    t: Tid,
+    request: Request,
+    objects: Room<Obj>,
+) -> Answer
     requires numbers { HasNumbersLeft (stored_state store.old) }
     requires room { HasRoom store.old }
     requires live { HasLiveCalls (stored_state store.old) }
     requires running { is_running (stored_state store.old) t.0 ≡ true }
+    requires empty { objects.items ≡ [] }
+    requires spare { count_passed request ≤ objects.spare }
     ensures state { StandsFor (stored_state store.new) (enter (stored_state store.old) t.0 (process_of (stored_state store.old) t.0) request).state }
     ensures answer { result ≡ (enter (stored_state store.old) t.0 (process_of (stored_state store.old) t.0) request).answer }
 {
     let p = store.processes.process_of(t);
     match refusal_of(store, t, p, &request) {
         Some(errno) => Answer::Failure(errno),
-        None => effect(store, alloc, t, p, request),
+        None => effect(store, alloc, t, p, request, objects),
     }
 }
 
@@ -121,9 +153,12 @@ fn end_work(store: &mut Store, alloc: Global, t: Tid) -> Answer
     }
 }
 
-/// The end of a wait, by what the thread waits for.
-pub fn go_on(store: &mut Store, alloc: Global, t: Tid) -> Answer
+/// The end of a wait, by what the thread waits for. The descriptors that objects get go into `fds`.
+pub fn go_on(store: &mut Store, alloc: Global, t: Tid, fds: Room<Fd>) -> Answer
+    requires numbers { HasNumbersLeft (stored_state store.old) }
     requires live { HasLiveCalls (stored_state store.old) }
+    requires empty { fds.items ≡ [] }
+    requires spare { length (objects_at_end (stored_state store.old) t.0 (state_of (stored_state store.old) t.0)) ≤ fds.spare }
     ensures state { StandsFor (stored_state store.new) (go_on (stored_state store.old) t.0 (process_of (stored_state store.old) t.0) (state_of (stored_state store.old) t.0)).state }
     ensures answer { result ≡ (go_on (stored_state store.old) t.0 (process_of (stored_state store.old) t.0) (state_of (stored_state store.old) t.0)).answer }
 {
@@ -131,11 +166,11 @@ pub fn go_on(store: &mut Store, alloc: Global, t: Tid) -> Answer
     match store.processes.state(t) {
         ThreadState::Given { item } => {
             let item = *item;
-            accept(store, alloc, t, p, item)
+            accept(store, alloc, t, p, item, fds)
         }
         ThreadState::Calling { call } => {
             let call = *call;
-            collect(store, alloc, t, p, call)
+            collect(store, t, p, call, fds)
         }
         ThreadState::Awaiting { .. } => found(store, t),
         ThreadState::Working { .. } => end_work(store, alloc, t),

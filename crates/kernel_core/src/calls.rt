@@ -3,7 +3,7 @@ ghost use Rattle.std.specs.Prelude.{◌≡◌, ◌<◌, [], ℕ, find, map, posi
 ghost use Rattle.std.specs.Option.{option_copied};
 ghost use Rattle.std.specs.List.{list_any};
 ghost use Rattle.dk_base.specs.ByNumber.{at_number};
-ghost use Rattle.kernel_records.specs.Words.{collect_call, enter_call, give_call, is_client_call_of, is_given_as, is_owned_by, is_queued_as, is_to_collect_as, is_served_by, live_calls, open_call, return_call};
+ghost use Rattle.kernel_records.specs.Words.{change_first, collect_call, enter_call, fail_call, give_call, is_client_call_of, is_given_as, is_owned_by, is_queued_as, is_to_collect_as, is_served_by, live_calls, open_call, return_call, without_arguments_at};
 ghost use Rattle.written_kernel.specs.Words.{end_calls, ended_call};
 ghost use Rattle.kernel_core.specs.Kept.{AreLive};
 ghost use Rattle.kernel_core.specs.Stored.{tree_in, without_arguments, given_at};
@@ -187,10 +187,10 @@ impl Calls {
         }
     }
 
-    /// A thread enters the call that it was given. The record as it was is handed out.
+    /// The call that a thread was given goes on to a stage, which its arguments leave. The record as it was is handed out.
     #[tactic(auto, using(crate::proofs::Places::changed_at, crate::proofs::Places::changed_nowhere, crate::proofs::Places::find_at, crate::proofs::Places::find_nowhere))]
-    pub fn enter(&mut self, alloc: Global, c: u32, t: Tid) -> Option<Call>
-        ensures after { tree_in self.new ≡ enter_call (tree_in self.old) c t.0 }
+    fn take_given(&mut self, alloc: Global, c: u32, t: Tid, stage: CallStage) -> Option<Call>
+        ensures after { tree_in self.new ≡ record (tree_in self.old) { calls = change_first (is_given_as c t.0) (without_arguments_at stage) self.old.list.items } }
         ensures before { result ≡ find (is_given_as c t.0) self.old.list.items }
         ensures none { IfNone result (tree_in self.new ≡ tree_in self.old) }
     {
@@ -198,7 +198,26 @@ impl Calls {
             return None;
         };
         let call = &mut self.list[place];
-        Some(move_on(alloc, call, CallStage::Entered { by: t }))
+        Some(move_on(alloc, call, stage))
+    }
+
+    /// A thread enters the call that it was given. The record as it was is handed out.
+    pub fn enter(&mut self, alloc: Global, c: u32, t: Tid) -> Option<Call>
+        ensures after { tree_in self.new ≡ enter_call (tree_in self.old) c t.0 }
+        ensures before { result ≡ find (is_given_as c t.0) self.old.list.items }
+        ensures none { IfNone result (tree_in self.new ≡ tree_in self.old) }
+    {
+        self.take_given(alloc, c, t, CallStage::Entered { by: t })
+    }
+
+    /// The call that a thread was given ends EMFILE. The record as it was is handed out.
+    pub fn fail(&mut self, alloc: Global, c: u32, t: Tid) -> Option<Call>
+        ensures after { tree_in self.new ≡ fail_call (tree_in self.old) c t.0 }
+        ensures before { result ≡ find (is_given_as c t.0) self.old.list.items }
+        ensures none { IfNone result (tree_in self.new ≡ tree_in self.old) }
+    {
+        let error = Errno::EMFILE;
+        self.take_given(alloc, c, t, CallStage::Ended { error })
     }
 
     /// A thread returns to its client, if it has one.

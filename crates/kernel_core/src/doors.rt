@@ -1,9 +1,11 @@
 //! The acts of doors, of calls of them, and of their invocations.
-ghost use Rattle.std.specs.Prelude.{◌≡◌, [], None, false, length, true};
+ghost use Rattle.std.specs.Prelude.{◌≡◌, ◌++◌, ◌≤◌, [], None, false, length, true};
 ghost use Rattle.dk_base.specs.declared.object.Item.TheVariants as item;
 ghost use Rattle.kernel_records.specs.declared.record.ThreadState.TheVariants as is;
 ghost use Rattle.kernel_records.specs.Words.{cookie_of, entry_of, first_refusal, is_done, is_given_as, is_idle, limit_tests, no_cancel_of};
-ghost use Rattle.written_kernel.specs.Words.{StandsFor, accept, accept_call, call, call_tests, collect, collect_answer, create, create_tests, door_of, find_call, is_running, new_call, pool_tests, return, return_tests, state_of};
+ghost use Rattle.written_kernel.specs.Types.{Call};
+ghost use Rattle.written_kernel.specs.Words.{StandsFor, accept, accept_call, call, call_tests, collect, collect_answer_in, create, create_tests, door_of, find_call, has_room, is_running, new_call, objects_collected_in, pass_tests, pool_tests, results_answer, return, return_tests, state_of, tables_after_collect};
+ghost use Rattle.kernel_core.specs.Handed.{objects_at_end, objects_given, objects_to_collect, objects_with};
 ghost use Rattle.kernel_core.specs.Kept.{HasLiveCalls};
 ghost use Rattle.kernel_core.specs.Numbers.{HasNumbersLeft};
 ghost use Rattle.kernel_core.specs.Stored.{HasRoom, stored_state};
@@ -13,7 +15,7 @@ use crate::store::Store;
 use dk_base::answer::Answer;
 use dk_base::error::Errno;
 use dk_base::limits::{DATA_MAX, PASS_MAX, QUEUE_MAX};
-use dk_base::list::{Bytes, FdList, ObjList, PassList};
+use dk_base::list::{Bytes, ObjList, PassList, Room};
 use dk_base::number::{Fd, Pid, Tid};
 use dk_base::object::{Item, Obj};
 use dk_base::set::Attrs;
@@ -65,14 +67,24 @@ fn limit_refusal(store: &Store, d: u32, bytes: &Bytes, pass: &PassList) -> Optio
         .limit_refusal(d, bytes.len() as u64, pass.len() as u64)
 }
 
-/// door_call(3C): what the door's limits refuse, then EAGAIN.
+/// EINVAL for descriptors that cannot be passed, then EAGAIN.
+fn pass_refusal(store: &Store, p: Pid, pass: &PassList, d: u32) -> Option<Errno>
+    ensures { result ≡ first_refusal (pass_tests (stored_state store.now) p.0 pass.now ++ pool_tests (stored_state store.now) d) }
+{
+    if store.is_bad_pass(p, pass) {
+        return Some(Errno::EINVAL);
+    }
+    pool_refusal(store, d)
+}
+
+/// door_call(3C): what the door's limits refuse, then EINVAL of descriptors, then EAGAIN.
 pub fn call_refusal(store: &Store, p: Pid, fd: Fd, bytes: &Bytes, pass: &PassList) -> Option<Errno>
     ensures { result ≡ first_refusal (call_tests (stored_state store.now) p.0 fd bytes.now pass.now) }
 {
     let door = door_named(store, p, fd);
     match limit_refusal(store, door, bytes, pass) {
         Some(error) => Some(error),
-        None => pool_refusal(store, door),
+        None => pass_refusal(store, p, pass, door),
     }
 }
 
@@ -86,9 +98,9 @@ fn has_no_cancel(store: &Store, d: u32) -> bool
 }
 
 /// A call of door `d`, as it is made.
-fn new_call(alloc: Global, store: &Store, t: Tid, d: u32, bytes: Bytes, rsize: u64) -> Call
+fn new_call(store: &Store, t: Tid, d: u32, bytes: Bytes, objects: ObjList, rsize: u64) -> Call
     requires { HasNumbersLeft (stored_state store.now) }
-    ensures { result ≡ new_call (stored_state store.now) t.0 d bytes [] rsize }
+    ensures { result ≡ new_call (stored_state store.now) t.0 d bytes objects rsize }
 {
     Call {
         number: store.calls.made + 1,
@@ -96,7 +108,7 @@ fn new_call(alloc: Global, store: &Store, t: Tid, d: u32, bytes: Bytes, rsize: u
         caller: t,
         door: d,
         bytes,
-        objects: ObjList::new(alloc),
+        objects,
         rsize,
         no_cancel: has_no_cancel(store, d),
         abandoned: false,
@@ -104,26 +116,29 @@ fn new_call(alloc: Global, store: &Store, t: Tid, d: u32, bytes: Bytes, rsize: u
     }
 }
 
-/// door_call(3C): a call that waits for a server thread, by a thread that runs.
+/// door_call(3C): a call that waits for a server thread, by a thread that runs. What is passed goes with it.
 #[tactic(auto, using(crate::proofs::Idle::running_not_done, crate::proofs::Idle::running_not_idle))]
 pub fn call(
     store: &mut Store,
-    alloc: Global,
     t: Tid,
     p: Pid,
     fd: Fd,
     bytes: Bytes,
     pass: &PassList,
     rsize: u64,
+    mut objects: Room<Obj>,
 ) -> Answer
     requires numbers { HasNumbersLeft (stored_state store.old) }
     requires room { HasRoom store.old }
     requires running { is_running (stored_state store.old) t.0 ≡ true }
+    requires empty { objects.items ≡ [] }
+    requires spare { length pass.now ≤ objects.spare }
     ensures state { stored_state store.new ≡ (call (stored_state store.old) t.0 p.0 fd bytes pass.now rsize).state }
     ensures answer { result ≡ (call (stored_state store.old) t.0 p.0 fd bytes pass.now rsize).answer }
 {
     let door = door_named(store, p, fd);
-    let call = new_call(alloc, store, t, door, bytes, rsize);
+    store.take_out(p, pass, &mut objects);
+    let call = new_call(store, t, door, bytes, objects.into_list(), rsize);
     let number = call.number;
     store.calls.open(call);
     store
@@ -132,7 +147,7 @@ pub fn call(
     Answer::WaitCall { call: number }
 }
 
-/// door_return(3C): E2BIG where the thread has a client.
+/// door_return(3C): E2BIG where the thread has a client, then EINVAL of descriptors.
 pub fn return_refusal(
     store: &Store,
     t: Tid,
@@ -145,10 +160,14 @@ pub fn return_refusal(
     if store.calls.client(t).is_some() && (bytes.len() > DATA_MAX || pass.len() > PASS_MAX) {
         return Some(Errno::E2BIG);
     }
+    if store.is_bad_pass(p, pass) {
+        return Some(Errno::EINVAL);
+    }
     None
 }
 
-/// door_return(3C): the results go to the client, or are dropped where there is none, and the thread, which runs, is parked.
+/// door_return(3C): the results and what is passed go to the client, or are dropped where there is none, and the thread, which
+/// runs, is parked.
 #[tactic(auto, using(crate::proofs::Idle::running_not_done, crate::proofs::Idle::running_not_idle))]
 pub fn return_from(
     store: &mut Store,
@@ -157,15 +176,18 @@ pub fn return_from(
     p: Pid,
     bytes: Bytes,
     pass: &PassList,
+    mut objects: Room<Obj>,
 ) -> Answer
     requires numbers { HasNumbersLeft (stored_state store.old) }
     requires running { is_running (stored_state store.old) t.0 ≡ true }
+    requires empty { objects.items ≡ [] }
+    requires spare { length pass.now ≤ objects.spare }
     ensures state { stored_state store.new ≡ (return (stored_state store.old) t.0 p.0 bytes pass.now).state }
     ensures answer { result ≡ (return (stored_state store.old) t.0 p.0 bytes pass.now).answer }
 {
     let since = store.now();
-    let objects = ObjList::new(alloc);
-    store.calls.give_back(alloc, t, bytes, objects);
+    store.take_out(p, pass, &mut objects);
+    store.calls.give_back(alloc, t, bytes, objects.into_list());
     store.processes.park(t, since);
     Answer::Wait
 }
@@ -181,67 +203,185 @@ fn entry_point(store: &Store, d: u32) -> (u32, u64)
     }
 }
 
-/// The invocation of a call begins, of a thread that was given it.
-fn enter_call(store: &mut Store, alloc: Global, t: Tid, c: u32) -> Answer
-    requires { state_of (stored_state store.old) t.0 ≡ is.Given (item.Call c) }
-    ensures state { stored_state store.new ≡ (accept_call (stored_state store.old) t.0 c (find_call (stored_state store.old) (is_given_as c t.0))).state }
-    ensures answer { result ≡ (accept_call (stored_state store.old) t.0 c (find_call (stored_state store.old) (is_given_as c t.0))).answer }
+/// How many objects come with the call that a thread was given.
+fn count_given(store: &Store, t: Tid, c: u32) -> usize
+    ensures { result ≡ length (objects_given (stored_state store.now) t.0 c) }
+{
+    match store.calls.given(c, t) {
+        Some(call) => call.objects.len(),
+        None => 0,
+    }
+}
+
+/// How many objects come with the results of a call, where it is returned.
+fn count_to_collect(store: &Store, c: u32) -> usize
+    ensures { result ≡ length (objects_to_collect (stored_state store.now) c) }
+{
+    match store.calls.ready(c) {
+        Some(
+            Call {
+                stage: CallStage::Returned { objects, .. },
+                ..
+            },
+        ) => objects.len(),
+        _ => 0,
+    }
+}
+
+/// Whether a process has a descriptor for each object of the call that a thread was given.
+fn has_room_given(store: &Store, t: Tid, p: Pid, c: u32) -> bool
+    ensures { result ≡ has_room (stored_state store.now) p.0 (objects_given (stored_state store.now) t.0 c) }
+{
+    match store.calls.given(c, t) {
+        Some(call) => store.has_room(p, &call.objects),
+        None => true,
+    }
+}
+
+/// The invocation of a call begins, of a thread that was given it. Its objects get descriptors.
+fn begin_call(store: &mut Store, alloc: Global, t: Tid, p: Pid, c: u32, fds: Room<Fd>) -> Answer
+    requires given { state_of (stored_state store.old) t.0 ≡ is.Given (item.Call c) }
+    requires empty { fds.items ≡ [] }
+    requires spare { length (objects_given (stored_state store.old) t.0 c) ≤ fds.spare }
+    requires room { has_room (stored_state store.old) p.0 (objects_given (stored_state store.old) t.0 c) ≡ true }
+    ensures state { stored_state store.new ≡ (accept_call (stored_state store.old) t.0 p.0 c (find_call (stored_state store.old) (is_given_as c t.0))).state }
+    ensures answer { result ≡ (accept_call (stored_state store.old) t.0 p.0 c (find_call (stored_state store.old) (is_given_as c t.0))).answer }
 {
     let Some(call) = store.calls.enter(alloc, c, t) else {
         return Answer::Done;
     };
     let (entry, cookie) = entry_point(store, call.door);
     store.processes.enter(t, Item::Call(c));
-    let Call { number, bytes, .. } = call;
+    let Call {
+        number,
+        bytes,
+        objects,
+        ..
+    } = call;
     Answer::Entered {
         call: number,
         entry,
         cookie,
         bytes,
-        fds: FdList::new(alloc),
+        fds: store.install(p, &objects, fds),
     }
 }
 
-/// The end of the wait of a thread that was given an item: its invocation begins.
-pub fn accept(store: &mut Store, alloc: Global, t: Tid, p: Pid, item: Item) -> Answer
-    requires { state_of (stored_state store.old) t.0 ≡ is.Given item }
+/// The call that a thread was given ends EMFILE, and the thread is parked again.
+fn fail_begin(store: &mut Store, alloc: Global, t: Tid, p: Pid, c: u32) -> Answer
+    requires given { state_of (stored_state store.old) t.0 ≡ is.Given (item.Call c) }
+    requires numbers { HasNumbersLeft (stored_state store.old) }
+    requires full { has_room (stored_state store.old) p.0 (objects_given (stored_state store.old) t.0 c) ≡ false }
+    ensures state { stored_state store.new ≡ (accept_call (stored_state store.old) t.0 p.0 c (find_call (stored_state store.old) (is_given_as c t.0))).state }
+    ensures answer { result ≡ (accept_call (stored_state store.old) t.0 p.0 c (find_call (stored_state store.old) (is_given_as c t.0))).answer }
+{
+    let Some(call) = store.calls.fail(alloc, c, t) else {
+        return Answer::Done;
+    };
+    let again = store.now();
+    store.processes.park(t, again);
+    Answer::EnterFailed { call: call.number }
+}
+
+/// The end of the wait of a thread that was given a call: its invocation begins where its process has a descriptor for each
+/// object of the call, else the call ends EMFILE.
+fn accept_call(store: &mut Store, alloc: Global, t: Tid, p: Pid, c: u32, fds: Room<Fd>) -> Answer
+    requires given { state_of (stored_state store.old) t.0 ≡ is.Given (item.Call c) }
+    requires numbers { HasNumbersLeft (stored_state store.old) }
+    requires empty { fds.items ≡ [] }
+    requires spare { length (objects_given (stored_state store.old) t.0 c) ≤ fds.spare }
+    ensures state { stored_state store.new ≡ (accept_call (stored_state store.old) t.0 p.0 c (find_call (stored_state store.old) (is_given_as c t.0))).state }
+    ensures answer { result ≡ (accept_call (stored_state store.old) t.0 p.0 c (find_call (stored_state store.old) (is_given_as c t.0))).answer }
+{
+    if has_room_given(store, t, p, c) {
+        begin_call(store, alloc, t, p, c, fds)
+    } else {
+        fail_begin(store, alloc, t, p, c)
+    }
+}
+
+/// The end of the wait of a thread that was given an item: its invocation begins, or the item cannot be entered.
+pub fn accept(store: &mut Store, alloc: Global, t: Tid, p: Pid, item: Item, fds: Room<Fd>) -> Answer
+    requires given { state_of (stored_state store.old) t.0 ≡ is.Given item }
+    requires numbers { HasNumbersLeft (stored_state store.old) }
+    requires empty { fds.items ≡ [] }
+    requires spare { length (objects_with (stored_state store.old) t.0 item) ≤ fds.spare }
     ensures state { stored_state store.new ≡ (accept (stored_state store.old) t.0 p.0 item).state }
     ensures answer { result ≡ (accept (stored_state store.old) t.0 p.0 item).answer }
 {
     match item {
-        Item::Call(c) => enter_call(store, alloc, t, c),
+        Item::Call(c) => accept_call(store, alloc, t, p, c, fds),
         Item::Notice(_) => Answer::Done,
     }
 }
 
-/// What a caller is told of a call that it collects.
-fn outcome(alloc: Global, call: Call) -> Answer
-    ensures { result ≡ collect_answer call call.stage }
+/// Results go to a caller: their objects get descriptors of its process, or EMFILE.
+fn hand_results(
+    store: &mut Store,
+    p: Pid,
+    rsize: u64,
+    bytes: Bytes,
+    objects: &ObjList,
+    fds: Room<Fd>,
+) -> Answer
+    requires empty { fds.items ≡ [] }
+    requires spare { length objects.now ≤ fds.spare }
+    ensures state { stored_state store.new ≡ record (stored_state store.old) { tables = tables_after_collect (stored_state store.old) p.0 objects.now } }
+    ensures answer { (r : Call) → r.rsize ≡ rsize → result ≡ results_answer (stored_state store.old) p.0 r bytes objects.now }
 {
-    let Call { rsize, stage, .. } = call;
+    if !store.has_room(p, objects) {
+        return Answer::Failure(Errno::EMFILE);
+    }
+    Answer::Results {
+        grown: bytes.len() as u64 > rsize,
+        bytes,
+        fds: store.install(p, objects, fds),
+    }
+}
+
+/// What a caller is told of the call that it collects.
+fn outcome(store: &mut Store, p: Pid, call: Option<Call>, fds: Room<Fd>) -> Answer
+    requires empty { fds.items ≡ [] }
+    requires spare { length (objects_collected_in call) ≤ fds.spare }
+    ensures state { stored_state store.new ≡ record (stored_state store.old) { tables = tables_after_collect (stored_state store.old) p.0 (objects_collected_in call) } }
+    ensures answer { result ≡ collect_answer_in (stored_state store.old) p.0 call }
+{
+    let Some(Call { rsize, stage, .. }) = call else {
+        return Answer::Done;
+    };
     match stage {
-        CallStage::Returned { bytes, .. } => Answer::Results {
-            grown: bytes.len() as u64 > rsize,
-            bytes,
-            fds: FdList::new(alloc),
-        },
+        CallStage::Returned { bytes, objects } => {
+            hand_results(store, p, rsize, bytes, &objects, fds)
+        }
         CallStage::Ended { error } => Answer::Failure(error),
         _ => Answer::Done,
     }
 }
 
 /// The end of the wait of a caller: the results, or the error that its call ended with. The call is forgotten.
-pub fn collect(store: &mut Store, alloc: Global, t: Tid, p: Pid, c: u32) -> Answer
+pub fn collect(store: &mut Store, t: Tid, p: Pid, c: u32, fds: Room<Fd>) -> Answer
     requires live { HasLiveCalls (stored_state store.old) }
     requires not_done { is_done (state_of (stored_state store.old) t.0) ≡ false }
     requires not_idle { is_idle (state_of (stored_state store.old) t.0) ≡ false }
+    requires empty { fds.items ≡ [] }
+    requires spare { length (objects_to_collect (stored_state store.old) c) ≤ fds.spare }
     ensures state { StandsFor (stored_state store.new) (collect (stored_state store.old) t.0 p.0 c).state }
     ensures answer { result ≡ (collect (stored_state store.old) t.0 p.0 c).answer }
 {
     let call = store.calls.collect(c);
     store.processes.turn(t, ThreadState::Running);
-    match call {
-        Some(call) => outcome(alloc, call),
-        None => Answer::Done,
+    outcome(store, p, call, fds)
+}
+
+/// How many objects the end of a thread's wait hands over.
+pub fn count_at_end(store: &Store, t: Tid) -> usize
+    ensures { result ≡ length (objects_at_end (stored_state store.now) t.0 (state_of (stored_state store.now) t.0)) }
+{
+    match store.processes.state(t) {
+        ThreadState::Given {
+            item: Item::Call(c),
+        } => count_given(store, t, *c),
+        ThreadState::Calling { call } => count_to_collect(store, *call),
+        _ => 0,
     }
 }

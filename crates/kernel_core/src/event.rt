@@ -7,7 +7,8 @@ ghost use Rattle.kernel_core.specs.Numbers.{HasNumbersLeft};
 ghost use Rattle.kernel_core.specs.Stored.{HasRoom, stored_state};
 ghost use Rattle.kernel_core.specs.Woken.{IsCurrent, IsReady, IsReadyToSettle};
 
-use crate::acts::{enter, go_on};
+use crate::acts::{count_passed, enter, go_on};
+use crate::doors::count_at_end;
 use crate::runnable::Runnable;
 use crate::settle::settle;
 use crate::store::Store;
@@ -47,7 +48,8 @@ impl Parts {
         Ok(thread)
     }
 
-    /// Takes the memory that an event can need. It changes nothing else.
+    /// Takes the memory that every event can need, which changes nothing else. One that hands over objects needs room for them
+    /// besides.
     fn reserve(&mut self, alloc: Global) -> Result<Room<Tid>, NoMemory>
         ensures state { stored_state self.new.store ≡ stored_state self.old.store }
         ensures runnable { self.new.runnable ≡ self.old.runnable }
@@ -92,7 +94,8 @@ impl Parts {
         ensures err { OnErr result (stored_state self.new.store ≡ stored_state self.old.store) }
     {
         let woken = self.reserve(alloc)?;
-        let answer = enter(&mut self.store, alloc, t, request);
+        let objects = Room::with_room(alloc, count_passed(&request))?;
+        let answer = enter(&mut self.store, alloc, t, request, objects);
         Ok(self.finish(woken, answer))
     }
 
@@ -107,7 +110,8 @@ impl Parts {
         ensures err { OnErr result (stored_state self.new.store ≡ stored_state self.old.store) }
     {
         let woken = self.reserve(alloc)?;
-        let answer = go_on(&mut self.store, alloc, t);
+        let fds = Room::with_room(alloc, count_at_end(&self.store, t))?;
+        let answer = go_on(&mut self.store, alloc, t, fds);
         Ok(self.finish(woken, answer))
     }
 }

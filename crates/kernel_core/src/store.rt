@@ -1,17 +1,19 @@
 //! What the kernel holds, by subject.
-ghost use Rattle.std.specs.Prelude.{◌≡◌, ◌+◌, ◌<◌, [], length, replicate, None, Some, true, false, is_none, is_some, IfOk, OnOk, OnErr};
+ghost use Rattle.std.specs.Prelude.{◌≡◌, ◌+◌, ◌<◌, ◌≤◌, ◌++◌, [], length, replicate, None, Some, true, false, is_none, is_some, IfOk, IfSome, IfNone, OnOk, OnErr};
+ghost use Rattle.dk_base.specs.ByNumber.{at_number};
 ghost use Rattle.dk_base.specs.declared.limits.TheConstants.{PROCESSES_MAX, EVENTS_MAX};
-ghost use Rattle.kernel_records.specs.Words.{close_row, close_table, descriptor, door_attached, end_owner, free_place, has_told_attributes, insert_row, is_pool, is_queued_in, lowest_free, queue_length, set_param, set_param_tests, first_refusal, with_door, with_name, without_name};
-ghost use Rattle.written_kernel.specs.Words.{bound_of, calls_waiting, door_of, name_of, no_process, now, object_at, pool_of, table_of, waiting_items, with_event_counted, with_new_process, with_table_of};
+ghost use Rattle.kernel_records.specs.Words.{close_row, close_table, descriptor, door_attached, end_owner, free_place, has_told_attributes, insert_row, is_bad_pass, is_pool, is_queued_in, lowest_free, new_descriptors, objects_passed, queue_length, set_param, set_param_tests, first_refusal, with_door, with_name, without_name};
+ghost use Rattle.written_kernel.specs.Words.{bound_of, calls_waiting, door_of, has_room, name_of, no_process, now, object_at, pool_of, table_of, tables_after_pass, tables_with, waiting_items, with_event_counted, with_new_process, with_table_of};
 ghost use Rattle.kernel_core.specs.Numbers.{HasNumbersLeft};
 ghost use Rattle.kernel_core.specs.Stored.{HasRoom, stored_state};
 
 use crate::calls::Calls;
 use crate::numbered::numbered_item;
 use crate::stage::is_queued;
+use arg_transfer::passing::{check_pass, install, take_out};
 use dk_base::error::NoMemory;
 use dk_base::limits::THREADS_MAX;
-use dk_base::list::Room;
+use dk_base::list::{FdList, ObjList, PassList, Room};
 use dk_base::number::{Fd, PathId, Pid, Tid};
 use dk_base::object::{Item, Obj};
 use dk_base::request::Param;
@@ -70,6 +72,17 @@ fn no_bindings(alloc: Global, places: u32) -> Result<Vec<Option<u32>>, NoMemory>
         Ok(bindings) => Ok(bindings),
         Err(_) => Err(NoMemory),
     }
+}
+
+/// The place of a process's table.
+fn table_place(tables: &[FdTable], p: Pid) -> Option<usize>
+    ensures some { IfSome result (λ i. (i + 1 ≡ p.0) × (i < length tables.now)) }
+    ensures none { IfNone result (at_number tables.now p.0 ≡ None) }
+{
+    if p.0 == 0 || p.0 as usize > tables.len() {
+        return None;
+    }
+    Some(p.0 as usize - 1)
 }
 
 impl Store {
@@ -205,18 +218,62 @@ impl Store {
     }
 
     /// Closes each descriptor of a process.
-    #[tactic(auto, using(crate::proofs::Places::numbered_here))]
     pub fn close_table(&mut self, p: Pid)
         ensures { stored_state self.new ≡ with_table_of (stored_state self.old) p.0 (close_table (table_of (stored_state self.old) p.0)) }
     {
-        if p.0 == 0 {
-            return;
-        }
-        let index = p.0 as usize - 1;
-        if index < self.tables.len() {
-            let table = &mut self.tables[index];
+        if let Some(place) = table_place(&self.tables, p) {
+            let table = &mut self.tables[place];
             table.close_all();
         }
+    }
+
+    /// Whether these descriptors cannot be passed out of a process's table (door_call(3C)).
+    pub fn is_bad_pass(&self, p: Pid, pass: &PassList) -> bool
+        ensures { result ≡ is_bad_pass (table_of (stored_state self.now) p.0) pass.now }
+    {
+        match numbered_item(&self.tables, p.0) {
+            Some(table) => check_pass(table, pass).is_err(),
+            None => !pass.is_empty(),
+        }
+    }
+
+    /// What a process's descriptors name follows what is in `into`, and those with release are closed. It takes no memory.
+    pub fn take_out(&mut self, p: Pid, pass: &PassList, into: &mut Room<Obj>)
+        requires { length pass.now ≤ into.old.spare }
+        ensures state { stored_state self.new ≡ record (stored_state self.old) { tables = tables_after_pass (stored_state self.old) p.0 pass.now } }
+        ensures items { into.new.items ≡ into.old.items ++ objects_passed (table_of (stored_state self.old) p.0) pass.now }
+        ensures calls { self.new.calls ≡ self.old.calls }
+    {
+        if let Some(place) = table_place(&self.tables, p) {
+            let table = &mut self.tables[place];
+            take_out(table, pass, into);
+        }
+    }
+
+    /// Whether a process has a free descriptor for each of these objects.
+    pub fn has_room(&self, p: Pid, objects: &ObjList) -> bool
+        ensures { result ≡ has_room (stored_state self.now) p.0 objects.now }
+    {
+        match numbered_item(&self.tables, p.0) {
+            Some(table) => objects.len() <= table.free() as usize,
+            None => objects.is_empty(),
+        }
+    }
+
+    /// Objects get the lowest free descriptors of a process that has one for each, in order. It takes no memory.
+    pub fn install(&mut self, p: Pid, objects: &ObjList, mut fds: Room<Fd>) -> FdList
+        requires empty { fds.items ≡ [] }
+        requires room { length objects.now ≤ fds.spare }
+        requires free { has_room (stored_state self.old) p.0 objects.now ≡ true }
+        ensures state { stored_state self.new ≡ record (stored_state self.old) { tables = tables_with (stored_state self.old) p.0 objects.now } }
+        ensures fds { result ≡ new_descriptors (table_of (stored_state self.old) p.0) objects.now }
+    {
+        let Some(place) = table_place(&self.tables, p) else {
+            return fds.into_list();
+        };
+        let table = &mut self.tables[place];
+        let _ = install(table, objects, &mut fds);
+        fds.into_list()
     }
 
     /// Attaches a door to a path that has none, which takes no memory.

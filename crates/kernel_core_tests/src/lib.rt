@@ -5,3 +5,5 @@
 mod states;
 #[cfg(test)]
 mod tests;
+#[cfg(test)]
+mod turns;

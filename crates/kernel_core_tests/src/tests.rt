@@ -1,83 +1,39 @@
-ghost use Rattle.std.specs.Prelude.{ℕ, ◌≡◌, ◌≤◌, Option, IfOk, length};
-ghost use Rattle.capabilities.specs.Words.{capability_of};
-ghost use Rattle.capabilities.specs.declared.table.TheConstants.{BUILT};
-ghost use Rattle.written_kernel.specs.Types.{Inv};
-ghost use Rattle.written_kernel.specs.Words.{IsFit, MayInside, State};
-
-use dk_base::answer::Answer;
-use dk_base::error::NoMemory;
-use dk_base::event::Stepped;
-use dk_base::list::{Bytes, IdList, PassList};
-use dk_base::number::{Fd, PathId, Pid, Tid};
-use dk_base::request::Request;
-use dk_base::set::Attrs;
+use crate::turns::{CLIENT, Entry, Gives, OuterEntry, Row, SERVER, Turn, right_turns_of_new};
+use dk_base::error::Errno;
+use dk_base::list::IdList;
+use dk_base::number::Fd;
+use dk_base::object::Pass;
 use kernel_core::kernel::Kernel;
-use std::alloc::Global;
 use std::test::Fail;
-
-/// An entry that a thread may make inside an invocation and outside.
-#[derive(Clone, Copy)]
-enum Entry {
-    Create,
-    Attach,
-    Await,
-    Open,
-    Return(&'static [u8]),
-}
-
-/// One that it may make outside alone.
-#[derive(Clone, Copy)]
-enum OuterEntry {
-    Call(&'static [u8]),
-    Exit,
-}
-
-/// A turn of a thread.
-#[derive(Clone, Copy)]
-enum Turn {
-    Enters(Entry),
-    EntersOutside(OuterEntry),
-    GoesOn,
-}
-
-/// An answer.
-#[derive(Clone, Copy)]
-enum Gives {
-    Wait,
-    WaitCall(u32),
-    Done,
-    NewFd(u32),
-    Entered(u32, &'static [u8]),
-    Grown(&'static [u8]),
-}
-
-const SERVER: Tid = Tid(1);
-
-const CLIENT: Tid = Tid(2);
 
 /// A client waits for an echo server's path, opens it, calls it and exits: each thread's turn, what it is answered, and
 /// whom that wakes.
-const ECHO: [(Tid, Turn, Gives, &[Tid]); 11] = [
+const ECHO: [Row; 11] = [
     (SERVER, Turn::Enters(Entry::Create), Gives::NewFd(0), &[]),
     (CLIENT, Turn::Enters(Entry::Await), Gives::Wait, &[]),
     (SERVER, Turn::Enters(Entry::Attach), Gives::Done, &[CLIENT]),
-    (SERVER, Turn::Enters(Entry::Return(b"")), Gives::Wait, &[]),
+    (
+        SERVER,
+        Turn::Enters(Entry::Return(b"", &[])),
+        Gives::Wait,
+        &[],
+    ),
     (CLIENT, Turn::GoesOn, Gives::Done, &[]),
     (CLIENT, Turn::Enters(Entry::Open), Gives::NewFd(0), &[]),
     (
         CLIENT,
-        Turn::EntersOutside(OuterEntry::Call(b"hi")),
+        Turn::EntersOutside(OuterEntry::Call(b"hi", &[])),
         Gives::WaitCall(1),
         &[SERVER],
     ),
-    (SERVER, Turn::GoesOn, Gives::Entered(1, b"hi"), &[]),
+    (SERVER, Turn::GoesOn, Gives::Entered(1, b"hi", &[]), &[]),
     (
         SERVER,
-        Turn::Enters(Entry::Return(b"hi")),
+        Turn::Enters(Entry::Return(b"hi", &[])),
         Gives::Wait,
         &[CLIENT],
     ),
-    (CLIENT, Turn::GoesOn, Gives::Grown(b"hi"), &[]),
+    (CLIENT, Turn::GoesOn, Gives::Grown(b"hi", &[]), &[]),
     (
         CLIENT,
         Turn::EntersOutside(OuterEntry::Exit),
@@ -86,163 +42,224 @@ const ECHO: [(Tid, Turn, Gives, &[Tid]); 11] = [
     ),
 ];
 
-fn is_answer(answer: &Answer, gives: Gives) -> bool {
-    match gives {
-        Gives::Wait => matches!(answer, Answer::Wait),
-        Gives::WaitCall(number) => matches!(answer, Answer::WaitCall { call } if *call == number),
-        Gives::Done => matches!(answer, Answer::Done),
-        Gives::NewFd(number) => matches!(answer, Answer::NewFd { fd } if fd.0 == number),
-        Gives::Entered(number, text) => {
-            matches!(answer, Answer::Entered { call, entry: 7, cookie: 9, bytes, fds } if *call == number && bytes.slice() == text && fds.is_empty())
-        }
-        Gives::Grown(text) => {
-            matches!(answer, Answer::Results { bytes, fds, grown: true } if bytes.slice() == text && fds.is_empty())
-        }
-    }
-}
+const ZERO: Pass = Pass {
+    fd: Fd(0),
+    release: false,
+};
 
-fn is_step(stepped: &Result<Stepped, NoMemory>, gives: Gives, wakes: &[Tid]) -> bool {
-    matches!(stepped, Ok(stepped) if is_answer(&stepped.answer, gives) && stepped.woken.slice() == wakes)
-}
+const ONE: Pass = Pass {
+    fd: Fd(1),
+    release: false,
+};
 
-fn request(alloc: Global, entry: Entry) -> Result<Request, NoMemory>
-    ensures fit { IfOk result (λ r. (m : State) (t : ℕ) → IsFit m t r) }
-    ensures built { IfOk result (λ r. capability_of r ≤ BUILT) }
-    ensures inside { IfOk result (λ r. (v : Option Inv) → MayInside v r) }
-{
-    match entry {
-        Entry::Create => Ok(Request::Create {
-            entry: 7,
-            cookie: 9,
-            attrs: Attrs(0),
-        }),
-        Entry::Attach => Ok(Request::Attach {
-            fd: Fd(0),
-            path: PathId(0),
-        }),
-        Entry::Await => Ok(Request::Await { path: PathId(0) }),
-        Entry::Open => Ok(Request::Open { path: PathId(0) }),
-        Entry::Return(text) => {
-            let bytes = Bytes::from_slice(alloc, text)?;
-            Ok(Request::Return {
-                bytes,
-                pass: PassList::new(alloc),
-            })
-        }
-    }
-}
+const TWO: Pass = Pass {
+    fd: Fd(2),
+    release: false,
+};
 
-fn outer_request(alloc: Global, entry: OuterEntry) -> Result<Request, NoMemory>
-    ensures fit { IfOk result (λ r. (m : State) (t : ℕ) → IsFit m t r) }
-    ensures built { IfOk result (λ r. capability_of r ≤ BUILT) }
-{
-    match entry {
-        OuterEntry::Call(text) => {
-            let bytes = Bytes::from_slice(alloc, text)?;
-            Ok(Request::Call {
-                door: Fd(0),
-                bytes,
-                pass: PassList::new(alloc),
-                rsize: 1,
-            })
-        }
-        OuterEntry::Exit => Ok(Request::Exit),
-    }
-}
+const THREE: Pass = Pass {
+    fd: Fd(3),
+    release: false,
+};
 
-fn enters(alloc: Global, kernel: &mut Kernel, t: Tid, entry: Entry) -> Result<Stepped, NoMemory> {
-    if !kernel.is_running(t) || kernel.events() >= 1_000_000 {
-        return Err(NoMemory);
-    }
-    match request(alloc, entry) {
-        Ok(request) => kernel.enter(t, request),
-        Err(error) => Err(error),
-    }
-}
+const FOUR: Pass = Pass {
+    fd: Fd(4),
+    release: false,
+};
 
-fn enters_outside(
-    alloc: Global,
-    kernel: &mut Kernel,
-    t: Tid,
-    entry: OuterEntry,
-) -> Result<Stepped, NoMemory> {
-    if !kernel.is_running(t) || kernel.is_inside(t) || kernel.events() >= 1_000_000 {
-        return Err(NoMemory);
-    }
-    match outer_request(alloc, entry) {
-        Ok(request) => kernel.enter(t, request),
-        Err(error) => Err(error),
-    }
-}
+const ONE_RELEASED: Pass = Pass {
+    fd: Fd(1),
+    release: true,
+};
 
-fn goes_on(kernel: &mut Kernel, t: Tid) -> Result<Stepped, NoMemory> {
-    if !kernel.runnable(t) || kernel.is_running(t) || kernel.events() >= 1_000_000 {
-        return Err(NoMemory);
-    }
-    kernel.go_on(t)
-}
+const TWO_RELEASED: Pass = Pass {
+    fd: Fd(2),
+    release: true,
+};
 
-fn is_turn(
-    alloc: Global,
-    kernel: &mut Kernel,
-    t: Tid,
-    turn: Turn,
-    gives: Gives,
-    wakes: &[Tid],
-) -> bool {
-    match turn {
-        Turn::Enters(entry) => is_step(&enters(alloc, kernel, t, entry), gives, wakes),
-        Turn::EntersOutside(entry) => is_step(
-            &enters_outside(alloc, kernel, t, entry),
-            gives,
-            wakes,
-        ),
-        Turn::GoesOn => is_step(&goes_on(kernel, t), gives, wakes),
-    }
-}
+const THREE_RELEASED: Pass = Pass {
+    fd: Fd(3),
+    release: true,
+};
 
-/// How many turns go as they are written.
-fn right_turns(alloc: Global, kernel: &mut Kernel) -> usize {
-    for (i, (t, turn, gives, wakes)) in ECHO.iter().enumerate() {
-        if !is_turn(alloc, kernel, *t, *turn, *gives, wakes) {
-            return i;
-        }
-    }
-    ECHO.len()
-}
+/// Descriptors go with a return that has no client, with a call and with its results, some of them released: the objects keep
+/// their order and get the lowest numbers that are free. What cannot be passed is refused, and stays open.
+const PASSING: [Row; 22] = [
+    (SERVER, Turn::Enters(Entry::Create), Gives::NewFd(0), &[]),
+    (SERVER, Turn::Enters(Entry::Create), Gives::NewFd(1), &[]),
+    (SERVER, Turn::Enters(Entry::Attach), Gives::Done, &[]),
+    (
+        SERVER,
+        Turn::Enters(Entry::Return(b"", &[ZERO, ONE_RELEASED])),
+        Gives::Wait,
+        &[],
+    ),
+    (CLIENT, Turn::Enters(Entry::Open), Gives::NewFd(0), &[]),
+    (CLIENT, Turn::Enters(Entry::Create), Gives::NewFd(1), &[]),
+    (CLIENT, Turn::Enters(Entry::Create), Gives::NewFd(2), &[]),
+    (
+        CLIENT,
+        Turn::EntersOutside(OuterEntry::Call(b"hi", &[TWO, ONE_RELEASED])),
+        Gives::WaitCall(1),
+        &[SERVER],
+    ),
+    (
+        SERVER,
+        Turn::GoesOn,
+        Gives::Entered(1, b"hi", &[Fd(1), Fd(2)]),
+        &[],
+    ),
+    (SERVER, Turn::Enters(Entry::Info(1)), Gives::Unique(4), &[]),
+    (SERVER, Turn::Enters(Entry::Info(2)), Gives::Unique(3), &[]),
+    (
+        SERVER,
+        Turn::Enters(Entry::Return(b"hi", &[TWO_RELEASED, ONE])),
+        Gives::Wait,
+        &[CLIENT],
+    ),
+    (
+        CLIENT,
+        Turn::GoesOn,
+        Gives::Grown(b"hi", &[Fd(1), Fd(3)]),
+        &[],
+    ),
+    (CLIENT, Turn::Enters(Entry::Info(1)), Gives::Unique(3), &[]),
+    (CLIENT, Turn::Enters(Entry::Info(3)), Gives::Unique(4), &[]),
+    (
+        CLIENT,
+        Turn::EntersOutside(OuterEntry::Call(b"hi", &[FOUR])),
+        Gives::Failure(Errno::EINVAL),
+        &[],
+    ),
+    (
+        CLIENT,
+        Turn::EntersOutside(OuterEntry::Call(b"hi", &[ZERO, ZERO])),
+        Gives::WaitCall(2),
+        &[SERVER],
+    ),
+    (
+        SERVER,
+        Turn::GoesOn,
+        Gives::Entered(2, b"hi", &[Fd(2), Fd(3)]),
+        &[],
+    ),
+    (
+        SERVER,
+        Turn::Enters(Entry::Return(b"hi", &[THREE_RELEASED, THREE])),
+        Gives::Failure(Errno::EINVAL),
+        &[],
+    ),
+    (SERVER, Turn::Enters(Entry::Info(3)), Gives::Unique(1), &[]),
+    (
+        SERVER,
+        Turn::Enters(Entry::Return(b"hi", &[])),
+        Gives::Wait,
+        &[CLIENT],
+    ),
+    (CLIENT, Turn::GoesOn, Gives::Grown(b"hi", &[]), &[]),
+];
 
-/// The same, after a thread was added to each of two processes.
-fn right_turns_of_two(alloc: Global, kernel: &mut Kernel) -> usize
-    requires { length kernel.old.process_table.processes ≡ 2 }
-{
-    if kernel.events() != 0 {
-        return 0;
-    }
-    if !matches!(kernel.add_thread(Pid(1), false), Ok(SERVER)) {
-        return 0;
-    }
-    if !matches!(kernel.add_thread(Pid(2), false), Ok(CLIENT)) {
-        return 0;
-    }
-    right_turns(alloc, kernel)
-}
+/// A call whose server has no descriptor free for what it passes, and then one that passes nothing.
+const FULL_SERVER: [Row; 12] = [
+    (SERVER, Turn::Enters(Entry::Create), Gives::NewFd(0), &[]),
+    (SERVER, Turn::Enters(Entry::Create), Gives::NewFd(1), &[]),
+    (SERVER, Turn::Enters(Entry::Attach), Gives::Done, &[]),
+    (
+        SERVER,
+        Turn::Enters(Entry::Return(b"", &[])),
+        Gives::Wait,
+        &[],
+    ),
+    (CLIENT, Turn::Enters(Entry::Open), Gives::NewFd(0), &[]),
+    (CLIENT, Turn::Enters(Entry::Create), Gives::NewFd(1), &[]),
+    (
+        CLIENT,
+        Turn::EntersOutside(OuterEntry::Call(b"hi", &[ONE_RELEASED])),
+        Gives::WaitCall(1),
+        &[SERVER],
+    ),
+    (SERVER, Turn::GoesOn, Gives::EnterFailed(1), &[CLIENT]),
+    (CLIENT, Turn::GoesOn, Gives::Failure(Errno::EMFILE), &[]),
+    (CLIENT, Turn::Enters(Entry::Create), Gives::NewFd(1), &[]),
+    (
+        CLIENT,
+        Turn::EntersOutside(OuterEntry::Call(b"hi", &[])),
+        Gives::WaitCall(2),
+        &[SERVER],
+    ),
+    (SERVER, Turn::GoesOn, Gives::Entered(2, b"hi", &[]), &[]),
+];
 
-#[tactic(auto, using(written_kernel::proofs::Opening::opening_processes))]
-fn right_turns_of_new(alloc: Global, limits: &IdList) -> usize
-    requires { length limits.now ≡ 2 }
-{
-    match Kernel::new(alloc, limits) {
-        Ok(mut kernel) => right_turns_of_two(alloc, &mut kernel),
-        Err(_) => 0,
-    }
-}
+/// Results whose caller has no descriptor free for what they pass, and then some that pass nothing.
+const FULL_CLIENT: [Row; 15] = [
+    (SERVER, Turn::Enters(Entry::Create), Gives::NewFd(0), &[]),
+    (SERVER, Turn::Enters(Entry::Create), Gives::NewFd(1), &[]),
+    (SERVER, Turn::Enters(Entry::Attach), Gives::Done, &[]),
+    (
+        SERVER,
+        Turn::Enters(Entry::Return(b"", &[])),
+        Gives::Wait,
+        &[],
+    ),
+    (CLIENT, Turn::Enters(Entry::Open), Gives::NewFd(0), &[]),
+    (CLIENT, Turn::Enters(Entry::Create), Gives::NewFd(1), &[]),
+    (
+        CLIENT,
+        Turn::EntersOutside(OuterEntry::Call(b"hi", &[])),
+        Gives::WaitCall(1),
+        &[SERVER],
+    ),
+    (SERVER, Turn::GoesOn, Gives::Entered(1, b"hi", &[]), &[]),
+    (
+        SERVER,
+        Turn::Enters(Entry::Return(b"hi", &[ONE_RELEASED])),
+        Gives::Wait,
+        &[CLIENT],
+    ),
+    (CLIENT, Turn::GoesOn, Gives::Failure(Errno::EMFILE), &[]),
+    (
+        CLIENT,
+        Turn::EntersOutside(OuterEntry::Call(b"hi", &[])),
+        Gives::WaitCall(2),
+        &[SERVER],
+    ),
+    (SERVER, Turn::GoesOn, Gives::Entered(2, b"hi", &[]), &[]),
+    (SERVER, Turn::Enters(Entry::Create), Gives::NewFd(1), &[]),
+    (
+        SERVER,
+        Turn::Enters(Entry::Return(b"hi", &[])),
+        Gives::Wait,
+        &[CLIENT],
+    ),
+    (CLIENT, Turn::GoesOn, Gives::Grown(b"hi", &[]), &[]),
+];
 
 #[test]
 fn echo(rt: HostRuntime) -> Result<(), Fail> {
     let alloc = rt.alloc();
     let limits = IdList::from_slice(alloc, &[16, 16])?;
-    let right = right_turns_of_new(alloc, &limits);
+    let right = right_turns_of_new(alloc, &limits, &ECHO);
     assert!(rt; right == ECHO.len(), "turn {right}");
+    Ok(())
+}
+
+#[test]
+fn descriptors_go_with_a_call_and_its_results(rt: HostRuntime) -> Result<(), Fail> {
+    let alloc = rt.alloc();
+    let limits = IdList::from_slice(alloc, &[4, 4])?;
+    let right = right_turns_of_new(alloc, &limits, &PASSING);
+    assert!(rt; right == PASSING.len(), "turn {right}");
+    Ok(())
+}
+
+#[test]
+fn full_tables_take_no_descriptors(rt: HostRuntime) -> Result<(), Fail> {
+    let alloc = rt.alloc();
+    let limits = IdList::from_slice(alloc, &[2, 2])?;
+    let right = right_turns_of_new(alloc, &limits, &FULL_SERVER);
+    assert!(rt; right == FULL_SERVER.len(), "server, turn {right}");
+    let right = right_turns_of_new(alloc, &limits, &FULL_CLIENT);
+    assert!(rt; right == FULL_CLIENT.len(), "client, turn {right}");
     Ok(())
 }
 

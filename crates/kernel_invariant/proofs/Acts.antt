@@ -9,8 +9,8 @@ use Rattle.dk_base.specs.declared.request.Param.TheVariants as param
 use Rattle.kernel_records.specs.declared.record.ThreadState.TheVariants as is
 use Rattle.kernel_records.specs.declared.record.ProcessStage.TheVariants.{Live, Ended}
 use Rattle.dk_base.specs.ByNumber.{at_number}
-use Rattle.kernel_records.specs.Words.{CallTree, ProcessTable, change_door_in, change_first, first_refusal, has_told_attributes, is_live_in, is_live_stage, lowest_free, new_door, refused_where, set_param, state_in, with_door, with_param}
-use Rattle.written_kernel.specs.Words.{ActResult, State, await, await_name, create, create_tests, door_of, find_call, name_of, object_at, process_of, state_of, thread_of, with_state, with_table_of}
+use Rattle.kernel_records.specs.Words.{CallTree, ProcessTable, change_door_in, change_first, first_refusal, has_told_attributes, is_live_in, is_live_stage, lowest_free, new_door, object_named, refused_where, set_param, state_in, table_in, with_door, with_param, with_table}
+use Rattle.written_kernel.specs.Words.{ActResult, State, await, await_name, create, create_tests, door_of, find_call, name_of, process_of, state_of, thread_of, with_state, with_table_of}
 use Rattle.kernel_invariant.specs.Records.{has_number, record_of}
 use Rattle.kernel_invariant.specs.Core.{core, ended_in, is_ended_stage}
 use Rattle.kernel_invariant.specs.Coherent.{IsCoherent, is_unbuilt}
@@ -41,34 +41,65 @@ there m t h = go (thread_of m t) h
     go None f = absurd (f refl)
     go (Some x) f = refl
 
--- an act that changes threads and calls
-abbrev pub after_act : State → ProcessTable → CallTree → State
-after_act m table tree = record m { process_table = table; call_tree = tree }
+-- rows
+
+-- the tables that an act may leave: one for each process, and no row of an ended one
+pub record AreTables (m : State) (tables : List (List (Option Obj))) : Type 0 where
+  pub counted : length tables ≡ length m.process_table.processes
+  pub no_rows : (p : ℕ) (fd : Fd) → ended_in ((core m).proc p) ≡ true → object_named (table_in tables p) fd ≡ None
+
+pub same_tables : (m : State) → IsConsistent m → AreTables m m.tables
+same_tables m h = record { counted = h.tables; no_rows = h.no_rows }
+
+-- a thread that is not Done is of a process that has not ended
+pub not_ended :
+    (m : State) (t : ℕ) → IsConsistent m → (state_of m t ≡ is.Done → ⊥) →
+    ended_in (at_number m.process_table.processes (process_of m t)) ≡ false
+not_ended m t h e = go (ended_in (at_number m.process_table.processes (process_of m t))) refl
+  where
+    go : (b : Bool) → ended_in (at_number m.process_table.processes (process_of m t)) ≡ b → b ≡ false
+    go true f = absurd (e (h.coherent.processes.ended_done t f))
+    go false f = refl
+
+-- the process of such a thread has another table
+pub own_tables :
+    (m : State) (t : ℕ) (table : List (Option Obj)) → IsConsistent m → (state_of m t ≡ is.Done → ⊥) →
+    AreTables m (with_table m.tables (process_of m t) table)
+own_tables m t table h e =
+    record {
+      counted = length-with_at_number m.tables (process_of m t) table ∙ h.tables;
+      no_rows =
+          λ q fd f. grind (arith, nat_tests, h.no_rows q fd f, not_ended m t h e, at_number-with_at_number m.tables (process_of m t) q table);
+    }
+
+-- an act that changes threads, tables and calls
+abbrev pub after_act : State → ProcessTable → List (List (Option Obj)) → CallTree → State
+after_act m table tables tree = record m { process_table = table; tables = tables; call_tree = tree }
 
 pub act_consistent :
-    (m : State) (table : ProcessTable) (tree : CallTree) → IsConsistent m → table.processes ≡ m.process_table.processes →
-    IsInOrder 0 tree.calls → length tree.calls ≡ tree.made → IsCoherent (core (after_act m table tree)) →
-    IsConsistent (after_act m table tree)
-act_consistent m table tree h p i e k =
+    (m : State) (table : ProcessTable) (tables : List (List (Option Obj))) (tree : CallTree) → IsConsistent m → AreTables m tables →
+    table.processes ≡ m.process_table.processes → IsInOrder 0 tree.calls → length tree.calls ≡ tree.made →
+    IsCoherent (core (after_act m table tables tree)) → IsConsistent (after_act m table tables tree)
+act_consistent m table tables tree h rows p i e k =
     record {
       in_order = i;
       counted = e;
       coherent = k;
-      tables = h.tables ∙ sym (ap length p);
-      no_rows = λ q fd f. h.no_rows q fd (ap (λ xs. ended_in (at_number xs q)) (sym p) ∙ f);
+      tables = rows.counted ∙ sym (ap length p);
+      no_rows = λ q fd f. rows.no_rows q fd (ap (λ xs. ended_in (at_number xs q)) (sym p) ∙ f);
       unbuilt = record { no_notices = h.unbuilt.no_notices; unbound = h.unbuilt.unbound };
     }
 
--- an act that changes a thread alone
+-- an act that changes a thread and tables
 pub does_thread :
-    (m : State) (t : ℕ) (q : Option Request) (a : Answer) (table : ProcessTable) (s : ThreadState) (serves : ℕ → Option Inv) →
-    IsConsistent m → Turns m.process_table table t s serves →
+    (m : State) (t : ℕ) (q : Option Request) (a : Answer) (table : ProcessTable) (tables : List (List (Option Obj))) (s : ThreadState)
+    (serves : ℕ → Option Inv) → IsConsistent m → AreTables m tables → Turns m.process_table table t s serves →
     IsCoherent (record (core m) { role = upd (core m).role t s; serves = serves }) →
-    Does m t q (act_result (record m { process_table = table }) a)
-does_thread m t q a table s serves h g k =
+    Does m t q (act_result (after_act m table tables m.call_tree) a)
+does_thread m t q a table tables s serves h rows g k =
     record {
       consistent =
-          act_consistent m table m.call_tree h g.processes h.in_order h.counted
+          act_consistent m table tables m.call_tree h rows g.processes h.in_order h.counted
           (subst IsCoherent (sym (act-core m table m.call_tree t s serves (core m).call g (λ c. refl))) k);
       arrows = λ c. stays;
     }
@@ -92,7 +123,7 @@ arrow_at m t q a n i x f g e b c = go (c == i) refl
 abbrev pub changed_tree : CallTree → (Call → Bool) → (Call → Call) → CallTree
 changed_tree tree test change = record tree { calls = change_first test change tree.calls }
 
--- an act that changes a thread, and the call that a test finds
+-- an act that changes a thread, tables, and the call that a test finds
 module _ (test : Call → Bool) (change : Call → Call) (same : (r : Call) → (change r).number ≡ r.number) where
   pub change-call :
       (m : State) (r : Call) (c : ℕ) → IsConsistent m → find_call m test ≡ Some r →
@@ -100,32 +131,33 @@ module _ (test : Call → Bool) (change : Call → Call) (same : (r : Call) → 
   change-call m r c h f = find-change_first test change same m.call_tree.calls 0 r c h.in_order f
 
   pub change-core :
-      (m : State) (t : ℕ) (table : ProcessTable) (s : ThreadState) (serves : ℕ → Option Inv) (r : Call) → IsConsistent m →
-      Turns m.process_table table t s serves → find_call m test ≡ Some r →
-      core (after_act m table (changed_tree m.call_tree test change))
+      (m : State) (t : ℕ) (table : ProcessTable) (tables : List (List (Option Obj))) (s : ThreadState) (serves : ℕ → Option Inv)
+      (r : Call) → IsConsistent m → Turns m.process_table table t s serves → find_call m test ≡ Some r →
+      core (after_act m table tables (changed_tree m.call_tree test change))
       ≡ record (core m) { role = upd (core m).role t s; serves = serves; call = upd (core m).call r.number (Some (change r)) }
-  change-core m t table s serves r h g f =
+  change-core m t table tables s serves r h g f =
       act-core m table (changed_tree m.call_tree test change) t s serves (upd (core m).call r.number (Some (change r))) g
       (λ c. change-call m r c h f)
 
   pub does_call :
-      (m : State) (t : ℕ) (q : Option Request) (a : Answer) (table : ProcessTable) (s : ThreadState) (serves : ℕ → Option Inv)
-      (r : Call) → IsConsistent m → Turns m.process_table table t s serves → find_call m test ≡ Some r →
+      (m : State) (t : ℕ) (q : Option Request) (a : Answer) (table : ProcessTable) (tables : List (List (Option Obj)))
+      (s : ThreadState) (serves : ℕ → Option Inv) (r : Call) → IsConsistent m → AreTables m tables →
+      Turns m.process_table table t s serves → find_call m test ≡ Some r →
       IsCoherent
       (record (core m) { role = upd (core m).role t s; serves = serves; call = upd (core m).call r.number (Some (change r)) }) →
-      ByAct m t q a (after_act m table (changed_tree m.call_tree test change)) (Some r) (Some (change r)) →
-      Does m t q (act_result (after_act m table (changed_tree m.call_tree test change)) a)
-  does_call m t q a table s serves r h g f k b =
+      ByAct m t q a (after_act m table tables (changed_tree m.call_tree test change)) (Some r) (Some (change r)) →
+      Does m t q (act_result (after_act m table tables (changed_tree m.call_tree test change)) a)
+  does_call m t q a table tables s serves r h rows g f k b =
       record {
         consistent =
-            act_consistent m table (changed_tree m.call_tree test change) h g.processes
+            act_consistent m table tables (changed_tree m.call_tree test change) h rows g.processes
             (IsInOrder-change_first test change same m.call_tree.calls 0 h.in_order)
             (length-change_first test change m.call_tree.calls ∙ h.counted)
-            (subst IsCoherent (sym (change-core m t table s serves r h g f)) k);
+            (subst IsCoherent (sym (change-core m t table tables s serves r h g f)) k);
         arrows =
-            arrow_at m t q a (after_act m table (changed_tree m.call_tree test change)) r.number (change r) (λ c. record_of m c) _
+            arrow_at m t q a (after_act m table tables (changed_tree m.call_tree test change)) r.number (change r) (λ c. record_of m c) _
             (λ c. change-call m r c h f)
-            (subst (λ o. ByAct m t q a (after_act m table (changed_tree m.call_tree test change)) o (Some (change r))) (sym (find-found test m.call_tree.calls 0 r h.in_order f)) b);
+            (subst (λ o. ByAct m t q a (after_act m table tables (changed_tree m.call_tree test change)) o (Some (change r))) (sym (find-found test m.call_tree.calls 0 r h.in_order f)) b);
       }
 
 -- turns
@@ -134,7 +166,7 @@ pub turned_to :
     (m : State) (t : ℕ) (q : Option Request) (s : ThreadState) (a : Answer) → IsConsistent m → is_quiet (state_of m t) ≡ true →
     is_quiet s ≡ true → is_unbuilt s ≡ false → Does m t q (act_result (with_state m t s) a)
 turned_to m t q s a h e f u =
-    does_thread m t q a _ s _ h (set_thread_state-turns m.process_table t s (there m t (λ d. grind arith)))
+    does_thread m t q a _ _ s _ h (same_tables m h) (set_thread_state-turns m.process_table t s (there m t (λ d. grind arith)))
     (turn_keeps (core m) t s h.coherent e f u)
 
 pub await_does :
@@ -161,36 +193,18 @@ names_does m t q names a h =
       arrows = λ c. stays;
     }
 
--- rows
-
-object_at-with_table_of :
-    (m : State) (p : ℕ) (table : List (Option Obj)) (q : ℕ) (fd : Fd) → (q == p) ≡ false →
-    object_at (with_table_of m p table) q fd ≡ object_at m q fd
-object_at-with_table_of m p table q fd e = grind (arith, at_number-with_at_number m.tables p q table)
-
--- a running thread's process has not ended
-pub not_ended : (m : State) (t : ℕ) → IsConsistent m → state_of m t ≡ is.Running → ended_in (at_number m.process_table.processes (process_of m t)) ≡ false
-not_ended m t h e = grind (arith, h.coherent.processes.ended_done t)
+-- the thread's process has another table
 
 with_table_of_keeps :
-    (m : State) (p : ℕ) (table : List (Option Obj)) → IsConsistent m → ended_in (at_number m.process_table.processes p) ≡ false →
-    IsConsistent (with_table_of m p table)
-with_table_of_keeps m p table h e =
-    record {
-      in_order = h.in_order;
-      counted = h.counted;
-      coherent = h.coherent;
-      tables = length-with_at_number m.tables p table ∙ h.tables;
-      no_rows = λ q fd f. grind (arith, nat_tests, h.no_rows q fd f, object_at-with_table_of m p table q fd);
-      unbuilt = record { no_notices = h.unbuilt.no_notices; unbound = h.unbuilt.unbound };
-    }
+    (m : State) (t : ℕ) (table : List (Option Obj)) → IsConsistent m → state_of m t ≡ is.Running →
+    IsConsistent (with_table_of m (process_of m t) table)
+with_table_of_keeps m t table h e =
+    act_consistent m m.process_table _ m.call_tree h (own_tables m t table h (λ z. grind arith)) refl h.in_order h.counted h.coherent
 
--- the thread's process has another table
 pub rows_does :
     (m : State) (t : ℕ) (q : Option Request) (table : List (Option Obj)) (a : Answer) → IsConsistent m → state_of m t ≡ is.Running →
     Does m t q (act_result (with_table_of m (process_of m t) table) a)
-rows_does m t q table a h e =
-    record { consistent = with_table_of_keeps m (process_of m t) table h (not_ended m t h e); arrows = λ c. stays }
+rows_does m t q table a h e = record { consistent = with_table_of_keeps m t table h e; arrows = λ c. stays }
 
 -- doors
 
@@ -257,13 +271,13 @@ creator_lives m t attrs h e f =
     go None g s = grind arith
     go (Some rows) g s =
         let w = numbered_within m.tables (process_of m t) rows g in
-        lives _ (numbered_there m.process_table.processes (process_of m t) w.0 (grind (arith, h.tables))) (not_ended m t h e)
+        lives _ (numbered_there m.process_table.processes (process_of m t) w.0 (grind (arith, h.tables))) (not_ended m t h (λ z. grind arith))
 
 pub create_does :
     (m : State) (t : ℕ) (q : Option Request) (entry cookie : ℕ) (attrs : Attrs) → IsConsistent m → state_of m t ≡ is.Running →
     first_refusal (create_tests m (process_of m t) attrs) ≡ None → Does m t q (create m (process_of m t) entry cookie attrs)
 create_does m t q entry cookie attrs h e f =
-    record { consistent = with_table_of_keeps n (process_of m t) _ made (not_ended m t h e); arrows = λ c. stays }
+    record { consistent = with_table_of_keeps n t _ made e; arrows = λ c. stays }
   where
     d : Door
     d = new_door (length m.doors + 1) (process_of m t) entry cookie attrs

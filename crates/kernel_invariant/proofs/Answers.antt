@@ -1,5 +1,5 @@
 -- Of which act an answer tells, that a call that is told of was made, and that an entry that is refused changes nothing.
-use Rattle.std.specs.Prelude.{ℕ, ◌≡◌, List, [], Option, Some, None}
+use Rattle.std.specs.Prelude.{ℕ, ◌≡◌, List, Option, Bool, true, false, if◌then◌else◌, Some, None}
 use Rattle.std.proofs.Common.{refl, sym, ap, subst, ◌∙◌}
 use native.Mathlib.Omega.{arith}
 use Rattle.std.proofs.lemmas.Bool.Decides.{nat_tests}
@@ -9,8 +9,9 @@ use Rattle.dk_base.specs.declared.request.Request.TheVariants as request
 use Rattle.dk_base.specs.declared.answer.Answer.TheVariants as answer
 use Rattle.kernel_records.specs.declared.record.ThreadState.TheVariants as is
 use Rattle.kernel_records.specs.declared.record.CallStage.TheVariants as stage
-use Rattle.kernel_records.specs.Words.{is_given_as, is_to_collect_as}
-use Rattle.written_kernel.specs.Words.{ActResult, State, accept, accept_call, act, await, await_name, call, collect, collect_answer, collect_answer_in, door_named, effect, enter, find_call, go_on, name_of, new_call, object_at, process_of, refusal_of, refused_act, state_of, unless_refused}
+use Rattle.dk_base.specs.declared.error.Errno.TheVariants.{EMFILE}
+use Rattle.kernel_records.specs.Words.{is_given_as, is_to_collect_as, objects_passed}
+use Rattle.written_kernel.specs.Words.{ActResult, State, accept, accept_call, act, await, await_name, begin_call, call, collect, collect_answer, collect_answer_in, door_named, effect, enter, fail_begin, find_call, go_on, has_room, name_of, new_call, object_at, process_of, refusal_of, refused_act, state_of, table_of, unless_refused}
 use Rattle.kernel_invariant.specs.Records.{record_of}
 use Rattle.kernel_invariant.specs.Invariant.{IsConsistent}
 use Rattle.kernel_invariant.specs.Events.{IsMade, IsToldBy}
@@ -70,7 +71,7 @@ call_tells m t p fd bytes pass rsize h =
     }
   where
     r : Call
-    r = new_call m t (door_named (object_at m p fd)) bytes [] rsize
+    r = new_call m t (door_named (object_at m p fd)) bytes (objects_passed (table_of m p) pass) rsize
 
 await_tells : (m : State) (t : ℕ) (r : Request) (path : PathId) → Tells m t (Some r) (await m t path)
 await_tells m t r path = go (name_of m path)
@@ -107,25 +108,40 @@ accept_tells : (m : State) (t p : ℕ) (i : Item) → state_of m t ≡ is.Given 
 accept_tells m t p (item.Notice n) e = nothing m t _
 accept_tells m t p (item.Call c) e = go (find_call m (is_given_as c t)) refl
   where
-    go : (o : Option Call) → find_call m (is_given_as c t) ≡ o → Tells m t None (accept_call m t c o)
+    by_room :
+        (r : Call) → state_of m t ≡ is.Given (item.Call r.number) → (b : Bool) →
+        Tells m t None (if b then begin_call m t p c r else fail_begin m t c r)
+    by_room r g true = record { told = (refl, g); there = tt; same = tt }
+    by_room r g false = record { told = (refl, g); there = tt; same = tt }
+
+    go : (o : Option Call) → find_call m (is_given_as c t) ≡ o → Tells m t None (accept_call m t p c o)
     go None f = nothing m t _
     go (Some r) f =
-        record {
-          told =
-              (refl, e ∙ ap (λ (x : ℕ). is.Given (item.Call x)) (sym (given_is c t r (find-passes (is_given_as c t) m.call_tree.calls r f)).0));
-          there = tt;
-          same = tt;
-        }
+        by_room r
+        (e ∙ ap (λ (x : ℕ). is.Given (item.Call x)) (sym (given_is c t r (find-passes (is_given_as c t) m.call_tree.calls r f)).0))
+        (has_room m p r.objects)
 
 collect_tells : (m : State) (t p c : ℕ) → state_of m t ≡ is.Calling c → Tells m t None (collect m t p c)
 collect_tells m t p c e = go (find_call m (is_to_collect_as c))
   where
-    at : (r : Call) (s : CallStage) → Tells m t None (act_result (collect m t p c).state (collect_answer r s))
-    at r (stage.Returned bytes objects) = record { told = (refl, record { call = c; calling = e }); there = tt; same = tt }
-    at r (stage.Ended x) = record { told = tt; there = tt; same = tt }
+    n : State
+    n = (collect m t p c).state
+
+    failed : (x : Errno) → Tells m t None (act_result n (answer.Failure x))
+    failed x = record { told = tt; there = tt; same = tt }
+
+    by_room :
+        (bytes : List ℕ) (fds : List Fd) (grown b : Bool) →
+        Tells m t None (act_result n (if b then answer.Results bytes fds grown else answer.Failure EMFILE))
+    by_room bytes fds grown true = record { told = (refl, record { call = c; calling = e }); there = tt; same = tt }
+    by_room bytes fds grown false = failed EMFILE
+
+    at : (r : Call) (s : CallStage) → Tells m t None (act_result n (collect_answer m p r s))
+    at r (stage.Returned bytes objects) = by_room bytes _ _ (has_room m p objects)
+    at r (stage.Ended x) = failed x
     at r s = nothing m t _
 
-    go : (o : Option Call) → Tells m t None (act_result (collect m t p c).state (collect_answer_in o))
+    go : (o : Option Call) → Tells m t None (act_result n (collect_answer_in m p o))
     go None = nothing m t _
     go (Some r) = at r r.stage
 

@@ -1,12 +1,12 @@
 -- A turn's act is one that is built.
-use Rattle.std.specs.Prelude.{ℕ, ◌≡◌, ◌≤◌, List, [], ◌∷◌, Option, true, false, Some, None, is_some}
+use Rattle.std.specs.Prelude.{ℕ, ◌≡◌, ◌≤◌, List, Option, true, false, Some, None, is_some}
 use Rattle.std.proofs.Common.{refl}
 use native.Mathlib.Omega.{arith}
 use Rattle.dk_base.specs.declared.object.Item.TheVariants as item
 use Rattle.dk_base.specs.declared.request.Request.TheVariants as request
 use Rattle.written_kernel.specs.Types.{Fd, Inv, Pass, Request, ThreadState}
 use Rattle.kernel_records.specs.declared.record.ThreadState.TheVariants as is
-use Rattle.capabilities.specs.Words.{capability_of, capability_of_pass}
+use Rattle.capabilities.specs.Words.{capability_of}
 use Rattle.capabilities.specs.declared.table.TheConstants.{BUILT}
 use Rattle.written_kernel.specs.Words.{MayInside, MayTurn, State, can_go_on, is_running_state, state_of, invocation_of}
 use Rattle.kernel_invariant.specs.Coherent.{is_unbuilt}
@@ -15,18 +15,14 @@ use Rattle.kernel_invariant.specs.Events.{IsBuiltEnd, IsBuiltEntry, IsBuiltTurn,
 use Rattle.kernel_invariant.proofs.Steps.{no_exit_inside}
 use Rattle.kernel_invariant.proofs.Waits.{given_found}
 
-no_pass : (pass : List Pass) → capability_of_pass pass ≤ BUILT → pass ≡ []
-no_pass [] h = refl
-no_pass (p ∷ ps) h = absurd (omega arith)
-
 no_invocation : (o : Option Inv) (fd : Fd) (bytes : List ℕ) (pass : List Pass) (rsize : ℕ) → MayInside o (request.Call fd bytes pass rsize) → o ≡ None
 no_invocation None fd bytes pass rsize h = refl
 no_invocation (Some v) fd bytes pass rsize h = absurd h
 
 entry_built : (m : State) (t : ℕ) (r : Request) → capability_of r ≤ BUILT → MayInside (invocation_of m t) r → IsBuiltEntry m t r
 entry_built m t (request.Create entry cookie attrs) h i = h
-entry_built m t (request.Call fd bytes pass rsize) h i = (no_pass pass h, no_invocation (invocation_of m t) fd bytes pass rsize i)
-entry_built m t (request.Return bytes pass) h i = no_pass pass h
+entry_built m t (request.Call fd bytes pass rsize) h i = no_invocation (invocation_of m t) fd bytes pass rsize i
+entry_built m t (request.Return bytes pass) h i = tt
 entry_built m t (request.Info fd) h i = tt
 entry_built m t (request.GetParam fd x) h i = tt
 entry_built m t (request.SetParam fd x value) h i = tt

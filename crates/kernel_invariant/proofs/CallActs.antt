@@ -1,13 +1,13 @@
 -- The acts that change a call: door_call, accept, door_return and collect.
-use Rattle.std.specs.Prelude.{ℕ, ◌≡◌, List, [], ◌∷◌, Option, Bool, true, false, not, if◌then◌else◌, Some, None, is_some}
+use Rattle.std.specs.Prelude.{ℕ, ◌≡◌, List, [], ◌∷◌, Option, Bool, true, false, not, if◌then◌else◌, Some, None, is_some, length, nat_lt}
 use Rattle.std.proofs.Common.{refl, sym, ap, subst}
 use native.Mathlib.Omega.{arith}
 use Rattle.std.proofs.Common.{length-append}
 use Rattle.std.proofs.lemmas.Bool.Decides.{nat_tests}
-use Rattle.written_kernel.specs.Types.{Answer, Call, CallStage, Errno, Fd, Item, Obj, Pass, Request}
-use Rattle.kernel_records.specs.Words.{first_refusal, is_client_call_of, is_entered_by, is_given_as, is_given_to, is_to_collect, is_to_collect_as, open_call, park_thread, set_thread_state, tid, without_arguments_at}
-use Rattle.written_kernel.specs.Words.{State, accept, accept_call, call, call_tests, client_call, collect, collect_answer, collect_answer_in, door_named, find_call, invocation_of, is_valid, make_call, new_call, now, object_at, process_of, return, state_of}
-use Rattle.dk_base.specs.declared.error.Errno.TheVariants.{EBADF}
+use Rattle.written_kernel.specs.Types.{Call, CallStage, Errno, Fd, Item, Obj, Pass, Request}
+use Rattle.kernel_records.specs.Words.{collect_call, first_refusal, is_client_call_of, is_entered_by, is_given_as, is_given_to, is_to_collect, is_to_collect_as, new_descriptors, objects_passed, open_call, park_thread, set_thread_state, tid, without_arguments_at}
+use Rattle.written_kernel.specs.Words.{ActResult, State, accept, accept_call, begin_call, call, call_tests, client_call, collect, collect_answer, collect_answer_in, door_named, fail_begin, find_call, has_room, invocation_of, is_valid, make_call, new_call, now, object_at, objects_collected, objects_collected_in, process_of, return, state_of, table_of, tables_after_collect, tables_after_pass, tables_with}
+use Rattle.dk_base.specs.declared.error.Errno.TheVariants.{EBADF, EMFILE}
 use Rattle.dk_base.specs.declared.object.Obj.TheVariants as obj
 use Rattle.dk_base.specs.declared.object.Item.TheVariants as item
 use Rattle.dk_base.specs.declared.request.Request.TheVariants as request
@@ -19,11 +19,12 @@ use Rattle.kernel_invariant.specs.Core.{core, abandoned_in}
 use Rattle.kernel_invariant.specs.Coherent.{IsCoherent}
 use Rattle.kernel_invariant.specs.Invariant.{IsConsistent}
 use Rattle.kernel_invariant.specs.Arrows.{ByAct}
-use Rattle.kernel_invariant.specs.Arrows.ByAct.{makes, returns, collects_results, collects_error, enters}
+use Rattle.kernel_invariant.specs.Arrows.ByAct.{makes, returns, ends, collects_results, collects_nothing, collects_error, enters}
+use Rattle.kernel_invariant.specs.Arrows.EndsBy.{server_full}
 use Rattle.kernel_invariant.proofs.Calls.{IsInOrder-push, change_first-none, find-found, find-none, find-passes, find-past, find-push}
 use Rattle.kernel_invariant.proofs.Cores.{Turns, act-core, enter_thread-turns, park_thread-turns, set_thread_state-turns, upd}
-use Rattle.kernel_invariant.proofs.CallMoves.{call_keeps, enter_keeps, return_keeps, park_keeps, collect_keeps}
-use Rattle.kernel_invariant.proofs.Acts.{Does, act_consistent, act_result, arrow_at, does_call, does_nothing, does_thread, there}
+use Rattle.kernel_invariant.proofs.CallMoves.{call_keeps, enter_keeps, fail_keeps, return_keeps, park_keeps, collect_keeps}
+use Rattle.kernel_invariant.proofs.Acts.{AreTables, Does, act_consistent, act_result, after_act, arrow_at, does_call, does_nothing, does_thread, own_tables, same_tables, there}
 
 -- what a test finds is what its number finds
 pub record_found : (m : State) (test : Call → Bool) (r : Call) → IsConsistent m → find_call m test ≡ Some r → record_of m r.number ≡ Some r
@@ -52,7 +53,7 @@ pub call_does :
 call_does m t rsize fd bytes pass h e f =
     record {
       consistent =
-          act_consistent m _ (open_call m.call_tree r) h turns.processes
+          act_consistent m _ _ (open_call m.call_tree r) h (own_tables m t _ h (λ z. grind arith)) turns.processes
           (IsInOrder-push m.call_tree.calls 0 r h.in_order (grind (arith, h.counted)))
           (grind (arith, length-append m.call_tree.calls (r ∷ []), h.counted))
           (subst IsCoherent (sym (act-core m _ (open_call m.call_tree r) t _ _ _ turns found))
@@ -60,7 +61,7 @@ call_does m t rsize fd bytes pass h e f =
           (record { running = e; number = refl; caller = refl; kept = refl; queued = refl; no_cancel = refl; valid = valid })));
       arrows =
           arrow_at m t q _ _ r.number r (λ c. record_of m c) _ found
-          (subst (λ o. ByAct m t q (answer.WaitCall r.number) (make_call m t r).state o (Some r))
+          (subst (λ o. ByAct m t q (answer.WaitCall r.number) n o (Some r))
           (sym (find-past m.call_tree.calls 0 r.number h.in_order (grind (arith, h.counted))))
           (makes d rsize fd bytes pass refl (names_door m (object_at m (process_of m t) fd) valid) f refl));
     }
@@ -72,7 +73,10 @@ call_does m t rsize fd bytes pass h e f =
     d = door_named (object_at m (process_of m t) fd)
 
     r : Call
-    r = new_call m t d bytes [] rsize
+    r = new_call m t d bytes (objects_passed (table_of m (process_of m t)) pass) rsize
+
+    n : State
+    n = (make_call m t (process_of m t) pass r).state
 
     valid : is_valid m d ≡ true
     valid = call_is_valid m (process_of m t) fd bytes pass f
@@ -80,7 +84,7 @@ call_does m t rsize fd bytes pass h e f =
     turns : Turns m.process_table (set_thread_state m.process_table t (is.Calling r.number)) t (is.Calling r.number) (core m).serves
     turns = set_thread_state-turns m.process_table t (is.Calling r.number) (there m t (λ z. grind arith))
 
-    found : (c : ℕ) → record_of (make_call m t r).state c ≡ upd (core m).call r.number (Some r) c
+    found : (c : ℕ) → record_of n c ≡ upd (core m).call r.number (Some r) c
     found c = find-push m.call_tree.calls 0 r c h.in_order (grind (arith, h.counted))
 
 -- accept
@@ -92,25 +96,55 @@ given_is c t r e = (grind (arith, nat_tests), go r.stage (grind (arith, nat_test
     go (stage.Given u) f = ap (λ (n : ℕ). stage.Given (tid n)) (grind (arith, nat_tests))
     go s f = grind arith
 
-pub accept_does :
-    (m : State) (t p : ℕ) (i : Item) → IsConsistent m → state_of m t ≡ is.Given i → Does m t None (accept m t p i)
-accept_does m t p (item.Notice n) h e = does_nothing m t None _ h
-accept_does m t p (item.Call c) h e = go (find_call m (is_given_as c t)) refl
-  where
-    at : (r : Call) → find_call m (is_given_as r.number t) ≡ Some r → state_of m t ≡ is.Given (item.Call r.number) → Does m t None (accept_call m t r.number (Some r))
-    at r f g =
-        does_call (is_given_as r.number t) (without_arguments_at (stage.Entered (tid t))) (λ x. refl)
-        m t None _ _ is.Running _ r h
-        (enter_thread-turns m.process_table t (item.Call r.number) (there m t (λ z. grind arith)))
-        f
-        (enter_keeps (core m) t r h.coherent (record_found m _ r h f) g)
-        (enters r refl g (given_is r.number t r (find-passes (is_given_as r.number t) m.call_tree.calls r f)).1 refl)
+-- the call is entered, with its descriptors
+begin_does :
+    (m : State) (t : ℕ) (r : Call) → IsConsistent m → find_call m (is_given_as r.number t) ≡ Some r →
+    state_of m t ≡ is.Given (item.Call r.number) → has_room m (process_of m t) r.objects ≡ true →
+    Does m t None (begin_call m t (process_of m t) r.number r)
+begin_does m t r h f g room =
+    does_call (is_given_as r.number t) (without_arguments_at (stage.Entered (tid t))) (λ x. refl)
+    m t None _ _ _ is.Running _ r h
+    (own_tables m t _ h (λ z. grind arith))
+    (enter_thread-turns m.process_table t (item.Call r.number) (there m t (λ z. grind arith)))
+    f
+    (enter_keeps (core m) t r h.coherent (record_found m _ r h f) g)
+    (enters r refl g (given_is r.number t r (find-passes (is_given_as r.number t) m.call_tree.calls r f)).1 room refl)
 
-    go : (o : Option Call) → find_call m (is_given_as c t) ≡ o → Does m t None (accept_call m t c o)
+-- too few descriptors are free: the call ends
+fail_does :
+    (m : State) (t : ℕ) (r : Call) → IsConsistent m → find_call m (is_given_as r.number t) ≡ Some r →
+    state_of m t ≡ is.Given (item.Call r.number) → has_room m (process_of m t) r.objects ≡ false →
+    Does m t None (fail_begin m t r.number r)
+fail_does m t r h f g full =
+    does_call (is_given_as r.number t) (without_arguments_at (stage.Ended EMFILE)) (λ x. refl)
+    m t None _ _ _ (is.Idle (now m)) _ r h
+    (same_tables m h)
+    (park_thread-turns m.process_table t (now m) (there m t (λ z. grind arith)))
+    f
+    (fail_keeps (core m) t r EMFILE (now m) h.coherent (record_found m _ r h f) g)
+    (ends r EMFILE
+    (server_full refl g (given_is r.number t r (find-passes (is_given_as r.number t) m.call_tree.calls r f)).1 full refl))
+
+pub accept_does :
+    (m : State) (t : ℕ) (i : Item) → IsConsistent m → state_of m t ≡ is.Given i → Does m t None (accept m t (process_of m t) i)
+accept_does m t (item.Notice n) h e = does_nothing m t None _ h
+accept_does m t (item.Call c) h e = go (find_call m (is_given_as c t)) refl
+  where
+    p : ℕ
+    p = process_of m t
+
+    at : (r : Call) → find_call m (is_given_as r.number t) ≡ Some r → state_of m t ≡ is.Given (item.Call r.number) → Does m t None (accept_call m t p r.number (Some r))
+    at r f g = by_room (has_room m p r.objects) refl
+      where
+        by_room : (b : Bool) → has_room m p r.objects ≡ b → Does m t None (if b then begin_call m t p r.number r else fail_begin m t r.number r)
+        by_room true room = begin_does m t r h f g room
+        by_room false full = fail_does m t r h f g full
+
+    go : (o : Option Call) → find_call m (is_given_as c t) ≡ o → Does m t None (accept_call m t p c o)
     go None f = does_nothing m t None _ h
     go (Some r) f =
         let n : r.number ≡ c = (given_is c t r (find-passes (is_given_as c t) m.call_tree.calls r f)).0 in
-        subst (λ (d : ℕ). Does m t None (accept_call m t d (Some r))) n
+        subst (λ (d : ℕ). Does m t None (accept_call m t p d (Some r))) n
         (at r (subst (λ (d : ℕ). find_call m (is_given_as d t) ≡ Some r) (sym n) f)
         (subst (λ (d : ℕ). state_of m t ≡ is.Given (item.Call d)) (sym n) e))
 
@@ -122,39 +156,62 @@ collects_is c r e = (grind (arith, nat_tests), grind (arith, nat_tests))
 caller_is : (m : State) (t : ℕ) (r : Call) → IsConsistent m → record_of m r.number ≡ Some r → state_of m t ≡ is.Calling r.number → r.caller.0 ≡ t
 caller_is m t r h f e = grind (arith, h.coherent.waits.caller r.number t e)
 
-pub collect_does :
-    (m : State) (t p c : ℕ) → IsConsistent m → state_of m t ≡ is.Calling c → is_some (find_call m (is_to_collect_as c)) ≡ true →
-    Does m t None (collect m t p c)
-collect_does m t p c h e s = go (find_call m (is_to_collect_as c)) refl s
+-- the objects that come with results are installed where there is room
+collect_tables :
+    (m : State) (t : ℕ) (objects : List Obj) → IsConsistent m → (state_of m t ≡ is.Done → ⊥) →
+    AreTables m (tables_after_collect m (process_of m t) objects)
+collect_tables m t objects h e = go (has_room m (process_of m t) objects)
   where
-    -- with the answer apart
-    at :
-        (r : Call) → find_call m (is_to_collect_as r.number) ≡ Some r → state_of m t ≡ is.Calling r.number → (a : Answer) →
-        ByAct m t None a (collect m t p r.number).state (Some r) (Some (without_arguments_at (stage.Answered (now m)) r)) →
-        Does m t None (act_result (collect m t p r.number).state a)
-    at r f g a b =
-        does_call (is_to_collect_as r.number) (without_arguments_at (stage.Answered (now m))) (λ x. refl)
-        m t None a _ is.Running _ r h
-        (set_thread_state-turns m.process_table t is.Running (there m t (λ z. grind arith)))
-        f
-        (collect_keeps (core m) t r (now m) h.coherent (record_found m (is_to_collect_as r.number) r h f) g
-        (collects_is r.number r (find-passes (is_to_collect_as r.number) m.call_tree.calls r f)).1)
-        b
+    go : (b : Bool) → AreTables m (if b then tables_with m (process_of m t) objects else m.tables)
+    go true = own_tables m t _ h e
+    go false = same_tables m h
 
-    by_stage :
-        (r : Call) → record_of m r.number ≡ Some r → state_of m t ≡ is.Calling r.number → (s : CallStage) → r.stage ≡ s →
-        is_to_collect s ≡ true →
-        ByAct m t None (collect_answer r s) (collect m t p r.number).state (Some r) (Some (without_arguments_at (stage.Answered (now m)) r))
-    by_stage r f g (stage.Returned bytes objects) z w = collects_results r bytes objects refl g (caller_is m t r h f g) z refl
-    by_stage r f g (stage.Ended x) z w = collects_error r x refl g (caller_is m t r h f g) z refl
-    by_stage r f g _ z w = absurd (grind arith)
+collect_arrow :
+    (m n : State) (t : ℕ) (r : Call) (s : CallStage) → state_of m t ≡ is.Calling r.number → r.caller.0 ≡ t → r.stage ≡ s →
+    is_to_collect s ≡ true →
+    ByAct m t None (collect_answer m (process_of m t) r s) n (Some r) (Some (without_arguments_at (stage.Answered (now m)) r))
+collect_arrow m n t r (stage.Returned bytes objects) g k z w = go (has_room m (process_of m t) objects) refl
+  where
+    go :
+        (b : Bool) → has_room m (process_of m t) objects ≡ b →
+        ByAct m t None
+        (if b
+        then answer.Results bytes (new_descriptors (table_of m (process_of m t)) objects) (nat_lt r.rsize (length bytes))
+        else answer.Failure EMFILE)
+        n (Some r) (Some (without_arguments_at (stage.Answered (now m)) r))
+    go true room = collects_results r bytes objects refl g k z room refl
+    go false full = collects_nothing r bytes objects refl g k z full refl
+collect_arrow m n t r (stage.Ended x) g k z w = collects_error r x refl g k z refl
+collect_arrow m n t r _ g k z w = absurd (grind arith)
+
+-- a collect, with the call that is found
+abbrev collect_found : State → ℕ → ℕ → ℕ → Option Call → ActResult
+collect_found m t p c o =
+    act_result
+    (after_act m (set_thread_state m.process_table t is.Running) (tables_after_collect m p (objects_collected_in o))
+    (collect_call m.call_tree c (now m)))
+    (collect_answer_in m p o)
+
+pub collect_does :
+    (m : State) (t c : ℕ) → IsConsistent m → state_of m t ≡ is.Calling c → is_some (find_call m (is_to_collect_as c)) ≡ true →
+    Does m t None (collect m t (process_of m t) c)
+collect_does m t c h e s = go (find_call m (is_to_collect_as c)) refl s
+  where
+    p : ℕ
+    p = process_of m t
 
     found : (r : Call) → find_call m (is_to_collect_as r.number) ≡ Some r → state_of m t ≡ is.Calling r.number → Does m t None (collect m t p r.number)
     found r f g =
-        subst (λ o. Does m t None (act_result (collect m t p r.number).state (collect_answer_in o))) (sym f)
-        (at r f g (collect_answer r r.stage)
-        (by_stage r (record_found m (is_to_collect_as r.number) r h f) g r.stage refl
-        (collects_is r.number r (find-passes (is_to_collect_as r.number) m.call_tree.calls r f)).1))
+        let there_is : record_of m r.number ≡ Some r = record_found m (is_to_collect_as r.number) r h f in
+        let passes : is_to_collect r.stage ≡ true = (collects_is r.number r (find-passes (is_to_collect_as r.number) m.call_tree.calls r f)).1 in
+        subst (λ o. Does m t None (collect_found m t p r.number o)) (sym f)
+        (does_call (is_to_collect_as r.number) (without_arguments_at (stage.Answered (now m))) (λ x. refl)
+        m t None _ _ _ is.Running _ r h
+        (collect_tables m t (objects_collected r.stage) h (λ z. grind arith))
+        (set_thread_state-turns m.process_table t is.Running (there m t (λ z. grind arith)))
+        f
+        (collect_keeps (core m) t r (now m) h.coherent there_is g passes)
+        (collect_arrow m _ t r r.stage g (caller_is m t r h there_is g) refl passes))
 
     go : (o : Option Call) → find_call m (is_to_collect_as c) ≡ o → is_some o ≡ true → Does m t None (collect m t p c)
     go None f s = grind arith
@@ -184,24 +241,33 @@ no_client m t c h e f = go (record_of m c) refl
     go (Some r) g = grind (arith, nat_tests, h.coherent.invocations.entered_back c t f, find-none (is_client_call_of t) m.call_tree.calls c r e g)
 
 pub return_does :
-    (m : State) (t p : ℕ) (bytes : List ℕ) (pass : List Pass) → IsConsistent m → state_of m t ≡ is.Running →
-    Does m t (Some (request.Return bytes pass)) (return m t p bytes pass)
-return_does m t p bytes pass h e = go (client_call m t) refl
+    (m : State) (t : ℕ) (bytes : List ℕ) (pass : List Pass) → IsConsistent m → state_of m t ≡ is.Running →
+    Does m t (Some (request.Return bytes pass)) (return m t (process_of m t) bytes pass)
+return_does m t bytes pass h e = go (client_call m t) refl
   where
+    objects : List Obj
+    objects = objects_passed (table_of m (process_of m t)) pass
+
+    tables : List (List (Option Obj))
+    tables = tables_after_pass m (process_of m t) pass
+
+    rows : AreTables m tables
+    rows = own_tables m t _ h (λ z. grind arith)
+
     turns : Turns m.process_table (park_thread m.process_table t (now m)) t (is.Idle (now m)) (upd (core m).serves t None)
     turns = park_thread-turns m.process_table t (now m) (there m t (λ z. grind arith))
 
-    go : (o : Option Call) → client_call m t ≡ o → Does m t (Some (request.Return bytes pass)) (return m t p bytes pass)
+    go : (o : Option Call) → client_call m t ≡ o → Does m t (Some (request.Return bytes pass)) (return m t (process_of m t) bytes pass)
     go (Some r) f =
         let s : (r.abandoned ≡ false) × (r.stage ≡ stage.Entered (tid t)) = client_is t r (find-passes (is_client_call_of t) m.call_tree.calls r f) in
         let g : record_of m r.number ≡ Some r = record_found m (is_client_call_of t) r h f in
-        does_call (is_client_call_of t) (without_arguments_at (stage.Returned bytes [])) (λ x. refl)
-        m t _ _ _ (is.Idle (now m)) _ r h turns f
-        (return_keeps (core m) t r bytes (now m) h.coherent e g (h.coherent.invocations.entered r.number t (grind arith)) s.0)
+        does_call (is_client_call_of t) (without_arguments_at (stage.Returned bytes objects)) (λ x. refl)
+        m t _ _ _ _ (is.Idle (now m)) _ r h rows turns f
+        (return_keeps (core m) t r bytes objects (now m) h.coherent e g (h.coherent.invocations.entered r.number t (grind arith)) s.0)
         (returns r bytes pass refl s.1 s.0 refl)
     go None f =
-        subst (λ rs. Does m t (Some (request.Return bytes pass)) (act_result (record m { process_table = park_thread m.process_table t (now m); call_tree = record m.call_tree { calls = rs } }) answer.Wait))
-        (sym (change_first-none (is_client_call_of t) (without_arguments_at (stage.Returned bytes [])) m.call_tree.calls f))
-        (does_thread m t _ answer.Wait _ (is.Idle (now m)) _ h turns
+        subst (λ rs. Does m t (Some (request.Return bytes pass)) (act_result (after_act m (park_thread m.process_table t (now m)) tables (record m.call_tree { calls = rs })) answer.Wait))
+        (sym (change_first-none (is_client_call_of t) (without_arguments_at (stage.Returned bytes objects)) m.call_tree.calls f))
+        (does_thread m t _ answer.Wait _ tables (is.Idle (now m)) _ h rows turns
         (park_keeps (core m) t (now m) h.coherent e (λ c g. no_client m t c h f g)
         (λ i g. grind (arith, h.coherent.notices_entered.notice_entered_back i t g, h.unbuilt.no_notices))))

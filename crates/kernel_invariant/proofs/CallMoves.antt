@@ -1,11 +1,11 @@
 -- The atomic changes of the core that acts of doors make: each keeps what holds of a core.
-use Rattle.std.specs.Prelude.{ℕ, ◌≡◌, ◌+◌, List, [], true, false, Some, None}
+use Rattle.std.specs.Prelude.{ℕ, ◌≡◌, ◌+◌, List, true, false, Some, None}
 use Rattle.std.proofs.Common.{refl}
 use native.Mathlib.Omega.{arith}
 use Rattle.std.proofs.lemmas.Bool.Decides.{nat_tests}
 use Rattle.dk_base.specs.declared.object.Item.TheVariants as item
 use Rattle.kernel_records.specs.declared.record.ThreadState.TheVariants as is
-use Rattle.written_kernel.specs.Types.{Call}
+use Rattle.written_kernel.specs.Types.{Call, Errno, Obj}
 use Rattle.kernel_records.specs.declared.record.CallStage.TheVariants as stage
 use Rattle.kernel_records.specs.Words.{is_to_collect, is_valid_in, new_invocation, no_cancel_of, tid, without_arguments_at}
 use Rattle.kernel_invariant.specs.Records.{item_in}
@@ -123,15 +123,58 @@ enter_keeps k t r h q g =
       has_built_state = λ v. grind (arith, nat_tests, h.has_built_state v);
     }
 
+-- a thread cannot enter the call that it was given: the call ends, and the thread is parked
+abbrev pub failed_core : Core → ℕ → Call → Errno → ℕ → Core
+failed_core k t r e since =
+    set_role (set_serves (set_call k r.number (without_arguments_at (stage.Ended e) r)) t None) t (is.Idle since)
+
+pub fail_keeps :
+    (k : Core) (t : ℕ) (r : Call) (e : Errno) (since : ℕ) → IsCoherent k → k.call r.number ≡ Some r →
+    k.role t ≡ is.Given (item.Call r.number) → IsCoherent (failed_core k t r e since)
+fail_keeps k t r x since h q g =
+    record {
+      waits =
+          record {
+            given = λ c v e. grind (arith, nat_tests, h.waits.given c v);
+            given_back = λ c v e. grind (arith, nat_tests, h.waits.given_back c v, h.waits.given_back r.number t);
+            caller = λ c v e. grind (arith, nat_tests, h.waits.caller c v);
+            live = λ c v e. grind (arith, nat_tests, h.waits.live c v);
+            calling = λ c e. grind (arith, nat_tests, h.waits.calling c, h.waits.given_back r.number t);
+          };
+      invocations =
+          record {
+            entered = λ c v e. grind (arith, nat_tests, h.invocations.entered c v, h.servers.outside t);
+            entered_back = λ c v e f. grind (arith, nat_tests, h.invocations.entered_back c v, h.waits.given_back r.number t);
+            kept = λ c e. grind (arith, nat_tests, h.invocations.kept c);
+          };
+      notices_given = notices_turn k.role k.notice t _ h.notices_given (grind arith) refl;
+      notices_entered =
+          notices_serve k.serves k.notice t _ h.notices_entered (λ n e. grind (arith, h.servers.outside t)) (λ n e. grind arith);
+      servers =
+          record {
+            outside = λ v e. grind (arith, nat_tests, h.servers.outside v);
+            below = λ c d v e f. grind (arith, nat_tests, h.servers.below c d v);
+            served_made = λ c v e. grind (arith, nat_tests, h.servers.served_made c v);
+          };
+      calls = calls_move k.call k.made r _ h.calls q;
+      at_doors = at_doors_move k.call k.door k.process r _ h.at_doors q refl;
+      doors = h.doors;
+      bindings = h.bindings;
+      processes = processes_turn k.role k.process k.proc t _ h.processes (grind arith);
+      threads = h.threads;
+      has_built_state = λ v. grind (arith, nat_tests, h.has_built_state v);
+    }
+
 -- a thread returns from its call, and is parked
-abbrev pub returned_core : Core → ℕ → Call → List ℕ → ℕ → Core
-returned_core k t r bytes since =
-    set_role (set_serves (set_call k r.number (without_arguments_at (stage.Returned bytes []) r)) t None) t (is.Idle since)
+abbrev pub returned_core : Core → ℕ → Call → List ℕ → List Obj → ℕ → Core
+returned_core k t r bytes objects since =
+    set_role (set_serves (set_call k r.number (without_arguments_at (stage.Returned bytes objects) r)) t None) t (is.Idle since)
 
 pub return_keeps :
-    (k : Core) (t : ℕ) (r : Call) (bytes : List ℕ) (since : ℕ) → IsCoherent k → k.role t ≡ is.Running → k.call r.number ≡ Some r →
-    item_in (k.serves t) ≡ Some (item.Call r.number) → r.abandoned ≡ false → IsCoherent (returned_core k t r bytes since)
-return_keeps k t r bytes since h p q s a =
+    (k : Core) (t : ℕ) (r : Call) (bytes : List ℕ) (objects : List Obj) (since : ℕ) → IsCoherent k → k.role t ≡ is.Running →
+    k.call r.number ≡ Some r → item_in (k.serves t) ≡ Some (item.Call r.number) → r.abandoned ≡ false →
+    IsCoherent (returned_core k t r bytes objects since)
+return_keeps k t r bytes objects since h p q s a =
     record {
       waits =
           record {

@@ -10,7 +10,7 @@ use Rattle.dk_base.specs.declared.request.Request.TheVariants as request
 use Rattle.kernel_records.specs.declared.record.ThreadState.TheVariants as is
 use Rattle.dk_base.specs.ByNumber.{at_number}
 use Rattle.kernel_records.specs.Words.{is_given_as, is_last, new_door, set_param, with_door, with_owner_ended, with_param}
-use Rattle.written_kernel.specs.Words.{MayTurn, State, accept, accept_call, act, await, await_name, door_of, effect, enter, exit, find_call, go_on, leave_process, leave_thread, name_of, process_of, refusal_of, state_of, step, unless_refused}
+use Rattle.written_kernel.specs.Words.{MayTurn, State, accept, accept_call, act, await, await_name, begin_call, door_of, effect, enter, exit, fail_begin, find_call, go_on, has_room, leave_process, leave_thread, name_of, process_of, refusal_of, state_of, step, unless_refused}
 use Rattle.written_kernel.proofs.Doors.{at_number-change_door}
 use Rattle.written_kernel.proofs.Lists.{at_number-map, numbered_push, numbered_past}
 use Rattle.kernel_invariant.specs.Invariant.{Invariant}
@@ -107,9 +107,13 @@ accept_holds : (m : State) (t p : ℕ) (i : Item) (d : ℕ) → Holds m t None (
 accept_holds m t p (item.Notice n) d = stays m t None (door_of m d)
 accept_holds m t p (item.Call c) d = go (find_call m (is_given_as c t))
   where
-    go : (o : Option Call) → Holds m t None (accept_call m t c o).state d
+    by_room : (r : Call) (b : Bool) → Holds m t None (if b then begin_call m t p c r else fail_begin m t c r).state d
+    by_room r true = stays m t None (door_of m d)
+    by_room r false = stays m t None (door_of m d)
+
+    go : (o : Option Call) → Holds m t None (accept_call m t p c o).state d
     go None = stays m t None (door_of m d)
-    go (Some r) = stays m t None (door_of m d)
+    go (Some r) = by_room r (has_room m p r.objects)
 
 go_on_holds : (m : State) (t p : ℕ) (s : ThreadState) (d : ℕ) → Holds m t None (go_on m t p s).state d
 go_on_holds m t p (is.Given i) d = accept_holds m t p i d

@@ -26,7 +26,7 @@ use Rattle.written_kernel.proofs.Threads.{thread_at-end_process}
 use Rattle.kernel_invariant.proofs.Calls.{find-map, IsInOrder-map}
 use Rattle.kernel_invariant.proofs.Cores.{same_core, end_thread-turns}
 use Rattle.kernel_invariant.proofs.ThreadMoves.{leave_keeps, ended_core, ended_call_of, Leaves, may_leave, end_keeps}
-use Rattle.kernel_invariant.proofs.Acts.{Does, act_result, does_thread, there}
+use Rattle.kernel_invariant.proofs.Acts.{Does, act_result, does_thread, same_tables, there}
 
 -- the end of a thread
 
@@ -34,7 +34,7 @@ end_thread_does :
     (m : State) (t : ℕ) (q : Option Request) → IsConsistent m → state_of m t ≡ is.Running → invocation_of m t ≡ None →
     Does m t q (act_result (leave_thread m t) answer.Done)
 end_thread_does m t q h e f =
-    does_thread m t q answer.Done _ is.Done _ h (end_thread-turns m.process_table t (there m t (λ z. grind arith)))
+    does_thread m t q answer.Done _ _ is.Done _ h (same_tables m h) (end_thread-turns m.process_table t (there m t (λ z. grind arith)))
     (leave_keeps (core m) t h.coherent e f)
 
 -- the end of a process

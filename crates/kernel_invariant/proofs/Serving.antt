@@ -9,7 +9,7 @@ use Rattle.dk_base.specs.declared.request.Request.TheVariants as request
 use Rattle.dk_base.specs.declared.answer.Answer.TheVariants as answer
 use Rattle.kernel_records.specs.declared.record.ThreadState.TheVariants as is
 use Rattle.kernel_records.specs.Words.{invocation_in, is_given_as, is_last, new_invocation, thread_at, enter_thread}
-use Rattle.written_kernel.specs.Words.{ActResult, MayInside, MayTurn, State, accept, accept_call, act, await, await_name, effect, enter, exit, find_call, go_on, invocation_of, leave_process, leave_thread, name_of, now, process_of, refusal_of, return, settle, state_of, step, unless_refused, with_event_counted}
+use Rattle.written_kernel.specs.Words.{ActResult, MayInside, MayTurn, State, accept, accept_call, act, await, await_name, begin_call, effect, enter, exit, fail_begin, find_call, go_on, has_room, invocation_of, leave_process, leave_thread, name_of, now, process_of, refusal_of, return, settle, state_of, step, unless_refused, with_event_counted}
 use Rattle.written_kernel.proofs.Invocations.{invocation-end_thread, invocation-enter_thread, invocation-park_thread, invocation-set_thread_state}
 use Rattle.kernel_invariant.specs.Core.{Core, core, is_outside}
 use Rattle.kernel_invariant.specs.Invariant.{IsConsistent, Invariant}
@@ -117,22 +117,33 @@ accept_serves : (m : State) (t p : ℕ) (i : Item) (u : ℕ) → IsConsistent m 
 accept_serves m t p (item.Notice n) u h e = stays
 accept_serves m t p (item.Call c) u h e = go (find_call m (is_given_as c t)) refl
   where
-    begun : (r : Call) → r.number ≡ c → (b : Bool) → (u == t) ≡ b → Serves m t None (accept_call m t c (Some r)) u
+    -- a thread that was given a call has no invocation
+    free : u ≡ t → invocation_of m u ≡ None
+    free same = ap (λ (v : ℕ). invocation_of m v) same ∙ h.coherent.servers.outside t (ap is_outside e)
+
+    begun : (r : Call) → r.number ≡ c → (b : Bool) → (u == t) ≡ b → Serves m t None (begin_call m t p c r) u
     begun r n true g =
         let same : u ≡ t = grind (arith, nat_tests) in
-        let free : invocation_of m u ≡ None = ap (λ (v : ℕ). invocation_of m v) same ∙ h.coherent.servers.outside t (ap is_outside e) in
-        let after : invocation_of (accept_call m t c (Some r)).state u ≡ Some (new_invocation (item.Call c)) =
+        let after : invocation_of (begin_call m t p c r).state u ≡ Some (new_invocation (item.Call c)) =
         serves_after_accept m t c u e ∙ ap (λ (b : Bool). if b then Some (new_invocation (item.Call c)) else invocation_of m u) g in
-        subst (λ o. InvocationArrow m t None (accept_call m t c (Some r)).answer (accept_call m t c (Some r)).state u o (invocation_of (accept_call m t c (Some r)).state u)) (sym free)
-        (subst (λ o. InvocationArrow m t None (accept_call m t c (Some r)).answer (accept_call m t c (Some r)).state u None o) (sym after)
+        subst (λ o. InvocationArrow m t None (begin_call m t p c r).answer (begin_call m t p c r).state u o (invocation_of (begin_call m t p c r).state u)) (sym (free same))
+        (subst (λ o. InvocationArrow m t None (begin_call m t p c r).answer (begin_call m t p c r).state u None o) (sym after)
         (begins (item.Call c) same refl e (ap (λ (x : ℕ). item.Call x) (sym n))))
     begun r n false g =
-        kept m t None (accept_call m t c (Some r)) u
+        kept m t None (begin_call m t p c r) u
         (serves_after_accept m t c u e ∙ ap (λ (b : Bool). if b then Some (new_invocation (item.Call c)) else invocation_of m u) g)
 
-    go : (o : Option Call) → find_call m (is_given_as c t) ≡ o → Serves m t None (accept_call m t c o) u
+    -- where the accept fails it has none as before
+    failed : (r : Call) → Serves m t None (fail_begin m t c r) u
+    failed r = kept m t None (fail_begin m t c r) u (invocation-park_thread m.process_table t (now m) u ∙ grind (arith, nat_tests, free))
+
+    by_room : (r : Call) → r.number ≡ c → (b : Bool) → Serves m t None (if b then begin_call m t p c r else fail_begin m t c r) u
+    by_room r n true = begun r n (u == t) refl
+    by_room r n false = failed r
+
+    go : (o : Option Call) → find_call m (is_given_as c t) ≡ o → Serves m t None (accept_call m t p c o) u
     go None f = stays
-    go (Some r) f = begun r (given_is c t r (find-passes (is_given_as c t) m.call_tree.calls r f)).0 (u == t) refl
+    go (Some r) f = by_room r (given_is c t r (find-passes (is_given_as c t) m.call_tree.calls r f)).0 (has_room m p r.objects)
 
 go_on_serves : (m : State) (t p : ℕ) (s : ThreadState) (u : ℕ) → IsConsistent m → state_of m t ≡ s → Serves m t None (go_on m t p s) u
 go_on_serves m t p (is.Given i) u h e = accept_serves m t p i u h e

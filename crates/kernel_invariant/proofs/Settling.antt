@@ -18,7 +18,7 @@ use Rattle.kernel_invariant.specs.Arrows.ByGiving.{stays, gives}
 use Rattle.kernel_invariant.proofs.Calls.{IsInOrder-change_first, find-as, length-change_first}
 use Rattle.kernel_invariant.proofs.Cores.{Turns, set_thread_state-turns, upd}
 use Rattle.kernel_invariant.proofs.ThreadMoves.{given_core, Gives, give_keeps}
-use Rattle.kernel_invariant.proofs.Acts.{act_consistent, change-core, there}
+use Rattle.kernel_invariant.proofs.Acts.{act_consistent, change-core, same_tables, there}
 use Rattle.kernel_invariant.proofs.Picks.{IsParked, pick_is, parked_is, pick_owner}
 use Rattle.written_kernel.proofs.Giving.{IsIn, IsApart, no_idle_for}
 use Rattle.std.proofs.lemmas.List.Elements.{All-nil, All-cons, All-map}
@@ -98,7 +98,7 @@ give_one_does m r u h g =
       gave =
           record {
             consistent =
-                act_consistent m _ _ h turns.processes
+                act_consistent m _ _ _ h (same_tables m h) turns.processes
                 (IsInOrder-change_first (is_queued_as r.number) change (λ y. refl) m.call_tree.calls 0 h.in_order)
                 (length-change_first (is_queued_as r.number) change m.call_tree.calls ∙ h.counted)
                 (subst IsCoherent (sym l) (give_keeps (core m) r u h.coherent g));
@@ -127,7 +127,7 @@ give_one_does m r u h g =
     turns = set_thread_state-turns m.process_table u (is.Given (item.Call r.number)) (there m u (λ z. grind (arith, g.idle)))
 
     l : core n ≡ given_core (core m) r u
-    l = change-core (is_queued_as r.number) change (λ y. refl) m u _ _ _ r h turns found
+    l = change-core (is_queued_as r.number) change (λ y. refl) m u _ m.tables _ _ r h turns found
 
 give_to_does :
     (m : State) (r : Call) → IsConsistent m → record_of m r.number ≡ Some r → r.stage ≡ stage.Queued →

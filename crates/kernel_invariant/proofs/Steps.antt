@@ -10,8 +10,8 @@ use Rattle.written_kernel.specs.Words.{MayInside, MayTurn, State, act, bound_of,
 use Rattle.kernel_invariant.specs.Records.{record_of}
 use Rattle.kernel_invariant.specs.Invariant.{IsConsistent, Invariant}
 use Rattle.kernel_invariant.specs.Arrows.{ByAct, EndsBy, Arrow}
-use Rattle.kernel_invariant.specs.Arrows.ByAct.{stays, makes, enters, returns, ends, collects_results, collects_error}
-use Rattle.kernel_invariant.specs.Arrows.EndsBy.{door_invalid}
+use Rattle.kernel_invariant.specs.Arrows.ByAct.{stays, makes, enters, returns, ends, collects_results, collects_nothing, collects_error}
+use Rattle.kernel_invariant.specs.Arrows.EndsBy.{door_invalid, server_full}
 use Rattle.kernel_invariant.proofs.Acts.{Does, does_nothing, create_does, names_does, rows_does, set_param_does, await_does, turned_to}
 use Rattle.kernel_invariant.proofs.CallActs.{call_does, return_does, accept_does, collect_does}
 use Rattle.kernel_invariant.proofs.Exits.{exit_does}
@@ -33,7 +33,7 @@ effect_does :
     refusal_of m t (process_of m t) r ≡ None → Does m t (Some r) (effect m t (process_of m t) r)
 effect_does m t (request.Create entry cookie attrs) h e i f = create_does m t _ entry cookie attrs h e f
 effect_does m t (request.Call fd bytes pass rsize) h e i f = call_does m t rsize fd bytes pass h e f
-effect_does m t (request.Return bytes pass) h e i f = return_does m t (process_of m t) bytes pass h e
+effect_does m t (request.Return bytes pass) h e i f = return_does m t bytes pass h e
 effect_does m t (request.SetParam fd x value) h e i f = set_param_does m t _ _ x value _ h
 effect_does m t (request.Close fd) h e i f = rows_does m t _ _ _ h e
 effect_does m t (request.Dup fd) h e i f = rows_does m t _ _ _ h e
@@ -54,16 +54,17 @@ enter_does m t r h e i = go (refusal_of m t (process_of m t) r) refl
     go None f = effect_does m t r h e i f
 
 go_on_does :
-    (m : State) (t p : ℕ) (s : ThreadState) → IsConsistent m → state_of m t ≡ s → can_go_on m s ≡ true → Does m t None (go_on m t p s)
-go_on_does m t p (is.Given i) h e f = accept_does m t p i h e
-go_on_does m t p (is.Calling c) h e f = collect_does m t p c h e f
-go_on_does m t p (is.Awaiting path) h e f = turned_to m t None is.Running _ h (grind arith) refl refl
-go_on_does m t p (is.Working op input) h e f = turned_to m t None is.Running _ h (grind arith) refl refl
-go_on_does m t p s h e f = does_nothing m t None _ h
+    (m : State) (t : ℕ) (s : ThreadState) → IsConsistent m → state_of m t ≡ s → can_go_on m s ≡ true →
+    Does m t None (go_on m t (process_of m t) s)
+go_on_does m t (is.Given i) h e f = accept_does m t i h e
+go_on_does m t (is.Calling c) h e f = collect_does m t c h e f
+go_on_does m t (is.Awaiting path) h e f = turned_to m t None is.Running _ h (grind arith) refl refl
+go_on_does m t (is.Working op input) h e f = turned_to m t None is.Running _ h (grind arith) refl refl
+go_on_does m t s h e f = does_nothing m t None _ h
 
 pub act_does : (m : State) (t : ℕ) (q : Option Request) → IsConsistent m → MayTurn m t q → Does m t q (act m t q)
 act_does m t (Some r) h may = enter_does m t r h (running_is m t may.running) may.inside
-act_does m t None h may = go_on_does m t (process_of m t) (state_of m t) h refl may.runnable
+act_does m t None h may = go_on_does m t (state_of m t) h refl may.runnable
 
 counted_keeps : (m : State) → IsConsistent m → IsConsistent (with_event_counted m)
 counted_keeps m h =
@@ -78,9 +79,11 @@ counted_keeps m h =
 
 -- an arrow of an act, seen from a later state in which the same doors are valid and no more threads are done
 ends_later :
-    (m n o : State) (r : Call) (e : Errno) → ((d : ℕ) → is_valid o d ≡ is_valid n d) →
-    ((u : ℕ) → state_of o u ≡ is.Done → state_of n u ≡ is.Done) → EndsBy m n r e → EndsBy m o r e
-ends_later m n o r _ h d (door_invalid e f g k) = door_invalid e f (h r.door ∙ g) (λ z. k (d r.caller.0 z))
+    (m : State) (t : ℕ) (q : Option Request) (a : Answer) (n o : State) (r : Call) (e : Errno) →
+    ((d : ℕ) → is_valid o d ≡ is_valid n d) → ((u : ℕ) → state_of o u ≡ is.Done → state_of n u ≡ is.Done) →
+    EndsBy m t q a n r e → EndsBy m t q a o r e
+ends_later m t q a n o r _ h d (door_invalid e f g k) = door_invalid e f (h r.door ∙ g) (λ z. k (d r.caller.0 z))
+ends_later m t q a n o r _ h d (server_full e f g k l) = server_full e f g k l
 
 by_act_later :
     (m : State) (t : ℕ) (q : Option Request) (a : Answer) (n o : State) (before after : Option Call) →
@@ -88,10 +91,11 @@ by_act_later :
     ByAct m t q a n before after → ByAct m t q a o before after
 by_act_later m t q a n o before after h d stays = stays
 by_act_later m t q a n o before after h d (makes door rsize fd bytes pass e f g k) = makes door rsize fd bytes pass e f g k
-by_act_later m t q a n o before after h d (enters r e f g k) = enters r e f g k
+by_act_later m t q a n o before after h d (enters r e f g k l) = enters r e f g k l
 by_act_later m t q a n o before after h d (returns r bytes pass e f g k) = returns r bytes pass e f g k
-by_act_later m t q a n o before after h d (ends r e f) = ends r e (ends_later m n o r e h d f)
-by_act_later m t q a n o before after h d (collects_results r bytes objects e f g k l) = collects_results r bytes objects e f g k l
+by_act_later m t q a n o before after h d (ends r e f) = ends r e (ends_later m t q a n o r e h d f)
+by_act_later m t q a n o before after h d (collects_results r bytes objects e f g k l z) = collects_results r bytes objects e f g k l z
+by_act_later m t q a n o before after h d (collects_nothing r bytes objects e f g k l z) = collects_nothing r bytes objects e f g k l z
 by_act_later m t q a n o before after h d (collects_error r e f g k l z) = collects_error r e f g k l z
 
 -- what an act and the kernel after it do

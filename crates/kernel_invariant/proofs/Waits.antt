@@ -1,22 +1,23 @@
--- The ends of waits that change a call: an accept enters the call that its thread was given, and a collect answers its
--- caller's call.
-use Rattle.std.specs.Prelude.{ℕ, ◌≡◌, Option, true, Some, None, is_some}
-use Rattle.std.proofs.Common.{refl, sym, ap, subst, ◌∙◌}
+-- The ends of waits that change a call: an accept enters the call that its thread was given, or the call ends, and a collect
+-- answers its caller's call.
+use Rattle.std.specs.Prelude.{ℕ, ◌≡◌, Option, Bool, true, false, if◌then◌else◌, Some, None, find, is_some}
+use Rattle.std.proofs.Common.{refl, sym, ap, subst, ◌∙◌, inl, inr, ⊎_elim}
 use native.Mathlib.Omega.{arith}
 use Rattle.std.proofs.lemmas.Bool.Decides.{nat_tests}
+use Rattle.dk_base.specs.declared.error.Errno.TheVariants.{EMFILE}
 use Rattle.dk_base.specs.declared.object.Item.TheVariants as item
 use Rattle.written_kernel.specs.Types.{Call, CallStage, Request}
 use Rattle.kernel_records.specs.declared.record.ThreadState.TheVariants as is
 use Rattle.kernel_records.specs.declared.record.CallStage.TheVariants as stage
 use Rattle.kernel_records.specs.Words.{is_given_as, is_to_collect_as, tid, without_arguments_at}
-use Rattle.written_kernel.specs.Words.{MayTurn, State, accept_call, act, can_go_on, find_call, go_on, now, process_of, state_of, step}
-use Rattle.kernel_invariant.specs.Records.{record_of, stage_in, stage_of}
+use Rattle.written_kernel.specs.Words.{MayTurn, State, accept, accept_call, act, begin_call, can_go_on, fail_begin, find_call, go_on, has_room, now, process_of, state_of, step}
+use Rattle.kernel_invariant.specs.Records.{has_number, record_of, stage_in, stage_of}
 use Rattle.kernel_invariant.specs.Invariant.{IsConsistent, Invariant}
 use Rattle.kernel_invariant.specs.Arrows.{ByGiving}
 use Rattle.kernel_invariant.specs.Arrows.ByGiving.{stays, gives}
-use Rattle.kernel_invariant.specs.Events.{IsAnsweredNow}
+use Rattle.kernel_invariant.specs.Events.{IsAcceptedNow, IsAnsweredNow}
 use Rattle.kernel_invariant.proofs.Calls.{find-as, find-number, find-passes}
-use Rattle.kernel_invariant.proofs.Acts.{change-call}
+use Rattle.kernel_invariant.proofs.Acts.{change-call, changed_tree}
 use Rattle.kernel_invariant.proofs.CallActs.{collects_is, given_is}
 use Rattle.kernel_invariant.proofs.Steps.{StepDoes, step_does}
 
@@ -46,22 +47,37 @@ given_found m t c h e = go (record_of m c) refl
         let given : r.stage ≡ stage.Given (tid t) = grind (arith, h.coherent.waits.given_back c t e) in
         ap is_some (find-as (is_given_as c t) m.call_tree.calls c r (λ y g. grind (arith, nat_tests)) f (grind (arith, nat_tests)))
 
+-- and after the accept is at the stage that it moves it to
+stage_accepted :
+    (m : State) (t c : ℕ) (r : Call) (s : CallStage) → IsConsistent m → find_call m (is_given_as c t) ≡ Some r →
+    stage_in (find (has_number c) (changed_tree m.call_tree (is_given_as c t) (without_arguments_at s)).calls) ≡ Some s
+stage_accepted m t c r s h g =
+    let n : r.number ≡ c = (given_is c t r (find-passes (is_given_as c t) m.call_tree.calls r g)).0 in
+    ap stage_in (change-call (is_given_as c t) (without_arguments_at s) (λ x. refl) m r c h g) ∙ grind (arith, nat_tests)
+
+accepted : (m : State) (t p c : ℕ) → IsConsistent m → state_of m t ≡ is.Given (item.Call c) → IsAcceptedNow m (accept m t p (item.Call c)).state t c
+accepted m t p c h e = go (find_call m (is_given_as c t)) refl (given_found m t c h e)
+  where
+    by_room :
+        (r : Call) → find_call m (is_given_as c t) ≡ Some r → (b : Bool) →
+        IsAcceptedNow m (if b then begin_call m t p c r else fail_begin m t c r).state t c
+    by_room r g true = inl (stage_accepted m t c r (stage.Entered (tid t)) h g)
+    by_room r g false = inr (stage_accepted m t c r (stage.Ended EMFILE) h g)
+
+    go : (o : Option Call) → find_call m (is_given_as c t) ≡ o → is_some o ≡ true → IsAcceptedNow m (accept_call m t p c o).state t c
+    go None g s = grind arith
+    go (Some r) g s = by_room r g (has_room m p r.objects)
+
 pub step_accepted :
     (m : State) (t : ℕ) (q : Option Request) (c : ℕ) → Invariant m → MayTurn m t q → q ≡ None → state_of m t ≡ is.Given (item.Call c) →
-    stage_of (step m t q).state c ≡ Some (stage.Entered (tid t))
+    IsAcceptedNow m (step m t q).state t c
 step_accepted m t q c h may e f =
-    subst (λ p. MayTurn m t p → stage_of (step m t p).state c ≡ Some (stage.Entered (tid t))) (sym e)
-    (λ w. stage_stays m t None c (stage.Entered (tid t)) (step_does m t None h w)
-    (ap (λ s. stage_of (go_on m t (process_of m t) s).state c) f ∙ go (find_call m (is_given_as c t)) refl (given_found m t c h.consistent f))
-    (λ z. grind arith))
+    subst (λ o. MayTurn m t o → IsAcceptedNow m (step m t o).state t c) (sym e)
+    (λ w. ⊎_elim
+    (λ g. inl (stage_stays m t None c (stage.Entered (tid t)) (step_does m t None h w) g (λ z. grind arith)))
+    (λ g. inr (stage_stays m t None c (stage.Ended EMFILE) (step_does m t None h w) g (λ z. grind arith)))
+    (subst (λ s. IsAcceptedNow m (go_on m t (process_of m t) s).state t c) (sym f) (accepted m t (process_of m t) c h.consistent f)))
     may
-  where
-    go : (o : Option Call) → find_call m (is_given_as c t) ≡ o → is_some o ≡ true → stage_of (accept_call m t c o).state c ≡ Some (stage.Entered (tid t))
-    go None g s = grind arith
-    go (Some r) g s =
-        let n : r.number ≡ c = (given_is c t r (find-passes (is_given_as c t) m.call_tree.calls r g)).0 in
-        ap stage_in (change-call (is_given_as c t) (without_arguments_at (stage.Entered (tid t))) (λ x. refl) m r c h.consistent g)
-        ∙ grind (arith, nat_tests)
 
 -- collect
 

@@ -1,24 +1,36 @@
 -- The arrows of calls: from the state before an event to the state after it each call's record stays as it is or takes
 -- arrows of this table. An arrow keeps each field of the record that it doesn't name, and says what the event answers.
-use Rattle.std.specs.Prelude.{ℕ, ◌≡◌, List, [], Option, true, false, Some, None, length, nat_lt}
+use Rattle.std.specs.Prelude.{ℕ, ◌≡◌, List, Option, Bool, true, false, Some, None, length, nat_lt}
 use Rattle.written_kernel.specs.Types.{Answer, Call, Errno, Fd, Obj, Pass, Request}
-use Rattle.dk_base.specs.declared.error.Errno.TheVariants.{EBADF}
+use Rattle.dk_base.specs.declared.error.Errno.TheVariants.{EBADF, EMFILE}
 use Rattle.dk_base.specs.declared.object.Obj.TheVariants as obj
 use Rattle.dk_base.specs.declared.object.Item.TheVariants as item
 use Rattle.dk_base.specs.declared.request.Request.TheVariants as request
 use Rattle.dk_base.specs.declared.answer.Answer.TheVariants as answer
 use Rattle.kernel_records.specs.declared.record.ThreadState.TheVariants as is
 use Rattle.kernel_records.specs.declared.record.CallStage.TheVariants as stage
-use Rattle.kernel_records.specs.Words.{at_stage, cookie_of, entry_of, first_refusal, tid, without_arguments_at}
-use Rattle.written_kernel.specs.Words.{State, call_tests, door_of, is_valid, new_call, now, object_at, process_of, state_of}
+use Rattle.kernel_records.specs.Words.{at_stage, cookie_of, entry_of, first_refusal, new_descriptors, objects_passed, tid, without_arguments_at}
+use Rattle.written_kernel.specs.Words.{State, call_tests, door_of, has_room, is_valid, new_call, now, object_at, process_of, state_of, table_of}
 
--- Why a call ends without results, by an event from state m to state n: a constructor for each cause. The caller does not
--- end in the event.
-pub data EndsBy (m n : State) (r : Call) : Errno → Type 0 where
+-- the table of a thread's process
+abbrev pub own_table : State → ℕ → List (Option Obj)
+own_table m t = table_of m (process_of m t)
+
+-- whether it has a free descriptor for each of these
+abbrev pub has_own_room : State → ℕ → List Obj → Bool
+has_own_room m t objects = has_room m (process_of m t) objects
+
+-- Why a call ends without results, by an act of thread t from state m to state n: a constructor for each cause. The caller does
+-- not end in the event.
+pub data EndsBy (m : State) (t : ℕ) (q : Option Request) (a : Answer) (n : State) (r : Call) : Errno → Type 0 where
   -- the door of a waiting call becomes invalid
   door_invalid :
       r.stage ≡ stage.Queued → is_valid m r.door ≡ true → is_valid n r.door ≡ false → (state_of n r.caller.0 ≡ is.Done → ⊥) →
-      EndsBy m n r EBADF
+      EndsBy m t q a n r EBADF
+  -- the thread that it was given to accepts it, and its process has too few descriptors free for the call's objects
+  server_full :
+      q ≡ None → state_of m t ≡ is.Given (item.Call r.number) → r.stage ≡ stage.Given (tid t) →
+      has_own_room m t r.objects ≡ false → a ≡ answer.EnterFailed r.number → EndsBy m t q a n r EMFILE
 
 -- by the act of thread t, with request q or the end of its wait and answer a, from state m to state n
 pub data ByAct (m : State) (t : ℕ) (q : Option Request) (a : Answer) (n : State) : Option Call → Option Call → Type 0 where
@@ -27,25 +39,32 @@ pub data ByAct (m : State) (t : ℕ) (q : Option Request) (a : Answer) (n : Stat
   makes :
       (d rsize : ℕ) (fd : Fd) (bytes : List ℕ) (pass : List Pass) → q ≡ Some (request.Call fd bytes pass rsize) →
       object_at m (process_of m t) fd ≡ Some (obj.Door d) → first_refusal (call_tests m (process_of m t) fd bytes pass) ≡ None →
-      a ≡ answer.WaitCall (new_call m t d bytes [] rsize).number →
-      ByAct m t q a n None (Some (new_call m t d bytes [] rsize))
-  -- Given to Entered, at the accept of the thread that it was given to
+      a ≡ answer.WaitCall (new_call m t d bytes (objects_passed (own_table m t) pass) rsize).number →
+      ByAct m t q a n None (Some (new_call m t d bytes (objects_passed (own_table m t) pass) rsize))
+  -- Given to Entered, at the accept of the thread that it was given to, with a descriptor for each of its objects
   enters :
       (r : Call) → q ≡ None → state_of m t ≡ is.Given (item.Call r.number) → r.stage ≡ stage.Given (tid t) →
-      a ≡ answer.Entered r.number (entry_of (door_of m r.door)) (cookie_of (door_of m r.door)) r.bytes [] →
+      has_own_room m t r.objects ≡ true →
+      a ≡ answer.Entered r.number (entry_of (door_of m r.door)) (cookie_of (door_of m r.door)) r.bytes (new_descriptors (own_table m t) r.objects) →
       ByAct m t q a n (Some r) (Some (without_arguments_at (stage.Entered (tid t)) r))
   -- Entered to Returned, at a Return of the thread that entered it, that is not refused
   returns :
       (r : Call) (bytes : List ℕ) (pass : List Pass) → q ≡ Some (request.Return bytes pass) →
       r.stage ≡ stage.Entered (tid t) → r.abandoned ≡ false → a ≡ answer.Wait →
-      ByAct m t q a n (Some r) (Some (without_arguments_at (stage.Returned bytes []) r))
+      ByAct m t q a n (Some r) (Some (without_arguments_at (stage.Returned bytes (objects_passed (own_table m t) pass)) r))
   -- to Ended
   ends :
-      (r : Call) (e : Errno) → EndsBy m n r e → ByAct m t q a n (Some r) (Some (without_arguments_at (stage.Ended e) r))
-  -- Returned to Answered, at the collect of its caller
+      (r : Call) (e : Errno) → EndsBy m t q a n r e → ByAct m t q a n (Some r) (Some (without_arguments_at (stage.Ended e) r))
+  -- Returned to Answered, at the collect of its caller, with a descriptor for each of the objects
   collects_results :
       (r : Call) (bytes : List ℕ) (objects : List Obj) → q ≡ None → state_of m t ≡ is.Calling r.number → r.caller.0 ≡ t →
-      r.stage ≡ stage.Returned bytes objects → a ≡ answer.Results bytes [] (nat_lt r.rsize (length bytes)) →
+      r.stage ≡ stage.Returned bytes objects → has_own_room m t objects ≡ true →
+      a ≡ answer.Results bytes (new_descriptors (own_table m t) objects) (nat_lt r.rsize (length bytes)) →
+      ByAct m t q a n (Some r) (Some (without_arguments_at (stage.Answered (now m)) r))
+  -- the same where too few descriptors are free
+  collects_nothing :
+      (r : Call) (bytes : List ℕ) (objects : List Obj) → q ≡ None → state_of m t ≡ is.Calling r.number → r.caller.0 ≡ t →
+      r.stage ≡ stage.Returned bytes objects → has_own_room m t objects ≡ false → a ≡ answer.Failure EMFILE →
       ByAct m t q a n (Some r) (Some (without_arguments_at (stage.Answered (now m)) r))
   -- Ended to Answered, at the collect of its caller
   collects_error :

@@ -1,7 +1,8 @@
 -- What every event does: it keeps the invariant; each call's record takes arrows of the table, and the invocation of each
 -- thread one of its own; what its answer tells is so; doors are made and kept; and a refused entry changes nothing.
-use Rattle.std.specs.Prelude.{ℕ, ◌≡◌, ◌+◌, ◌≤◌, Option, List, [], Some, None}
+use Rattle.std.specs.Prelude.{ℕ, ◌≡◌, ◌+◌, ◌≤◌, ◌⊎◌, Option, List, Some, None}
 use Rattle.written_kernel.specs.Types.{Answer, Door, Errno, Fd, Inv, Item, Pass, Request, ThreadState}
+use Rattle.dk_base.specs.declared.error.Errno.TheVariants.{EMFILE}
 use Rattle.dk_base.specs.declared.object.Item.TheVariants as item
 use Rattle.dk_base.specs.declared.request.Request.TheVariants as request
 use Rattle.dk_base.specs.declared.answer.Answer.TheVariants as answer
@@ -69,6 +70,7 @@ pub record IsCaller (m : State) (t : ℕ) : Type 0 where
 abbrev pub IsToldBy : State → ℕ → Option Request → Answer → Type 0
 IsToldBy m t q (answer.WaitCall c) = IsCallOf q c m.call_tree.made
 IsToldBy m t q (answer.Entered c entry cookie bytes fds) = (q ≡ None) × (state_of m t ≡ is.Given (item.Call c))
+IsToldBy m t q (answer.EnterFailed c) = (q ≡ None) × (state_of m t ≡ is.Given (item.Call c))
 IsToldBy m t q (answer.EnteredNotice n entry cookie) = (q ≡ None) × (state_of m t ≡ is.Given (item.Notice n))
 IsToldBy m t q (answer.Results bytes fds grown) = (q ≡ None) × IsCaller m t
 IsToldBy m t q a = Unit {0}
@@ -78,15 +80,19 @@ pub record IsMade {X : Type 0} (o : Option X) : Type 0 where
   pub made : X
   pub there : o ≡ Some made
 
+-- a call that a thread was given is entered by it, or ends since too few descriptors are free for its objects
+abbrev pub IsAcceptedNow : State → State → ℕ → ℕ → Type 0
+IsAcceptedNow m n t c = (stage_of n c ≡ Some (stage.Entered (tid t))) ⊎ (stage_of n c ≡ Some (stage.Ended EMFILE))
+
 -- the call is answered, at this event
 abbrev pub IsAnsweredNow : State → State → ℕ → Type 0
 IsAnsweredNow m n c = stage_of n c ≡ Some (stage.Answered (m.events + 1))
 
--- the entries that are built: descriptors are not passed yet, and a thread in an invocation neither calls nor exits
+-- the entries that are built: a thread in an invocation neither calls nor exits yet
 abbrev pub IsBuiltEntry : State → ℕ → Request → Type 0
 IsBuiltEntry m t (request.Create entry cookie attrs) = capability_of_attrs attrs ≤ BUILT
-IsBuiltEntry m t (request.Call fd bytes pass rsize) = (pass ≡ []) × (invocation_of m t ≡ None)
-IsBuiltEntry m t (request.Return bytes pass) = pass ≡ []
+IsBuiltEntry m t (request.Call fd bytes pass rsize) = invocation_of m t ≡ None
+IsBuiltEntry m t (request.Return bytes pass) = Unit {0}
 IsBuiltEntry m t (request.Info fd) = Unit {0}
 IsBuiltEntry m t (request.GetParam fd param) = Unit {0}
 IsBuiltEntry m t (request.SetParam fd param value) = Unit {0}
@@ -122,7 +128,7 @@ pub record Keeps (m : State) (t : ℕ) (q : Option Request) : Type 0 where
   -- accept, collect and a new call do so
   pub called : (c : ℕ) → (step m t q).answer ≡ answer.WaitCall c → IsMade (record_of (step m t q).state c)
   pub accepted :
-      (c : ℕ) → q ≡ None → state_of m t ≡ is.Given (item.Call c) → stage_of (step m t q).state c ≡ Some (stage.Entered (tid t))
+      (c : ℕ) → q ≡ None → state_of m t ≡ is.Given (item.Call c) → IsAcceptedNow m (step m t q).state t c
   pub collected : (c : ℕ) → q ≡ None → state_of m t ≡ is.Calling c → IsAnsweredNow m (step m t q).state c
   -- an entry that is refused changes nothing but the number of events
   pub refused :

@@ -1,31 +1,32 @@
 -- What refuses a Call, and what a caller collects, has its cause in every run.
-use Rattle.std.specs.Prelude.{ℕ, ◌≡◌, ◌+◌, ◌≤◌, ◌↔◌, List, [], Option, Bool, true, false, Some, None, length, nat_lt, slice_get}
-use Rattle.std.proofs.Common.{refl, sym, ap, subst, ◌∙◌}
+use Rattle.std.specs.Prelude.{ℕ, ◌≡◌, ◌+◌, ◌≤◌, ◌↔◌, ◌⊎◌, List, Option, Bool, true, false, Some, None, length, nat_lt, slice_get}
+use Rattle.std.proofs.Common.{refl, sym, ap, subst, ◌∙◌, inl, inr}
 use native.Mathlib.Omega.{arith}
 use Rattle.std.proofs.lemmas.Option.{slice_get_within}
 use Rattle.written_kernel.specs.Types.{Answer, Call, CallStage, Errno, Fd, Obj, Pass, Request, ThreadState}
+use Rattle.dk_base.specs.declared.error.Errno.TheVariants.{EMFILE}
 use Rattle.dk_base.specs.declared.request.Request.TheVariants as request
 use Rattle.dk_base.specs.declared.answer.Answer.TheVariants as answer
 use Rattle.kernel_records.specs.declared.record.CallStage.TheVariants as stage
 use Rattle.kernel_records.specs.declared.record.ThreadState.TheVariants as is
-use Rattle.kernel_records.specs.Words.{is_live, tid}
+use Rattle.kernel_records.specs.Words.{is_live, new_descriptors, objects_passed, tid}
 use Rattle.written_kernel.specs.Words.{State, Turn, door_named, make_call, new_call, object_at, process_of, state_at, state_of, step, unless_refused}
 use Rattle.kernel_invariant.specs.Records.{record_of, stage_in, stage_of}
 use Rattle.kernel_invariant.specs.Core.{caller_number, is_underway, live_in, underway_in}
-use Rattle.kernel_invariant.specs.Arrows.{EndsBy}
-use Rattle.kernel_invariant.specs.Arrows.EndsBy.{door_invalid as invalid}
+use Rattle.kernel_invariant.specs.Arrows.{EndsBy, own_table}
+use Rattle.kernel_invariant.specs.Arrows.EndsBy.{door_invalid as invalid, server_full as full}
 use Rattle.kernel_laws.specs.Places.{IsCollect, IsRefusedBy, ReturnsCall, answer_at, process_at}
-use Rattle.kernel_laws.specs.Cause.{Cause, HasCause, IsCall, IsCaused, Leaves, MakesOne, TellsSame}
-use Rattle.kernel_laws.specs.Cause.Cause.{results, door_invalid}
+use Rattle.kernel_laws.specs.Cause.{Cause, HasCause, IsCall, IsCaused, Leaves, MakesOne, TellsSame, has_room_at}
+use Rattle.kernel_laws.specs.Cause.Cause.{results, caller_full, server_full, door_invalid}
 use Rattle.kernel_laws.proofs.Refusals.{entry_tells, none_of, refusal_at, refusal_of_table, table_of_refusal}
 use Rattle.kernel_laws.proofs.Changes.{over_rank, rank_in, underway_rank}
 use Rattle.kernel_laws.proofs.Known.{Known, invariant_before, never_less, rises_once, same_turn}
 use Rattle.kernel_laws.proofs.Story.{story}
 use Rattle.kernel_laws.proofs.Rows.{HandsOver, is_ended_call, is_ended_in}
-use Rattle.kernel_laws.proofs.Rows.HandsOver.{results as hands_results, error as hands_error}
-use Rattle.kernel_laws.proofs.Readers.{AnsweredRowAt, EndedAt, ReturnedAt, ended, same_record}
+use Rattle.kernel_laws.proofs.Rows.HandsOver.{results as hands_results, nothing as hands_nothing, error as hands_error}
+use Rattle.kernel_laws.proofs.Readers.{AnsweredRowAt, EndedAt, ReturnedAt, ended, number_of, same_record, table_at}
 use Rattle.kernel_laws.proofs.Once.{answered_by, collects, returned_before}
-use Rattle.kernel_laws.proofs.Match.{GoesOn, goes_on, made_by, returns_call, same_results}
+use Rattle.kernel_laws.proofs.Match.{GoesOn, goes_on, made_by, returns_call, same_objects, same_results}
 
 -- a Call that is not refused answers the number of a call
 
@@ -33,18 +34,21 @@ record IsMadeCall (a : Answer) : Type 0 where
   call : ℕ
   waits : a ≡ answer.WaitCall call
 
-unless_makes : (m : State) (t : ℕ) (r : Call) (o : Option Errno) → o ≡ None → IsMadeCall (unless_refused m o (make_call m t r)).answer
-unless_makes m t r None h = record { call = r.number; waits = refl }
-unless_makes m t r (Some e) h = absurd (cc h)
+unless_makes :
+    (m : State) (t p : ℕ) (pass : List Pass) (r : Call) (o : Option Errno) → o ≡ None →
+    IsMadeCall (unless_refused m o (make_call m t p pass r)).answer
+unless_makes m t p pass r None h = record { call = r.number; waits = refl }
+unless_makes m t p pass r (Some e) h = absurd (cc h)
 
 step_makes :
     (m : State) (t : ℕ) (fd : Fd) (bytes : List ℕ) (pass : List Pass) (rsize : ℕ) →
-    refusal_at m (length bytes) (length pass) (object_at m (process_of m t) fd) ≡ None →
+    refusal_at m (process_of m t) (length bytes) pass (object_at m (process_of m t) fd) ≡ None →
     IsMadeCall (step m t (Some (request.Call fd bytes pass rsize))).answer
 unfolding step
 step_makes m t fd bytes pass rsize h =
-    unless_makes m t (new_call m t (door_named (object_at m (process_of m t) fd)) bytes [] rsize)
-    (refusal_at m (length bytes) (length pass) (object_at m (process_of m t) fd))
+    unless_makes m t (process_of m t) pass
+    (new_call m t (door_named (object_at m (process_of m t) fd)) bytes (objects_passed (own_table m t) pass) rsize)
+    (refusal_at m (process_of m t) (length bytes) pass (object_at m (process_of m t) fd))
     h
 
 -- records
@@ -61,12 +65,26 @@ same_error : (e f : Errno) (s : CallStage) → s ≡ stage.Ended e → s ≡ sta
 same_error e f s g h = cc
 
 same_told :
-    (b d : List ℕ) (n l : ℕ) → b ≡ d → n ≡ l →
-    answer.Results b [] (nat_lt n (length b)) ≡ answer.Results d [] (nat_lt l (length d))
-same_told b d n l e f = ap (λ (x : List ℕ). answer.Results x [] (nat_lt n (length x))) e ∙ ap (λ (x : ℕ). answer.Results d [] (nat_lt x (length d))) f
+    (b d : List ℕ) (fds : List Fd) (n l : ℕ) → b ≡ d → n ≡ l →
+    answer.Results b fds (nat_lt n (length b)) ≡ answer.Results d fds (nat_lt l (length d))
+same_told b d fds n l e f =
+    ap (λ (x : List ℕ). answer.Results x fds (nat_lt n (length x))) e ∙ ap (λ (x : ℕ). answer.Results d fds (nat_lt x (length d))) f
 
-ends_underway : (m n : State) (r : Call) (e : Errno) → EndsBy m n r e → is_underway r.stage ≡ true
-ends_underway m n r e (invalid q v w d) = ap is_underway q
+ends_underway :
+    (m : State) (t : ℕ) (q : Option Request) (a : Answer) (n : State) (r : Call) (e : Errno) → EndsBy m t q a n r e →
+    is_underway r.stage ≡ true
+ends_underway m t q a n r e (invalid s v w d) = ap is_underway s
+ends_underway m t q a n r e (full s v w d f) = ap is_underway w
+
+given_not_entered : (o : Option Call) (r : Call) (t u : ℕ) → o ≡ Some r → r.stage ≡ stage.Given (tid u) → stage_in o ≡ Some (stage.Entered (tid t)) → ⊥
+given_not_entered o r t u e f g = grind arith
+
+given_not_queued : (o : Option Call) (r s : Call) (u : ℕ) → o ≡ Some r → o ≡ Some s → r.stage ≡ stage.Given (tid u) → s.stage ≡ stage.Queued → ⊥
+given_not_queued o r s u e f g h = grind arith
+
+-- what is returned at one place
+same_handed : (o : Option CallStage) (b d : List ℕ) (x y : List Obj) → o ≡ Some (stage.Returned b x) → o ≡ Some (stage.Returned d y) → x ≡ y
+same_handed o b d x y e f = cc
 
 underway_at_least : (o : Option Call) → underway_in o ≡ true → 1 ≤ rank_in o
 underway_at_least o e = grind arith
@@ -86,7 +104,7 @@ not_gone o e f = grind arith
 module _ (m : State) (xs : List Turn) (k : Known m xs) where
   abbrev refusal_in : ℕ → Turn → Fd → List ℕ → List Pass → Option Errno
   refusal_in i x fd bytes pass =
-      refusal_at (state_at m xs i) (length bytes) (length pass) (object_at (state_at m xs i) (process_at m xs i x.thread) fd)
+      refusal_at (state_at m xs i) (process_at m xs i x.thread) (length bytes) pass (object_at (state_at m xs i) (process_at m xs i x.thread) fd)
 
   call_tells :
       (i : ℕ) (x : Turn) (fd : Fd) (bytes : List ℕ) (e : Errno) → (h : IsCall m xs i x fd bytes) →
@@ -98,8 +116,8 @@ module _ (m : State) (xs : List Turn) (k : Known m xs) where
       (i : ℕ) (x : Turn) (fd : Fd) (bytes : List ℕ) (e : Errno) → (h : IsCall m xs i x fd bytes) →
       (answer_at m xs i x ≡ answer.Failure e) ↔ IsRefusedBy m xs i x.thread fd bytes h.pass e
   refused i x fd bytes e h = (
-    λ a. table_of_refusal _ _ _ _ e ((call_tells i x fd bytes e h).0 a),
-    λ r. (call_tells i x fd bytes e h).1 (refusal_of_table _ _ _ _ e r),
+    λ a. table_of_refusal _ _ _ _ _ e ((call_tells i x fd bytes e h).0 a),
+    λ r. (call_tells i x fd bytes e h).1 (refusal_of_table _ _ _ _ _ e r),
   )
 
   not_refused :
@@ -108,7 +126,7 @@ module _ (m : State) (xs : List Turn) (k : Known m xs) where
   not_refused i x fd bytes h e =
       go
       (subst (λ q. IsMadeCall (step (state_at m xs i) x.thread q).answer) (sym h.request)
-      (step_makes (state_at m xs i) x.thread fd bytes h.pass h.rsize (none_of _ (λ f g. e f (table_of_refusal _ _ _ _ f g)))))
+      (step_makes (state_at m xs i) x.thread fd bytes h.pass h.rsize (none_of _ (λ f g. e f (table_of_refusal _ _ _ _ _ f g)))))
     where
       go : IsMadeCall (answer_at m xs i x) → MakesOne m xs i x
       go a = record { call = a.call; makes = made_by m xs k i a.call x h.turn a.waits }
@@ -127,21 +145,50 @@ module _ (m : State) (xs : List Turn) (k : Known m xs) where
       (left_at_least c e a)
       (left_at_least c f b)
 
-  exact : (c e n : ℕ) (a b : Answer) → Cause m xs c e n a → Cause m xs c e n b → TellsSame a b
-  exact c e n a b (results r w fds f back) (results s v fds' g more) = (same_bytes, ap (λ l. nat_lt r.rsize (length l)) same_bytes ∙ ap (λ (y : Call). nat_lt y.rsize (length more.bytes)) (same_record _ r s f g))
+  -- whether there is room for what a call was returned with is told once
+  one_room :
+      (c e n : ℕ) (z w v : Turn) (back : ReturnsCall m xs e w c) (more : ReturnsCall m xs e v c) →
+      has_room_at m xs n z.thread back.objects ≡ true → has_room_at m xs n z.thread more.objects ≡ false → ⊥
+  one_room c e n z w v back more f g =
+      absurd
+      (cc
+      (sym f
+      ∙ ap (λ (os : List Obj). has_room_at m xs n z.thread os) (same_handed _ back.bytes more.bytes back.objects more.objects back.is_returned more.is_returned)
+      ∙ g))
+
+  exact : (c e n : ℕ) (z : Turn) (a b : Answer) → Cause m xs c e n z a → Cause m xs c e n z b → TellsSame a b
+  exact c e n z a b (results r w fds f back k) (results s v fds' g more l) = (same_bytes, ap (λ l. nat_lt r.rsize (length l)) same_bytes ∙ ap (λ (y : Call). nat_lt y.rsize (length more.bytes)) (same_record _ r s f g))
     where
       same_bytes : back.bytes ≡ more.bytes
       same_bytes = same_return w.request v.request back.bytes more.bytes back.pass more.pass (ap (λ (y : Turn). y.request) (same_turn xs e w v back.turn more.turn)) back.request more.request
-  exact c e n a b (results r w fds f back) (door_invalid s g q v x d) = absurd (not_both _ s w.thread g q back.was_entered)
-  exact c e n a b (door_invalid s g q v x d) (results r w fds f back) = absurd (not_both _ s w.thread g q back.was_entered)
-  exact c e n a b (door_invalid s g q v x d) (door_invalid r f p y z h) = refl
+  exact c e n z a b (results r w fds f back k) (caller_full s v g more l) = absurd (one_room c e n z w v back more k l)
+  exact c e n z a b (caller_full s v g more l) (results r w fds f back k) = absurd (one_room c e n z w v back more k l)
+  exact c e n z a b (results r w fds f back k) (server_full s v y g q x d) = absurd (given_not_entered _ s w.thread v.thread g q back.was_entered)
+  exact c e n z a b (server_full s v y g q x d) (results r w fds f back k) = absurd (given_not_entered _ s w.thread v.thread g q back.was_entered)
+  exact c e n z a b (results r w fds f back k) (door_invalid s g q v x d) = absurd (not_both _ s w.thread g q back.was_entered)
+  exact c e n z a b (door_invalid s g q v x d) (results r w fds f back k) = absurd (not_both _ s w.thread g q back.was_entered)
+  exact c e n z a b (caller_full r w f back k) (caller_full s v g more l) = refl
+  exact c e n z a b (caller_full r w f back k) (server_full s v y g q x d) = refl
+  exact c e n z a b (server_full s v y g q x d) (caller_full r w f back k) = refl
+  exact c e n z a b (caller_full r w f back k) (door_invalid s g q v x d) = absurd (not_both _ s w.thread g q back.was_entered)
+  exact c e n z a b (door_invalid s g q v x d) (caller_full r w f back k) = absurd (not_both _ s w.thread g q back.was_entered)
+  exact c e n z a b (server_full s v y g q x d) (server_full r w h f p k l) = refl
+  exact c e n z a b (server_full r w h f p k l) (door_invalid s g q v x d) = absurd (given_not_queued _ r s w.thread f g p q)
+  exact c e n z a b (door_invalid s g q v x d) (server_full r w h f p k l) = absurd (given_not_queued _ r s w.thread f g p q)
+  exact c e n z a b (door_invalid s g q v x d) (door_invalid r f p y w h) = refl
 
   -- what is collected
 
+  abbrev HandsBackAt : ℕ → Turn → Call → List ℕ → List Obj → Type 0
+  HandsBackAt i z r bytes objects =
+      ((has_room_at m xs i z.thread objects ≡ true)
+      × (answer_at m xs i z ≡ answer.Results bytes (new_descriptors (table_at m xs i z) objects) (nat_lt r.rsize (length bytes))))
+      ⊎ ((has_room_at m xs i z.thread objects ≡ false) × (answer_at m xs i z ≡ answer.Failure EMFILE))
+
+  -- with what it answers where there is room, and where there is none
   caused_by_return :
       (i c : ℕ) (z : Turn) (r : Call) (bytes : List ℕ) (objects : List Obj) (o : Option Call) → o ≡ Some r →
-      r.stage ≡ stage.Returned bytes objects → answer_at m xs i z ≡ answer.Results bytes [] (nat_lt r.rsize (length bytes)) →
-      ReturnedAt m xs c i o → IsCaused m xs c i z
+      r.stage ≡ stage.Returned bytes objects → HandsBackAt i z r bytes objects → ReturnedAt m xs c i o → IsCaused m xs c i z
   unfolding returns_call
   caused_by_return i c z r bytes objects o h s f b =
       record {
@@ -153,24 +200,41 @@ module _ (m : State) (xs : List Turn) (k : Known m xs) where
               underway = ap underway_in (b.was ∙ b.row.before) ∙ ap is_underway b.row.was_entered;
               over = ap underway_in (b.there ∙ b.row.after);
             };
-        cause =
-            subst (Cause m xs c b.at i)
-            (same_told b.row.bytes bytes b.row.call.rsize r.rsize
-            (sym (same_results bytes b.row.bytes objects [] r.stage s first.stage))
-            (sym first.rsize) ∙ sym f)
-            (results b.row.call b.turn [] (b.was ∙ b.row.before) back);
+        cause = cause f;
       }
     where
       back : ReturnsCall m xs b.at b.turn c
       back = returns_call m xs k b.at c b.turn b.old o b.found b.was b.there b.row
 
-      first : GoesOn b.row.call r (stage.Returned b.row.bytes [])
+      passed : List Obj
+      passed = objects_passed (table_at m xs b.at b.turn) b.row.pass
+
+      first : GoesOn b.row.call r (stage.Returned b.row.bytes passed)
       first = goes_on b.row.call r _ o h b.row.after
 
+      same : objects ≡ passed
+      same = same_objects bytes b.row.bytes objects passed r.stage s first.stage
+
+      room : (d : Bool) → has_room_at m xs i z.thread objects ≡ d → has_room_at m xs i z.thread back.objects ≡ d
+      room d e = ap (λ (os : List Obj). has_room_at m xs i z.thread os) (sym same) ∙ e
+
+      cause : HandsBackAt i z r bytes objects → Cause m xs c b.at i z (answer_at m xs i z)
+      cause (inl g) =
+          subst (Cause m xs c b.at i z)
+          (same_told b.row.bytes bytes (new_descriptors (table_at m xs i z) objects) b.row.call.rsize r.rsize
+          (sym (same_results bytes b.row.bytes objects passed r.stage s first.stage))
+          (sym first.rsize) ∙ sym g.1)
+          (results b.row.call b.turn (new_descriptors (table_at m xs i z) objects) (b.was ∙ b.row.before) back (room true g.0))
+      cause (inr g) =
+          subst (Cause m xs c b.at i z) (sym g.1) (caller_full b.row.call b.turn (b.was ∙ b.row.before) back (room false g.0))
+
   cause_of_end :
-      (c e n : ℕ) (r : Call) (x : Errno) → record_of (state_at m xs e) c ≡ Some r →
-      EndsBy (state_at m xs e) (state_at m xs (e + 1)) r x → Cause m xs c e n (answer.Failure x)
-  cause_of_end c e n r x f (invalid q v w d) = door_invalid r f q v w d
+      (c e n : ℕ) (w z : Turn) (r : Call) (x : Errno) → slice_get xs e ≡ Some w → record_of (state_at m xs e) c ≡ Some r →
+      EndsBy (state_at m xs e) w.thread w.request (answer_at m xs e w) (state_at m xs (e + 1)) r x →
+      Cause m xs c e n z (answer.Failure x)
+  cause_of_end c e n w z r x h f (invalid q v y d) = door_invalid r f q v y d
+  cause_of_end c e n w z r x h f (full q v g d a) =
+      server_full r w h f g (a ∙ ap (λ (j : ℕ). answer.EnterFailed j) (number_of (state_at m xs e) c r f)) d
 
   caused_by_end :
       (i c : ℕ) (z : Turn) (r : Call) (x : Errno) (o : Option Call) → o ≡ Some r → r.stage ≡ stage.Ended x →
@@ -182,13 +246,13 @@ module _ (m : State) (xs : List Turn) (k : Known m xs) where
         leaves =
             record {
               within = slice_get_within xs b.at b.turn b.found;
-              underway = ap underway_in (b.was ∙ b.row.before) ∙ ends_underway _ _ b.row.call b.row.error b.row.ends;
+              underway = ap underway_in (b.was ∙ b.row.before) ∙ ends_underway _ _ _ _ _ b.row.call b.row.error b.row.ends;
               over = ap underway_in (b.there ∙ b.row.after);
             };
         cause =
-            subst (Cause m xs c b.at i)
+            subst (Cause m xs c b.at i z)
             (ap (λ (y : Errno). answer.Failure y) (same_error b.row.error x r.stage first.stage s) ∙ sym f)
-            (cause_of_end c b.at i b.row.call b.row.error (b.was ∙ b.row.before) b.row.ends);
+            (cause_of_end c b.at i b.turn z b.row.call b.row.error b.found (b.was ∙ b.row.before) b.row.ends);
       }
     where
       first : GoesOn b.row.call r (stage.Ended b.row.error)
@@ -196,9 +260,11 @@ module _ (m : State) (xs : List Turn) (k : Known m xs) where
 
   caused :
       (i c : ℕ) (z : Turn) (r : Call) (a : Answer) → i ≤ length xs → record_of (state_at m xs i) c ≡ Some r →
-      answer_at m xs i z ≡ a → HandsOver r a → IsCaused m xs c i z
-  caused i c z r a l h f (hands_results bytes objects s) =
-      caused_by_return i c z r bytes objects _ h s f (returned_before m xs k i c r bytes objects l h s)
+      answer_at m xs i z ≡ a → HandsOver (state_at m xs i) z.thread r a → IsCaused m xs c i z
+  caused i c z r a l h f (hands_results bytes objects s room) =
+      caused_by_return i c z r bytes objects _ h s (inl (room, f)) (returned_before m xs k i c r bytes objects l h s)
+  caused i c z r a l h f (hands_nothing bytes objects s room) =
+      caused_by_return i c z r bytes objects _ h s (inr (room, f)) (returned_before m xs k i c r bytes objects l h s)
   caused i c z r a l h f (hands_error x s) =
       caused_by_end i c z r x _ h s f (ended m xs c i _ (story m xs k c i l) (ap is_ended_in h ∙ ap is_ended_call s))
 

@@ -1,22 +1,23 @@
 -- What one event does to a call's record, as one row: the table of arrows together with the giving that may follow an act. A
 -- record that stays has no row. Each row raises the rank of the record.
-use Rattle.std.specs.Prelude.{ℕ, ◌≡◌, ◌<◌, ◌≤◌, ◌⊎◌, List, [], Option, Bool, true, false, Some, None, length, nat_lt}
+use Rattle.std.specs.Prelude.{ℕ, ◌≡◌, ◌<◌, ◌≤◌, ◌⊎◌, List, Option, Bool, true, false, Some, None, length, nat_lt}
 use Rattle.std.proofs.Common.{refl, sym, subst, inl, inr}
 use native.Mathlib.Omega.{arith}
 use Rattle.written_kernel.specs.Types.{Answer, Call, CallStage, Errno, Fd, Obj, Pass, Request}
+use Rattle.dk_base.specs.declared.error.Errno.TheVariants.{EMFILE}
 use Rattle.dk_base.specs.declared.object.Obj.TheVariants as obj
 use Rattle.dk_base.specs.declared.object.Item.TheVariants as item
 use Rattle.dk_base.specs.declared.request.Request.TheVariants as request
 use Rattle.dk_base.specs.declared.answer.Answer.TheVariants as answer
 use Rattle.kernel_records.specs.declared.record.ThreadState.TheVariants as is
 use Rattle.kernel_records.specs.declared.record.CallStage.TheVariants as stage
-use Rattle.kernel_records.specs.Words.{at_stage, cookie_of, entry_of, first_refusal, tid, without_arguments_at}
+use Rattle.kernel_records.specs.Words.{at_stage, cookie_of, entry_of, first_refusal, new_descriptors, objects_passed, tid, without_arguments_at}
 use Rattle.written_kernel.specs.Words.{State, call_tests, door_of, new_call, now, object_at, process_of, state_of}
 use Rattle.kernel_invariant.specs.Core.{has_arguments, underway_in}
-use Rattle.kernel_invariant.specs.Arrows.{Arrow, ByAct, ByGiving, EndsBy}
-use Rattle.kernel_invariant.specs.Arrows.ByAct.{stays, makes, enters, returns, ends, collects_results, collects_error}
+use Rattle.kernel_invariant.specs.Arrows.{Arrow, ByAct, ByGiving, EndsBy, has_own_room, own_table}
+use Rattle.kernel_invariant.specs.Arrows.ByAct.{stays, makes, enters, returns, ends, collects_results, collects_nothing, collects_error}
 use Rattle.kernel_invariant.specs.Arrows.ByGiving.{stays as keeps, gives}
-use Rattle.kernel_invariant.specs.Arrows.EndsBy.{door_invalid}
+use Rattle.kernel_invariant.specs.Arrows.EndsBy.{door_invalid, server_full}
 use Rattle.kernel_laws.specs.Places.{is_answered_in, is_entered_in, is_returned_in}
 
 -- by an event of thread t, with request q or the end of its wait and answer a, from state m to state n
@@ -24,22 +25,28 @@ pub data Change (m : State) (t : ℕ) (q : Option Request) (a : Answer) (n : Sta
   made :
       (d rsize : ℕ) (fd : Fd) (bytes : List ℕ) (pass : List Pass) (s : CallStage) → q ≡ Some (request.Call fd bytes pass rsize) →
       object_at m (process_of m t) fd ≡ Some (obj.Door d) → first_refusal (call_tests m (process_of m t) fd bytes pass) ≡ None →
-      a ≡ answer.WaitCall (new_call m t d bytes [] rsize).number → has_arguments s ≡ true →
-      Change m t q a n None (Some (at_stage s (new_call m t d bytes [] rsize)))
+      a ≡ answer.WaitCall (new_call m t d bytes (objects_passed (own_table m t) pass) rsize).number → has_arguments s ≡ true →
+      Change m t q a n None (Some (at_stage s (new_call m t d bytes (objects_passed (own_table m t) pass) rsize)))
   given : (r : Call) (u : ℕ) → r.stage ≡ stage.Queued → Change m t q a n (Some r) (Some (at_stage (stage.Given (tid u)) r))
   entered :
       (r : Call) → q ≡ None → state_of m t ≡ is.Given (item.Call r.number) → r.stage ≡ stage.Given (tid t) →
-      a ≡ answer.Entered r.number (entry_of (door_of m r.door)) (cookie_of (door_of m r.door)) r.bytes [] →
+      has_own_room m t r.objects ≡ true →
+      a ≡ answer.Entered r.number (entry_of (door_of m r.door)) (cookie_of (door_of m r.door)) r.bytes (new_descriptors (own_table m t) r.objects) →
       Change m t q a n (Some r) (Some (without_arguments_at (stage.Entered (tid t)) r))
   returned :
       (r : Call) (bytes : List ℕ) (pass : List Pass) → q ≡ Some (request.Return bytes pass) →
       r.stage ≡ stage.Entered (tid t) → r.abandoned ≡ false → a ≡ answer.Wait →
-      Change m t q a n (Some r) (Some (without_arguments_at (stage.Returned bytes []) r))
+      Change m t q a n (Some r) (Some (without_arguments_at (stage.Returned bytes (objects_passed (own_table m t) pass)) r))
   ended :
-      (r : Call) (e : Errno) → EndsBy m n r e → Change m t q a n (Some r) (Some (without_arguments_at (stage.Ended e) r))
+      (r : Call) (e : Errno) → EndsBy m t q a n r e → Change m t q a n (Some r) (Some (without_arguments_at (stage.Ended e) r))
   results_collected :
       (r : Call) (bytes : List ℕ) (objects : List Obj) → q ≡ None → state_of m t ≡ is.Calling r.number → r.caller.0 ≡ t →
-      r.stage ≡ stage.Returned bytes objects → a ≡ answer.Results bytes [] (nat_lt r.rsize (length bytes)) →
+      r.stage ≡ stage.Returned bytes objects → has_own_room m t objects ≡ true →
+      a ≡ answer.Results bytes (new_descriptors (own_table m t) objects) (nat_lt r.rsize (length bytes)) →
+      Change m t q a n (Some r) (Some (without_arguments_at (stage.Answered (now m)) r))
+  nothing_collected :
+      (r : Call) (bytes : List ℕ) (objects : List Obj) → q ≡ None → state_of m t ≡ is.Calling r.number → r.caller.0 ≡ t →
+      r.stage ≡ stage.Returned bytes objects → has_own_room m t objects ≡ false → a ≡ answer.Failure EMFILE →
       Change m t q a n (Some r) (Some (without_arguments_at (stage.Answered (now m)) r))
   error_collected :
       (r : Call) (e : Errno) → q ≡ None → state_of m t ≡ is.Calling r.number → r.caller.0 ≡ t → r.stage ≡ stage.Ended e →
@@ -71,22 +78,24 @@ module _ (m : State) (t : ℕ) (q : Option Request) (a : Answer) (n : State) whe
   made_then :
       (d rsize : ℕ) (fd : Fd) (bytes : List ℕ) (pass : List Pass) (b p : Option Call) → q ≡ Some (request.Call fd bytes pass rsize) →
       object_at m (process_of m t) fd ≡ Some (obj.Door d) → first_refusal (call_tests m (process_of m t) fd bytes pass) ≡ None →
-      a ≡ answer.WaitCall (new_call m t d bytes [] rsize).number → b ≡ Some (new_call m t d bytes [] rsize) → ByGiving b p →
+      a ≡ answer.WaitCall (new_call m t d bytes (objects_passed (own_table m t) pass) rsize).number →
+      b ≡ Some (new_call m t d bytes (objects_passed (own_table m t) pass) rsize) → ByGiving b p →
       Change m t q a n None p
   made_then d rsize fd bytes pass b p e f g k l keeps =
       subst (λ z. Change m t q a n None z) (sym l) (made d rsize fd bytes pass stage.Queued e f g k refl)
   made_then d rsize fd bytes pass b p e f g k l (gives r u h) =
-      let same : new_call m t d bytes [] rsize ≡ r = cc in
+      let same : new_call m t d bytes (objects_passed (own_table m t) pass) rsize ≡ r = cc in
       subst (λ (z : Call). Change m t q a n None (Some (at_stage (stage.Given (tid u)) z))) same
       (made d rsize fd bytes pass (stage.Given (tid u)) e f g k refl)
 
   act_then : (o b p : Option Call) → ByAct m t q a n o b → ByGiving b p → (p ≡ o) ⊎ Change m t q a n o p
   act_then o b p stays g = only_given o p g
   act_then o b p (makes d rsize fd bytes pass e f v k) g = inr (made_then d rsize fd bytes pass b p e f v k refl g)
-  act_then o b p (enters r e f k v) g = stays_then o b p (entered r e f k v) g refl
+  act_then o b p (enters r e f k v w) g = stays_then o b p (entered r e f k v w) g refl
   act_then o b p (returns r bytes pass e f k v) g = stays_then o b p (returned r bytes pass e f k v) g refl
   act_then o b p (ends r e h) g = stays_then o b p (ended r e h) g refl
-  act_then o b p (collects_results r bytes objects e f k v w) g = stays_then o b p (results_collected r bytes objects e f k v w) g refl
+  act_then o b p (collects_results r bytes objects e f k v w z) g = stays_then o b p (results_collected r bytes objects e f k v w z) g refl
+  act_then o b p (collects_nothing r bytes objects e f k v w z) g = stays_then o b p (nothing_collected r bytes objects e f k v w z) g refl
   act_then o b p (collects_error r x e f k v w) g = stays_then o b p (error_collected r x e f k v w) g refl
 
   pub change : (o p : Option Call) → Arrow m t q a n o p → (p ≡ o) ⊎ Change m t q a n o p
@@ -110,18 +119,21 @@ rank_in (Some r) = rank_of r.stage
 pub new_rank : (s : CallStage) → has_arguments s ≡ true → (1 ≤ rank_of s) × (rank_of s ≤ 2)
 new_rank s e = grind arith
 
-ends_rank : (m n : State) (r : Call) (e : Errno) → EndsBy m n r e → rank_of r.stage < 4
-ends_rank m n r e (door_invalid q v w d) = grind arith
+ends_rank :
+    (m : State) (t : ℕ) (q : Option Request) (a : Answer) (n : State) (r : Call) (e : Errno) → EndsBy m t q a n r e → rank_of r.stage < 4
+ends_rank m t q a n r e (door_invalid f v w d) = grind arith
+ends_rank m t q a n r e (server_full f g k v w) = grind arith
 
 pub change_rises :
     (m : State) (t : ℕ) (q : Option Request) (a : Answer) (n : State) (o p : Option Call) → Change m t q a n o p →
     rank_in o < rank_in p
 change_rises m t q a n o p (made d rsize fd bytes pass s e f v k w) = omega (arith, new_rank s w)
 change_rises m t q a n o p (given r u e) = grind arith
-change_rises m t q a n o p (entered r e f g k) = grind arith
+change_rises m t q a n o p (entered r e f g k v) = grind arith
 change_rises m t q a n o p (returned r bytes pass e f g k) = grind arith
-change_rises m t q a n o p (ended r e h) = ends_rank m n r e h
-change_rises m t q a n o p (results_collected r bytes objects e f g k l) = grind arith
+change_rises m t q a n o p (ended r e h) = ends_rank m t q a n r e h
+change_rises m t q a n o p (results_collected r bytes objects e f g k l z) = grind arith
+change_rises m t q a n o p (nothing_collected r bytes objects e f g k l z) = grind arith
 change_rises m t q a n o p (error_collected r x e f g k l) = grind arith
 
 -- what tests say of ranks

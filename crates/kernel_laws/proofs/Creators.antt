@@ -16,7 +16,8 @@ use Rattle.kernel_laws.specs.MadeByCreator.{IsCreate, IsKept, MadeByCreator, Was
 use Rattle.kernel_laws.proofs.Known.{Known, TurnAt, invariant_after, next, split, turn_at}
 use Rattle.kernel_laws.proofs.Once.{accepts, entered_by}
 use Rattle.kernel_laws.proofs.Match.{Shows, is_of, shows}
-use Rattle.kernel_laws.proofs.Readers.{EnteredRowAt}
+use Rattle.kernel_laws.proofs.Readers.{EnteredRowAt, table_at}
+use Rattle.kernel_records.specs.Words.{new_descriptors}
 
 new_door :
     (m : State) (t : ℕ) (q : Option Request) (o p : Option Door) (x : Door) → DoorArrow m t q o p → o ≡ None → p ≡ Some x →
@@ -159,7 +160,7 @@ module _ (m : State) (xs : List Turn) (k : Known m xs) where
       by :
           Enters m xs i x c →
           (w : EnteredRowAt m xs i x (record_of (state_at m xs i) c) (record_of (state_at m xs (i + 1)) c)) →
-          Shows entry cookie bytes fds (door_of (state_at m xs i) w.call.door) w.call → IsOf (door_of_call (state_at m xs i) c) entry cookie
+          Shows entry cookie bytes fds (new_descriptors (table_at m xs i x) w.call.objects) (door_of (state_at m xs i) w.call.door) w.call → IsOf (door_of_call (state_at m xs i) c) entry cookie
       by n w s =
           subst (λ o. IsOf o entry cookie) (sym (ap (door_at (state_at m xs i)) w.before))
           (is_of _ entry cookie _ (sym (ap (λ o. owner_in (door_at (state_at m xs i) o)) w.before) ∙ n.of_the_owner) s.same_entry s.same_cookie)
@@ -168,7 +169,7 @@ module _ (m : State) (xs : List Turn) (k : Known m xs) where
           Enters m xs i x c →
           EnteredRowAt m xs i x (record_of (state_at m xs i) c) (record_of (state_at m xs (i + 1)) c) →
           IsOf (door_of_call (state_at m xs i) c) entry cookie
-      row n w = by n w (shows c entry cookie bytes fds _ w.call (answer_at m xs i x) f w.answers)
+      row n w = by n w (shows c entry cookie bytes fds _ _ w.call (answer_at m xs i x) f w.answers)
 
       go : Enters m xs i x c → IsOf (door_of_call (state_at m xs i) c) entry cookie
       go n = row n (entered_by m xs k i c x e n.entered)

@@ -15,6 +15,7 @@ use Rattle.kernel_laws.proofs.Runs.{known}
 use Rattle.kernel_laws.proofs.Once.{once_holds}
 use Rattle.kernel_laws.proofs.Match.{match_holds}
 use Rattle.kernel_laws.proofs.Cause.{cause_holds}
+use Rattle.kernel_laws.proofs.NoLoss.{no_loss_holds}
 use Rattle.kernel_laws.proofs.Creators.{made_by_creator}
 
 by_first_test : (m : State) (xs : List Turn) → RefusedByFirstTest m xs
@@ -38,6 +39,7 @@ all_hold m xs k =
       once = once_holds m xs k;
       match = match_holds m xs k;
       cause = cause_holds m xs k;
+      no_loss = no_loss_holds m xs k;
       made_by_creator = made_by_creator m xs k;
       refused = record { by_first_test = by_first_test m xs; changes_nothing = changes_nothing m xs k };
       no_pool_has_both = λ i l. (k.invariant i l).given_out;

@@ -1,16 +1,16 @@
 -- A legal run: a client calls a server's door, with the answers of its events. So the laws speak of something.
-use Rattle.std.specs.Prelude.{◌≡◌, List, [], ◌∷◌, ◌++◌, map, false, Some, None}
+use Rattle.std.specs.Prelude.{ℕ, ◌≡◌, List, [], ◌∷◌, ◌++◌, map, false, true, Some, None}
 use Rattle.std.proofs.Common.{refl, lit<, lit≤}
 use Rattle.dk_base.specs.declared.request.Param.TheVariants as param
 use Rattle.dk_base.specs.declared.request.Request.TheVariants as request
-use Rattle.written_kernel.specs.Types.{Answer, Event}
+use Rattle.written_kernel.specs.Types.{Answer, Event, Pass}
 use Rattle.dk_base.specs.declared.answer.Answer.TheVariants as answer
 use Rattle.written_kernel.specs.Words.{IsOpening, IsRun, State, Turn, events_of, opening, step, with_new_thread}
 use Rattle.written_kernel.specs.Opening.IsOpening.{processes, thread}
 use Rattle.written_kernel.proofs.Runs.{IsRun-append}
 use Rattle.kernel_laws.specs.Places.{BecomesAnswered, BecomesEntered, BecomesReturned}
 use Rattle.kernel_laws.specs.Cause.{Leaves}
-use Rattle.dk_base.specs.declared.error.Errno.TheVariants.{EBADF, EINVAL, ENOBUFS, EPERM}
+use Rattle.dk_base.specs.declared.error.Errno.TheVariants.{EBADF, EINVAL, EMFILE, ENOBUFS, EPERM}
 
 abbrev start : State
 start = with_new_thread (with_new_thread (with_new_thread (opening (16 ∷ 16 ∷ [])) 1 false) 1 false) 2 false
@@ -241,6 +241,114 @@ told_is_run =
                       (record { running = refl; fit = tt; built = lit≤ tt; inside = tt; few = lit< tt }, tt),
                     ),
                   ),
+                ),
+              ),
+            ),
+          ),
+        ),
+      ),
+    )
+
+-- a fourth, with descriptors: a call passes one and its results another, which the server releases; a call that passes two ends
+-- EMFILE, since one descriptor is free where its server accepts it; and results with two are collected EMFILE
+
+abbrev small : State
+small = with_new_thread (with_new_thread (with_new_thread (opening (2 ∷ 2 ∷ [])) 1 false) 1 false) 2 false
+
+abbrev kept : ℕ → Pass
+kept n = record { fd = record { 0 = n }; release = false }
+
+abbrev released : ℕ → Pass
+released n = record { fd = record { 0 = n }; release = true }
+
+abbrev passing_turns : List Turn
+passing_turns =
+    record { thread = 1; request = Some (request.Create 5 7 (record { 0 = 0 })) }
+    ∷ record { thread = 1; request = Some (request.Attach (record { 0 = 0 }) (record { 0 = 0 })) }
+    ∷ record { thread = 2; request = Some (request.Return [] []) }
+    ∷ record { thread = 3; request = Some (request.Open (record { 0 = 0 })) }
+    ∷ record { thread = 3; request = Some (request.Call (record { 0 = 0 }) (1 ∷ 2 ∷ []) (kept 0 ∷ []) 100) }
+    ∷ record { thread = 2; request = None }
+    ∷ record { thread = 2; request = Some (request.Return (9 ∷ []) (released 1 ∷ [])) }
+    ∷ record { thread = 3; request = None }
+    ∷ []
+
+abbrev full_turns : List Turn
+full_turns =
+    record { thread = 3; request = Some (request.Call (record { 0 = 0 }) [] (kept 1 ∷ released 1 ∷ []) 100) }
+    ∷ record { thread = 3; request = Some (request.Call (record { 0 = 0 }) [] (kept 0 ∷ released 1 ∷ []) 100) }
+    ∷ record { thread = 2; request = None }
+    ∷ record { thread = 3; request = None }
+    ∷ record { thread = 3; request = Some (request.Call (record { 0 = 0 }) [] [] 100) }
+    ∷ record { thread = 2; request = None }
+    ∷ record { thread = 2; request = Some (request.Return (9 ∷ []) (kept 0 ∷ kept 0 ∷ [])) }
+    ∷ record { thread = 3; request = None }
+    ∷ []
+
+abbrev all_passing : List Turn
+all_passing = passing_turns ++ full_turns
+
+passing_answers :
+    map answer_of (events_of small all_passing) ≡
+    answer.NewFd (record { 0 = 0 })
+    ∷ answer.Done
+    ∷ answer.Wait
+    ∷ answer.NewFd (record { 0 = 0 })
+    ∷ answer.WaitCall 1
+    ∷ answer.Entered 1 5 7 (1 ∷ 2 ∷ []) (record { 0 = 1 } ∷ [])
+    ∷ answer.Wait
+    ∷ answer.Results (9 ∷ []) (record { 0 = 1 } ∷ []) false
+    ∷ answer.Failure EINVAL
+    ∷ answer.WaitCall 2
+    ∷ answer.EnterFailed 2
+    ∷ answer.Failure EMFILE
+    ∷ answer.WaitCall 3
+    ∷ answer.Entered 3 5 7 [] []
+    ∷ answer.Wait
+    ∷ answer.Failure EMFILE
+    ∷ []
+unfolding step
+passing_answers = refl
+
+passing_is_run : IsRun small all_passing
+unfolding step
+passing_is_run =
+    IsRun-append small passing_turns full_turns (
+      record { running = refl; fit = tt; built = lit≤ tt; inside = tt; few = lit< tt },
+      (
+        record { running = refl; fit = tt; built = lit≤ tt; inside = tt; few = lit< tt },
+        (
+          record { running = refl; fit = tt; built = lit≤ tt; inside = tt; few = lit< tt },
+          (
+            record { running = refl; fit = tt; built = lit≤ tt; inside = tt; few = lit< tt },
+            (
+              record { running = refl; fit = tt; built = lit≤ tt; inside = tt; few = lit< tt },
+              (
+                record { runnable = refl; waits = refl; few = lit< tt },
+                (
+                  record { running = refl; fit = tt; built = lit≤ tt; inside = tt; few = lit< tt },
+                  (record { runnable = refl; waits = refl; few = lit< tt }, tt),
+                ),
+              ),
+            ),
+          ),
+        ),
+      ),
+    ) (
+      record { running = refl; fit = tt; built = lit≤ tt; inside = tt; few = lit< tt },
+      (
+        record { running = refl; fit = tt; built = lit≤ tt; inside = tt; few = lit< tt },
+        (
+          record { runnable = refl; waits = refl; few = lit< tt },
+          (
+            record { runnable = refl; waits = refl; few = lit< tt },
+            (
+              record { running = refl; fit = tt; built = lit≤ tt; inside = tt; few = lit< tt },
+              (
+                record { runnable = refl; waits = refl; few = lit< tt },
+                (
+                  record { running = refl; fit = tt; built = lit≤ tt; inside = tt; few = lit< tt },
+                  (record { runnable = refl; waits = refl; few = lit< tt }, tt),
                 ),
               ),
             ),

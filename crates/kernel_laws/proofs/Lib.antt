@@ -1,4 +1,7 @@
+mod Passed
+mod Installed
 mod Refusals
+mod Tables
 mod Changes
 mod Known
 mod Story
@@ -8,6 +11,7 @@ mod Returns
 mod Once
 mod Match
 mod Cause
+mod NoLoss
 mod Creators
 mod Runs
 mod EveryRun

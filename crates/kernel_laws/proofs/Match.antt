@@ -1,50 +1,29 @@
 -- Match holds of every run.
-use Rattle.std.specs.Prelude.{ℕ, ◌≡◌, ◌+◌, ◌<◌, ◌≤◌, List, [], ◌∷◌, Option, Bool, true, false, Some, None, length, nat_lt, slice_get}
+use Rattle.std.specs.Prelude.{ℕ, ◌≡◌, ◌+◌, ◌<◌, ◌≤◌, List, Option, Bool, true, false, Some, None, length, map, nat_lt, slice_get}
 use Rattle.std.proofs.Common.{refl, sym, ap, subst, ◌∙◌}
 use native.Mathlib.Omega.{arith}
 use Rattle.std.proofs.lemmas.Option.{slice_get_within}
-use Rattle.written_kernel.specs.Types.{Answer, Call, CallStage, Door, Fd, Obj, Pass}
-use Rattle.dk_base.specs.declared.request.Request.TheVariants as request
+use Rattle.written_kernel.specs.Types.{Answer, Call, CallStage, Door, Fd, Obj}
 use Rattle.dk_base.specs.declared.answer.Answer.TheVariants as answer
 use Rattle.kernel_records.specs.declared.record.CallStage.TheVariants as stage
-use Rattle.capabilities.specs.Words.{capability_of_pass}
-use Rattle.capabilities.specs.declared.table.TheConstants.{BUILT}
-use Rattle.kernel_records.specs.Words.{cookie_of, entry_of, tid, without_arguments_at}
-use Rattle.written_kernel.specs.Words.{MayTurn, State, Turn, door_of, state_at}
+use Rattle.kernel_records.specs.Words.{cookie_of, entry_of, new_descriptors, objects_passed as objects_that_pass, tid, without_arguments_at}
+use Rattle.written_kernel.specs.Words.{State, Turn, door_of, process_of, state_at}
+use Rattle.written_kernel.proofs.Steps.{process_of-step}
 use Rattle.kernel_invariant.specs.Records.{door_at, owner_in, record_of, stage_in}
 use Rattle.kernel_invariant.specs.Core.{abandoned_in, core, has_arguments}
 use Rattle.kernel_invariant.specs.Events.{IsCallOf, IsCaller, IsMade, IsToldBy}
-use Rattle.kernel_laws.specs.Places.{BecomesAnswered, BecomesReturned, IsCollect, IsOf, MakesCall, ReturnsCall, answer_at, is_returned_in, objects_at, objects_passed, process_at}
+use Rattle.kernel_laws.specs.Places.{BecomesAnswered, BecomesReturned, IsCollect, IsOf, MakesCall, ReturnsCall, answer_at, is_returned_in, objects_at, process_at}
 use Rattle.kernel_laws.specs.Once.{Enters}
 use Rattle.kernel_laws.specs.Match.{IsReturned, IsSent, Match}
 use Rattle.kernel_laws.proofs.Changes.{new_rank, rank_in, returned_rank}
 use Rattle.kernel_laws.proofs.Known.{Known, becomes_once, changes, false_not_true, invariant_before, never_less, next, rises_once}
 use Rattle.kernel_laws.proofs.Story.{story}
+use Rattle.kernel_laws.proofs.Tables.{Installs, accept_installs, call_passes, collect_installs, return_passes}
 use Rattle.kernel_laws.proofs.Returns.{return_hands_over}
 use Rattle.kernel_laws.proofs.Rows.{Origin, origin, returned_row}
 use Rattle.kernel_laws.proofs.Rows.Origin.{new, older}
-use Rattle.kernel_laws.proofs.Readers.{AnsweredRowAt, EnteredAt, EnteredRowAt, ReturnedAt, ReturnedRowAt, WasMade, accept_of, made, made_here}
+use Rattle.kernel_laws.proofs.Readers.{AnsweredRowAt, EnteredAt, EnteredRowAt, HasObjects, ReturnedAt, ReturnedRowAt, WasMade, accept_of, made, made_here, number_of, table_at}
 use Rattle.kernel_laws.proofs.Once.{HandsBack, accepts, answered_by, caller_of_results, collected_results, collects, entered_by, returned_before}
-
--- no descriptor is passed, until that capability is built
-
-no_pass : (pass : List Pass) → capability_of_pass pass ≤ BUILT → pass ≡ []
-no_pass [] h = refl
-no_pass (p ∷ ps) h = absurd (omega arith)
-
-no_pass_called :
-    (m : State) (t : ℕ) (fd : Fd) (bytes : List ℕ) (pass : List Pass) (rsize : ℕ) →
-    MayTurn m t (Some (request.Call fd bytes pass rsize)) → pass ≡ []
-no_pass_called m t fd bytes pass rsize h = no_pass pass h.built
-
-no_pass_returned : (m : State) (t : ℕ) (bytes : List ℕ) (pass : List Pass) → MayTurn m t (Some (request.Return bytes pass)) → pass ≡ []
-no_pass_returned m t bytes pass h = no_pass pass h.built
-
-none_at : (m : State) (p : ℕ) (fds : List Fd) → fds ≡ [] → objects_at m p fds ≡ []
-none_at m p fds e = ap (λ l. objects_at m p l) e
-
-none_passed : (m : State) (p : ℕ) (pass : List Pass) → pass ≡ [] → objects_passed m p pass ≡ []
-none_passed m p pass e = ap (λ l. objects_passed m p l) e
 
 -- records
 
@@ -73,17 +52,17 @@ goes_on s r c o e f = go (sym e ∙ f)
 
 -- what an accept shows, by the record that it entered
 
-pub record Shows (entry cookie : ℕ) (bytes : List ℕ) (fds : List Fd) (o : Option Door) (r : Call) : Type 0 where
+pub record Shows (entry cookie : ℕ) (bytes : List ℕ) (fds gets : List Fd) (o : Option Door) (r : Call) : Type 0 where
   pub same_entry : entry ≡ entry_of o
   pub same_cookie : cookie ≡ cookie_of o
   pub same_bytes : bytes ≡ r.bytes
-  pub none : fds ≡ []
+  pub descriptors : fds ≡ gets
 
 pub shows :
-    (c entry cookie : ℕ) (bytes : List ℕ) (fds : List Fd) (o : Option Door) (r : Call) (a : Answer) →
-    a ≡ answer.Entered c entry cookie bytes fds → a ≡ answer.Entered r.number (entry_of o) (cookie_of o) r.bytes [] →
-    Shows entry cookie bytes fds o r
-shows c entry cookie bytes fds o r a e f = record { same_entry = cc; same_cookie = cc; same_bytes = cc; none = cc }
+    (c entry cookie : ℕ) (bytes : List ℕ) (fds gets : List Fd) (o : Option Door) (r : Call) (a : Answer) →
+    a ≡ answer.Entered c entry cookie bytes fds → a ≡ answer.Entered r.number (entry_of o) (cookie_of o) r.bytes gets →
+    Shows entry cookie bytes fds gets o r
+shows c entry cookie bytes fds gets o r a e f = record { same_entry = cc; same_cookie = cc; same_bytes = cc; descriptors = cc }
 
 pub is_of : (o : Option Door) (entry cookie p : ℕ) → owner_in o ≡ Some p → entry ≡ entry_of o → cookie ≡ cookie_of o → IsOf o entry cookie
 is_of None entry cookie p e f g = absurd (cc)
@@ -108,6 +87,13 @@ returned_now o b x e = grind arith
 pub same_results : (b d : List ℕ) (x y : List Obj) (s : CallStage) → s ≡ stage.Returned b x → s ≡ stage.Returned d y → b ≡ d
 same_results b d x y s e f = cc
 
+pub same_objects : (b d : List ℕ) (x y : List Obj) (s : CallStage) → s ≡ stage.Returned b x → s ≡ stage.Returned d y → x ≡ y
+same_objects b d x y s e f = cc
+
+-- a record is found by its own number
+pub by_its_number : (m : State) (c : ℕ) (r : Call) → record_of m c ≡ Some r → record_of m r.number ≡ Some r
+by_its_number m c r e = ap (λ (d : ℕ). record_of m d) (number_of m c r e) ∙ e
+
 module _ (m : State) (xs : List Turn) (k : Known m xs) where
   -- calls are made by Calls
 
@@ -117,10 +103,13 @@ module _ (m : State) (xs : List Turn) (k : Known m xs) where
   only_by_call i c x r e b a =
       go (origin _ _ _ _ _ _ _ r (changes m xs k c i x is_there false true e false_not_true (absent _ b) (present _ r a)) a)
     where
+      made_now : HasObjects m xs c i x r → MakesCall m xs i x c
+      made_now w = w.makes
+
       go :
           Origin (state_at m xs i) x.thread x.request (answer_at m xs i x) (record_of (state_at m xs i) c) r →
           MakesCall m xs i x c
-      go (new g row) = made_here m xs c i x r e g a row
+      go (new g row) = made_now (made_here m xs c i x r e g a row)
       go (older s g h) = absurd (cc)
 
   pub made_by : (i c : ℕ) (x : Turn) → slice_get xs i ≡ Some x → answer_at m xs i x ≡ answer.WaitCall c → MakesCall m xs i x c
@@ -150,26 +139,63 @@ module _ (m : State) (xs : List Turn) (k : Known m xs) where
       (new_at_least i c x a)
       (new_at_least j c y b)
 
+  -- the process of a turn's thread is the same after it
+  pub same_process :
+      (i : ℕ) (x : Turn) → slice_get xs i ≡ Some x → process_at m xs (i + 1) x.thread ≡ process_at m xs i x.thread
+  same_process i x e =
+      ap (λ n. process_of n x.thread) (next m xs k i x e) ∙ process_of-step (state_at m xs i) x.thread x.thread x.request
+
+  -- what the accept of a call, and what a collect of results installs
+
+  abbrev InstallsAt : ℕ → Turn → List Obj → Type 0
+  InstallsAt i x objects =
+      Installs (state_at m xs i) (state_at m xs (i + 1)) (process_at m xs i x.thread) (new_descriptors (table_at m xs i x) objects) objects
+
+  pub installed_at_accept :
+      (i c : ℕ) (x : Turn) (o p : Option Call) → slice_get xs i ≡ Some x → record_of (state_at m xs i) c ≡ o →
+      (w : EnteredRowAt m xs i x o p) → InstallsAt i x w.call.objects
+  installed_at_accept i c x o p e b w =
+      subst
+      (λ n. Installs (state_at m xs i) n (process_at m xs i x.thread) (new_descriptors (table_at m xs i x) w.call.objects) w.call.objects)
+      (sym (next m xs k i x e))
+      (accept_installs (state_at m xs i) x.thread x.request w.call w.no_request w.given
+      (by_its_number (state_at m xs i) c w.call (b ∙ w.before)) w.was_given w.room)
+
+  pub installed_at_collect :
+      (i c : ℕ) (x : Turn) (bytes : List ℕ) (fds : List Fd) (more : Bool) → slice_get xs i ≡ Some x →
+      (a : AnsweredRowAt m xs i x (record_of (state_at m xs i) c) (record_of (state_at m xs (i + 1)) c)) →
+      (g : HandsBack (state_at m xs i) x.thread a.call bytes fds more) → InstallsAt i x g.objects
+  installed_at_collect i c x bytes fds more e a g =
+      subst
+      (λ n. Installs (state_at m xs i) n (process_at m xs i x.thread) (new_descriptors (table_at m xs i x) g.objects) g.objects)
+      (sym (next m xs k i x e))
+      (collect_installs (state_at m xs i) x.thread x.request a.call bytes g.objects a.no_request a.calling
+      (by_its_number (state_at m xs i) c a.call a.before) g.returned g.room)
+
+  -- descriptors that are answered name the objects after the turn
+  name_after :
+      (i : ℕ) (x : Turn) (fds : List Fd) (objects others : List Obj) → slice_get xs i ≡ Some x → InstallsAt i x objects →
+      fds ≡ new_descriptors (table_at m xs i x) objects → objects ≡ others →
+      objects_at (state_at m xs (i + 1)) (process_at m xs (i + 1) x.thread) fds ≡ map (λ o. Some o) others
+  name_after i x fds objects others e h f g =
+      ap (λ p. objects_at (state_at m xs (i + 1)) p fds) (same_process i x e)
+      ∙ ap (λ l. objects_at (state_at m xs (i + 1)) (process_at m xs i x.thread) l) f
+      ∙ h.name_them
+      ∙ ap (λ (os : List Obj). map (λ o. Some o) os) g
+
   -- what an accept shows was sent
-
-  call_passes_none : (i c : ℕ) (x : Turn) → (a : MakesCall m xs i x c) → a.pass ≡ []
-  call_passes_none i c x a =
-      no_pass_called (state_at m xs i) x.thread a.fd a.bytes a.pass a.rsize
-      (subst (MayTurn (state_at m xs i) x.thread) a.request (k.may i x a.turn))
-
-  return_passes_none : (i c : ℕ) (x : Turn) → (a : ReturnsCall m xs i x c) → a.pass ≡ []
-  return_passes_none i c x a =
-      no_pass_returned (state_at m xs i) x.thread a.bytes a.pass
-      (subst (MayTurn (state_at m xs i) x.thread) a.request (k.may i x a.turn))
 
   shown :
       (a c entry cookie : ℕ) (y : Turn) (bytes : List ℕ) (fds : List Fd) → slice_get xs a ≡ Some y →
       answer_at m xs a y ≡ answer.Entered c entry cookie bytes fds → IsSent m xs a y c entry cookie bytes fds
   shown a c entry cookie y bytes fds e f = row (accepts m xs k a c entry cookie y bytes fds e f)
     where
-      sent : (r : Call) → Shows entry cookie bytes fds (door_of (state_at m xs a) r.door) r → has_arguments r.stage ≡ true →
-          IsOf (door_of (state_at m xs a) r.door) entry cookie → WasMade m xs c a r → IsSent m xs a y c entry cookie bytes fds
-      sent r s g h w =
+      sent :
+          (r : Call) →
+          Shows entry cookie bytes fds (new_descriptors (table_at m xs a y) r.objects) (door_of (state_at m xs a) r.door) r →
+          has_arguments r.stage ≡ true → IsOf (door_of (state_at m xs a) r.door) entry cookie → InstallsAt a y r.objects →
+          WasMade m xs c a r → IsSent m xs a y c entry cookie bytes fds
+      sent r s g h i w =
           record {
             at = w.at;
             caller = w.turn;
@@ -177,9 +203,10 @@ module _ (m : State) (xs : List Turn) (k : Known m xs) where
             makes = w.makes;
             same_bytes = s.same_bytes ∙ w.bytes g;
             of_the_door = subst (λ (d : ℕ). IsOf (door_of (state_at m xs a) d) entry cookie) w.door h;
-            objects = [];
-            passed = none_passed (state_at m xs w.at) (process_at m xs w.at w.turn.thread) w.makes.pass (call_passes_none w.at c w.turn w.makes);
-            installed = none_at (state_at m xs (a + 1)) (process_at m xs (a + 1) y.thread) fds s.none;
+            objects = objects_that_pass (table_at m xs w.at w.turn) w.makes.pass;
+            passed =
+                (call_passes (state_at m xs w.at) w.turn.thread c w.makes.rsize w.turn.request w.makes.fd w.makes.bytes w.makes.pass w.makes.request w.makes.answer).named;
+            installed = name_after a y fds r.objects _ e i s.descriptors (w.objects g);
           }
 
       entered :
@@ -187,10 +214,11 @@ module _ (m : State) (xs : List Turn) (k : Known m xs) where
           EnteredRowAt m xs a y (record_of (state_at m xs a) c) (record_of (state_at m xs (a + 1)) c) →
           IsSent m xs a y c entry cookie bytes fds
       entered n w =
-          let s : Shows entry cookie bytes fds (door_of (state_at m xs a) w.call.door) w.call =
-          shows c entry cookie bytes fds _ w.call (answer_at m xs a y) f w.answers in
+          let s : Shows entry cookie bytes fds (new_descriptors (table_at m xs a y) w.call.objects) (door_of (state_at m xs a) w.call.door) w.call =
+          shows c entry cookie bytes fds _ _ w.call (answer_at m xs a y) f w.answers in
           sent w.call s (is_given _ y.thread w.was_given)
           (is_of _ entry cookie _ (sym (ap (λ o. owner_in (door_at (state_at m xs a) o)) w.before) ∙ n.of_the_owner) s.same_entry s.same_cookie)
+          (installed_at_accept a c y _ _ e refl w)
           (made m xs c a _ w.call (story m xs k c a (omega (arith, slice_get_within xs a y e))) w.before)
 
       row : Enters m xs a y c → IsSent m xs a y c entry cookie bytes fds
@@ -211,11 +239,11 @@ module _ (m : State) (xs : List Turn) (k : Known m xs) where
         answer = row.answers;
         was_entered = ap stage_in (b ∙ row.before) ∙ ap (λ (s : CallStage). Some s) row.was_entered;
         not_abandoned = ap abandoned_in (b ∙ row.before) ∙ row.not_abandoned;
-        objects = [];
+        objects = objects_that_pass (table_at m xs j w) row.pass;
         is_returned = ap stage_in (a ∙ row.after);
       }
 
-  only_by_return : (j c : ℕ) (w : Turn) → slice_get xs j ≡ Some w → BecomesReturned m xs c j → ReturnsCall m xs j w c
+  pub only_by_return : (j c : ℕ) (w : Turn) → slice_get xs j ≡ Some w → BecomesReturned m xs c j → ReturnsCall m xs j w c
   only_by_return j c w e b =
       returns_call j c w _ _ e refl refl
       (returned_row _ _ _ _ _ _ _ (changes m xs k c j w is_returned_in false true e false_not_true b.before b.after) b.after)
@@ -236,15 +264,18 @@ module _ (m : State) (xs : List Turn) (k : Known m xs) where
   -- of call c, whose record at place i is r: it was returned, entered before that, and made before that
   chain :
       (i c : ℕ) (z : Turn) (bytes : List ℕ) (fds : List Fd) (more : Bool) (o : Option Call) (r : Call) → IsCollect m xs i z c →
-      r.caller.0 ≡ z.thread → HandsBack r bytes fds more → o ≡ Some r → ReturnedAt m xs c i o →
-      IsReturned m xs i z bytes fds more
+      r.caller.0 ≡ z.thread → slice_get xs i ≡ Some z → (g : HandsBack (state_at m xs i) z.thread r bytes fds more) →
+      InstallsAt i z g.objects → o ≡ Some r → ReturnedAt m xs c i o → IsReturned m xs i z bytes fds more
   unfolding returns_call
-  chain i c z bytes fds more o r w own g h b = entered b.entered
+  chain i c z bytes fds more o r w own e g n h b = entered b.entered
     where
       back : ReturnsCall m xs b.at b.turn c
       back = returns_call b.at c b.turn b.old o b.found b.was b.there b.row
 
-      first : GoesOn b.row.call r (stage.Returned b.row.bytes [])
+      passed : List Obj
+      passed = objects_that_pass (table_at m xs b.at b.turn) b.row.pass
+
+      first : GoesOn b.row.call r (stage.Returned b.row.bytes passed)
       first = goes_on b.row.call r _ o h b.row.after
 
       entered : EnteredAt m xs c b.at b.old → IsReturned m xs i z bytes fds more
@@ -273,10 +304,10 @@ module _ (m : State) (xs : List Turn) (k : Known m xs) where
                 collect_later = b.earlier;
                 same_caller = ap (λ y. y.0) (sym (first.caller ∙ second.caller ∙ v.caller)) ∙ own;
                 same_server = same_server b.turn.thread a.turn.thread b.row.call.stage b.row.was_entered second.stage;
-                same_bytes = same_results bytes b.row.bytes g.objects [] r.stage g.returned first.stage;
-                objects = [];
-                passed = none_passed (state_at m xs b.at) (process_at m xs b.at b.turn.thread) back.pass (return_passes_none b.at c b.turn back);
-                installed = none_at (state_at m xs (i + 1)) (process_at m xs (i + 1) z.thread) fds g.none;
+                same_bytes = same_results bytes b.row.bytes g.objects passed r.stage g.returned first.stage;
+                objects = passed;
+                passed = (return_passes (state_at m xs b.at) b.turn.thread b.turn.request b.row.bytes b.row.pass b.row.asked b.row.answers).named;
+                installed = name_after i z fds g.objects passed e n g.descriptors (same_objects bytes b.row.bytes g.objects passed r.stage g.returned first.stage);
                 only_return = λ j h. returned_once c j b.at h (becomes_returned b.at c b.turn back);
                 grown = g.grown ∙ ap (λ n. nat_lt n (length bytes)) (first.rsize ∙ second.rsize ∙ v.rsize);
               }
@@ -289,9 +320,9 @@ module _ (m : State) (xs : List Turn) (k : Known m xs) where
       by :
           (c : ℕ) → IsCollect m xs i z c →
           (a : AnsweredRowAt m xs i z (record_of (state_at m xs i) c) (record_of (state_at m xs (i + 1)) c)) →
-          HandsBack a.call bytes fds more → IsReturned m xs i z bytes fds more
+          HandsBack (state_at m xs i) z.thread a.call bytes fds more → IsReturned m xs i z bytes fds more
       by c w a g =
-          chain i c z bytes fds more _ a.call w a.own g a.before
+          chain i c z bytes fds more _ a.call w a.own e g (installed_at_collect i c z bytes fds more e a g) a.before
           (returned_before m xs k i c a.call bytes g.objects (omega (arith, slice_get_within xs i z e)) a.before g.returned)
 
       at : (c : ℕ) → IsCollect m xs i z c → IsReturned m xs i z bytes fds more

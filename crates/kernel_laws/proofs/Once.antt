@@ -1,35 +1,42 @@
 -- Once holds of every run.
-use Rattle.std.specs.Prelude.{ℕ, ◌≡◌, ◌+◌, ◌<◌, ◌≤◌, List, [], Option, Bool, true, false, Some, None, length, nat_lt, slice_get}
-use Rattle.std.proofs.Common.{refl, sym, ap, subst, ◌∙◌}
+use Rattle.std.specs.Prelude.{ℕ, ◌≡◌, ◌+◌, ◌<◌, ◌≤◌, ◌⊎◌, List, Option, Bool, true, false, Some, None, length, nat_lt, slice_get}
+use Rattle.std.proofs.Common.{refl, sym, ap, subst, ◌∙◌, inl, inr, ⊎_elim}
 use native.Mathlib.Omega.{arith}
 use Rattle.std.proofs.lemmas.Option.{slice_get_within}
-use Rattle.written_kernel.specs.Types.{Answer, Call, CallStage, Fd, Inv, Item, Obj, Request}
+use Rattle.written_kernel.specs.Types.{Answer, Call, CallStage, Errno, Fd, Inv, Item, Obj, Request}
+use Rattle.dk_base.specs.declared.error.Errno.TheVariants.{EMFILE}
 use Rattle.dk_base.specs.declared.object.Item.TheVariants as item
 use Rattle.dk_base.specs.declared.answer.Answer.TheVariants as answer
 use Rattle.kernel_records.specs.declared.record.ThreadState.TheVariants as is
 use Rattle.kernel_records.specs.declared.record.CallStage.TheVariants as stage
-use Rattle.kernel_records.specs.Words.{is_live, new_invocation, tid}
+use Rattle.kernel_records.specs.Words.{is_live, new_descriptors, new_invocation, tid}
 use Rattle.written_kernel.specs.Words.{State, Turn, caller_in, door_of, invocation_of, state_at, state_of}
 use Rattle.kernel_invariant.specs.Records.{door_at, item_in, item_of, owner_in, record_of, stage_in, stage_of}
 use Rattle.kernel_invariant.specs.Core.{caller_number, door_in, is_outside, live_in}
 use Rattle.kernel_invariant.specs.Coherent.{IsCoherent}
 use Rattle.kernel_invariant.specs.Core.{core}
-use Rattle.kernel_invariant.specs.Events.{InvocationArrow, IsCaller, IsToldBy}
+use Rattle.kernel_invariant.specs.Events.{Begins, InvocationArrow, IsAcceptedNow, IsCaller, IsToldBy}
+use Rattle.kernel_invariant.specs.Arrows.{EndsBy, has_own_room, own_table}
+use Rattle.kernel_invariant.specs.Arrows.EndsBy.{door_invalid, server_full}
 use Rattle.kernel_invariant.specs.Events.InvocationArrow.{stays, begins, ends, leaves}
 use Rattle.kernel_laws.specs.Places.{BecomesAnswered, BecomesEntered, HasEntered, IsAccept, IsCollect, answer_at, is_answered_in, is_entered_in, is_returned_in, is_returned_stage}
-use Rattle.kernel_laws.specs.Once.{CollectsEntered, Enters, InvocationMoves, Once, WasEntered}
+use Rattle.kernel_laws.specs.Once.{CollectsEntered, Enters, FailsToEnter, InvocationMoves, Once, WasEntered}
 use Rattle.kernel_laws.proofs.Changes.{answered_rank, entered_rank}
 use Rattle.kernel_laws.proofs.Known.{Known, becomes_once, changes, false_not_true, invariant_after, invariant_before, next}
 use Rattle.kernel_laws.proofs.Returns.{return_ends}
 use Rattle.kernel_laws.proofs.Story.{story}
-use Rattle.kernel_laws.proofs.Rows.{HandsOver, answered_row, entered_row}
-use Rattle.kernel_laws.proofs.Rows.HandsOver.{results, error}
-use Rattle.kernel_laws.proofs.Readers.{AnsweredRowAt, EnteredAt, EnteredRowAt, ReturnedAt, accept_of, number_of, returned}
+use Rattle.kernel_laws.proofs.Rows.{HandsOver, answered_row, ended_row, entered_row, is_ended_in}
+use Rattle.kernel_laws.proofs.Rows.HandsOver.{results, nothing, error}
+use Rattle.kernel_laws.proofs.Readers.{AnsweredRowAt, EndedRowAt, EnteredAt, EnteredRowAt, ReturnedAt, accept_of, number_of, returned}
 
 differs :
     (n c entry cookie entry' cookie' : ℕ) (bytes : List ℕ) (fds : List Fd) →
     answer.EnteredNotice n entry cookie ≡ answer.Entered c entry' cookie' bytes fds → ⊥
 differs n c entry cookie entry' cookie' bytes fds e = cc
+
+entered_not_failed :
+    (c d entry cookie : ℕ) (bytes : List ℕ) (fds : List Fd) → answer.EnterFailed c ≡ answer.Entered d entry cookie bytes fds → ⊥
+entered_not_failed c d entry cookie bytes fds e = cc
 
 same_given : (c d : ℕ) (r : Call) → is.Given (item.Call r.number) ≡ is.Given (item.Call c) → r.number ≡ d → d ≡ c
 same_given c d r e f = cc
@@ -42,6 +49,12 @@ at_given u o e = grind arith
 
 at_entered : (u : ℕ) (o : Option Call) → stage_in o ≡ Some (stage.Entered (tid u)) → is_entered_in o ≡ true
 at_entered u o e = grind arith
+
+at_given_not_ended : (u : ℕ) (o : Option Call) → stage_in o ≡ Some (stage.Given (tid u)) → is_ended_in o ≡ false
+at_given_not_ended u o e = grind arith
+
+at_ended : (x : Errno) (o : Option Call) → stage_in o ≡ Some (stage.Ended x) → is_ended_in o ≡ true
+at_ended x o e = grind arith
 
 at_answered : (n : ℕ) (o : Option Call) → stage_in o ≡ Some (stage.Answered n) → is_answered_in o ≡ true
 at_answered n o e = grind arith
@@ -66,20 +79,45 @@ begun m t q a n u c o p (begins i g h k b) e f =
 begun m t q a n u c o p (ends v bytes pass g h k) e f = absurd (grind arith)
 begun m t q a n u c o p (leaves v g) e f = absurd (grind arith)
 
--- results come only from a call that is Returned
+-- an accept that fails begins no invocation
+not_begun :
+    (m : State) (t : ℕ) (q : Option Request) (a : Answer) (n : State) (u c : ℕ) (o p : Option Inv) →
+    InvocationArrow m t q a n u o p → o ≡ None → a ≡ answer.EnterFailed c → p ≡ None
+not_begun m t q a n u c o p stays e f = e
+not_begun m t q a n u c o p (begins i g h k b) e f = absurd (subst (λ (z : Answer). Begins z i) f b)
+not_begun m t q a n u c o p (ends v bytes pass g h k) e f = refl
+not_begun m t q a n u c o p (leaves v g) e f = refl
 
-pub record HandsBack (r : Call) (bytes : List ℕ) (fds : List Fd) (more : Bool) : Type 0 where
+-- a call that was given to a thread ends only by an accept that fails
+failed :
+    (m : State) (t : ℕ) (q : Option Request) (a : Answer) (n : State) (u : ℕ) (r : Call) (x : Errno) → EndsBy m t q a n r x →
+    stage_in (Some r) ≡ Some (stage.Given (tid u)) → a ≡ answer.EnterFailed r.number
+failed m t q a n u r x (door_invalid e f g h) s = absurd (grind arith)
+failed m t q a n u r x (server_full e f g h k) s = k
+
+-- results come only from a call that is Returned, with descriptors for what comes with them
+
+pub record HandsBack (m : State) (t : ℕ) (r : Call) (bytes : List ℕ) (fds : List Fd) (more : Bool) : Type 0 where
   pub objects : List Obj
   pub returned : r.stage ≡ stage.Returned bytes objects
-  pub none : fds ≡ []
+  pub room : has_own_room m t objects ≡ true
+  pub descriptors : fds ≡ new_descriptors (own_table m t) objects
   pub grown : more ≡ nat_lt r.rsize (length bytes)
 
 pub hands_back :
-    (r : Call) (a : Answer) (bytes : List ℕ) (fds : List Fd) (more : Bool) → HandsOver r a →
-    a ≡ answer.Results bytes fds more → HandsBack r bytes fds more
-hands_back r a bytes fds more (results b objects e) f =
-    record { objects = objects; returned = grind arith; none = grind arith; grown = grind arith }
-hands_back r a bytes fds more (error x e) f = absurd (cc)
+    (m : State) (t : ℕ) (r : Call) (a : Answer) (bytes : List ℕ) (fds : List Fd) (more : Bool) → HandsOver m t r a →
+    a ≡ answer.Results bytes fds more → HandsBack m t r bytes fds more
+hands_back m t r a bytes fds more (results b objects e h) f =
+    let same : b ≡ bytes = cc in
+    record {
+      objects = objects;
+      returned = e ∙ ap (λ (w : List ℕ). stage.Returned w objects) same;
+      room = h;
+      descriptors = cc;
+      grown = cc;
+    }
+hands_back m t r a bytes fds more (nothing b objects e h) f = absurd (cc)
+hands_back m t r a bytes fds more (error x e) f = absurd (cc)
 
 -- Once
 
@@ -115,11 +153,12 @@ module _ (m : State) (xs : List Turn) (k : Known m xs) where
       ((k.keeps i x e).invocations t)
 
   -- what an accept does, where the wait of a thread that was given a call ends
-  accepts_given :
+
+  enters_given :
       (i c : ℕ) (x : Turn) → slice_get xs i ≡ Some x → x.request ≡ None →
       state_of (state_at m xs i) x.thread ≡ is.Given (item.Call c) → IsCoherent (core (state_at m xs i)) →
-      IsCoherent (core (state_at m xs (i + 1))) → Enters m xs i x c
-  accepts_given i c x e q s h g =
+      IsCoherent (core (state_at m xs (i + 1))) → HasEntered (state_at m xs (i + 1)) x.thread c → Enters m xs i x c
+  enters_given i c x e q s h g after =
       record {
         no_request = q;
         was_given = s;
@@ -135,9 +174,6 @@ module _ (m : State) (xs : List Turn) (k : Known m xs) where
       before : stage_of (state_at m xs i) c ≡ Some (stage.Given (tid x.thread))
       before = h.waits.given_back c x.thread s
 
-      after : HasEntered (state_at m xs (i + 1)) x.thread c
-      after = ap (λ n. stage_of n c) (next m xs k i x e) ∙ (k.keeps i x e).accepted c q s
-
       free : invocation_of (state_at m xs i) x.thread ≡ None
       free = h.servers.outside x.thread (ap is_outside s)
 
@@ -149,19 +185,79 @@ module _ (m : State) (xs : List Turn) (k : Known m xs) where
             after = at_entered x.thread _ after;
           }
 
+  pub ended_by :
+      (i c : ℕ) (x : Turn) → slice_get xs i ≡ Some x → is_ended_in (record_of (state_at m xs i) c) ≡ false →
+      is_ended_in (record_of (state_at m xs (i + 1)) c) ≡ true →
+      EndedRowAt m xs i x (record_of (state_at m xs i) c) (record_of (state_at m xs (i + 1)) c)
+  ended_by i c x e b a = ended_row _ _ _ _ _ _ _ (changes m xs k c i x is_ended_in false true e false_not_true b a) a
+
+  fails_given :
+      (i c : ℕ) (x : Turn) → slice_get xs i ≡ Some x → x.request ≡ None →
+      state_of (state_at m xs i) x.thread ≡ is.Given (item.Call c) → IsCoherent (core (state_at m xs i)) →
+      stage_of (state_at m xs (i + 1)) c ≡ Some (stage.Ended EMFILE) → FailsToEnter m xs i x c
+  fails_given i c x e q s h after = go (ended_by i c x e (at_given_not_ended x.thread _ before) (at_ended EMFILE _ after))
+    where
+      before : stage_of (state_at m xs i) c ≡ Some (stage.Given (tid x.thread))
+      before = h.waits.given_back c x.thread s
+
+      with_answer : answer_at m xs i x ≡ answer.EnterFailed c → FailsToEnter m xs i x c
+      with_answer a =
+          record {
+            no_request = q;
+            was_given = s;
+            stage_before = before;
+            stage_after = after;
+            answer = a;
+            none_entered = λ d b. none (only_by_accept i d x e b);
+            of_the_owner = owner_same (state_at m xs i) (record_of (state_at m xs i) c) _ before ∙ h.at_doors.given_owner c x.thread before;
+            free_after = not_begun _ _ _ _ _ x.thread c _ _ (invocations i x.thread x e) (h.servers.outside x.thread (ap is_outside s)) a;
+          }
+        where
+          none : {d : ℕ} → IsAccept m xs i x d → ⊥
+          none {d} b = entered_not_failed c d b.entry b.cookie b.bytes b.descriptors (sym a ∙ b.answer)
+
+      go : EndedRowAt m xs i x (record_of (state_at m xs i) c) (record_of (state_at m xs (i + 1)) c) → FailsToEnter m xs i x c
+      go w =
+          with_answer
+          (failed _ _ _ _ _ x.thread w.call w.error w.ends (ap stage_in (sym w.before) ∙ before)
+          ∙ ap (λ (d : ℕ). answer.EnterFailed d) (number_of (state_at m xs i) c w.call w.before))
+
+  given_enters :
+      (i c : ℕ) (x : Turn) → slice_get xs i ≡ Some x → x.request ≡ None → state_of (state_at m xs i) x.thread ≡ is.Given (item.Call c) →
+      Enters m xs i x c ⊎ FailsToEnter m xs i x c
+  given_enters i c x e q s =
+      ⊎_elim (λ a. inl (enters_given i c x e q s before after a)) (λ a. inr (fails_given i c x e q s before a))
+      (subst (λ n. IsAcceptedNow (state_at m xs i) n x.thread c) (sym (next m xs k i x e)) ((k.keeps i x e).accepted c q s))
+    where
+      before : IsCoherent (core (state_at m xs i))
+      before = (invariant_before m xs k i x e).consistent.coherent
+
+      after : IsCoherent (core (state_at m xs (i + 1)))
+      after = (invariant_after m xs k i x e).consistent.coherent
+
   pub accepts :
       (i c entry cookie : ℕ) (x : Turn) (bytes : List ℕ) (fds : List Fd) → slice_get xs i ≡ Some x →
       answer_at m xs i x ≡ answer.Entered c entry cookie bytes fds → Enters m xs i x c
   accepts i c entry cookie x bytes fds e f = go (subst (IsToldBy (state_at m xs i) x.thread x.request) f (k.keeps i x e).told)
     where
-      go : (x.request ≡ None) × (state_of (state_at m xs i) x.thread ≡ is.Given (item.Call c)) → Enters m xs i x c
-      go a = accepts_given i c x e a.0 a.1 (invariant_before m xs k i x e).consistent.coherent (invariant_after m xs k i x e).consistent.coherent
+      fails : FailsToEnter m xs i x c → Enters m xs i x c
+      fails b = absurd (entered_not_failed c c entry cookie bytes fds (sym b.answer ∙ f))
 
-  given_enters :
-      (i c : ℕ) (x : Turn) → slice_get xs i ≡ Some x → x.request ≡ None → state_of (state_at m xs i) x.thread ≡ is.Given (item.Call c) →
-      Enters m xs i x c
-  given_enters i c x e q s =
-      accepts_given i c x e q s (invariant_before m xs k i x e).consistent.coherent (invariant_after m xs k i x e).consistent.coherent
+      go : (x.request ≡ None) × (state_of (state_at m xs i) x.thread ≡ is.Given (item.Call c)) → Enters m xs i x c
+      go a = ⊎_elim (λ b. b) fails (given_enters i c x e a.0 a.1)
+
+  pub accept_fails :
+      (i c : ℕ) (x : Turn) → slice_get xs i ≡ Some x → answer_at m xs i x ≡ answer.EnterFailed c → FailsToEnter m xs i x c
+  accept_fails i c x e f = go (subst (IsToldBy (state_at m xs i) x.thread x.request) f (k.keeps i x e).told)
+    where
+      accepted : IsAccept m xs i x c → FailsToEnter m xs i x c
+      accepted b = absurd (entered_not_failed c c b.entry b.cookie b.bytes b.descriptors (sym f ∙ b.answer))
+
+      enters : Enters m xs i x c → FailsToEnter m xs i x c
+      enters b = accepted (only_by_accept i c x e b.entered)
+
+      go : (x.request ≡ None) × (state_of (state_at m xs i) x.thread ≡ is.Given (item.Call c)) → FailsToEnter m xs i x c
+      go a = ⊎_elim enters (λ b. b) (given_enters i c x e a.0 a.1)
 
   in_its_invocation :
       (i t c : ℕ) → i ≤ length xs → HasEntered (state_at m xs i) t c → item_of (state_at m xs i) t ≡ Some (item.Call c)
@@ -220,8 +316,9 @@ module _ (m : State) (xs : List Turn) (k : Known m xs) where
       (i c : ℕ) (x : Turn) (bytes : List ℕ) (fds : List Fd) (more : Bool) → slice_get xs i ≡ Some x → IsCollect m xs i x c →
       answer_at m xs i x ≡ answer.Results bytes fds more →
       (a : AnsweredRowAt m xs i x (record_of (state_at m xs i) c) (record_of (state_at m xs (i + 1)) c)) →
-      HandsBack a.call bytes fds more
-  collected_results i c x bytes fds more e w f a = hands_back a.call a.told bytes fds more a.hands_over (sym a.answers ∙ f)
+      HandsBack (state_at m xs i) x.thread a.call bytes fds more
+  collected_results i c x bytes fds more e w f a =
+      hands_back (state_at m xs i) x.thread a.call a.told bytes fds more a.hands_over (sym a.answers ∙ f)
 
   pub caller_of_results :
       (i : ℕ) (x : Turn) (bytes : List ℕ) (fds : List Fd) (more : Bool) → slice_get xs i ≡ Some x →
@@ -267,7 +364,7 @@ module _ (m : State) (xs : List Turn) (k : Known m xs) where
       by :
           (c : ℕ) → IsCollect m xs i x c → (b : BecomesAnswered m xs c i) →
           (a : AnsweredRowAt m xs i x (record_of (state_at m xs i) c) (record_of (state_at m xs (i + 1)) c)) →
-          HandsBack a.call bytes fds grown → CollectsEntered m xs i x
+          HandsBack (state_at m xs i) x.thread a.call bytes fds grown → CollectsEntered m xs i x
       by c w b a g =
           record {
             call = c;
@@ -290,6 +387,7 @@ module _ (m : State) (xs : List Turn) (k : Known m xs) where
         entered_once = entered_once;
         answered_once = answered_once;
         accepts = accepts;
+        accept_fails = accept_fails;
         given_enters = given_enters;
         only_by_accept = only_by_accept;
         notices_enter_no_call = notices_enter_no_call;

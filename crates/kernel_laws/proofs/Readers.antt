@@ -1,14 +1,15 @@
 -- What the story of a call tells: the Call that made it, and the accept, the Return and the end that it had.
-use Rattle.std.specs.Prelude.{ℕ, ◌≡◌, ◌+◌, ◌<◌, List, [], Option, true, Some, None, length, slice_get}
+use Rattle.std.specs.Prelude.{ℕ, ◌≡◌, ◌+◌, ◌<◌, List, Option, true, Some, None, length, slice_get}
 use Rattle.std.proofs.Common.{sym, ap, ◌∙◌}
 use native.Mathlib.Omega.{arith}
-use Rattle.written_kernel.specs.Types.{Call, CallStage}
+use Rattle.written_kernel.specs.Types.{Call, CallStage, Obj}
 use Rattle.dk_base.specs.declared.answer.Answer.TheVariants as answer
 use Rattle.kernel_records.specs.declared.record.CallStage.TheVariants as stage
-use Rattle.kernel_records.specs.Words.{at_stage, cookie_of, entry_of, tid}
+use Rattle.kernel_records.specs.Words.{at_stage, cookie_of, entry_of, new_descriptors, objects_passed, tid}
 use Rattle.written_kernel.specs.Words.{State, Turn, door_of, new_call, object_at, state_at}
 use Rattle.kernel_invariant.specs.Records.{record_of}
 use Rattle.kernel_invariant.specs.Core.{has_arguments}
+use Rattle.kernel_invariant.specs.Arrows.{own_table}
 use Rattle.kernel_invariant.proofs.Calls.{find-number}
 use Rattle.kernel_laws.specs.Places.{IsAccept, MakesCall, answer_at, is_entered_in, is_entered_stage, is_returned_in, process_at}
 use Rattle.kernel_laws.proofs.Refusals.{no_refusal}
@@ -31,8 +32,12 @@ ReturnedRowAt m xs i x o p = ReturnedRow (state_at m xs i) x.thread x.request (a
 abbrev pub AnsweredRowAt : State → List Turn → ℕ → Turn → Option Call → Option Call → Type 0
 AnsweredRowAt m xs i x o p = AnsweredRow (state_at m xs i) x.thread x.request (answer_at m xs i x) o p
 
-abbrev pub EndedRowAt : State → List Turn → ℕ → Option Call → Option Call → Type 0
-EndedRowAt m xs i o p = EndedRow (state_at m xs i) (state_at m xs (i + 1)) o p
+abbrev pub EndedRowAt : State → List Turn → ℕ → Turn → Option Call → Option Call → Type 0
+EndedRowAt m xs i x o p = EndedRow (state_at m xs i) x.thread x.request (answer_at m xs i x) (state_at m xs (i + 1)) o p
+
+-- what a turn's thread has in its table before the turn
+abbrev pub table_at : State → List Turn → ℕ → Turn → List (Option Obj)
+table_at m xs i x = own_table (state_at m xs i) x.thread
 
 abbrev OriginAt : State → List Turn → ℕ → Turn → Option Call → Call → Type 0
 OriginAt m xs i x o r = Origin (state_at m xs i) x.thread x.request (answer_at m xs i x) o r
@@ -54,12 +59,14 @@ pub record WasMade (m : State) (xs : List Turn) (c i : ℕ) (r : Call) : Type 0 
   pub door : r.door ≡ makes.door
   pub rsize : r.rsize ≡ makes.rsize
   pub bytes : has_arguments r.stage ≡ true → r.bytes ≡ makes.bytes
+  pub objects : has_arguments r.stage ≡ true → r.objects ≡ objects_passed (table_at m xs at turn) makes.pass
 
 record NewRecord (r n : Call) (s : CallStage) : Type 0 where
   caller : r.caller ≡ n.caller
   door : r.door ≡ n.door
   rsize : r.rsize ≡ n.rsize
   bytes : r.bytes ≡ n.bytes
+  objects : r.objects ≡ n.objects
   abandoned : r.abandoned ≡ n.abandoned
   number : r.number ≡ n.number
   at_stage : r.stage ≡ s
@@ -71,59 +78,73 @@ new_record r n s e =
       door = grind arith;
       rsize = grind arith;
       bytes = grind arith;
+      objects = grind arith;
       abandoned = grind arith;
       number = grind arith;
       at_stage = grind arith;
     }
 
+-- the objects of the new record
+
+pub record HasObjects (m : State) (xs : List Turn) (c at : ℕ) (x : Turn) (r : Call) : Type 0 where
+  pub makes : MakesCall m xs at x c
+  pub objects : r.objects ≡ objects_passed (table_at m xs at x) makes.pass
+
 pub made_here :
     (m : State) (xs : List Turn) (c at : ℕ) (x : Turn) (r : Call) → slice_get xs at ≡ Some x →
     record_of (state_at m xs at) c ≡ None → record_of (state_at m xs (at + 1)) c ≡ Some r → MadeRowAt m xs at x r →
-    MakesCall m xs at x c
+    HasObjects m xs c at x r
 made_here m xs c at x r f b a w =
     record {
-      turn = f;
-      fd = w.fd;
-      bytes = w.bytes;
-      pass = w.pass;
-      rsize = w.rsize;
-      door = w.door;
-      request = w.asked;
-      names_door = w.names_door;
-      not_refused =
-          no_refusal (state_at m xs at) (length w.bytes) (length w.pass)
-          (object_at (state_at m xs at) (process_at m xs at x.thread) w.fd)
-          w.not_refused;
-      answer = w.answers ∙ ap (λ (j : ℕ). answer.WaitCall j) (sym n.number ∙ number);
-      none_before = b;
-      made = r;
-      there = a;
-      number = number;
-      same_caller = n.caller;
-      same_door = n.door;
-      same_bytes = n.bytes;
-      same_rsize = n.rsize;
-      not_abandoned = n.abandoned;
-      waits = ap has_arguments n.at_stage ∙ w.waits;
+      makes =
+          record {
+            turn = f;
+            fd = w.fd;
+            bytes = w.bytes;
+            pass = w.pass;
+            rsize = w.rsize;
+            door = w.door;
+            request = w.asked;
+            names_door = w.names_door;
+            not_refused =
+                no_refusal (state_at m xs at) (process_at m xs at x.thread) (length w.bytes) w.pass
+                (object_at (state_at m xs at) (process_at m xs at x.thread) w.fd)
+                w.not_refused;
+            answer = w.answers ∙ ap (λ (j : ℕ). answer.WaitCall j) (sym n.number ∙ number);
+            none_before = b;
+            made = r;
+            there = a;
+            number = number;
+            same_caller = n.caller;
+            same_door = n.door;
+            same_bytes = n.bytes;
+            same_rsize = n.rsize;
+            not_abandoned = n.abandoned;
+            waits = ap has_arguments n.at_stage ∙ w.waits;
+          };
+      objects = n.objects;
     }
   where
-    n : NewRecord r (new_call (state_at m xs at) x.thread w.door w.bytes [] w.rsize) w.new_stage
+    n : NewRecord r (new_call (state_at m xs at) x.thread w.door w.bytes (objects_passed (table_at m xs at x) w.pass) w.rsize) w.new_stage
     n = new_record r _ w.new_stage w.after
 
     number : r.number ≡ c
     number = number_of (state_at m xs (at + 1)) c r a
 
-was_made_here : (m : State) (xs : List Turn) (c i at : ℕ) (x : Turn) (r : Call) → at < i → (w : MakesCall m xs at x c) → w.made ≡ r → WasMade m xs c i r
+was_made_here :
+    (m : State) (xs : List Turn) (c i at : ℕ) (x : Turn) (r : Call) → at < i → (w : HasObjects m xs c at x r) → w.makes.made ≡ r →
+    WasMade m xs c i r
 was_made_here m xs c i at x r l w e =
     record {
       at = at;
       turn = x;
       earlier = l;
-      makes = w;
-      caller = ap (λ (y : Call). y.caller) (sym e) ∙ w.same_caller;
-      door = ap (λ (y : Call). y.door) (sym e) ∙ w.same_door;
-      rsize = ap (λ (y : Call). y.rsize) (sym e) ∙ w.same_rsize;
-      bytes = λ z. ap (λ (y : Call). y.bytes) (sym e) ∙ w.same_bytes;
+      makes = w.makes;
+      caller = ap (λ (y : Call). y.caller) (sym e) ∙ w.makes.same_caller;
+      door = ap (λ (y : Call). y.door) (sym e) ∙ w.makes.same_door;
+      rsize = ap (λ (y : Call). y.rsize) (sym e) ∙ w.makes.same_rsize;
+      bytes = λ z. ap (λ (y : Call). y.bytes) (sym e) ∙ w.makes.same_bytes;
+      objects = λ z. w.objects;
     }
 
 made_before : (m : State) (xs : List Turn) (c i at : ℕ) (s r : Call) → at < i → IsOlder s r → WasMade m xs c at s → WasMade m xs c i r
@@ -137,6 +158,7 @@ made_before m xs c i at s r l o w =
       door = o.door ∙ w.door;
       rsize = o.rsize ∙ w.rsize;
       bytes = λ z. o.bytes z ∙ w.bytes (o.still z);
+      objects = λ z. o.objects z ∙ w.objects (o.still z);
     }
 
 module _ (m : State) (xs : List Turn) where
@@ -144,8 +166,8 @@ module _ (m : State) (xs : List Turn) where
   made c i p r (unmade k) e = absurd (cc)
   made c i p r (changed k at x o q l f b a w s) e = go (origin _ _ _ _ _ o q r w e) (λ y g. made c at o y s g)
     where
-      here : MakesCall m xs at x c → WasMade m xs c k r
-      here n = was_made_here m xs c k at x r l n (same_record _ n.made r n.there (a ∙ e))
+      here : HasObjects m xs c at x r → WasMade m xs c k r
+      here n = was_made_here m xs c k at x r l n (same_record _ n.makes.made r n.makes.there (a ∙ e))
 
       go :
           OriginAt m xs at x o r →
@@ -174,10 +196,10 @@ accept_of m xs i c x o p b w =
       entry = entry_of (door_of (state_at m xs i) w.call.door);
       cookie = cookie_of (door_of (state_at m xs i) w.call.door);
       bytes = w.call.bytes;
-      descriptors = [];
+      descriptors = new_descriptors (table_at m xs i x) w.call.objects;
       answer =
           w.answers
-          ∙ ap (λ (d : ℕ). answer.Entered d (entry_of (door_of (state_at m xs i) w.call.door)) (cookie_of (door_of (state_at m xs i) w.call.door)) w.call.bytes [])
+          ∙ ap (λ (d : ℕ). answer.Entered d (entry_of (door_of (state_at m xs i) w.call.door)) (cookie_of (door_of (state_at m xs i) w.call.door)) w.call.bytes (new_descriptors (table_at m xs i x) w.call.objects))
           (number_of (state_at m xs i) c w.call (b ∙ w.before));
     }
 
@@ -204,7 +226,7 @@ pub record EndedAt (m : State) (xs : List Turn) (c i : ℕ) (p : Option Call) : 
   pub old : Option Call
   pub was : record_of (state_at m xs at) c ≡ old
   pub there : record_of (state_at m xs (at + 1)) c ≡ p
-  pub row : EndedRowAt m xs at old p
+  pub row : EndedRowAt m xs at turn old p
 
 is_entered_then : (o : Option Call) (r : Call) (t : ℕ) → o ≡ Some r → r.stage ≡ stage.Entered (tid t) → is_entered_in o ≡ true
 is_entered_then o r t e f = ap is_entered_in e ∙ ap is_entered_stage f

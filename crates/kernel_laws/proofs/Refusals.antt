@@ -1,25 +1,26 @@
 -- An entry is refused with the error of the first of its tests that holds; for a Call the table of its refusals says which.
-use Rattle.std.specs.Prelude.{ℕ, ◌≡◌, ◌<◌, ◌≤◌, ◌++◌, ◌&&◌, ◌||◌, ◌↔◌, ◌⊎◌, Option, Bool, true, false, Some, None, if◌then◌else◌, bit_and, not, nat_le, nat_lt}
+use Rattle.std.specs.Prelude.{ℕ, ◌≡◌, ◌<◌, ◌≤◌, ◌++◌, ◌&&◌, ◌||◌, ◌↔◌, ◌⊎◌, List, Option, Bool, true, false, Some, None, if◌then◌else◌, bit_and, length, not, nat_le, nat_lt}
 use Rattle.std.proofs.Common.{refl, sym, ap, subst, ◌∙◌, inl, inr}
 use native.Mathlib.Omega.{arith}
 use Rattle.std.proofs.lemmas.Bool.Decides.{nat_tests, not_from_Decides, Decides-and, Decides-eqb, Decides-ltb, Decides-or}
 use Rattle.std.specs.Bool.{Decides}
-use Rattle.written_kernel.specs.Types.{Answer, Door, Errno, Name, Obj, PathId, Request}
-use Rattle.dk_base.specs.declared.error.Errno.TheVariants.{E2BIG, EAGAIN, EBADF, ENFILE, ENOBUFS, ENOTSUP}
+use Rattle.written_kernel.specs.Types.{Answer, Door, Errno, Name, Obj, Pass, PathId, Request}
+use Rattle.dk_base.specs.declared.error.Errno.TheVariants.{E2BIG, EAGAIN, EBADF, EINVAL, ENFILE, ENOBUFS, ENOTSUP}
 use Rattle.dk_base.specs.declared.limits.TheConstants.{DATA_MAX, PASS_MAX, QUEUE_MAX}
 use Rattle.dk_base.specs.declared.object.Obj.TheVariants as obj
 use Rattle.dk_base.specs.declared.request.Request.TheVariants as request
 use Rattle.dk_base.specs.declared.answer.Answer.TheVariants as answer
-use Rattle.written_kernel.specs.Words.{ActResult, State, await_name, calls_waiting, door_named, door_of, effect, is_valid, name_of, pool_of, pool_tests, process_of, refusal_of, step, unless_refused}
-use Rattle.kernel_records.specs.Words.{first_refusal, has_refused_size, has_too_many, limit_tests, refuses_descriptors_in}
-use Rattle.kernel_laws.specs.Refusals.{HasRefusedSize, HasTooMany, Refusal, RefusesPassed}
-use Rattle.kernel_laws.specs.Refusals.Refusal.{no_door, not_valid, refused_size, takes_none, too_many, too_long, full_pool}
+use Rattle.written_kernel.specs.Words.{ActResult, State, await_name, calls_waiting, door_named, door_of, effect, is_valid, name_of, pass_tests, pool_of, pool_tests, process_of, refusal_of, step, table_of, unless_refused}
+use Rattle.kernel_records.specs.Words.{first_refusal, has_refused_size, has_too_many, is_bad_pass, limit_tests, refuses_descriptors_in}
+use Rattle.kernel_laws.specs.Refusals.{CannotPass, HasRefusedSize, HasTooMany, Refusal, RefusesPassed}
+use Rattle.kernel_laws.specs.Refusals.Refusal.{no_door, not_valid, refused_size, takes_none, too_many, too_long, cannot_pass, full_pool}
+use Rattle.kernel_laws.proofs.Passed.{pass_decides}
 
--- a Call of so many bytes and descriptors through a descriptor of this object
+-- a Call, by a thread of process p, of so many bytes and these descriptors, through a descriptor of this object
 
-abbrev pub refusal_at : State → ℕ → ℕ → Option Obj → Option Errno
-refusal_at m size descriptors o =
-    first_refusal (limit_tests (door_of m (door_named o)) size descriptors ++ pool_tests m (door_named o))
+abbrev pub refusal_at : State → ℕ → ℕ → List Pass → Option Obj → Option Errno
+refusal_at m p size pass o =
+    first_refusal (limit_tests (door_of m (door_named o)) size (length pass) ++ pass_tests m p pass ++ pool_tests m (door_named o))
 
 some_refusal : (e f : Errno) → Some e ≡ Some f → e ≡ f
 some_refusal e f h = cc
@@ -32,11 +33,14 @@ refuses_passed descriptors o = nat_lt 0 descriptors && refuses_descriptors_in o
 abbrev is_over : ℕ → ℕ → Bool
 is_over size descriptors = nat_lt DATA_MAX size || nat_lt PASS_MAX descriptors
 
+abbrev is_bad : State → ℕ → List Pass → Bool
+is_bad m p pass = is_bad_pass (table_of m p) pass
+
 abbrev is_full : State → ℕ → Bool
 is_full m d = nat_le QUEUE_MAX (calls_waiting m (pool_of m d))
 
-abbrev first_of : Bool → Bool → Bool → Bool → Bool → Bool → Option Errno
-first_of valid size passed many over full =
+abbrev first_of : Bool → Bool → Bool → Bool → Bool → Bool → Bool → Option Errno
+first_of valid size passed many over bad full =
     if not valid
     then Some EBADF
     else (
@@ -45,7 +49,11 @@ first_of valid size passed many over full =
     else (
     if passed
     then Some ENOTSUP
-    else (if many then Some ENFILE else (if over then Some E2BIG else (if full then Some EAGAIN else None)))
+    else (
+    if many
+    then Some ENFILE
+    else (if over then Some E2BIG else (if bad then Some EINVAL else (if full then Some EAGAIN else None)))
+    )
     )
     )
 
@@ -103,16 +111,18 @@ false_where_not P true decides h = absurd (h (decides.0 refl))
 -- the table says why
 
 door_refusal :
-    (m : State) (d size descriptors : ℕ) (e : Errno) → refusal_at m size descriptors (Some (obj.Door d)) ≡ Some e →
-    Refusal m size descriptors (Some (obj.Door d)) e
-door_refusal m d size descriptors e h =
+    (m : State) (d p size : ℕ) (pass : List Pass) (e : Errno) → refusal_at m p size pass (Some (obj.Door d)) ≡ Some e →
+    Refusal m p size pass (Some (obj.Door d)) e
+door_refusal m d p size pass e h =
     go
     (is_valid m d)
     (has_refused_size size (door_of m d))
-    (refuses_passed descriptors (door_of m d))
-    (has_too_many descriptors (door_of m d))
-    (is_over size descriptors)
+    (refuses_passed (length pass) (door_of m d))
+    (has_too_many (length pass) (door_of m d))
+    (is_over size (length pass))
+    (is_bad m p pass)
     (is_full m d)
+    refl
     refl
     refl
     refl
@@ -122,76 +132,84 @@ door_refusal m d size descriptors e h =
     h
   where
     -- with the error that a test has
-    has : (x : Errno) → Some x ≡ Some e → Refusal m size descriptors (Some (obj.Door d)) x → Refusal m size descriptors (Some (obj.Door d)) e
-    has x g r = subst (Refusal m size descriptors (Some (obj.Door d))) (some_refusal x e g) r
+    has : (x : Errno) → Some x ≡ Some e → Refusal m p size pass (Some (obj.Door d)) x → Refusal m p size pass (Some (obj.Door d)) e
+    has x g r = subst (Refusal m p size pass (Some (obj.Door d))) (some_refusal x e g) r
 
     no_size : has_refused_size size (door_of m d) ≡ false → HasRefusedSize size (door_of m d) → ⊥
     no_size = not_from_Decides _ (size_decides size (door_of m d))
 
-    none_passed : refuses_passed descriptors (door_of m d) ≡ false → RefusesPassed descriptors (door_of m d) → ⊥
-    none_passed = not_from_Decides _ (passed_decides descriptors (door_of m d))
+    none_passed : refuses_passed (length pass) (door_of m d) ≡ false → RefusesPassed (length pass) (door_of m d) → ⊥
+    none_passed = not_from_Decides _ (passed_decides (length pass) (door_of m d))
 
-    not_many : has_too_many descriptors (door_of m d) ≡ false → HasTooMany descriptors (door_of m d) → ⊥
-    not_many = not_from_Decides _ (many_decides descriptors (door_of m d))
+    not_many : has_too_many (length pass) (door_of m d) ≡ false → HasTooMany (length pass) (door_of m d) → ⊥
+    not_many = not_from_Decides _ (many_decides (length pass) (door_of m d))
+
+    can_pass : is_bad m p pass ≡ false → CannotPass m p pass → ⊥
+    can_pass = not_from_Decides _ (pass_decides m p pass)
 
     go :
-        (valid refused passed many over full : Bool) → is_valid m d ≡ valid → has_refused_size size (door_of m d) ≡ refused →
-        refuses_passed descriptors (door_of m d) ≡ passed → has_too_many descriptors (door_of m d) ≡ many →
-        is_over size descriptors ≡ over → is_full m d ≡ full → first_of valid refused passed many over full ≡ Some e →
-        Refusal m size descriptors (Some (obj.Door d)) e
-    go false s p n o f u v w x y z g = has EBADF g (not_valid d refl u)
-    go true true p n o f u v w x y z g = has ENOBUFS g (refused_size d refl u ((size_decides size (door_of m d)).0 v))
-    go true false true n o f u v w x y z g =
-        has ENOTSUP g (takes_none d refl u (no_size v) ((passed_decides descriptors (door_of m d)).0 w))
-    go true false false true o f u v w x y z g =
-        has ENFILE g (too_many d refl u (no_size v) (none_passed w) ((many_decides descriptors (door_of m d)).0 x))
-    go true false false false true f u v w x y z g =
-        has E2BIG g (too_long d refl u (no_size v) (none_passed w) (not_many x) (over_limit size descriptors y))
-    go true false false false false true u v w x y z g =
-        let within : (size ≤ DATA_MAX) × (descriptors ≤ PASS_MAX) = within_limits size descriptors y in
+        (valid refused passed many over bad full : Bool) → is_valid m d ≡ valid → has_refused_size size (door_of m d) ≡ refused →
+        refuses_passed (length pass) (door_of m d) ≡ passed → has_too_many (length pass) (door_of m d) ≡ many →
+        is_over size (length pass) ≡ over → is_bad m p pass ≡ bad → is_full m d ≡ full →
+        first_of valid refused passed many over bad full ≡ Some e → Refusal m p size pass (Some (obj.Door d)) e
+    go false s p n o b f u v w x y q z g = has EBADF g (not_valid d refl u)
+    go true true p n o b f u v w x y q z g = has ENOBUFS g (refused_size d refl u ((size_decides size (door_of m d)).0 v))
+    go true false true n o b f u v w x y q z g =
+        has ENOTSUP g (takes_none d refl u (no_size v) ((passed_decides (length pass) (door_of m d)).0 w))
+    go true false false true o b f u v w x y q z g =
+        has ENFILE g (too_many d refl u (no_size v) (none_passed w) ((many_decides (length pass) (door_of m d)).0 x))
+    go true false false false true b f u v w x y q z g =
+        has E2BIG g (too_long d refl u (no_size v) (none_passed w) (not_many x) (over_limit size (length pass) y))
+    go true false false false false true f u v w x y q z g =
+        let within : (size ≤ DATA_MAX) × (length pass ≤ PASS_MAX) = within_limits size (length pass) y in
+        has EINVAL g
+        (cannot_pass d refl u (no_size v) (none_passed w) (not_many x) within.0 within.1 ((pass_decides m p pass).0 q))
+    go true false false false false false true u v w x y q z g =
+        let within : (size ≤ DATA_MAX) × (length pass ≤ PASS_MAX) = within_limits size (length pass) y in
         has EAGAIN g
-        (full_pool d refl u (no_size v) (none_passed w) (not_many x) within.0 within.1 (grind (arith, nat_tests, z)))
-    go true false false false false false u v w x y z g = absurd (cc g)
+        (full_pool d refl u (no_size v) (none_passed w) (not_many x) within.0 within.1 (can_pass q) (grind (arith, nat_tests, z)))
+    go true false false false false false false u v w x y q z g = absurd (cc g)
 
 pub table_of_refusal :
-    (m : State) (size descriptors : ℕ) (o : Option Obj) (e : Errno) → refusal_at m size descriptors o ≡ Some e →
-    Refusal m size descriptors o e
-table_of_refusal m size descriptors (Some (obj.Door d)) e h = door_refusal m d size descriptors e h
-table_of_refusal m size descriptors None e h =
-    subst (Refusal m size descriptors None) (some_refusal _ _ h) (no_door (λ d g. absurd (cc g)))
-table_of_refusal m size descriptors (Some (obj.Port n)) e h =
-    subst (Refusal m size descriptors (Some (obj.Port n))) (some_refusal _ _ h) (no_door (λ d g. absurd (cc g)))
-table_of_refusal m size descriptors (Some (obj.PipeIn n)) e h =
-    subst (Refusal m size descriptors (Some (obj.PipeIn n))) (some_refusal _ _ h) (no_door (λ d g. absurd (cc g)))
-table_of_refusal m size descriptors (Some (obj.PipeOut n)) e h =
-    subst (Refusal m size descriptors (Some (obj.PipeOut n))) (some_refusal _ _ h) (no_door (λ d g. absurd (cc g)))
+    (m : State) (p size : ℕ) (pass : List Pass) (o : Option Obj) (e : Errno) → refusal_at m p size pass o ≡ Some e →
+    Refusal m p size pass o e
+table_of_refusal m p size pass (Some (obj.Door d)) e h = door_refusal m d p size pass e h
+table_of_refusal m p size pass None e h =
+    subst (Refusal m p size pass None) (some_refusal _ _ h) (no_door (λ d g. absurd (cc g)))
+table_of_refusal m p size pass (Some (obj.Port n)) e h =
+    subst (Refusal m p size pass (Some (obj.Port n))) (some_refusal _ _ h) (no_door (λ d g. absurd (cc g)))
+table_of_refusal m p size pass (Some (obj.PipeIn n)) e h =
+    subst (Refusal m p size pass (Some (obj.PipeIn n))) (some_refusal _ _ h) (no_door (λ d g. absurd (cc g)))
+table_of_refusal m p size pass (Some (obj.PipeOut n)) e h =
+    subst (Refusal m p size pass (Some (obj.PipeOut n))) (some_refusal _ _ h) (no_door (λ d g. absurd (cc g)))
 
 no_door_refusal :
-    (m : State) (size descriptors : ℕ) (o : Option Obj) → ((d : ℕ) → o ≡ Some (obj.Door d) → ⊥) →
-    refusal_at m size descriptors o ≡ Some EBADF
-no_door_refusal m size descriptors None h = refl
-no_door_refusal m size descriptors (Some (obj.Door d)) h = absurd (h d refl)
-no_door_refusal m size descriptors (Some (obj.Port n)) h = refl
-no_door_refusal m size descriptors (Some (obj.PipeIn n)) h = refl
-no_door_refusal m size descriptors (Some (obj.PipeOut n)) h = refl
+    (m : State) (p size : ℕ) (pass : List Pass) (o : Option Obj) → ((d : ℕ) → o ≡ Some (obj.Door d) → ⊥) →
+    refusal_at m p size pass o ≡ Some EBADF
+no_door_refusal m p size pass None h = refl
+no_door_refusal m p size pass (Some (obj.Door d)) h = absurd (h d refl)
+no_door_refusal m p size pass (Some (obj.Port n)) h = refl
+no_door_refusal m p size pass (Some (obj.PipeIn n)) h = refl
+no_door_refusal m p size pass (Some (obj.PipeOut n)) h = refl
 
 -- and what the table says is so
 
-module _ (m : State) (d size descriptors : ℕ) where
+module _ (m : State) (d p size : ℕ) (pass : List Pass) where
   -- what the tests of a call through a descriptor of door d give, if these are what they find
   by_tests :
-      (o : Option Obj) (valid refused passed many over full : Bool) → o ≡ Some (obj.Door d) → is_valid m d ≡ valid →
-      has_refused_size size (door_of m d) ≡ refused → refuses_passed descriptors (door_of m d) ≡ passed →
-      has_too_many descriptors (door_of m d) ≡ many → is_over size descriptors ≡ over → is_full m d ≡ full →
-      refusal_at m size descriptors o ≡ first_of valid refused passed many over full
-  by_tests o valid refused passed many over full h u v w x y z =
-      ap (refusal_at m size descriptors) h
-      ∙ ap (λ (b : Bool). first_of b (has_refused_size size (door_of m d)) (refuses_passed descriptors (door_of m d)) (has_too_many descriptors (door_of m d)) (is_over size descriptors) (is_full m d)) u
-      ∙ ap (λ (b : Bool). first_of valid b (refuses_passed descriptors (door_of m d)) (has_too_many descriptors (door_of m d)) (is_over size descriptors) (is_full m d)) v
-      ∙ ap (λ (b : Bool). first_of valid refused b (has_too_many descriptors (door_of m d)) (is_over size descriptors) (is_full m d)) w
-      ∙ ap (λ (b : Bool). first_of valid refused passed b (is_over size descriptors) (is_full m d)) x
-      ∙ ap (λ (b : Bool). first_of valid refused passed many b (is_full m d)) y
-      ∙ ap (λ (b : Bool). first_of valid refused passed many over b) z
+      (o : Option Obj) (valid refused passed many over bad full : Bool) → o ≡ Some (obj.Door d) → is_valid m d ≡ valid →
+      has_refused_size size (door_of m d) ≡ refused → refuses_passed (length pass) (door_of m d) ≡ passed →
+      has_too_many (length pass) (door_of m d) ≡ many → is_over size (length pass) ≡ over → is_bad m p pass ≡ bad →
+      is_full m d ≡ full → refusal_at m p size pass o ≡ first_of valid refused passed many over bad full
+  by_tests o valid refused passed many over bad full h u v w x y q z =
+      ap (refusal_at m p size pass) h
+      ∙ ap (λ (b : Bool). first_of b (has_refused_size size (door_of m d)) (refuses_passed (length pass) (door_of m d)) (has_too_many (length pass) (door_of m d)) (is_over size (length pass)) (is_bad m p pass) (is_full m d)) u
+      ∙ ap (λ (b : Bool). first_of valid b (refuses_passed (length pass) (door_of m d)) (has_too_many (length pass) (door_of m d)) (is_over size (length pass)) (is_bad m p pass) (is_full m d)) v
+      ∙ ap (λ (b : Bool). first_of valid refused b (has_too_many (length pass) (door_of m d)) (is_over size (length pass)) (is_bad m p pass) (is_full m d)) w
+      ∙ ap (λ (b : Bool). first_of valid refused passed b (is_over size (length pass)) (is_bad m p pass) (is_full m d)) x
+      ∙ ap (λ (b : Bool). first_of valid refused passed many b (is_bad m p pass) (is_full m d)) y
+      ∙ ap (λ (b : Bool). first_of valid refused passed many over b (is_full m d)) q
+      ∙ ap (λ (b : Bool). first_of valid refused passed many over bad b) z
 
 -- where a type of the table does not hold, its test is false
 
@@ -210,35 +228,39 @@ many_is_false :
 many_is_false m d descriptors = false_where_not _ _ (many_decides descriptors (door_of m d))
 
 pub refusal_of_table :
-    (m : State) (size descriptors : ℕ) (o : Option Obj) (e : Errno) → Refusal m size descriptors o e →
-    refusal_at m size descriptors o ≡ Some e
-refusal_of_table m size descriptors o e (no_door h) = no_door_refusal m size descriptors o h
-refusal_of_table m size descriptors o e (not_valid d h u) =
-    by_tests m d size descriptors o false _ _ _ _ _ h u refl refl refl refl refl
-refusal_of_table m size descriptors o e (refused_size d h u v) =
-    by_tests m d size descriptors o true true _ _ _ _ h u ((size_decides size (door_of m d)).1 v) refl refl refl refl
-refusal_of_table m size descriptors o e (takes_none d h u v w) =
-    by_tests m d size descriptors o true false true _ _ _ h u (size_is_false m d size v)
-    ((passed_decides descriptors (door_of m d)).1 w) refl refl refl
-refusal_of_table m size descriptors o e (too_many d h u v w x) =
-    by_tests m d size descriptors o true false false true _ _ h u (size_is_false m d size v) (passed_is_false m d descriptors w)
-    ((many_decides descriptors (door_of m d)).1 x) refl refl
-refusal_of_table m size descriptors o e (too_long d h u v w x y) =
-    by_tests m d size descriptors o true false false false true _ h u (size_is_false m d size v)
-    (passed_is_false m d descriptors w) (many_is_false m d descriptors x) (over_is size descriptors y) refl
-refusal_of_table m size descriptors o e (full_pool d h u v w x s n z) =
-    by_tests m d size descriptors o true false false false false true h u (size_is_false m d size v)
-    (passed_is_false m d descriptors w) (many_is_false m d descriptors x) (within_is size descriptors s n)
-    (grind (arith, nat_tests, z))
+    (m : State) (p size : ℕ) (pass : List Pass) (o : Option Obj) (e : Errno) → Refusal m p size pass o e →
+    refusal_at m p size pass o ≡ Some e
+refusal_of_table m p size pass o e (no_door h) = no_door_refusal m p size pass o h
+refusal_of_table m p size pass o e (not_valid d h u) =
+    by_tests m d p size pass o false _ _ _ _ _ _ h u refl refl refl refl refl refl
+refusal_of_table m p size pass o e (refused_size d h u v) =
+    by_tests m d p size pass o true true _ _ _ _ _ h u ((size_decides size (door_of m d)).1 v) refl refl refl refl refl
+refusal_of_table m p size pass o e (takes_none d h u v w) =
+    by_tests m d p size pass o true false true _ _ _ _ h u (size_is_false m d size v)
+    ((passed_decides (length pass) (door_of m d)).1 w) refl refl refl refl
+refusal_of_table m p size pass o e (too_many d h u v w x) =
+    by_tests m d p size pass o true false false true _ _ _ h u (size_is_false m d size v) (passed_is_false m d (length pass) w)
+    ((many_decides (length pass) (door_of m d)).1 x) refl refl refl
+refusal_of_table m p size pass o e (too_long d h u v w x y) =
+    by_tests m d p size pass o true false false false true _ _ h u (size_is_false m d size v)
+    (passed_is_false m d (length pass) w) (many_is_false m d (length pass) x) (over_is size (length pass) y) refl refl
+refusal_of_table m p size pass o e (cannot_pass d h u v w x s n b) =
+    by_tests m d p size pass o true false false false false true _ h u (size_is_false m d size v)
+    (passed_is_false m d (length pass) w) (many_is_false m d (length pass) x) (within_is size (length pass) s n)
+    ((pass_decides m p pass).1 b) refl
+refusal_of_table m p size pass o e (full_pool d h u v w x s n b z) =
+    by_tests m d p size pass o true false false false false false true h u (size_is_false m d size v)
+    (passed_is_false m d (length pass) w) (many_is_false m d (length pass) x) (within_is size (length pass) s n)
+    (false_where_not _ _ (pass_decides m p pass) b) (grind (arith, nat_tests, z))
 
 none_and_some : (o : Option Errno) (e : Errno) → o ≡ None → o ≡ Some e → ⊥
 none_and_some o e f g = cc
 
 -- no refusal of the table where no test holds
 pub no_refusal :
-    (m : State) (size descriptors : ℕ) (o : Option Obj) → refusal_at m size descriptors o ≡ None → (e : Errno) →
-    Refusal m size descriptors o e → ⊥
-no_refusal m size descriptors o h e r = none_and_some _ e h (refusal_of_table m size descriptors o e r)
+    (m : State) (p size : ℕ) (pass : List Pass) (o : Option Obj) → refusal_at m p size pass o ≡ None → (e : Errno) →
+    Refusal m p size pass o e → ⊥
+no_refusal m p size pass o h e r = none_and_some _ e h (refusal_of_table m p size pass o e r)
 
 pub none_of : (o : Option Errno) → ((e : Errno) → o ≡ Some e → ⊥) → o ≡ None
 none_of None h = refl

@@ -13,10 +13,10 @@ use Rattle.kernel_records.specs.Words.{tid}
 use Rattle.written_kernel.specs.Words.{State, Turn, act, invocation_of, now, process_of, refusal_of, return, state_at, step, unless_refused}
 use Rattle.written_kernel.proofs.Invocations.{invocation-park_thread, invocation_of-settle}
 use Rattle.kernel_invariant.specs.Records.{item_in, record_of, stage_in}
-use Rattle.kernel_invariant.specs.Arrows.EndsBy.{door_invalid}
+use Rattle.kernel_invariant.specs.Arrows.EndsBy.{door_invalid, server_full}
 use Rattle.kernel_laws.specs.Places.{BecomesReturned, HasEntered, answer_at, is_returned_in}
 use Rattle.kernel_laws.proofs.Changes.{Change}
-use Rattle.kernel_laws.proofs.Changes.Change.{made, given, entered, returned, ended, results_collected, error_collected}
+use Rattle.kernel_laws.proofs.Changes.Change.{made, given, entered, returned, ended, results_collected, nothing_collected, error_collected}
 use Rattle.kernel_laws.proofs.Known.{ChangeAt, Known, next, stays_or_changes}
 
 return_leaves :
@@ -43,9 +43,11 @@ change_returns :
 change_returns m t q a n o p bytes pass (returned r b x e f g k) h s = refl
 change_returns m t q a n o p bytes pass (made d rsize fd b x c e f v k w) h s = absurd (cc (e, h))
 change_returns m t q a n o p bytes pass (given r u e) h s = absurd (grind arith)
-change_returns m t q a n o p bytes pass (entered r e f g k) h s = absurd (cc (e, h))
+change_returns m t q a n o p bytes pass (entered r e f g k v) h s = absurd (cc (e, h))
 change_returns m t q a n o p bytes pass (ended r x (door_invalid e v w d)) h s = absurd (grind arith)
-change_returns m t q a n o p bytes pass (results_collected r b x e f g k l) h s = absurd (cc (e, h))
+change_returns m t q a n o p bytes pass (ended r x (server_full e f g v w)) h s = absurd (cc (e, h))
+change_returns m t q a n o p bytes pass (results_collected r b x e f g k l z) h s = absurd (cc (e, h))
+change_returns m t q a n o p bytes pass (nothing_collected r b x e f g k l z) h s = absurd (cc (e, h))
 change_returns m t q a n o p bytes pass (error_collected r x e f g k l) h s = absurd (cc (e, h))
 
 not_yet : (o : Option Call) (t : ℕ) → stage_in o ≡ Some (stage.Entered (tid t)) → is_returned_in o ≡ false

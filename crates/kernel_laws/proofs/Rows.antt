@@ -1,22 +1,23 @@
 -- Which change a record took, by where it came to: an entered record by an accept, a returned one by a Return, and so on. The
 -- rows that don't concern a reader are closed by what they came to.
-use Rattle.std.specs.Prelude.{ℕ, ◌≡◌, List, [], Option, Bool, true, false, Some, None, length, nat_lt}
+use Rattle.std.specs.Prelude.{ℕ, ◌≡◌, List, Option, Bool, true, false, Some, None, length, nat_lt}
 use Rattle.std.proofs.Common.{refl, sym}
 use native.Mathlib.Omega.{arith}
 use Rattle.written_kernel.specs.Types.{Answer, Call, CallStage, Errno, Fd, Obj, Pass, Request}
+use Rattle.dk_base.specs.declared.error.Errno.TheVariants.{EMFILE}
 use Rattle.dk_base.specs.declared.object.Obj.TheVariants as obj
 use Rattle.dk_base.specs.declared.object.Item.TheVariants as item
 use Rattle.dk_base.specs.declared.request.Request.TheVariants as request
 use Rattle.dk_base.specs.declared.answer.Answer.TheVariants as answer
 use Rattle.kernel_records.specs.declared.record.ThreadState.TheVariants as is
 use Rattle.kernel_records.specs.declared.record.CallStage.TheVariants as stage
-use Rattle.kernel_records.specs.Words.{at_stage, cookie_of, entry_of, first_refusal, tid, without_arguments_at}
+use Rattle.kernel_records.specs.Words.{at_stage, cookie_of, entry_of, first_refusal, new_descriptors, objects_passed, tid, without_arguments_at}
 use Rattle.written_kernel.specs.Words.{State, call_tests, door_of, new_call, object_at, process_of, state_of}
 use Rattle.kernel_invariant.specs.Core.{has_arguments}
-use Rattle.kernel_invariant.specs.Arrows.{EndsBy}
+use Rattle.kernel_invariant.specs.Arrows.{EndsBy, has_own_room, own_table}
 use Rattle.kernel_laws.specs.Places.{is_answered_in, is_entered_in, is_returned_in, is_entered_stage, is_returned_stage, is_answered_stage}
 use Rattle.kernel_laws.proofs.Changes.{Change}
-use Rattle.kernel_laws.proofs.Changes.Change.{made, given, entered, returned, ended, results_collected, error_collected}
+use Rattle.kernel_laws.proofs.Changes.Change.{made, given, entered, returned, ended, results_collected, nothing_collected, error_collected}
 
 -- a new record
 
@@ -29,10 +30,10 @@ pub record MadeRow (m : State) (t : ℕ) (q : Option Request) (a : Answer) (p : 
   pub asked : q ≡ Some (request.Call fd bytes pass rsize)
   pub names_door : object_at m (process_of m t) fd ≡ Some (obj.Door door)
   pub not_refused : first_refusal (call_tests m (process_of m t) fd bytes pass) ≡ None
-  pub answers : a ≡ answer.WaitCall (new_call m t door bytes [] rsize).number
+  pub answers : a ≡ answer.WaitCall (new_call m t door bytes (objects_passed (own_table m t) pass) rsize).number
   pub new_stage : CallStage
   pub waits : has_arguments new_stage ≡ true
-  pub after : p ≡ Some (at_stage new_stage (new_call m t door bytes [] rsize))
+  pub after : p ≡ Some (at_stage new_stage (new_call m t door bytes (objects_passed (own_table m t) pass) rsize))
 
 -- what a record has of an earlier one
 pub record IsOlder (s r : Call) : Type 0 where
@@ -41,16 +42,33 @@ pub record IsOlder (s r : Call) : Type 0 where
   pub rsize : r.rsize ≡ s.rsize
   pub still : has_arguments r.stage ≡ true → has_arguments s.stage ≡ true
   pub bytes : has_arguments r.stage ≡ true → r.bytes ≡ s.bytes
+  pub objects : has_arguments r.stage ≡ true → r.objects ≡ s.objects
 
 pub data Origin (m : State) (t : ℕ) (q : Option Request) (a : Answer) (o : Option Call) (r : Call) : Type 0 where
   new : o ≡ None → MadeRow m t q a (Some r) → Origin m t q a o r
   older : (s : Call) → o ≡ Some s → IsOlder s r → Origin m t q a o r
 
 older_there : (s r : Call) (c : CallStage) → Some (without_arguments_at c s) ≡ Some r → has_arguments c ≡ false → IsOlder s r
-older_there s r c e h = record { caller = grind arith; door = grind arith; rsize = grind arith; still = λ z. grind arith; bytes = λ z. grind arith }
+older_there s r c e h =
+    record {
+      caller = grind arith;
+      door = grind arith;
+      rsize = grind arith;
+      still = λ z. grind arith;
+      bytes = λ z. grind arith;
+      objects = λ z. grind arith;
+    }
 
 older_given : (s r : Call) (u : ℕ) → s.stage ≡ stage.Queued → Some (at_stage (stage.Given (tid u)) s) ≡ Some r → IsOlder s r
-older_given s r u h e = record { caller = grind arith; door = grind arith; rsize = grind arith; still = λ z. grind arith; bytes = λ z. grind arith }
+older_given s r u h e =
+    record {
+      caller = grind arith;
+      door = grind arith;
+      rsize = grind arith;
+      still = λ z. grind arith;
+      bytes = λ z. grind arith;
+      objects = λ z. grind arith;
+    }
 
 pub origin :
     (m : State) (t : ℕ) (q : Option Request) (a : Answer) (n : State) (o p : Option Call) (r : Call) → Change m t q a n o p →
@@ -72,10 +90,11 @@ origin m t q a n o p r (made d rsize fd bytes pass s e f v k w) h =
       after = sym h;
     })
 origin m t q a n o p r (given s u e) h = older s refl (older_given s r u e h)
-origin m t q a n o p r (entered s e f g k) h = older s refl (older_there s r _ h refl)
+origin m t q a n o p r (entered s e f g k v) h = older s refl (older_there s r _ h refl)
 origin m t q a n o p r (returned s bytes pass e f g k) h = older s refl (older_there s r _ h refl)
 origin m t q a n o p r (ended s x e) h = older s refl (older_there s r _ h refl)
-origin m t q a n o p r (results_collected s bytes objects e f g k l) h = older s refl (older_there s r _ h refl)
+origin m t q a n o p r (results_collected s bytes objects e f g k l z) h = older s refl (older_there s r _ h refl)
+origin m t q a n o p r (nothing_collected s bytes objects e f g k l z) h = older s refl (older_there s r _ h refl)
 origin m t q a n o p r (error_collected s x e f g k l) h = older s refl (older_there s r _ h refl)
 
 -- no stage with arguments is one of these
@@ -98,13 +117,14 @@ pub record EnteredRow (m : State) (t : ℕ) (q : Option Request) (a : Answer) (o
   pub no_request : q ≡ None
   pub given : state_of m t ≡ is.Given (item.Call call.number)
   pub was_given : call.stage ≡ stage.Given (tid t)
-  pub answers : a ≡ answer.Entered call.number (entry_of (door_of m call.door)) (cookie_of (door_of m call.door)) call.bytes []
+  pub room : has_own_room m t call.objects ≡ true
+  pub answers : a ≡ answer.Entered call.number (entry_of (door_of m call.door)) (cookie_of (door_of m call.door)) call.bytes (new_descriptors (own_table m t) call.objects)
 
 pub entered_row :
     (m : State) (t : ℕ) (q : Option Request) (a : Answer) (n : State) (o p : Option Call) → Change m t q a n o p →
     is_entered_in p ≡ true → EnteredRow m t q a o p
-entered_row m t q a n o p (entered r e f g k) h =
-    record { call = r; before = refl; after = refl; no_request = e; given = f; was_given = g; answers = k }
+entered_row m t q a n o p (entered r e f g k v) h =
+    record { call = r; before = refl; after = refl; no_request = e; given = f; was_given = g; room = k; answers = v }
 entered_row m t q a n o p (made d rsize fd bytes pass s e f v k w) h = absurd (not_entered s w h)
 entered_row m t q a n o p c h = absurd (grind arith)
 
@@ -115,7 +135,7 @@ pub record ReturnedRow (m : State) (t : ℕ) (q : Option Request) (a : Answer) (
   pub bytes : List ℕ
   pub pass : List Pass
   pub before : o ≡ Some call
-  pub after : p ≡ Some (without_arguments_at (stage.Returned bytes []) call)
+  pub after : p ≡ Some (without_arguments_at (stage.Returned bytes (objects_passed (own_table m t) pass)) call)
   pub asked : q ≡ Some (request.Return bytes pass)
   pub was_entered : call.stage ≡ stage.Entered (tid t)
   pub not_abandoned : call.abandoned ≡ false
@@ -142,27 +162,31 @@ is_ended_in (Some r) = is_ended_call r.stage
 not_ended : (s : CallStage) → has_arguments s ≡ true → is_ended_call s ≡ true → ⊥
 not_ended s e f = grind arith
 
-pub record EndedRow (m n : State) (o p : Option Call) : Type 0 where
+pub record EndedRow (m : State) (t : ℕ) (q : Option Request) (a : Answer) (n : State) (o p : Option Call) : Type 0 where
   pub call : Call
   pub error : Errno
   pub before : o ≡ Some call
   pub after : p ≡ Some (without_arguments_at (stage.Ended error) call)
-  pub ends : EndsBy m n call error
+  pub ends : EndsBy m t q a n call error
 
 pub ended_row :
     (m : State) (t : ℕ) (q : Option Request) (a : Answer) (n : State) (o p : Option Call) → Change m t q a n o p →
-    is_ended_in p ≡ true → EndedRow m n o p
+    is_ended_in p ≡ true → EndedRow m t q a n o p
 ended_row m t q a n o p (ended r e x) h = record { call = r; error = e; before = refl; after = refl; ends = x }
 ended_row m t q a n o p (made d rsize fd bytes pass s e f v k w) h = absurd (not_ended s w h)
 ended_row m t q a n o p c h = absurd (grind arith)
 
 -- an answered record
 
-pub data HandsOver (r : Call) : Answer → Type 0 where
+-- what thread t collects of it in state m
+pub data HandsOver (m : State) (t : ℕ) (r : Call) : Answer → Type 0 where
   results :
-      (bytes : List ℕ) (objects : List Obj) → r.stage ≡ stage.Returned bytes objects →
-      HandsOver r (answer.Results bytes [] (nat_lt r.rsize (length bytes)))
-  error : (e : Errno) → r.stage ≡ stage.Ended e → HandsOver r (answer.Failure e)
+      (bytes : List ℕ) (objects : List Obj) → r.stage ≡ stage.Returned bytes objects → has_own_room m t objects ≡ true →
+      HandsOver m t r (answer.Results bytes (new_descriptors (own_table m t) objects) (nat_lt r.rsize (length bytes)))
+  nothing :
+      (bytes : List ℕ) (objects : List Obj) → r.stage ≡ stage.Returned bytes objects → has_own_room m t objects ≡ false →
+      HandsOver m t r (answer.Failure EMFILE)
+  error : (e : Errno) → r.stage ≡ stage.Ended e → HandsOver m t r (answer.Failure e)
 
 pub record AnsweredRow (m : State) (t : ℕ) (q : Option Request) (a : Answer) (o p : Option Call) : Type 0 where
   pub call : Call
@@ -172,21 +196,32 @@ pub record AnsweredRow (m : State) (t : ℕ) (q : Option Request) (a : Answer) (
   pub own : call.caller.0 ≡ t
   pub told : Answer
   pub answers : a ≡ told
-  pub hands_over : HandsOver call told
+  pub hands_over : HandsOver m t call told
 
 pub answered_row :
     (m : State) (t : ℕ) (q : Option Request) (a : Answer) (n : State) (o p : Option Call) → Change m t q a n o p →
     is_answered_in p ≡ true → AnsweredRow m t q a o p
-answered_row m t q a n o p (results_collected r bytes objects e f g k l) h =
+answered_row m t q a n o p (results_collected r bytes objects e f g k l z) h =
     record {
       call = r;
       before = refl;
       no_request = e;
       calling = f;
       own = g;
-      told = answer.Results bytes [] (nat_lt r.rsize (length bytes));
-      answers = l;
-      hands_over = results bytes objects k;
+      told = answer.Results bytes (new_descriptors (own_table m t) objects) (nat_lt r.rsize (length bytes));
+      answers = z;
+      hands_over = results bytes objects k l;
+    }
+answered_row m t q a n o p (nothing_collected r bytes objects e f g k l z) h =
+    record {
+      call = r;
+      before = refl;
+      no_request = e;
+      calling = f;
+      own = g;
+      told = answer.Failure EMFILE;
+      answers = z;
+      hands_over = nothing bytes objects k l;
     }
 answered_row m t q a n o p (error_collected r x e f g k l) h =
     record {

@@ -4,6 +4,7 @@ use Rattle.written_kernel.specs.Words.{State, Turn}
 use Rattle.kernel_laws.specs.Once.{Once}
 use Rattle.kernel_laws.specs.Match.{Match}
 use Rattle.kernel_laws.specs.Cause.{HasCause}
+use Rattle.kernel_laws.specs.NoLoss.{NoLoss}
 use Rattle.kernel_laws.specs.MadeByCreator.{MadeByCreator}
 use Rattle.kernel_laws.specs.Refused.{Refused}
 use Rattle.kernel_laws.specs.Pools.{NoPoolHasBoth}
@@ -13,6 +14,7 @@ pub record AllLaws (m : State) (xs : List Turn) : Type 0 where
   pub once : Once m xs
   pub match : Match m xs
   pub cause : HasCause m xs
+  pub no_loss : NoLoss m xs
   pub made_by_creator : MadeByCreator m xs
   pub refused : Refused m xs
   pub no_pool_has_both : NoPoolHasBoth m xs

@@ -7,5 +7,6 @@ pub mod MadeByCreator
 pub mod Refused
 pub mod Pools
 pub mod EventsShown
+pub mod NoLoss
 pub mod Laws
 pub mod Words

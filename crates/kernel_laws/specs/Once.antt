@@ -1,8 +1,9 @@
 -- Once: each call is entered at most once, and only by the accept of the thread that it was given to, a thread of the
 -- process that made its door; a thread is in one invocation at a time; each call is answered at most once, and only by the
 -- collect of its caller; and what is answered with results was entered before.
-use Rattle.std.specs.Prelude.{ℕ, ◌≡◌, ◌+◌, ◌<◌, ◌≤◌, List, Bool, true, Some, None, length, slice_get}
+use Rattle.std.specs.Prelude.{ℕ, ◌≡◌, ◌+◌, ◌<◌, ◌≤◌, ◌⊎◌, List, Bool, true, Some, None, length, slice_get}
 use Rattle.written_kernel.specs.Types.{Call, Fd, Pass}
+use Rattle.dk_base.specs.declared.error.Errno.TheVariants.{EMFILE}
 use Rattle.dk_base.specs.declared.object.Item.TheVariants as item
 use Rattle.dk_base.specs.declared.request.Request.TheVariants as request
 use Rattle.dk_base.specs.declared.answer.Answer.TheVariants as answer
@@ -25,6 +26,18 @@ pub record Enters (m : State) (xs : List Turn) (i : ℕ) (x : Turn) (c : ℕ) : 
   pub of_the_owner : owner_of_call (state_at m xs i) c ≡ Some (process_of (state_at m xs i) x.thread)
   pub free_before : invocation_of (state_at m xs i) x.thread ≡ None
   pub invocation_after : invocation_of (state_at m xs (i + 1)) x.thread ≡ Some (new_invocation (item.Call c))
+
+-- the turn of place i ends the wait of a thread that was given call c: its process has too few descriptors free for what comes
+-- with the call, which ends with EMFILE; no call is entered, and the thread waits again
+pub record FailsToEnter (m : State) (xs : List Turn) (i : ℕ) (x : Turn) (c : ℕ) : Type 0 where
+  pub no_request : x.request ≡ None
+  pub was_given : state_of (state_at m xs i) x.thread ≡ is.Given (item.Call c)
+  pub stage_before : stage_of (state_at m xs i) c ≡ Some (stage.Given (tid x.thread))
+  pub stage_after : stage_of (state_at m xs (i + 1)) c ≡ Some (stage.Ended EMFILE)
+  pub answer : answer_at m xs i x ≡ answer.EnterFailed c
+  pub none_entered : (d : ℕ) → BecomesEntered m xs d i → ⊥
+  pub of_the_owner : owner_of_call (state_at m xs i) c ≡ Some (process_of (state_at m xs i) x.thread)
+  pub free_after : invocation_of (state_at m xs (i + 1)) x.thread ≡ None
 
 -- it was entered at an earlier turn
 pub record WasEntered (m : State) (xs : List Turn) (i c : ℕ) : Type 0 where
@@ -52,10 +65,12 @@ pub record Once (m : State) (xs : List Turn) : Type 0 where
   pub accepts :
       (i c entry cookie : ℕ) (x : Turn) (bytes : List ℕ) (fds : List Fd) → slice_get xs i ≡ Some x →
       answer_at m xs i x ≡ answer.Entered c entry cookie bytes fds → Enters m xs i x c
-  -- the wait of a thread that was given a call ends by entering it
+  pub accept_fails :
+      (i c : ℕ) (x : Turn) → slice_get xs i ≡ Some x → answer_at m xs i x ≡ answer.EnterFailed c → FailsToEnter m xs i x c
+  -- the wait of a thread that was given a call ends by entering it, or fails to
   pub given_enters :
       (i c : ℕ) (x : Turn) → slice_get xs i ≡ Some x → x.request ≡ None → state_of (state_at m xs i) x.thread ≡ is.Given (item.Call c) →
-      Enters m xs i x c
+      Enters m xs i x c ⊎ FailsToEnter m xs i x c
   pub only_by_accept : (i c : ℕ) (x : Turn) → slice_get xs i ≡ Some x → BecomesEntered m xs c i → IsAccept m xs i x c
   pub notices_enter_no_call :
       (i n entry cookie c : ℕ) (x : Turn) → slice_get xs i ≡ Some x →

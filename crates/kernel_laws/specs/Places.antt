@@ -93,7 +93,7 @@ objects_at m p fds = map (λ fd. object_at m p fd) fds
 -- at place i a Call of thread t through this descriptor, of these bytes and descriptors, is refused with this error
 abbrev pub IsRefusedBy : State → List Turn → ℕ → ℕ → Fd → List ℕ → List Pass → Errno → Type 0
 IsRefusedBy m xs i t fd bytes pass e =
-    Refusal (state_at m xs i) (length bytes) (length pass) (object_at (state_at m xs i) (process_at m xs i t) fd) e
+    Refusal (state_at m xs i) (process_at m xs i t) (length bytes) pass (object_at (state_at m xs i) (process_at m xs i t) fd) e
 
 -- the turn of place i is a Call, through a descriptor of a door, that makes call c
 pub record MakesCall (m : State) (xs : List Turn) (i : ℕ) (x : Turn) (c : ℕ) : Type 0 where

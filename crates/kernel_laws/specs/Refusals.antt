@@ -1,10 +1,10 @@
 -- What a Call is refused with.
-use Rattle.std.specs.Prelude.{ℕ, ◌≡◌, ◌<◌, ◌≤◌, ◌⊎◌, Option, true, false, Some, None, bit_and}
-use Rattle.written_kernel.specs.Types.{Door, Errno, Obj}
-use Rattle.dk_base.specs.declared.error.Errno.TheVariants.{E2BIG, EAGAIN, EBADF, ENFILE, ENOBUFS, ENOTSUP}
+use Rattle.std.specs.Prelude.{ℕ, ◌≡◌, ◌<◌, ◌≤◌, ◌⊎◌, List, length, Option, true, false, Some, None, bit_and, slice_get}
+use Rattle.written_kernel.specs.Types.{Door, Errno, Obj, Pass}
+use Rattle.dk_base.specs.declared.error.Errno.TheVariants.{E2BIG, EAGAIN, EBADF, EINVAL, ENFILE, ENOBUFS, ENOTSUP}
 use Rattle.dk_base.specs.declared.object.Obj.TheVariants as obj
 use Rattle.dk_base.specs.declared.limits.TheConstants.{DATA_MAX, PASS_MAX, QUEUE_MAX}
-use Rattle.written_kernel.specs.Words.{State, calls_waiting, door_of, is_valid, pool_of}
+use Rattle.written_kernel.specs.Words.{State, calls_waiting, door_of, is_valid, object_at, pool_of}
 
 -- The limits of a door, by its record alone: the words of which the step's tests of them are made have no part here.
 
@@ -23,26 +23,39 @@ abbrev pub HasTooMany : ℕ → Option Door → Type 0
 HasTooMany descriptors None = ⊥
 HasTooMany descriptors (Some d) = d.desc_max < descriptors
 
--- Why a Call of so many bytes and so many descriptors is refused, by what its descriptor names: a constructor for each test of
--- door_call(3C), in their order; where one holds, those before it do not.
-pub data Refusal (m : State) (size descriptors : ℕ) (o : Option Obj) : Errno → Type 0 where
-  no_door : ((d : ℕ) → o ≡ Some (obj.Door d) → ⊥) → Refusal m size descriptors o EBADF
-  not_valid : (d : ℕ) → o ≡ Some (obj.Door d) → is_valid m d ≡ false → Refusal m size descriptors o EBADF
+-- Of descriptors that are passed, by a thread of process p: one names nothing, or one number is passed twice and one of the two
+-- is released.
+pub data CannotPass (m : State) (p : ℕ) (pass : List Pass) : Type 0 where
+  not_open : (k : ℕ) (y : Pass) → slice_get pass k ≡ Some y → object_at m p y.fd ≡ None → CannotPass m p pass
+  released_twice :
+      (k l : ℕ) (y z : Pass) → k < l → slice_get pass k ≡ Some y → slice_get pass l ≡ Some z → y.fd ≡ z.fd →
+      (y.release ≡ true) ⊎ (z.release ≡ true) → CannotPass m p pass
+
+-- Why a Call of a thread of process p, of so many bytes and with these descriptors, is refused, by what its descriptor names: a
+-- constructor for each test of door_call(3C), in their order; where one holds, those before it do not.
+pub data Refusal (m : State) (p size : ℕ) (pass : List Pass) (o : Option Obj) : Errno → Type 0 where
+  no_door : ((d : ℕ) → o ≡ Some (obj.Door d) → ⊥) → Refusal m p size pass o EBADF
+  not_valid : (d : ℕ) → o ≡ Some (obj.Door d) → is_valid m d ≡ false → Refusal m p size pass o EBADF
   refused_size :
       (d : ℕ) → o ≡ Some (obj.Door d) → is_valid m d ≡ true → HasRefusedSize size (door_of m d) →
-      Refusal m size descriptors o ENOBUFS
+      Refusal m p size pass o ENOBUFS
   takes_none :
       (d : ℕ) → o ≡ Some (obj.Door d) → is_valid m d ≡ true → (HasRefusedSize size (door_of m d) → ⊥) →
-      RefusesPassed descriptors (door_of m d) → Refusal m size descriptors o ENOTSUP
+      RefusesPassed (length pass) (door_of m d) → Refusal m p size pass o ENOTSUP
   too_many :
       (d : ℕ) → o ≡ Some (obj.Door d) → is_valid m d ≡ true → (HasRefusedSize size (door_of m d) → ⊥) →
-      (RefusesPassed descriptors (door_of m d) → ⊥) → HasTooMany descriptors (door_of m d) →
-      Refusal m size descriptors o ENFILE
+      (RefusesPassed (length pass) (door_of m d) → ⊥) → HasTooMany (length pass) (door_of m d) →
+      Refusal m p size pass o ENFILE
   too_long :
       (d : ℕ) → o ≡ Some (obj.Door d) → is_valid m d ≡ true → (HasRefusedSize size (door_of m d) → ⊥) →
-      (RefusesPassed descriptors (door_of m d) → ⊥) → (HasTooMany descriptors (door_of m d) → ⊥) →
-      (DATA_MAX < size) ⊎ (PASS_MAX < descriptors) → Refusal m size descriptors o E2BIG
+      (RefusesPassed (length pass) (door_of m d) → ⊥) → (HasTooMany (length pass) (door_of m d) → ⊥) →
+      (DATA_MAX < size) ⊎ (PASS_MAX < length pass) → Refusal m p size pass o E2BIG
+  cannot_pass :
+      (d : ℕ) → o ≡ Some (obj.Door d) → is_valid m d ≡ true → (HasRefusedSize size (door_of m d) → ⊥) →
+      (RefusesPassed (length pass) (door_of m d) → ⊥) → (HasTooMany (length pass) (door_of m d) → ⊥) → size ≤ DATA_MAX →
+      length pass ≤ PASS_MAX → CannotPass m p pass → Refusal m p size pass o EINVAL
   full_pool :
       (d : ℕ) → o ≡ Some (obj.Door d) → is_valid m d ≡ true → (HasRefusedSize size (door_of m d) → ⊥) →
-      (RefusesPassed descriptors (door_of m d) → ⊥) → (HasTooMany descriptors (door_of m d) → ⊥) → size ≤ DATA_MAX →
-      descriptors ≤ PASS_MAX → QUEUE_MAX ≤ calls_waiting m (pool_of m d) → Refusal m size descriptors o EAGAIN
+      (RefusesPassed (length pass) (door_of m d) → ⊥) → (HasTooMany (length pass) (door_of m d) → ⊥) → size ≤ DATA_MAX →
+      length pass ≤ PASS_MAX → (CannotPass m p pass → ⊥) → QUEUE_MAX ≤ calls_waiting m (pool_of m d) →
+      Refusal m p size pass o EAGAIN

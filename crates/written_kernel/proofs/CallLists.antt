@@ -4,8 +4,9 @@ use Rattle.std.proofs.Common.{◌≡◌, ℕ, Bool, false, List, [], ◌∷◌, 
 use Rattle.std.proofs.lemmas.List.Sums.{length-filter}
 use Rattle.std.proofs.lemmas.List.Elements.{filter-append}
 use Rattle.written_kernel.specs.Types.{Call, CallStage, Door, Obj, Pool}
+use Rattle.dk_base.specs.declared.error.Errno.TheVariants.{EMFILE}
 use Rattle.kernel_records.specs.declared.record.CallStage.TheVariants as stage
-use Rattle.kernel_records.specs.Words.{CallTree, at_stage, change_first, collect_call, enter_call, give_call, is_client_call_of, is_entered_by, is_given_as, is_given_to, is_live, is_live_call, is_queued, is_queued_as, is_queued_call, is_queued_in, is_to_collect_as, is_served_by, is_to_collect, live_calls, open_call, return_call, tid, without_arguments_at}
+use Rattle.kernel_records.specs.Words.{CallTree, at_stage, change_first, collect_call, enter_call, fail_call, give_call, is_client_call_of, is_entered_by, is_given_as, is_given_to, is_live, is_live_call, is_queued, is_queued_as, is_queued_call, is_queued_in, is_to_collect_as, is_served_by, is_to_collect, live_calls, open_call, return_call, tid, without_arguments_at}
 use Rattle.written_kernel.specs.Leaving.{end_calls, ended_call}
 use Rattle.written_kernel.specs.References.{objects_in_call, objects_in_transit}
 
@@ -134,6 +135,9 @@ module _ (tree : CallTree) where
 
   pub enter_call-live : (c t : ℕ) → HaveSameLive (enter_call (live_calls tree) c t) (enter_call tree c t)
   enter_call-live c t = change_in_tree (is_given_as c t) (without_arguments_at (stage.Entered (tid t))) (given_as_is_live c t)
+
+  pub fail_call-live : (c t : ℕ) → HaveSameLive (fail_call (live_calls tree) c t) (fail_call tree c t)
+  fail_call-live c t = change_in_tree (is_given_as c t) (without_arguments_at (stage.Ended EMFILE)) (given_as_is_live c t)
 
   pub return_call-live :
       (t : ℕ) (bytes : List ℕ) (objects : List Obj) →

@@ -7,10 +7,10 @@ use Rattle.dk_base.specs.declared.object.Item.TheVariants as item
 use Rattle.dk_base.specs.declared.object.Obj.TheVariants as obj
 use Rattle.dk_base.specs.declared.request.Request.TheVariants as request
 use Rattle.kernel_records.specs.declared.record.ThreadState.TheVariants as is
-use Rattle.kernel_records.specs.Words.{CallTree, first_refusal, give_call, is_client_call_of, is_given_as, is_last, is_queued_call, is_queued_in, is_served_by, is_to_collect_as, info_in, is_waiting_notice, live_calls, objects_of, pid, waiting_call, waiting_notice, with_notices}
+use Rattle.kernel_records.specs.Words.{CallTree, collect_call, first_refusal, give_call, is_client_call_of, is_given_as, is_last, is_queued_call, is_queued_in, is_served_by, is_to_collect_as, info_in, is_waiting_notice, live_calls, objects_of, objects_passed, pid, set_thread_state, waiting_call, waiting_notice, with_notices}
 use Rattle.written_kernel.specs.Step.{step}
-use Rattle.written_kernel.specs.Words.{ActResult, IsStep, StandsFor, State, Step, accept, accept_call, act, await, await_name, call, calls_waiting, caller_in, caller_of, can_go_on, client_call, client_process, collect, collect_answer_in, credentials, door_at, door_named, door_of, effect, end_calls, enter, tests_of, exit, find_call, forget, give, give_each, give_one, give_to, go_on, holdings, information_of, invocation_of, is_runnable, is_running, leave_process, leave_thread, name_of, named_object, new_call, now, no_act, object_at, pick, pool_of, process_of, refs, refusal_of, return, root, served_by, settle, state_of, step_after, unless_refused, waiting_items, walk, with_event_counted, woken_among, woken_threads}
-use Rattle.written_kernel.proofs.CallLists.{HaveSameLive, IsOfLiveCalls, client_is_live, collect_call-live, count_by-live, end_calls-live, enter_call-live, filter-live, find-live, give_call-live, given_as_is_live, live_calls-live, objects-live, open_call-live, queued_call_is_live, queued_in_is_live, ready_as_is_live, return_call-live, served_is_live}
+use Rattle.written_kernel.specs.Words.{ActResult, IsStep, StandsFor, State, Step, accept, accept_call, act, await, await_name, begin_call, call, calls_waiting, caller_in, caller_of, can_go_on, client_call, client_process, collect, collect_answer_in, credentials, door_at, door_named, door_of, effect, end_calls, enter, tests_of, exit, fail_begin, find_call, forget, give, give_each, give_one, give_to, go_on, has_room, holdings, information_of, invocation_of, is_runnable, is_running, leave_process, leave_thread, name_of, named_object, new_call, now, no_act, object_at, objects_collected_in, pick, pool_of, process_of, refs, refusal_of, return, root, served_by, settle, state_of, step_after, table_of, tables_after_collect, unless_refused, waiting_items, walk, with_event_counted, woken_among, woken_threads}
+use Rattle.written_kernel.proofs.CallLists.{HaveSameLive, IsOfLiveCalls, client_is_live, collect_call-live, count_by-live, end_calls-live, enter_call-live, fail_call-live, filter-live, find-live, give_call-live, given_as_is_live, live_calls-live, objects-live, open_call-live, queued_call_is_live, queued_in_is_live, ready_as_is_live, return_call-live, served_is_live}
 
 -- The readers of calls. What reads none is the same by its form.
 
@@ -151,14 +151,42 @@ credentials-forget m t =
 accept-forget : (m : State) (t p : ℕ) (i : Item) → SameAct (accept (forget m) t p i) (accept m t p i)
 accept-forget m t p (item.Call c) =
     subst
-    (λ o. SameAct (accept_call (forget m) t c o) (accept m t p (item.Call c)))
+    (λ o. SameAct (accept_call (forget m) t p c o) (accept m t p (item.Call c)))
     (sym (find_call-forget m (is_given_as c t) (given_as_is_live c t)))
     (go (find_call m (is_given_as c t)))
   where
-    go : (o : Option Call) → SameAct (accept_call (forget m) t c o) (accept_call m t c o)
+    begins :
+        (r : Call) (b : Bool) →
+        SameAct
+        (if b then begin_call (forget m) t p c r else fail_begin (forget m) t c r)
+        (if b then begin_call m t p c r else fail_begin m t c r)
+    begins r true = same_act (begin_call m t p c r) (enter_call-live m.call_tree c t) refl
+    begins r false = same_act (fail_begin m t c r) (fail_call-live m.call_tree c t) refl
+
+    go : (o : Option Call) → SameAct (accept_call (forget m) t p c o) (accept_call m t p c o)
     go None = kept_act (no_act m)
-    go (Some r) = same_act (accept_call m t c (Some r)) (enter_call-live m.call_tree c t) refl
+    go (Some r) = begins r (has_room m p r.objects)
 accept-forget m t p (item.Notice n) = kept_act (no_act m)
+
+-- a collect, with the call that is collected
+abbrev collected : State → ℕ → ℕ → ℕ → Option Call → ActResult
+collected m t p c o =
+    record {
+      state =
+          record m {
+            process_table = set_thread_state m.process_table t is.Running;
+            tables = tables_after_collect m p (objects_collected_in o);
+            call_tree = collect_call m.call_tree c (now m);
+          };
+      answer = collect_answer_in m p o;
+    }
+
+collect-forget : (m : State) (t p c : ℕ) → SameAct (collect (forget m) t p c) (collect m t p c)
+collect-forget m t p c =
+    subst
+    (λ o. SameAct (collected (forget m) t p c o) (collect m t p c))
+    (sym (find_call-forget m (is_to_collect_as c) (ready_as_is_live c)))
+    (same_act (collect m t p c) (collect_call-live m.call_tree c (now m)) refl)
 
 -- entries: one that reads or changes calls has a line in these, the others are the same by their form
 
@@ -176,10 +204,10 @@ pub effect-forget : (m : State) (t p : ℕ) (r : Request) → SameAct (effect (f
 effect-forget m t p (request.Call fd bytes pass rsize) =
     same_act
     (call m t p fd bytes pass rsize)
-    (open_call-live m.call_tree (new_call m t (door_named (object_at m p fd)) bytes [] rsize))
+    (open_call-live m.call_tree (new_call m t (door_named (object_at m p fd)) bytes (objects_passed (table_of m p) pass) rsize))
     refl
 effect-forget m t p (request.Return bytes pass) =
-    same_act (return m t p bytes pass) (return_call-live m.call_tree t bytes []) refl
+    same_act (return m t p bytes pass) (return_call-live m.call_tree t bytes (objects_passed (table_of m p) pass)) refl
 effect-forget m t p (request.Info fd) = information_of-forget m p (door_at m p fd)
 effect-forget m t p request.Cred = credentials-forget m t
 effect-forget m t p (request.Await path) = await-forget m t path
@@ -200,11 +228,7 @@ enter-forget m t p r =
 
 pub go_on-forget : (m : State) (t p : ℕ) (s : ThreadState) → SameAct (go_on (forget m) t p s) (go_on m t p s)
 go_on-forget m t p (is.Given i) = accept-forget m t p i
-go_on-forget m t p (is.Calling c) =
-    same_act
-    (collect m t p c)
-    (collect_call-live m.call_tree c (now m))
-    (ap collect_answer_in (find_call-forget m (is_to_collect_as c) (ready_as_is_live c)))
+go_on-forget m t p (is.Calling c) = collect-forget m t p c
 go_on-forget m t p s = kept_act (go_on m t p s)
 
 pub act-forget : (m : State) (t : ℕ) (r : Option Request) → SameAct (act (forget m) t r) (act m t r)

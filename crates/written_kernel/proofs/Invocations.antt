@@ -6,10 +6,10 @@ use Rattle.dk_base.specs.declared.object.Item.TheVariants as item
 use Rattle.dk_base.specs.declared.request.Request.TheVariants as request
 use Rattle.kernel_records.specs.declared.record.ThreadState.TheVariants as is
 use Rattle.kernel_records.specs.Words.{ProcessTable, end_process, end_thread, ended_thread, ended_thread_of, enter_thread, thread_in_invocation, invocation_in, is_given_as, is_last, new_invocation, park_thread, idle_thread, thread_at, set_thread_state, thread_at_state, change_thread}
-use Rattle.written_kernel.specs.State.{State, find_call, invocation_of, name_of, pick, pool_of, process_of, state_of, thread_of, waiting_items, with_state}
+use Rattle.written_kernel.specs.State.{State, find_call, invocation_of, name_of, pick, pool_of, process_of, state_of, thread_of, waiting_items, with_state, now}
 use Rattle.written_kernel.specs.Answers.{IsEntering}
 use Rattle.written_kernel.specs.Descriptors.{await, await_name}
-use Rattle.written_kernel.specs.Doors.{accept, accept_call}
+use Rattle.written_kernel.specs.Doors.{accept, accept_call, begin_call, fail_begin, has_room}
 use Rattle.written_kernel.specs.Leaving.{exit, leave_process, leave_thread}
 use Rattle.written_kernel.specs.Settle.{give_each, give_one, give_to, settle}
 use Rattle.written_kernel.specs.Step.{act, effect, enter, go_on, step}
@@ -135,24 +135,35 @@ enter-none m t p r =
 
 -- an accept begins one, and says so
 
-accept_call-one :
-    (m : State) (t c u : ℕ) (o : Option Call) → IsSome (invocation_of (accept_call m t c o).state u) →
-    IsSome (invocation_of m u) ⊎ ((u ≡ t) × IsEntering (accept_call m t c o).answer)
-accept_call-one m t c u None h = inl h
-accept_call-one m t c u (Some r) h =
+begin_call-one :
+    (m : State) (t p c u : ℕ) (r : Call) → IsSome (invocation_of (begin_call m t p c r).state u) →
+    IsSome (invocation_of m u) ⊎ ((u ≡ t) × IsEntering (begin_call m t p c r).answer)
+begin_call-one m t p c u r h =
     go (u == t) refl (sym (ap is_some (invocation-enter_thread m.process_table t u (item.Call c))) ∙ h)
   where
     go :
         (b : Bool) → (u == t) ≡ b →
         IsSome (if b && is_some (thread_of m t) then Some (new_invocation (item.Call c)) else invocation_of m u) →
-        IsSome (invocation_of m u) ⊎ ((u ≡ t) × IsEntering (accept_call m t c (Some r)).answer)
+        IsSome (invocation_of m u) ⊎ ((u ≡ t) × IsEntering (begin_call m t p c r).answer)
     go false e k = inl k
     go true e k = inr (grind (arith, nat_tests), tt)
+
+accept_call-one :
+    (m : State) (t p c u : ℕ) (o : Option Call) → IsSome (invocation_of (accept_call m t p c o).state u) →
+    IsSome (invocation_of m u) ⊎ ((u ≡ t) × IsEntering (accept_call m t p c o).answer)
+accept_call-one m t p c u None h = inl h
+accept_call-one m t p c u (Some r) h = go (has_room m p r.objects) h
+  where
+    go :
+        (b : Bool) → IsSome (invocation_of (if b then begin_call m t p c r else fail_begin m t c r).state u) →
+        IsSome (invocation_of m u) ⊎ ((u ≡ t) × IsEntering (if b then begin_call m t p c r else fail_begin m t c r).answer)
+    go true k = begin_call-one m t p c u r k
+    go false k = inl ((without-none m.process_table t (idle_thread (now m)) (λ x. refl)).had u k)
 
 accept-one :
     (m : State) (t p : ℕ) (i : Item) (u : ℕ) → IsSome (invocation_of (accept m t p i).state u) →
     IsSome (invocation_of m u) ⊎ ((u ≡ t) × IsEntering (accept m t p i).answer)
-accept-one m t p (item.Call c) u h = accept_call-one m t c u (find_call m (is_given_as c t)) h
+accept-one m t p (item.Call c) u h = accept_call-one m t p c u (find_call m (is_given_as c t)) h
 accept-one m t p (item.Notice n) u h = inl h
 
 go_on-one :

@@ -5,7 +5,7 @@ use Rattle.std.specs.List.{All}
 use Rattle.std.proofs.lemmas.List.{length-map}
 use Rattle.std.proofs.lemmas.List.Elements.{All-nil}
 use Rattle.written_kernel.specs.Types.{Attrs, Call, Door, Item, Name, Notice, Param, Parked, PathId, Pool, Process, Request, Thread, ThreadState, Waiting}
-use Rattle.dk_base.specs.declared.error.Errno.TheVariants.{EBADF}
+use Rattle.dk_base.specs.declared.error.Errno.TheVariants.{EBADF, EMFILE}
 use Rattle.dk_base.specs.declared.object.Item.TheVariants as item
 use Rattle.dk_base.specs.declared.request.Param.TheVariants as param
 use Rattle.dk_base.specs.declared.request.Request.TheVariants as request
@@ -13,10 +13,10 @@ use Rattle.kernel_records.specs.declared.record.ThreadState.TheVariants as is
 use Rattle.kernel_records.specs.declared.record.CallStage.TheVariants as stage
 use Rattle.kernel_records.specs.declared.record.NoticeStage.TheVariants as notice
 use Rattle.dk_base.specs.ByNumber.{at_number}
-use Rattle.kernel_records.specs.Words.{CallTree, NoticeList, at_stage, change_first, give_notice, is_client_call_of, is_given_as, is_last, is_owned_by, is_queued, is_queued_as, is_queued_in, is_to_collect_as, is_waiting_notice, new_door, open_call, set_param, tid, with_door, with_owner_ended, with_param, without_arguments_at}
-use Rattle.written_kernel.specs.State.{State, calls_waiting, find_call, name_of, now, object_at, pick, pool_of, process_of, state_of, waiting_items}
+use Rattle.kernel_records.specs.Words.{CallTree, NoticeList, at_stage, change_first, give_notice, is_client_call_of, is_given_as, is_last, is_owned_by, is_queued, is_queued_as, is_queued_in, is_to_collect_as, is_waiting_notice, new_door, objects_passed, open_call, set_param, tid, with_door, with_owner_ended, with_param, without_arguments_at}
+use Rattle.written_kernel.specs.State.{State, calls_waiting, find_call, name_of, now, object_at, pick, pool_of, process_of, state_of, table_of, waiting_items}
 use Rattle.written_kernel.specs.Descriptors.{await_name, door_named}
-use Rattle.written_kernel.specs.Doors.{accept, accept_call, new_call}
+use Rattle.written_kernel.specs.Doors.{accept, accept_call, begin_call, fail_begin, has_room, new_call}
 use Rattle.written_kernel.specs.Information.{door_at}
 use Rattle.written_kernel.specs.Leaving.{dropped_notice, ended_call, exit, leave_process, leave_thread}
 use Rattle.written_kernel.specs.Settle.{give_each, give_one, give_to, settle}
@@ -166,17 +166,21 @@ exit-listed m t p l = go (is_last m.process_table t p)
 accept-listed : (m : State) (t p : ℕ) (i : Item) → IsListed m → IsListed (accept m t p i).state
 accept-listed m t p (item.Call c) l = go (find_call m (is_given_as c t))
   where
-    go : (o : Option Call) → IsListed (accept_call m t c o).state
+    begins : (r : Call) (b : Bool) → IsListed (if b then begin_call m t p c r else fail_begin m t c r).state
+    begins r true = one_call_moves m (is_given_as c t) (without_arguments_at (stage.Entered (tid t))) (λ r. refl) l
+    begins r false = one_call_moves m (is_given_as c t) (without_arguments_at (stage.Ended EMFILE)) (λ r. refl) l
+
+    go : (o : Option Call) → IsListed (accept_call m t p c o).state
     go None = l
-    go (Some r) = one_call_moves m (is_given_as c t) (without_arguments_at (stage.Entered (tid t))) (λ r. refl) l
+    go (Some r) = begins r (has_room m p r.objects)
 accept-listed m t p (item.Notice n) l = l
 
 effect-listed : (m : State) (t p : ℕ) (r : Request) → IsListed m → IsListed (effect m t p r).state
 effect-listed m t p (request.Create entry cookie attrs) l = one_door_more m p entry cookie attrs l
 effect-listed m t p (request.Call fd bytes pass rsize) l =
-    one_call_more m (new_call m t (door_named (object_at m p fd)) bytes [] rsize) refl l
+    one_call_more m (new_call m t (door_named (object_at m p fd)) bytes (objects_passed (table_of m p) pass) rsize) refl l
 effect-listed m t p (request.Return bytes pass) l =
-    one_call_moves m (is_client_call_of t) (without_arguments_at (stage.Returned bytes [])) (λ r. refl) l
+    one_call_moves m (is_client_call_of t) (without_arguments_at (stage.Returned bytes (objects_passed (table_of m p) pass))) (λ r. refl) l
 effect-listed m t p (request.SetParam fd x value) l = one_door_changes m (door_at m p fd) x value l
 effect-listed m t p (request.Await path) l = await-listed m t path (name_of m path) l
 effect-listed m t p request.Exit l = exit-listed m t p l

@@ -2,15 +2,15 @@
 use Rattle.std.proofs.Common.{◌≡◌, ℕ, ◌+◌, ◌==◌, Bool, true, false, if◌then◌else◌, List, [], ◌∷◌, ◌++◌, Option, None, Some, option_map, length, map, unwrap_or, refl, sym, ap, ◌∙◌, length-set}
 use Rattle.std.proofs.lemmas.List.{length-map, map-append}
 use Rattle.dk_base.specs.ByNumber.{at_number}
-use Rattle.written_kernel.specs.Types.{Attrs, Call, Door, Item, Name, Obj, Param, Parked, PathId, Pid, Process, Request, Thread, ThreadState, Waiting}
+use Rattle.written_kernel.specs.Types.{Attrs, Call, Door, Item, Name, Obj, Param, Parked, Pass, PathId, Pid, Process, Request, Thread, ThreadState, Waiting}
 use Rattle.dk_base.specs.declared.object.Item.TheVariants as item
 use Rattle.dk_base.specs.declared.request.Param.TheVariants as param
 use Rattle.dk_base.specs.declared.request.Request.TheVariants as request
 use Rattle.kernel_records.specs.declared.record.ThreadState.TheVariants as is
-use Rattle.kernel_records.specs.Words.{CallTree, NoticeList, ProcessTable, close_table, end_process, ended_thread, ended_process, free_place, free_row, is_given_as, is_last, process_in, set_param, thread_at_state, with_door, with_ended, with_ended_threads, with_owner_ended, with_param, with_row, change_thread}
+use Rattle.kernel_records.specs.Words.{CallTree, NoticeList, ProcessTable, close_row, close_table, end_process, ended_thread, ended_process, free_place, free_row, insert_row, insert_rows, is_given_as, is_last, is_to_collect_as, process_in, release_row, release_rows, set_param, thread_at_state, with_door, with_ended, with_ended_threads, with_owner_ended, with_param, with_row, change_thread}
 use Rattle.written_kernel.specs.State.{State, door_of, find_call, name_of, pick, pool_of, process_of, state_of, table_of, thread_of, waiting_items, with_state, with_table_of}
 use Rattle.written_kernel.specs.Descriptors.{await, await_name, insert_object}
-use Rattle.written_kernel.specs.Doors.{accept, accept_call, create}
+use Rattle.written_kernel.specs.Doors.{accept, accept_call, begin_call, create, fail_begin, has_room, objects_collected_in, tables_after_collect, tables_after_pass, tables_with}
 use Rattle.written_kernel.specs.Leaving.{exit, leave_process, leave_thread}
 use Rattle.written_kernel.specs.Settle.{give_each, give_one, give_to, settle}
 use Rattle.written_kernel.specs.Step.{act, effect, enter, go_on, step}
@@ -89,6 +89,21 @@ thread-keeps m t change tree list same =
       events = refl;
     }
 
+-- the same with tables, each as long as before
+message-keeps :
+    (m : State) (t : ℕ) (change : Thread → Thread) (tables : List (List (Option Obj))) (tree : CallTree) →
+    ((x : Thread) → thread_identity (change x) ≡ thread_identity x) → map length tables ≡ map length m.tables →
+    Keeps m (record m { process_table = change_thread m.process_table t change; tables = tables; call_tree = tree })
+message-keeps m t change tables tree same long =
+    record {
+      processes = ap (map process_identity) (processes-change_thread m.process_table t change);
+      threads = map-change_thread thread_identity m.process_table t change same;
+      bindings = refl;
+      tables = long;
+      doors = doors_same m.doors;
+      events = refl;
+    }
+
 with_state-keeps : (m : State) (t : ℕ) (s : ThreadState) → Keeps m (with_state m t s)
 with_state-keeps m t s = thread-keeps m t (thread_at_state s) m.call_tree m.notice_list (λ x. refl)
 
@@ -110,6 +125,38 @@ with_table_of-keeps m p table e =
       doors = doors_same m.doors;
       events = refl;
     }
+
+-- rows that are released or inserted
+
+length-release_row : (table : List (Option Obj)) (x : Pass) → length (release_row table x) ≡ length table
+length-release_row table x = go x.release
+  where
+    go : (b : Bool) → length (if b then close_row table x.fd.0 else table) ≡ length table
+    go true = length-set table x.fd.0 None
+    go false = refl
+
+pub length-release_rows : (table : List (Option Obj)) (pass : List Pass) → length (release_rows table pass) ≡ length table
+length-release_rows table [] = refl
+length-release_rows table (x ∷ xs) = length-release_rows (release_row table x) xs ∙ length-release_row table x
+
+pub length-insert_rows : (table : List (Option Obj)) (objects : List Obj) → length (insert_rows table objects) ≡ length table
+length-insert_rows table [] = refl
+length-insert_rows table (o ∷ os) = length-insert_rows (insert_row table o) os ∙ length-set table (free_place table) (Some o)
+
+after_pass-long : (m : State) (p : ℕ) (pass : List Pass) → map length (tables_after_pass m p pass) ≡ map length m.tables
+after_pass-long m p pass =
+    tables-with_table_of m p (release_rows (table_of m p) pass) (length-release_rows (table_of m p) pass)
+
+with-long : (m : State) (p : ℕ) (objects : List Obj) → map length (tables_with m p objects) ≡ map length m.tables
+with-long m p objects =
+    tables-with_table_of m p (insert_rows (table_of m p) objects) (length-insert_rows (table_of m p) objects)
+
+after_collect-long : (m : State) (p : ℕ) (objects : List Obj) → map length (tables_after_collect m p objects) ≡ map length m.tables
+after_collect-long m p objects = go (has_room m p objects)
+  where
+    go : (b : Bool) → map length (if b then tables_with m p objects else m.tables) ≡ map length m.tables
+    go true = with-long m p objects
+    go false = refl
 
 -- another object, or none, at a place
 with_row-keeps :
@@ -208,8 +255,8 @@ exit-keeps m t p = go (is_last m.process_table t p)
 
 effect-keeps : (m : State) (t p : ℕ) (r : Request) → Keeps m (effect m t p r).state
 effect-keeps m t p (request.Create entry cookie attrs) = create-keeps m p entry cookie attrs
-effect-keeps m t p (request.Call fd bytes pass rsize) = thread-keeps m t _ _ m.notice_list (λ x. refl)
-effect-keeps m t p (request.Return bytes pass) = thread-keeps m t _ _ m.notice_list (λ x. refl)
+effect-keeps m t p (request.Call fd bytes pass rsize) = message-keeps m t _ _ _ (λ x. refl) (after_pass-long m p pass)
+effect-keeps m t p (request.Return bytes pass) = message-keeps m t _ _ _ (λ x. refl) (after_pass-long m p pass)
 effect-keeps m t p (request.SetParam fd x value) = set_param-keeps m _ x value
 effect-keeps m t p (request.Close fd) = with_row-keeps m p fd.0 None
 effect-keeps m t p (request.Dup fd) = with_row-keeps m p _ _
@@ -226,14 +273,19 @@ enter-keeps m t p r = enter_either (λ a. Keeps m a.state) m t p r (λ e. keeps_
 accept-keeps : (m : State) (t p : ℕ) (i : Item) → Keeps m (accept m t p i).state
 accept-keeps m t p (item.Call c) = go (find_call m (is_given_as c t))
   where
-    go : (o : Option Call) → Keeps m (accept_call m t c o).state
+    begins : (r : Call) (b : Bool) → Keeps m (if b then begin_call m t p c r else fail_begin m t c r).state
+    begins r true = message-keeps m t _ _ _ (λ x. refl) (with-long m p r.objects)
+    begins r false = thread-keeps m t _ _ m.notice_list (λ x. refl)
+
+    go : (o : Option Call) → Keeps m (accept_call m t p c o).state
     go None = keeps_same m
-    go (Some r) = thread-keeps m t _ _ m.notice_list (λ x. refl)
+    go (Some r) = begins r (has_room m p r.objects)
 accept-keeps m t p (item.Notice n) = keeps_same m
 
 go_on-keeps : (m : State) (t p : ℕ) (s : ThreadState) → Keeps m (go_on m t p s).state
 go_on-keeps m t p (is.Given i) = accept-keeps m t p i
-go_on-keeps m t p (is.Calling c) = thread-keeps m t _ _ m.notice_list (λ x. refl)
+go_on-keeps m t p (is.Calling c) =
+    message-keeps m t _ _ _ (λ x. refl) (after_collect-long m p (objects_collected_in (find_call m (is_to_collect_as c))))
 go_on-keeps m t p (is.Awaiting path) = with_state-keeps m t is.Running
 go_on-keeps m t p (is.Working op input) = with_state-keeps m t is.Running
 go_on-keeps m t p _ = keeps_same m

@@ -1,7 +1,7 @@
 -- The acts of doors: door_create(3C), door_call(3C), door_return(3C), and the ends of the waits that a door call and a
 -- return begin. An act's record update names the parts of the state that it changes. `p` is the process of the thread
 -- `t`.
-use Rattle.std.specs.Prelude.{ℕ, ◌+◌, ◌++◌, ◌&&◌, ◌||◌, List, [], ◌∷◌, Option, false, Some, None, is_none, is_some, length, nat_le, nat_lt}
+use Rattle.std.specs.Prelude.{ℕ, ◌+◌, ◌++◌, ◌&&◌, ◌||◌, List, ◌∷◌, [], Option, Bool, false, Some, None, if◌then◌else◌, is_none, is_some, length, nat_le, nat_lt}
 use Rattle.written_kernel.specs.Types.{Answer, Attrs, Call, CallStage, Fd, Item, Obj, Pass}
 use Rattle.dk_base.specs.declared.error.Errno.TheVariants.{E2BIG, EAGAIN, EINVAL, EMFILE}
 use Rattle.dk_base.specs.declared.object.Obj.TheVariants as obj
@@ -10,7 +10,7 @@ use Rattle.dk_base.specs.declared.answer.Answer.TheVariants as answer
 use Rattle.kernel_records.specs.declared.record.ThreadState.TheVariants as is
 use Rattle.kernel_records.specs.declared.record.CallStage.TheVariants as stage
 use Rattle.dk_base.specs.declared.limits.TheConstants.{DATA_MAX, PASS_MAX, QUEUE_MAX}
-use Rattle.kernel_records.specs.Words.{Test, collect_call, cookie_of, enter_call, enter_thread, entry_of, has_told_attributes, is_given_as, is_to_collect_as, limit_tests, lowest_free, no_cancel_of, open_call, park_thread, refused_where, return_call, set_thread_state, tid, with_door}
+use Rattle.kernel_records.specs.Words.{Test, collect_call, cookie_of, enter_call, enter_thread, entry_of, fail_call, free_rows, has_told_attributes, insert_rows, is_bad_pass, is_given_as, is_to_collect_as, limit_tests, lowest_free, new_descriptors, no_cancel_of, objects_passed, open_call, park_thread, refused_where, release_rows, return_call, set_thread_state, tid, with_door, with_table}
 use Rattle.written_kernel.specs.State.{State, calls_waiting, client_call, door_of, find_call, now, object_at, pool_of, table_of}
 use Rattle.written_kernel.specs.Acts.{ActResult, no_act}
 use Rattle.written_kernel.specs.Descriptors.{door_named, insert_object}
@@ -25,7 +25,23 @@ abbrev pub create : State → ℕ → ℕ → ℕ → Attrs → ActResult
 create m p entry cookie attrs =
     insert_object (record m { doors = with_door m.doors p entry cookie attrs }) p (obj.Door (length m.doors + 1))
 
--- door_call: the door and its limits, then its pool; a call that waits for a server thread
+-- descriptors that are passed: EINVAL. What they name goes with the message, in order, and those with release are closed.
+
+abbrev pub pass_tests : State → ℕ → List Pass → List Test
+pass_tests m p pass = refused_where (is_bad_pass (table_of m p) pass) EINVAL ∷ []
+
+abbrev pub tables_after_pass : State → ℕ → List Pass → List (List (Option Obj))
+tables_after_pass m p pass = with_table m.tables p (release_rows (table_of m p) pass)
+
+-- objects that come with a message get the lowest descriptors that are free, all of them or none
+
+abbrev pub has_room : State → ℕ → List Obj → Bool
+has_room m p objects = nat_le (length objects) (free_rows (table_of m p))
+
+abbrev pub tables_with : State → ℕ → List Obj → List (List (Option Obj))
+tables_with m p objects = with_table m.tables p (insert_rows (table_of m p) objects)
+
+-- door_call: the door and its limits, then its descriptors, then its pool; a call that waits for a server thread
 
 -- EAGAIN for a full pool
 abbrev pub pool_tests : State → ℕ → List Test
@@ -33,7 +49,9 @@ pool_tests m d = refused_where (nat_le QUEUE_MAX (calls_waiting m (pool_of m d))
 
 abbrev pub call_tests : State → ℕ → Fd → List ℕ → List Pass → List Test
 call_tests m p fd bytes pass =
-    limit_tests (door_of m (door_named (object_at m p fd))) (length bytes) (length pass) ++ pool_tests m (door_named (object_at m p fd))
+    limit_tests (door_of m (door_named (object_at m p fd))) (length bytes) (length pass)
+    ++ pass_tests m p pass
+    ++ pool_tests m (door_named (object_at m p fd))
 
 abbrev pub new_call : State → ℕ → ℕ → List ℕ → List Obj → ℕ → Call
 new_call m t d bytes objects rsize =
@@ -50,58 +68,111 @@ new_call m t d bytes objects rsize =
       stage = stage.Queued;
     }
 
-abbrev pub make_call : State → ℕ → Call → ActResult
-make_call m t r =
+abbrev pub make_call : State → ℕ → ℕ → List Pass → Call → ActResult
+make_call m t p pass r =
     record {
-      state = record m { process_table = set_thread_state m.process_table t (is.Calling r.number); call_tree = open_call m.call_tree r };
+      state =
+          record m {
+            process_table = set_thread_state m.process_table t (is.Calling r.number);
+            tables = tables_after_pass m p pass;
+            call_tree = open_call m.call_tree r;
+          };
       answer = answer.WaitCall r.number;
     }
 
 abbrev pub call : State → ℕ → ℕ → Fd → List ℕ → List Pass → ℕ → ActResult
-call m t p fd bytes pass rsize = make_call m t (new_call m t (door_named (object_at m p fd)) bytes [] rsize)
+call m t p fd bytes pass rsize =
+    make_call m t p pass (new_call m t (door_named (object_at m p fd)) bytes (objects_passed (table_of m p) pass) rsize)
 
--- door_return: E2BIG; the client's call is Returned with the results, the invocation ends, and the thread is parked. Results
--- without a client are dropped.
+-- door_return: E2BIG with a client, EINVAL; the client's call is Returned with the results, the invocation ends, and the
+-- thread is parked. Results without a client are dropped. In either case descriptors with release are closed.
 
 abbrev pub return_tests : State → ℕ → ℕ → List ℕ → List Pass → List Test
 return_tests m t p bytes pass =
-    refused_where (is_some (client_call m t) && (nat_lt DATA_MAX (length bytes) || nat_lt PASS_MAX (length pass))) E2BIG ∷ []
+    refused_where (is_some (client_call m t) && (nat_lt DATA_MAX (length bytes) || nat_lt PASS_MAX (length pass))) E2BIG
+    ∷ pass_tests m p pass
 
 abbrev pub return : State → ℕ → ℕ → List ℕ → List Pass → ActResult
 return m t p bytes pass =
     record {
-      state = record m { process_table = park_thread m.process_table t (now m); call_tree = return_call m.call_tree t bytes [] };
+      state =
+          record m {
+            process_table = park_thread m.process_table t (now m);
+            tables = tables_after_pass m p pass;
+            call_tree = return_call m.call_tree t bytes (objects_passed (table_of m p) pass);
+          };
       answer = answer.Wait;
     }
 
 -- the end of the wait of a thread that was given a call: the invocation begins, where there is such a call
 
-abbrev pub accept_call : State → ℕ → ℕ → Option Call → ActResult
-accept_call m t c None = no_act m
-accept_call m t c (Some r) =
+-- with descriptors for its objects
+abbrev pub begin_call : State → ℕ → ℕ → ℕ → Call → ActResult
+begin_call m t p c r =
     record {
-      state = record m { process_table = enter_thread m.process_table t (item.Call c); call_tree = enter_call m.call_tree c t };
-      answer = answer.Entered r.number (entry_of (door_of m r.door)) (cookie_of (door_of m r.door)) r.bytes [];
+      state =
+          record m {
+            process_table = enter_thread m.process_table t (item.Call c);
+            tables = tables_with m p r.objects;
+            call_tree = enter_call m.call_tree c t;
+          };
+      answer = answer.Entered r.number (entry_of (door_of m r.door)) (cookie_of (door_of m r.door)) r.bytes (new_descriptors (table_of m p) r.objects);
     }
 
+-- too few descriptors are free: the call ends EMFILE, its objects are dropped, and the thread is parked again
+abbrev pub fail_begin : State → ℕ → ℕ → Call → ActResult
+fail_begin m t c r =
+    record {
+      state = record m { process_table = park_thread m.process_table t (now m); call_tree = fail_call m.call_tree c t };
+      answer = answer.EnterFailed r.number;
+    }
+
+abbrev pub accept_call : State → ℕ → ℕ → ℕ → Option Call → ActResult
+accept_call m t p c None = no_act m
+accept_call m t p c (Some r) = if has_room m p r.objects then begin_call m t p c r else fail_begin m t c r
+
 abbrev pub accept : State → ℕ → ℕ → Item → ActResult
-accept m t p (item.Call c) = accept_call m t c (find_call m (is_given_as c t))
+accept m t p (item.Call c) = accept_call m t p c (find_call m (is_given_as c t))
 accept m t p (item.Notice n) = no_act m
 
--- the end of the wait of a caller: the results, or the error that its call ended with
+-- the end of the wait of a caller: the results, with descriptors for their objects, or the error that its call ended with
 
-abbrev pub collect_answer : Call → CallStage → Answer
-collect_answer r (stage.Returned bytes objects) = answer.Results bytes [] (nat_lt r.rsize (length bytes))
-collect_answer r (stage.Ended e) = answer.Failure e
-collect_answer r _ = answer.Done
+-- too few descriptors are free: EMFILE, and the objects are dropped
+abbrev pub results_answer : State → ℕ → Call → List ℕ → List Obj → Answer
+results_answer m p r bytes objects =
+    if has_room m p objects
+    then answer.Results bytes (new_descriptors (table_of m p) objects) (nat_lt r.rsize (length bytes))
+    else answer.Failure EMFILE
 
-abbrev pub collect_answer_in : Option Call → Answer
-collect_answer_in None = answer.Done
-collect_answer_in (Some r) = collect_answer r r.stage
+abbrev pub collect_answer : State → ℕ → Call → CallStage → Answer
+collect_answer m p r (stage.Returned bytes objects) = results_answer m p r bytes objects
+collect_answer m p r (stage.Ended e) = answer.Failure e
+collect_answer m p r _ = answer.Done
+
+abbrev pub collect_answer_in : State → ℕ → Option Call → Answer
+collect_answer_in m p None = answer.Done
+collect_answer_in m p (Some r) = collect_answer m p r r.stage
+
+-- the objects that come with results
+abbrev pub objects_collected : CallStage → List Obj
+objects_collected (stage.Returned bytes objects) = objects
+objects_collected _ = []
+
+abbrev pub objects_collected_in : Option Call → List Obj
+objects_collected_in None = []
+objects_collected_in (Some r) = objects_collected r.stage
+
+abbrev pub tables_after_collect : State → ℕ → List Obj → List (List (Option Obj))
+tables_after_collect m p objects = if has_room m p objects then tables_with m p objects else m.tables
 
 abbrev pub collect : State → ℕ → ℕ → ℕ → ActResult
 collect m t p c =
     record {
-      state = record m { process_table = set_thread_state m.process_table t is.Running; call_tree = collect_call m.call_tree c (now m) };
-      answer = collect_answer_in (find_call m (is_to_collect_as c));
+      state =
+          record m {
+            process_table = set_thread_state m.process_table t is.Running;
+            tables = tables_after_collect m p (objects_collected_in (find_call m (is_to_collect_as c)));
+            call_tree = collect_call m.call_tree c (now m);
+          };
+      answer = collect_answer_in m p (find_call m (is_to_collect_as c));
     }

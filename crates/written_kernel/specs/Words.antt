@@ -2,7 +2,7 @@
 pub use Rattle.written_kernel.specs.Acts.{ActResult, no_act, refused_act, unless_refused}
 pub use Rattle.written_kernel.specs.Answers.{IsEntering}
 pub use Rattle.written_kernel.specs.Descriptors.{attach, attach_tests, await, await_name, close, close_tests, detach, detach_tests, door_named, dup, dup_tests, end_await, insert_object, is_door, open_path, open_tests}
-pub use Rattle.written_kernel.specs.Doors.{accept, accept_call, call, call_tests, collect, collect_answer, collect_answer_in, create, create_tests, make_call, new_call, pool_tests, return, return_tests}
+pub use Rattle.written_kernel.specs.Doors.{accept, accept_call, begin_call, call, call_tests, collect, collect_answer, collect_answer_in, create, create_tests, fail_begin, has_room, make_call, new_call, objects_collected, objects_collected_in, pass_tests, pool_tests, results_answer, return, return_tests, tables_after_collect, tables_after_pass, tables_with}
 pub use Rattle.written_kernel.specs.Information.{client_process, credentials, credentials_tests, door_at, door_tests, information, information_of, parameter, set_parameter, set_parameter_tests}
 pub use Rattle.written_kernel.specs.Kept.{IsStep, StandsFor, forget}
 pub use Rattle.written_kernel.specs.Leaving.{drop_notices, dropped_notice, end_calls, ended_call, exit, leave_process, leave_thread}

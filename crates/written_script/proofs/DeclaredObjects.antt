@@ -3,10 +3,12 @@ use Rattle.std.proofs.Common.{◌≡◌, ℕ, ◌-◌, ◌==◌, ◌&&◌, zero,
 use Rattle.std.specs.Prelude.{All}
 use Rattle.std.proofs.lemmas.List.Elements.{All-cons, All-head, All-tail}
 use Rattle.std.proofs.lemmas.Option.{slice_get-map}
-use Rattle.written_kernel.specs.Types.{Fd, Name, Obj}
+use Rattle.written_kernel.specs.Types.{CallStage, Fd, Name, Obj, Pass}
 use Rattle.dk_base.specs.declared.object.Obj.TheVariants as obj
+use Rattle.kernel_records.specs.declared.record.CallStage.TheVariants as stage
 use Rattle.dk_base.specs.ByNumber.{at_number, with_at_number}
-use Rattle.kernel_records.specs.Words.{close_table, free_row, object_in, object_named, table_in, with_row, with_table}
+use Rattle.kernel_records.specs.Words.{close_table, free_place, free_row, insert_row, insert_rows, object_in, object_named, objects_passed, release_rows, table_in, with_row, with_table}
+use Rattle.kernel_records.proofs.Passing.{All-objects_passed, object_named-before}
 use Rattle.written_kernel.proofs.Lists.{at_number-with_at_number, slice_get-slice_set}
 use Rattle.script_requests.specs.Words.{IsNumberOf}
 
@@ -17,6 +19,18 @@ IsKnownObject made o = (d : ℕ) → o ≡ Some (obj.Door d) → IsNumberOf made
 
 abbrev pub AreKnownRows : ℕ → List (List (Option Obj)) → Type 0
 AreKnownRows made tables = (p : ℕ) (fd : Fd) → IsKnownObject made (object_named (table_in tables p) fd)
+
+-- objects that are in transit
+
+abbrev pub IsKnownInTransit : ℕ → Obj → Type 0
+IsKnownInTransit made o = IsKnownObject made (Some o)
+
+abbrev pub AreKnownInTransit : ℕ → List Obj → Type 0
+AreKnownInTransit made objects = All (IsKnownInTransit made) objects
+
+abbrev pub AreKnownResults : ℕ → CallStage → Type 0
+AreKnownResults made (stage.Returned bytes objects) = AreKnownInTransit made objects
+AreKnownResults made s = Unit {0}
 
 abbrev pub IsKnownName : ℕ → Name → Type 0
 IsKnownName made n = IsNumberOf made n.door
@@ -89,6 +103,43 @@ row-known made tables p place o here h =
     table-known made tables p (with_row (table_in tables p) place o)
     (λ fd. object-with_row made (table_in tables p) place o fd here (h p fd))
     h
+
+-- what goes with a message, and what it leaves
+
+pub passed-known :
+    (made : ℕ) (tables : List (List (Option Obj))) (p : ℕ) (pass : List Pass) → AreKnownRows made tables →
+    AreKnownInTransit made (objects_passed (table_in tables p) pass)
+passed-known made tables p pass h =
+    All-objects_passed (IsKnownInTransit made) (table_in tables p) pass (λ fd o e. same-known made (object_named (table_in tables p) fd) (Some o) (sym e) (h p fd))
+
+released_row :
+    (made : ℕ) (table : List (Option Obj)) (pass : List Pass) (fd : Fd) → ((n : Fd) → IsKnownObject made (object_named table n)) →
+    IsKnownObject made (object_named (release_rows table pass) fd)
+released_row made table pass fd h d e = h fd d (object_named-before table pass fd (obj.Door d) e)
+
+pub released-known :
+    (made : ℕ) (tables : List (List (Option Obj))) (p : ℕ) (pass : List Pass) → AreKnownRows made tables →
+    AreKnownRows made (with_table tables p (release_rows (table_in tables p) pass))
+released-known made tables p pass h =
+    table-known made tables p (release_rows (table_in tables p) pass)
+    (λ fd. released_row made (table_in tables p) pass fd (h p))
+    h
+
+-- what comes with one
+
+inserted_rows :
+    (made : ℕ) (table : List (Option Obj)) (objects : List Obj) → AreKnownInTransit made objects →
+    ((fd : Fd) → IsKnownObject made (object_named table fd)) → (fd : Fd) → IsKnownObject made (object_named (insert_rows table objects) fd)
+inserted_rows made table [] all h = h
+inserted_rows made table (o ∷ os) all h =
+    inserted_rows made (insert_row table o) os (All-tail (IsKnownInTransit made) o os all)
+    (λ fd. object-with_row made table (free_place table) (Some o) fd (All-head (IsKnownInTransit made) o os all) (h fd))
+
+pub inserted-known :
+    (made : ℕ) (tables : List (List (Option Obj))) (p : ℕ) (objects : List Obj) → AreKnownInTransit made objects → AreKnownRows made tables →
+    AreKnownRows made (with_table tables p (insert_rows (table_in tables p) objects))
+inserted-known made tables p objects all h =
+    table-known made tables p (insert_rows (table_in tables p) objects) (inserted_rows made (table_in tables p) objects all (h p)) h
 
 closed_row : (table : List (Option Obj)) (fd : Fd) → object_named (close_table table) fd ≡ None
 closed_row table fd = ap object_in (slice_get-map free_row table fd.0) ∙ by_row (slice_get table fd.0)

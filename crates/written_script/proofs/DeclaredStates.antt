@@ -1,13 +1,13 @@
 -- What the doors and calls of a state name is declared, and so is what the answers of its events name.
-use Rattle.std.proofs.Common.{◌≡◌, ℕ, ◌+◌, ◌≤◌, ◌==◌, ◌&&◌, not, zero, suc, List, [], ◌∷◌, ◌++◌, Option, Some, None, Bool, true, false, if◌then◌else◌, IsSome, is_none, length, arith, refl, sym, ap, subst, length-append, append-nil}
+use Rattle.std.proofs.Common.{◌≡◌, ℕ, ◌+◌, ◌≤◌, ◌==◌, ◌&&◌, not, zero, suc, List, [], ◌∷◌, ◌++◌, Option, Some, None, Bool, true, false, if◌then◌else◌, IsSome, is_none, length, nat_lt, arith, refl, sym, ap, subst, length-append, append-nil}
 use Rattle.std.specs.Prelude.{All}
 use Rattle.std.specs.Option.{option_map_or}
 use Rattle.std.proofs.lemmas.Bool.{false≢true}
 use Rattle.std.proofs.lemmas.List.{length-map}
 use Rattle.std.proofs.lemmas.List.Elements.{All-nil, All-cons, All-head, All-tail, All-push, All-weaker, All-map, All-filter}
-use Rattle.written_kernel.specs.Types.{Call, CallStage, Door, Errno, Fd, Item, Name, Obj, Param, Parked, PathId, Request, ThreadState, Waiting}
+use Rattle.written_kernel.specs.Types.{Call, CallStage, Door, Errno, Fd, Item, Name, Obj, Param, Parked, Pass, PathId, Request, ThreadState, Waiting}
 use Rattle.dk_base.specs.declared.answer.Answer.TheVariants as answer
-use Rattle.dk_base.specs.declared.error.Errno.TheVariants.{EBADF, EINVAL, ENOENT}
+use Rattle.dk_base.specs.declared.error.Errno.TheVariants.{EBADF, EINVAL, EMFILE, ENOENT}
 use Rattle.dk_base.specs.declared.object.Item.TheVariants as item
 use Rattle.dk_base.specs.declared.object.Obj.TheVariants as obj
 use Rattle.dk_base.specs.declared.request.Param.TheVariants as param
@@ -15,20 +15,22 @@ use Rattle.dk_base.specs.declared.request.Request.TheVariants as request
 use Rattle.kernel_records.specs.declared.record.CallStage.TheVariants as stage
 use Rattle.kernel_records.specs.declared.record.ThreadState.TheVariants as is
 use Rattle.dk_base.specs.ByNumber.{at_number, with_at_number}
-use Rattle.kernel_records.specs.Words.{at_stage, change_door_in, change_first, door_attached, entry_of, has_other_path, has_path, info_in, is_client_call_of, is_given_as, is_last, is_owned_by, is_queued, is_queued_as, is_served_by, is_to_collect_as, is_valid_in, new_door, set_param, tid, with_name, with_owner_ended, with_param, with_row, without_arguments_at, without_name}
-use Rattle.written_kernel.specs.Words.{ActResult, State, accept, accept_call, act, await, await_name, caller_in, client_call, client_process, collect, collect_answer, collect_answer_in, door_at, door_named, door_of, effect, ended_call, enter, exit, find_call, give_each, give_one, give_to, go_on, is_door, is_valid, is_waiting_state, leave_process, leave_thread, name_of, new_call, now, object_at, pick, pool_of, process_of, refusal_of, root, served_by, settle, state_of, step, table_of, unless_refused, waiting_among, waiting_items, waiting_threads, walk, with_table_of}
+use Rattle.kernel_records.specs.Words.{at_stage, change_door_in, change_first, collect_call, door_attached, entry_of, has_other_path, has_path, info_in, is_client_call_of, is_given_as, is_last, is_owned_by, is_queued, is_queued_as, is_served_by, is_to_collect_as, is_valid_in, new_descriptors, new_door, objects_passed, set_param, tid, with_name, with_owner_ended, with_param, with_row, without_arguments_at, without_name}
+use Rattle.written_kernel.specs.Words.{ActResult, State, accept, accept_call, act, await, await_name, begin_call, caller_in, client_call, client_process, collect, collect_answer, collect_answer_in, door_at, door_named, door_of, effect, ended_call, enter, exit, fail_begin, find_call, give_each, give_one, give_to, go_on, has_room, is_door, is_valid, is_waiting_state, leave_process, leave_thread, name_of, new_call, now, object_at, objects_collected, objects_collected_in, pick, pool_of, process_of, refusal_of, results_answer, root, served_by, settle, state_of, step, table_of, tables_after_pass, tables_with, unless_refused, waiting_among, waiting_items, waiting_threads, walk, with_table_of}
 use Rattle.written_kernel.proofs.Lists.{length-with_at_number, numbered_within, numbered_there}
 use Rattle.script_lang.specs.Words.{ScriptValue}
 use Rattle.script_requests.specs.DeclaredNames.{IsTarget}
 use Rattle.script_requests.specs.Words.{IsDeclaredAnswer, IsDeclaredThread, IsEntry, IsNumberOf, IsProcess, IsThread}
 use Rattle.script_requests.proofs.Elements.{All-at_number, All-find}
 use Rattle.written_script.specs.DeclaredRuns.{IsDeclaredDoor}
-use Rattle.written_script.proofs.DeclaredObjects.{All-with_at_number, AreKnownNames, AreKnownRows, IsKnownName, IsKnownObject, closed-known, none-known, row-known}
+use Rattle.written_script.proofs.DeclaredObjects.{All-with_at_number, AreKnownInTransit, AreKnownNames, AreKnownResults, AreKnownRows, IsKnownInTransit, IsKnownName, IsKnownObject, closed-known, inserted-known, none-known, passed-known, released-known, row-known}
 
--- a call's caller is declared, and its door was made
+-- a call's caller is declared, and its door and the doors that it takes along or brings back were made
 pub record IsKnownCall (script : ScriptValue) (made : ℕ) (r : Call) : Type 0 where
   pub caller : IsThread script r.caller.0
   pub door : IsNumberOf made r.door
+  pub objects : AreKnownInTransit made r.objects
+  pub results : AreKnownResults made r.stage
 
 abbrev pub AreKnownCalls : ScriptValue → ℕ → List Call → Type 0
 AreKnownCalls script made rs = All (IsKnownCall script made) rs
@@ -56,13 +58,16 @@ record IsKnownAct (script : ScriptValue) (a : ActResult) : Type 0 where
 -- changes of the calls
 
 -- another stage keeps the caller and the door
-staged : (script : ScriptValue) (made : ℕ) (s : CallStage) (r : Call) → IsKnownCall script made r → IsKnownCall script made (at_stage s r)
-staged script made s r h = record { caller = h.caller; door = h.door }
+staged :
+    (script : ScriptValue) (made : ℕ) (s : CallStage) → AreKnownResults made s → (r : Call) → IsKnownCall script made r →
+    IsKnownCall script made (at_stage s r)
+staged script made s results r h = record { caller = h.caller; door = h.door; objects = h.objects; results = results }
 
 emptied :
-    (script : ScriptValue) (made : ℕ) (s : CallStage) (r : Call) → IsKnownCall script made r →
+    (script : ScriptValue) (made : ℕ) (s : CallStage) → AreKnownResults made s → (r : Call) → IsKnownCall script made r →
     IsKnownCall script made (without_arguments_at s r)
-emptied script made s r h = record { caller = h.caller; door = h.door }
+emptied script made s results r h =
+    record { caller = h.caller; door = h.door; objects = All-nil (IsKnownInTransit made); results = results }
 
 changed_calls :
     (script : ScriptValue) (made : ℕ) (test : Call → Bool) (change : Call → Call) →
@@ -118,7 +123,7 @@ with_door-known script m d h here =
           All-weaker
           (IsKnownCall script (length m.doors))
           (IsKnownCall script (length (m.doors ++ d ∷ [])))
-          (λ r known. record { caller = known.caller; door = more r.door known.door one })
+          (λ r known. record { caller = known.caller; door = more r.door known.door one; objects = more_objects r.objects known.objects one; results = more_results r.stage known.results one })
           m.call_tree.calls
           h.calls;
       rows = λ p fd n e. more n (h.rows p fd n e) one;
@@ -139,6 +144,23 @@ with_door-known script m d h here =
         in let high : n ≤ length m.doors = known.1
         in let up : n ≤ length (m.doors ++ d ∷ []) = omega arith
         in (low, up)
+
+    more_objects :
+        (objects : List Obj) → AreKnownInTransit (length m.doors) objects → length (m.doors ++ d ∷ []) ≡ length m.doors + 1 →
+        AreKnownInTransit (length (m.doors ++ d ∷ [])) objects
+    more_objects objects known one =
+        All-weaker (IsKnownInTransit (length m.doors)) (IsKnownInTransit (length (m.doors ++ d ∷ []))) (λ o h n e. more n (h n e) one) objects known
+
+    more_results :
+        (s : CallStage) → AreKnownResults (length m.doors) s → length (m.doors ++ d ∷ []) ≡ length m.doors + 1 →
+        AreKnownResults (length (m.doors ++ d ∷ [])) s
+    more_results (stage.Returned bytes objects) known one = more_objects objects known one
+    more_results stage.Queued known one = tt
+    more_results (stage.Given u) known one = tt
+    more_results (stage.Entered u) known one = tt
+    more_results (stage.Ended e) known one = tt
+    more_results (stage.Answered k) known one = tt
+    more_results stage.Gone known one = tt
 
 -- the parameters of a door
 
@@ -183,7 +205,7 @@ ended_call-known :
 ended_call-known script made ds p r h = by_test (is_queued r.stage && is_owned_by p (at_number ds r.door))
   where
     by_test : (b : Bool) → IsKnownCall script made (if b then without_arguments_at (stage.Ended EBADF) r else r)
-    by_test true = emptied script made (stage.Ended EBADF) r h
+    by_test true = emptied script made (stage.Ended EBADF) tt r h
     by_test false = h
 
 leave_process-known : (script : ScriptValue) (m : State) (p : ℕ) → IsKnown script m → IsKnown script (leave_process m p)
@@ -219,7 +241,22 @@ leave_process-known script m p h =
       names = subst (λ (n : ℕ). AreKnownNames n m.names) (sym (length-map m.doors (with_owner_ended p))) h.names;
     }
 
--- changes of a table and of the names
+-- changes of tables and of the names
+
+tables-known :
+    (script : ScriptValue) (m : State) {rs : List Call} (tables : List (List (Option Obj))) → AreKnown script m.doors rs m.tables m.names →
+    AreKnownRows (length m.doors) tables → AreKnown script m.doors rs tables m.names
+tables-known script m tables h here = record { doors = h.doors; calls = h.calls; rows = here; names = h.names }
+
+passes-known :
+    (script : ScriptValue) (m : State) {rs : List Call} (p : ℕ) (pass : List Pass) → AreKnown script m.doors rs m.tables m.names →
+    AreKnown script m.doors rs (tables_after_pass m p pass) m.names
+passes-known script m p pass h = tables-known script m (tables_after_pass m p pass) h (released-known (length m.doors) m.tables p pass h.rows)
+
+installs-known :
+    (script : ScriptValue) (m : State) {rs : List Call} (p : ℕ) (objects : List Obj) → AreKnownInTransit (length m.doors) objects →
+    AreKnown script m.doors rs m.tables m.names → AreKnown script m.doors rs (tables_with m p objects) m.names
+installs-known script m p objects all h = tables-known script m (tables_with m p objects) h (inserted-known (length m.doors) m.tables p objects all h.rows)
 
 with_row-known :
     (script : ScriptValue) (m : State) (p place : ℕ) (o : Option Obj) → IsKnown script m → IsKnownObject (length m.doors) o →
@@ -352,20 +389,27 @@ effect-known script m t p (request.Create entry cookie attrs) h thread process o
 effect-known script m t p (request.Call fd bytes pass rsize) h thread process owners made e =
     record {
       state =
-          opened-known
+          passes-known script m p pass
+          (opened-known
           script
           m
-          (new_call m t (door_named (object_at m p fd)) bytes [] rsize)
+          (new_call m t (door_named (object_at m p fd)) bytes (objects_passed (table_of m p) pass) rsize)
           h
           (record {
             caller = thread;
             door = valid_door m (door_named (object_at m p fd)) (holds_unless (is_valid m (door_named (object_at m p fd))) _ e);
-          });
+            objects = passed-known (length m.doors) m.tables p pass h.rows;
+            results = tt;
+          }));
       answer = tt;
     }
 effect-known script m t p (request.Return bytes pass) h thread process owners made e =
     record {
-      state = changed-known script m (is_client_call_of t) _ (emptied script (length m.doors) (stage.Returned bytes [])) h;
+      state =
+          passes-known script m p pass
+          (changed-known script m (is_client_call_of t) _
+          (emptied script (length m.doors) (stage.Returned bytes (objects_passed (table_of m p) pass)) (passed-known (length m.doors) m.tables p pass h.rows))
+          h);
       answer = tt;
     }
 effect-known script m t p (request.Info fd) h thread process owners made e =
@@ -431,28 +475,71 @@ entry-known script m r h here = by_door (door_of m r.door) refl
 accept-known : (script : ScriptValue) (m : State) (t p : ℕ) (i : Item) → IsKnown script m → IsKnownAct script (accept m t p i)
 accept-known script m t p (item.Call c) h = by_call (find_call m (is_given_as c t)) refl
   where
-    by_call : (o : Option Call) → find_call m (is_given_as c t) ≡ o → IsKnownAct script (accept_call m t c o)
+    by_room : (r : Call) → IsKnownCall script (length m.doors) r → (b : Bool) → IsKnownAct script (if b then begin_call m t p c r else fail_begin m t c r)
+    by_room r known true =
+        record {
+          state =
+              installs-known script m p r.objects known.objects
+              (changed-known script m (is_given_as c t) _ (emptied script (length m.doors) (stage.Entered (tid t)) tt) h);
+          answer = entry-known script m r h known;
+        }
+    by_room r known false =
+        record { state = changed-known script m (is_given_as c t) _ (emptied script (length m.doors) (stage.Ended EMFILE) tt) h; answer = tt }
+
+    by_call : (o : Option Call) → find_call m (is_given_as c t) ≡ o → IsKnownAct script (accept_call m t p c o)
     by_call None e = record { state = h; answer = tt }
     by_call (Some r) e =
-        record {
-          state = changed-known script m (is_given_as c t) _ (emptied script (length m.doors) (stage.Entered (tid t))) h;
-          answer = entry-known script m r h (All-find (IsKnownCall script (length m.doors)) (is_given_as c t) m.call_tree.calls r h.calls e);
-        }
+        by_room r (All-find (IsKnownCall script (length m.doors)) (is_given_as c t) m.call_tree.calls r h.calls e) (has_room m p r.objects)
 accept-known script m t p (item.Notice n) h = record { state = h; answer = tt }
 
 collect-known : (script : ScriptValue) (m : State) (t p c : ℕ) → IsKnown script m → IsKnownAct script (collect m t p c)
 collect-known script m t p c h =
     record {
-      state = changed-known script m (is_to_collect_as c) _ (emptied script (length m.doors) (stage.Answered (now m))) h;
+      state =
+          by_room (objects_collected_in (find_call m (is_to_collect_as c))) (found (find_call m (is_to_collect_as c)) refl)
+          (has_room m p (objects_collected_in (find_call m (is_to_collect_as c))));
       answer = by_call (find_call m (is_to_collect_as c));
     }
   where
-    at : (r : Call) (s : CallStage) → IsDeclaredAnswer script (collect_answer r s)
-    at r (stage.Returned bytes objects) = tt
+    next : AreKnown script m.doors (collect_call m.call_tree c (now m)).calls m.tables m.names
+    next = changed-known script m (is_to_collect_as c) _ (emptied script (length m.doors) (stage.Answered (now m)) tt) h
+
+    by_room :
+        (objects : List Obj) → AreKnownInTransit (length m.doors) objects → (b : Bool) →
+        AreKnown script m.doors (collect_call m.call_tree c (now m)).calls (if b then tables_with m p objects else m.tables) m.names
+    by_room objects all true = installs-known script m p objects all next
+    by_room objects all false = next
+
+    brought : (s : CallStage) → AreKnownResults (length m.doors) s → AreKnownInTransit (length m.doors) (objects_collected s)
+    brought (stage.Returned bytes objects) known = known
+    brought stage.Queued known = All-nil (IsKnownInTransit (length m.doors))
+    brought (stage.Given u) known = All-nil (IsKnownInTransit (length m.doors))
+    brought (stage.Entered u) known = All-nil (IsKnownInTransit (length m.doors))
+    brought (stage.Ended e) known = All-nil (IsKnownInTransit (length m.doors))
+    brought (stage.Answered k) known = All-nil (IsKnownInTransit (length m.doors))
+    brought stage.Gone known = All-nil (IsKnownInTransit (length m.doors))
+
+    found : (o : Option Call) → find_call m (is_to_collect_as c) ≡ o → AreKnownInTransit (length m.doors) (objects_collected_in o)
+    found None e = All-nil (IsKnownInTransit (length m.doors))
+    found (Some r) e =
+        brought r.stage (All-find (IsKnownCall script (length m.doors)) (is_to_collect_as c) m.call_tree.calls r h.calls e).results
+
+    results : (r : Call) (bytes : List ℕ) (objects : List Obj) → IsDeclaredAnswer script (results_answer m p r bytes objects)
+    results r bytes objects = go (has_room m p objects)
+      where
+        go :
+            (b : Bool) →
+            IsDeclaredAnswer script
+            (if b then answer.Results bytes (new_descriptors (table_of m p) objects) (nat_lt r.rsize (length bytes)) else answer.Failure EMFILE)
+        go true = tt
+        go false = tt
+
+    at : (r : Call) (s : CallStage) → IsDeclaredAnswer script (collect_answer m p r s)
+    at r (stage.Returned bytes objects) = results r bytes objects
     at r (stage.Ended e) = tt
     at r _ = tt
 
-    by_call : (o : Option Call) → IsDeclaredAnswer script (collect_answer_in o)
+    by_call : (o : Option Call) → IsDeclaredAnswer script (collect_answer_in m p o)
     by_call None = tt
     by_call (Some r) = at r r.stage
 
@@ -467,7 +554,7 @@ go_on-known script m t p _ h = record { state = h; answer = tt }
 
 give_one-known : (script : ScriptValue) (m : State) (i : Item) (u : ℕ) → IsKnown script m → IsKnown script (give_one m i u)
 give_one-known script m (item.Call c) u h =
-    changed-known script m (is_queued_as c) _ (staged script (length m.doors) (stage.Given (tid u))) h
+    changed-known script m (is_queued_as c) _ (staged script (length m.doors) (stage.Given (tid u)) tt) h
 give_one-known script m (item.Notice n) u h = h
 
 give_to-known : (script : ScriptValue) (m : State) (w : Waiting) (o : Option Parked) → IsKnown script m → IsKnown script (give_to m w o)

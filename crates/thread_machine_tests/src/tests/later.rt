@@ -6,7 +6,7 @@ use std::test::Fail;
 use thread_machine::later::later;
 
 /// Lines of a thread that need no later capability, and lines that do.
-const BUILT_LINES: [&str; 18] = [
+const BUILT_LINES: [&str; 20] = [
     "create d e 0",
     "attach 1 p",
     "open v p",
@@ -25,11 +25,11 @@ const BUILT_LINES: [&str; 18] = [
     "getparam 1 data-max",
     "setparam 1 data-max 1",
     "cred",
-];
-
-const LATER_LINES: [&str; 34] = [
     "call r 1 \"\" desc 1",
     "return \"\" desc 1",
+];
+
+const LATER_LINES: [&str; 32] = [
     "create d e 0 private",
     "bind 1",
     "unbind",

@@ -1,6 +1,6 @@
-use Rattle.std.proofs.Common.{◌≡◌, Some, None, ap, length, sym, ◌∙◌}
+use Rattle.std.proofs.Common.{◌≡◌, ◌++◌, Some, None, ap, length, sym, ◌∙◌}
 use Rattle.kernel_records.specs.Words.{first_refusal, limit_tests}
-use Rattle.written_kernel.specs.Words.{door_named, door_of, object_at, pool_tests}
+use Rattle.written_kernel.specs.Words.{door_named, door_of, object_at, pass_tests, pool_tests}
 use Rattle.kernel_core.specs.Stored.{stored_state}
 use Rattle.kernel_core.proofs.Tests.{first_of, none_of}
 use Rattle.kernel_core.proofs.doors.call_refusal.Goals as goal
@@ -14,7 +14,7 @@ returns-in-Some c =
     ap (λ k. first_refusal (limit_tests (door_of m k) (length c.args.bytes.now) (length c.args.pass.now))) (sym c.door_named-door.ensures)
     ∙ sym c.limit_refusal.ensures
     ∙ c.in-Some.is in
-    sym (first_of tests (pool_tests m d) c.in-Some.error told)
+    sym (first_of tests (pass_tests m c.args.p.0 c.args.pass.now ++ pool_tests m d) c.in-Some.error told)
 
 pub returns-in-None : goal.returns-in-None
 returns-in-None c =
@@ -25,6 +25,6 @@ returns-in-None c =
     ap (λ k. first_refusal (limit_tests (door_of m k) (length c.args.bytes.now) (length c.args.pass.now))) (sym c.door_named-door.ensures)
     ∙ sym c.limit_refusal.ensures
     ∙ c.in-None.is in
-    c.pool_refusal.ensures
-    ∙ ap (λ k. first_refusal (pool_tests m k)) c.door_named-door.ensures
-    ∙ sym (none_of tests (pool_tests m d) told)
+    c.pass_refusal.ensures
+    ∙ ap (λ k. first_refusal (pass_tests m c.args.p.0 c.args.pass.now ++ pool_tests m k)) c.door_named-door.ensures
+    ∙ sym (none_of tests (pass_tests m c.args.p.0 c.args.pass.now ++ pool_tests m d) told)

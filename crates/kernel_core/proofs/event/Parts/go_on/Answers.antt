@@ -16,8 +16,8 @@ finish-requires-clause-few c =
     let same = ap (λ (k : State). k.events) c.reserve.ensures.state in
     omega (arith, g.events, same, c.requires.numbers.events)
 
-pub go_on-answer-requires : goal.go_on-answer-requires
-go_on-answer-requires c = record { live = subst HasLiveCalls (sym c.reserve.ensures.state) c.requires.live }
+pub go_on-answer-requires-clause-live : goal.go_on-answer-requires-clause-live
+go_on-answer-requires-clause-live c = subst HasLiveCalls (sym c.reserve.ensures.state) c.requires.live
 
 pub finish-requires-clause-live : goal.finish-requires-clause-live
 finish-requires-clause-live c =

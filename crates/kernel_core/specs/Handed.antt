@@ -1,0 +1,35 @@
+-- How many objects an event hands over at most. The room for them is taken before it.
+use Rattle.std.specs.Prelude.{ℕ, List, [], Option, None, Some, length}
+use Rattle.written_kernel.specs.Types.{Call, Item, Obj, Request, ThreadState}
+use Rattle.dk_base.specs.declared.object.Item.TheVariants as item
+use Rattle.dk_base.specs.declared.request.Request.TheVariants as request
+use Rattle.kernel_records.specs.declared.record.ThreadState.TheVariants as is
+use Rattle.kernel_records.specs.Words.{is_given_as, is_to_collect_as}
+use Rattle.written_kernel.specs.Words.{State, find_call, objects_collected_in}
+
+-- at an entry: what is passed with it
+abbrev pub count_passed : Request → ℕ
+count_passed (request.Call fd bytes pass rsize) = length pass
+count_passed (request.Return bytes pass) = length pass
+count_passed _ = 0
+
+-- at the end of a wait: what comes with the call that the thread was given, or with the results of its own
+
+abbrev pub objects_of_call : Option Call → List Obj
+objects_of_call None = []
+objects_of_call (Some r) = r.objects
+
+abbrev pub objects_given : State → ℕ → ℕ → List Obj
+objects_given m t c = objects_of_call (find_call m (is_given_as c t))
+
+abbrev pub objects_to_collect : State → ℕ → List Obj
+objects_to_collect m c = objects_collected_in (find_call m (is_to_collect_as c))
+
+abbrev pub objects_with : State → ℕ → Item → List Obj
+objects_with m t (item.Call c) = objects_given m t c
+objects_with m t (item.Notice n) = []
+
+abbrev pub objects_at_end : State → ℕ → ThreadState → List Obj
+objects_at_end m t (is.Given i) = objects_with m t i
+objects_at_end m t (is.Calling c) = objects_to_collect m c
+objects_at_end m t _ = []

@@ -1,0 +1,226 @@
+//! A kernel of two processes, and the turns of a thread of each.
+ghost use Rattle.std.specs.Prelude.{ℕ, ◌≡◌, ◌≤◌, Option, IfOk, length};
+ghost use Rattle.capabilities.specs.Capability.{capability_of_pass};
+ghost use Rattle.capabilities.specs.Words.{capability_of};
+ghost use Rattle.capabilities.specs.declared.table.TheConstants.{BUILT};
+ghost use Rattle.written_kernel.specs.Types.{Inv};
+ghost use Rattle.written_kernel.specs.Words.{IsFit, MayInside, State};
+
+use dk_base::answer::Answer;
+use dk_base::error::{Errno, NoMemory};
+use dk_base::event::Stepped;
+use dk_base::list::{Bytes, IdList, PassList};
+use dk_base::number::{Fd, PathId, Pid, Tid};
+use dk_base::object::Pass;
+use dk_base::request::Request;
+use dk_base::set::Attrs;
+use kernel_core::kernel::Kernel;
+use std::alloc::Global;
+
+/// An entry that a thread may make inside an invocation and outside.
+#[derive(Clone, Copy)]
+pub enum Entry {
+    Create,
+    Attach,
+    Await,
+    Open,
+    Info(u32),
+    Return(&'static [u8], &'static [Pass]),
+}
+
+/// One that it may make outside alone.
+#[derive(Clone, Copy)]
+pub enum OuterEntry {
+    Call(&'static [u8], &'static [Pass]),
+    Exit,
+}
+
+/// A turn of a thread.
+#[derive(Clone, Copy)]
+pub enum Turn {
+    Enters(Entry),
+    EntersOutside(OuterEntry),
+    GoesOn,
+}
+
+/// An answer.
+#[derive(Clone, Copy)]
+pub enum Gives {
+    Wait,
+    WaitCall(u32),
+    Done,
+    NewFd(u32),
+    Unique(u64),
+    Entered(u32, &'static [u8], &'static [Fd]),
+    EnterFailed(u32),
+    Grown(&'static [u8], &'static [Fd]),
+    Failure(Errno),
+}
+
+/// A thread's turn, what it is answered, and whom that wakes.
+pub type Row = (Tid, Turn, Gives, &'static [Tid]);
+
+/// The thread of process 1.
+pub const SERVER: Tid = Tid(1);
+
+/// The thread of process 2.
+pub const CLIENT: Tid = Tid(2);
+
+fn is_answer(answer: &Answer, gives: Gives) -> bool {
+    match gives {
+        Gives::Wait => matches!(answer, Answer::Wait),
+        Gives::WaitCall(number) => matches!(answer, Answer::WaitCall { call } if *call == number),
+        Gives::Done => matches!(answer, Answer::Done),
+        Gives::NewFd(number) => matches!(answer, Answer::NewFd { fd } if fd.0 == number),
+        Gives::Unique(number) => matches!(answer, Answer::Info(info) if info.unique == number),
+        Gives::Entered(number, text, numbers) => {
+            matches!(answer, Answer::Entered { call, entry: 7, cookie: 9, bytes, fds } if *call == number && bytes.slice() == text && fds.slice() == numbers)
+        }
+        Gives::EnterFailed(number) => {
+            matches!(answer, Answer::EnterFailed { call } if *call == number)
+        }
+        Gives::Grown(text, numbers) => {
+            matches!(answer, Answer::Results { bytes, fds, grown: true } if bytes.slice() == text && fds.slice() == numbers)
+        }
+        Gives::Failure(errno) => matches!(answer, Answer::Failure(error) if *error == errno),
+    }
+}
+
+fn is_step(stepped: &Result<Stepped, NoMemory>, gives: Gives, wakes: &[Tid]) -> bool {
+    matches!(stepped, Ok(stepped) if is_answer(&stepped.answer, gives) && stepped.woken.slice() == wakes)
+}
+
+#[tactic(auto, using(crate::proofs::Built::passing_built))]
+fn request(alloc: Global, entry: Entry) -> Result<Request, NoMemory>
+    ensures fit { IfOk result (λ r. (m : State) (t : ℕ) → IsFit m t r) }
+    ensures built { IfOk result (λ r. capability_of r ≤ BUILT) }
+    ensures inside { IfOk result (λ r. (v : Option Inv) → MayInside v r) }
+{
+    match entry {
+        Entry::Create => Ok(Request::Create {
+            entry: 7,
+            cookie: 9,
+            attrs: Attrs(0),
+        }),
+        Entry::Attach => Ok(Request::Attach {
+            fd: Fd(0),
+            path: PathId(0),
+        }),
+        Entry::Await => Ok(Request::Await { path: PathId(0) }),
+        Entry::Open => Ok(Request::Open { path: PathId(0) }),
+        Entry::Info(fd) => Ok(Request::Info { fd: Fd(fd) }),
+        Entry::Return(text, passed) => {
+            let pass = PassList::from_slice(alloc, passed)?;
+            let bytes = Bytes::from_slice(alloc, text)?;
+            Ok(Request::Return { bytes, pass })
+        }
+    }
+}
+
+#[tactic(auto, using(crate::proofs::Built::passing_built))]
+fn outer_request(alloc: Global, entry: OuterEntry) -> Result<Request, NoMemory>
+    ensures fit { IfOk result (λ r. (m : State) (t : ℕ) → IsFit m t r) }
+    ensures built { IfOk result (λ r. capability_of r ≤ BUILT) }
+{
+    match entry {
+        OuterEntry::Call(text, passed) => {
+            let pass = PassList::from_slice(alloc, passed)?;
+            let bytes = Bytes::from_slice(alloc, text)?;
+            Ok(Request::Call {
+                door: Fd(0),
+                bytes,
+                pass,
+                rsize: 1,
+            })
+        }
+        OuterEntry::Exit => Ok(Request::Exit),
+    }
+}
+
+fn enters(alloc: Global, kernel: &mut Kernel, t: Tid, entry: Entry) -> Result<Stepped, NoMemory> {
+    if !kernel.is_running(t) || kernel.events() >= 1_000_000 {
+        return Err(NoMemory);
+    }
+    match request(alloc, entry) {
+        Ok(request) => kernel.enter(t, request),
+        Err(error) => Err(error),
+    }
+}
+
+fn enters_outside(
+    alloc: Global,
+    kernel: &mut Kernel,
+    t: Tid,
+    entry: OuterEntry,
+) -> Result<Stepped, NoMemory> {
+    if !kernel.is_running(t) || kernel.is_inside(t) || kernel.events() >= 1_000_000 {
+        return Err(NoMemory);
+    }
+    match outer_request(alloc, entry) {
+        Ok(request) => kernel.enter(t, request),
+        Err(error) => Err(error),
+    }
+}
+
+fn goes_on(kernel: &mut Kernel, t: Tid) -> Result<Stepped, NoMemory> {
+    if !kernel.runnable(t) || kernel.is_running(t) || kernel.events() >= 1_000_000 {
+        return Err(NoMemory);
+    }
+    kernel.go_on(t)
+}
+
+fn is_turn(
+    alloc: Global,
+    kernel: &mut Kernel,
+    t: Tid,
+    turn: Turn,
+    gives: Gives,
+    wakes: &[Tid],
+) -> bool {
+    match turn {
+        Turn::Enters(entry) => is_step(&enters(alloc, kernel, t, entry), gives, wakes),
+        Turn::EntersOutside(entry) => is_step(
+            &enters_outside(alloc, kernel, t, entry),
+            gives,
+            wakes,
+        ),
+        Turn::GoesOn => is_step(&goes_on(kernel, t), gives, wakes),
+    }
+}
+
+/// How many turns go as they are written.
+fn right_turns(alloc: Global, kernel: &mut Kernel, rows: &[Row]) -> usize {
+    for (i, (t, turn, gives, wakes)) in rows.iter().enumerate() {
+        if !is_turn(alloc, kernel, *t, *turn, *gives, wakes) {
+            return i;
+        }
+    }
+    rows.len()
+}
+
+/// The same, after a thread was added to each of two processes.
+fn right_turns_of_two(alloc: Global, kernel: &mut Kernel, rows: &[Row]) -> usize
+    requires { length kernel.old.process_table.processes ≡ 2 }
+{
+    if kernel.events() != 0 {
+        return 0;
+    }
+    if !matches!(kernel.add_thread(Pid(1), false), Ok(SERVER)) {
+        return 0;
+    }
+    if !matches!(kernel.add_thread(Pid(2), false), Ok(CLIENT)) {
+        return 0;
+    }
+    right_turns(alloc, kernel, rows)
+}
+
+/// The same of a kernel whose processes have these limits of descriptors.
+#[tactic(auto, using(written_kernel::proofs::Opening::opening_processes))]
+pub fn right_turns_of_new(alloc: Global, limits: &IdList, rows: &[Row]) -> usize
+    requires { length limits.now ≡ 2 }
+{
+    match Kernel::new(alloc, limits) {
+        Ok(mut kernel) => right_turns_of_two(alloc, &mut kernel, rows),
+        Err(_) => 0,
+    }
+}

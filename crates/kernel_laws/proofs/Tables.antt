@@ -1,0 +1,201 @@
+-- The tables after an event: what an accept and a collect install, and what a Call and a Return release. What the kernel does after
+-- an act leaves tables as they are.
+use Rattle.std.specs.Prelude.{ℕ, ◌≡◌, ◌++◌, ◌≤◌, ◌&&◌, ◌||◌, List, [], ◌∷◌, Option, Bool, true, false, if◌then◌else◌, Some, None, is_some, length, map, nat_lt, slice_get}
+use Rattle.std.specs.List.{list_any}
+use Rattle.std.proofs.Common.{refl, sym, ap, ◌∙◌}
+use native.Mathlib.Omega.{arith}
+use Rattle.std.proofs.lemmas.Bool.Decides.{nat_tests}
+use Rattle.written_kernel.specs.Types.{Answer, Call, Errno, Fd, Item, Obj, Parked, Pass, Request, ThreadState, Waiting}
+use Rattle.dk_base.specs.declared.error.Errno.TheVariants.{E2BIG, EINVAL}
+use Rattle.dk_base.specs.declared.limits.TheConstants.{DATA_MAX, PASS_MAX}
+use Rattle.dk_base.specs.declared.object.Item.TheVariants as item
+use Rattle.dk_base.specs.declared.request.Request.TheVariants as request
+use Rattle.dk_base.specs.declared.answer.Answer.TheVariants as answer
+use Rattle.kernel_records.specs.declared.record.ThreadState.TheVariants as is
+use Rattle.kernel_records.specs.declared.record.CallStage.TheVariants as stage
+use Rattle.kernel_records.specs.Words.{Test, first_refusal, free_rows, insert_rows, is_bad_pass, is_given_as, is_not_open, is_to_collect_as, limit_tests, new_descriptors, object_in, object_named, objects_passed, refused_where, release_rows, table_in, tid}
+use Rattle.written_kernel.specs.Words.{State, accept_call, act, begin_call, client_call, door_named, door_of, effect, fail_begin, find_call, give_each, give_one, give_to, go_on, has_room, object_at, objects_collected_in, pick, pool_of, pool_tests, process_of, refusal_of, state_of, step, table_of, tables_after_collect, tables_after_pass, tables_with, unless_refused, waiting_items}
+use Rattle.kernel_invariant.specs.Records.{record_of}
+use Rattle.kernel_invariant.specs.Arrows.{has_own_room, own_table}
+use Rattle.kernel_invariant.proofs.Calls.{find-as}
+use Rattle.kernel_laws.specs.NoLoss.{is_descriptor, is_release_of}
+use Rattle.kernel_laws.proofs.Installed.{differ, installed_then, named_none, names_new, not_released, others_stay, released_none, released_then}
+use Rattle.kernel_laws.proofs.Passed.{names_each}
+use Rattle.kernel_laws.proofs.Refusals.{entry_tells, none_of}
+
+-- after an act
+
+tables-give_one : (m : State) (i : Item) (u : ℕ) → (give_one m i u).tables ≡ m.tables
+tables-give_one m (item.Call c) u = refl
+tables-give_one m (item.Notice n) u = refl
+
+tables-give_to : (m : State) (w : Waiting) (o : Option Parked) → (give_to m w o).tables ≡ m.tables
+tables-give_to m w None = refl
+tables-give_to m w (Some x) = tables-give_one m w.item x.thread.0
+
+tables-give_each : (m : State) (ws : List Waiting) → (give_each m ws).tables ≡ m.tables
+tables-give_each m [] = refl
+tables-give_each m (w ∷ ws) =
+    tables-give_each (give_to m w (pick m (pool_of m w.door))) ws ∙ tables-give_to m w (pick m (pool_of m w.door))
+
+-- the end of a wait
+tables-go_on : (m : State) (t : ℕ) (s : ThreadState) → state_of m t ≡ s → (step m t None).state.tables ≡ (go_on m t (process_of m t) s).state.tables
+unfolding step
+tables-go_on m t s e =
+    tables-give_each (act m t None).state (waiting_items (act m t None).state)
+    ∙ ap (λ z. (go_on m t (process_of m t) z).state.tables) e
+
+-- an entry that is not refused
+tables-effect :
+    (m : State) (t : ℕ) (r : Request) → refusal_of m t (process_of m t) r ≡ None →
+    (step m t (Some r)).state.tables ≡ (effect m t (process_of m t) r).state.tables
+unfolding step
+tables-effect m t r e =
+    tables-give_each (act m t (Some r)).state (waiting_items (act m t (Some r)).state)
+    ∙ ap (λ o. (unless_refused m o (effect m t (process_of m t) r)).state.tables) e
+
+-- what is installed
+
+given_found :
+    (m : State) (t : ℕ) (r : Call) → record_of m r.number ≡ Some r → r.stage ≡ stage.Given (tid t) →
+    find_call m (is_given_as r.number t) ≡ Some r
+given_found m t r e f =
+    find-as (is_given_as r.number t) m.call_tree.calls r.number r (λ y g. grind (arith, nat_tests)) e (grind (arith, nat_tests))
+
+returned_found :
+    (m : State) (r : Call) (bytes : List ℕ) (objects : List Obj) → record_of m r.number ≡ Some r → r.stage ≡ stage.Returned bytes objects →
+    find_call m (is_to_collect_as r.number) ≡ Some r
+returned_found m r bytes objects e f =
+    find-as (is_to_collect_as r.number) m.call_tree.calls r.number r (λ y g. grind (arith, nat_tests)) e (grind (arith, nat_tests))
+
+tables-accept :
+    (m : State) (t : ℕ) (q : Option Request) (r : Call) → q ≡ None → state_of m t ≡ is.Given (item.Call r.number) →
+    record_of m r.number ≡ Some r → r.stage ≡ stage.Given (tid t) → has_own_room m t r.objects ≡ true →
+    (step m t q).state.tables ≡ tables_with m (process_of m t) r.objects
+tables-accept m t q r e s f g room =
+    ap (λ o. (step m t o).state.tables) e
+    ∙ tables-go_on m t (is.Given (item.Call r.number)) s
+    ∙ ap (λ o. (accept_call m t (process_of m t) r.number o).state.tables) (given_found m t r f g)
+    ∙ ap (λ (b : Bool). (if b then begin_call m t (process_of m t) r.number r else fail_begin m t r.number r).state.tables) room
+
+tables-collect :
+    (m : State) (t : ℕ) (q : Option Request) (r : Call) (bytes : List ℕ) (objects : List Obj) → q ≡ None →
+    state_of m t ≡ is.Calling r.number → record_of m r.number ≡ Some r → r.stage ≡ stage.Returned bytes objects →
+    has_own_room m t objects ≡ true → (step m t q).state.tables ≡ tables_with m (process_of m t) objects
+tables-collect m t q r bytes objects e s f g room =
+    ap (λ o. (step m t o).state.tables) e
+    ∙ tables-go_on m t (is.Calling r.number) s
+    ∙ ap (λ os. tables_after_collect m (process_of m t) os) collected
+    ∙ ap (λ (b : Bool). if b then tables_with m (process_of m t) objects else m.tables) room
+  where
+    collected : objects_collected_in (find_call m (is_to_collect_as r.number)) ≡ objects
+    collected = ap objects_collected_in (returned_found m r bytes objects f g) ∙ grind arith
+
+-- In the table of a process these descriptors were free in state m, and name these objects in state n.
+pub record Installs (m n : State) (p : ℕ) (fds : List Fd) (objects : List Obj) : Type 0 where
+  pub were_free : map (λ fd. object_at m p fd) fds ≡ map (λ o. None) fds
+  pub name_them : map (λ fd. object_at n p fd) fds ≡ map (λ o. Some o) objects
+  pub differ : (a b : ℕ) (fd : Fd) → slice_get fds a ≡ Some fd → slice_get fds b ≡ Some fd → a ≡ b
+  pub others : (fd : Fd) → list_any (is_descriptor fd) fds ≡ false → object_at n p fd ≡ object_at m p fd
+
+installs :
+    (m n : State) (p : ℕ) (objects : List Obj) → has_room m p objects ≡ true → n.tables ≡ tables_with m p objects →
+    Installs m n p (new_descriptors (table_of m p) objects) objects
+installs m n p objects room e =
+    record {
+      were_free = named_none (table_of m p) objects fits;
+      name_them = ap (λ t. map (λ fd. object_named t fd) (new_descriptors (table_of m p) objects)) after ∙ names_new (table_of m p) objects fits;
+      differ = λ a b fd f g. differ (table_of m p) objects a b fd fits f g;
+      others = λ fd f. ap (λ t. object_named t fd) after ∙ ap object_in (others_stay (table_of m p) objects fd f);
+    }
+  where
+    fits : length objects ≤ free_rows (table_of m p)
+    fits = grind (arith, nat_tests)
+
+    after : table_of n p ≡ insert_rows (table_of m p) objects
+    after = ap (λ tables. table_in tables p) e ∙ installed_then m.tables p objects
+
+pub accept_installs :
+    (m : State) (t : ℕ) (q : Option Request) (r : Call) → q ≡ None → state_of m t ≡ is.Given (item.Call r.number) →
+    record_of m r.number ≡ Some r → r.stage ≡ stage.Given (tid t) → has_own_room m t r.objects ≡ true →
+    Installs m (step m t q).state (process_of m t) (new_descriptors (own_table m t) r.objects) r.objects
+accept_installs m t q r e s f g room =
+    installs m (step m t q).state (process_of m t) r.objects room (tables-accept m t q r e s f g room)
+
+pub collect_installs :
+    (m : State) (t : ℕ) (q : Option Request) (r : Call) (bytes : List ℕ) (objects : List Obj) → q ≡ None →
+    state_of m t ≡ is.Calling r.number → record_of m r.number ≡ Some r → r.stage ≡ stage.Returned bytes objects →
+    has_own_room m t objects ≡ true →
+    Installs m (step m t q).state (process_of m t) (new_descriptors (own_table m t) objects) objects
+collect_installs m t q r bytes objects e s f g room =
+    installs m (step m t q).state (process_of m t) objects room (tables-collect m t q r bytes objects e s f g room)
+
+-- what is released
+
+pub record Releases (m n : State) (p : ℕ) (pass : List Pass) : Type 0 where
+  pub released : (fd : Fd) → list_any (is_release_of fd) pass ≡ true → object_at n p fd ≡ None
+  pub others : (fd : Fd) → list_any (is_release_of fd) pass ≡ false → object_at n p fd ≡ object_at m p fd
+
+releases : (m n : State) (p : ℕ) (pass : List Pass) → n.tables ≡ tables_after_pass m p pass → Releases m n p pass
+releases m n p pass e =
+    record {
+      released = λ fd f. ap (λ t. object_named t fd) after ∙ released_none (table_of m p) pass fd f;
+      others = λ fd f. ap (λ t. object_named t fd) after ∙ not_released (table_of m p) pass fd f;
+    }
+  where
+    after : table_of n p ≡ release_rows (table_of m p) pass
+    after = ap (λ tables. table_in tables p) e ∙ released_then m.tables p pass
+
+-- an entry that answers no error is not refused
+
+not_refused :
+    (m : State) (t : ℕ) (q : Option Request) (r : Request) (a : Answer) → q ≡ Some r → (step m t q).answer ≡ a →
+    ((e : Errno) → a ≡ answer.Failure e → ⊥) → refusal_of m t (process_of m t) r ≡ None
+not_refused m t q r a e f h = none_of _ (λ x g. h x (sym f ∙ (entry_tells m t q r x e).1 g))
+
+not_held : (xs : List Test) (x : Test) (ys : List Test) → first_refusal (xs ++ x ∷ ys) ≡ None → x.holds ≡ false
+not_held [] x ys e = grind arith
+not_held (y ∷ xs) x ys e = grind (arith, not_held xs x ys)
+
+-- a Call or a Return that is not refused: what it passes names the objects that go, and what it releases is closed
+pub record Passed (m : State) (t : ℕ) (q : Option Request) (pass : List Pass) : Type 0 where
+  pub named : map (λ x. object_at m (process_of m t) x.fd) pass ≡ map (λ o. Some o) (objects_passed (own_table m t) pass)
+  pub releases : Releases m (step m t q).state (process_of m t) pass
+
+all_open : (t : List (Option Obj)) (pass : List Pass) → is_bad_pass t pass ≡ false → list_any (is_not_open t) pass ≡ false
+all_open t pass e = grind arith
+
+pub call_passes :
+    (m : State) (t c rsize : ℕ) (q : Option Request) (fd : Fd) (bytes : List ℕ) (pass : List Pass) →
+    q ≡ Some (request.Call fd bytes pass rsize) → (step m t q).answer ≡ answer.WaitCall c → Passed m t q pass
+call_passes m t c rsize q fd bytes pass e f =
+    record {
+      named =
+          names_each (own_table m t) pass
+          (all_open (own_table m t) pass
+          (not_held (limit_tests (door_of m door) (length bytes) (length pass)) (refused_where (is_bad_pass (own_table m t) pass) EINVAL) (pool_tests m door) none));
+      releases = releases m (step m t q).state (process_of m t) pass (ap (λ o. (step m t o).state.tables) e ∙ tables-effect m t (request.Call fd bytes pass rsize) none);
+    }
+  where
+    door : ℕ
+    door = door_named (object_at m (process_of m t) fd)
+
+    none : refusal_of m t (process_of m t) (request.Call fd bytes pass rsize) ≡ None
+    none = not_refused m t q (request.Call fd bytes pass rsize) (answer.WaitCall c) e f (λ x g. cc)
+
+pub return_passes :
+    (m : State) (t : ℕ) (q : Option Request) (bytes : List ℕ) (pass : List Pass) → q ≡ Some (request.Return bytes pass) →
+    (step m t q).answer ≡ answer.Wait → Passed m t q pass
+return_passes m t q bytes pass e f =
+    record {
+      named =
+          names_each (own_table m t) pass
+          (all_open (own_table m t) pass
+          (not_held
+          (refused_where (is_some (client_call m t) && (nat_lt DATA_MAX (length bytes) || nat_lt PASS_MAX (length pass))) E2BIG ∷ [])
+          (refused_where (is_bad_pass (own_table m t) pass) EINVAL) [] none));
+      releases = releases m (step m t q).state (process_of m t) pass (ap (λ o. (step m t o).state.tables) e ∙ tables-effect m t (request.Return bytes pass) none);
+    }
+  where
+    none : refusal_of m t (process_of m t) (request.Return bytes pass) ≡ None
+    none = not_refused m t q (request.Return bytes pass) answer.Wait e f (λ x g. cc)
