@@ -4,7 +4,7 @@ use Rattle.std.proofs.Common.{refl, sym, ap, subst, ◌∙◌, inl, inr}
 use native.Mathlib.Omega.{arith}
 use Rattle.std.proofs.lemmas.Bool.Decides.{nat_tests}
 use Rattle.dk_base.specs.declared.object.Item.TheVariants as item
-use Rattle.written_kernel.specs.Types.{Call, Parked, ThreadState}
+use Rattle.written_kernel.specs.Types.{Call, Item, Parked, ThreadState}
 use Rattle.kernel_records.specs.declared.record.ThreadState.TheVariants as is
 use Rattle.kernel_records.specs.declared.record.CallStage.TheVariants as stage
 use Rattle.kernel_records.specs.Words.{at_stage, is_queued, is_queued_as, is_queued_call, is_valid_in, is_waiting_notice, tid, waiting_call, waiting_notice, with_notices}
@@ -35,13 +35,19 @@ abbrev pub is_idle : ThreadState → Bool
 is_idle (is.Idle since) = true
 is_idle _ = false
 
+-- a thread is idle since then, or was given an item
+pub data IsIdleOrGiven (since : ℕ) (s : ThreadState) : Type 0 where
+  still_idle : s ≡ is.Idle since → IsIdleOrGiven since s
+  given_item : (i : Item) → s ≡ is.Given i → IsIdleOrGiven since s
+
 -- what giving keeps, and the arrows that calls take by it
 pub record Gave (m n : State) : Type 0 where
   pub consistent : IsConsistent n
   pub arrows : (c : ℕ) → ByGiving (record_of m c) (record_of n c)
   pub serves : (t : ℕ) → invocation_of n t ≡ invocation_of m t
-  -- only idle threads turn to another state, and none is done
+  -- only idle threads turn to another state, as they are given an item, and none is done
   pub busy : (t : ℕ) → is_idle (state_of m t) ≡ false → state_of n t ≡ state_of m t
+  pub idle : (t since : ℕ) → state_of m t ≡ is.Idle since → IsIdleOrGiven since (state_of n t)
   pub done : (t : ℕ) → state_of n t ≡ is.Done → state_of m t ≡ is.Done
   pub doors : (d : ℕ) → door_of n d ≡ door_of m d
   pub processes : (p : ℕ) → (core n).proc p ≡ (core m).proc p
@@ -53,10 +59,15 @@ gave_nothing m h =
       arrows = λ c. stays;
       serves = λ t. refl;
       busy = λ t e. refl;
+      idle = λ t since e. still_idle e;
       done = λ t e. e;
       doors = λ d. refl;
       processes = λ p. refl;
     }
+
+idle_then : (m n : State) (t since : ℕ) → Gave m n → IsIdleOrGiven since (state_of m t) → IsIdleOrGiven since (state_of n t)
+idle_then m n t since g (still_idle e) = g.idle t since e
+idle_then m n t since g (given_item i e) = given_item i (g.busy t (ap is_idle e) ∙ e)
 
 gave_then : (m n o : State) → Gave m n → Gave n o → Gave m o
 gave_then m n o g h =
@@ -65,6 +76,7 @@ gave_then m n o g h =
       arrows = λ c. giving_then (record_of m c) (record_of n c) (record_of o c) (g.arrows c) (h.arrows c);
       serves = λ t. h.serves t ∙ g.serves t;
       busy = λ t e. h.busy t (ap is_idle (g.busy t e) ∙ e) ∙ g.busy t e;
+      idle = λ t since e. idle_then n o t since h (g.idle t since e);
       done = λ t e. g.done t (h.done t e);
       doors = λ d. h.doors d ∙ g.doors d;
       processes = λ p. h.processes p ∙ g.processes p;
@@ -107,6 +119,7 @@ give_one_does m r u h g =
                 (subst (λ o. ByGiving o (Some (change r))) (sym g.found) (gives r u g.queued));
             serves = λ t. ap (λ (k : Core). k.serves t) l;
             busy = λ t e. grind (arith, nat_tests, g.idle, ap (λ (k : Core). k.role t) l);
+            idle = idle;
             done = λ t e. grind (arith, nat_tests, ap (λ (k : Core). k.role t) l);
             doors = λ d. refl;
             processes = λ p. ap (λ (k : Core). k.proc p) l;
@@ -128,6 +141,13 @@ give_one_does m r u h g =
 
     l : core n ≡ given_core (core m) r u
     l = change-core (is_queued_as r.number) change (λ y. refl) m u _ m.tables _ _ r h turns found
+
+    idle : (t since : ℕ) → state_of m t ≡ is.Idle since → IsIdleOrGiven since (state_of n t)
+    idle t since e = go (t == u) refl
+      where
+        go : (b : Bool) → (t == u) ≡ b → IsIdleOrGiven since (state_of n t)
+        go true f = given_item (item.Call r.number) (grind (arith, nat_tests, ap (λ (k : Core). k.role t) l))
+        go false f = still_idle (grind (arith, nat_tests, ap (λ (k : Core). k.role t) l))
 
 give_to_does :
     (m : State) (r : Call) → IsConsistent m → record_of m r.number ≡ Some r → r.stage ≡ stage.Queued →

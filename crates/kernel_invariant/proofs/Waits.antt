@@ -6,6 +6,7 @@ use native.Mathlib.Omega.{arith}
 use Rattle.std.proofs.lemmas.Bool.Decides.{nat_tests}
 use Rattle.dk_base.specs.declared.error.Errno.TheVariants.{EMFILE}
 use Rattle.dk_base.specs.declared.object.Item.TheVariants as item
+use Rattle.dk_base.specs.declared.answer.Answer.TheVariants as answer
 use Rattle.written_kernel.specs.Types.{Call, CallStage, Request}
 use Rattle.kernel_records.specs.declared.record.ThreadState.TheVariants as is
 use Rattle.kernel_records.specs.declared.record.CallStage.TheVariants as stage
@@ -17,8 +18,10 @@ use Rattle.kernel_invariant.specs.Arrows.{ByGiving}
 use Rattle.kernel_invariant.specs.Arrows.ByGiving.{stays, gives}
 use Rattle.kernel_invariant.specs.Events.{IsAcceptedNow, IsAnsweredNow}
 use Rattle.kernel_invariant.proofs.Calls.{find-as, find-number, find-passes}
-use Rattle.kernel_invariant.proofs.Acts.{change-call, changed_tree}
+use Rattle.kernel_invariant.proofs.Cores.{IsThere, park_thread-turns}
+use Rattle.kernel_invariant.proofs.Acts.{change-call, changed_tree, there}
 use Rattle.kernel_invariant.proofs.CallActs.{collects_is, given_is}
+use Rattle.kernel_invariant.proofs.Settling.{IsIdleOrGiven}
 use Rattle.kernel_invariant.proofs.Steps.{StepDoes, step_does}
 
 -- giving changes only what is Queued
@@ -55,29 +58,57 @@ stage_accepted m t c r s h g =
     let n : r.number ≡ c = (given_is c t r (find-passes (is_given_as c t) m.call_tree.calls r g)).0 in
     ap stage_in (change-call (is_given_as c t) (without_arguments_at s) (λ x. refl) m r c h g) ∙ grind (arith, nat_tests)
 
-accepted : (m : State) (t p c : ℕ) → IsConsistent m → state_of m t ≡ is.Given (item.Call c) → IsAcceptedNow m (accept m t p (item.Call c)).state t c
+accepted : (m : State) (t p c : ℕ) → IsConsistent m → state_of m t ≡ is.Given (item.Call c) → IsAcceptedNow (accept m t p (item.Call c)).state t c
 accepted m t p c h e = go (find_call m (is_given_as c t)) refl (given_found m t c h e)
   where
     by_room :
         (r : Call) → find_call m (is_given_as c t) ≡ Some r → (b : Bool) →
-        IsAcceptedNow m (if b then begin_call m t p c r else fail_begin m t c r).state t c
+        IsAcceptedNow (if b then begin_call m t p c r else fail_begin m t c r).state t c
     by_room r g true = inl (stage_accepted m t c r (stage.Entered (tid t)) h g)
     by_room r g false = inr (stage_accepted m t c r (stage.Ended EMFILE) h g)
 
-    go : (o : Option Call) → find_call m (is_given_as c t) ≡ o → is_some o ≡ true → IsAcceptedNow m (accept_call m t p c o).state t c
+    go : (o : Option Call) → find_call m (is_given_as c t) ≡ o → is_some o ≡ true → IsAcceptedNow (accept_call m t p c o).state t c
     go None g s = grind arith
     go (Some r) g s = by_room r g (has_room m p r.objects)
 
 pub step_accepted :
     (m : State) (t : ℕ) (q : Option Request) (c : ℕ) → Invariant m → MayTurn m t q → q ≡ None → state_of m t ≡ is.Given (item.Call c) →
-    IsAcceptedNow m (step m t q).state t c
+    IsAcceptedNow (step m t q).state t c
 step_accepted m t q c h may e f =
-    subst (λ o. MayTurn m t o → IsAcceptedNow m (step m t o).state t c) (sym e)
+    subst (λ o. MayTurn m t o → IsAcceptedNow (step m t o).state t c) (sym e)
     (λ w. ⊎_elim
     (λ g. inl (stage_stays m t None c (stage.Entered (tid t)) (step_does m t None h w) g (λ z. grind arith)))
     (λ g. inr (stage_stays m t None c (stage.Ended EMFILE) (step_does m t None h w) g (λ z. grind arith)))
-    (subst (λ s. IsAcceptedNow m (go_on m t (process_of m t) s).state t c) (sym f) (accepted m t (process_of m t) c h.consistent f)))
+    (subst (λ s. IsAcceptedNow (go_on m t (process_of m t) s).state t c) (sym f) (accepted m t (process_of m t) c h.consistent f)))
     may
+
+-- a thread whose accept fails is parked
+parked :
+    (m : State) (t p c d : ℕ) (o : Option Call) → IsThere m.process_table t → (accept_call m t p c o).answer ≡ answer.EnterFailed d →
+    state_of (accept_call m t p c o).state t ≡ is.Idle (now m)
+parked m t p c d None h e = absurd (cc e)
+parked m t p c d (Some r) h e = go (has_room m p r.objects) e
+  where
+    go :
+        (b : Bool) → (if b then begin_call m t p c r else fail_begin m t c r).answer ≡ answer.EnterFailed d →
+        state_of (if b then begin_call m t p c r else fail_begin m t c r).state t ≡ is.Idle (now m)
+    go true f = absurd (cc f)
+    go false f = (park_thread-turns m.process_table t (now m) h).role t ∙ grind (arith, nat_tests)
+
+-- and after the event is idle since then, or was given another item
+pub step_parked :
+    (m : State) (t c d : ℕ) (q : Option Request) → Invariant m → MayTurn m t q → q ≡ None → state_of m t ≡ is.Given (item.Call c) →
+    (step m t q).answer ≡ answer.EnterFailed d → IsIdleOrGiven (now m) (state_of (step m t q).state t)
+unfolding step
+step_parked m t c d q h may e f a = (step_does m t q h may).settled.gave.idle t (now m) (acted a)
+  where
+    at_end : (go_on m t (process_of m t) (state_of m t)).answer ≡ answer.EnterFailed d → state_of (go_on m t (process_of m t) (state_of m t)).state t ≡ is.Idle (now m)
+    at_end =
+        subst (λ s. (go_on m t (process_of m t) s).answer ≡ answer.EnterFailed d → state_of (go_on m t (process_of m t) s).state t ≡ is.Idle (now m)) (sym f)
+        (parked m t (process_of m t) c d (find_call m (is_given_as c t)) (there m t (λ z. grind arith)))
+
+    acted : (act m t q).answer ≡ answer.EnterFailed d → state_of (act m t q).state t ≡ is.Idle (now m)
+    acted = subst (λ o. (act m t o).answer ≡ answer.EnterFailed d → state_of (act m t o).state t ≡ is.Idle (now m)) (sym e) at_end
 
 -- collect
 

@@ -81,8 +81,8 @@ pub record IsMade {X : Type 0} (o : Option X) : Type 0 where
   pub there : o ≡ Some made
 
 -- a call that a thread was given is entered by it, or ends since too few descriptors are free for its objects
-abbrev pub IsAcceptedNow : State → State → ℕ → ℕ → Type 0
-IsAcceptedNow m n t c = (stage_of n c ≡ Some (stage.Entered (tid t))) ⊎ (stage_of n c ≡ Some (stage.Ended EMFILE))
+abbrev pub IsAcceptedNow : State → ℕ → ℕ → Type 0
+IsAcceptedNow n t c = (stage_of n c ≡ Some (stage.Entered (tid t))) ⊎ (stage_of n c ≡ Some (stage.Ended EMFILE))
 
 -- the call is answered, at this event
 abbrev pub IsAnsweredNow : State → State → ℕ → Type 0
@@ -128,7 +128,7 @@ pub record Keeps (m : State) (t : ℕ) (q : Option Request) : Type 0 where
   -- accept, collect and a new call do so
   pub called : (c : ℕ) → (step m t q).answer ≡ answer.WaitCall c → IsMade (record_of (step m t q).state c)
   pub accepted :
-      (c : ℕ) → q ≡ None → state_of m t ≡ is.Given (item.Call c) → IsAcceptedNow m (step m t q).state t c
+      (c : ℕ) → q ≡ None → state_of m t ≡ is.Given (item.Call c) → IsAcceptedNow (step m t q).state t c
   pub collected : (c : ℕ) → q ≡ None → state_of m t ≡ is.Calling c → IsAnsweredNow m (step m t q).state c
   -- an entry that is refused changes nothing but the number of events
   pub refused :

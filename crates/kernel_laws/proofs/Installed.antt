@@ -1,9 +1,10 @@
 -- Objects that are installed in a table at its lowest free descriptors, and descriptors that are released: what each descriptor
 -- names before and after.
-use Rattle.std.specs.Prelude.{ℕ, ◌≡◌, ◌+◌, ◌<◌, ◌≤◌, List, [], ◌∷◌, Option, Bool, true, false, ◌==◌, cond, if◌then◌else◌, Some, None, zero, suc, is_none, length, map, slice_get, slice_set, unwrap_or}
+use Rattle.std.specs.Prelude.{ℕ, ◌≡◌, ◌+◌, ◌<◌, ◌≤◌, List, [], ◌∷◌, Option, Bool, true, false, ◌==◌, ◌&&◌, cond, if◌then◌else◌, Some, None, zero, suc, is_none, is_some, length, map, slice_get, slice_set, unwrap_or}
 use Rattle.std.specs.List.{list_any, position_or_len}
 use Rattle.std.proofs.Common.{refl, sym, ap, ap₂, ◌∙◌}
 use native.Mathlib.Omega.{arith}
+use Rattle.std.proofs.lemmas.Bool.{false≢true}
 use Rattle.std.proofs.lemmas.Bool.Decides.{nat_tests}
 use Rattle.std.proofs.lemmas.List.Sums.{sum_by-set, passes_at_first}
 use Rattle.dk_base.specs.ByNumber.{at_number}
@@ -216,6 +217,30 @@ table_then tables p t e = go (at_number tables p) refl
     go (Some rows) f =
         let there : at_number (with_table tables p t) p ≡ Some t = at_number-renumbered_there tables p p t rows f ∙ grind (arith, nat_tests) in
         ap (λ (o : Option (List (Option Obj))). unwrap_or o []) there
+
+-- the tables of the others
+pub table_elsewhere :
+    (tables : List (List (Option Obj))) (p q : ℕ) (t : List (Option Obj)) → (q ≡ p → ⊥) → table_in (with_table tables p t) q ≡ table_in tables q
+table_elsewhere tables p q t other = go (q == p) refl
+  where
+    go : (b : Bool) → (q == p) ≡ b → table_in (with_table tables p t) q ≡ table_in tables q
+    go true e = absurd (other (grind (arith, nat_tests)))
+    go false e =
+        ap (λ (o : Option (List (Option Obj))). unwrap_or o [])
+        (at_number-with_at_number tables p q t
+        ∙ ap (λ (b : Bool). if b && is_some (at_number tables p) then Some t else at_number tables q) e)
+
+-- a table that is put back
+pub table_put_back : (tables : List (List (Option Obj))) (p q : ℕ) → table_in (with_table tables p (table_in tables p)) q ≡ table_in tables q
+table_put_back tables p q = go (q == p) refl
+  where
+    go : (b : Bool) → (q == p) ≡ b → table_in (with_table tables p (table_in tables p)) q ≡ table_in tables q
+    go true e =
+        let same : q ≡ p = grind (arith, nat_tests) in
+        ap (λ (n : ℕ). table_in (with_table tables p (table_in tables p)) n) same
+        ∙ table_then tables p (table_in tables p) refl
+        ∙ sym (ap (table_in tables) same)
+    go false e = table_elsewhere tables p q (table_in tables p) (λ f. false≢true (sym e ∙ grind (arith, nat_tests)))
 
 pub installed_then :
     (tables : List (List (Option Obj))) (p : ℕ) (os : List Obj) →

@@ -6,7 +6,7 @@ use Rattle.std.proofs.lemmas.Option.{slice_get_within}
 use Rattle.written_kernel.specs.Types.{Answer, Call, CallStage, Door, Fd, Obj}
 use Rattle.dk_base.specs.declared.answer.Answer.TheVariants as answer
 use Rattle.kernel_records.specs.declared.record.CallStage.TheVariants as stage
-use Rattle.kernel_records.specs.Words.{cookie_of, entry_of, new_descriptors, objects_passed as objects_that_pass, tid, without_arguments_at}
+use Rattle.kernel_records.specs.Words.{cookie_of, entry_of, new_descriptors, objects_passed, tid, without_arguments_at}
 use Rattle.written_kernel.specs.Words.{State, Turn, door_of, process_of, state_at}
 use Rattle.written_kernel.proofs.Steps.{process_of-step}
 use Rattle.kernel_invariant.specs.Records.{door_at, owner_in, record_of, stage_in}
@@ -203,7 +203,7 @@ module _ (m : State) (xs : List Turn) (k : Known m xs) where
             makes = w.makes;
             same_bytes = s.same_bytes ∙ w.bytes g;
             of_the_door = subst (λ (d : ℕ). IsOf (door_of (state_at m xs a) d) entry cookie) w.door h;
-            objects = objects_that_pass (table_at m xs w.at w.turn) w.makes.pass;
+            objects = objects_passed (table_at m xs w.at w.turn) w.makes.pass;
             passed =
                 (call_passes (state_at m xs w.at) w.turn.thread c w.makes.rsize w.turn.request w.makes.fd w.makes.bytes w.makes.pass w.makes.request w.makes.answer).named;
             installed = name_after a y fds r.objects _ e i s.descriptors (w.objects g);
@@ -239,7 +239,7 @@ module _ (m : State) (xs : List Turn) (k : Known m xs) where
         answer = row.answers;
         was_entered = ap stage_in (b ∙ row.before) ∙ ap (λ (s : CallStage). Some s) row.was_entered;
         not_abandoned = ap abandoned_in (b ∙ row.before) ∙ row.not_abandoned;
-        objects = objects_that_pass (table_at m xs j w) row.pass;
+        objects = objects_passed (table_at m xs j w) row.pass;
         is_returned = ap stage_in (a ∙ row.after);
       }
 
@@ -273,7 +273,7 @@ module _ (m : State) (xs : List Turn) (k : Known m xs) where
       back = returns_call b.at c b.turn b.old o b.found b.was b.there b.row
 
       passed : List Obj
-      passed = objects_that_pass (table_at m xs b.at b.turn) b.row.pass
+      passed = objects_passed (table_at m xs b.at b.turn) b.row.pass
 
       first : GoesOn b.row.call r (stage.Returned b.row.bytes passed)
       first = goes_on b.row.call r _ o h b.row.after

@@ -1,21 +1,21 @@
 -- No loss holds of every run.
-use Rattle.std.specs.Prelude.{ℕ, ◌≡◌, ◌+◌, ◌⊎◌, List, Option, Bool, true, false, Some, None, is_some, length, nat_lt, slice_get}
+use Rattle.std.specs.Prelude.{ℕ, ◌≡◌, ◌+◌, ◌⊎◌, List, [], Option, Bool, true, false, if◌then◌else◌, Some, None, is_some, length, nat_lt, slice_get, unwrap_or}
 use Rattle.std.proofs.Common.{refl, sym, ap, subst, ◌∙◌, inl, inr}
 use native.Mathlib.Omega.{arith}
 use Rattle.std.proofs.lemmas.Option.{slice_get_within}
-use Rattle.written_kernel.specs.Types.{Answer, Call, Errno, Fd, Obj, Pass, Request}
+use Rattle.written_kernel.specs.Types.{Answer, Call, CallStage, Door, Errno, Fd, Obj, Pass, Request}
 use Rattle.dk_base.specs.declared.error.Errno.TheVariants.{EMFILE}
 use Rattle.dk_base.specs.declared.request.Request.TheVariants as request
 use Rattle.dk_base.specs.declared.answer.Answer.TheVariants as answer
 use Rattle.kernel_records.specs.declared.record.CallStage.TheVariants as stage
 use Rattle.kernel_records.specs.declared.record.ThreadState.TheVariants as is
 use Rattle.kernel_records.specs.Words.{cookie_of, entry_of, new_descriptors, objects_passed, tid, without_arguments_at}
-use Rattle.written_kernel.specs.Words.{State, Turn, door_of, object_at, state_at, step}
+use Rattle.written_kernel.specs.Words.{State, Turn, door_of, object_at, objects_in_call, objects_in_transit, state_at, step}
 use Rattle.kernel_invariant.specs.Core.{has_arguments}
 use Rattle.kernel_invariant.specs.Records.{record_of, stage_in}
 use Rattle.kernel_laws.specs.Places.{BecomesAnswered, BecomesReturned, IsCollect, MakesCall, ReturnsCall, answer_at, is_answered_in, is_entered_in, is_returned_in, process_at}
-use Rattle.kernel_laws.specs.Once.{Enters}
-use Rattle.kernel_laws.specs.NoLoss.{AreInstalled, AreReleased, Brings, Fate, IsPut, NoLoss, Passes, Puts, in_transit, message_in, message_of}
+use Rattle.kernel_laws.specs.Once.{Enters, FailsToEnter}
+use Rattle.kernel_laws.specs.NoLoss.{AreBrought, AreInstalled, AreReleased, Brings, Fate, IsPut, IsSameTable, NoLoss, Passes, Puts, in_transit, message_in, message_of, results_in_transit}
 use Rattle.kernel_laws.specs.NoLoss.Brings.{by_accept, by_collect}
 use Rattle.kernel_laws.specs.NoLoss.Fate.{stay, installed, dropped}
 use Rattle.kernel_laws.specs.NoLoss.Passes.{at_call, at_return}
@@ -26,9 +26,9 @@ use Rattle.kernel_laws.proofs.Known.{ChangeAt, Known, changes, false_not_true, n
 use Rattle.kernel_laws.proofs.Rows.{HandsOver, Origin, answered_row, ended_row, entered_row, is_ended_in, origin, returned_row}
 use Rattle.kernel_laws.proofs.Rows.HandsOver.{results, nothing, error}
 use Rattle.kernel_laws.proofs.Rows.Origin.{new, older}
-use Rattle.kernel_laws.proofs.Tables.{Installs, Releases, call_passes, return_passes}
+use Rattle.kernel_laws.proofs.Tables.{Installs, Releases, call_passes, failed_accept_keeps, failed_collect_keeps, return_passes}
 use Rattle.kernel_laws.proofs.Readers.{AnsweredRowAt, EndedRowAt, EnteredRowAt, HasObjects, ReturnedRowAt, made_here, number_of, table_at}
-use Rattle.kernel_laws.proofs.Once.{HandsBack, accepts, answered_by, collected_results, collects, entered_by}
+use Rattle.kernel_laws.proofs.Once.{HandsBack, accept_fails, accepts, answered_by, collected_results, collects, entered_by}
 use Rattle.kernel_laws.proofs.Match.{installed_at_accept, installed_at_collect, only_by_call, only_by_return}
 
 -- messages of records
@@ -112,12 +112,29 @@ ended_message r x objects e f = grind arith
 answered_empty : (o : Option Call) → is_answered_in o ≡ true → message_in o ≡ None
 answered_empty o e = grind arith
 
+same_descriptors :
+    (a : Answer) (c d entry entry' cookie cookie' : ℕ) (bytes bytes' : List ℕ) (fds fds' : List Fd) →
+    a ≡ answer.Entered c entry cookie bytes fds → a ≡ answer.Entered d entry' cookie' bytes' fds' → fds ≡ fds'
+same_descriptors a c d entry entry' cookie cookie' bytes bytes' fds fds' e f = cc
+
 entered_no_failure :
     (c entry cookie : ℕ) (bytes : List ℕ) (fds : List Fd) (e : Errno) → answer.Entered c entry cookie bytes fds ≡ answer.Failure e → ⊥
 entered_no_failure c entry cookie bytes fds e f = cc
 
 results_no_failure : (bytes : List ℕ) (fds : List Fd) (grown : Bool) (e : Errno) → answer.Results bytes fds grown ≡ answer.Failure e → ⊥
 results_no_failure bytes fds grown e f = cc
+
+-- a message is the objects that the call's record holds
+counted_at :
+    (r : Call) (s : CallStage) →
+    unwrap_or (if has_arguments s then Some r.objects else results_in_transit s) [] ≡ objects_in_transit r s
+counted_at r stage.Queued = refl
+counted_at r (stage.Given u) = refl
+counted_at r (stage.Entered u) = refl
+counted_at r (stage.Returned bytes objects) = refl
+counted_at r (stage.Ended x) = refl
+counted_at r (stage.Answered k) = refl
+counted_at r stage.Gone = refl
 
 -- what becomes of a message by one change
 fate_row :
@@ -228,32 +245,62 @@ module _ (m : State) (xs : List Turn) (k : Known m xs) where
       (i p : ℕ) (fds : List Fd) (objects : List Obj) → Installs (state_at m xs i) (state_at m xs (i + 1)) p fds objects →
       AreInstalled m xs i p fds objects
   are_installed i p fds objects h =
-      record { were_free = h.were_free; name_them = h.name_them; differ = h.differ; others = h.others }
+      record { were_free = h.were_free; name_them = h.name_them; differ = h.differ; others = h.others; elsewhere = h.elsewhere }
+
+  counted :
+      (i c : ℕ) (r : Call) → record_of (state_at m xs i) c ≡ Some r → unwrap_or (in_transit (state_at m xs i) c) [] ≡ objects_in_call r
+  counted i c r e = ap (λ (o : Option (List Obj)). unwrap_or o []) (message_there _ r e) ∙ counted_at r r.stage
 
   -- what is entered is installed
+  brought_at_accept :
+      (i c : ℕ) (x : Turn) → slice_get xs i ≡ Some x →
+      (w : EnteredRowAt m xs i x (record_of (state_at m xs i) c) (record_of (state_at m xs (i + 1)) c)) →
+      AreBrought m xs i x c (new_descriptors (table_at m xs i x) w.call.objects)
+  brought_at_accept i c x e w =
+      record {
+        objects = w.call.objects;
+        before = message_there _ w.call w.before ∙ waits_with w.call (ap has_arguments w.was_given);
+        after = ap message_in w.after;
+        installed = are_installed i (process_at m xs i x.thread) _ w.call.objects (installed_at_accept m xs k i c x _ _ e refl w);
+      }
+
+  -- and so are results that are collected
+  brought_at_collect :
+      (i c : ℕ) (x : Turn) (bytes : List ℕ) (fds : List Fd) (grown : Bool) → slice_get xs i ≡ Some x →
+      is_answered_in (record_of (state_at m xs (i + 1)) c) ≡ true →
+      (a : AnsweredRowAt m xs i x (record_of (state_at m xs i) c) (record_of (state_at m xs (i + 1)) c)) →
+      (g : HandsBack (state_at m xs i) x.thread a.call bytes fds grown) → AreBrought m xs i x c fds
+  brought_at_collect i c x bytes fds grown e after a g =
+      subst (AreBrought m xs i x c) (sym g.descriptors)
+      (record {
+        objects = g.objects;
+        before = message_there _ a.call a.before ∙ returned_message a.call bytes g.objects g.returned;
+        after = answered_empty _ after;
+        installed = are_installed i (process_at m xs i x.thread) _ g.objects (installed_at_collect m xs k i c x bytes fds grown e a g);
+      })
+
+  brought_fate :
+      (i c : ℕ) (x : Turn) (objects : List Obj) (fds : List Fd) → in_transit (state_at m xs i) c ≡ Some objects →
+      Brings m xs i x c fds → AreBrought m xs i x c fds → Fate m xs i x c objects
+  brought_fate i c x objects fds b g h =
+      subst (Fate m xs i x c) (some_same _ _ (sym h.before ∙ b)) (installed fds g h.installed h.after)
+
   entered_fate :
       (i c : ℕ) (x : Turn) (objects : List Obj) → slice_get xs i ≡ Some x → in_transit (state_at m xs i) c ≡ Some objects →
       EnteredRowAt m xs i x (record_of (state_at m xs i) c) (record_of (state_at m xs (i + 1)) c) → Fate m xs i x c objects
   entered_fate i c x objects e b w =
-      subst (Fate m xs i x c) same
-      (installed fds
-      (by_accept (entry_of (door_of (state_at m xs i) w.call.door)) (cookie_of (door_of (state_at m xs i) w.call.door)) w.call.bytes answers)
-      (are_installed i (process_at m xs i x.thread) fds w.call.objects (installed_at_accept m xs k i c x _ _ e refl w))
-      (ap message_in w.after))
+      brought_fate i c x objects fds b (by_accept (entry_of door) (cookie_of door) w.call.bytes answers) (brought_at_accept i c x e w)
     where
+      door : Option Door
+      door = door_of (state_at m xs i) w.call.door
+
       fds : List Fd
       fds = new_descriptors (table_at m xs i x) w.call.objects
 
-      same : w.call.objects ≡ objects
-      same = some_same _ _ (sym (waits_with w.call (ap has_arguments w.was_given)) ∙ sym (message_there _ w.call w.before) ∙ b)
-
-      answers :
-          answer_at m xs i x
-          ≡ answer.Entered c (entry_of (door_of (state_at m xs i) w.call.door)) (cookie_of (door_of (state_at m xs i) w.call.door)) w.call.bytes fds
+      answers : answer_at m xs i x ≡ answer.Entered c (entry_of door) (cookie_of door) w.call.bytes fds
       answers =
           w.answers
-          ∙ ap (λ (d : ℕ). answer.Entered d (entry_of (door_of (state_at m xs i) w.call.door)) (cookie_of (door_of (state_at m xs i) w.call.door)) w.call.bytes fds)
-          (number_of (state_at m xs i) c w.call w.before)
+          ∙ ap (λ (d : ℕ). answer.Entered d (entry_of door) (cookie_of door) w.call.bytes fds) (number_of (state_at m xs i) c w.call w.before)
 
   -- what is collected is installed, or dropped where there is no room for it
   answered_fate :
@@ -271,16 +318,9 @@ module _ (m : State) (xs : List Turn) (k : Known m xs) where
 
       back :
           (bytes : List ℕ) (fds : List Fd) (grown : Bool) → answer_at m xs i x ≡ answer.Results bytes fds grown →
-          (g : HandsBack (state_at m xs i) x.thread a.call bytes fds grown) → Fate m xs i x c objects
+          HandsBack (state_at m xs i) x.thread a.call bytes fds grown → Fate m xs i x c objects
       back bytes fds grown f g =
-          subst (Fate m xs i x c) same
-          (installed (new_descriptors (table_at m xs i x) g.objects)
-          (by_collect bytes grown collect (f ∙ ap (λ l. answer.Results bytes l grown) g.descriptors))
-          (are_installed i (process_at m xs i x.thread) _ g.objects (installed_at_collect m xs k i c x bytes fds grown e a g))
-          (answered_empty _ after))
-        where
-          same : g.objects ≡ objects
-          same = some_same _ _ (sym (returned_message a.call bytes g.objects g.returned) ∙ sym (message_there _ a.call a.before) ∙ b)
+          brought_fate i c x objects fds b (by_collect bytes grown collect f) (brought_at_collect i c x bytes fds grown e after a g)
 
       go : (d : Answer) → answer_at m xs i x ≡ d → HandsOver (state_at m xs i) x.thread a.call d → Fate m xs i x c objects
       go d f (results bytes os s room) =
@@ -328,30 +368,41 @@ module _ (m : State) (xs : List Turn) (k : Known m xs) where
       go (inl same) = stay (ap message_in same ∙ b)
       go (inr w) = by w (fate_row _ _ _ _ _ _ _ objects w b)
 
-  -- what is brought was in transit
+  -- what is brought was in transit, and is installed
 
-  brought :
-      (i c : ℕ) (x : Turn) (fds : List Fd) → slice_get xs i ≡ Some x → Brings m xs i x c fds →
-      (objects : List Obj) × (in_transit (state_at m xs i) c ≡ Some objects)
+  brought : (i c : ℕ) (x : Turn) (fds : List Fd) → slice_get xs i ≡ Some x → Brings m xs i x c fds → AreBrought m xs i x c fds
   brought i c x fds e (by_accept entry cookie bytes h) = go (accepts m xs k i c entry cookie x bytes fds e h)
     where
       row :
-          EnteredRowAt m xs i x (record_of (state_at m xs i) c) (record_of (state_at m xs (i + 1)) c) →
-          (objects : List Obj) × (in_transit (state_at m xs i) c ≡ Some objects)
-      row w = (w.call.objects, message_there _ w.call w.before ∙ waits_with w.call (ap has_arguments w.was_given))
+          EnteredRowAt m xs i x (record_of (state_at m xs i) c) (record_of (state_at m xs (i + 1)) c) → AreBrought m xs i x c fds
+      row w = subst (AreBrought m xs i x c) (same_descriptors _ _ _ _ _ _ _ _ _ _ _ w.answers h) (brought_at_accept i c x e w)
 
-      go : Enters m xs i x c → (objects : List Obj) × (in_transit (state_at m xs i) c ≡ Some objects)
+      go : Enters m xs i x c → AreBrought m xs i x c fds
       go n = row (entered_by m xs k i c x e n.entered)
   brought i c x fds e (by_collect bytes grown w f) = go (collects m xs k i c x e w)
     where
-      back :
-          (a : AnsweredRowAt m xs i x (record_of (state_at m xs i) c) (record_of (state_at m xs (i + 1)) c)) →
-          HandsBack (state_at m xs i) x.thread a.call bytes fds grown →
-          (objects : List Obj) × (in_transit (state_at m xs i) c ≡ Some objects)
-      back a g = (g.objects, message_there _ a.call a.before ∙ returned_message a.call bytes g.objects g.returned)
+      go : BecomesAnswered m xs c i → AreBrought m xs i x c fds
+      go b =
+          brought_at_collect i c x bytes fds grown e b.after (answered_by m xs k i c x e b)
+          (collected_results m xs k i c x bytes fds grown e w f (answered_by m xs k i c x e b))
 
-      go : BecomesAnswered m xs c i → (objects : List Obj) × (in_transit (state_at m xs i) c ≡ Some objects)
-      go b = back (answered_by m xs k i c x e b) (collected_results m xs k i c x bytes fds grown e w f (answered_by m xs k i c x e b))
+  -- what brings nothing
+
+  accept_keeps :
+      (i c : ℕ) (x : Turn) → slice_get xs i ≡ Some x → answer_at m xs i x ≡ answer.EnterFailed c → (p : ℕ) → IsSameTable m xs i p
+  accept_keeps i c x e f p fd = go (accept_fails m xs k i c x e f)
+    where
+      go : FailsToEnter m xs i x c → object_at (state_at m xs (i + 1)) p fd ≡ object_at (state_at m xs i) p fd
+      go h =
+          ap (λ n. object_at n p fd) (next m xs k i x e)
+          ∙ failed_accept_keeps (state_at m xs i) x.thread c c x.request h.no_request h.was_given f p fd
+
+  collect_keeps :
+      (i c : ℕ) (x : Turn) (y : Errno) → slice_get xs i ≡ Some x → IsCollect m xs i x c → answer_at m xs i x ≡ answer.Failure y →
+      (p : ℕ) → IsSameTable m xs i p
+  collect_keeps i c x y e h f p fd =
+      ap (λ n. object_at n p fd) (next m xs k i x e)
+      ∙ failed_collect_keeps (state_at m xs i) x.thread c x.request y h.no_request h.calling f p fd
 
   -- descriptors with release
 
@@ -363,6 +414,7 @@ module _ (m : State) (xs : List Turn) (k : Known m xs) where
       record {
         released = λ fd f. ap (λ n. object_at n (process_at m xs i x.thread) fd) (next m xs k i x e) ∙ h.released fd f;
         others = λ fd f. ap (λ n. object_at n (process_at m xs i x.thread) fd) (next m xs k i x e) ∙ h.others fd f;
+        elsewhere = λ q other fd. ap (λ n. object_at n q fd) (next m xs k i x e) ∙ h.elsewhere q other fd;
       }
 
   released :
@@ -377,10 +429,13 @@ module _ (m : State) (xs : List Turn) (k : Known m xs) where
   no_loss_holds =
       record {
         none_at_first = λ c. ap message_in (k.no_call c);
+        counted = counted;
         call_puts = call_puts;
         return_puts = return_puts;
         only_put = only_put;
         fate = fate;
         brought = brought;
+        accept_keeps = accept_keeps;
+        collect_keeps = collect_keeps;
         released = released;
       }

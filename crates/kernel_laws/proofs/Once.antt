@@ -10,7 +10,7 @@ use Rattle.dk_base.specs.declared.answer.Answer.TheVariants as answer
 use Rattle.kernel_records.specs.declared.record.ThreadState.TheVariants as is
 use Rattle.kernel_records.specs.declared.record.CallStage.TheVariants as stage
 use Rattle.kernel_records.specs.Words.{is_live, new_descriptors, new_invocation, tid}
-use Rattle.written_kernel.specs.Words.{State, Turn, caller_in, door_of, invocation_of, state_at, state_of}
+use Rattle.written_kernel.specs.Words.{State, Turn, caller_in, door_of, invocation_of, now, state_at, state_of}
 use Rattle.kernel_invariant.specs.Records.{door_at, item_in, item_of, owner_in, record_of, stage_in, stage_of}
 use Rattle.kernel_invariant.specs.Core.{caller_number, door_in, is_outside, live_in}
 use Rattle.kernel_invariant.specs.Coherent.{IsCoherent}
@@ -19,8 +19,12 @@ use Rattle.kernel_invariant.specs.Events.{Begins, InvocationArrow, IsAcceptedNow
 use Rattle.kernel_invariant.specs.Arrows.{EndsBy, has_own_room, own_table}
 use Rattle.kernel_invariant.specs.Arrows.EndsBy.{door_invalid, server_full}
 use Rattle.kernel_invariant.specs.Events.InvocationArrow.{stays, begins, ends, leaves}
+use Rattle.kernel_invariant.proofs.Settling.{IsIdleOrGiven}
+use Rattle.kernel_invariant.proofs.Settling.IsIdleOrGiven.{still_idle, given_item}
+use Rattle.kernel_invariant.proofs.Waits.{step_parked}
 use Rattle.kernel_laws.specs.Places.{BecomesAnswered, BecomesEntered, HasEntered, IsAccept, IsCollect, answer_at, is_answered_in, is_entered_in, is_returned_in, is_returned_stage}
-use Rattle.kernel_laws.specs.Once.{CollectsEntered, Enters, FailsToEnter, InvocationMoves, Once, WasEntered}
+use Rattle.kernel_laws.specs.Once.{CollectsEntered, Enters, FailsToEnter, InvocationMoves, Once, WaitsAgain, WasEntered}
+use Rattle.kernel_laws.specs.Once.WaitsAgain.{is_idle, is_given}
 use Rattle.kernel_laws.proofs.Changes.{answered_rank, entered_rank}
 use Rattle.kernel_laws.proofs.Known.{Known, becomes_once, changes, false_not_true, invariant_after, invariant_before, next}
 use Rattle.kernel_laws.proofs.Returns.{return_ends}
@@ -56,6 +60,9 @@ at_given_not_ended u o e = grind arith
 at_ended : (x : Errno) (o : Option Call) → stage_in o ≡ Some (stage.Ended x) → is_ended_in o ≡ true
 at_ended x o e = grind arith
 
+ended_not_given : (x : Errno) (u : ℕ) (o : Option Call) → stage_in o ≡ Some (stage.Ended x) → stage_in o ≡ Some (stage.Given (tid u)) → ⊥
+ended_not_given x u o e f = cc
+
 at_answered : (n : ℕ) (o : Option Call) → stage_in o ≡ Some (stage.Answered n) → is_answered_in o ≡ true
 at_answered n o e = grind arith
 
@@ -89,11 +96,21 @@ not_begun m t q a n u c o p (ends v bytes pass g h k) e f = refl
 not_begun m t q a n u c o p (leaves v g) e f = refl
 
 -- a call that was given to a thread ends only by an accept that fails
+some_call : (a b : Call) → Some a ≡ Some b → a ≡ b
+some_call a b e = cc
+
 failed :
     (m : State) (t : ℕ) (q : Option Request) (a : Answer) (n : State) (u : ℕ) (r : Call) (x : Errno) → EndsBy m t q a n r x →
     stage_in (Some r) ≡ Some (stage.Given (tid u)) → a ≡ answer.EnterFailed r.number
 failed m t q a n u r x (door_invalid e f g h) s = absurd (grind arith)
 failed m t q a n u r x (server_full e f g h k) s = k
+
+-- and there are too few descriptors
+failed_full :
+    (m : State) (t : ℕ) (q : Option Request) (a : Answer) (n : State) (u : ℕ) (r : Call) (x : Errno) → EndsBy m t q a n r x →
+    stage_in (Some r) ≡ Some (stage.Given (tid u)) → has_own_room m t r.objects ≡ false
+failed_full m t q a n u r x (door_invalid e f g h) s = absurd (grind arith)
+failed_full m t q a n u r x (server_full e f g h k) s = h
 
 -- results come only from a call that is Returned, with descriptors for what comes with them
 
@@ -194,31 +211,48 @@ module _ (m : State) (xs : List Turn) (k : Known m xs) where
   fails_given :
       (i c : ℕ) (x : Turn) → slice_get xs i ≡ Some x → x.request ≡ None →
       state_of (state_at m xs i) x.thread ≡ is.Given (item.Call c) → IsCoherent (core (state_at m xs i)) →
-      stage_of (state_at m xs (i + 1)) c ≡ Some (stage.Ended EMFILE) → FailsToEnter m xs i x c
-  fails_given i c x e q s h after = go (ended_by i c x e (at_given_not_ended x.thread _ before) (at_ended EMFILE _ after))
+      IsCoherent (core (state_at m xs (i + 1))) → stage_of (state_at m xs (i + 1)) c ≡ Some (stage.Ended EMFILE) →
+      FailsToEnter m xs i x c
+  fails_given i c x e q s h g after = go (ended_by i c x e (at_given_not_ended x.thread _ before) (at_ended EMFILE _ after))
     where
       before : stage_of (state_at m xs i) c ≡ Some (stage.Given (tid x.thread))
       before = h.waits.given_back c x.thread s
 
-      with_answer : answer_at m xs i x ≡ answer.EnterFailed c → FailsToEnter m xs i x c
-      with_answer a =
+      with_answer :
+          (r : Call) → record_of (state_at m xs i) c ≡ Some r → has_own_room (state_at m xs i) x.thread r.objects ≡ false →
+          answer_at m xs i x ≡ answer.EnterFailed c → FailsToEnter m xs i x c
+      with_answer r b room a =
           record {
             no_request = q;
             was_given = s;
             stage_before = before;
             stage_after = after;
             answer = a;
+            full = λ z f.
+                let same : z ≡ r = some_call z r (sym f ∙ b) in
+                ap (λ (y : Call). has_own_room (state_at m xs i) x.thread y.objects) same ∙ room;
             none_entered = λ d b. none (only_by_accept i d x e b);
             of_the_owner = owner_same (state_at m xs i) (record_of (state_at m xs i) c) _ before ∙ h.at_doors.given_owner c x.thread before;
             free_after = not_begun _ _ _ _ _ x.thread c _ _ (invocations i x.thread x e) (h.servers.outside x.thread (ap is_outside s)) a;
+            parked =
+                again
+                (subst (λ n. IsIdleOrGiven (now (state_at m xs i)) (state_of n x.thread)) (sym (next m xs k i x e))
+                (step_parked (state_at m xs i) x.thread c c x.request (invariant_before m xs k i x e) (k.may i x e) q s a));
           }
         where
+          again : IsIdleOrGiven (now (state_at m xs i)) (state_of (state_at m xs (i + 1)) x.thread) → WaitsAgain m xs i x c
+          again (still_idle b) = is_idle b
+          again (given_item other b) =
+              is_given other
+              (λ same. ended_not_given EMFILE x.thread _ after (g.waits.given_back c x.thread (b ∙ ap (λ (y : Item). is.Given y) same)))
+              b
+
           none : {d : ℕ} → IsAccept m xs i x d → ⊥
           none {d} b = entered_not_failed c d b.entry b.cookie b.bytes b.descriptors (sym a ∙ b.answer)
 
       go : EndedRowAt m xs i x (record_of (state_at m xs i) c) (record_of (state_at m xs (i + 1)) c) → FailsToEnter m xs i x c
       go w =
-          with_answer
+          with_answer w.call w.before (failed_full _ _ _ _ _ x.thread w.call w.error w.ends (ap stage_in (sym w.before) ∙ before))
           (failed _ _ _ _ _ x.thread w.call w.error w.ends (ap stage_in (sym w.before) ∙ before)
           ∙ ap (λ (d : ℕ). answer.EnterFailed d) (number_of (state_at m xs i) c w.call w.before))
 
@@ -226,8 +260,8 @@ module _ (m : State) (xs : List Turn) (k : Known m xs) where
       (i c : ℕ) (x : Turn) → slice_get xs i ≡ Some x → x.request ≡ None → state_of (state_at m xs i) x.thread ≡ is.Given (item.Call c) →
       Enters m xs i x c ⊎ FailsToEnter m xs i x c
   given_enters i c x e q s =
-      ⊎_elim (λ a. inl (enters_given i c x e q s before after a)) (λ a. inr (fails_given i c x e q s before a))
-      (subst (λ n. IsAcceptedNow (state_at m xs i) n x.thread c) (sym (next m xs k i x e)) ((k.keeps i x e).accepted c q s))
+      ⊎_elim (λ a. inl (enters_given i c x e q s before after a)) (λ a. inr (fails_given i c x e q s before after a))
+      (subst (λ n. IsAcceptedNow n x.thread c) (sym (next m xs k i x e)) ((k.keeps i x e).accepted c q s))
     where
       before : IsCoherent (core (state_at m xs i))
       before = (invariant_before m xs k i x e).consistent.coherent

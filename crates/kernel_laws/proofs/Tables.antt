@@ -5,21 +5,21 @@ use Rattle.std.specs.List.{list_any}
 use Rattle.std.proofs.Common.{refl, sym, ap, ◌∙◌}
 use native.Mathlib.Omega.{arith}
 use Rattle.std.proofs.lemmas.Bool.Decides.{nat_tests}
-use Rattle.written_kernel.specs.Types.{Answer, Call, Errno, Fd, Item, Obj, Parked, Pass, Request, ThreadState, Waiting}
-use Rattle.dk_base.specs.declared.error.Errno.TheVariants.{E2BIG, EINVAL}
+use Rattle.written_kernel.specs.Types.{Answer, Call, CallStage, Errno, Fd, Item, Obj, Parked, Pass, Request, ThreadState, Waiting}
+use Rattle.dk_base.specs.declared.error.Errno.TheVariants.{E2BIG, EINVAL, EMFILE}
 use Rattle.dk_base.specs.declared.limits.TheConstants.{DATA_MAX, PASS_MAX}
 use Rattle.dk_base.specs.declared.object.Item.TheVariants as item
 use Rattle.dk_base.specs.declared.request.Request.TheVariants as request
 use Rattle.dk_base.specs.declared.answer.Answer.TheVariants as answer
 use Rattle.kernel_records.specs.declared.record.ThreadState.TheVariants as is
 use Rattle.kernel_records.specs.declared.record.CallStage.TheVariants as stage
-use Rattle.kernel_records.specs.Words.{Test, first_refusal, free_rows, insert_rows, is_bad_pass, is_given_as, is_not_open, is_to_collect_as, limit_tests, new_descriptors, object_in, object_named, objects_passed, refused_where, release_rows, table_in, tid}
-use Rattle.written_kernel.specs.Words.{State, accept_call, act, begin_call, client_call, door_named, door_of, effect, fail_begin, find_call, give_each, give_one, give_to, go_on, has_room, object_at, objects_collected_in, pick, pool_of, pool_tests, process_of, refusal_of, state_of, step, table_of, tables_after_collect, tables_after_pass, tables_with, unless_refused, waiting_items}
+use Rattle.kernel_records.specs.Words.{Test, first_refusal, free_rows, insert_rows, is_bad_pass, is_given_as, is_not_open, is_to_collect_as, limit_tests, new_descriptors, object_in, object_named, objects_passed, refused_where, release_rows, table_in, tid, with_table}
+use Rattle.written_kernel.specs.Words.{State, accept_call, act, begin_call, client_call, collect_answer, collect_answer_in, door_named, door_of, effect, fail_begin, find_call, give_each, give_one, give_to, go_on, has_room, object_at, objects_collected, objects_collected_in, pick, pool_of, pool_tests, process_of, refusal_of, state_of, step, table_of, tables_after_collect, tables_after_pass, tables_with, unless_refused, waiting_items}
 use Rattle.kernel_invariant.specs.Records.{record_of}
 use Rattle.kernel_invariant.specs.Arrows.{has_own_room, own_table}
 use Rattle.kernel_invariant.proofs.Calls.{find-as}
 use Rattle.kernel_laws.specs.NoLoss.{is_descriptor, is_release_of}
-use Rattle.kernel_laws.proofs.Installed.{differ, installed_then, named_none, names_new, not_released, others_stay, released_none, released_then}
+use Rattle.kernel_laws.proofs.Installed.{differ, installed_then, named_none, names_new, not_released, others_stay, released_none, released_then, table_elsewhere, table_put_back}
 use Rattle.kernel_laws.proofs.Passed.{names_each}
 use Rattle.kernel_laws.proofs.Refusals.{entry_tells, none_of}
 
@@ -97,6 +97,14 @@ pub record Installs (m n : State) (p : ℕ) (fds : List Fd) (objects : List Obj)
   pub name_them : map (λ fd. object_at n p fd) fds ≡ map (λ o. Some o) objects
   pub differ : (a b : ℕ) (fd : Fd) → slice_get fds a ≡ Some fd → slice_get fds b ≡ Some fd → a ≡ b
   pub others : (fd : Fd) → list_any (is_descriptor fd) fds ≡ false → object_at n p fd ≡ object_at m p fd
+  pub elsewhere : (q : ℕ) → (q ≡ p → ⊥) → (fd : Fd) → object_at n q fd ≡ object_at m q fd
+
+-- where a process has another table, the others have theirs
+same_elsewhere :
+    (m n : State) (p : ℕ) (t : List (Option Obj)) → n.tables ≡ with_table m.tables p t → (q : ℕ) → (q ≡ p → ⊥) → (fd : Fd) →
+    object_at n q fd ≡ object_at m q fd
+same_elsewhere m n p t e q other fd =
+    ap (λ u. object_named u fd) (ap (λ tables. table_in tables q) e ∙ table_elsewhere m.tables p q t other)
 
 installs :
     (m n : State) (p : ℕ) (objects : List Obj) → has_room m p objects ≡ true → n.tables ≡ tables_with m p objects →
@@ -107,6 +115,7 @@ installs m n p objects room e =
       name_them = ap (λ t. map (λ fd. object_named t fd) (new_descriptors (table_of m p) objects)) after ∙ names_new (table_of m p) objects fits;
       differ = λ a b fd f g. differ (table_of m p) objects a b fd fits f g;
       others = λ fd f. ap (λ t. object_named t fd) after ∙ ap object_in (others_stay (table_of m p) objects fd f);
+      elsewhere = same_elsewhere m n p (insert_rows (table_of m p) objects) e;
     }
   where
     fits : length objects ≤ free_rows (table_of m p)
@@ -130,17 +139,94 @@ pub collect_installs :
 collect_installs m t q r bytes objects e s f g room =
     installs m (step m t q).state (process_of m t) objects room (tables-collect m t q r bytes objects e s f g room)
 
+-- what brings nothing
+
+-- the end of a wait answers so
+answers-go_on : (m : State) (t : ℕ) (s : ThreadState) → state_of m t ≡ s → (step m t None).answer ≡ (go_on m t (process_of m t) s).answer
+unfolding step
+answers-go_on m t s e = ap (λ z. (go_on m t (process_of m t) z).answer) e
+
+failed_call :
+    (m : State) (t p c d : ℕ) (o : Option Call) → (accept_call m t p c o).answer ≡ answer.EnterFailed d → (accept_call m t p c o).state.tables ≡ m.tables
+failed_call m t p c d None e = refl
+failed_call m t p c d (Some r) e = go (has_room m p r.objects) e
+  where
+    go :
+        (b : Bool) → (if b then begin_call m t p c r else fail_begin m t c r).answer ≡ answer.EnterFailed d →
+        (if b then begin_call m t p c r else fail_begin m t c r).state.tables ≡ m.tables
+    go true f = absurd (cc f)
+    go false f = refl
+
+pub failed_accept_keeps :
+    (m : State) (t c d : ℕ) (q : Option Request) → q ≡ None → state_of m t ≡ is.Given (item.Call c) →
+    (step m t q).answer ≡ answer.EnterFailed d → (p : ℕ) (fd : Fd) → object_at (step m t q).state p fd ≡ object_at m p fd
+failed_accept_keeps m t c d q e s a p fd = ap (λ tables. object_named (table_in tables p) fd) same
+  where
+    answers : (accept_call m t (process_of m t) c (find_call m (is_given_as c t))).answer ≡ answer.EnterFailed d
+    answers = sym (answers-go_on m t (is.Given (item.Call c)) s) ∙ sym (ap (λ o. (step m t o).answer) e) ∙ a
+
+    same : (step m t q).state.tables ≡ m.tables
+    same =
+        ap (λ o. (step m t o).state.tables) e
+        ∙ tables-go_on m t (is.Given (item.Call c)) s
+        ∙ failed_call m t (process_of m t) c d (find_call m (is_given_as c t)) answers
+
+-- with no object the table is put back
+nothing_installed : (m : State) (p q : ℕ) (fd : Fd) → object_named (table_in (tables_after_collect m p []) q) fd ≡ object_at m q fd
+nothing_installed m p q fd =
+    ap (λ (b : Bool). object_named (table_in (if b then tables_with m p [] else m.tables) q) fd) room
+    ∙ ap (λ t. object_named t fd) (table_put_back m.tables p q)
+  where
+    room : has_room m p [] ≡ true
+    room = grind (arith, nat_tests)
+
+error_stage :
+    (m : State) (p : ℕ) (r : Call) (s : CallStage) (x : Errno) → collect_answer m p r s ≡ answer.Failure x → (q : ℕ) (fd : Fd) →
+    object_named (table_in (tables_after_collect m p (objects_collected s)) q) fd ≡ object_at m q fd
+error_stage m p r (stage.Returned bytes objects) x e q fd = go (has_room m p objects) e
+  where
+    go :
+        (b : Bool) →
+        (if b then answer.Results bytes (new_descriptors (table_of m p) objects) (nat_lt r.rsize (length bytes)) else answer.Failure EMFILE) ≡ answer.Failure x →
+        object_named (table_in (if b then tables_with m p objects else m.tables) q) fd ≡ object_at m q fd
+    go true f = absurd (cc f)
+    go false f = refl
+error_stage m p r stage.Queued x e q fd = nothing_installed m p q fd
+error_stage m p r (stage.Given u) x e q fd = nothing_installed m p q fd
+error_stage m p r (stage.Entered u) x e q fd = nothing_installed m p q fd
+error_stage m p r (stage.Ended y) x e q fd = nothing_installed m p q fd
+error_stage m p r (stage.Answered k) x e q fd = nothing_installed m p q fd
+error_stage m p r stage.Gone x e q fd = nothing_installed m p q fd
+
+error_call :
+    (m : State) (p : ℕ) (o : Option Call) (x : Errno) → collect_answer_in m p o ≡ answer.Failure x → (q : ℕ) (fd : Fd) →
+    object_named (table_in (tables_after_collect m p (objects_collected_in o)) q) fd ≡ object_at m q fd
+error_call m p None x e q fd = nothing_installed m p q fd
+error_call m p (Some r) x e q fd = error_stage m p r r.stage x e q fd
+
+pub failed_collect_keeps :
+    (m : State) (t c : ℕ) (q : Option Request) (x : Errno) → q ≡ None → state_of m t ≡ is.Calling c → (step m t q).answer ≡ answer.Failure x →
+    (p : ℕ) (fd : Fd) → object_at (step m t q).state p fd ≡ object_at m p fd
+failed_collect_keeps m t c q x e s a p fd =
+    ap (λ tables. object_named (table_in tables p) fd) (ap (λ o. (step m t o).state.tables) e ∙ tables-go_on m t (is.Calling c) s)
+    ∙ error_call m (process_of m t) (find_call m (is_to_collect_as c)) x answers p fd
+  where
+    answers : collect_answer_in m (process_of m t) (find_call m (is_to_collect_as c)) ≡ answer.Failure x
+    answers = sym (answers-go_on m t (is.Calling c) s) ∙ sym (ap (λ o. (step m t o).answer) e) ∙ a
+
 -- what is released
 
 pub record Releases (m n : State) (p : ℕ) (pass : List Pass) : Type 0 where
   pub released : (fd : Fd) → list_any (is_release_of fd) pass ≡ true → object_at n p fd ≡ None
   pub others : (fd : Fd) → list_any (is_release_of fd) pass ≡ false → object_at n p fd ≡ object_at m p fd
+  pub elsewhere : (q : ℕ) → (q ≡ p → ⊥) → (fd : Fd) → object_at n q fd ≡ object_at m q fd
 
 releases : (m n : State) (p : ℕ) (pass : List Pass) → n.tables ≡ tables_after_pass m p pass → Releases m n p pass
 releases m n p pass e =
     record {
       released = λ fd f. ap (λ t. object_named t fd) after ∙ released_none (table_of m p) pass fd f;
       others = λ fd f. ap (λ t. object_named t fd) after ∙ not_released (table_of m p) pass fd f;
+      elsewhere = same_elsewhere m n p (release_rows (table_of m p) pass) e;
     }
   where
     after : table_of n p ≡ release_rows (table_of m p) pass

@@ -5,7 +5,7 @@ use Rattle.dk_base.specs.declared.request.Request.TheVariants as request
 use Rattle.dk_base.specs.declared.answer.Answer.TheVariants as answer
 use Rattle.written_kernel.specs.Words.{State, Turn, door_of, state_at}
 use Rattle.kernel_invariant.specs.Records.{record_of}
-use Rattle.kernel_laws.specs.Places.{BecomesReturned, HasEntered, IsAccept, IsCollect, IsOf, MakesCall, ReturnsCall, answer_at, objects_at, objects_passed, process_at}
+use Rattle.kernel_laws.specs.Places.{BecomesReturned, HasEntered, IsAccept, IsCollect, IsOf, MakesCall, ReturnsCall, answer_at, objects_at, objects_named, process_at}
 
 -- What the accept of call c at place a shows was sent: by the Call that made c, at an earlier place. The bytes are the same,
 -- procedure and cookie are those of the door that the caller's descriptor named, and the descriptors that are shown name, in
@@ -18,7 +18,7 @@ pub record IsSent (m : State) (xs : List Turn) (a : ℕ) (y : Turn) (c entry coo
   pub same_bytes : bytes ≡ makes.bytes
   pub of_the_door : IsOf (door_of (state_at m xs a) makes.door) entry cookie
   pub objects : List Obj
-  pub passed : objects_passed (state_at m xs at) (process_at m xs at caller.thread) makes.pass ≡ map (λ o. Some o) objects
+  pub passed : objects_named (state_at m xs at) (process_at m xs at caller.thread) makes.pass ≡ map (λ o. Some o) objects
   pub installed : objects_at (state_at m xs (a + 1)) (process_at m xs (a + 1) y.thread) fds ≡ map (λ o. Some o) objects
 
 -- Results that the turn z of place k collects are those of call c: c was made by this thread, entered by an accept after that,
@@ -46,7 +46,7 @@ pub record IsReturned (m : State) (xs : List Turn) (k : ℕ) (z : Turn) (results
   pub same_server : returner.thread ≡ server.thread
   pub same_bytes : results ≡ returns.bytes
   pub objects : List Obj
-  pub passed : objects_passed (state_at m xs returned_at) (process_at m xs returned_at returner.thread) returns.pass ≡ map (λ o. Some o) objects
+  pub passed : objects_named (state_at m xs returned_at) (process_at m xs returned_at returner.thread) returns.pass ≡ map (λ o. Some o) objects
   pub installed : objects_at (state_at m xs (k + 1)) (process_at m xs (k + 1) z.thread) fds ≡ map (λ o. Some o) objects
   pub grown : more ≡ nat_lt makes.rsize (length results)
 

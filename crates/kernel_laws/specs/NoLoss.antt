@@ -1,15 +1,15 @@
 -- No loss: the objects that a door call or a return takes along are in transit from that event on, until all of them are
 -- installed at one event, or all are dropped at one event; and descriptors with release are closed.
-use Rattle.std.specs.Prelude.{ℕ, ◌≡◌, ◌+◌, List, Option, Bool, true, Some, None, if◌then◌else◌, map, slice_get, ◌==◌, false}
+use Rattle.std.specs.Prelude.{ℕ, ◌≡◌, ◌+◌, List, [], Option, Bool, true, Some, None, if◌then◌else◌, map, slice_get, unwrap_or, ◌==◌, false}
 use Rattle.std.specs.List.{list_any}
-use Rattle.written_kernel.specs.Types.{Call, CallStage, Fd, Obj, Pass}
+use Rattle.written_kernel.specs.Types.{Call, CallStage, Errno, Fd, Obj, Pass}
 use Rattle.dk_base.specs.declared.request.Request.TheVariants as request
 use Rattle.dk_base.specs.declared.answer.Answer.TheVariants as answer
 use Rattle.kernel_records.specs.declared.record.CallStage.TheVariants as stage
-use Rattle.written_kernel.specs.Words.{State, Turn, object_at, state_at}
+use Rattle.written_kernel.specs.Words.{State, Turn, object_at, objects_in_call, state_at}
 use Rattle.kernel_invariant.specs.Core.{has_arguments}
 use Rattle.kernel_invariant.specs.Records.{record_of}
-use Rattle.kernel_laws.specs.Places.{IsCollect, MakesCall, ReturnsCall, answer_at, objects_at, objects_passed, process_at}
+use Rattle.kernel_laws.specs.Places.{IsCollect, MakesCall, ReturnsCall, answer_at, objects_at, objects_named, process_at}
 
 -- what of a call is in transit: its arguments while it waits or is given to a thread, its results until they are collected
 
@@ -30,7 +30,7 @@ in_transit m c = message_in (record_of m c)
 -- after the turn x of place i the objects that these descriptors named before are in transit, as those of call c
 pub record IsPut (m : State) (xs : List Turn) (i : ℕ) (x : Turn) (c : ℕ) (pass : List Pass) : Type 0 where
   pub objects : List Obj
-  pub named : objects_passed (state_at m xs i) (process_at m xs i x.thread) pass ≡ map (λ o. Some o) objects
+  pub named : objects_named (state_at m xs i) (process_at m xs i x.thread) pass ≡ map (λ o. Some o) objects
   pub on_the_way : in_transit (state_at m xs (i + 1)) c ≡ Some objects
 
 -- the turn is a Call that makes call c, or a Return that hands over its results
@@ -49,8 +49,12 @@ pub data Brings (m : State) (xs : List Turn) (i : ℕ) (x : Turn) (c : ℕ) (fds
 abbrev pub is_descriptor : Fd → Fd → Bool
 is_descriptor a b = a.0 == b.0
 
+-- a process's descriptors name, after the turn of place i, what they named before it
+abbrev pub IsSameTable : State → List Turn → ℕ → ℕ → Type 0
+IsSameTable m xs i p = (fd : Fd) → object_at (state_at m xs (i + 1)) p fd ≡ object_at (state_at m xs i) p fd
+
 -- In the table of process p these descriptors were free before the turn of place i, and name these objects after it; each is
--- another one; and all others name what they named.
+-- another one; and all others, of this process and of all others, name what they named.
 pub record AreInstalled (m : State) (xs : List Turn) (i p : ℕ) (fds : List Fd) (objects : List Obj) : Type 0 where
   pub were_free : objects_at (state_at m xs i) p fds ≡ map (λ o. None) fds
   pub name_them : objects_at (state_at m xs (i + 1)) p fds ≡ map (λ o. Some o) objects
@@ -58,6 +62,15 @@ pub record AreInstalled (m : State) (xs : List Turn) (i p : ℕ) (fds : List Fd)
   pub others :
       (fd : Fd) → list_any (is_descriptor fd) fds ≡ false →
       object_at (state_at m xs (i + 1)) p fd ≡ object_at (state_at m xs i) p fd
+  pub elsewhere : (q : ℕ) → (q ≡ p → ⊥) → IsSameTable m xs i q
+
+-- By the turn of place i the objects that were in transit as those of call c are installed at these descriptors, in the table of
+-- its thread's process, and after it none of c is in transit.
+pub record AreBrought (m : State) (xs : List Turn) (i : ℕ) (x : Turn) (c : ℕ) (fds : List Fd) : Type 0 where
+  pub objects : List Obj
+  pub before : in_transit (state_at m xs i) c ≡ Some objects
+  pub after : in_transit (state_at m xs (i + 1)) c ≡ None
+  pub installed : AreInstalled m xs i (process_at m xs i x.thread) fds objects
 
 -- what becomes of the objects in transit of call c at the turn x of place i
 pub data Fate (m : State) (xs : List Turn) (i : ℕ) (x : Turn) (c : ℕ) (objects : List Obj) : Type 0 where
@@ -79,15 +92,20 @@ pub data Passes (m : State) (xs : List Turn) (i : ℕ) (x : Turn) (pass : List P
 abbrev pub is_release_of : Fd → Pass → Bool
 is_release_of fd y = if y.release then is_descriptor fd y.fd else false
 
--- in the sender's table a descriptor that is passed with release names nothing after the turn, and all others name what they named
+-- in the sender's table a descriptor that is passed with release names nothing after the turn, and all others, of this process and of
+-- all others, name what they named
 pub record AreReleased (m : State) (xs : List Turn) (i p : ℕ) (pass : List Pass) : Type 0 where
   pub released : (fd : Fd) → list_any (is_release_of fd) pass ≡ true → object_at (state_at m xs (i + 1)) p fd ≡ None
   pub others :
       (fd : Fd) → list_any (is_release_of fd) pass ≡ false →
       object_at (state_at m xs (i + 1)) p fd ≡ object_at (state_at m xs i) p fd
+  pub elsewhere : (q : ℕ) → (q ≡ p → ⊥) → IsSameTable m xs i q
 
 pub record NoLoss (m : State) (xs : List Turn) : Type 0 where
   pub none_at_first : (c : ℕ) → in_transit m c ≡ None
+  -- the objects in transit of a call are the references that its record holds
+  pub counted :
+      (i c : ℕ) (r : Call) → record_of (state_at m xs i) c ≡ Some r → unwrap_or (in_transit (state_at m xs i) c) [] ≡ objects_in_call r
   -- objects are put in transit by each Call that makes a call and by each Return to a client, and by nothing else
   pub call_puts : (i c : ℕ) (x : Turn) (makes : MakesCall m xs i x c) → IsPut m xs i x c makes.pass
   pub return_puts : (i c : ℕ) (x : Turn) (returns : ReturnsCall m xs i x c) → IsPut m xs i x c returns.pass
@@ -98,10 +116,14 @@ pub record NoLoss (m : State) (xs : List Turn) : Type 0 where
   pub fate :
       (i c : ℕ) (x : Turn) (objects : List Obj) → slice_get xs i ≡ Some x → in_transit (state_at m xs i) c ≡ Some objects →
       Fate m xs i x c objects
-  -- and what an accept or a collect brings was in transit
-  pub brought :
-      (i c : ℕ) (x : Turn) (fds : List Fd) → slice_get xs i ≡ Some x → Brings m xs i x c fds →
-      (objects : List Obj) × (in_transit (state_at m xs i) c ≡ Some objects)
+  -- they are installed at each accept that enters the call, and at each collect that answers results
+  pub brought : (i c : ℕ) (x : Turn) (fds : List Fd) → slice_get xs i ≡ Some x → Brings m xs i x c fds → AreBrought m xs i x c fds
+  -- an accept that fails and a collect that answers an error bring nothing into any table
+  pub accept_keeps :
+      (i c : ℕ) (x : Turn) → slice_get xs i ≡ Some x → answer_at m xs i x ≡ answer.EnterFailed c → (p : ℕ) → IsSameTable m xs i p
+  pub collect_keeps :
+      (i c : ℕ) (x : Turn) (e : Errno) → slice_get xs i ≡ Some x → IsCollect m xs i x c → answer_at m xs i x ≡ answer.Failure e →
+      (p : ℕ) → IsSameTable m xs i p
   pub released :
       (i : ℕ) (x : Turn) (pass : List Pass) → slice_get xs i ≡ Some x → Passes m xs i x pass →
       AreReleased m xs i (process_at m xs i x.thread) pass

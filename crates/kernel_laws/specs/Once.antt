@@ -1,8 +1,8 @@
 -- Once: each call is entered at most once, and only by the accept of the thread that it was given to, a thread of the
 -- process that made its door; a thread is in one invocation at a time; each call is answered at most once, and only by the
 -- collect of its caller; and what is answered with results was entered before.
-use Rattle.std.specs.Prelude.{ℕ, ◌≡◌, ◌+◌, ◌<◌, ◌≤◌, ◌⊎◌, List, Bool, true, Some, None, length, slice_get}
-use Rattle.written_kernel.specs.Types.{Call, Fd, Pass}
+use Rattle.std.specs.Prelude.{ℕ, ◌≡◌, ◌+◌, ◌<◌, ◌≤◌, ◌⊎◌, List, Bool, true, false, Some, None, length, slice_get}
+use Rattle.written_kernel.specs.Types.{Call, Fd, Item, Pass}
 use Rattle.dk_base.specs.declared.error.Errno.TheVariants.{EMFILE}
 use Rattle.dk_base.specs.declared.object.Item.TheVariants as item
 use Rattle.dk_base.specs.declared.request.Request.TheVariants as request
@@ -10,7 +10,7 @@ use Rattle.dk_base.specs.declared.answer.Answer.TheVariants as answer
 use Rattle.kernel_records.specs.declared.record.CallStage.TheVariants as stage
 use Rattle.kernel_records.specs.declared.record.ThreadState.TheVariants as is
 use Rattle.kernel_records.specs.Words.{is_live, new_invocation, tid}
-use Rattle.written_kernel.specs.Words.{State, Turn, caller_in, invocation_of, process_of, state_at, state_of}
+use Rattle.written_kernel.specs.Words.{State, Turn, caller_in, has_room, invocation_of, now, process_of, state_at, state_of}
 use Rattle.kernel_invariant.specs.Records.{item_of, owner_of_call, record_of, stage_of}
 use Rattle.kernel_invariant.specs.Events.{InvocationArrow}
 use Rattle.kernel_laws.specs.Places.{BecomesAnswered, BecomesEntered, HasEntered, IsAccept, IsCollect, answer_at}
@@ -27,17 +27,28 @@ pub record Enters (m : State) (xs : List Turn) (i : ℕ) (x : Turn) (c : ℕ) : 
   pub free_before : invocation_of (state_at m xs i) x.thread ≡ None
   pub invocation_after : invocation_of (state_at m xs (i + 1)) x.thread ≡ Some (new_invocation (item.Call c))
 
--- the turn of place i ends the wait of a thread that was given call c: its process has too few descriptors free for what comes
--- with the call, which ends with EMFILE; no call is entered, and the thread waits again
+-- the thread of the turn of place i waits again after it: it is idle since this event, or was given another item than call c at once
+pub data WaitsAgain (m : State) (xs : List Turn) (i : ℕ) (x : Turn) (c : ℕ) : Type 0 where
+  is_idle : state_of (state_at m xs (i + 1)) x.thread ≡ is.Idle (now (state_at m xs i)) → WaitsAgain m xs i x c
+  is_given :
+      (other : Item) → (other ≡ item.Call c → ⊥) → state_of (state_at m xs (i + 1)) x.thread ≡ is.Given other →
+      WaitsAgain m xs i x c
+
+-- The turn of place i ends the wait of a thread that was given call c: its process has too few descriptors free for what comes
+-- with the call, which ends with EMFILE; no call is entered, and the thread has no invocation. The thread waits again: it is idle
+-- since this event, or was given another item at once.
 pub record FailsToEnter (m : State) (xs : List Turn) (i : ℕ) (x : Turn) (c : ℕ) : Type 0 where
   pub no_request : x.request ≡ None
   pub was_given : state_of (state_at m xs i) x.thread ≡ is.Given (item.Call c)
   pub stage_before : stage_of (state_at m xs i) c ≡ Some (stage.Given (tid x.thread))
   pub stage_after : stage_of (state_at m xs (i + 1)) c ≡ Some (stage.Ended EMFILE)
   pub answer : answer_at m xs i x ≡ answer.EnterFailed c
+  -- too few descriptors are free for the call's objects
+  pub full : (r : Call) → record_of (state_at m xs i) c ≡ Some r → has_room (state_at m xs i) (process_of (state_at m xs i) x.thread) r.objects ≡ false
   pub none_entered : (d : ℕ) → BecomesEntered m xs d i → ⊥
   pub of_the_owner : owner_of_call (state_at m xs i) c ≡ Some (process_of (state_at m xs i) x.thread)
   pub free_after : invocation_of (state_at m xs (i + 1)) x.thread ≡ None
+  pub parked : WaitsAgain m xs i x c
 
 -- it was entered at an earlier turn
 pub record WasEntered (m : State) (xs : List Turn) (i c : ℕ) : Type 0 where

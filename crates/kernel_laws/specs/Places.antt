@@ -84,8 +84,8 @@ pub record IsOf (o : Option Door) (entry cookie : ℕ) : Type 0 where
 
 -- the objects that descriptors name in the table of a process
 
-abbrev pub objects_passed : State → ℕ → List Pass → List (Option Obj)
-objects_passed m p pass = map (λ x. object_at m p x.fd) pass
+abbrev pub objects_named : State → ℕ → List Pass → List (Option Obj)
+objects_named m p pass = map (λ x. object_at m p x.fd) pass
 
 abbrev pub objects_at : State → ℕ → List Fd → List (Option Obj)
 objects_at m p fds = map (λ fd. object_at m p fd) fds
