@@ -69,6 +69,15 @@ is_client_call_of t r = not r.abandoned && is_entered_by t r.stage
 abbrev pub is_served_by : ℕ → Call → Bool
 is_served_by t r = not r.abandoned && (is_given_to t r.stage || is_entered_by t r.stage)
 
+-- a call that a thread serves
+abbrev pub is_served : CallStage → Bool
+is_served (stage.Given u) = true
+is_served (stage.Entered u) = true
+is_served _ = false
+
+abbrev pub is_served_as : ℕ → Call → Bool
+is_served_as c r = (r.number == c) && (not r.abandoned && is_served r.stage)
+
 abbrev pub is_to_collect_as : ℕ → Call → Bool
 is_to_collect_as c r = (r.number == c) && is_to_collect r.stage
 

@@ -1,6 +1,7 @@
 -- Doors, numbered from 1 by their places: what door_create(3C) makes, which are valid, their parameters (door_getparam(3C),
 -- door_setparam(3C)) and what door_info(3C) tells of them.
 use Rattle.std.specs.Prelude.{ℕ, ◌+◌, ◌++◌, [], ◌∷◌, List, Option, Bool, false, true, ◌==◌, ◌&&◌, ◌||◌, not, if◌then◌else◌, Some, None, bit_and, bit_or, filter, length, map, nat_lt}
+use Rattle.std.specs.List.{list_any}
 use Rattle.dk_base.specs.declared.answer.DoorInfo.{DoorInfo}
 use Rattle.dk_base.specs.declared.error.Errno.TheVariants.{E2BIG, EBADF, EINVAL, ENFILE, ENOBUFS, ENOTSUP, EPERM}
 use Rattle.dk_base.specs.declared.limits.TheConstants.{DATA_MAX, PASS_MAX}
@@ -83,6 +84,10 @@ abbrev pub cookie_of : Option Door → ℕ
 cookie_of None = 0
 cookie_of (Some d) = d.cookie
 
+abbrev pub is_private_in : Option Door → Bool
+is_private_in None = false
+is_private_in (Some d) = is_private d.attrs
+
 abbrev pub no_cancel_of : Option Door → Bool
 no_cancel_of None = false
 no_cancel_of (Some d) = has_no_cancel d.attrs
@@ -107,6 +112,19 @@ revoke_door doors d = change_door doors d revoked_door
 -- door_revoke(3C) by process p, where a door is named: EBADF for none or an invalid one, EPERM
 abbrev pub revoke_tests : ℕ → Option Door → List Test
 revoke_tests p o = refused_where (not (is_valid_in o)) EBADF ∷ refused_where (not (is_owned_by p o)) EPERM ∷ []
+
+-- door_bind(3C) by a thread of process p, where a door is named: EBADF for none or an invalid one, EINVAL for one that is not
+-- private or is another process's
+abbrev pub bind_tests : ℕ → Option Door → List Test
+bind_tests p o = refused_where (not (is_valid_in o)) EBADF ∷ refused_where (not (is_private_in o && is_owned_by p o)) EINVAL ∷ []
+
+-- the doors without private that a process ever made, valid or not: its common pool serves them
+
+abbrev pub is_common_of : ℕ → Door → Bool
+is_common_of p d = (d.owner.0 == p) && not (is_private d.attrs)
+
+abbrev pub has_common_door : List Door → ℕ → Bool
+has_common_door doors p = list_any (is_common_of p) doors
 
 -- the limits of door_call(3C)
 

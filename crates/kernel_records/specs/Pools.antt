@@ -1,7 +1,7 @@
 -- Server pools: which idle thread is picked, and what waits (door_create(3C), door_bind(3C); the order is this
 -- project's profile).
 use Rattle.std.specs.Prelude.{ℕ, List, [], ◌∷◌, Option, Bool, false, ◌==◌, ◌&&◌, if◌then◌else◌, Some, None, zero, suc, nat_le, map, filter, count_by, length}
-use Rattle.dk_base.specs.ByNumber.{at_number}
+use Rattle.dk_base.specs.ByNumber.{at_number, with_at_number}
 use Rattle.dk_base.specs.declared.object.Item.TheVariants as item
 use Rattle.kernel_records.specs.declared.pool.Parked.{Parked}
 use Rattle.kernel_records.specs.declared.pool.Pool.{Pool}
@@ -41,6 +41,14 @@ bound_in (Some b) = b
 
 abbrev pub bound_at : List (Option ℕ) → ℕ → Option ℕ
 bound_at bindings t = bound_in (at_number bindings t)
+
+-- a thread is bound to a door, in place of the one that it was bound to
+abbrev pub bind_thread : List (Option ℕ) → ℕ → ℕ → List (Option ℕ)
+bind_thread bindings t d = with_at_number bindings t (Some d)
+
+-- it is bound to none
+abbrev pub unbind_thread : List (Option ℕ) → ℕ → List (Option ℕ)
+unbind_thread bindings t = with_at_number bindings t None
 
 abbrev pub pool_of_thread : Thread → Option ℕ → Pool
 pool_of_thread x None = Common x.process

@@ -1,6 +1,6 @@
 -- Processes and threads, numbered from 1 by their places. Every reader is total: a number that no thread has reads as that of a
 -- Done thread, and a writer at such a number changes nothing.
-use Rattle.std.specs.Prelude.{ℕ, List, Option, Bool, true, false, ◌==◌, ◌&&◌, not, if◌then◌else◌, Some, None, count_by, map}
+use Rattle.std.specs.Prelude.{ℕ, ◌+◌, List, Option, Bool, true, false, ◌==◌, ◌&&◌, not, if◌then◌else◌, Some, None, count_by, map, position}
 use Rattle.std.specs.List.{list_any}
 use Rattle.dk_base.specs.declared.object.Inv.{Inv}
 use Rattle.dk_base.specs.declared.object.Item.{Item}
@@ -100,6 +100,23 @@ park_thread table t now = change_thread table t (idle_thread now)
 
 abbrev pub end_thread : ProcessTable → ℕ → ProcessTable
 end_thread table t = change_thread table t ended_thread
+
+-- spare threads that were not started
+
+abbrev pub is_dormant : ThreadState → Bool
+is_dormant is.Dormant = true
+is_dormant _ = false
+
+abbrev pub is_spare_of : ℕ → Thread → Bool
+is_spare_of p x = (x.process.0 == p) && is_dormant x.state
+
+abbrev pub start_thread_at : ProcessTable → Option ℕ → ProcessTable
+start_thread_at table None = table
+start_thread_at table (Some place) = set_thread_state table (place + 1) is.Running
+
+-- the lowest spare of a process starts, where there is one
+abbrev pub start_spare : ProcessTable → ℕ → ProcessTable
+start_spare table p = start_thread_at table (position (is_spare_of p) table.threads)
 
 -- the end of a process: all its threads end
 

@@ -54,7 +54,7 @@ pub enum ThreadState {
         op: Op,
         input: Bytes,
     },
-    /// It was idle while the private door that it is bound to was not valid; it is woken with EINVAL.
+    /// It was idle while the private door that it was bound to was not valid; it is woken with EINVAL.
     FailedReturn,
     Done,
 }

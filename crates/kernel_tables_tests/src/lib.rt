@@ -1,4 +1,4 @@
-//! Tests of the tables of the kernel: descriptors, and those that are passed, names, processes and threads, doors.
+//! Tests of the tables of the kernel: descriptors, and those that are passed, names, processes and threads, doors, server pools.
 #![tactic(auto)]
 
 #[cfg(test)]
@@ -9,5 +9,7 @@ mod doors;
 mod names;
 #[cfg(test)]
 mod passing;
+#[cfg(test)]
+mod pools;
 #[cfg(test)]
 mod processes;

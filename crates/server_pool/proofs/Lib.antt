@@ -1,0 +1,4 @@
+pub mod Order
+pub mod Changed
+pub mod Matched
+pub mod Places

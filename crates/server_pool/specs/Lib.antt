@@ -1,0 +1,6 @@
+pub mod Ordered
+pub mod Stack
+pub mod Pool
+pub mod Binding
+pub mod Pools
+pub mod Words

@@ -1,0 +1,328 @@
+//! All server pools, with the bindings of threads and the spare threads of each process.
+ghost use Rattle.std.specs.Prelude.{◌≡◌, ℕ, ◌-◌, ◌<◌, ◌≤◌, ◌++◌, ◌↔◌, [], ◌∷◌, Err, Ok, IfOk, IfNone, IsTrue, OnErr, OnOk, OnSome, if◌then◌else◌, is_some, length, ok_or, true};
+ghost use Rattle.std.specs.List.{list_any};
+ghost use Rattle.std.specs.Option.{option_copied, option_map};
+ghost use Rattle.dk_base.specs.declared.error.Errno.TheVariants.{EAGAIN, EBADF};
+ghost use Rattle.dk_base.specs.declared.limits.TheConstants.{THREADS_MAX};
+ghost use Rattle.kernel_records.specs.Words.{bind_thread, bound_at, first_refusal, unbind_thread, unless_refused_with};
+ghost use Rattle.server_pool.specs.Words.{AllBelow, AllParkedBefore, IsAscending, IsStack, bind_refusals, change_pool, change_spares, count_calls, drop_waiting_in, empty_pool, enqueue_in, first_match, is_call_too_many, is_thread, is_waiting_as, item_room_in, lowest_spare, match_in, next_of, no_pools, no_spares, park_in, pick_of, pool_at, queue_in, spares_of, stack_in, thread_room_in, unpark_in, with_room, with_spare, withdraw_in, without_highest, without_lowest};
+
+use crate::bindings::{bind_refusal, bound_at, no_bindings, set_binding};
+use crate::facts::{BindFacts, Match};
+use crate::numbered::numbered_item;
+use crate::pool::ServerPool;
+use crate::pool_list::{
+    drop_waiting_at, enqueue_at, match_at, park_at, room_at, unpark_at, withdraw_at,
+};
+use crate::spares::{Spares, add_spare_at, clear_spares_at, take_back_at, take_spare_at};
+use dk_base::error::{Errno, NoMemory};
+use dk_base::limits::THREADS_MAX;
+use dk_base::number::{Pid, Tid};
+use dk_base::object::Item;
+use kernel_records::pool::{Parked, Pool, Waiting};
+use std::alloc::Global;
+use std::marker::Model;
+
+/// What server pools hold. Clauses see the bindings of threads, the pools of processes and of doors, the spares of each process,
+/// and how many more doors take no memory. A pool that is not there has no thread and no item, and a change of it changes nothing.
+#[derive(Drop)]
+pub struct Pools {
+    alloc: Global,
+    bindings: Vec<Option<u32>>,
+    common: Vec<ServerPool>,
+    private: Vec<ServerPool>,
+    spares: Vec<Spares>,
+}
+
+impl Model for Pools {
+    ghost use Rattle.std.specs.Prelude.{◌≡◌, ◌-◌, length, vec_len, vec_capacity};
+    ghost use Rattle.dk_base.specs.declared.limits.TheConstants.{THREADS_MAX};
+    ghost use Rattle.server_pool.specs.Words.{PoolsValue};
+
+    ghost Value = { PoolsValue };
+
+    ghost view = { λ p. record { bindings = p.bindings.items; common = p.common.items; private = p.private.items; spares = p.spares.items; door_room = vec_capacity p.private - vec_len p.private } };
+
+    ghost invariant = { λ p. (length p.bindings.items ≡ THREADS_MAX) × (length p.common.items ≡ length p.spares.items) };
+}
+
+impl Pools {
+    /// No process and no door, and no thread is bound.
+    pub fn new(alloc: Global) -> Result<Self, NoMemory>
+        ensures { IfOk result (λ pools. pools ≡ no_pools) }
+    {
+        Ok(Pools {
+            alloc,
+            bindings: no_bindings(alloc, THREADS_MAX)?,
+            common: Vec::new(alloc),
+            private: Vec::new(alloc),
+            spares: Vec::new(alloc),
+        })
+    }
+
+    /// Another process, under the next number, with an empty pool and no spare. Want of memory changes nothing.
+    pub fn add_process(&mut self) -> Result<(), NoMemory>
+        ensures ok { OnOk result (self.new ≡ record self.old { common = self.old.common ++ empty_pool ∷ []; spares = self.old.spares ++ [] ∷ [] }) }
+        ensures err { OnErr result (self.new ≡ self.old) }
+    {
+        if self.common.reserve(1).is_err() || self.spares.reserve(1).is_err() {
+            return Err(NoMemory);
+        }
+        self.common.push_reserved(ServerPool::new(self.alloc));
+        self.spares.push_reserved(Spares::new(self.alloc));
+        Ok(())
+    }
+
+    /// Room for another door. Want of memory changes nothing.
+    pub fn reserve_door(&mut self) -> Result<(), NoMemory>
+        ensures same { self.new ≡ record self.old { door_room = self.new.door_room } }
+        ensures room { OnOk result (0 < self.new.door_room) }
+        ensures kept { self.old.door_room ≤ self.new.door_room }
+        ensures err { OnErr result (self.new ≡ self.old) }
+    {
+        match self.private.reserve(1) {
+            Ok(()) => Ok(()),
+            Err(_) => Err(NoMemory),
+        }
+    }
+
+    /// Another door, under the next number, with an empty pool. It takes no memory.
+    pub fn add_door(&mut self)
+        requires { 0 < self.old.door_room }
+        ensures { self.new ≡ record self.old { private = self.old.private ++ empty_pool ∷ []; door_room = self.old.door_room - 1 } }
+    {
+        self.private.push_reserved(ServerPool::new(self.alloc));
+    }
+
+    /// Room for another thread and another item in a pool, if it is there. Want of memory changes nothing but the room,
+    /// which is never less than it was.
+    pub fn room(&mut self, pool: Pool) -> Result<(), NoMemory>
+        ensures same { self.new ≡ change_pool self.old pool (with_room (thread_room_in self.new pool) (item_room_in self.new pool)) }
+        ensures threads { thread_room_in self.old pool ≤ thread_room_in self.new pool }
+        ensures items { item_room_in self.old pool ≤ item_room_in self.new pool }
+        ensures thread { OnOk result (is_some (pool_at self.old pool) ≡ true → 0 < thread_room_in self.new pool) }
+        ensures item { OnOk result (is_some (pool_at self.old pool) ≡ true → 0 < item_room_in self.new pool) }
+    {
+        match pool {
+            Pool::Common(p) => room_at(&mut self.common, p.0),
+            Pool::Private(d) => room_at(&mut self.private, d),
+        }
+    }
+
+    /// The door that a thread is bound to.
+    pub fn bound(&self, t: Tid) -> Option<u32>
+        ensures door { result ≡ bound_at self.now.bindings t.0 }
+        ensures places { length self.now.bindings ≡ THREADS_MAX }
+    {
+        bound_at(&self.bindings, t)
+    }
+
+    /// door_bind(3C): a thread is bound to a door, in place of the one that it was bound to. EBADF for no door or an invalid
+    /// one, EINVAL for one that is not private or is another process's; either changes nothing.
+    pub fn bind(&mut self, t: Tid, d: u32, facts: BindFacts) -> Result<(), Errno>
+        ensures result { result ≡ unless_refused_with (first_refusal (bind_refusals facts)) }
+        ensures ok { OnOk result (self.new ≡ record self.old { bindings = bind_thread self.old.bindings t.0 d }) }
+        ensures err { OnErr result (self.new ≡ self.old) }
+    {
+        if let Some(error) = bind_refusal(facts) {
+            return Err(error);
+        }
+        set_binding(&mut self.bindings, t, Some(d));
+        Ok(())
+    }
+
+    /// door_unbind(3C): a thread is bound to no door, and the one that it was bound to is answered. EBADF for a thread that is
+    /// bound to none, which changes nothing.
+    pub fn unbind(&mut self, t: Tid) -> Result<u32, Errno>
+        ensures result { result ≡ ok_or (bound_at self.old.bindings t.0) EBADF }
+        ensures ok { OnOk result (self.new ≡ record self.old { bindings = unbind_thread self.old.bindings t.0 }) }
+        ensures err { OnErr result (self.new ≡ self.old) }
+    {
+        let Some(door) = self.bound(t) else {
+            return Err(Errno::EBADF);
+        };
+        set_binding(&mut self.bindings, t, None);
+        Ok(door)
+    }
+
+    fn pool(&self, pool: Pool) -> Option<&ServerPool>
+        ensures { option_copied result ≡ pool_at self.now pool }
+    {
+        match pool {
+            Pool::Common(p) => numbered_item(&self.common, p.0),
+            Pool::Private(d) => numbered_item(&self.private, d),
+        }
+    }
+
+    /// Whether a pool is there.
+    pub fn has(&self, pool: Pool) -> bool
+        ensures { result ≡ is_some (pool_at self.now pool) }
+    {
+        self.pool(pool).is_some()
+    }
+
+    /// Whether a thread would park in a pool after all that are parked there.
+    pub fn is_later(&self, t: Tid, pool: Pool, since: u64) -> bool
+        ensures { IsTrue result ↔ AllParkedBefore (stack_in self.now pool) (record { thread = t; pool = pool; since = since }) }
+    {
+        let x = Parked {
+            thread: t,
+            pool,
+            since,
+        };
+        match self.pool(pool) {
+            Some(pool) => pool.is_later(x),
+            None => true,
+        }
+    }
+
+    /// A thread parks in a pool that is there, after all that are parked there: at a later event, or at the same event with a
+    /// greater number. It takes no memory.
+    pub fn park(&mut self, t: Tid, pool: Pool, since: u64)
+        requires room { 0 < thread_room_in self.old pool }
+        requires later { AllParkedBefore (stack_in self.old pool) (record { thread = t; pool = pool; since = since }) }
+        ensures { self.new ≡ change_pool self.old pool (park_in (record { thread = t; pool = pool; since = since })) }
+    {
+        let x = Parked {
+            thread: t,
+            pool,
+            since,
+        };
+        match pool {
+            Pool::Common(p) => park_at(&mut self.common, p.0, x),
+            Pool::Private(d) => park_at(&mut self.private, d, x),
+        }
+    }
+
+    /// The thread of a pool that parked last; of several that parked at one event, the one with the greatest number.
+    pub fn pick(&self, pool: Pool) -> Option<Parked>
+        ensures pick { result ≡ pick_of (stack_in self.now pool) }
+        ensures stack { IsStack (stack_in self.now pool) }
+    {
+        match self.pool(pool) {
+            Some(pool) => pool.pick(),
+            None => None,
+        }
+    }
+
+    /// The oldest item that waits in a pool.
+    pub fn next(&self, pool: Pool) -> Option<Waiting>
+        ensures { result ≡ next_of (queue_in self.now pool) }
+    {
+        match self.pool(pool) {
+            Some(pool) => pool.next(),
+            None => None,
+        }
+    }
+
+    /// The pick of a pool and its oldest item leave it, where there are both; else nothing changes.
+    pub fn match_next(&mut self, pool: Pool) -> Option<Match>
+        ensures result { result ≡ first_match (stack_in self.old pool) (queue_in self.old pool) }
+        ensures some { OnSome result (self.new ≡ change_pool self.old pool match_in) }
+        ensures none { IfNone result (self.new ≡ self.old) }
+    {
+        match pool {
+            Pool::Common(p) => match_at(&mut self.common, p.0),
+            Pool::Private(d) => match_at(&mut self.private, d),
+        }
+    }
+
+    /// A thread leaves a pool, where the others keep their order. Says whether it was parked there.
+    pub fn unpark(&mut self, t: Tid, pool: Pool) -> bool
+        ensures result { result ≡ list_any (is_thread t.0) (stack_in self.old pool) }
+        ensures pool { self.new ≡ change_pool self.old pool (unpark_in t.0) }
+    {
+        match pool {
+            Pool::Common(p) => unpark_at(&mut self.common, p.0, t),
+            Pool::Private(d) => unpark_at(&mut self.private, d, t),
+        }
+    }
+
+    /// How many calls wait in a pool.
+    pub fn calls_waiting(&self, pool: Pool) -> usize
+        ensures { result ≡ count_calls (queue_in self.now pool) }
+    {
+        match self.pool(pool) {
+            Some(pool) => pool.calls_waiting(),
+            None => 0,
+        }
+    }
+
+    /// An item waits in a pool, behind the others, which takes no memory. EAGAIN for a call where 32 calls wait there, which
+    /// changes nothing (door_call(3C)).
+    pub fn enqueue(&mut self, pool: Pool, w: Waiting) -> Result<(), Errno>
+        requires { 0 < item_room_in self.old pool }
+        ensures result { result ≡ (if is_call_too_many w (queue_in self.old pool) then Err EAGAIN else Ok tt) }
+        ensures ok { OnOk result (self.new ≡ change_pool self.old pool (enqueue_in w)) }
+        ensures err { OnErr result (self.new ≡ self.old) }
+    {
+        match pool {
+            Pool::Common(p) => enqueue_at(&mut self.common, p.0, w),
+            Pool::Private(d) => enqueue_at(&mut self.private, d, w),
+        }
+    }
+
+    /// An item leaves the queue of a pool, where the others keep their order. Says whether it waited there.
+    pub fn withdraw(&mut self, pool: Pool, item: Item) -> bool
+        ensures result { result ≡ list_any (is_waiting_as item) (queue_in self.old pool) }
+        ensures pool { self.new ≡ change_pool self.old pool (withdraw_in item) }
+    {
+        match pool {
+            Pool::Common(p) => withdraw_at(&mut self.common, p.0, item),
+            Pool::Private(d) => withdraw_at(&mut self.private, d, item),
+        }
+    }
+
+    /// All items leave the queue of a pool, whose door or process has ended.
+    pub fn drop_waiting(&mut self, pool: Pool)
+        ensures { self.new ≡ change_pool self.old pool drop_waiting_in }
+    {
+        match pool {
+            Pool::Common(p) => drop_waiting_at(&mut self.common, p.0),
+            Pool::Private(d) => drop_waiting_at(&mut self.private, d),
+        }
+    }
+
+    /// Whether a number is above those of all spares of a process.
+    pub fn is_above_spares(&self, p: Pid, t: Tid) -> bool
+        ensures { IsTrue result ↔ AllBelow t.0 (spares_of self.now p.0) }
+    {
+        match numbered_item(&self.spares, p.0) {
+            Some(spares) => spares.are_below(t),
+            None => true,
+        }
+    }
+
+    /// Another spare of a process, with a number above those of its others. A number that no process has gets none. Want of
+    /// memory changes nothing.
+    pub fn add_spare(&mut self, p: Pid, t: Tid) -> Result<(), NoMemory>
+        requires { AllBelow t.0 (spares_of self.old p.0) }
+        ensures ok { OnOk result (self.new ≡ change_spares self.old p.0 (with_spare t.0)) }
+        ensures err { OnErr result (self.new ≡ self.old) }
+    {
+        add_spare_at(&mut self.spares, p.0, t)
+    }
+
+    /// The lowest spare of a process leaves, where it has one.
+    pub fn take_spare(&mut self, p: Pid) -> Option<Tid>
+        ensures result { option_map (λ t. t.0) result ≡ lowest_spare (spares_of self.old p.0) }
+        ensures left { self.new ≡ change_spares self.old p.0 without_lowest }
+        ensures ascending { IsAscending (spares_of self.old p.0) }
+    {
+        take_spare_at(&mut self.spares, p.0)
+    }
+
+    /// The highest spare of a process leaves, where it has one: the one that was added last, if none was taken since.
+    pub fn take_back(&mut self, p: Pid)
+        ensures { self.new ≡ change_spares self.old p.0 without_highest }
+    {
+        take_back_at(&mut self.spares, p.0)
+    }
+
+    /// All spares of a process leave.
+    pub fn drop_spares(&mut self, p: Pid)
+        ensures { self.new ≡ change_spares self.old p.0 no_spares }
+    {
+        clear_spares_at(&mut self.spares, p.0)
+    }
+}
