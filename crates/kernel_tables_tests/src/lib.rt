@@ -1,6 +1,9 @@
-//! Tests of the tables of the kernel: descriptors, and those that are passed, names, processes and threads, doors, server pools.
+//! Tests of the tables of the kernel: descriptors, and those that are passed, names, processes and threads, doors, server pools,
+//! calls.
 #![tactic(auto)]
 
+#[cfg(test)]
+mod calls;
 #[cfg(test)]
 mod descriptors;
 #[cfg(test)]

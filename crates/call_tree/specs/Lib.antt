@@ -1,0 +1,3 @@
+pub mod LiveCalls
+pub mod Walks
+pub mod Words

@@ -1,0 +1,7 @@
+//! Door calls that are neither answered nor left, by their stages, and the walks along them (door_call(3C), door_return(3C)).
+#![tactic(auto)]
+
+pub mod calls;
+mod change;
+pub mod stage;
+mod walks;
