@@ -1,6 +1,6 @@
 //! One door: whether it is valid, whose it is, who serves it, and who may revoke it.
 ghost use Rattle.std.specs.Prelude.{◌≡◌, Some};
-ghost use Rattle.kernel_records.specs.Words.{first_refusal, is_owned_by, is_valid_door, is_valid_in, is_valid_of, pool_in, pool_of_door, revoke_tests, revoked_door, with_owner_ended};
+ghost use Rattle.kernel_records.specs.Words.{bind_tests, first_refusal, is_common_of, is_owned_by, is_valid_door, is_valid_in, is_valid_of, pool_in, pool_of_door, revoke_tests, revoked_door, with_owner_ended};
 
 use crate::attributes::is_private;
 use dk_base::error::Errno;
@@ -52,6 +52,29 @@ pub fn pool_in(door: Option<Door>) -> Pool
     match door {
         Some(door) => pool_of_door(&door),
         None => Pool::Common(Pid(0)),
+    }
+}
+
+/// A door of a process that is not private.
+pub fn is_common_of(door: &Door, p: Pid) -> bool
+    ensures { result ≡ is_common_of p.0 door.now }
+{
+    is_owned_by(door, p) && !is_private(door.attrs)
+}
+
+/// door_bind(3C): EBADF, EINVAL.
+pub fn bind_refusal(door: Option<Door>, by: Pid) -> Option<Errno>
+    ensures { result ≡ first_refusal (bind_tests by.0 door) }
+{
+    match door {
+        Some(door) if is_valid_door(&door) => {
+            if is_private(door.attrs) && is_owned_by(&door, by) {
+                None
+            } else {
+                Some(Errno::EINVAL)
+            }
+        }
+        _ => Some(Errno::EBADF),
     }
 }
 

@@ -3,10 +3,13 @@ ghost use Rattle.std.specs.Prelude.{◌≡◌, ◌+◌, ◌<◌, ◌≤◌, [], 
 ghost use Rattle.dk_base.specs.declared.error.Errno.TheVariants.{EINVAL};
 ghost use Rattle.dk_base.specs.declared.limits.TheConstants.{EVENTS_MAX};
 ghost use Rattle.dk_base.specs.ByNumber.{at_number};
-ghost use Rattle.kernel_records.specs.Words.{end_owner, first_refusal, has_told_attributes, info_in, is_valid_in, limit_tests, new_door, param_in, pool_in, refused_where, revoke_door, revoke_tests, set_param, set_param_tests, unless_refused_with, valid_doors_of, with_door};
+ghost use Rattle.kernel_records.specs.Words.{bind_tests, end_owner, first_refusal, has_common_door, has_told_attributes, info_in, is_valid_in, limit_tests, new_door, param_in, pool_in, refused_where, revoke_door, revoke_tests, set_param, set_param_tests, unless_refused_with, valid_doors_of, with_door};
 
 use crate::attributes::{first_desc_max, has_told_attributes};
-use crate::door::{end_owner, is_valid_in, is_valid_of, mark_revoked, pool_in, revoke_refusal};
+use crate::door::{
+    bind_refusal, end_owner, is_common_of, is_valid_in, is_valid_of, mark_revoked, pool_in,
+    revoke_refusal,
+};
 use crate::info::info_in;
 use crate::limits::limit_refusal;
 use crate::params::{change_param, param_in, param_refusal};
@@ -113,6 +116,12 @@ fn list_owned(alloc: Global, doors: &[Door], p: Pid) -> Result<DoorList, NoMemor
     Ok(owned)
 }
 
+fn has_common_door(doors: &[Door], p: Pid) -> bool
+    ensures { result ≡ has_common_door doors.now p.0 }
+{
+    doors.iter().any(|door| is_common_of(door, p))
+}
+
 impl Doors {
     /// No door, and no room.
     pub fn new(alloc: Global) -> Self
@@ -199,6 +208,21 @@ impl Doors {
         ensures { result ≡ pool_in (at_number self.now.items d) }
     {
         pool_in(self.door(d))
+    }
+
+    /// What door_bind(3C) by a thread of a process is refused with: EBADF for no door or one that is not valid, EINVAL for one that is
+    /// not private or is another's.
+    pub fn check_bind(&self, d: u32, by: Pid) -> Option<Errno>
+        ensures { result ≡ first_refusal (bind_tests by.0 (at_number self.now.items d)) }
+    {
+        bind_refusal(self.door(d), by)
+    }
+
+    /// Whether a process ever made a door that is not private, valid or not.
+    pub fn has_common(&self, p: Pid) -> bool
+        ensures { result ≡ has_common_door self.now.items p.0 }
+    {
+        has_common_door(&self.doors, p)
     }
 
     /// What door_revoke(3C) by a process is refused with: EBADF for no door or one that is not valid, EPERM for another's.

@@ -12,8 +12,9 @@ use Rattle.kernel_records.specs.declared.record.ThreadState.TheVariants as is
 use Rattle.kernel_records.specs.declared.record.CallStage.TheVariants as stage
 use Rattle.dk_base.specs.ByNumber.{at_number}
 use Rattle.kernel_records.specs.Words.{CallTree, ProcessTable, at_stage, change_first, change_thread, change_thread_in, end_process, ended_thread, ended_thread_of, first_refusal, idle_thread, insert_row, is_client_call_of, is_given_as, is_last, is_live_call, is_owned_by, is_queued, is_queued_as, is_to_collect_as, new_descriptors, object_passed, objects_passed, thread_at, thread_at_state, thread_in_invocation, tid, with_ended, with_ended_threads, without_arguments_at, Test, change_door, change_door_in, refused_where, with_param, has_refused_size, has_too_many, is_valid_in, refuses_descriptors_in}
-use Rattle.written_kernel.specs.Words.{ActResult, StandsFor, State, accept, accept_call, act, attach, await, await_name, begin_call, call, call_tests, client_call, collect, collect_answer, collect_answer_in, create, door_named, effect, ended_call, enter, exit, fail_begin, find_call, give_each, give_one, give_to, go_on, has_room, leave_process, leave_thread, name_of, new_call, no_act, now, object_at, objects_collected_in, open_path, pass_tests, pick, pool_of, process_of, refusal_of, refused_act, return, return_tests, settle, state_of, table_of, tables_after_collect, tables_after_pass, tables_with, unless_refused, waiting_items, close, dup, detach, set_parameter, door_at, door_of, pool_tests}
+use Rattle.written_kernel.specs.Words.{ActResult, StandsFor, State, accept, accept_call, act, attach, await, await_name, begin_call, call, call_tests, client_call, collect, collect_answer, collect_answer_in, create, door_named, effect, ended_call, enter, exit, fail_begin, find_call, fail_return, give_one, go_on, has_lost_door, has_room, leave_process, leave_thread, name_of, new_call, no_act, now, object_at, objects_collected_in, open_path, pass_tests, pick, pool_of, process_of, refusal_of, refused_act, return, return_tests, settle, state_of, table_of, tables_after_collect, tables_after_pass, tables_with, unless_refused, with_state, close, dup, detach, set_parameter, door_at, door_of, pool_tests}
 use Rattle.written_kernel.proofs.Lists.{length-with_at_number}
+use Rattle.written_kernel.proofs.Settling.{settle-all}
 use Rattle.kernel_core.specs.Within.{IsSmallStage, IsSmallCall, AreSmall, IsSmall}
 
 pub record Grows (k : ℕ) (m n : State) : Type 0 where
@@ -417,6 +418,11 @@ exit-tidy m t p = record { grows = go (is_last m.process_table t p); small = λ 
 
 -- any act
 
+-- an act that changes bindings alone
+bindings-grow : (m : State) (bindings : List (Option ℕ)) → Grows 1 m (record m { bindings = bindings })
+bindings-grow m bindings =
+    record { threads = refl; calls = omega arith; doors = omega arith; calls_made = omega arith; events = refl; small = λ h. h }
+
 effect-tidy : (m : State) (t p : ℕ) (r : Request) → refusal_of m t p r ≡ None → IsTidy m (effect m t p r)
 effect-tidy m t p (request.Create entry cookie attrs) e = create-tidy m p entry cookie attrs
 effect-tidy m t p (request.Call fd bytes pass rsize) e = call-tidy m t p fd bytes pass rsize (few_arguments m p fd bytes pass e)
@@ -427,6 +433,8 @@ effect-tidy m t p (request.Dup fd) e = dup-tidy m p fd
 effect-tidy m t p (request.Attach fd path) e = attach-tidy m p fd path
 effect-tidy m t p (request.Detach path) e = detach-tidy m path
 effect-tidy m t p (request.Open path) e = open_path-tidy m p path
+effect-tidy m t p (request.Bind fd) e = record { grows = bindings-grow m _; small = λ h. tt }
+effect-tidy m t p request.Unbind e = record { grows = bindings-grow m _; small = λ h. tt }
 effect-tidy m t p (request.Await path) e = await-tidy m t path
 effect-tidy m t p request.Exit e = exit-tidy m t p
 effect-tidy m t p _ e = record { grows = grows_same 1 m; small = λ h. tt }
@@ -451,6 +459,17 @@ act-tidy m t None = go_on-tidy m t (process_of m t) (state_of m t)
 
 -- settling
 
+bound-grows : (m : State) (t : ℕ) → Grows 0 m (fail_return m t)
+bound-grows m t =
+    record {
+      threads = length-change_thread m.process_table t (thread_at_state is.FailedReturn);
+      calls = omega arith;
+      doors = omega arith;
+      calls_made = omega arith;
+      events = refl;
+      small = λ h. h;
+    }
+
 give_one-grows : (m : State) (i : Item) (u : ℕ) → Grows 0 m (give_one m i u)
 give_one-grows m (item.Call c) u =
     record {
@@ -473,18 +492,17 @@ give_one-grows m (item.Notice n) u =
       small = λ h. h;
     }
 
-give_to-grows : (m : State) (w : Waiting) (o : Option Parked) → Grows 0 m (give_to m w o)
-give_to-grows m w None = grows_same 0 m
-give_to-grows m w (Some x) = give_one-grows m w.item x.thread.0
-
-give_each-grows : (ws : List Waiting) (m : State) → Grows 0 m (give_each m ws)
-give_each-grows [] m = grows_same 0 m
-give_each-grows (w ∷ ws) m =
-    let n = give_to m w (pick m (pool_of m w.door)) in
-    grows_then 0 0 0 m n (give_each n ws) (omega arith) (give_to-grows m w (pick m (pool_of m w.door))) (give_each-grows ws n)
-
 pub settle-grows : (before m : State) → Grows 0 m (settle before m)
-settle-grows before m = give_each-grows (waiting_items m) m
+settle-grows before m = settle-all (Grows 0 m) fails gives starts before m (grows_same 0 m)
+  where
+    fails : (n : State) (t : ℕ) → has_lost_door n t ≡ true → Grows 0 m n → Grows 0 m (fail_return n t)
+    fails n t e g = grows_then 0 0 0 m n (fail_return n t) (omega arith) g (bound-grows n t)
+
+    gives : (n : State) (w : Waiting) (x : Parked) → pick n (pool_of n w.door) ≡ Some x → Grows 0 m n → Grows 0 m (give_one n w.item x.thread.0)
+    gives n w x e g = grows_then 0 0 0 m n (give_one n w.item x.thread.0) (omega arith) g (give_one-grows n w.item x.thread.0)
+
+    starts : (n : State) (t : ℕ) → state_of n t ≡ is.Dormant → Grows 0 m n → Grows 0 m (with_state n t is.Running)
+    starts n t e g = grows_then 0 0 0 m n (with_state n t is.Running) (omega arith) g (thread-grows 0 n t (thread_at_state is.Running))
 
 pub events_settle : (before m : State) → (settle before m).events ≡ m.events
 events_settle before m = (settle-grows before m).events

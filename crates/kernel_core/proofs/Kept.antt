@@ -1,20 +1,27 @@
 -- A kernel's events keep that what it keeps comes from a written state, and a refused entry changes nothing else.
-use Rattle.std.proofs.Common.{◌≡◌, ℕ, ◌+◌, ◌<◌, Bool, List, Option, Some, None, Result, Ok, Err, IfOk, OnOk, OnErr, [], length, refl, subst, sym, ap, ◌∙◌, arith, All, true, is_some}
-use Rattle.written_kernel.specs.Types.{Errno, NoMemory, Request, Stepped, Tid, Process}
+use Rattle.std.proofs.Common.{◌≡◌, ℕ, ◌+◌, ◌<◌, ◌≤◌, zero, suc, Bool, true, false, cond, not, List, [], ◌∷◌, Option, Some, None, Result, Ok, Err, IfOk, OnOk, OnErr, filter, find, slice_get, length, refl, subst, sym, ap, ◌∙◌, arith, All, is_some}
+use Rattle.written_kernel.specs.Types.{Call, Door, Errno, NoMemory, Process, Request, Stepped, Thread, Tid}
 use Rattle.dk_base.specs.declared.answer.Answer.TheVariants.{Failure}
 use Rattle.dk_base.specs.declared.limits.TheConstants.{THREADS_MAX}
-use Rattle.written_kernel.specs.Words.{IsOpening, IsStep, MayTurn, StandsFor, State, effect, forget, opening, pick, pool_of, process_of, refusal_of, step, unless_refused, waiting_items, with_event_counted, with_new_thread, is_live_process}
+use Rattle.written_kernel.specs.Words.{IsOpening, IsStep, MayTurn, StandsFor, State, act, effect, forget, has_lost_door, opening, pick, pool_of, process_of, refusal_of, step, unless_refused, waiting_items, with_event_counted, with_new_thread, is_live_process, door_of, thread_of}
 use Rattle.written_kernel.specs.Opening.IsOpening.{processes, thread}
-use Rattle.written_kernel.proofs.Forget.{IsStep-stands_for, is_runnable-forget, refusal_of-forget, waiting_items-forget}
+use Rattle.written_kernel.proofs.Forget.{IsStep-stands_for, act-forget, is_runnable-forget, refusal_of-forget, waiting_items-forget}
 use Rattle.dk_base.specs.ByNumber.{at_number}
-use Rattle.kernel_records.specs.Words.{is_live_in, is_live_stage}
+use Rattle.std.proofs.lemmas.Bool.Decides.{nat_tests}
+use Rattle.kernel_records.specs.Words.{is_live_call, is_live_in, is_live_stage, is_owned_by, is_valid_door, process_in}
 use Rattle.written_kernel.proofs.Lists.{numbered_there}
 use Rattle.written_kernel.proofs.Opening.{IsDeclaredIn, forget-opening, opened, opening_threads}
 use Rattle.written_kernel.proofs.Steps.{events-step}
+use Rattle.kernel_invariant.specs.Core.{number_in}
 use Rattle.kernel_invariant.specs.Events.{Keeps}
+use Rattle.kernel_invariant.specs.Invariant.{IsConsistent, IsInOrder}
+use Rattle.kernel_invariant.specs.Records.{has_number, owner_in}
+use Rattle.kernel_store.specs.Words.{ArePlaced}
+use Rattle.kernel_invariant.proofs.Calls.{find-before}
 use Rattle.kernel_invariant.proofs.Events.{step_keeps}
 use Rattle.kernel_invariant.proofs.Openings.{opening_keeps}
 use Rattle.kernel_invariant.proofs.Refusals.{refused_gives}
+use Rattle.kernel_invariant.proofs.Settling.{no_lost_door}
 use Rattle.kernel_core.specs.declared.runnable.Runnable.{Runnable}
 use Rattle.kernel_core.specs.Kept.{IsKept}
 use Rattle.kernel_core.specs.Within.{IsWithin}
@@ -95,12 +102,25 @@ none_idle-forget m h = subst (λ ws. All (λ w. pick (forget m) (pool_of (forget
 none_idle-of_forget : (m : State) → HasNoneIdle (forget m) → HasNoneIdle m
 none_idle-of_forget m h = subst (λ ws. All (λ w. pick m (pool_of m w.door) ≡ None) ws) (waiting_items-forget m) h
 
+-- no thread of a state that a kernel stands for is idle and bound to an invalid door
+lost_stands : (kept m : State) (u : ℕ) → IsKept kept → StandsFor kept m → has_lost_door m u ≡ false
+lost_stands kept m u k h = ap (λ n. has_lost_door n u) (sym h ∙ k.stands) ∙ no_lost_door k.written k.invariant.consistent u
+
+-- the same after the act of a turn
+pub none_lost :
+    (kept m : State) (t : ℕ) (q : Option Request) → kept ≡ m → IsKept kept → MayTurn m t q → (u : ℕ) → has_lost_door (act kept t q).state u ≡ false
+none_lost kept m t q same k may u =
+    let w = may_stands k.written t q (subst (λ n. MayTurn n t q) k.stands (subst (λ n. MayTurn n t q) (sym same) may)) in
+    ap (λ n. has_lost_door (act n t q).state u) k.stands
+    ∙ ap (λ n. has_lost_door n u) (act-forget k.written t q).state
+    ∙ (step_keeps k.written t q k.invariant w).none_lost u
+
 -- a refused entry of each state that a kernel stands for
 pub refused_stands :
     (kept m : State) (t : ℕ) (r : Request) (e : Errno) → IsKept kept → StandsFor kept m →
     refusal_of m t (process_of m t) r ≡ Some e → (step m t (Some r)).state ≡ with_event_counted m
 refused_stands kept m t r e k h g =
-    refused_gives m t r e
+    refused_gives m t r e (λ u. lost_stands kept m u k h)
     (none_idle-of_forget m (subst HasNoneIdle (sym k.stands ∙ h) (none_idle-forget k.written k.invariant.given_out)))
     g
 
@@ -167,3 +187,78 @@ opening_current r limits m e h =
       items = h ∙ ap (runnables m) (sym none);
       room = record { list = omega (arith, none); next = omega (arith, none) };
     }
+
+-- a call of a list in order is found by its number
+found_in_order :
+    (rs : List Call) (n i : ℕ) (r : Call) → IsInOrder n rs → slice_get rs i ≡ Some r → find (has_number r.number) rs ≡ Some r
+found_in_order [] n i r h e = grind arith
+found_in_order (x ∷ rs) n zero r h e = grind (arith, nat_tests)
+found_in_order (x ∷ rs) n (suc i) r h e =
+    grind (arith, nat_tests, found_in_order rs (n + 1) i r h.1, later rs (n + 1) i r h.1, h.0)
+  where
+    later : (rs : List Call) (n i : ℕ) (r : Call) → IsInOrder n rs → slice_get rs i ≡ Some r → n < r.number
+    later [] n i r h e = grind arith
+    later (x ∷ rs) n zero r h e = grind (arith, nat_tests, h.0)
+    later (x ∷ rs) n (suc i) r h e = let more = later rs (n + 1) i r h.1 e in omega (arith, more)
+
+-- processes, doors and calls are where threads, bindings and calls say
+
+module _ (m : State) (h : IsConsistent m) where
+  thread_is : (t : ℕ) (x : Thread) → thread_of m t ≡ Some x → number_in (thread_of m t) ≡ Some x.number
+  thread_is t x e = ap number_in e
+
+  owner_is : (d : ℕ) (x : Door) → door_of m d ≡ Some x → is_valid_door x ≡ true → is_some (at_number m.process_table.processes x.owner.0) ≡ true
+  owner_is d x e v = go (at_number m.process_table.processes x.owner.0) (h.coherent.doors.owner_ended d x e)
+    where
+      go : (o : Option Process) → x.owner_ended ≡ not (is_live_in o) → is_some o ≡ true
+      go None f = grind (arith, nat_tests)
+      go (Some y) f = refl
+
+  own_is : (p d : ℕ) → owner_in (door_of m d) ≡ Some p → is_owned_by p (door_of m d) ≡ true
+  own_is p d e = go (door_of m d) e
+    where
+      go : (o : Option Door) → owner_in o ≡ Some p → is_owned_by p o ≡ true
+      go None f = grind arith
+      go (Some x) f = grind (arith, nat_tests)
+
+  queued_is : (i : ℕ) (r : Call) → slice_get m.call_tree.calls i ≡ Some r → is_some (door_of m r.door) ≡ true
+  queued_is i r e = h.coherent.at_doors.door_there r.number r (found_in_order m.call_tree.calls 0 i r h.in_order e)
+
+  places : ArePlaced m
+  places =
+      record {
+        thread_number = λ t x e. h.coherent.threads.thread_number t x.number (thread_is t x e);
+        process_there = λ t x e. ap (λ o. is_some (at_number m.process_table.processes (process_in o))) (sym e) ∙ h.coherent.threads.process_there t x.number (thread_is t x e);
+        owner_there = owner_is;
+        door_number = λ d x e. h.coherent.doors.door_number d x e;
+        bound_private = λ t d e. h.coherent.bindings.bound_private t d e;
+        bound_own = λ t d e. own_is (process_of m t) d (h.coherent.bindings.bound_own t d e);
+        queued_door = λ i r e q. queued_is i r e;
+      }
+
+-- a call that is kept is one of those that it is kept of
+kept_call : (rs : List Call) (i : ℕ) (r : Call) → slice_get (filter is_live_call rs) i ≡ Some r → (k : ℕ) × (slice_get rs k ≡ Some r)
+kept_call [] i r e = grind arith
+kept_call (x ∷ rs) i r e = go (is_live_call x) refl (λ j f. kept_call rs j r f) i e
+  where
+    go :
+        (b : Bool) → is_live_call x ≡ b → ((j : ℕ) → slice_get (filter is_live_call rs) j ≡ Some r → (k : ℕ) × (slice_get rs k ≡ Some r)) →
+        (i : ℕ) → slice_get (cond b (x ∷ filter is_live_call rs) (filter is_live_call rs)) i ≡ Some r → (k : ℕ) × (slice_get (x ∷ rs) k ≡ Some r)
+    go true l ih zero f = (0, f)
+    go true l ih (suc j) f = let more = ih j f in (suc more.0, more.1)
+    go false l ih j f = let more = ih j f in (suc more.0, more.1)
+
+pub placed : (kept m : State) → kept ≡ m → IsKept kept → ArePlaced m
+placed kept m same k = subst ArePlaced (sym k.stands ∙ same) (forgotten k.written (places k.written k.invariant.consistent))
+  where
+    forgotten : (n : State) → ArePlaced n → ArePlaced (forget n)
+    forgotten n h =
+        record {
+          thread_number = h.thread_number;
+          process_there = h.process_there;
+          owner_there = h.owner_there;
+          door_number = h.door_number;
+          bound_private = h.bound_private;
+          bound_own = h.bound_own;
+          queued_door = λ i r e q. let at = kept_call n.call_tree.calls i r e in h.queued_door at.0 r at.1 q;
+        }

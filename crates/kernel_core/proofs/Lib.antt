@@ -1,5 +1,3 @@
-pub mod Places
-pub mod Tables
 pub mod Live
 pub mod Idle
 pub mod Grows
@@ -8,3 +6,4 @@ pub mod Readers
 pub mod Kept
 pub mod Tests
 pub mod Counted
+pub mod Collected

@@ -1,6 +1,5 @@
 -- A kernel keeps live calls alone: acts and giving leave live calls live, and a call that is answered leaves the list.
 use Rattle.std.proofs.Common.{◌≡◌, ℕ, suc, ◌+◌, ◌<◌, ◌++◌, ◌&&◌, Bool, true, false, not, cond, if◌then◌else◌, List, [], ◌∷◌, Option, Some, None, filter, length, map, remove, refl, sym, subst, ap, ◌∙◌, arith, position}
-use Rattle.std.specs.List.{position_or_len}
 use Rattle.written_kernel.specs.Types.{Call, Door, Errno, Item, Name, Parked, PathId, Request, ThreadState, Waiting}
 use Rattle.dk_base.specs.declared.error.Errno.TheVariants.{EBADF}
 use Rattle.dk_base.specs.declared.object.Item.TheVariants as item
@@ -10,9 +9,9 @@ use Rattle.kernel_records.specs.declared.record.CallStage.TheVariants as stage
 use Rattle.dk_base.specs.ByNumber.{at_number}
 use Rattle.kernel_records.specs.Words.{at_stage, change_first, is_client_call_of, is_given_as, is_last, is_live_call, is_owned_by, is_queued, is_queued_as, is_to_collect_as, tid, without_arguments_at}
 use Rattle.written_kernel.specs.Words.{State, StandsFor, accept, accept_call, await, await_name, begin_call, effect, ended_call, enter, exit, fail_begin, find_call, forget, give_each, give_one, give_to, go_on, has_room, leave_process, leave_thread, name_of, pick, pool_of, refusal_of, settle, unless_refused, waiting_items}
-use Rattle.std.proofs.lemmas.List.Quantifiers.{position-Some}
-use Rattle.kernel_core.specs.Kept.{AreLive, HasLiveCalls}
-use Rattle.kernel_core.proofs.Places.{position_is}
+use Rattle.call_tree.specs.Words.{AreLive}
+use Rattle.kernel_core.specs.Kept.{HasLiveCalls}
+use Rattle.written_kernel.proofs.Settling.{settle-all}
 
 -- lists
 
@@ -53,28 +52,6 @@ ended_live doors p r e = go (is_queued r.stage && is_owned_by p (at_number doors
 all_ended_live : (doors : List Door) (p : ℕ) (rs : List Call) → AreLive rs → AreLive (map (ended_call doors p) rs)
 all_ended_live doors p [] h = tt
 all_ended_live doors p (r ∷ rs) h = (ended_live doors p r h.0, all_ended_live doors p rs h.1)
-
--- a call that is answered leaves the list
-pub first_removed :
-    (test : Call → Bool) (change : Call → Call) (rs : List Call) → ((r : Call) → is_live_call (change r) ≡ false) → AreLive rs →
-    position_or_len test rs < length rs → filter is_live_call (change_first test change rs) ≡ remove rs (position_or_len test rs)
-first_removed test change [] s h k = absurd (omega arith)
-first_removed test change (r ∷ rs) s h k =
-    elim (test r) as (λ b. cond (not b) (1 + position_or_len test rs) 0 < suc (length rs) → filter is_live_call (if b then change r ∷ rs else r ∷ change_first test change rs) ≡ remove (r ∷ rs) (cond (not b) (1 + position_or_len test rs) 0)) [
-      | true ↦ λ _. ap (λ b. cond b (change r ∷ filter is_live_call rs) (filter is_live_call rs)) (s r) ∙ live_same rs h.1
-      | false ↦ λ z.
-          let e : 1 + position_or_len test rs ≡ suc (position_or_len test rs) = omega arith in
-          rw e (ap (λ b. cond b (r ∷ filter is_live_call (change_first test change rs)) (filter is_live_call (change_first test change rs))) h.0 ∙ ap (λ xs. r ∷ xs) (first_removed test change rs s h.1 (omega arith)))
-    ] k
-
-pub removed_there :
-    (c at : ℕ) (rs : List Call) (i : ℕ) (d : Call) → AreLive rs → position (is_to_collect_as c) rs ≡ Some i →
-    remove rs i ≡ filter is_live_call (change_first (is_to_collect_as c) (without_arguments_at (stage.Answered at)) rs)
-removed_there c at rs i d h e =
-    let k = position_is (is_to_collect_as c) rs i e in
-    let w = position-Some (is_to_collect_as c) rs i d e in
-    let z = first_removed (is_to_collect_as c) (without_arguments_at (stage.Answered at)) rs (λ r. refl) h (omega (arith, k, w.0)) in
-    ap (remove rs) k ∙ sym z
 
 -- states
 
@@ -148,14 +125,6 @@ give_one_live : (m : State) (i : Item) (u : ℕ) → HasLiveCalls m → HasLiveC
 give_one_live m (item.Call c) u h = changed_live (is_queued_as c) (at_stage (stage.Given (tid u))) m.call_tree.calls (λ r. refl) h
 give_one_live m (item.Notice n) u h = h
 
-give_to_live : (m : State) (w : Waiting) (o : Option Parked) → HasLiveCalls m → HasLiveCalls (give_to m w o)
-give_to_live m w None h = h
-give_to_live m w (Some x) h = give_one_live m w.item x.thread.0 h
-
-give_each_live : (ws : List Waiting) (m : State) → HasLiveCalls m → HasLiveCalls (give_each m ws)
-give_each_live [] m h = h
-give_each_live (w ∷ ws) m h =
-    give_each_live ws (give_to m w (pick m (pool_of m w.door))) (give_to_live m w (pick m (pool_of m w.door)) h)
-
 pub settle_live : (before m : State) → HasLiveCalls m → HasLiveCalls (settle before m)
-settle_live before m h = give_each_live (waiting_items m) m h
+settle_live before m h =
+    settle-all HasLiveCalls (λ n t e l. l) (λ n w x e l. give_one_live n w.item x.thread.0 l) (λ n t e l. l) before m h

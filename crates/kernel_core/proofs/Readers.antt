@@ -4,9 +4,11 @@ use Rattle.std.proofs.lemmas.List.{get_or_append_left}
 use Rattle.std.proofs.lemmas.Bool.{cases_lt}
 use Rattle.std.proofs.lemmas.Grind.{common_steps}
 use Rattle.std.proofs.Math.Seq.{get_or-append_seam}
-use Rattle.written_kernel.specs.Types.{Tid}
-use Rattle.kernel_records.specs.Words.{tid}
-use Rattle.written_kernel.specs.Words.{StandsFor, State, caller_of, forget, is_runnable, least_among, least_or, least_runnable, root, walk, woken_among}
+use Rattle.std.specs.Option.{option_map_or}
+use Rattle.written_kernel.specs.Types.{Call, Tid}
+use Rattle.kernel_records.specs.Words.{is_served_by, tid}
+use Rattle.call_tree.specs.Words.{root_in, walk_up, caller_in as called_in}
+use Rattle.written_kernel.specs.Words.{StandsFor, State, caller_in, find_call, forget, is_runnable, least_among, least_or, least_runnable, root, walk, woken_among}
 use Rattle.written_kernel.proofs.Forget.{is_runnable-forget, root-forget}
 use Rattle.std.proofs.lemmas.Option.{slice_get-get_or}
 use Rattle.std.proofs.lemmas.Bool.Decides.{nat_tests}
@@ -45,10 +47,24 @@ pub woken_none :
     xs ≡ woken_among before after (i + 1)
 woken_none before after i was here xs e g f h = let k : i + 1 ≡ suc i = omega arith in grind (arith, common_steps)
 
--- a step of a walk
-pub walk_more : (n : ℕ) (m : State) (t u : ℕ) → 0 < n → caller_of m t ≡ Some u → walk n m t ≡ walk (n - 1) m u
-walk_more zero m t u h e = absurd (omega arith)
-walk_more (suc n) m t u h e = let k : suc n - 1 ≡ n = omega arith in rw (e, k) refl
+-- the walk along the calls is the walk of the written kernel
+walked : (n : ℕ) (m : State) (t : ℕ) → walk_up n m.call_tree.calls t ≡ walk n m t
+walked zero m t = refl
+walked (suc n) m t = go (find_call m (is_served_by t)) refl (λ u. walked n m u)
+  where
+    go :
+        (o : Option Call) → find_call m (is_served_by t) ≡ o → ((u : ℕ) → walk_up n m.call_tree.calls u ≡ walk n m u) →
+        option_map_or (walk_up n m.call_tree.calls) (called_in (find_call m (is_served_by t))) t
+        ≡ option_map_or (walk n m) (caller_in (find_call m (is_served_by t))) t
+    go None e ih =
+        ap (λ o. option_map_or (walk_up n m.call_tree.calls) (called_in o) t) e ∙ sym (ap (λ o. option_map_or (walk n m) (caller_in o) t) e)
+    go (Some r) e ih =
+        ap (λ o. option_map_or (walk_up n m.call_tree.calls) (called_in o) t) e
+        ∙ ih r.caller.0
+        ∙ sym (ap (λ o. option_map_or (walk n m) (caller_in o) t) e)
+
+pub root_walked : (m : State) (t : ℕ) → root_in m.call_tree t ≡ root m t
+root_walked m t = walked m.call_tree.made m t
 
 -- a number that no thread has can take no turn
 pub none_runnable : (m : State) (t : ℕ) → length m.process_table.threads < t → is_runnable m t ≡ false

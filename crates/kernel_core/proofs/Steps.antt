@@ -1,17 +1,21 @@
 -- What a step keeps within.
-use Rattle.std.proofs.Common.{◌≡◌, ℕ, ◌<◌, length, List, [], ◌∷◌, Option, Result, Ok, Err, IfOk, OnErr, subst, sym, ap, ◌∙◌, arith}
-use Rattle.written_kernel.specs.Types.{NoMemory, Request, Stepped, Tid}
+use Rattle.std.proofs.Common.{◌≡◌, ℕ, ◌<◌, ◌&&◌, not, length, List, [], ◌∷◌, Option, None, refl, Result, Ok, Err, IfOk, OnErr, subst, sym, ap, ◌∙◌, arith}
+use Rattle.written_kernel.specs.Types.{Item, NoMemory, Request, Stepped, Tid}
 use Rattle.dk_base.specs.Words.{RoomValue}
 use Rattle.kernel_core.specs.declared.event.Parts.{Parts}
-use Rattle.kernel_core.specs.declared.store.Store.{Store}
-use Rattle.kernel_core.specs.Stored.{stored_state}
+use Rattle.kernel_store.specs.Words.{StoreValue}
+use Rattle.kernel_store.specs.Words.{stored_state}
 use Rattle.kernel_core.specs.Woken.{HasListRoom, IsCurrent, IsReady, IsReadyToSettle}
 use Rattle.kernel_core.proofs.Readers.{length_runnables}
-use Rattle.kernel_records.specs.Words.{is_live_call}
-use Rattle.written_kernel.specs.Words.{IsStep, StandsFor, State, act, forget, no_process, settle, step, with_event_counted, with_new_process, with_processes, woken_threads}
+use Rattle.dk_base.specs.declared.object.Item.TheVariants as item
+use Rattle.kernel_records.specs.Words.{has_common_door, is_live_call}
+use Rattle.pool_agreement.specs.Words.{first_common_of, is_this}
+use Rattle.pool_agreement.proofs.Settling.{first_common, no_first_common}
+use Rattle.written_kernel.specs.Words.{IsStep, StandsFor, State, act, enter, forget, give, give_one, go_on, has_first_common_door, no_process, process_of, settle, state_of, step, with_event_counted, with_new_process, with_processes, woken_threads}
 use Rattle.kernel_core.specs.Kept.{HasLiveCalls}
 use Rattle.kernel_core.specs.Numbers.{HasNumbersLeft}
 use Rattle.kernel_core.specs.Within.{IsWithin, IsSmall}
+use Rattle.written_kernel.proofs.Settling.{give-all}
 use Rattle.written_kernel.proofs.Forget.{IsStep-stands_for, forget-forget, settle-forget, woken_threads-forget}
 use Rattle.kernel_core.proofs.Live.{live_state, settle_live}
 use Rattle.kernel_core.proofs.Grows.{Grows, act-tidy, settle-grows, filter-small}
@@ -103,15 +107,39 @@ settled_kept before m n h e = e ∙ ap with_event_counted (sym (live_state (sett
 
 -- what was taken before an event suffices after its act
 pub ready_after :
-    (p : Parts) (s : Store) (woken : RoomValue Tid) → IsReady p woken → Grows 1 (stored_state p.store) (stored_state s) →
+    (p : Parts) (s : StoreValue) (woken : RoomValue Tid) → IsReady p woken → Grows 1 (stored_state p.store) (stored_state s) →
     IsCurrent p.runnable (stored_state p.store) →
-    IsReadyToSettle (record { store = s; runnable = p.runnable; waiting = p.waiting }) woken
+    IsReadyToSettle (record { store = s; runnable = p.runnable }) woken
 ready_after p s woken h g k =
     record {
-      waiting = h.waiting;
-      waiting_room = omega (arith, h.waiting_room, g.calls);
       woken = h.woken;
       woken_room = omega (arith, h.woken_room, g.threads);
       listed = ap length k.items ∙ length_runnables (stored_state p.store) (length p.store.processes.threads) ∙ sym g.threads;
       room = subst (HasListRoom p.runnable) (sym g.threads) k.room;
     }
+
+-- whether an act made a first common door is seen of what is kept
+
+doors-give : (m : State) → (give m).doors ≡ m.doors
+doors-give m = give-all (λ n. n.doors ≡ m.doors) (λ n w x e h. one n w.item x.thread.0 ∙ h) m refl
+  where
+    one : (n : State) (i : Item) (u : ℕ) → (give_one n i u).doors ≡ n.doors
+    one n (item.Call c) u = refl
+    one n (item.Notice k) u = refl
+
+first_kept : (before kept acted : State) (p : ℕ) → StandsFor kept acted → has_first_common_door before (give kept) p ≡ has_first_common_door before (give acted) p
+first_kept before kept acted p h =
+    ap (λ doors. not (has_common_door before.doors p) && has_common_door doors p)
+    (doors-give kept ∙ ap (λ (m : State). m.doors) h ∙ sym (doors-give acted))
+
+pub first_entered :
+    (m n : State) (t : ℕ) (r : Request) (first : Option ℕ) → StandsFor n (enter m t (process_of m t) r).state → first ≡ first_common_of m t r →
+    (p : ℕ) → has_first_common_door m (give n) p ≡ is_this p first
+first_entered m n t r first h e =
+    λ p. first_kept m n (enter m t (process_of m t) r).state p h ∙ first_common m t r p ∙ ap (is_this p) (sym e)
+
+pub first_gone_on :
+    (m n : State) (t : ℕ) → StandsFor n (go_on m t (process_of m t) (state_of m t)).state →
+    (p : ℕ) → has_first_common_door m (give n) p ≡ is_this p None
+first_gone_on m n t h =
+    λ p. first_kept m n (go_on m t (process_of m t) (state_of m t)).state p h ∙ no_first_common m t (state_of m t) p

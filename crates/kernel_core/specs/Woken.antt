@@ -1,10 +1,11 @@
 -- Which threads can take a turn.
-use Rattle.std.specs.Prelude.{ℕ, ◌≡◌, ◌≤◌, ◌+◌, length, ◌++◌, List, [], ◌∷◌, Bool, zero, suc}
+use Rattle.std.specs.Prelude.{ℕ, ◌≡◌, ◌≤◌, ◌+◌, length, ◌++◌, List, [], ◌∷◌, Bool, Option, zero, suc}
 use Rattle.dk_base.specs.declared.number.Tid.{Tid}
 use Rattle.dk_base.specs.Words.{RoomValue}
 use Rattle.kernel_core.specs.declared.event.Parts.{Parts}
 use Rattle.kernel_core.specs.declared.runnable.Runnable.{Runnable}
-use Rattle.written_kernel.specs.Words.{State, is_runnable}
+use Rattle.written_kernel.specs.Words.{State, give, has_first_common_door, is_runnable}
+use Rattle.pool_agreement.specs.Words.{is_this}
 
 -- of each of the threads 1 to n whether it can take a turn
 abbrev pub runnables : State → ℕ → List Bool
@@ -21,18 +22,19 @@ pub record IsCurrent (r : Runnable) (m : State) : Type 0 where
   pub items : r.list.items ≡ runnables m (length m.process_table.threads)
   pub room : HasListRoom r (length m.process_table.threads)
 
--- what was taken before an event suffices for an act that adds a call at most, and for what follows it
+-- what was taken before an event suffices for what follows it
 pub record IsReady (parts : Parts) (list : RoomValue Tid) : Type 0 where
-  pub waiting : parts.waiting.items ≡ []
-  pub waiting_room : length parts.store.calls.list.items + 1 ≤ parts.waiting.spare
   pub woken : list.items ≡ []
   pub woken_room : length parts.store.processes.threads ≤ list.spare
 
--- what was taken before an event suffices for what follows its act
+-- the same once its act is done
 pub record IsReadyToSettle (parts : Parts) (list : RoomValue Tid) : Type 0 where
-  pub waiting : parts.waiting.items ≡ []
-  pub waiting_room : length parts.store.calls.list.items ≤ parts.waiting.spare
   pub woken : list.items ≡ []
   pub woken_room : length parts.store.processes.threads ≤ list.spare
   pub listed : length parts.runnable.list.items ≡ length parts.store.processes.threads
   pub room : HasListRoom parts.runnable (length parts.store.processes.threads)
+
+-- There is a state before an act from which this process, or none, got its first common door by the act.
+pub record IsFirstCommon (acted : State) (first : Option ℕ) : Type 0 where
+  pub before : State
+  pub known : (p : ℕ) → has_first_common_door before (give acted) p ≡ is_this p first

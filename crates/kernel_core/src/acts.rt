@@ -1,12 +1,14 @@
 //! The act of a turn: an entry, unless it is refused, or the end of a wait.
 ghost use Rattle.std.specs.Prelude.{◌≡◌, ◌≤◌, [], None, false, length, true};
-ghost use Rattle.kernel_records.specs.Words.{is_done, is_idle};
-ghost use Rattle.written_kernel.specs.Words.{StandsFor, effect, end_work, enter, go_on, is_running, process_of, refusal_of, state_of};
+ghost use Rattle.kernel_records.specs.Words.{is_done, is_dormant, is_idle};
+ghost use Rattle.written_kernel.specs.Words.{StandsFor, effect, end_work, enter, go_on, is_running, now, process_of, refusal_of, state_of};
 ghost use Rattle.kernel_core.specs.Handed.{count_passed, objects_at_end};
 ghost use Rattle.kernel_core.specs.Kept.{HasLiveCalls};
 ghost use Rattle.kernel_core.specs.Numbers.{HasNumbersLeft};
-ghost use Rattle.kernel_core.specs.Stored.{HasRoom, stored_state};
+ghost use Rattle.pool_agreement.specs.Words.{IsGivenOut, IsGivenOutBut, own_pool, pool_of_request};
+ghost use Rattle.kernel_store.specs.Words.{ArePlaced, HasRoom, stored_state};
 
+use crate::binding::{bind, bind_refusal, bound_refusal, information_of_bound, unbind};
 use crate::descriptors::{
     attach, attach_refusal, await_path, close, close_refusal, detach, detach_refusal, dup,
     dup_refusal, found, open_path, open_refusal,
@@ -19,7 +21,6 @@ use crate::information::{
     set_parameter_refusal,
 };
 use crate::leaving::exit;
-use crate::store::Store;
 use dk_base::answer::Answer;
 use dk_base::error::Errno;
 use dk_base::list::{Bytes, Room};
@@ -27,6 +28,7 @@ use dk_base::number::{Fd, Pid, Tid};
 use dk_base::object::Obj;
 use dk_base::request::Request;
 use kernel_records::record::ThreadState;
+use kernel_store::store::Store;
 use std::alloc::Global;
 
 /// What an entry of thread `t` of process `p` is refused with, if it is.
@@ -42,7 +44,10 @@ fn refusal_of(store: &Store, t: Tid, p: Pid, request: &Request) -> Option<Errno>
             ..
         } => call_refusal(store, p, *door, bytes, pass),
         Request::Return { bytes, pass } => return_refusal(store, t, p, bytes, pass),
+        Request::Bind { fd } => bind_refusal(store, p, *fd),
+        Request::Unbind => bound_refusal(store, t),
         Request::Info { fd } => door_refusal(store, p, *fd),
+        Request::InfoQuery => bound_refusal(store, t),
         Request::GetParam { fd, .. } => door_refusal(store, p, *fd),
         Request::SetParam { fd, param, value } => {
             set_parameter_refusal(store, p, *fd, *param, *value)
@@ -78,13 +83,18 @@ fn effect(
     objects: Room<Obj>,
 ) -> Answer
     requires numbers { HasNumbersLeft (stored_state store.old) }
-    requires room { HasRoom store.old }
+    requires room { HasRoom store.old (pool_of_request (stored_state store.old) t.0 request) }
+    requires placed { ArePlaced (stored_state store.old) }
+    requires first { store.old.latest ≤ store.old.events }
     requires running { is_running (stored_state store.old) t.0 ≡ true }
+    requires own { p.0 ≡ process_of (stored_state store.old) t.0 }
     requires allowed { refusal_of (stored_state store.old) t.0 p.0 request ≡ None }
     requires empty { objects.items ≡ [] }
     requires spare { count_passed request ≤ objects.spare }
     ensures state { stored_state store.new ≡ (effect (stored_state store.old) t.0 p.0 request).state }
     ensures answer { result ≡ (effect (stored_state store.old) t.0 p.0 request).answer }
+    ensures given_out { IsGivenOut store.old.pools → IsGivenOutBut (pool_of_request (stored_state store.old) t.0 request) store.new.pools }
+    ensures latest { store.new.latest ≤ now (stored_state store.old) }
 {
     match request {
         Request::Create {
@@ -101,7 +111,10 @@ fn effect(
         Request::Return { bytes, pass } => {
             return_from(store, alloc, t, p, bytes, &pass, objects)
         }
+        Request::Bind { fd } => bind(store, t, p, fd),
+        Request::Unbind => unbind(store, t),
         Request::Info { fd } => information(store, p, fd),
+        Request::InfoQuery => information_of_bound(store, t, p),
         Request::GetParam { fd, param } => parameter(store, p, fd, param),
         Request::SetParam { fd, param, value } => set_parameter(store, p, fd, param, value),
         Request::Cred => credentials(store, t),
@@ -125,15 +138,19 @@ pub fn enter(
     objects: Room<Obj>,
 ) -> Answer
     requires numbers { HasNumbersLeft (stored_state store.old) }
-    requires room { HasRoom store.old }
+    requires room { HasRoom store.old (pool_of_request (stored_state store.old) t.0 request) }
+    requires placed { ArePlaced (stored_state store.old) }
+    requires first { store.old.latest ≤ store.old.events }
     requires live { HasLiveCalls (stored_state store.old) }
     requires running { is_running (stored_state store.old) t.0 ≡ true }
     requires empty { objects.items ≡ [] }
     requires spare { count_passed request ≤ objects.spare }
     ensures state { StandsFor (stored_state store.new) (enter (stored_state store.old) t.0 (process_of (stored_state store.old) t.0) request).state }
     ensures answer { result ≡ (enter (stored_state store.old) t.0 (process_of (stored_state store.old) t.0) request).answer }
+    ensures given_out { IsGivenOut store.old.pools → IsGivenOutBut (pool_of_request (stored_state store.old) t.0 request) store.new.pools }
+    ensures latest { store.new.latest ≤ now (stored_state store.old) }
 {
-    let p = store.processes.process_of(t);
+    let p = store.processes().process_of(t);
     match refusal_of(store, t, p, &request) {
         Some(errno) => Answer::Failure(errno),
         None => effect(store, alloc, t, p, request, objects),
@@ -144,10 +161,13 @@ pub fn enter(
 fn end_work(store: &mut Store, alloc: Global, t: Tid) -> Answer
     requires not_done { is_done (state_of (stored_state store.old) t.0) ≡ false }
     requires not_idle { is_idle (state_of (stored_state store.old) t.0) ≡ false }
+    requires not_dormant { is_dormant (state_of (stored_state store.old) t.0) ≡ false }
     ensures state { stored_state store.new ≡ (end_work (stored_state store.old) t.0).state }
     ensures answer { result ≡ (end_work (stored_state store.old) t.0).answer }
+    ensures pools { store.new.pools ≡ store.old.pools }
+    ensures latest { store.new.latest ≡ store.old.latest }
 {
-    store.processes.turn(t, ThreadState::Running);
+    store.turn(t, ThreadState::Running);
     Answer::Data {
         bytes: Bytes::new(alloc),
     }
@@ -156,14 +176,19 @@ fn end_work(store: &mut Store, alloc: Global, t: Tid) -> Answer
 /// The end of a wait, by what the thread waits for. The descriptors that objects get go into `fds`.
 pub fn go_on(store: &mut Store, alloc: Global, t: Tid, fds: Room<Fd>) -> Answer
     requires numbers { HasNumbersLeft (stored_state store.old) }
+    requires room { HasRoom store.old (own_pool (stored_state store.old) t.0) }
+    requires placed { ArePlaced (stored_state store.old) }
+    requires first { store.old.latest ≤ store.old.events }
     requires live { HasLiveCalls (stored_state store.old) }
     requires empty { fds.items ≡ [] }
     requires spare { length (objects_at_end (stored_state store.old) t.0 (state_of (stored_state store.old) t.0)) ≤ fds.spare }
     ensures state { StandsFor (stored_state store.new) (go_on (stored_state store.old) t.0 (process_of (stored_state store.old) t.0) (state_of (stored_state store.old) t.0)).state }
     ensures answer { result ≡ (go_on (stored_state store.old) t.0 (process_of (stored_state store.old) t.0) (state_of (stored_state store.old) t.0)).answer }
+    ensures given_out { IsGivenOut store.old.pools → IsGivenOutBut (own_pool (stored_state store.old) t.0) store.new.pools }
+    ensures latest { store.new.latest ≤ now (stored_state store.old) }
 {
-    let p = store.processes.process_of(t);
-    match store.processes.state(t) {
+    let p = store.processes().process_of(t);
+    match store.processes().state(t) {
         ThreadState::Given { item } => {
             let item = *item;
             accept(store, alloc, t, p, item, fds)

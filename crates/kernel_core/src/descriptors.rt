@@ -1,16 +1,17 @@
 //! The acts of descriptors and names. What needs a free or an open descriptor, or a free path, has the condition that it is
 //! not refused.
 ghost use Rattle.std.specs.Prelude.{◌≡◌, None, false, is_none, true};
-ghost use Rattle.kernel_records.specs.Words.{first_refusal, is_done, is_idle, lowest_free};
+ghost use Rattle.kernel_records.specs.Words.{first_refusal, is_done, is_dormant, is_idle, lowest_free};
 ghost use Rattle.written_kernel.specs.Words.{attach, attach_tests, await, close, close_tests, detach, detach_tests, door_named, dup, dup_tests, end_await, insert_object, is_running, object_at, open_path, open_tests, state_of, table_of};
-ghost use Rattle.kernel_core.specs.Stored.{HasRoom, stored_state};
+ghost use Rattle.name_space.specs.Words.{HasRoomForName};
+ghost use Rattle.kernel_store.specs.Words.{stored_state};
 
-use crate::store::Store;
 use dk_base::answer::Answer;
 use dk_base::error::Errno;
 use dk_base::number::{Fd, PathId, Pid, Tid};
 use dk_base::object::Obj;
 use kernel_records::record::ThreadState;
+use kernel_store::store::Store;
 
 /// The number of the door that a descriptor names, 0 for none.
 pub fn door_named(store: &Store, p: Pid, fd: Fd) -> u32
@@ -27,6 +28,8 @@ pub fn add_row(store: &mut Store, p: Pid, object: Obj) -> Answer
     requires { is_none (lowest_free (table_of (stored_state store.old) p.0)) ≡ false }
     ensures state { stored_state store.new ≡ (insert_object (stored_state store.old) p.0 object).state }
     ensures answer { result ≡ (insert_object (stored_state store.old) p.0 object).answer }
+    ensures pools { store.new.pools ≡ store.old.pools }
+    ensures latest { store.new.latest ≡ store.old.latest }
 {
     let fd = store.insert(p, object);
     Answer::NewFd { fd }
@@ -47,6 +50,8 @@ pub fn close(store: &mut Store, p: Pid, fd: Fd) -> Answer
     requires { first_refusal (close_tests (stored_state store.old) p.0 fd) ≡ None }
     ensures state { stored_state store.new ≡ (close (stored_state store.old) p.0 fd).state }
     ensures answer { result ≡ (close (stored_state store.old) p.0 fd).answer }
+    ensures pools { store.new.pools ≡ store.old.pools }
+    ensures latest { store.new.latest ≡ store.old.latest }
 {
     store.close(p, fd);
     Answer::Done
@@ -70,6 +75,8 @@ pub fn dup(store: &mut Store, p: Pid, fd: Fd) -> Answer
     requires { first_refusal (dup_tests (stored_state store.old) p.0 fd) ≡ None }
     ensures state { stored_state store.new ≡ (dup (stored_state store.old) p.0 fd).state }
     ensures answer { result ≡ (dup (stored_state store.old) p.0 fd).answer }
+    ensures pools { store.new.pools ≡ store.old.pools }
+    ensures latest { store.new.latest ≡ store.old.latest }
 {
     match store.object_at(p, fd) {
         Some(object) => add_row(store, p, object),
@@ -91,10 +98,12 @@ pub fn attach_refusal(store: &Store, p: Pid, fd: Fd, path: PathId) -> Option<Err
 
 /// fattach(3C): the door is attached to the path.
 pub fn attach(store: &mut Store, p: Pid, fd: Fd, path: PathId) -> Answer
-    requires room { HasRoom store.old }
+    requires room { HasRoomForName store.old.names }
     requires allowed { first_refusal (attach_tests (stored_state store.old) p.0 fd path) ≡ None }
     ensures state { stored_state store.new ≡ (attach (stored_state store.old) p.0 fd path).state }
     ensures answer { result ≡ (attach (stored_state store.old) p.0 fd path).answer }
+    ensures pools { store.new.pools ≡ store.old.pools }
+    ensures latest { store.new.latest ≡ store.old.latest }
 {
     let door = door_named(store, p, fd);
     store.attach(path, door);
@@ -115,6 +124,8 @@ pub fn detach_refusal(store: &Store, path: PathId) -> Option<Errno>
 pub fn detach(store: &mut Store, path: PathId) -> Answer
     ensures state { stored_state store.new ≡ (detach (stored_state store.old) path).state }
     ensures answer { result ≡ (detach (stored_state store.old) path).answer }
+    ensures pools { store.new.pools ≡ store.old.pools }
+    ensures latest { store.new.latest ≡ store.old.latest }
 {
     store.detach(path);
     Answer::Done
@@ -138,22 +149,26 @@ pub fn open_path(store: &mut Store, p: Pid, path: PathId) -> Answer
     requires { first_refusal (open_tests (stored_state store.old) p.0 path) ≡ None }
     ensures state { stored_state store.new ≡ (open_path (stored_state store.old) p.0 path).state }
     ensures answer { result ≡ (open_path (stored_state store.old) p.0 path).answer }
+    ensures pools { store.new.pools ≡ store.old.pools }
+    ensures latest { store.new.latest ≡ store.old.latest }
 {
     let door = store.door_attached(path);
     add_row(store, p, Obj::Door(door))
 }
 
 /// Done where a door is attached to the path, else the thread, which runs, waits until one is.
-#[tactic(auto, using(crate::proofs::Idle::running_not_done, crate::proofs::Idle::running_not_idle))]
+#[tactic(auto, using(crate::proofs::Idle::running_not_done, crate::proofs::Idle::running_not_idle, crate::proofs::Idle::running_not_dormant))]
 pub fn await_path(store: &mut Store, t: Tid, path: PathId) -> Answer
     requires { is_running (stored_state store.old) t.0 ≡ true }
     ensures state { stored_state store.new ≡ (await (stored_state store.old) t.0 path).state }
     ensures answer { result ≡ (await (stored_state store.old) t.0 path).answer }
+    ensures pools { store.new.pools ≡ store.old.pools }
+    ensures latest { store.new.latest ≡ store.old.latest }
 {
     if store.has_name(path) {
         return Answer::Done;
     }
-    store.processes.turn(t, ThreadState::Awaiting { path });
+    store.turn(t, ThreadState::Awaiting { path });
     Answer::Wait
 }
 
@@ -161,9 +176,12 @@ pub fn await_path(store: &mut Store, t: Tid, path: PathId) -> Answer
 pub fn found(store: &mut Store, t: Tid) -> Answer
     requires not_done { is_done (state_of (stored_state store.old) t.0) ≡ false }
     requires not_idle { is_idle (state_of (stored_state store.old) t.0) ≡ false }
+    requires not_dormant { is_dormant (state_of (stored_state store.old) t.0) ≡ false }
     ensures state { stored_state store.new ≡ (end_await (stored_state store.old) t.0).state }
     ensures answer { result ≡ (end_await (stored_state store.old) t.0).answer }
+    ensures pools { store.new.pools ≡ store.old.pools }
+    ensures latest { store.new.latest ≡ store.old.latest }
 {
-    store.processes.turn(t, ThreadState::Running);
+    store.turn(t, ThreadState::Running);
     Answer::Done
 }

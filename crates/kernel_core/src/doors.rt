@@ -1,17 +1,17 @@
 //! The acts of doors, of calls of them, and of their invocations.
-ghost use Rattle.std.specs.Prelude.{◌≡◌, ◌++◌, ◌≤◌, [], None, false, length, true};
+ghost use Rattle.std.specs.Prelude.{◌≡◌, ◌++◌, ◌<◌, ◌≤◌, [], None, false, length, true};
 ghost use Rattle.dk_base.specs.declared.object.Item.TheVariants as item;
 ghost use Rattle.kernel_records.specs.declared.record.ThreadState.TheVariants as is;
-ghost use Rattle.kernel_records.specs.Words.{cookie_of, entry_of, first_refusal, is_done, is_given_as, is_idle, limit_tests, no_cancel_of};
+ghost use Rattle.kernel_records.specs.Words.{cookie_of, entry_of, first_refusal, is_done, is_dormant, is_given_as, is_idle, limit_tests, no_cancel_of};
 ghost use Rattle.written_kernel.specs.Types.{Call};
-ghost use Rattle.written_kernel.specs.Words.{StandsFor, accept, accept_call, call, call_tests, collect, collect_answer_in, create, create_tests, door_of, find_call, has_room, is_running, new_call, objects_collected_in, pass_tests, pool_tests, results_answer, return, return_tests, state_of, tables_after_collect};
+ghost use Rattle.written_kernel.specs.Words.{StandsFor, accept, accept_call, call, call_tests, collect, collect_answer_in, create, create_tests, door_named, door_of, find_call, has_room, is_running, new_call, now, object_at, objects_collected_in, pass_tests, pool_of, pool_tests, results_answer, return, return_tests, state_of, tables_after_collect};
 ghost use Rattle.kernel_core.specs.Handed.{objects_at_end, objects_given, objects_to_collect, objects_with};
 ghost use Rattle.kernel_core.specs.Kept.{HasLiveCalls};
 ghost use Rattle.kernel_core.specs.Numbers.{HasNumbersLeft};
-ghost use Rattle.kernel_core.specs.Stored.{HasRoom, stored_state};
+ghost use Rattle.pool_agreement.specs.Words.{IsGivenOut, IsGivenOutBut, own_pool};
+ghost use Rattle.kernel_store.specs.Words.{ArePlaced, HasRoom, stored_state};
 
 use crate::descriptors::{add_row, door_named};
-use crate::store::Store;
 use dk_base::answer::Answer;
 use dk_base::error::Errno;
 use dk_base::limits::{DATA_MAX, PASS_MAX, QUEUE_MAX};
@@ -21,6 +21,7 @@ use dk_base::object::{Item, Obj};
 use dk_base::set::Attrs;
 use door_object::doors::Doors;
 use kernel_records::record::{Call, CallStage, ThreadState};
+use kernel_store::store::Store;
 use std::alloc::Global;
 
 /// door_create(3C): EINVAL for attributes that only door_info(3C) tells, EMFILE.
@@ -39,10 +40,14 @@ pub fn create_refusal(store: &Store, p: Pid, attrs: Attrs) -> Option<Errno>
 /// door_create(3C): a door of the process at its lowest descriptor that is free.
 pub fn create(store: &mut Store, p: Pid, entry: u32, cookie: u64, attrs: Attrs) -> Answer
     requires numbers { HasNumbersLeft (stored_state store.old) }
-    requires room { HasRoom store.old }
+    requires room { 0 < store.old.doors.spare }
+    requires pool_room { 0 < store.old.pools.door_room }
+    requires placed { ArePlaced (stored_state store.old) }
     requires allowed { first_refusal (create_tests (stored_state store.old) p.0 attrs) ≡ None }
     ensures state { stored_state store.new ≡ (create (stored_state store.old) p.0 entry cookie attrs).state }
     ensures answer { result ≡ (create (stored_state store.old) p.0 entry cookie attrs).answer }
+    ensures given_out { IsGivenOut store.old.pools → IsGivenOut store.new.pools }
+    ensures latest { store.new.latest ≡ store.old.latest }
 {
     let number = store.add_door(p, entry, cookie, attrs);
     add_row(store, p, Obj::Door(number))
@@ -52,7 +57,7 @@ pub fn create(store: &mut Store, p: Pid, entry: u32, cookie: u64, attrs: Attrs) 
 fn pool_refusal(store: &Store, d: u32) -> Option<Errno>
     ensures { result ≡ first_refusal (pool_tests (stored_state store.now) d) }
 {
-    if store.calls_waiting(&store.pool_of(d)) >= QUEUE_MAX {
+    if store.calls_waiting(store.pool_of(d)) >= QUEUE_MAX {
         return Some(Errno::EAGAIN);
     }
     None
@@ -63,7 +68,7 @@ fn limit_refusal(store: &Store, d: u32, bytes: &Bytes, pass: &PassList) -> Optio
     ensures { result ≡ first_refusal (limit_tests (door_of (stored_state store.now) d) (length bytes.now) (length pass.now)) }
 {
     store
-        .doors
+        .doors()
         .limit_refusal(d, bytes.len() as u64, pass.len() as u64)
 }
 
@@ -103,7 +108,7 @@ fn new_call(store: &Store, t: Tid, d: u32, bytes: Bytes, objects: ObjList, rsize
     ensures { result ≡ new_call (stored_state store.now) t.0 d bytes objects rsize }
 {
     Call {
-        number: store.calls.made + 1,
+        number: store.calls().made() + 1,
         made: store.now(),
         caller: t,
         door: d,
@@ -117,7 +122,7 @@ fn new_call(store: &Store, t: Tid, d: u32, bytes: Bytes, objects: ObjList, rsize
 }
 
 /// door_call(3C): a call that waits for a server thread, by a thread that runs. What is passed goes with it.
-#[tactic(auto, using(crate::proofs::Idle::running_not_done, crate::proofs::Idle::running_not_idle))]
+#[tactic(auto, using(crate::proofs::Idle::running_not_done, crate::proofs::Idle::running_not_idle, crate::proofs::Idle::running_not_dormant))]
 pub fn call(
     store: &mut Store,
     t: Tid,
@@ -129,21 +134,23 @@ pub fn call(
     mut objects: Room<Obj>,
 ) -> Answer
     requires numbers { HasNumbersLeft (stored_state store.old) }
-    requires room { HasRoom store.old }
+    requires room { HasRoom store.old (pool_of (stored_state store.old) (door_named (object_at (stored_state store.old) p.0 fd))) }
+    requires placed { ArePlaced (stored_state store.old) }
     requires running { is_running (stored_state store.old) t.0 ≡ true }
+    requires allowed { first_refusal (call_tests (stored_state store.old) p.0 fd bytes pass.now) ≡ None }
     requires empty { objects.items ≡ [] }
     requires spare { length pass.now ≤ objects.spare }
     ensures state { stored_state store.new ≡ (call (stored_state store.old) t.0 p.0 fd bytes pass.now rsize).state }
     ensures answer { result ≡ (call (stored_state store.old) t.0 p.0 fd bytes pass.now rsize).answer }
+    ensures given_out { IsGivenOut store.old.pools → IsGivenOutBut (pool_of (stored_state store.old) (door_named (object_at (stored_state store.old) p.0 fd))) store.new.pools }
+    ensures latest { store.new.latest ≡ store.old.latest }
 {
     let door = door_named(store, p, fd);
     store.take_out(p, pass, &mut objects);
     let call = new_call(store, t, door, bytes, objects.into_list(), rsize);
     let number = call.number;
-    store.calls.open(call);
-    store
-        .processes
-        .turn(t, ThreadState::Calling { call: number });
+    store.open_call(call);
+    store.turn(t, ThreadState::Calling { call: number });
     Answer::WaitCall { call: number }
 }
 
@@ -157,7 +164,7 @@ pub fn return_refusal(
 ) -> Option<Errno>
     ensures { result ≡ first_refusal (return_tests (stored_state store.now) t.0 p.0 bytes.now pass.now) }
 {
-    if store.calls.client(t).is_some() && (bytes.len() > DATA_MAX || pass.len() > PASS_MAX) {
+    if store.calls().client(t).is_some() && (bytes.len() > DATA_MAX || pass.len() > PASS_MAX) {
         return Some(Errno::E2BIG);
     }
     if store.is_bad_pass(p, pass) {
@@ -168,7 +175,6 @@ pub fn return_refusal(
 
 /// door_return(3C): the results and what is passed go to the client, or are dropped where there is none, and the thread, which
 /// runs, is parked.
-#[tactic(auto, using(crate::proofs::Idle::running_not_done, crate::proofs::Idle::running_not_idle))]
 pub fn return_from(
     store: &mut Store,
     alloc: Global,
@@ -179,16 +185,19 @@ pub fn return_from(
     mut objects: Room<Obj>,
 ) -> Answer
     requires numbers { HasNumbersLeft (stored_state store.old) }
+    requires room { HasRoom store.old (own_pool (stored_state store.old) t.0) }
+    requires placed { ArePlaced (stored_state store.old) }
+    requires first { store.old.latest ≤ store.old.events }
     requires running { is_running (stored_state store.old) t.0 ≡ true }
     requires empty { objects.items ≡ [] }
     requires spare { length pass.now ≤ objects.spare }
     ensures state { stored_state store.new ≡ (return (stored_state store.old) t.0 p.0 bytes pass.now).state }
     ensures answer { result ≡ (return (stored_state store.old) t.0 p.0 bytes pass.now).answer }
+    ensures given_out { IsGivenOut store.old.pools → IsGivenOutBut (own_pool (stored_state store.old) t.0) store.new.pools }
+    ensures latest { store.new.latest ≡ now (stored_state store.old) }
 {
-    let since = store.now();
     store.take_out(p, pass, &mut objects);
-    store.calls.give_back(alloc, t, bytes, objects.into_list());
-    store.processes.park(t, since);
+    store.return_call(alloc, t, bytes, objects.into_list());
     Answer::Wait
 }
 
@@ -207,7 +216,7 @@ fn entry_point(store: &Store, d: u32) -> (u32, u64)
 fn count_given(store: &Store, t: Tid, c: u32) -> usize
     ensures { result ≡ length (objects_given (stored_state store.now) t.0 c) }
 {
-    match store.calls.given(c, t) {
+    match store.calls().given(c, t) {
         Some(call) => call.objects.len(),
         None => 0,
     }
@@ -217,7 +226,7 @@ fn count_given(store: &Store, t: Tid, c: u32) -> usize
 fn count_to_collect(store: &Store, c: u32) -> usize
     ensures { result ≡ length (objects_to_collect (stored_state store.now) c) }
 {
-    match store.calls.ready(c) {
+    match store.calls().ready(c) {
         Some(
             Call {
                 stage: CallStage::Returned { objects, .. },
@@ -232,7 +241,7 @@ fn count_to_collect(store: &Store, c: u32) -> usize
 fn has_room_given(store: &Store, t: Tid, p: Pid, c: u32) -> bool
     ensures { result ≡ has_room (stored_state store.now) p.0 (objects_given (stored_state store.now) t.0 c) }
 {
-    match store.calls.given(c, t) {
+    match store.calls().given(c, t) {
         Some(call) => store.has_room(p, &call.objects),
         None => true,
     }
@@ -246,12 +255,13 @@ fn begin_call(store: &mut Store, alloc: Global, t: Tid, p: Pid, c: u32, fds: Roo
     requires room { has_room (stored_state store.old) p.0 (objects_given (stored_state store.old) t.0 c) ≡ true }
     ensures state { stored_state store.new ≡ (accept_call (stored_state store.old) t.0 p.0 c (find_call (stored_state store.old) (is_given_as c t.0))).state }
     ensures answer { result ≡ (accept_call (stored_state store.old) t.0 p.0 c (find_call (stored_state store.old) (is_given_as c t.0))).answer }
+    ensures pools { store.new.pools ≡ store.old.pools }
+    ensures latest { store.new.latest ≡ store.old.latest }
 {
-    let Some(call) = store.calls.enter(alloc, c, t) else {
+    let Some(call) = store.enter_call(alloc, c, t) else {
         return Answer::Done;
     };
     let (entry, cookie) = entry_point(store, call.door);
-    store.processes.enter(t, Item::Call(c));
     let Call {
         number,
         bytes,
@@ -271,15 +281,18 @@ fn begin_call(store: &mut Store, alloc: Global, t: Tid, p: Pid, c: u32, fds: Roo
 fn fail_begin(store: &mut Store, alloc: Global, t: Tid, p: Pid, c: u32) -> Answer
     requires given { state_of (stored_state store.old) t.0 ≡ is.Given (item.Call c) }
     requires numbers { HasNumbersLeft (stored_state store.old) }
+    requires pool_room { HasRoom store.old (own_pool (stored_state store.old) t.0) }
+    requires placed { ArePlaced (stored_state store.old) }
+    requires first { store.old.latest ≤ store.old.events }
     requires full { has_room (stored_state store.old) p.0 (objects_given (stored_state store.old) t.0 c) ≡ false }
     ensures state { stored_state store.new ≡ (accept_call (stored_state store.old) t.0 p.0 c (find_call (stored_state store.old) (is_given_as c t.0))).state }
     ensures answer { result ≡ (accept_call (stored_state store.old) t.0 p.0 c (find_call (stored_state store.old) (is_given_as c t.0))).answer }
+    ensures given_out { IsGivenOut store.old.pools → IsGivenOutBut (own_pool (stored_state store.old) t.0) store.new.pools }
+    ensures latest { store.new.latest ≤ now (stored_state store.old) }
 {
-    let Some(call) = store.calls.fail(alloc, c, t) else {
+    let Some(call) = store.fail_call(alloc, c, t) else {
         return Answer::Done;
     };
-    let again = store.now();
-    store.processes.park(t, again);
     Answer::EnterFailed { call: call.number }
 }
 
@@ -288,10 +301,15 @@ fn fail_begin(store: &mut Store, alloc: Global, t: Tid, p: Pid, c: u32) -> Answe
 fn accept_call(store: &mut Store, alloc: Global, t: Tid, p: Pid, c: u32, fds: Room<Fd>) -> Answer
     requires given { state_of (stored_state store.old) t.0 ≡ is.Given (item.Call c) }
     requires numbers { HasNumbersLeft (stored_state store.old) }
+    requires pool_room { HasRoom store.old (own_pool (stored_state store.old) t.0) }
+    requires placed { ArePlaced (stored_state store.old) }
+    requires first { store.old.latest ≤ store.old.events }
     requires empty { fds.items ≡ [] }
     requires spare { length (objects_given (stored_state store.old) t.0 c) ≤ fds.spare }
     ensures state { stored_state store.new ≡ (accept_call (stored_state store.old) t.0 p.0 c (find_call (stored_state store.old) (is_given_as c t.0))).state }
     ensures answer { result ≡ (accept_call (stored_state store.old) t.0 p.0 c (find_call (stored_state store.old) (is_given_as c t.0))).answer }
+    ensures given_out { IsGivenOut store.old.pools → IsGivenOutBut (own_pool (stored_state store.old) t.0) store.new.pools }
+    ensures latest { store.new.latest ≤ now (stored_state store.old) }
 {
     if has_room_given(store, t, p, c) {
         begin_call(store, alloc, t, p, c, fds)
@@ -304,10 +322,15 @@ fn accept_call(store: &mut Store, alloc: Global, t: Tid, p: Pid, c: u32, fds: Ro
 pub fn accept(store: &mut Store, alloc: Global, t: Tid, p: Pid, item: Item, fds: Room<Fd>) -> Answer
     requires given { state_of (stored_state store.old) t.0 ≡ is.Given item }
     requires numbers { HasNumbersLeft (stored_state store.old) }
+    requires pool_room { HasRoom store.old (own_pool (stored_state store.old) t.0) }
+    requires placed { ArePlaced (stored_state store.old) }
+    requires first { store.old.latest ≤ store.old.events }
     requires empty { fds.items ≡ [] }
     requires spare { length (objects_with (stored_state store.old) t.0 item) ≤ fds.spare }
     ensures state { stored_state store.new ≡ (accept (stored_state store.old) t.0 p.0 item).state }
     ensures answer { result ≡ (accept (stored_state store.old) t.0 p.0 item).answer }
+    ensures given_out { IsGivenOut store.old.pools → IsGivenOutBut (own_pool (stored_state store.old) t.0) store.new.pools }
+    ensures latest { store.new.latest ≤ now (stored_state store.old) }
 {
     match item {
         Item::Call(c) => accept_call(store, alloc, t, p, c, fds),
@@ -328,6 +351,8 @@ fn hand_results(
     requires spare { length objects.now ≤ fds.spare }
     ensures state { stored_state store.new ≡ record (stored_state store.old) { tables = tables_after_collect (stored_state store.old) p.0 objects.now } }
     ensures answer { (r : Call) → r.rsize ≡ rsize → result ≡ results_answer (stored_state store.old) p.0 r bytes objects.now }
+    ensures pools { store.new.pools ≡ store.old.pools }
+    ensures latest { store.new.latest ≡ store.old.latest }
 {
     if !store.has_room(p, objects) {
         return Answer::Failure(Errno::EMFILE);
@@ -345,6 +370,8 @@ fn outcome(store: &mut Store, p: Pid, call: Option<Call>, fds: Room<Fd>) -> Answ
     requires spare { length (objects_collected_in call) ≤ fds.spare }
     ensures state { stored_state store.new ≡ record (stored_state store.old) { tables = tables_after_collect (stored_state store.old) p.0 (objects_collected_in call) } }
     ensures answer { result ≡ collect_answer_in (stored_state store.old) p.0 call }
+    ensures pools { store.new.pools ≡ store.old.pools }
+    ensures latest { store.new.latest ≡ store.old.latest }
 {
     let Some(Call { rsize, stage, .. }) = call else {
         return Answer::Done;
@@ -363,13 +390,16 @@ pub fn collect(store: &mut Store, t: Tid, p: Pid, c: u32, fds: Room<Fd>) -> Answ
     requires live { HasLiveCalls (stored_state store.old) }
     requires not_done { is_done (state_of (stored_state store.old) t.0) ≡ false }
     requires not_idle { is_idle (state_of (stored_state store.old) t.0) ≡ false }
+    requires not_dormant { is_dormant (state_of (stored_state store.old) t.0) ≡ false }
     requires empty { fds.items ≡ [] }
     requires spare { length (objects_to_collect (stored_state store.old) c) ≤ fds.spare }
     ensures state { StandsFor (stored_state store.new) (collect (stored_state store.old) t.0 p.0 c).state }
     ensures answer { result ≡ (collect (stored_state store.old) t.0 p.0 c).answer }
+    ensures pools { store.new.pools ≡ store.old.pools }
+    ensures latest { store.new.latest ≡ store.old.latest }
 {
-    let call = store.calls.collect(c);
-    store.processes.turn(t, ThreadState::Running);
+    let call = store.collect_call(c);
+    store.turn(t, ThreadState::Running);
     outcome(store, p, call, fds)
 }
 
@@ -377,7 +407,7 @@ pub fn collect(store: &mut Store, t: Tid, p: Pid, c: u32, fds: Room<Fd>) -> Answ
 pub fn count_at_end(store: &Store, t: Tid) -> usize
     ensures { result ≡ length (objects_at_end (stored_state store.now) t.0 (state_of (stored_state store.now) t.0)) }
 {
-    match store.processes.state(t) {
+    match store.processes().state(t) {
         ThreadState::Given {
             item: Item::Call(c),
         } => count_given(store, t, *c),

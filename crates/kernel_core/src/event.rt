@@ -1,32 +1,72 @@
 //! One event: the memory that it can need is taken first, then the act, and what follows it.
-ghost use Rattle.std.specs.Prelude.{◌≡◌, ◌+◌, ◌<◌, length, true, Some, None, IfOk, OnOk, OnErr};
+ghost use Rattle.std.specs.Prelude.{◌≡◌, ℕ, ◌+◌, ◌<◌, ◌≤◌, false, length, true, Some, None, IfOk, OnOk, OnErr};
+ghost use Rattle.std.specs.Option.{option_map};
 ghost use Rattle.dk_base.specs.declared.limits.TheConstants.{EVENTS_MAX, THREADS_MAX};
-ghost use Rattle.written_kernel.specs.Words.{IsStep, State, forget, is_live_process, is_running, settle, step, with_event_counted, with_new_thread, woken_threads};
+ghost use Rattle.written_kernel.specs.Words.{IsStep, State, act, forget, give, has_first_common_door, has_lost_door, is_live_process, is_running, settle, step, with_event_counted, with_new_thread, woken_threads};
 ghost use Rattle.kernel_core.specs.Kept.{HasLiveCalls};
 ghost use Rattle.kernel_core.specs.Numbers.{HasNumbersLeft};
-ghost use Rattle.kernel_core.specs.Stored.{HasRoom, stored_state};
-ghost use Rattle.kernel_core.specs.Woken.{IsCurrent, IsReady, IsReadyToSettle};
+ghost use Rattle.pool_agreement.specs.Words.{IsGivenOut, IsGivenOutBut, first_common_of, is_this, makes_first_common, pool_of_request};
+ghost use Rattle.kernel_store.specs.Words.{ArePlaced, HasRoom, stored_state};
+ghost use Rattle.kernel_core.specs.Woken.{IsCurrent, IsFirstCommon, IsReady, IsReadyToSettle};
 
 use crate::acts::{count_passed, enter, go_on};
-use crate::doors::count_at_end;
+use crate::descriptors::door_named;
+use crate::doors::{count_at_end, create_refusal};
 use crate::runnable::Runnable;
-use crate::settle::settle;
-use crate::store::Store;
 use dk_base::answer::Answer;
 use dk_base::error::NoMemory;
 use dk_base::event::Stepped;
 use dk_base::list::Room;
 use dk_base::number::{Pid, Tid};
 use dk_base::request::Request;
-use kernel_records::pool::Waiting;
+use dk_base::set::Attrs;
+use kernel_records::pool::Pool;
+use kernel_store::store::Store;
 use std::alloc::Global;
 
-/// A kernel's store, and the lists that each event needs, which are kept from one event to the next.
+/// A kernel's store, and who can take a turn, which is kept from one event to the next.
 #[derive(Drop)]
 pub struct Parts {
     pub store: Store,
     pub runnable: Runnable,
-    pub waiting: Room<Waiting>,
+}
+
+/// The pool that the act of an entry touches.
+fn pool_of_request(store: &Store, t: Tid, request: &Request) -> Pool
+    ensures { result ≡ pool_of_request (stored_state store.now) t.0 request.now }
+{
+    match request {
+        Request::Call { door, .. } => {
+            let p = store.processes().process_of(t);
+            store.pool_of(door_named(store, p, *door))
+        }
+        _ => store.own_pool(t),
+    }
+}
+
+/// Whether a Create by a process makes its first door that its common pool serves.
+fn makes_first_common(store: &Store, p: Pid, attrs: Attrs) -> bool
+    ensures { result ≡ makes_first_common (stored_state store.now) p.0 attrs }
+{
+    let is_private = attrs.0 & Attrs::PRIVATE.0 == Attrs::PRIVATE.0;
+    create_refusal(store, p, attrs).is_none() && !is_private && !store.doors().has_common(p)
+}
+
+/// The process of which an entry makes the first door that its common pool serves.
+fn first_common(store: &Store, t: Tid, request: &Request) -> Option<Pid>
+    ensures { option_map (λ p. p.0) result ≡ first_common_of (stored_state store.now) t.0 request.now }
+{
+    match request {
+        Request::Create { attrs, .. } => {
+            let p = store.processes().process_of(t);
+            if makes_first_common(store, p, *attrs) {
+                Some(p)
+            } else {
+                None
+            }
+        }
+        _ => None,
+    }
 }
 
 impl Parts {
@@ -39,41 +79,53 @@ impl Parts {
         ensures number { IfOk result (λ t. t.0 ≡ length self.old.store.processes.threads + 1) }
         ensures current { IsCurrent self.new.runnable (stored_state self.new.store) }
         ensures err { OnErr result (stored_state self.new.store ≡ stored_state self.old.store) }
+        ensures given_out { IsGivenOut self.old.store.pools → IsGivenOut self.new.store.pools }
+        ensures latest { self.new.store.latest ≡ self.old.store.latest }
     {
         self.runnable.reserve(&self.store)?;
-        let Ok(thread) = self.store.processes.add_thread(process, spare) else {
-            return Err(NoMemory);
-        };
+        let thread = self.store.add_thread(process, spare)?;
         self.runnable.list_all(&self.store);
         Ok(thread)
     }
 
-    /// Takes the memory that every event can need, which changes nothing else. One that hands over objects needs room for them
-    /// besides.
-    fn reserve(&mut self, alloc: Global) -> Result<Room<Tid>, NoMemory>
+    /// Takes the memory that an event can need which touches this pool, which changes nothing else. One that hands over objects
+    /// needs room for them besides.
+    fn reserve(&mut self, alloc: Global, touched: Pool) -> Result<Room<Tid>, NoMemory>
         ensures state { stored_state self.new.store ≡ stored_state self.old.store }
         ensures runnable { self.new.runnable ≡ self.old.runnable }
-        ensures room { OnOk result (HasRoom self.new.store) }
+        ensures given_out { IsGivenOut self.old.store.pools → IsGivenOut self.new.store.pools }
+        ensures latest { self.new.store.latest ≡ self.old.store.latest }
+        ensures room { OnOk result (HasRoom self.new.store touched) }
         ensures ready { IfOk result (λ woken. IsReady self.new woken) }
     {
-        self.store.reserve()?;
-        self.waiting.clear();
-        self.waiting.reserve(self.store.calls.list.len() + 1)?;
-        Room::with_room(alloc, self.store.processes.thread_count() as usize)
+        self.store.reserve(touched)?;
+        Room::with_room(alloc, self.store.processes().thread_count() as usize)
     }
 
-    /// What follows an act.
+    /// What follows an act that touched this pool. `first` is the process whose first common door the act made.
     #[tactic(auto, using(crate::proofs::Grows::events_settle, crate::proofs::Grows::threads_settle))]
-    fn finish(&mut self, mut woken: Room<Tid>, answer: Answer) -> Stepped
+    fn finish(
+        &mut self,
+        mut woken: Room<Tid>,
+        answer: Answer,
+        touched: Pool,
+        first: Option<Pid>,
+    ) -> Stepped
         requires live { HasLiveCalls (stored_state self.old.store) }
         requires few { self.old.store.events < EVENTS_MAX }
         requires ready { IsReadyToSettle self.old woken }
-        ensures state { (before : State) → stored_state self.new.store ≡ forget (with_event_counted (settle before (stored_state self.old.store))) }
+        requires given_out { IsGivenOutBut touched self.old.store.pools }
+        requires none_lost { (u : ℕ) → has_lost_door (stored_state self.old.store) u ≡ false }
+        requires first { IsFirstCommon (stored_state self.old.store) (option_map (λ p. p.0) first) }
+        ensures state { (before : State) → ((p : ℕ) → has_first_common_door before (give (stored_state self.old.store)) p ≡ is_this p (option_map (λ p. p.0) first)) → stored_state self.new.store ≡ forget (with_event_counted (settle before (stored_state self.old.store))) }
         ensures answer { result.answer ≡ answer }
-        ensures woken { (before : State) → IsCurrent self.old.runnable before → result.woken ≡ woken_threads before (with_event_counted (settle before (stored_state self.old.store))) }
+        ensures woken { (before : State) → ((p : ℕ) → has_first_common_door before (give (stored_state self.old.store)) p ≡ is_this p (option_map (λ p. p.0) first)) → IsCurrent self.old.runnable before → result.woken ≡ woken_threads before (with_event_counted (settle before (stored_state self.old.store))) }
         ensures current { IsCurrent self.new.runnable (stored_state self.new.store) }
+        ensures given_out { IsGivenOut self.new.store.pools }
+        ensures latest { self.new.store.latest ≡ self.old.store.latest }
+        ensures events { self.new.store.events ≡ self.old.store.events + 1 }
     {
-        settle(&mut self.store, &mut self.waiting);
+        self.store.settle(touched, first);
         self.store.count();
         self.runnable.advance(&self.store, &mut woken);
         Stepped {
@@ -89,14 +141,22 @@ impl Parts {
         requires numbers { HasNumbersLeft (stored_state self.old.store) }
         requires live { HasLiveCalls (stored_state self.old.store) }
         requires current { IsCurrent self.old.runnable (stored_state self.old.store) }
+        requires placed { ArePlaced (stored_state self.old.store) }
+        requires none_lost { (u : ℕ) → has_lost_door (act (stored_state self.old.store) t.0 (Some request)).state u ≡ false }
+        requires given_out { IsGivenOut self.old.store.pools }
+        requires parked { self.old.store.latest ≤ self.old.store.events }
         ensures step { IfOk result (λ s. IsStep (step (stored_state self.old.store) t.0 (Some request)) (stored_state self.new.store) s) }
         ensures current { IsCurrent self.new.runnable (stored_state self.new.store) }
         ensures err { OnErr result (stored_state self.new.store ≡ stored_state self.old.store) }
+        ensures given_out { IsGivenOut self.new.store.pools }
+        ensures parked { self.new.store.latest ≤ self.new.store.events }
     {
-        let woken = self.reserve(alloc)?;
+        let touched = pool_of_request(&self.store, t, &request);
+        let woken = self.reserve(alloc, touched)?;
         let objects = Room::with_room(alloc, count_passed(&request))?;
+        let first = first_common(&self.store, t, &request);
         let answer = enter(&mut self.store, alloc, t, request, objects);
-        Ok(self.finish(woken, answer))
+        Ok(self.finish(woken, answer, touched, first))
     }
 
     /// The event of the end of a wait.
@@ -105,13 +165,20 @@ impl Parts {
         requires numbers { HasNumbersLeft (stored_state self.old.store) }
         requires live { HasLiveCalls (stored_state self.old.store) }
         requires current { IsCurrent self.old.runnable (stored_state self.old.store) }
+        requires placed { ArePlaced (stored_state self.old.store) }
+        requires none_lost { (u : ℕ) → has_lost_door (act (stored_state self.old.store) t.0 None).state u ≡ false }
+        requires given_out { IsGivenOut self.old.store.pools }
+        requires parked { self.old.store.latest ≤ self.old.store.events }
         ensures step { IfOk result (λ s. IsStep (step (stored_state self.old.store) t.0 None) (stored_state self.new.store) s) }
         ensures current { IsCurrent self.new.runnable (stored_state self.new.store) }
         ensures err { OnErr result (stored_state self.new.store ≡ stored_state self.old.store) }
+        ensures given_out { IsGivenOut self.new.store.pools }
+        ensures parked { self.new.store.latest ≤ self.new.store.events }
     {
-        let woken = self.reserve(alloc)?;
+        let touched = self.store.own_pool(t);
+        let woken = self.reserve(alloc, touched)?;
         let fds = Room::with_room(alloc, count_at_end(&self.store, t))?;
         let answer = go_on(&mut self.store, alloc, t, fds);
-        Ok(self.finish(woken, answer))
+        Ok(self.finish(woken, answer, touched, None))
     }
 }

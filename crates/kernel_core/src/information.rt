@@ -2,17 +2,17 @@
 //! that it is not refused.
 ghost use Rattle.std.specs.Prelude.{◌≡◌, None};
 ghost use Rattle.kernel_records.specs.Words.{first_refusal};
-ghost use Rattle.written_kernel.specs.Words.{credentials, credentials_tests, door_tests, information, parameter, set_parameter, set_parameter_tests};
-ghost use Rattle.kernel_core.specs.Stored.{stored_state};
+ghost use Rattle.written_kernel.specs.Words.{credentials, credentials_tests, door_tests, information, information_of, parameter, set_parameter, set_parameter_tests};
+ghost use Rattle.kernel_store.specs.Words.{stored_state};
 
 use crate::descriptors::door_named;
 use crate::references::references;
-use crate::store::Store;
 use dk_base::answer::Answer;
 use dk_base::error::Errno;
 use dk_base::number::{Fd, Pid, Tid};
 use dk_base::object::Obj;
 use dk_base::request::Param;
+use kernel_store::store::Store;
 
 /// EBADF for a descriptor that names no door.
 pub fn door_refusal(store: &Store, p: Pid, fd: Fd) -> Option<Errno>
@@ -24,13 +24,19 @@ pub fn door_refusal(store: &Store, p: Pid, fd: Fd) -> Option<Errno>
     }
 }
 
-/// door_info(3C): what the process is told of the door.
+/// What a process is told of a door.
 #[tactic(auto, using(crate::proofs::Counted::told_of_two))]
+pub fn information_of(store: &Store, p: Pid, door: u32) -> Answer
+    ensures { result ≡ (information_of (stored_state store.now) p.0 door).answer }
+{
+    Answer::Info(store.doors().info(door, p, references(store, door)))
+}
+
+/// door_info(3C): what the process is told of the door.
 pub fn information(store: &Store, p: Pid, fd: Fd) -> Answer
     ensures { result ≡ (information (stored_state store.now) p.0 fd).answer }
 {
-    let door = door_named(store, p, fd);
-    Answer::Info(store.doors.info(door, p, references(store, door)))
+    information_of(store, p, door_named(store, p, fd))
 }
 
 /// door_getparam(3C): the value of a parameter.
@@ -38,7 +44,7 @@ pub fn parameter(store: &Store, p: Pid, fd: Fd, param: Param) -> Answer
     ensures { result ≡ (parameter (stored_state store.now) p.0 fd param).answer }
 {
     Answer::Param {
-        value: store.doors.getparam(door_named(store, p, fd), param),
+        value: store.doors().getparam(door_named(store, p, fd), param),
     }
 }
 
@@ -53,7 +59,7 @@ pub fn set_parameter_refusal(
     ensures { result ≡ first_refusal (set_parameter_tests (stored_state store.now) p.0 fd param value) }
 {
     store
-        .doors
+        .doors()
         .check_param(door_named(store, p, fd), p, param, value)
 }
 
@@ -62,6 +68,8 @@ pub fn set_parameter(store: &mut Store, p: Pid, fd: Fd, param: Param, value: u64
     requires { first_refusal (set_parameter_tests (stored_state store.old) p.0 fd param value) ≡ None }
     ensures state { stored_state store.new ≡ (set_parameter (stored_state store.old) p.0 fd param value).state }
     ensures answer { result ≡ (set_parameter (stored_state store.old) p.0 fd param value).answer }
+    ensures pools { store.new.pools ≡ store.old.pools }
+    ensures latest { store.new.latest ≡ store.old.latest }
 {
     let door = door_named(store, p, fd);
     store.set_param(door, p, param, value);
@@ -72,7 +80,7 @@ pub fn set_parameter(store: &mut Store, p: Pid, fd: Fd, param: Param, value: u64
 pub fn credentials_refusal(store: &Store, t: Tid) -> Option<Errno>
     ensures { result ≡ first_refusal (credentials_tests (stored_state store.now) t.0) }
 {
-    if store.calls.client(t).is_none() {
+    if store.calls().client(t).is_none() {
         return Some(Errno::EINVAL);
     }
     None
@@ -82,8 +90,8 @@ pub fn credentials_refusal(store: &Store, t: Tid) -> Option<Errno>
 pub fn credentials(store: &Store, t: Tid) -> Answer
     ensures { result ≡ (credentials (stored_state store.now) t.0).answer }
 {
-    let process = match store.calls.client(t) {
-        Some(call) => store.processes.process_of(call.caller),
+    let process = match store.calls().client(t) {
+        Some(call) => store.processes().process_of(call.caller),
         None => Pid(0),
     };
     Answer::Client { process }

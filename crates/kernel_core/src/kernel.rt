@@ -8,22 +8,22 @@ ghost use Rattle.capabilities.specs.declared.table.TheConstants.{BUILT};
 ghost use Rattle.capabilities.specs.Words.{capability_of};
 ghost use Rattle.written_kernel.specs.Words.{IsFit, IsStep, MayGoOn, MayInside, StandsFor, State, invocation_of, is_runnable, is_running, least_runnable, opening, process_of, refusal_of, root, state_of, step, with_event_counted, with_new_thread, with_processes};
 ghost use Rattle.kernel_core.specs.Kept.{IsKept};
-ghost use Rattle.kernel_core.specs.Stored.{stored_state};
+ghost use Rattle.pool_agreement.specs.Words.{IsGivenOut};
+ghost use Rattle.kernel_store.specs.Words.{stored_state};
 ghost use Rattle.kernel_core.specs.Within.{IsWithin, IsSmall};
 ghost use Rattle.kernel_core.specs.Woken.{IsCurrent};
 
 use crate::event::Parts;
 use crate::runnable::Runnable;
-use crate::stage::is_running_state;
-use crate::store::Store;
-use crate::turns;
+use crate::turns::{self, is_running_state};
 use dk_base::error::{NoMemory, ProcFault};
 use dk_base::event::Stepped;
 use dk_base::limits::THREADS_MAX;
-use dk_base::list::{IdList, Room};
+use dk_base::list::IdList;
 use dk_base::number::{Pid, Tid};
 use dk_base::request::Request;
 use kernel_records::record::ThreadState;
+use kernel_store::store::Store;
 use std::alloc::Global;
 use std::marker::Model;
 
@@ -39,7 +39,7 @@ impl Model for Kernel {
 
     ghost view = { λ k. stored_state k.parts.store };
 
-    ghost invariant = { λ k. IsKept (stored_state k.parts.store) × IsWithin (stored_state k.parts.store) × IsCurrent k.parts.runnable (stored_state k.parts.store) };
+    ghost invariant = { λ k. IsKept (stored_state k.parts.store) × IsWithin (stored_state k.parts.store) × IsCurrent k.parts.runnable (stored_state k.parts.store) × IsGivenOut k.parts.store.pools × (k.parts.store.latest ≤ k.parts.store.events) };
 }
 
 impl Kernel {
@@ -48,15 +48,9 @@ impl Kernel {
         requires { length limits.now ≤ PROCESSES_MAX }
         ensures { IfOk result (λ k. k ≡ opening limits.now) }
     {
-        let mut store = Store::new(alloc)?;
-        add_processes(&mut store, alloc, limits.slice())?;
+        let store = with_processes(Store::new(alloc)?, alloc, limits.slice())?;
         let runnable = Runnable::new(alloc)?;
-        let waiting = Room::with_room(alloc, 0)?;
-        let parts = Parts {
-            store,
-            runnable,
-            waiting,
-        };
+        let parts = Parts { store, runnable };
         Ok(Kernel { alloc, parts })
     }
 
@@ -69,7 +63,7 @@ impl Kernel {
         ensures full { (result ≡ Err Full) ↔ (length self.old.process_table.threads ≡ THREADS_MAX) }
         ensures err { OnErr result (self.new ≡ self.old) }
     {
-        if self.parts.store.processes.thread_count() == THREADS_MAX {
+        if self.parts.store.processes().thread_count() == THREADS_MAX {
             return Err(ProcFault::Full);
         }
         match self.parts.add_thread(process, spare) {
@@ -120,14 +114,14 @@ impl Kernel {
     {
         self.parts
             .runnable
-            .least(self.parts.store.processes.thread_count())
+            .least(self.parts.store.processes().thread_count())
     }
 
     pub fn is_running(&self, t: Tid) -> bool
         ensures kept { result ≡ is_running self.now t.0 }
         ensures stands { (m : State) → StandsFor self.now m → result ≡ is_running m t.0 }
     {
-        is_running_state(self.parts.store.processes.state(t))
+        is_running_state(self.parts.store.processes().state(t))
     }
 
     /// Whether a thread is in an invocation of a server procedure.
@@ -135,7 +129,7 @@ impl Kernel {
         ensures kept { result ≡ is_some (invocation_of self.now t.0) }
         ensures stands { (m : State) → StandsFor self.now m → result ≡ is_some (invocation_of m t.0) }
     {
-        self.parts.store.processes.invocation(t).is_some()
+        self.parts.store.processes().invocation(t).is_some()
     }
 
     /// The end of the walk from a thread to the caller of the call that it serves, and so on.
@@ -151,7 +145,7 @@ impl Kernel {
         ensures kept { result.now ≡ state_of self.now t.0 }
         ensures stands { (m : State) → StandsFor self.now m → result.now ≡ state_of m t.0 }
     {
-        self.parts.store.processes.state(t)
+        self.parts.store.processes().state(t)
     }
 
     pub fn threads(&self) -> u32
@@ -159,7 +153,7 @@ impl Kernel {
         ensures few { length self.now.process_table.threads ≤ THREADS_MAX }
         ensures stands { (m : State) → StandsFor self.now m → result ≡ length m.process_table.threads }
     {
-        self.parts.store.processes.thread_count()
+        self.parts.store.processes().thread_count()
     }
 
     /// How many events there were.
@@ -168,16 +162,18 @@ impl Kernel {
         ensures few { self.now.events ≤ EVENTS_MAX }
         ensures stands { (m : State) → StandsFor self.now m → result ≡ m.events }
     {
-        self.parts.store.events
+        self.parts.store.events()
     }
 }
 
-fn add_processes(store: &mut Store, alloc: Global, limits: &[u32]) -> Result<(), NoMemory>
-    requires { length store.old.processes.processes + length limits.now ≤ PROCESSES_MAX }
-    ensures { OnOk result (stored_state store.new ≡ with_processes (stored_state store.old) limits.now) }
+fn with_processes(mut store: Store, alloc: Global, limits: &[u32]) -> Result<Store, NoMemory>
+    requires { length store.processes.processes + length limits.now ≤ PROCESSES_MAX }
+    ensures state { IfOk result (λ s. stored_state s ≡ with_processes (stored_state store) limits.now) }
+    ensures given_out { IfOk result (λ s. IsGivenOut store.pools → IsGivenOut s.pools) }
+    ensures latest { IfOk result (λ s. s.latest ≡ store.latest) }
 {
     for limit in limits {
-        store.add_process(alloc, *limit)?;
+        store = store.with_process(alloc, *limit)?;
     }
-    Ok(())
+    Ok(store)
 }

@@ -1,34 +1,29 @@
 //! The acts of leaving.
-ghost use Rattle.std.specs.Prelude.{◌≡◌, true};
-ghost use Rattle.written_kernel.specs.Words.{exit, is_running, leave_process};
-ghost use Rattle.kernel_core.specs.Stored.{stored_state};
+ghost use Rattle.std.specs.Prelude.{◌≡◌, ◌<◌, length, true};
+ghost use Rattle.dk_base.specs.declared.limits.TheConstants.{EVENTS_MAX};
+ghost use Rattle.written_kernel.specs.Words.{exit, is_running, process_of};
+ghost use Rattle.pool_agreement.specs.Words.{IsGivenOut};
+ghost use Rattle.kernel_store.specs.Words.{ArePlaced, stored_state};
 
-use crate::store::Store;
 use dk_base::answer::Answer;
 use dk_base::number::{Pid, Tid};
+use kernel_store::store::Store;
 use std::alloc::Global;
 
-/// All threads of a process end, its doors become invalid, what waits at them ends, and its descriptors are closed.
-fn leave_process(store: &mut Store, alloc: Global, p: Pid)
-    ensures { stored_state store.new ≡ leave_process (stored_state store.old) p.0 }
-{
-    store.processes.end_process(p);
-    store.close_table(p);
-    store.calls.end_waiting(alloc, &store.doors, p);
-    store.end_doors(p);
-}
-
 /// A thread that runs ends, and its process with it where the thread is its last.
-#[tactic(auto, using(crate::proofs::Idle::running_not_done))]
 pub fn exit(store: &mut Store, alloc: Global, t: Tid, p: Pid) -> Answer
-    requires { is_running (stored_state store.old) t.0 ≡ true }
+    requires running { is_running (stored_state store.old) t.0 ≡ true }
+    requires few { length (stored_state store.old).doors < EVENTS_MAX }
+    requires placed { ArePlaced (stored_state store.old) }
     ensures state { stored_state store.new ≡ (exit (stored_state store.old) t.0 p.0).state }
     ensures answer { result ≡ (exit (stored_state store.old) t.0 p.0).answer }
+    ensures given_out { IsGivenOut store.old.pools → IsGivenOut store.new.pools }
+    ensures latest { store.new.latest ≡ store.old.latest }
 {
-    if store.processes.is_last(t, p) {
-        leave_process(store, alloc, p);
+    if store.processes().is_last(t, p) {
+        store.leave_process(alloc, p);
     } else {
-        let _ = store.processes.end_thread(t);
+        store.end_thread(t);
     }
     Answer::Done
 }

@@ -1,9 +1,9 @@
-//! The kernel: doors, calls, descriptors and names over plain lists. Each of its calls is proved to be a step of the
+//! The kernel: the acts of doors, calls, descriptors and names over what it holds, and what follows them. Each of its calls is proved to be a step of the
 //! written kernel.
 #![tactic(auto)]
 
 mod acts;
-mod calls;
+mod binding;
 mod descriptors;
 mod doors;
 mod event;
@@ -13,7 +13,4 @@ mod leaving;
 mod numbered;
 mod references;
 mod runnable;
-mod settle;
-mod stage;
-mod store;
 mod turns;

@@ -3,12 +3,12 @@ ghost use Rattle.std.specs.Prelude.{◌≡◌, ◌+◌, ◌≤◌, flat_map, len
 ghost use Rattle.dk_base.specs.declared.object.Obj.TheVariants.{Door};
 ghost use Rattle.kernel_records.specs.Words.{count_object, is_object, objects_of};
 ghost use Rattle.written_kernel.specs.Words.{objects_in_call, refs};
-ghost use Rattle.kernel_core.specs.Stored.{stored_state};
+ghost use Rattle.kernel_store.specs.Words.{stored_state};
 
-use crate::store::Store;
 use dk_base::object::Obj;
 use fd_table::table::FdTable;
 use kernel_records::record::{Call, CallStage};
+use kernel_store::store::Store;
 
 /// A count with more, at most two.
 fn at_most_two(count: u64, more: usize) -> u64
@@ -68,8 +68,8 @@ fn count_in_calls(calls: &[Call], d: u32) -> u64
 pub fn references(store: &Store, d: u32) -> u64
     ensures { result ≡ min (length (refs (stored_state store.now) (Door d))) 2 }
 {
-    let in_tables = count_in_tables(&store.tables, d);
-    let with_names = at_most_two(in_tables, store.names.count_of(d));
-    let in_calls = count_in_calls(&store.calls.list, d) as usize;
+    let in_tables = count_in_tables(store.tables().slice(), d);
+    let with_names = at_most_two(in_tables, store.names().count_of(d));
+    let in_calls = count_in_calls(store.calls().list(), d) as usize;
     at_most_two(with_names, in_calls)
 }

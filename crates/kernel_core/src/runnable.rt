@@ -2,15 +2,15 @@
 ghost use Rattle.std.specs.Prelude.{◌≡◌, ℕ, ◌+◌, ◌<◌, ◌≤◌, ◌&&◌, not, false, [], length, slice_index_or, IfOk, OnOk};
 ghost use Rattle.std.specs.Option.{option_map};
 ghost use Rattle.written_kernel.specs.Words.{State, is_runnable, least_or as least_of, least_runnable, woken_threads};
-ghost use Rattle.kernel_core.specs.Stored.{stored_state};
+ghost use Rattle.kernel_store.specs.Words.{stored_state};
 ghost use Rattle.kernel_core.specs.Woken.{IsCurrent, HasListRoom, runnables};
 
 use crate::numbered::numbered_item;
-use crate::store::Store;
 use crate::turns::runnable;
 use dk_base::error::NoMemory;
 use dk_base::list::Room;
 use dk_base::number::Tid;
+use kernel_store::store::Store;
 use std::alloc::Global;
 use std::mem;
 
@@ -28,8 +28,8 @@ fn list_runnable(store: &Store, list: &mut Room<bool>)
     ensures items { list.new.items ≡ runnables (stored_state store.now) (length (stored_state store.now).process_table.threads) }
     ensures spare { list.old.spare ≤ length list.new.items + list.new.spare }
 {
-    let ready = store.calls.has_ready();
-    for i in 0..store.processes.thread_count() {
+    let ready = store.calls().has_ready();
+    for i in 0..store.processes().thread_count() {
         list.push(runnable(store, Tid(i + 1), ready));
     }
 }
@@ -114,7 +114,7 @@ impl Runnable {
         ensures room { OnOk result (HasListRoom self.new (length (stored_state store.now).process_table.threads + 1)) }
         ensures kept { (n : ℕ) → HasListRoom self.old n → HasListRoom self.new n }
     {
-        let threads = store.processes.thread_count() as usize + 1;
+        let threads = store.processes().thread_count() as usize + 1;
         self.list.reserve(threads)?;
         self.next.reserve(threads)
     }
@@ -137,7 +137,7 @@ impl Runnable {
         ensures current { IsCurrent self.new (stored_state store.now) }
         ensures woken { (before : State) → IsCurrent self.old before → woken.new.items ≡ woken_threads before (stored_state store.now) }
     {
-        let threads = store.processes.thread_count();
+        let threads = store.processes().thread_count();
         self.next.clear();
         list_runnable(store, &mut self.next);
         list_woken(threads, self.list.slice(), self.next.slice(), woken);

@@ -1,6 +1,6 @@
 -- What an act keeps and which arrows calls take by it; the acts that touch no call.
-use Rattle.std.specs.Prelude.{ℕ, ◌≡◌, ◌+◌, List, [], ◌∷◌, Option, Bool, true, false, ◌==◌, Some, None, find, length, is_none, is_some, unwrap_or}
-use Rattle.std.proofs.Common.{refl, sym, ap, subst, ◌∙◌}
+use Rattle.std.specs.Prelude.{ℕ, ◌≡◌, ◌+◌, List, [], ◌∷◌, Option, Bool, true, false, ◌==◌, Some, None, find, length, is_none, is_some, unwrap_or, ◌&&◌, ◌⊎◌, if◌then◌else◌, option_map}
+use Rattle.std.proofs.Common.{refl, sym, ap, subst, ◌∙◌, inl, inr, ⊎_elim}
 use native.Mathlib.Omega.{arith}
 use Rattle.std.proofs.lemmas.Bool.Decides.{nat_tests}
 use Rattle.written_kernel.specs.Types.{Answer, Attrs, Call, Door, Fd, Inv, Name, Obj, Param, PathId, Process, ProcessStage, Request, Thread, ThreadState}
@@ -8,16 +8,17 @@ use Rattle.dk_base.specs.declared.error.Errno.TheVariants.{EINVAL, EMFILE}
 use Rattle.dk_base.specs.declared.request.Param.TheVariants as param
 use Rattle.kernel_records.specs.declared.record.ThreadState.TheVariants as is
 use Rattle.kernel_records.specs.declared.record.ProcessStage.TheVariants.{Live, Ended}
-use Rattle.dk_base.specs.ByNumber.{at_number}
-use Rattle.kernel_records.specs.Words.{CallTree, ProcessTable, change_door_in, change_first, first_refusal, has_told_attributes, is_live_in, is_live_stage, lowest_free, new_door, object_named, refused_where, set_param, state_in, table_in, with_door, with_param, with_table}
-use Rattle.written_kernel.specs.Words.{ActResult, State, await, await_name, create, create_tests, door_of, find_call, name_of, process_of, state_of, thread_of, with_state, with_table_of}
-use Rattle.kernel_invariant.specs.Records.{has_number, record_of}
+use Rattle.dk_base.specs.ByNumber.{at_number, with_at_number}
+use Rattle.kernel_records.specs.Words.{CallTree, ProcessTable, bind_tests, bound_at, bound_in, change_door_in, change_first, first_refusal, has_told_attributes, is_live_in, is_live_stage, is_private_in, lowest_free, new_door, object_named, refused_where, set_param, state_in, table_in, with_door, with_param, with_table}
+use Rattle.written_kernel.specs.Words.{ActResult, State, await, await_name, bind, binding_tests, bound_of, create, create_tests, door_at, door_of, find_call, name_of, process_of, state_of, thread_of, unbind, with_state, with_table_of}
+use Rattle.kernel_invariant.specs.Records.{has_number, owner_in, record_of}
 use Rattle.kernel_invariant.specs.Core.{core, ended_in, is_ended_stage}
 use Rattle.kernel_invariant.specs.Coherent.{IsCoherent, is_unbuilt}
 use Rattle.kernel_invariant.specs.Invariant.{IsInOrder, IsConsistent}
 use Rattle.kernel_invariant.specs.Arrows.{ByAct}
 use Rattle.kernel_invariant.specs.Arrows.ByAct.{stays}
-use Rattle.written_kernel.proofs.Lists.{at_number-with_at_number, length-with_at_number, numbered_past, numbered_there, numbered_within}
+use Rattle.written_kernel.proofs.Doors.{at_number-change_door}
+use Rattle.written_kernel.proofs.Lists.{at_number-with_at_number, length-with_at_number, numbered_past, numbered_push, numbered_there, numbered_within}
 use Rattle.kernel_invariant.proofs.Calls.{IsInOrder-change_first, find-change_first, find-found, length-change_first}
 use Rattle.kernel_invariant.proofs.Cores.{IsThere, Turns, act-core, change_door-core, set_thread_state-turns, upd, with_door-core}
 use Rattle.kernel_invariant.proofs.ThreadMoves.{IsSameButLimits, turn_keeps, door_keeps, is_quiet, limits_keep}
@@ -87,7 +88,7 @@ act_consistent m table tables tree h rows p i e k =
       coherent = k;
       tables = rows.counted ∙ sym (ap length p);
       no_rows = λ q fd f. rows.no_rows q fd (ap (λ xs. ended_in (at_number xs q)) (sym p) ∙ f);
-      unbuilt = record { no_notices = h.unbuilt.no_notices; unbound = h.unbuilt.unbound };
+      unbuilt = record { no_notices = h.unbuilt.no_notices; none_revoked = h.unbuilt.none_revoked };
     }
 
 -- an act that changes a thread and tables
@@ -188,10 +189,87 @@ names_does m t q names a h =
             coherent = h.coherent;
             tables = h.tables;
             no_rows = h.no_rows;
-            unbuilt = record { no_notices = h.unbuilt.no_notices; unbound = h.unbuilt.unbound };
+            unbuilt = record { no_notices = h.unbuilt.no_notices; none_revoked = h.unbuilt.none_revoked };
           };
       arrows = λ c. stays;
     }
+
+-- bindings
+
+-- a thread's binding changes, or none where there is no place for it
+rebound :
+    (m : State) (t u d : ℕ) (o : Option ℕ) → bound_at (with_at_number m.bindings t o) u ≡ Some d →
+    ((u ≡ t) × (o ≡ Some d)) ⊎ (bound_of m u ≡ Some d)
+rebound m t u d o e =
+    go ((u == t) && is_some (at_number m.bindings t)) refl (sym (ap bound_in (at_number-with_at_number m.bindings t u o)) ∙ e)
+  where
+    go :
+        (b : Bool) → ((u == t) && is_some (at_number m.bindings t)) ≡ b → bound_in (if b then Some o else at_number m.bindings u) ≡ Some d →
+        ((u ≡ t) × (o ≡ Some d)) ⊎ (bound_of m u ≡ Some d)
+    go true f g = inl (grind (arith, nat_tests), g)
+    go false f g = inr g
+
+-- to a private door of the thread's process, or to none
+rebind_does :
+    (m : State) (t : ℕ) (q : Option Request) (o : Option ℕ) (a : Answer) → IsConsistent m →
+    ((d : ℕ) → o ≡ Some d → (owner_in (door_of m d) ≡ Some (process_of m t)) × (is_private_in (door_of m d) ≡ true)) →
+    Does m t q (act_result (record m { bindings = with_at_number m.bindings t o }) a)
+rebind_does m t q o a h own =
+    record {
+      consistent =
+          record {
+            in_order = h.in_order;
+            counted = h.counted;
+            coherent =
+                record {
+                  waits = h.coherent.waits;
+                  invocations = h.coherent.invocations;
+                  notices_given = h.coherent.notices_given;
+                  notices_entered = h.coherent.notices_entered;
+                  servers = h.coherent.servers;
+                  calls = h.coherent.calls;
+                  at_doors = h.coherent.at_doors;
+                  doors = h.coherent.doors;
+                  bindings =
+                      record {
+                        bound_own =
+                            λ u d e. ⊎_elim
+                            (λ k. (own d k.1).0 ∙ ap (λ (v : ℕ). Some (process_of m v)) (sym k.0))
+                            (h.coherent.bindings.bound_own u d)
+                            (rebound m t u d o e);
+                        bound_private =
+                            λ u d e. ⊎_elim
+                            (λ k. (own d k.1).1)
+                            (h.coherent.bindings.bound_private u d)
+                            (rebound m t u d o e);
+                      };
+                  processes = h.coherent.processes;
+                  threads = h.coherent.threads;
+                  has_built_state = h.coherent.has_built_state;
+                };
+            tables = h.tables;
+            no_rows = h.no_rows;
+            unbuilt = record { no_notices = h.unbuilt.no_notices; none_revoked = h.unbuilt.none_revoked };
+          };
+      arrows = λ c. stays;
+    }
+
+bindable :
+    (p : ℕ) (o : Option Door) → first_refusal (bind_tests p o) ≡ None → (owner_in o ≡ Some p) × (is_private_in o ≡ true)
+bindable p None f = grind arith
+bindable p (Some x) f = (grind (arith, nat_tests), grind (arith, nat_tests))
+
+pub bind_does :
+    (m : State) (t : ℕ) (q : Option Request) (fd : Fd) → IsConsistent m →
+    first_refusal (binding_tests m (process_of m t) fd) ≡ None → Does m t q (bind m t (process_of m t) fd)
+bind_does m t q fd h f =
+    rebind_does m t q (Some (door_at m (process_of m t) fd)) _ h
+    (λ d e. let same : door_at m (process_of m t) fd ≡ d = cc in
+    subst (λ (k : ℕ). (owner_in (door_of m k) ≡ Some (process_of m t)) × (is_private_in (door_of m k) ≡ true)) same
+    (bindable (process_of m t) (door_of m (door_at m (process_of m t) fd)) f))
+
+pub unbind_does : (m : State) (t : ℕ) (q : Option Request) → IsConsistent m → Does m t q (unbind m t)
+unbind_does m t q h = rebind_does m t q None _ h (λ d e. absurd (grind arith))
 
 -- the thread's process has another table
 
@@ -210,15 +288,15 @@ rows_does m t q table a h e = record { consistent = with_table_of_keeps m t tabl
 
 doors_consistent :
     (m : State) (doors : List Door) → IsConsistent m → IsCoherent (core (record m { doors = doors })) →
-    IsConsistent (record m { doors = doors })
-doors_consistent m doors h k =
+    ((d : ℕ) (x : Door) → at_number doors d ≡ Some x → x.revoked ≡ false) → IsConsistent (record m { doors = doors })
+doors_consistent m doors h k valid =
     record {
       in_order = h.in_order;
       counted = h.counted;
       coherent = k;
       tables = h.tables;
       no_rows = h.no_rows;
-      unbuilt = record { no_notices = h.unbuilt.no_notices; unbound = h.unbuilt.unbound };
+      unbuilt = record { no_notices = h.unbuilt.no_notices; none_revoked = valid };
     }
 
 same_but_limits : (x : Param) (value : ℕ) (y : Door) → IsSameButLimits y (with_param x value y)
@@ -230,8 +308,22 @@ pub set_param_does :
     (m : State) (t : ℕ) (q : Option Request) (d : ℕ) (x : Param) (value : ℕ) (a : Answer) → IsConsistent m →
     Does m t q (act_result (record m { doors = set_param m.doors d x value }) a)
 set_param_does m t q d x value a h =
-    record { consistent = doors_consistent m (set_param m.doors d x value) h (go (door_of m d) refl); arrows = λ c. stays }
+    record {
+      consistent =
+          doors_consistent m (set_param m.doors d x value) h (go (door_of m d) refl)
+          (λ e z f. valid e z (e == d) (door_of m d) refl (sym (at_number-change_door m.doors d e (with_param x value)) ∙ f));
+      arrows = λ c. stays;
+    }
   where
+    valid :
+        (e : ℕ) (z : Door) (b : Bool) (o : Option Door) → door_of m d ≡ o →
+        (if b then option_map (with_param x value) o else door_of m e) ≡ Some z → z.revoked ≡ false
+    valid e z true None f g = cc
+    valid e z true (Some y) f g =
+        let same : with_param x value y ≡ z = cc in
+        ap (λ (w : Door). w.revoked) (sym same) ∙ (same_but_limits x value y).revoked ∙ h.unbuilt.none_revoked d y f
+    valid e z false o f g = h.unbuilt.none_revoked e z g
+
     go : (o : Option Door) → door_of m d ≡ o → IsCoherent (core (record m { doors = set_param m.doors d x value }))
     go None e =
         subst (λ (doors : List Door). IsCoherent (core (record m { doors = doors })))
@@ -285,8 +377,13 @@ create_does m t q entry cookie attrs h e f =
     n : State
     n = record m { doors = with_door m.doors (process_of m t) entry cookie attrs }
 
+    valid : (k : ℕ) (x : Door) (b : Bool) → (if b then Some d else door_of m k) ≡ Some x → x.revoked ≡ false
+    valid k x true g = let same : d ≡ x = cc in ap (λ (w : Door). w.revoked) (sym same)
+    valid k x false g = h.unbuilt.none_revoked k x g
+
     made : IsConsistent n
     made =
         doors_consistent m (with_door m.doors (process_of m t) entry cookie attrs) h
         (subst IsCoherent (sym (with_door-core m d refl))
         (door_keeps (core m) d h.coherent (numbered_past m.doors d.number (grind arith)) (grind (arith, creator_lives m t attrs h e f))))
+        (λ k x g. valid k x (k == length m.doors + 1) (sym (numbered_push m.doors d k) ∙ g))

@@ -85,6 +85,7 @@ effect_tells m t p (request.Create entry cookie attrs) h = new_fd m t _ _ _
 effect_tells m t p (request.Call fd bytes pass rsize) h = call_tells m t p fd bytes pass rsize h
 effect_tells m t p (request.Return bytes pass) h = waits m t _ _
 effect_tells m t p (request.Info fd) h = informs m t _ _ _
+effect_tells m t p request.InfoQuery h = informs m t _ _ _
 effect_tells m t p (request.GetParam fd x) h = values m t _ _ _
 effect_tells m t p request.Cred h = names m t _ _ _
 effect_tells m t p (request.Dup fd) h = new_fd m t _ _ _

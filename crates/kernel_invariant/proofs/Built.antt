@@ -1,10 +1,10 @@
 -- A turn's act is one that is built.
-use Rattle.std.specs.Prelude.{ℕ, ◌≡◌, ◌≤◌, List, Option, true, false, Some, None, is_some}
+use Rattle.std.specs.Prelude.{ℕ, ◌≡◌, ◌≤◌, Option, true, false, Some, None, is_some}
 use Rattle.std.proofs.Common.{refl}
 use native.Mathlib.Omega.{arith}
 use Rattle.dk_base.specs.declared.object.Item.TheVariants as item
 use Rattle.dk_base.specs.declared.request.Request.TheVariants as request
-use Rattle.written_kernel.specs.Types.{Fd, Inv, Pass, Request, ThreadState}
+use Rattle.written_kernel.specs.Types.{Request, ThreadState}
 use Rattle.kernel_records.specs.declared.record.ThreadState.TheVariants as is
 use Rattle.capabilities.specs.Words.{capability_of}
 use Rattle.capabilities.specs.declared.table.TheConstants.{BUILT}
@@ -15,15 +15,14 @@ use Rattle.kernel_invariant.specs.Events.{IsBuiltEnd, IsBuiltEntry, IsBuiltTurn,
 use Rattle.kernel_invariant.proofs.Steps.{no_exit_inside}
 use Rattle.kernel_invariant.proofs.Waits.{given_found}
 
-no_invocation : (o : Option Inv) (fd : Fd) (bytes : List ℕ) (pass : List Pass) (rsize : ℕ) → MayInside o (request.Call fd bytes pass rsize) → o ≡ None
-no_invocation None fd bytes pass rsize h = refl
-no_invocation (Some v) fd bytes pass rsize h = absurd h
-
 entry_built : (m : State) (t : ℕ) (r : Request) → capability_of r ≤ BUILT → MayInside (invocation_of m t) r → IsBuiltEntry m t r
 entry_built m t (request.Create entry cookie attrs) h i = h
-entry_built m t (request.Call fd bytes pass rsize) h i = no_invocation (invocation_of m t) fd bytes pass rsize i
+entry_built m t (request.Call fd bytes pass rsize) h i = tt
 entry_built m t (request.Return bytes pass) h i = tt
+entry_built m t (request.Bind fd) h i = tt
+entry_built m t request.Unbind h i = tt
 entry_built m t (request.Info fd) h i = tt
+entry_built m t request.InfoQuery h i = tt
 entry_built m t (request.GetParam fd x) h i = tt
 entry_built m t (request.SetParam fd x value) h i = tt
 entry_built m t request.Cred h i = tt

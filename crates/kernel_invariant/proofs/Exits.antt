@@ -107,6 +107,10 @@ ended_invalid : (p : ℕ) (o : Option Door) → is_owned_by p o ≡ true → is_
 ended_invalid p None f = grind arith
 ended_invalid p (Some d) f = grind (arith, nat_tests)
 
+-- the end of a process revokes none of its doors
+ended_revoked : (p : ℕ) (d : Door) → (with_owner_ended p d).revoked ≡ d.revoked
+ended_revoked p d = grind arith
+
 end_process_does :
     (m : State) (t : ℕ) (q : Option Request) (p : ℕ) → IsConsistent m → Leaves (core m) p →
     Does m t q (act_result (leave_process m p) answer.Done)
@@ -122,7 +126,7 @@ end_process_does m t q p h s =
             unbuilt =
                 record {
                   no_notices = ap (map (dropped_notice m.doors p)) h.unbuilt.no_notices;
-                  unbound = h.unbuilt.unbound;
+                  none_revoked = λ d x f. unrevoked d x (door_of m d) refl (sym (at_number-map (with_owner_ended p) m.doors d) ∙ f);
                 };
           };
       arrows = λ c. subst (λ o. ByAct m t q answer.Done n (record_of m c) o) (sym (ap (λ (k : Core). k.call c) e)) (arrow c (record_of m c) refl);
@@ -133,6 +137,12 @@ end_process_does m t q p h s =
 
     e : core n ≡ ended_core (core m) p
     e = end_process-core m p h
+
+    unrevoked : (d : ℕ) (x : Door) (o : Option Door) → door_of m d ≡ o → option_map (with_owner_ended p) o ≡ Some x → x.revoked ≡ false
+    unrevoked d x None f g = cc
+    unrevoked d x (Some y) f g =
+        let same : with_owner_ended p y ≡ x = cc in
+        ap (λ (z : Door). z.revoked) (sym same) ∙ ended_revoked p y ∙ h.unbuilt.none_revoked d y f
 
     rows : (r : ℕ) (fd : Fd) → ended_in ((core n).proc r) ≡ true → (b : Bool) → (r == p) ≡ b → object_at n r fd ≡ None
     rows r fd f true g =

@@ -1,10 +1,15 @@
--- What the kernel does after an act changes nothing of a state in which no pool has both a waiting item and an idle thread.
-use Rattle.std.specs.Prelude.{ℕ, ◌≡◌, List, [], ◌∷◌, Option, Some, None, All}
+-- What the kernel does after an act changes nothing of a state in which no pool has both a waiting item and an idle thread, and
+-- no idle thread is bound to a door that is not valid.
+use Rattle.std.specs.Prelude.{ℕ, ◌≡◌, List, [], ◌∷◌, Bool, true, false, not, ◌&&◌, ◌||◌, Option, Some, None, is_none, is_some, length, zero, suc, All}
 use Rattle.std.proofs.Common.{refl, sym, ap, subst, ◌∙◌}
 use Rattle.std.proofs.lemmas.List.Elements.{All-head, All-tail}
-use Rattle.written_kernel.specs.Types.{Errno, Request, Waiting}
-use Rattle.written_kernel.specs.Words.{State, effect, give_each, give_to, pick, pool_of, process_of, refusal_of, settle, step, unless_refused, waiting_items, with_event_counted}
+use Rattle.written_kernel.specs.Types.{Errno, Parked, Request, Waiting}
+use Rattle.kernel_records.specs.declared.pool.Pool.TheVariants.{Common}
+use Rattle.kernel_records.specs.Words.{has_common_door, pid}
+use Rattle.written_kernel.specs.Words.{State, effect, give_each, give_to, has_lost_door, needs_spare, pick, pool_of, process_of, refusal_of, settle, start_each, start_one, start_spares, step, unless_refused, waiting_items, with_event_counted}
+use Rattle.written_kernel.proofs.Settling.{settle-none}
 use Rattle.kernel_invariant.specs.Invariant.{Invariant}
+use Rattle.kernel_invariant.proofs.Settling.{no_lost_door}
 
 gives_nothing : (m : State) (ws : List Waiting) → All (λ w. pick m (pool_of m w.door) ≡ None) ws → give_each m ws ≡ m
 gives_nothing m [] h = refl
@@ -12,20 +17,43 @@ gives_nothing m (w ∷ ws) h =
     ap (λ o. give_each (give_to m w o) ws) (All-head (λ x. pick m (pool_of m x.door) ≡ None) w ws h)
     ∙ gives_nothing m ws (All-tail (λ x. pick m (pool_of m x.door) ≡ None) w ws h)
 
-pub settles_to_itself : (m : State) → Invariant m → settle m m ≡ m
-settles_to_itself m h = gives_nothing m (waiting_items m) h.given_out
+-- no process comes to need a spare, where neither its doors nor its pool change
+needs_none : (m : State) (p : ℕ) → needs_spare m m m p ≡ false
+needs_none m p = either (has_common_door m.doors p) (pick m (Common (pid p)))
+  where
+    either : (b : Bool) (o : Option Parked) → (not b && b) || (is_some o && is_none o) ≡ false
+    either true None = refl
+    either true (Some x) = refl
+    either false None = refl
+    either false (Some x) = refl
 
--- a refused entry, where giving gives nothing
+starts_nothing : (m : State) (n : ℕ) → start_each m m m n ≡ m
+starts_nothing m zero = refl
+starts_nothing m (suc n) =
+    ap (λ k. start_one k (suc n) (needs_spare m m m (suc n))) (starts_nothing m n) ∙ ap (start_one m (suc n)) (needs_none m (suc n))
+
+settles_nothing :
+    (m : State) → ((u : ℕ) → has_lost_door m u ≡ false) → All (λ w. pick m (pool_of m w.door) ≡ None) (waiting_items m) →
+    settle m m ≡ m
+settles_nothing m lost h =
+    settle-none m m lost
+    ∙ ap (start_spares m m) (gives_nothing m (waiting_items m) h)
+    ∙ starts_nothing m (length m.process_table.processes)
+
+pub settles_to_itself : (m : State) → Invariant m → settle m m ≡ m
+settles_to_itself m h = settles_nothing m (no_lost_door m h.consistent) h.given_out
+
+-- a refused entry, where no idle thread has lost its door and giving gives nothing
 pub refused_gives :
-    (m : State) (t : ℕ) (r : Request) (e : Errno) → All (λ w. pick m (pool_of m w.door) ≡ None) (waiting_items m) →
+    (m : State) (t : ℕ) (r : Request) (e : Errno) → ((u : ℕ) → has_lost_door m u ≡ false) → All (λ w. pick m (pool_of m w.door) ≡ None) (waiting_items m) →
     refusal_of m t (process_of m t) r ≡ Some e → (step m t (Some r)).state ≡ with_event_counted m
 unfolding step
-refused_gives m t r e h g =
+refused_gives m t r e lost h g =
     ap (λ o. with_event_counted (settle m (unless_refused m o (effect m t (process_of m t) r)).state)) g
-    ∙ ap with_event_counted (gives_nothing m (waiting_items m) h)
+    ∙ ap with_event_counted (settles_nothing m lost h)
 
 pub step_refused :
     (m : State) (t : ℕ) (q : Option Request) (r : Request) (e : Errno) → Invariant m → q ≡ Some r →
     refusal_of m t (process_of m t) r ≡ Some e → (step m t q).state ≡ with_event_counted m
 step_refused m t q r e h f g =
-    subst (λ o. (step m t o).state ≡ with_event_counted m) (sym f) (refused_gives m t r e h.given_out g)
+    subst (λ o. (step m t o).state ≡ with_event_counted m) (sym f) (refused_gives m t r e (no_lost_door m h.consistent) h.given_out g)

@@ -18,7 +18,7 @@ use Rattle.kernel_invariant.specs.Events.InvocationArrow.{stays, begins, ends, l
 use Rattle.kernel_invariant.proofs.Acts.{there}
 use Rattle.kernel_invariant.proofs.Calls.{find-passes}
 use Rattle.kernel_invariant.proofs.CallActs.{given_is}
-use Rattle.kernel_invariant.proofs.Settling.{is_idle}
+use Rattle.kernel_invariant.proofs.Settling.{is_at_rest}
 use Rattle.kernel_invariant.proofs.ThreadMoves.{Leaves}
 use Rattle.kernel_invariant.proofs.Exits.{end_process-core, last_leaves}
 use Rattle.kernel_invariant.proofs.Steps.{StepDoes, step_does, running_is, no_exit_inside}
@@ -176,7 +176,7 @@ step_serves m t q u h may =
     subst (λ o. InvocationArrow m t q (act m t q).answer n u (invocation_of m u) o)
     (sym (d.settled.gave.serves u))
     (serves_later m t q (act m t q).answer (act m t q).state n u _ _
-    (λ e. d.settled.gave.busy u (ap is_idle e) ∙ e)
+    (λ e. d.settled.gave.busy u (ap is_at_rest e) ∙ e)
     (act_serves m t q u h.consistent may))
   where
     d : StepDoes m t q

@@ -1,26 +1,29 @@
--- What the kernel does after an act: calls that wait are given to idle threads, until no pool has both.
-use Rattle.std.specs.Prelude.{ℕ, ◌≡◌, ◌+◌, ◌<◌, ◌≤◌, List, [], ◌∷◌, Option, Bool, true, false, ◌==◌, Some, None, map, filter, find, cond, All}
-use Rattle.std.proofs.Common.{refl, sym, ap, subst, ◌∙◌, inl, inr}
+-- What the kernel does after an act: calls that wait are given to idle threads, until no pool has both, and spare threads
+-- start. No idle thread has lost the door that it is bound to.
+use Rattle.std.specs.Prelude.{ℕ, ◌≡◌, ◌+◌, ◌<◌, ◌≤◌, List, [], ◌∷◌, Option, Bool, true, false, not, ◌==◌, ◌&&◌, Some, None, is_some, map, filter, find, cond, All}
+use Rattle.std.proofs.Common.{refl, sym, ap, subst, ◌∙◌, inl, inr, true≢false}
 use native.Mathlib.Omega.{arith}
 use Rattle.std.proofs.lemmas.Bool.Decides.{nat_tests}
 use Rattle.dk_base.specs.declared.object.Item.TheVariants as item
-use Rattle.written_kernel.specs.Types.{Call, Item, Parked, ThreadState}
+use Rattle.written_kernel.specs.Types.{Call, Door, Item, Parked, Thread, ThreadState}
 use Rattle.kernel_records.specs.declared.record.ThreadState.TheVariants as is
 use Rattle.kernel_records.specs.declared.record.CallStage.TheVariants as stage
-use Rattle.kernel_records.specs.Words.{at_stage, is_queued, is_queued_as, is_queued_call, is_valid_in, is_waiting_notice, tid, waiting_call, waiting_notice, with_notices}
-use Rattle.written_kernel.specs.Words.{State, door_of, find_call, give_each, give_one, give_to, invocation_of, pick, pool_of, settle, state_of, waiting_items}
-use Rattle.kernel_invariant.specs.Records.{has_number, record_of}
-use Rattle.kernel_invariant.specs.Core.{Core, core, door_in}
+use Rattle.kernel_records.specs.Words.{at_stage, is_idle, is_live_in, is_queued, is_queued_as, is_queued_call, is_valid_in, is_waiting_notice, set_thread_state, tid, waiting_call, waiting_notice, with_notices}
+use Rattle.written_kernel.specs.Words.{State, bound_of, door_of, find_call, give, give_each, give_one, give_to, has_lost_door, invocation_of, is_bound_to_invalid, is_valid, pick, pool_of, process_of, settle, state_of, thread_of, waiting_items, with_state}
+use Rattle.kernel_invariant.specs.Records.{has_number, owner_in, record_of}
+use Rattle.kernel_invariant.specs.Core.{Core, core, door_in, number_in}
 use Rattle.kernel_invariant.specs.Coherent.{IsCoherent}
 use Rattle.kernel_invariant.specs.Invariant.{IsInOrder, IsConsistent}
 use Rattle.kernel_invariant.specs.Arrows.{ByGiving}
 use Rattle.kernel_invariant.specs.Arrows.ByGiving.{stays, gives}
 use Rattle.kernel_invariant.proofs.Calls.{IsInOrder-change_first, find-as, length-change_first}
-use Rattle.kernel_invariant.proofs.Cores.{Turns, set_thread_state-turns, upd}
-use Rattle.kernel_invariant.proofs.ThreadMoves.{given_core, Gives, give_keeps}
-use Rattle.kernel_invariant.proofs.Acts.{act_consistent, change-core, same_tables, there}
+use Rattle.kernel_invariant.proofs.Cores.{Turns, act-core, set_role, set_thread_state-turns, upd}
+use Rattle.kernel_invariant.proofs.ThreadMoves.{given_core, Gives, give_keeps, start_keeps}
+use Rattle.kernel_invariant.proofs.Acts.{act_consistent, change-core, lives, not_ended, same_tables, there}
 use Rattle.kernel_invariant.proofs.Picks.{IsParked, pick_is, parked_is, pick_owner}
 use Rattle.written_kernel.proofs.Giving.{IsIn, IsApart, no_idle_for}
+use Rattle.written_kernel.proofs.Settling.{settle-none, start_spares-all}
+use Rattle.dk_base.specs.ByNumber.{at_number}
 use Rattle.std.proofs.lemmas.List.Elements.{All-nil, All-cons, All-map}
 
 pub giving_then : (o p q : Option Call) → ByGiving o p → ByGiving p q → ByGiving o q
@@ -31,22 +34,24 @@ giving_then o p q (gives r u e) b = go _ _ b refl
     go x y stays f = subst (λ z. ByGiving (Some r) z) (sym f) (gives r u e)
     go x y (gives s v g) f = grind arith
 
-abbrev pub is_idle : ThreadState → Bool
-is_idle (is.Idle since) = true
-is_idle _ = false
+-- the states that a thread leaves by what another thread does
+abbrev pub is_at_rest : ThreadState → Bool
+is_at_rest is.Dormant = true
+is_at_rest (is.Idle since) = true
+is_at_rest _ = false
 
 -- a thread is idle since then, or was given an item
 pub data IsIdleOrGiven (since : ℕ) (s : ThreadState) : Type 0 where
   still_idle : s ≡ is.Idle since → IsIdleOrGiven since s
   given_item : (i : Item) → s ≡ is.Given i → IsIdleOrGiven since s
 
--- what giving keeps, and the arrows that calls take by it
+-- what giving and starting keep, and the arrows that calls take by them
 pub record Gave (m n : State) : Type 0 where
   pub consistent : IsConsistent n
   pub arrows : (c : ℕ) → ByGiving (record_of m c) (record_of n c)
   pub serves : (t : ℕ) → invocation_of n t ≡ invocation_of m t
-  -- only idle threads turn to another state, as they are given an item, and none is done
-  pub busy : (t : ℕ) → is_idle (state_of m t) ≡ false → state_of n t ≡ state_of m t
+  -- only threads that are idle or dormant turn to another state, an idle one as it is given an item, and none is done
+  pub busy : (t : ℕ) → is_at_rest (state_of m t) ≡ false → state_of n t ≡ state_of m t
   pub idle : (t since : ℕ) → state_of m t ≡ is.Idle since → IsIdleOrGiven since (state_of n t)
   pub done : (t : ℕ) → state_of n t ≡ is.Done → state_of m t ≡ is.Done
   pub doors : (d : ℕ) → door_of n d ≡ door_of m d
@@ -67,7 +72,7 @@ gave_nothing m h =
 
 idle_then : (m n : State) (t since : ℕ) → Gave m n → IsIdleOrGiven since (state_of m t) → IsIdleOrGiven since (state_of n t)
 idle_then m n t since g (still_idle e) = g.idle t since e
-idle_then m n t since g (given_item i e) = given_item i (g.busy t (ap is_idle e) ∙ e)
+idle_then m n t since g (given_item i e) = given_item i (g.busy t (ap is_at_rest e) ∙ e)
 
 gave_then : (m n o : State) → Gave m n → Gave n o → Gave m o
 gave_then m n o g h =
@@ -75,7 +80,7 @@ gave_then m n o g h =
       consistent = h.consistent;
       arrows = λ c. giving_then (record_of m c) (record_of n c) (record_of o c) (g.arrows c) (h.arrows c);
       serves = λ t. h.serves t ∙ g.serves t;
-      busy = λ t e. h.busy t (ap is_idle (g.busy t e) ∙ e) ∙ g.busy t e;
+      busy = λ t e. h.busy t (ap is_at_rest (g.busy t e) ∙ e) ∙ g.busy t e;
       idle = λ t since e. idle_then n o t since h (g.idle t since e);
       done = λ t e. g.done t (h.done t e);
       doors = λ d. h.doors d ∙ g.doors d;
@@ -215,11 +220,76 @@ waits_of : (m : State) → m.notice_list.notices ≡ [] → waiting_items m ≡ 
 waits_of m e =
     ap (λ ns. with_notices (map waiting_call (filter is_queued_call m.call_tree.calls)) (map waiting_notice (filter is_waiting_notice ns))) e
 
-settle_gave : (before m : State) → IsConsistent m → Gave m (settle before m)
-settle_gave before m h =
+give_does : (m : State) → IsConsistent m → Gave m (give m)
+give_does m h =
     subst (λ ws. Gave m (give_each m ws)) (sym (waits_of m h.unbuilt.no_notices))
     (give_each_does (filter is_queued_call m.call_tree.calls) 0 m h
     (pending_all m m.call_tree.calls 0 0 h.in_order (grind arith) (λ c l. refl)))
+
+-- a spare thread starts
+
+start_does : (m : State) (t : ℕ) → IsConsistent m → state_of m t ≡ is.Dormant → Gave m (with_state m t is.Running)
+start_does m t h e =
+    record {
+      consistent =
+          act_consistent m _ m.tables m.call_tree h (same_tables m h) turns.processes h.in_order h.counted
+          (subst IsCoherent (sym l) (start_keeps (core m) t h.coherent e));
+      arrows = λ c. stays;
+      serves = λ u. turns.invocation u;
+      busy = λ u f. grind (arith, nat_tests, turns.role u);
+      idle = λ u since f. still_idle (still u since f);
+      done = λ u f. grind (arith, nat_tests, turns.role u);
+      doors = λ d. refl;
+      processes = λ p. ap (λ (k : Core). k.proc p) l;
+    }
+  where
+    turns : Turns m.process_table (set_thread_state m.process_table t is.Running) t is.Running (core m).serves
+    turns = set_thread_state-turns m.process_table t is.Running (there m t (λ z. grind arith))
+
+    still : (u since : ℕ) → state_of m u ≡ is.Idle since → state_of (with_state m t is.Running) u ≡ is.Idle since
+    still u since f = grind (arith, nat_tests, turns.role u)
+
+    l : core (with_state m t is.Running) ≡ set_role (core m) t is.Running
+    l = act-core m (set_thread_state m.process_table t is.Running) m.call_tree t is.Running _ (core m).call turns (λ c. refl)
+
+-- a thread that is not Done is of a process that lives, and so the door that it is bound to is valid
+pub bound_valid :
+    (m : State) → IsConsistent m → (t d : ℕ) → (state_of m t ≡ is.Done → ⊥) → bound_of m t ≡ Some d → is_valid m d ≡ true
+bound_valid m h t d busy e = go (door_of m d) refl (h.coherent.bindings.bound_own t d e)
+  where
+    number : (o : Option Thread) → is_some o ≡ true → (n : ℕ) × (number_in o ≡ Some n)
+    number None f = absurd (true≢false (sym f))
+    number (Some x) f = (x.number, refl)
+
+    live : is_live_in (at_number m.process_table.processes (process_of m t)) ≡ true
+    live =
+        let n : (n : ℕ) × (number_in (thread_of m t) ≡ Some n) = number (thread_of m t) (there m t busy) in
+        lives _ (h.coherent.threads.process_there t n.0 n.1) (not_ended m t h busy)
+
+    go : (o : Option Door) → door_of m d ≡ o → owner_in o ≡ Some (process_of m t) → is_valid_in o ≡ true
+    go None f g = absurd (grind arith)
+    go (Some x) f g =
+        let owner : x.owner.0 ≡ process_of m t = grind arith in
+        grind (arith, h.unbuilt.none_revoked d x f, h.coherent.doors.owner_ended d x f, live)
+
+pub idle_valid_of :
+    (m : State) → IsConsistent m → (t d since : ℕ) → (core m).role t ≡ is.Idle since → (core m).bound t ≡ Some d →
+    is_valid_in ((core m).door d) ≡ true
+idle_valid_of m h t d since e f = bound_valid m h t d (λ z. grind arith) f
+
+pub no_lost_door : (m : State) → IsConsistent m → (t : ℕ) → has_lost_door m t ≡ false
+no_lost_door m h t = go (state_of m t) refl (bound_of m t) refl
+  where
+    go : (s : ThreadState) → state_of m t ≡ s → (o : Option ℕ) → bound_of m t ≡ o → is_idle s && is_bound_to_invalid m o ≡ false
+    go (is.Idle since) e None f = refl
+    go (is.Idle since) e (Some d) f = ap not (idle_valid_of m h t d since e f)
+    go s e o f = refl
+
+settle_gave : (before m : State) → IsConsistent m → Gave m (settle before m)
+settle_gave before m h =
+    subst (Gave m) (sym (settle-none before m (no_lost_door m h)))
+    (start_spares-all (Gave m) (λ n t d g. gave_then m n (with_state n t is.Running) g (start_does n t g.consistent d)) before m (give m)
+    (give_does m h))
 
 -- no pool is left with a waiting call and an idle thread
 

@@ -1,21 +1,21 @@
 -- What an act does, and what the kernel does after it.
-use Rattle.std.specs.Prelude.{ℕ, ◌≡◌, Option, true, Some, None}
+use Rattle.std.specs.Prelude.{ℕ, ◌≡◌, Option, true, false, Some, None}
 use Rattle.std.proofs.Common.{refl, ◌∙◌, ap}
 use native.Mathlib.Omega.{arith}
 use Rattle.written_kernel.specs.Types.{Answer, Call, Errno, Inv, Request, ThreadState}
 use Rattle.dk_base.specs.declared.request.Request.TheVariants as request
 use Rattle.kernel_records.specs.declared.record.ThreadState.TheVariants as is
 use Rattle.kernel_records.specs.Words.{is_valid_in}
-use Rattle.written_kernel.specs.Words.{MayInside, MayTurn, State, act, bound_of, can_go_on, effect, enter, go_on, invocation_of, is_running, is_running_state, is_valid, process_of, refusal_of, settle, state_of, step, unless_refused, with_event_counted}
+use Rattle.written_kernel.specs.Words.{MayInside, MayTurn, State, act, can_go_on, effect, enter, go_on, has_lost_door, invocation_of, is_running, is_running_state, is_valid, process_of, refusal_of, settle, state_of, step, unless_refused, with_event_counted}
 use Rattle.kernel_invariant.specs.Records.{record_of}
 use Rattle.kernel_invariant.specs.Invariant.{IsConsistent, Invariant}
 use Rattle.kernel_invariant.specs.Arrows.{ByAct, EndsBy, Arrow}
 use Rattle.kernel_invariant.specs.Arrows.ByAct.{stays, makes, enters, returns, ends, collects_results, collects_nothing, collects_error}
 use Rattle.kernel_invariant.specs.Arrows.EndsBy.{door_invalid, server_full}
-use Rattle.kernel_invariant.proofs.Acts.{Does, does_nothing, create_does, names_does, rows_does, set_param_does, await_does, turned_to}
+use Rattle.kernel_invariant.proofs.Acts.{Does, bind_does, does_nothing, create_does, names_does, rows_does, set_param_does, await_does, turned_to, unbind_does}
 use Rattle.kernel_invariant.proofs.CallActs.{call_does, return_does, accept_does, collect_does}
 use Rattle.kernel_invariant.proofs.Exits.{exit_does}
-use Rattle.kernel_invariant.proofs.Settling.{Settles, settle_does}
+use Rattle.kernel_invariant.proofs.Settling.{Settles, idle_valid_of, no_lost_door, settle_does}
 
 pub running_is : (m : State) (t : ℕ) → is_running m t ≡ true → state_of m t ≡ is.Running
 running_is m t e = go (state_of m t) e
@@ -34,6 +34,8 @@ effect_does :
 effect_does m t (request.Create entry cookie attrs) h e i f = create_does m t _ entry cookie attrs h e f
 effect_does m t (request.Call fd bytes pass rsize) h e i f = call_does m t rsize fd bytes pass h e f
 effect_does m t (request.Return bytes pass) h e i f = return_does m t bytes pass h e
+effect_does m t (request.Bind fd) h e i f = bind_does m t _ fd h f
+effect_does m t request.Unbind h e i f = unbind_does m t _ h
 effect_does m t (request.SetParam fd x value) h e i f = set_param_does m t _ _ x value _ h
 effect_does m t (request.Close fd) h e i f = rows_does m t _ _ _ h e
 effect_does m t (request.Dup fd) h e i f = rows_does m t _ _ _ h e
@@ -74,7 +76,7 @@ counted_keeps m h =
       coherent = h.coherent;
       tables = h.tables;
       no_rows = h.no_rows;
-      unbuilt = record { no_notices = h.unbuilt.no_notices; unbound = h.unbuilt.unbound };
+      unbuilt = record { no_notices = h.unbuilt.no_notices; none_revoked = h.unbuilt.none_revoked };
     }
 
 -- an arrow of an act, seen from a later state in which the same doors are valid and no more threads are done
@@ -113,15 +115,15 @@ unfolding step
 step_invariant m t q h may =
     record {
       consistent = counted_keeps (settle m (act m t q).state) d.settled.gave.consistent;
-      idle_valid = λ u e since f g. absurd (not_bound u e g);
+      idle_valid = idle_valid_of (settle m (act m t q).state) d.settled.gave.consistent;
       given_out = d.settled.given_out;
     }
   where
     d : StepDoes m t q
     d = step_does m t q h may
 
-    not_bound : (u e : ℕ) → bound_of (settle m (act m t q).state) u ≡ Some e → ⊥
-    not_bound u e f = grind (arith, d.settled.gave.consistent.unbuilt.unbound u)
+pub step_none_lost : (m : State) (t u : ℕ) (q : Option Request) → Invariant m → MayTurn m t q → has_lost_door (act m t q).state u ≡ false
+step_none_lost m t u q h may = no_lost_door (act m t q).state (act_does m t q h.consistent may).consistent u
 
 pub step_arrows :
     (m : State) (t : ℕ) (q : Option Request) (c : ℕ) → Invariant m → MayTurn m t q →

@@ -1,5 +1,5 @@
--- The other atomic changes of the core: a thread turns to another wait, a door is made, a call is given, threads leave, and
--- a process ends. Each keeps what holds of a core.
+-- The other atomic changes of the core: a thread turns to another wait, a spare thread starts, a door is made, a call is
+-- given, threads leave, and a process ends. Each keeps what holds of a core.
 use Rattle.std.specs.Prelude.{ℕ, ◌≡◌, Option, Bool, not, true, false, ◌==◌, ◌&&◌, if◌then◌else◌, Some, None, is_some, option_map}
 use Rattle.std.proofs.Common.{refl, sym, ap, ap₂, subst, ◌∙◌}
 use native.Mathlib.Omega.{arith}
@@ -9,8 +9,8 @@ use Rattle.dk_base.specs.declared.object.Item.TheVariants as item
 use Rattle.written_kernel.specs.Types.{Call, Door, Pid, ThreadState}
 use Rattle.kernel_records.specs.declared.record.ThreadState.TheVariants as is
 use Rattle.kernel_records.specs.declared.record.CallStage.TheVariants as stage
-use Rattle.kernel_records.specs.Words.{at_stage, ended_process, has_no_cancel, is_live_in, is_owned_by, is_private, is_queued, is_valid_in, no_cancel_of, tid, with_owner_ended, without_arguments_at}
-use Rattle.kernel_invariant.specs.Core.{Core, door_in, private_in}
+use Rattle.kernel_records.specs.Words.{at_stage, ended_process, has_no_cancel, is_live_in, is_owned_by, is_private, is_private_in, is_queued, is_valid_in, no_cancel_of, tid, with_owner_ended, without_arguments_at}
+use Rattle.kernel_invariant.specs.Core.{Core, door_in}
 use Rattle.kernel_invariant.specs.Coherent.{IsCoherent, is_unbuilt}
 use Rattle.kernel_invariant.specs.Records.{owner_in}
 use Rattle.kernel_invariant.proofs.Cores.{set_role, set_serves, set_call, set_door, upd}
@@ -51,6 +51,36 @@ turn_keeps k t s h p q u =
       doors = h.doors;
       bindings = h.bindings;
       processes = processes_turn k.role k.process k.proc t s h.processes (grind arith);
+      threads = h.threads;
+      has_built_state = λ v. grind (arith, nat_tests, h.has_built_state v);
+    }
+
+-- a spare thread starts
+pub start_keeps : (k : Core) (t : ℕ) → IsCoherent k → k.role t ≡ is.Dormant → IsCoherent (set_role k t is.Running)
+start_keeps k t h p =
+    record {
+      waits =
+          record {
+            given = λ c v e. grind (arith, nat_tests, h.waits.given c v);
+            given_back = λ c v e. grind (arith, nat_tests, h.waits.given_back c v);
+            caller = λ c v e. grind (arith, nat_tests, h.waits.caller c v);
+            live = λ c v e. grind (arith, nat_tests, h.waits.live c v);
+            calling = λ c e. grind (arith, nat_tests, h.waits.calling c);
+          };
+      invocations = h.invocations;
+      notices_given = notices_turn k.role k.notice t is.Running h.notices_given (grind arith) refl;
+      notices_entered = h.notices_entered;
+      servers =
+          record {
+            outside = λ v e. grind (arith, nat_tests, h.servers.outside v);
+            below = λ c d v e f. grind (arith, nat_tests, h.servers.below c d v);
+            served_made = h.servers.served_made;
+          };
+      calls = h.calls;
+      at_doors = h.at_doors;
+      doors = h.doors;
+      bindings = h.bindings;
+      processes = processes_turn k.role k.process k.proc t is.Running h.processes (grind arith);
       threads = h.threads;
       has_built_state = λ v. grind (arith, nat_tests, h.has_built_state v);
     }
@@ -132,7 +162,7 @@ limits_keep k d x y h there s =
       bindings =
           record {
             bound_own = λ v e f. reads owner_in owner e ∙ h.bindings.bound_own v e f;
-            bound_private = λ v e f. reads private_in (ap is_private s.attrs) e ∙ h.bindings.bound_private v e f;
+            bound_private = λ v e f. reads is_private_in (ap is_private s.attrs) e ∙ h.bindings.bound_private v e f;
           };
       processes = h.processes;
       threads = h.threads;

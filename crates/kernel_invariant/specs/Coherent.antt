@@ -5,8 +5,8 @@ use Rattle.dk_base.specs.declared.object.Item.TheVariants as item
 use Rattle.kernel_records.specs.declared.record.ThreadState.TheVariants as is
 use Rattle.kernel_records.specs.declared.record.CallStage.TheVariants as stage
 use Rattle.kernel_records.specs.declared.record.NoticeStage.TheVariants as notice
-use Rattle.kernel_records.specs.Words.{is_live_in, is_valid_in, no_cancel_of, tid}
-use Rattle.kernel_invariant.specs.Core.{Core, caller_number, door_in, abandoned_in, live_in, underway_in, has_arguments, is_outside, ended_in, private_in, owner_at}
+use Rattle.kernel_records.specs.Words.{is_live_in, is_private_in, is_valid_in, no_cancel_of, tid}
+use Rattle.kernel_invariant.specs.Core.{Core, caller_number, door_in, abandoned_in, live_in, underway_in, has_arguments, is_outside, ended_in, owner_at}
 use Rattle.kernel_invariant.specs.Records.{owner_in, stage_in, item_in}
 
 -- the waits of threads for calls
@@ -76,7 +76,7 @@ pub record AreDoors (door : ℕ → Option Door) (proc : ℕ → Option Process)
 -- a thread is bound only to a private door of its own process
 pub record AreBindings (bound : ℕ → Option ℕ) (door : ℕ → Option Door) (process : ℕ → ℕ) : Type 0 where
   pub bound_own : (t d : ℕ) → bound t ≡ Some d → owner_in (door d) ≡ Some (process t)
-  pub bound_private : (t d : ℕ) → bound t ≡ Some d → private_in (door d) ≡ true
+  pub bound_private : (t d : ℕ) → bound t ≡ Some d → is_private_in (door d) ≡ true
 
 -- an ended process has only Done threads
 pub record AreProcesses (role : ℕ → ThreadState) (process : ℕ → ℕ) (proc : ℕ → Option Process) : Type 0 where

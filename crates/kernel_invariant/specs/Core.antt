@@ -5,7 +5,7 @@ use Rattle.kernel_records.specs.declared.record.ProcessStage.TheVariants.{Live, 
 use Rattle.kernel_records.specs.declared.record.ThreadState.TheVariants as is
 use Rattle.kernel_records.specs.declared.record.CallStage.TheVariants as stage
 use Rattle.dk_base.specs.ByNumber.{at_number}
-use Rattle.kernel_records.specs.Words.{is_live, is_private}
+use Rattle.kernel_records.specs.Words.{is_live}
 use Rattle.written_kernel.specs.Words.{State, bound_of, door_of, invocation_of, process_of, state_of, thread_of}
 use Rattle.kernel_invariant.specs.Records.{record_of, owner_in}
 
@@ -99,11 +99,6 @@ is_ended_stage Ended = true
 abbrev pub ended_in : Option Process → Bool
 ended_in None = false
 ended_in (Some p) = is_ended_stage p.stage
-
--- of a door
-abbrev pub private_in : Option Door → Bool
-private_in None = false
-private_in (Some d) = is_private d.attrs
 
 -- the process that made the door of a call
 abbrev pub owner_at : (ℕ → Option Call) → (ℕ → Option Door) → ℕ → Option ℕ

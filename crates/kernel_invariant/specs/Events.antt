@@ -1,6 +1,7 @@
 -- What every event does: it keeps the invariant; each call's record takes arrows of the table, and the invocation of each
--- thread one of its own; what its answer tells is so; doors are made and kept; and a refused entry changes nothing.
-use Rattle.std.specs.Prelude.{ℕ, ◌≡◌, ◌+◌, ◌≤◌, ◌⊎◌, Option, List, Some, None}
+-- thread one of its own; what its answer tells is so; doors are made and kept; a refused entry changes nothing; and no idle
+-- thread loses its door.
+use Rattle.std.specs.Prelude.{ℕ, ◌≡◌, ◌+◌, ◌≤◌, ◌⊎◌, Option, List, Some, None, false}
 use Rattle.written_kernel.specs.Types.{Answer, Door, Errno, Fd, Inv, Item, Pass, Request, ThreadState}
 use Rattle.dk_base.specs.declared.error.Errno.TheVariants.{EMFILE}
 use Rattle.dk_base.specs.declared.object.Item.TheVariants as item
@@ -11,7 +12,7 @@ use Rattle.kernel_records.specs.declared.record.CallStage.TheVariants as stage
 use Rattle.kernel_records.specs.Words.{is_given_as, is_to_collect_as, new_invocation, tid}
 use Rattle.capabilities.specs.Capability.{capability_of_attrs}
 use Rattle.capabilities.specs.declared.table.TheConstants.{BUILT}
-use Rattle.written_kernel.specs.Words.{State, door_of, find_call, invocation_of, name_of, process_of, refusal_of, state_of, step, with_event_counted}
+use Rattle.written_kernel.specs.Words.{State, act, door_of, find_call, has_lost_door, invocation_of, name_of, process_of, refusal_of, state_of, step, with_event_counted}
 use Rattle.kernel_invariant.specs.Records.{record_of, stage_of}
 use Rattle.kernel_invariant.specs.Invariant.{Invariant}
 use Rattle.kernel_invariant.specs.Arrows.{Arrow}
@@ -88,12 +89,15 @@ IsAcceptedNow n t c = (stage_of n c ≡ Some (stage.Entered (tid t))) ⊎ (stage
 abbrev pub IsAnsweredNow : State → State → ℕ → Type 0
 IsAnsweredNow m n c = stage_of n c ≡ Some (stage.Answered (m.events + 1))
 
--- the entries that are built: a thread in an invocation neither calls nor exits yet
+-- the entries that are built: a thread in an invocation does not exit yet
 abbrev pub IsBuiltEntry : State → ℕ → Request → Type 0
 IsBuiltEntry m t (request.Create entry cookie attrs) = capability_of_attrs attrs ≤ BUILT
-IsBuiltEntry m t (request.Call fd bytes pass rsize) = invocation_of m t ≡ None
+IsBuiltEntry m t (request.Call fd bytes pass rsize) = Unit {0}
 IsBuiltEntry m t (request.Return bytes pass) = Unit {0}
+IsBuiltEntry m t (request.Bind fd) = Unit {0}
+IsBuiltEntry m t request.Unbind = Unit {0}
 IsBuiltEntry m t (request.Info fd) = Unit {0}
+IsBuiltEntry m t request.InfoQuery = Unit {0}
 IsBuiltEntry m t (request.GetParam fd param) = Unit {0}
 IsBuiltEntry m t (request.SetParam fd param value) = Unit {0}
 IsBuiltEntry m t request.Cred = Unit {0}
@@ -133,5 +137,7 @@ pub record Keeps (m : State) (t : ℕ) (q : Option Request) : Type 0 where
   -- an entry that is refused changes nothing but the number of events
   pub refused :
       (r : Request) (e : Errno) → q ≡ Some r → refusal_of m t (process_of m t) r ≡ Some e → (step m t q).state ≡ with_event_counted m
+  -- no idle thread is bound to a door that the act made invalid
+  pub none_lost : (u : ℕ) → has_lost_door (act m t q).state u ≡ false
   -- an act that is not built is never reached
   pub is_built : IsBuiltTurn m t q

@@ -1,13 +1,13 @@
 -- The laws hold of every run.
-use Rattle.std.specs.Prelude.{ℕ, ◌≤◌, List, length}
+use Rattle.std.specs.Prelude.{ℕ, ◌≡◌, ◌≤◌, List, Some, length}
 use Rattle.std.proofs.Common.{subst, ◌∙◌}
 use native.Mathlib.Omega.{arith}
-use Rattle.written_kernel.specs.Words.{IsOpening, IsRun, State, Turn, state_after, state_at}
+use Rattle.written_kernel.specs.Words.{IsOpening, IsRun, State, Turn, bound_of, state_after, state_at}
 use Rattle.written_kernel.proofs.Runs.{length-events_of, number-event_of, slice_get-events_of, state_at_all}
 use Rattle.kernel_invariant.specs.Invariant.{Invariant}
 use Rattle.kernel_laws.specs.Laws.{Laws}
 use Rattle.kernel_laws.specs.EventsShown.{EventsShown}
-use Rattle.kernel_laws.specs.Pools.{HasNoneIdle}
+use Rattle.kernel_laws.specs.Pools.{HasNoneIdle, IsBoundToOwn}
 use Rattle.kernel_laws.specs.Refused.{RefusedByFirstTest, RefusedChangesNothing}
 use Rattle.kernel_laws.proofs.Known.{Known, next}
 use Rattle.kernel_laws.proofs.Refusals.{entry_tells}
@@ -16,6 +16,7 @@ use Rattle.kernel_laws.proofs.Once.{once_holds}
 use Rattle.kernel_laws.proofs.Match.{match_holds}
 use Rattle.kernel_laws.proofs.Cause.{cause_holds}
 use Rattle.kernel_laws.proofs.NoLoss.{no_loss_holds}
+use Rattle.kernel_laws.proofs.Held.{held_holds}
 use Rattle.kernel_laws.proofs.Creators.{made_by_creator}
 
 by_first_test : (m : State) (xs : List Turn) → RefusedByFirstTest m xs
@@ -32,6 +33,14 @@ events_shown m xs k =
       number = λ i x e. number-event_of m xs i x e ∙ omega (arith, k.no_event);
     }
 
+bound_to_own : (m : State) → Invariant m → (t d : ℕ) → bound_of m t ≡ Some d → IsBoundToOwn m t d
+bound_to_own m h t d e =
+    record {
+      is_private = h.consistent.coherent.bindings.bound_private t d e;
+      own = h.consistent.coherent.bindings.bound_own t d e;
+      valid = λ since f. h.idle_valid t d since f e;
+    }
+
 all_hold : (m : State) (xs : List Turn) → Known m xs → Laws m xs
 unfolding Laws
 all_hold m xs k =
@@ -40,9 +49,11 @@ all_hold m xs k =
       match = match_holds m xs k;
       cause = cause_holds m xs k;
       no_loss = no_loss_holds m xs k;
+      held = held_holds m xs k;
       made_by_creator = made_by_creator m xs k;
       refused = record { by_first_test = by_first_test m xs; changes_nothing = changes_nothing m xs k };
       no_pool_has_both = λ i l. (k.invariant i l).given_out;
+      bound_to_own = λ i t d l e. bound_to_own (state_at m xs i) (k.invariant i l) t d e;
       events_shown = events_shown m xs k;
     }
 

@@ -12,6 +12,7 @@ mod Once
 mod Match
 mod Cause
 mod NoLoss
+mod Held
 mod Creators
 mod Runs
 mod EveryRun

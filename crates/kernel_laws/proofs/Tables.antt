@@ -15,6 +15,7 @@ use Rattle.kernel_records.specs.declared.record.ThreadState.TheVariants as is
 use Rattle.kernel_records.specs.declared.record.CallStage.TheVariants as stage
 use Rattle.kernel_records.specs.Words.{Test, first_refusal, free_rows, insert_rows, is_bad_pass, is_given_as, is_not_open, is_to_collect_as, limit_tests, new_descriptors, object_in, object_named, objects_passed, refused_where, release_rows, table_in, tid, with_table}
 use Rattle.written_kernel.specs.Words.{State, accept_call, act, begin_call, client_call, collect_answer, collect_answer_in, door_named, door_of, effect, fail_begin, find_call, give_each, give_one, give_to, go_on, has_room, object_at, objects_collected, objects_collected_in, pick, pool_of, pool_tests, process_of, refusal_of, state_of, step, table_of, tables_after_collect, tables_after_pass, tables_with, unless_refused, waiting_items}
+use Rattle.written_kernel.proofs.Settling.{tables-settle}
 use Rattle.kernel_invariant.specs.Records.{record_of}
 use Rattle.kernel_invariant.specs.Arrows.{has_own_room, own_table}
 use Rattle.kernel_invariant.proofs.Calls.{find-as}
@@ -25,24 +26,11 @@ use Rattle.kernel_laws.proofs.Refusals.{entry_tells, none_of}
 
 -- after an act
 
-tables-give_one : (m : State) (i : Item) (u : ℕ) → (give_one m i u).tables ≡ m.tables
-tables-give_one m (item.Call c) u = refl
-tables-give_one m (item.Notice n) u = refl
-
-tables-give_to : (m : State) (w : Waiting) (o : Option Parked) → (give_to m w o).tables ≡ m.tables
-tables-give_to m w None = refl
-tables-give_to m w (Some x) = tables-give_one m w.item x.thread.0
-
-tables-give_each : (m : State) (ws : List Waiting) → (give_each m ws).tables ≡ m.tables
-tables-give_each m [] = refl
-tables-give_each m (w ∷ ws) =
-    tables-give_each (give_to m w (pick m (pool_of m w.door))) ws ∙ tables-give_to m w (pick m (pool_of m w.door))
-
 -- the end of a wait
 tables-go_on : (m : State) (t : ℕ) (s : ThreadState) → state_of m t ≡ s → (step m t None).state.tables ≡ (go_on m t (process_of m t) s).state.tables
 unfolding step
 tables-go_on m t s e =
-    tables-give_each (act m t None).state (waiting_items (act m t None).state)
+    tables-settle m (act m t None).state
     ∙ ap (λ z. (go_on m t (process_of m t) z).state.tables) e
 
 -- an entry that is not refused
@@ -51,7 +39,7 @@ tables-effect :
     (step m t (Some r)).state.tables ≡ (effect m t (process_of m t) r).state.tables
 unfolding step
 tables-effect m t r e =
-    tables-give_each (act m t (Some r)).state (waiting_items (act m t (Some r)).state)
+    tables-settle m (act m t (Some r)).state
     ∙ ap (λ o. (unless_refused m o (effect m t (process_of m t) r)).state.tables) e
 
 -- what is installed

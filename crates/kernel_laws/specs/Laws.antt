@@ -7,7 +7,8 @@ use Rattle.kernel_laws.specs.Cause.{HasCause}
 use Rattle.kernel_laws.specs.NoLoss.{NoLoss}
 use Rattle.kernel_laws.specs.MadeByCreator.{MadeByCreator}
 use Rattle.kernel_laws.specs.Refused.{Refused}
-use Rattle.kernel_laws.specs.Pools.{NoPoolHasBoth}
+use Rattle.kernel_laws.specs.Held.{Held}
+use Rattle.kernel_laws.specs.Pools.{AreBoundToOwn, NoPoolHasBoth}
 use Rattle.kernel_laws.specs.EventsShown.{EventsShown}
 
 pub record AllLaws (m : State) (xs : List Turn) : Type 0 where
@@ -15,9 +16,11 @@ pub record AllLaws (m : State) (xs : List Turn) : Type 0 where
   pub match : Match m xs
   pub cause : HasCause m xs
   pub no_loss : NoLoss m xs
+  pub held : Held m xs
   pub made_by_creator : MadeByCreator m xs
   pub refused : Refused m xs
   pub no_pool_has_both : NoPoolHasBoth m xs
+  pub bound_to_own : AreBoundToOwn m xs
   pub events_shown : EventsShown m xs
 
 unfoldable pub Laws : State → List Turn → Type 0

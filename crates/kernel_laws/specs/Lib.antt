@@ -8,5 +8,6 @@ pub mod Refused
 pub mod Pools
 pub mod EventsShown
 pub mod NoLoss
+pub mod Held
 pub mod Laws
 pub mod Words

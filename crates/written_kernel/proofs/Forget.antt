@@ -1,5 +1,5 @@
 -- A kernel may forget the calls that were answered or whose callers ended: what a step gives is the same.
-use Rattle.std.proofs.Common.{◌≡◌, ℕ, zero, suc, Bool, true, false, if◌then◌else◌, List, [], ◌∷◌, Option, None, Some, is_some, ◌++◌, flat_map, length, map, filter, refl, sym, subst, ap, ◌∙◌}
+use Rattle.std.proofs.Common.{◌≡◌, ℕ, zero, suc, Bool, true, false, if◌then◌else◌, List, [], ◌∷◌, Option, None, Some, is_some, ◌++◌, flat_map, length, map, filter, unwrap_or, refl, sym, subst, ap, ap₂, ◌∙◌}
 use Rattle.std.specs.Option.{option_map_or}
 use Rattle.written_kernel.specs.Types.{Answer, Call, Errno, Item, Name, Obj, Parked, PathId, Pool, Request, Stepped, ThreadState, Waiting}
 use Rattle.dk_base.specs.declared.answer.Answer.TheVariants as answer
@@ -9,7 +9,7 @@ use Rattle.dk_base.specs.declared.request.Request.TheVariants as request
 use Rattle.kernel_records.specs.declared.record.ThreadState.TheVariants as is
 use Rattle.kernel_records.specs.Words.{CallTree, collect_call, first_refusal, give_call, is_client_call_of, is_given_as, is_last, is_queued_call, is_queued_in, is_served_by, is_to_collect_as, info_in, is_waiting_notice, live_calls, objects_of, objects_passed, pid, set_thread_state, waiting_call, waiting_notice, with_notices}
 use Rattle.written_kernel.specs.Step.{step}
-use Rattle.written_kernel.specs.Words.{ActResult, IsStep, StandsFor, State, Step, accept, accept_call, act, await, await_name, begin_call, call, calls_waiting, caller_in, caller_of, can_go_on, client_call, client_process, collect, collect_answer_in, credentials, door_at, door_named, door_of, effect, end_calls, enter, tests_of, exit, fail_begin, find_call, forget, give, give_each, give_one, give_to, go_on, has_room, holdings, information_of, invocation_of, is_runnable, is_running, leave_process, leave_thread, name_of, named_object, new_call, now, no_act, object_at, objects_collected_in, pick, pool_of, process_of, refs, refusal_of, return, root, served_by, settle, state_of, step_after, table_of, tables_after_collect, unless_refused, waiting_items, walk, with_event_counted, woken_among, woken_threads}
+use Rattle.written_kernel.specs.Words.{ActResult, IsStep, StandsFor, State, Step, accept, accept_call, act, await, await_name, begin_call, bound_of, call, calls_waiting, caller_in, caller_of, can_go_on, client_call, client_process, collect, collect_answer_in, credentials, door_at, door_named, door_of, effect, end_calls, enter, tests_of, exit, fail_begin, fail_each, fail_one, fail_return, fail_returns, find_call, forget, give, give_and_start, give_each, give_one, give_to, go_on, has_lost_door, has_room, holdings, information_of, invocation_of, is_runnable, is_running, leave_process, leave_thread, name_of, named_object, needs_spare, new_call, now, no_act, object_at, objects_collected_in, pick, pool_of, process_of, refs, refusal_of, return, root, served_by, settle, start_each, start_one, start_spares, state_of, step_after, table_of, tables_after_collect, unless_refused, waiting_items, walk, with_event_counted, woken_among, woken_threads}
 use Rattle.written_kernel.proofs.CallLists.{HaveSameLive, IsOfLiveCalls, client_is_live, collect_call-live, count_by-live, end_calls-live, enter_call-live, fail_call-live, filter-live, find-live, give_call-live, given_as_is_live, live_calls-live, objects-live, open_call-live, queued_call_is_live, queued_in_is_live, ready_as_is_live, return_call-live, served_is_live}
 
 -- The readers of calls. What reads none is the same by its form.
@@ -209,6 +209,7 @@ effect-forget m t p (request.Call fd bytes pass rsize) =
 effect-forget m t p (request.Return bytes pass) =
     same_act (return m t p bytes pass) (return_call-live m.call_tree t bytes (objects_passed (table_of m p) pass)) refl
 effect-forget m t p (request.Info fd) = information_of-forget m p (door_at m p fd)
+effect-forget m t p request.InfoQuery = information_of-forget m p (unwrap_or (bound_of m t) 0)
 effect-forget m t p request.Cred = credentials-forget m t
 effect-forget m t p (request.Await path) = await-forget m t path
 effect-forget m t p request.Exit = exit-forget m t p
@@ -265,8 +266,54 @@ give_each-forget (w ∷ ws) m =
 give-forget : Absorbs give
 give-forget m = ap (λ ws. forget (give_each (forget m) ws)) (waiting_items-forget m) ∙ give_each-forget (waiting_items m) m
 
+-- failing and starting read no calls
+
+pub has_lost_door-forget : (m : State) (t : ℕ) → has_lost_door (forget m) t ≡ has_lost_door m t
+has_lost_door-forget m t = refl
+
+fail_each-forget : (m : State) (n : ℕ) → fail_each (forget m) n ≡ forget (fail_each m n)
+fail_each-forget m zero = refl
+fail_each-forget m (suc n) =
+    ap (λ k. fail_one k (suc n)) (fail_each-forget m n) ∙ go (fail_each m n) (has_lost_door (fail_each m n) (suc n))
+  where
+    go :
+        (k : State) (b : Bool) →
+        (if b then fail_return (forget k) (suc n) else forget k) ≡ forget (if b then fail_return k (suc n) else k)
+    go k true = refl
+    go k false = refl
+
+pub fail_returns-forget : (m : State) → fail_returns (forget m) ≡ forget (fail_returns m)
+fail_returns-forget m = fail_each-forget m (length m.process_table.threads)
+
+start_one-forget : (m : State) (p : ℕ) (b : Bool) → start_one (forget m) p b ≡ forget (start_one m p b)
+start_one-forget m p false = refl
+start_one-forget m p true = refl
+
+start_each-forget :
+    (before ungiven given : State) (n : ℕ) →
+    start_each (forget before) (forget ungiven) (forget given) n ≡ forget (start_each before ungiven given n)
+start_each-forget before ungiven given zero = refl
+start_each-forget before ungiven given (suc n) =
+    ap (λ k. start_one k (suc n) (needs_spare before ungiven given (suc n))) (start_each-forget before ungiven given n)
+    ∙ start_one-forget (start_each before ungiven given n) (suc n) (needs_spare before ungiven given (suc n))
+
+pub start_spares-forget :
+    (before ungiven given : State) →
+    start_spares (forget before) (forget ungiven) (forget given) ≡ forget (start_spares before ungiven given)
+start_spares-forget before ungiven given = start_each-forget before ungiven given (length given.process_table.processes)
+
+pub give_and_start-forget :
+    (before a b : State) → AreAlike a b → AreAlike (give_and_start (forget before) a) (give_and_start before b)
+give_and_start-forget before a b e =
+    sym (start_spares-forget (forget before) a (give a))
+    ∙ ap (λ k. start_spares k (forget a) (forget (give a))) (forget-forget before)
+    ∙ ap₂ (start_spares (forget before)) e (respects give give-forget a b e)
+    ∙ start_spares-forget before b (give b)
+
 pub settle-forget : (before a b : State) → AreAlike a b → AreAlike (settle (forget before) a) (settle before b)
-settle-forget before a b e = respects give give-forget a b e
+settle-forget before a b e =
+    give_and_start-forget before (fail_returns a) (fail_returns b)
+    (sym (fail_returns-forget a) ∙ ap fail_returns e ∙ fail_returns-forget b)
 
 -- steps
 

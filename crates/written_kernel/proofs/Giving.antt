@@ -11,9 +11,10 @@ use Rattle.kernel_records.specs.declared.record.ThreadState.TheVariants as is
 use Rattle.kernel_records.specs.declared.record.CallStage.TheVariants as stage
 use Rattle.kernel_records.specs.declared.record.NoticeStage.TheVariants as notice
 use Rattle.dk_base.specs.ByNumber.{at_number}
-use Rattle.kernel_records.specs.Words.{NoticeList, ProcessTable, at_stage, better_parked, change_first, give_notice, give_notice_in, give_thread, is_live, is_live_call, is_pool, is_queued, is_queued_as, is_queued_in, is_waiting_notice, later_parked, parked_at, parked_thread, pick_among, pick_parked, thread_at, tid, thread_at_state, waiting_call}
+use Rattle.kernel_records.specs.Words.{CallTree, NoticeList, ProcessTable, at_stage, better_parked, change_first, give_notice, give_notice_in, give_thread, is_live, is_live_call, is_pool, is_queued, is_queued_as, is_queued_in, is_waiting_notice, later_parked, parked_at, parked_thread, pick_among, pick_parked, thread_at, tid, thread_at_state, waiting_call}
 use Rattle.written_kernel.specs.State.{State, calls_waiting, pick, pool_of, waiting_items}
-use Rattle.written_kernel.specs.Settle.{give, give_each, give_one, give_to, settle}
+use Rattle.written_kernel.specs.Settle.{fail_returns, give, give_each, give_one, give_to, settle, start_spares}
+use Rattle.written_kernel.proofs.Settling.{fail_returns-alone, pick-start_spares, start_spares-alone}
 use Rattle.written_kernel.proofs.Threads.{map-change_thread, thread_at-change_thread}
 use Rattle.written_kernel.proofs.Lists.{at_number-suc, numbered_within, same_length, at_number-renumbered_there, map-with_at_number}
 use Rattle.written_kernel.proofs.Places.{IsInOrder, at_its_number, in_renumbered, order_same, place_of}
@@ -356,17 +357,49 @@ abbrev IsCall : Item → Type 0
 IsCall (item.Call c) = Unit {0}
 IsCall (item.Notice n) = ⊥
 
+-- threads that fail leave calls and notices as they are
+failed_same : (m : State) → ((fail_returns m).call_tree ≡ m.call_tree) × ((fail_returns m).notice_list ≡ m.notice_list)
+failed_same m =
+    (ap (λ (n : State). n.call_tree) (fail_returns-alone m), ap (λ (n : State). n.notice_list) (fail_returns-alone m))
+
+failed_distinct :
+    (Asked : Item → Type 0) (m : State) → IsDistinct Asked m → IsDistinct Asked (fail_returns m)
+failed_distinct Asked m h =
+    record {
+      calls = subst (λ (tree : CallTree). IsApart tree.calls) (sym (failed_same m).0) h.calls;
+      notices =
+          λ n a. subst (λ (list : NoticeList). IsInOrder notice_number list.notices) (sym (failed_same m).1) (h.notices n a);
+    }
+
+-- spares that start leave what waits, and what each pool has
+started_items : (before ungiven given : State) → waiting_items (start_spares before ungiven given) ≡ waiting_items given
+started_items before ungiven given = ap waiting_items (start_spares-alone before ungiven given)
+
+started_pool :
+    (before ungiven given : State) (d : ℕ) → pool_of (start_spares before ungiven given) d ≡ pool_of given d
+started_pool before ungiven given d = ap (λ n. pool_of n d) (start_spares-alone before ungiven given)
+
+settled_out :
+    (Asked : Item → Type 0) (before m : State) → IsDistinct Asked m → (v : Waiting) → Asked v.item →
+    IsIn v (waiting_items (settle before m)) → pick (settle before m) (pool_of (settle before m) v.door) ≡ None
+settled_out Asked before m h v a k =
+    pick-start_spares before (fail_returns m) (give (fail_returns m)) (pool_of (settle before m) v.door)
+    ∙ ap (pick (give (fail_returns m))) (started_pool before (fail_returns m) (give (fail_returns m)) v.door)
+    ∙ given_out Asked (fail_returns m) (failed_distinct Asked m h) v a
+    (subst (IsIn v) (started_items before (fail_returns m) (give (fail_returns m))) k)
+
 pub no_idle_for :
     (before m : State) → IsApart m.call_tree.calls → (r : Call) → is_queued r.stage ≡ true →
     IsIn r (settle before m).call_tree.calls → pick (settle before m) (pool_of (settle before m) r.door) ≡ None
 no_idle_for before m a r q h =
-    given_out IsCall m (record { calls = a; notices = λ n none. absurd none }) (waiting_call r) tt (in_waits (give m) r q h)
+    settled_out IsCall before m (record { calls = a; notices = λ n none. absurd none }) (waiting_call r) tt
+    (in_waits (settle before m) r q h)
 
 -- where the notices have the numbers of their places, that holds of all that waits
 pub no_idle_for-item :
     (before m : State) → IsApart m.call_tree.calls → IsInOrder notice_number m.notice_list.notices → (v : Waiting) →
     IsIn v (waiting_items (settle before m)) → pick (settle before m) (pool_of (settle before m) v.door) ≡ None
-no_idle_for-item before m a o v h = given_out (λ i. Unit {0}) m (record { calls = a; notices = λ n u. o }) v tt h
+no_idle_for-item before m a o v h = settled_out (λ i. Unit {0}) before m (record { calls = a; notices = λ n u. o }) v tt h
 
 All-from_in : {X : Type 0} (P : X → Type 0) (xs : List X) → ((x : X) → IsIn x xs → P x) → All P xs
 All-from_in P [] h = All-nil P
@@ -398,8 +431,7 @@ same_pool (Private p) (Common q) e = cc
 pub no_pool_has_both :
     (before m : State) → IsApart m.call_tree.calls → (pool : Pool) →
     (calls_waiting (settle before m) pool ≡ 0) ⊎ (pick (settle before m) pool ≡ None)
-no_pool_has_both before m a pool =
-    ⊎_elim inl (λ h. inr (idle h)) (some_counted (is_queued_in (give m).doors pool) (give m).call_tree.calls)
+no_pool_has_both before m a pool = go (settle before m) (no_idle_for before m a)
   where
     first : (b c : Bool) → b && c ≡ true → b ≡ true
     first true c e = refl
@@ -409,12 +441,17 @@ no_pool_has_both before m a pool =
     second true c e = e
     second false c e = cc
 
-    idle : (r : Call) × Passes (is_queued_in (give m).doors pool) (give m).call_tree.calls r → pick (give m) pool ≡ None
-    idle (r, k) =
-        ap (pick (give m))
-        (same_pool pool (pool_of (give m) r.door)
-        (second (is_queued r.stage) (is_pool pool (pool_of (give m) r.door)) k.passes))
-        ∙ no_idle_for before m a r (first (is_queued r.stage) (is_pool pool (pool_of (give m) r.door)) k.passes) k.is_in
+    go :
+        (n : State) →
+        ((r : Call) → is_queued r.stage ≡ true → IsIn r n.call_tree.calls → pick n (pool_of n r.door) ≡ None) →
+        (calls_waiting n pool ≡ 0) ⊎ (pick n pool ≡ None)
+    go n none = ⊎_elim inl (λ h. inr (idle h)) (some_counted (is_queued_in n.doors pool) n.call_tree.calls)
+      where
+        idle : (r : Call) × Passes (is_queued_in n.doors pool) n.call_tree.calls r → pick n pool ≡ None
+        idle (r, k) =
+            ap (pick n)
+            (same_pool pool (pool_of n r.door) (second (is_queued r.stage) (is_pool pool (pool_of n r.door)) k.passes))
+            ∙ none r (first (is_queued r.stage) (is_pool pool (pool_of n r.door)) k.passes) k.is_in
 
 -- where the number of each queued call is that of no other live call
 

@@ -1,19 +1,20 @@
 -- A thread gets an invocation only at an accept of its own that answers Entered.
-use Rattle.std.proofs.Common.{◌≡◌, ℕ, ◌==◌, ◌&&◌, Bool, true, false, if◌then◌else◌, List, [], ◌∷◌, Option, None, Some, IsSome, is_some, option_map, refl, sym, ap, ◌∙◌, ◌⊎◌, inl, inr, arith}
+use Rattle.std.proofs.Common.{◌≡◌, ℕ, ◌==◌, ◌&&◌, Bool, true, false, if◌then◌else◌, Option, None, Some, IsSome, is_some, option_map, refl, sym, ap, ◌∙◌, ◌⊎◌, inl, inr, arith}
 use Rattle.std.proofs.lemmas.Bool.Decides.{nat_tests}
-use Rattle.written_kernel.specs.Types.{Call, Item, Name, Parked, PathId, Request, Thread, ThreadState, Waiting}
+use Rattle.written_kernel.specs.Types.{Call, Item, Name, PathId, Request, Thread, ThreadState}
 use Rattle.dk_base.specs.declared.object.Item.TheVariants as item
 use Rattle.dk_base.specs.declared.request.Request.TheVariants as request
 use Rattle.kernel_records.specs.declared.record.ThreadState.TheVariants as is
 use Rattle.kernel_records.specs.Words.{ProcessTable, end_process, end_thread, ended_thread, ended_thread_of, enter_thread, thread_in_invocation, invocation_in, is_given_as, is_last, new_invocation, park_thread, idle_thread, thread_at, set_thread_state, thread_at_state, change_thread}
-use Rattle.written_kernel.specs.State.{State, find_call, invocation_of, name_of, pick, pool_of, process_of, state_of, thread_of, waiting_items, with_state, now}
+use Rattle.written_kernel.specs.State.{State, find_call, invocation_of, name_of, process_of, state_of, thread_of, with_state, now}
 use Rattle.written_kernel.specs.Answers.{IsEntering}
 use Rattle.written_kernel.specs.Descriptors.{await, await_name}
 use Rattle.written_kernel.specs.Doors.{accept, accept_call, begin_call, fail_begin, has_room}
 use Rattle.written_kernel.specs.Leaving.{exit, leave_process, leave_thread}
-use Rattle.written_kernel.specs.Settle.{give_each, give_one, give_to, settle}
+use Rattle.written_kernel.specs.Settle.{give_one, settle}
 use Rattle.written_kernel.specs.Step.{act, effect, enter, go_on, step}
 use Rattle.written_kernel.proofs.Entries.{enter_either}
+use Rattle.written_kernel.proofs.Settling.{settle-all}
 use Rattle.written_kernel.proofs.Threads.{ended_thread_of-case, invocation-change_thread, thread_at-end_process}
 
 -- a thread that turns keeps its invocation
@@ -181,19 +182,15 @@ invocation_of-give_one : (m : State) (i : Item) (n u : ℕ) → invocation_of (g
 invocation_of-give_one m (item.Call c) n u = invocation-set_thread_state m.process_table n u (is.Given (item.Call c))
 invocation_of-give_one m (item.Notice k) n u = invocation-set_thread_state m.process_table n u (is.Given (item.Notice k))
 
-invocation_of-give_to : (m : State) (w : Waiting) (o : Option Parked) (u : ℕ) → invocation_of (give_to m w o) u ≡ invocation_of m u
-invocation_of-give_to m w None u = refl
-invocation_of-give_to m w (Some x) u = invocation_of-give_one m w.item x.thread.0 u
-
-invocation_of-give_each : (m : State) (ws : List Waiting) (u : ℕ) → invocation_of (give_each m ws) u ≡ invocation_of m u
-invocation_of-give_each m [] u = refl
-invocation_of-give_each m (w ∷ ws) u =
-    invocation_of-give_each (give_to m w (pick m (pool_of m w.door))) ws u
-    ∙ invocation_of-give_to m w (pick m (pool_of m w.door)) u
-
--- what is given enters nothing yet
+-- what is given enters nothing yet, and a thread that fails or starts has what it had
 pub invocation_of-settle : (before m : State) (u : ℕ) → invocation_of (settle before m) u ≡ invocation_of m u
-invocation_of-settle before m u = invocation_of-give_each m (waiting_items m) u
+invocation_of-settle before m u =
+    settle-all (λ n. invocation_of n u ≡ invocation_of m u)
+    (λ n t l e. invocation-set_thread_state n.process_table t u is.FailedReturn ∙ e)
+    (λ n w x p e. invocation_of-give_one n w.item x.thread.0 u ∙ e)
+    (λ n t d e. invocation_of-with_state n t u is.Running ∙ e)
+    before m
+    refl
 
 -- steps
 

@@ -3,6 +3,7 @@ pub mod CallLists
 pub mod Threads
 pub mod Doors
 pub mod Entries
+pub mod Settling
 pub mod Forget
 pub mod Invocations
 pub mod Steps

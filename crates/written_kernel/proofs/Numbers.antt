@@ -4,7 +4,7 @@ use Rattle.std.proofs.Common.{◌≡◌, ℕ, ◌+◌, ◌==◌, ◌&&◌, Bool,
 use Rattle.std.specs.List.{All}
 use Rattle.std.proofs.lemmas.List.{length-map}
 use Rattle.std.proofs.lemmas.List.Elements.{All-nil}
-use Rattle.written_kernel.specs.Types.{Attrs, Call, Door, Item, Name, Notice, Param, Parked, PathId, Pool, Process, Request, Thread, ThreadState, Waiting}
+use Rattle.written_kernel.specs.Types.{Attrs, Call, Door, Item, Name, Notice, Param, PathId, Pool, Process, Request, Thread, ThreadState}
 use Rattle.dk_base.specs.declared.error.Errno.TheVariants.{EBADF, EMFILE}
 use Rattle.dk_base.specs.declared.object.Item.TheVariants as item
 use Rattle.dk_base.specs.declared.request.Param.TheVariants as param
@@ -19,7 +19,7 @@ use Rattle.written_kernel.specs.Descriptors.{await_name, door_named}
 use Rattle.written_kernel.specs.Doors.{accept, accept_call, begin_call, fail_begin, has_room, new_call}
 use Rattle.written_kernel.specs.Information.{door_at}
 use Rattle.written_kernel.specs.Leaving.{dropped_notice, ended_call, exit, leave_process, leave_thread}
-use Rattle.written_kernel.specs.Settle.{give_each, give_one, give_to, settle}
+use Rattle.written_kernel.specs.Settle.{give_one, settle}
 use Rattle.written_kernel.specs.Step.{act, effect, enter, go_on, step}
 use Rattle.written_kernel.specs.Opening.{IsOpening}
 use Rattle.written_kernel.specs.Runs.{Turn, state_after, state_after_turn}
@@ -28,6 +28,7 @@ use Rattle.written_kernel.proofs.Places.{map-change_first, order_by, order_none,
 pub use Rattle.written_kernel.proofs.Places.{IsInOrder}
 use Rattle.written_kernel.proofs.Doors.{map-change_door}
 use Rattle.written_kernel.proofs.Entries.{enter_either}
+use Rattle.written_kernel.proofs.Settling.{settle-all}
 use Rattle.written_kernel.proofs.Opening.{IsOpened, opened, waiting_items-opening}
 use Rattle.written_kernel.proofs.Steps.{ThreadIdentity, thread_identity, ProcessIdentity, process_identity, step-keeps}
 use Rattle.written_kernel.proofs.Giving.{IsApart, IsApart-from_unique, HasUniqueNumbers-from_places, all_given_out, notices_in_order, no_pool_has_both, notice_number}
@@ -206,20 +207,9 @@ give_one-listed m (item.Call c) u l =
     one_call_moves m (is_queued_as c) (at_stage (stage.Given (tid u))) (λ r. refl) l
 give_one-listed m (item.Notice n) u l = one_notice_given m n u l
 
-give_to-listed : (m : State) (w : Waiting) (o : Option Parked) → IsListed m → IsListed (give_to m w o)
-give_to-listed m w None l = l
-give_to-listed m w (Some x) l = give_one-listed m w.item x.thread.0 l
-
-give_each-listed : (m : State) (ws : List Waiting) → IsListed m → IsListed (give_each m ws)
-give_each-listed m [] l = l
-give_each-listed m (w ∷ ws) l =
-    give_each-listed
-    (give_to m w (pick m (pool_of m w.door)))
-    ws
-    (give_to-listed m w (pick m (pool_of m w.door)) l)
-
 pub settle-listed : (before m : State) → IsListed m → IsListed (settle before m)
-settle-listed before m l = give_each-listed m (waiting_items m) l
+settle-listed before m l =
+    settle-all IsListed (λ n t lost h. h) (λ n w x p h. give_one-listed n w.item x.thread.0 h) (λ n t d h. h) before m l
 
 -- steps and runs
 

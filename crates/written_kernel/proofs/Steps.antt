@@ -2,20 +2,22 @@
 use Rattle.std.proofs.Common.{◌≡◌, ℕ, ◌+◌, ◌==◌, Bool, true, false, if◌then◌else◌, List, [], ◌∷◌, ◌++◌, Option, None, Some, option_map, length, map, unwrap_or, refl, sym, ap, ◌∙◌, length-set}
 use Rattle.std.proofs.lemmas.List.{length-map, map-append}
 use Rattle.dk_base.specs.ByNumber.{at_number}
-use Rattle.written_kernel.specs.Types.{Attrs, Call, Door, Item, Name, Obj, Param, Parked, Pass, PathId, Pid, Process, Request, Thread, ThreadState, Waiting}
+use Rattle.written_kernel.specs.Types.{Attrs, Call, Door, Item, Name, Obj, Param, Pass, PathId, Pid, Process, Request, Thread, ThreadState}
 use Rattle.dk_base.specs.declared.object.Item.TheVariants as item
 use Rattle.dk_base.specs.declared.request.Param.TheVariants as param
 use Rattle.dk_base.specs.declared.request.Request.TheVariants as request
 use Rattle.kernel_records.specs.declared.record.ThreadState.TheVariants as is
 use Rattle.kernel_records.specs.Words.{CallTree, NoticeList, ProcessTable, close_row, close_table, end_process, ended_thread, ended_process, free_place, free_row, insert_row, insert_rows, is_given_as, is_last, is_to_collect_as, process_in, release_row, release_rows, set_param, thread_at_state, with_door, with_ended, with_ended_threads, with_owner_ended, with_param, with_row, change_thread}
-use Rattle.written_kernel.specs.State.{State, door_of, find_call, name_of, pick, pool_of, process_of, state_of, table_of, thread_of, waiting_items, with_state, with_table_of}
+use Rattle.written_kernel.specs.State.{State, door_of, find_call, name_of, process_of, state_of, table_of, thread_of, with_state, with_table_of}
 use Rattle.written_kernel.specs.Descriptors.{await, await_name, insert_object}
 use Rattle.written_kernel.specs.Doors.{accept, accept_call, begin_call, create, fail_begin, has_room, objects_collected_in, tables_after_collect, tables_after_pass, tables_with}
 use Rattle.written_kernel.specs.Leaving.{exit, leave_process, leave_thread}
-use Rattle.written_kernel.specs.Settle.{give_each, give_one, give_to, settle}
+use Rattle.written_kernel.specs.Information.{door_at}
+use Rattle.written_kernel.specs.Settle.{fail_return, give_one, settle}
 use Rattle.written_kernel.specs.Step.{act, effect, enter, go_on, step}
 use Rattle.written_kernel.proofs.Entries.{enter_either}
-use Rattle.written_kernel.proofs.Lists.{same_length, same_numbered, at_number-map, at_number-extends, map-with_at_number, map-map_same, Extends, Extends-same, Extends-then}
+use Rattle.written_kernel.proofs.Settling.{settle-all}
+use Rattle.written_kernel.proofs.Lists.{length-with_at_number, same_length, same_numbered, at_number-map, at_number-extends, map-with_at_number, map-map_same, Extends, Extends-same, Extends-then}
 use Rattle.written_kernel.proofs.Threads.{map-end_process, map-change_thread, processes-change_thread}
 use Rattle.written_kernel.proofs.Doors.{map-change_door}
 
@@ -203,6 +205,10 @@ create-keeps m p entry cookie attrs =
     (with_door-keeps m p entry cookie attrs)
     (insert_object-keeps (record m { doors = with_door m.doors p entry cookie attrs }) p _)
 
+bindings-keeps : (m : State) (bindings : List (Option ℕ)) → length bindings ≡ length m.bindings → Keeps m (record m { bindings = bindings })
+bindings-keeps m bindings e =
+    record { processes = refl; threads = refl; bindings = e; tables = refl; doors = doors_same m.doors; events = refl }
+
 names-keeps : (m : State) (names : List Name) → Keeps m (record m { names = names })
 names-keeps m names =
     record { processes = refl; threads = refl; bindings = refl; tables = refl; doors = doors_same m.doors; events = refl }
@@ -257,6 +263,8 @@ effect-keeps : (m : State) (t p : ℕ) (r : Request) → Keeps m (effect m t p r
 effect-keeps m t p (request.Create entry cookie attrs) = create-keeps m p entry cookie attrs
 effect-keeps m t p (request.Call fd bytes pass rsize) = message-keeps m t _ _ _ (λ x. refl) (after_pass-long m p pass)
 effect-keeps m t p (request.Return bytes pass) = message-keeps m t _ _ _ (λ x. refl) (after_pass-long m p pass)
+effect-keeps m t p (request.Bind fd) = bindings-keeps m _ (length-with_at_number m.bindings t (Some (door_at m p fd)))
+effect-keeps m t p request.Unbind = bindings-keeps m _ (length-with_at_number m.bindings t None)
 effect-keeps m t p (request.SetParam fd x value) = set_param-keeps m _ x value
 effect-keeps m t p (request.Close fd) = with_row-keeps m p fd.0 None
 effect-keeps m t p (request.Dup fd) = with_row-keeps m p _ _
@@ -296,23 +304,24 @@ act-keeps m t None = go_on-keeps m t (process_of m t) (state_of m t)
 
 -- settling
 
+fail_return-keeps : (m : State) (t : ℕ) → Keeps m (fail_return m t)
+fail_return-keeps m t =
+    keeps_then
+    (with_state-keeps m t is.FailedReturn)
+    (bindings-keeps (with_state m t is.FailedReturn) _ (length-with_at_number m.bindings t None))
+
 give_one-keeps : (m : State) (i : Item) (u : ℕ) → Keeps m (give_one m i u)
 give_one-keeps m (item.Call c) u = thread-keeps m u _ _ m.notice_list (λ x. refl)
 give_one-keeps m (item.Notice n) u = thread-keeps m u _ m.call_tree _ (λ x. refl)
 
-give_to-keeps : (m : State) (w : Waiting) (o : Option Parked) → Keeps m (give_to m w o)
-give_to-keeps m w None = keeps_same m
-give_to-keeps m w (Some x) = give_one-keeps m w.item x.thread.0
-
-give_each-keeps : (m : State) (ws : List Waiting) → Keeps m (give_each m ws)
-give_each-keeps m [] = keeps_same m
-give_each-keeps m (w ∷ ws) =
-    keeps_then
-    (give_to-keeps m w (pick m (pool_of m w.door)))
-    (give_each-keeps (give_to m w (pick m (pool_of m w.door))) ws)
-
 pub settle-keeps : (before m : State) → Keeps m (settle before m)
-settle-keeps before m = give_each-keeps m (waiting_items m)
+settle-keeps before m =
+    settle-all (Keeps m)
+    (λ n t l h. keeps_then h (fail_return-keeps n t))
+    (λ n w x p h. keeps_then h (give_one-keeps n w.item x.thread.0))
+    (λ n t d h. keeps_then h (with_state-keeps n t is.Running))
+    before m
+    (keeps_same m)
 
 -- steps
 

@@ -85,7 +85,8 @@ call m t p fd bytes pass rsize =
     make_call m t p pass (new_call m t (door_named (object_at m p fd)) bytes (objects_passed (table_of m p) pass) rsize)
 
 -- door_return: E2BIG with a client, EINVAL; the client's call is Returned with the results, the invocation ends, and the
--- thread is parked. Results without a client are dropped. In either case descriptors with release are closed.
+-- thread is parked. Results without a client are dropped. In either case descriptors with release are closed. That a thread which is
+-- bound to an invalid door is not parked, and is told EINVAL, comes with the revoking of doors: no door is invalid before its threads end.
 
 abbrev pub return_tests : State → ℕ → ℕ → List ℕ → List Pass → List Test
 return_tests m t p bytes pass =

@@ -17,9 +17,8 @@ IsFit m t (request.Read fd max) = (1 ≤ max) × (max ≤ DATA_MAX)
 IsFit m t (request.GetN port max nget wait) = max ≤ ANSWER_ITEMS_MAX
 IsFit m t _ = Unit {0}
 
--- what a thread in an invocation may ask: it makes no call and does not exit, until those capabilities come
+-- what a thread in an invocation may ask: it does not exit, until that capability comes
 abbrev pub MayInside : Option Inv → Request → Type 0
-MayInside (Some v) (request.Call fd bytes pass rsize) = ⊥
 MayInside (Some v) request.Exit = ⊥
 MayInside _ _ = Unit {0}
 

@@ -8,6 +8,7 @@ pub mod Answers
 pub mod Doors
 pub mod Descriptors
 pub mod Information
+pub mod Binding
 pub mod Leaving
 pub mod Settle
 pub mod Step

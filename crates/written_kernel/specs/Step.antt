@@ -10,6 +10,7 @@ use Rattle.written_kernel.specs.State.{State, process_of, state_of, with_state}
 use Rattle.written_kernel.specs.Acts.{ActResult, no_act, unless_refused}
 use Rattle.written_kernel.specs.Doors.{accept, call, call_tests, collect, create, create_tests, return, return_tests}
 use Rattle.written_kernel.specs.Descriptors.{attach, attach_tests, await, close, close_tests, detach, detach_tests, dup, dup_tests, end_await, open_path, open_tests}
+use Rattle.written_kernel.specs.Binding.{bind, binding_tests, bound_tests, information_of_bound, unbind}
 use Rattle.written_kernel.specs.Information.{credentials, credentials_tests, door_tests, information, parameter, set_parameter, set_parameter_tests}
 use Rattle.written_kernel.specs.Leaving.{exit}
 use Rattle.written_kernel.specs.Settle.{settle}
@@ -21,7 +22,10 @@ abbrev pub tests_of : State → ℕ → ℕ → Request → List Test
 tests_of m t p (request.Create entry cookie attrs) = create_tests m p attrs
 tests_of m t p (request.Call fd bytes pass rsize) = call_tests m p fd bytes pass
 tests_of m t p (request.Return bytes pass) = return_tests m t p bytes pass
+tests_of m t p (request.Bind fd) = binding_tests m p fd
+tests_of m t p request.Unbind = bound_tests m t
 tests_of m t p (request.Info fd) = door_tests m p fd
+tests_of m t p request.InfoQuery = bound_tests m t
 tests_of m t p (request.GetParam fd param) = door_tests m p fd
 tests_of m t p (request.SetParam fd param value) = set_parameter_tests m p fd param value
 tests_of m t p request.Cred = credentials_tests m t
@@ -41,7 +45,10 @@ abbrev pub effect : State → ℕ → ℕ → Request → ActResult
 effect m t p (request.Create entry cookie attrs) = create m p entry cookie attrs
 effect m t p (request.Call fd bytes pass rsize) = call m t p fd bytes pass rsize
 effect m t p (request.Return bytes pass) = return m t p bytes pass
+effect m t p (request.Bind fd) = bind m t p fd
+effect m t p request.Unbind = unbind m t
 effect m t p (request.Info fd) = information m p fd
+effect m t p request.InfoQuery = information_of_bound m t p
 effect m t p (request.GetParam fd param) = parameter m p fd param
 effect m t p (request.SetParam fd param value) = set_parameter m p fd param value
 effect m t p request.Cred = credentials m t

@@ -1,9 +1,11 @@
--- Which call a thread serves, and the walk from a thread to its root.
+-- Which call a thread serves, and the two walks: from a thread to its root, and from a thread to its lead.
 use Rattle.std.specs.Prelude.{ℕ, Option, Some, None, zero, suc}
 use Rattle.std.specs.Option.{option_map_or}
-use Rattle.written_kernel.specs.Types.{Call}
-use Rattle.kernel_records.specs.Words.{is_served_by}
-use Rattle.written_kernel.specs.State.{State, find_call}
+use Rattle.written_kernel.specs.Types.{Call, CallStage, ThreadState}
+use Rattle.kernel_records.specs.declared.record.CallStage.TheVariants as stage
+use Rattle.kernel_records.specs.declared.record.ThreadState.TheVariants as is
+use Rattle.kernel_records.specs.Words.{is_served_as, is_served_by}
+use Rattle.written_kernel.specs.State.{State, find_call, state_of}
 
 abbrev pub served_by : State → ℕ → Option Call
 served_by m t = find_call m (is_served_by t)
@@ -24,3 +26,33 @@ walk (suc n) m t = option_map_or (walk n m) (caller_of m t) t
 -- the end of the walk from a thread to the caller of the call that it serves, and so on
 abbrev pub root : State → ℕ → ℕ
 root m t = walk m.call_tree.made m t
+
+-- the other way
+
+-- the thread that serves a call
+abbrev pub server_at : CallStage → Option ℕ
+server_at (stage.Given u) = Some u.0
+server_at (stage.Entered u) = Some u.0
+server_at _ = None
+
+abbrev pub server_in : Option Call → Option ℕ
+server_in None = None
+server_in (Some r) = server_at r.stage
+
+-- the thread that serves the call in which a thread at this state waits
+abbrev pub server_for : State → ThreadState → Option ℕ
+server_for m (is.Calling c) = server_in (find_call m (is_served_as c))
+server_for m _ = None
+
+-- the thread that serves a thread's call
+abbrev pub server_of : State → ℕ → Option ℕ
+server_of m t = server_for m (state_of m t)
+
+-- at most so many steps from a thread to the thread that serves its call
+abbrev pub walk_down : ℕ → State → ℕ → ℕ
+walk_down zero m t = t
+walk_down (suc n) m t = option_map_or (walk_down n m) (server_of m t) t
+
+-- the end of the walk from a thread to the thread that serves its call, and so on: the lead of a root holds its shuttle
+abbrev pub lead : State → ℕ → ℕ
+lead m t = walk_down m.call_tree.made m t

@@ -1,4 +1,5 @@
--- The descriptors and the names of a state are of doors that were made: what keeps this so, and changes of lists of doors.
+-- The descriptors, the names and the bindings of a state are of doors that were made: what keeps this so, and changes of lists
+-- of doors.
 use Rattle.std.proofs.Common.{◌≡◌, ℕ, ◌-◌, ◌==◌, ◌&&◌, zero, suc, List, [], ◌∷◌, Option, Some, None, Bool, true, false, if◌then◌else◌, ◌⊎◌, inl, inr, is_some, option_map, unwrap_or, slice_get, slice_set, refl, sym, ap, ◌∙◌}
 use Rattle.std.specs.Prelude.{All}
 use Rattle.std.proofs.lemmas.List.Elements.{All-cons, All-head, All-tail}
@@ -7,7 +8,7 @@ use Rattle.written_kernel.specs.Types.{CallStage, Fd, Name, Obj, Pass}
 use Rattle.dk_base.specs.declared.object.Obj.TheVariants as obj
 use Rattle.kernel_records.specs.declared.record.CallStage.TheVariants as stage
 use Rattle.dk_base.specs.ByNumber.{at_number, with_at_number}
-use Rattle.kernel_records.specs.Words.{close_table, free_place, free_row, insert_row, insert_rows, object_in, object_named, objects_passed, release_rows, table_in, with_row, with_table}
+use Rattle.kernel_records.specs.Words.{bound_at, bound_in, close_table, free_place, free_row, insert_row, insert_rows, object_in, object_named, objects_passed, release_rows, table_in, with_row, with_table}
 use Rattle.kernel_records.proofs.Passing.{All-objects_passed, object_named-before}
 use Rattle.written_kernel.proofs.Lists.{at_number-with_at_number, slice_get-slice_set}
 use Rattle.script_requests.specs.Words.{IsNumberOf}
@@ -37,6 +38,9 @@ IsKnownName made n = IsNumberOf made n.door
 
 abbrev pub AreKnownNames : ℕ → List Name → Type 0
 AreKnownNames made names = All (IsKnownName made) names
+
+abbrev pub AreKnownBindings : ℕ → List (Option ℕ) → Type 0
+AreKnownBindings made bindings = (t d : ℕ) → bound_at bindings t ≡ Some d → IsNumberOf made d
 
 -- objects
 
@@ -155,6 +159,21 @@ closed-known made tables p h =
     table-known made tables p (close_table (table_in tables p))
     (λ fd. same-known made None _ (closed_row (table_in tables p) fd) (none-known made))
     h
+
+-- bindings
+
+-- a thread is bound to another door, or to none
+pub binding-known :
+    (made : ℕ) (bindings : List (Option ℕ)) (u : ℕ) (o : Option ℕ) → ((d : ℕ) → o ≡ Some d → IsNumberOf made d) →
+    AreKnownBindings made bindings → AreKnownBindings made (with_at_number bindings u o)
+binding-known made bindings u o here h t d e =
+    by_test ((t == u) && is_some (at_number bindings u)) (ap bound_in (at_number-with_at_number bindings u t o))
+  where
+    by_test :
+        (b : Bool) → bound_at (with_at_number bindings u o) t ≡ bound_in (if b then Some o else at_number bindings t) →
+        IsNumberOf made d
+    by_test true f = here d (sym f ∙ e)
+    by_test false f = h t d (sym f ∙ e)
 
 -- what holds of each element of a list, where one becomes another
 

@@ -1,11 +1,11 @@
 -- What the doors and calls of a state name is declared, and so is what the answers of its events name.
-use Rattle.std.proofs.Common.{◌≡◌, ℕ, ◌+◌, ◌≤◌, ◌==◌, ◌&&◌, not, zero, suc, List, [], ◌∷◌, ◌++◌, Option, Some, None, Bool, true, false, if◌then◌else◌, IsSome, is_none, length, nat_lt, arith, refl, sym, ap, subst, length-append, append-nil}
+use Rattle.std.proofs.Common.{◌≡◌, ℕ, ◌+◌, ◌≤◌, ◌==◌, ◌&&◌, not, zero, suc, List, [], ◌∷◌, ◌++◌, Option, Some, None, Bool, true, false, if◌then◌else◌, IsSome, is_none, length, nat_lt, arith, refl, sym, ap, subst, length-append, append-nil, unwrap_or}
 use Rattle.std.specs.Prelude.{All}
 use Rattle.std.specs.Option.{option_map_or}
 use Rattle.std.proofs.lemmas.Bool.{false≢true}
 use Rattle.std.proofs.lemmas.List.{length-map}
 use Rattle.std.proofs.lemmas.List.Elements.{All-nil, All-cons, All-head, All-tail, All-push, All-weaker, All-map, All-filter}
-use Rattle.written_kernel.specs.Types.{Call, CallStage, Door, Errno, Fd, Item, Name, Obj, Param, Parked, Pass, PathId, Request, ThreadState, Waiting}
+use Rattle.written_kernel.specs.Types.{Call, CallStage, Door, Errno, Fd, Item, Name, Obj, Param, Pass, PathId, Request, ThreadState}
 use Rattle.dk_base.specs.declared.answer.Answer.TheVariants as answer
 use Rattle.dk_base.specs.declared.error.Errno.TheVariants.{EBADF, EINVAL, EMFILE, ENOENT}
 use Rattle.dk_base.specs.declared.object.Item.TheVariants as item
@@ -15,15 +15,16 @@ use Rattle.dk_base.specs.declared.request.Request.TheVariants as request
 use Rattle.kernel_records.specs.declared.record.CallStage.TheVariants as stage
 use Rattle.kernel_records.specs.declared.record.ThreadState.TheVariants as is
 use Rattle.dk_base.specs.ByNumber.{at_number, with_at_number}
-use Rattle.kernel_records.specs.Words.{at_stage, change_door_in, change_first, collect_call, door_attached, entry_of, has_other_path, has_path, info_in, is_client_call_of, is_given_as, is_last, is_owned_by, is_queued, is_queued_as, is_served_by, is_to_collect_as, is_valid_in, new_descriptors, new_door, objects_passed, set_param, tid, with_name, with_owner_ended, with_param, with_row, without_arguments_at, without_name}
-use Rattle.written_kernel.specs.Words.{ActResult, State, accept, accept_call, act, await, await_name, begin_call, caller_in, client_call, client_process, collect, collect_answer, collect_answer_in, door_at, door_named, door_of, effect, ended_call, enter, exit, fail_begin, find_call, give_each, give_one, give_to, go_on, has_room, is_door, is_valid, is_waiting_state, leave_process, leave_thread, name_of, new_call, now, object_at, objects_collected, objects_collected_in, pick, pool_of, process_of, refusal_of, results_answer, root, served_by, settle, state_of, step, table_of, tables_after_pass, tables_with, unless_refused, waiting_among, waiting_items, waiting_threads, walk, with_table_of}
+use Rattle.kernel_records.specs.Words.{at_stage, bind_thread, change_door_in, change_first, collect_call, door_attached, entry_of, has_other_path, has_path, info_in, is_client_call_of, is_given_as, is_last, is_owned_by, is_queued, is_queued_as, is_served_by, is_to_collect_as, is_valid_in, new_descriptors, new_door, objects_passed, set_param, tid, unbind_thread, with_name, with_owner_ended, with_param, with_row, without_arguments_at, without_name}
+use Rattle.written_kernel.specs.Words.{ActResult, State, accept, accept_call, act, await, await_name, begin_call, bound_of, caller_in, client_call, client_process, collect, collect_answer, collect_answer_in, door_at, door_named, door_of, effect, ended_call, enter, exit, fail_begin, find_call, give_one, go_on, has_room, is_door, is_valid, is_waiting_state, leave_process, leave_thread, name_of, new_call, now, object_at, objects_collected, objects_collected_in, process_of, refusal_of, results_answer, root, served_by, settle, state_of, step, table_of, tables_after_pass, tables_with, unless_refused, waiting_among, waiting_threads, walk, with_table_of}
 use Rattle.written_kernel.proofs.Lists.{length-with_at_number, numbered_within, numbered_there}
+use Rattle.written_kernel.proofs.Settling.{settle-all}
 use Rattle.script_lang.specs.Words.{ScriptValue}
 use Rattle.script_requests.specs.DeclaredNames.{IsTarget}
 use Rattle.script_requests.specs.Words.{IsDeclaredAnswer, IsDeclaredThread, IsEntry, IsNumberOf, IsProcess, IsThread}
 use Rattle.script_requests.proofs.Elements.{All-at_number, All-find}
 use Rattle.written_script.specs.DeclaredRuns.{IsDeclaredDoor}
-use Rattle.written_script.proofs.DeclaredObjects.{All-with_at_number, AreKnownInTransit, AreKnownNames, AreKnownResults, AreKnownRows, IsKnownInTransit, IsKnownName, IsKnownObject, closed-known, inserted-known, none-known, passed-known, released-known, row-known}
+use Rattle.written_script.proofs.DeclaredObjects.{All-with_at_number, AreKnownBindings, AreKnownInTransit, AreKnownNames, AreKnownResults, AreKnownRows, IsKnownInTransit, IsKnownName, IsKnownObject, binding-known, closed-known, inserted-known, none-known, passed-known, released-known, row-known}
 
 -- a call's caller is declared, and its door and the doors that it takes along or brings back were made
 pub record IsKnownCall (script : ScriptValue) (made : ℕ) (r : Call) : Type 0 where
@@ -35,16 +36,17 @@ pub record IsKnownCall (script : ScriptValue) (made : ℕ) (r : Call) : Type 0 w
 abbrev pub AreKnownCalls : ScriptValue → ℕ → List Call → Type 0
 AreKnownCalls script made rs = All (IsKnownCall script made) rs
 
-pub record AreKnown (script : ScriptValue) (ds : List Door) (rs : List Call) (ts : List (List (Option Obj))) (ns : List Name) : Type 0 where
+pub record AreKnown (script : ScriptValue) (ds : List Door) (rs : List Call) (ts : List (List (Option Obj))) (ns : List Name) (bs : List (Option ℕ)) : Type 0 where
   pub doors : All (IsDeclaredDoor script) ds
   pub calls : AreKnownCalls script (length ds) rs
-  -- descriptors and names are of doors that were made
+  -- descriptors, names and bindings are of doors that were made
   pub rows : AreKnownRows (length ds) ts
   pub names : AreKnownNames (length ds) ns
+  pub bindings : AreKnownBindings (length ds) bs
 
 -- no other part of a state matters, so a change of another part keeps this as it is
 abbrev pub IsKnown : ScriptValue → State → Type 0
-IsKnown script m = AreKnown script m.doors m.call_tree.calls m.tables m.names
+IsKnown script m = AreKnown script m.doors m.call_tree.calls m.tables m.names m.bindings
 
 -- threads are of declared processes
 abbrev pub HasOwners : ScriptValue → State → Type 0
@@ -90,31 +92,33 @@ changed_calls script made test change keeps (r ∷ rs) all =
 changed-known :
     (script : ScriptValue) (m : State) (test : Call → Bool) (change : Call → Call) →
     ((r : Call) → IsKnownCall script (length m.doors) r → IsKnownCall script (length m.doors) (change r)) →
-    IsKnown script m → AreKnown script m.doors (change_first test change m.call_tree.calls) m.tables m.names
+    IsKnown script m → AreKnown script m.doors (change_first test change m.call_tree.calls) m.tables m.names m.bindings
 changed-known script m test change keeps h =
     record {
       doors = h.doors;
       calls = changed_calls script (length m.doors) test change keeps m.call_tree.calls h.calls;
       rows = h.rows;
       names = h.names;
+      bindings = h.bindings;
     }
 
 opened-known :
     (script : ScriptValue) (m : State) (r : Call) → IsKnown script m → IsKnownCall script (length m.doors) r →
-    AreKnown script m.doors (m.call_tree.calls ++ r ∷ []) m.tables m.names
+    AreKnown script m.doors (m.call_tree.calls ++ r ∷ []) m.tables m.names m.bindings
 opened-known script m r h here =
     record {
       doors = h.doors;
       calls = All-push (IsKnownCall script (length m.doors)) m.call_tree.calls r h.calls here;
       rows = h.rows;
       names = h.names;
+      bindings = h.bindings;
     }
 
 -- changes of the doors
 
 with_door-known :
     (script : ScriptValue) (m : State) (d : Door) → IsKnown script m → IsDeclaredDoor script d →
-    AreKnown script (m.doors ++ d ∷ []) m.call_tree.calls m.tables m.names
+    AreKnown script (m.doors ++ d ∷ []) m.call_tree.calls m.tables m.names m.bindings
 with_door-known script m d h here =
     let one : length (m.doors ++ d ∷ []) ≡ length m.doors + 1 = simp length-append refl
     in record {
@@ -134,6 +138,7 @@ with_door-known script m d h here =
           (λ n known. more n.door known one)
           m.names
           h.names;
+      bindings = λ t n e. more n (h.bindings t n e) one;
     }
   where
     more :
@@ -172,12 +177,12 @@ with_param-declared script param.DescMax value d h = record { owner = h.owner; e
 
 set_param-known :
     (script : ScriptValue) (m : State) (d : ℕ) (x : Param) (value : ℕ) → IsKnown script m →
-    AreKnown script (set_param m.doors d x value) m.call_tree.calls m.tables m.names
+    AreKnown script (set_param m.doors d x value) m.call_tree.calls m.tables m.names m.bindings
 set_param-known script m d x value h = by_door (door_of m d) refl
   where
     by_door :
         (o : Option Door) → door_of m d ≡ o →
-        AreKnown script (change_door_in m.doors d (with_param x value) o) m.call_tree.calls m.tables m.names
+        AreKnown script (change_door_in m.doors d (with_param x value) o) m.call_tree.calls m.tables m.names m.bindings
     by_door None e = h
     by_door (Some y) e =
         let same : length m.doors ≡ length (with_at_number m.doors d (with_param x value y)) =
@@ -190,6 +195,7 @@ set_param-known script m d x value h = by_door (door_of m d) refl
           calls = subst (λ (n : ℕ). AreKnownCalls script n m.call_tree.calls) same h.calls;
           rows = subst (λ (n : ℕ). AreKnownRows n m.tables) same h.rows;
           names = subst (λ (n : ℕ). AreKnownNames n m.names) same h.names;
+          bindings = subst (λ (n : ℕ). AreKnownBindings n m.bindings) same h.bindings;
         }
 
 ended_door : (script : ScriptValue) (p : ℕ) (d : Door) → IsDeclaredDoor script d → IsDeclaredDoor script (with_owner_ended p d)
@@ -239,35 +245,51 @@ leave_process-known script m p h =
           subst (λ (n : ℕ). AreKnownRows n (leave_process m p).tables) (sym (length-map m.doors (with_owner_ended p)))
           (closed-known (length m.doors) m.tables p h.rows);
       names = subst (λ (n : ℕ). AreKnownNames n m.names) (sym (length-map m.doors (with_owner_ended p))) h.names;
+      bindings = subst (λ (n : ℕ). AreKnownBindings n m.bindings) (sym (length-map m.doors (with_owner_ended p))) h.bindings;
     }
 
 -- changes of tables and of the names
 
 tables-known :
-    (script : ScriptValue) (m : State) {rs : List Call} (tables : List (List (Option Obj))) → AreKnown script m.doors rs m.tables m.names →
-    AreKnownRows (length m.doors) tables → AreKnown script m.doors rs tables m.names
-tables-known script m tables h here = record { doors = h.doors; calls = h.calls; rows = here; names = h.names }
+    (script : ScriptValue) (m : State) {rs : List Call} (tables : List (List (Option Obj))) → AreKnown script m.doors rs m.tables m.names m.bindings →
+    AreKnownRows (length m.doors) tables → AreKnown script m.doors rs tables m.names m.bindings
+tables-known script m tables h here = record { doors = h.doors; calls = h.calls; rows = here; names = h.names; bindings = h.bindings }
 
 passes-known :
-    (script : ScriptValue) (m : State) {rs : List Call} (p : ℕ) (pass : List Pass) → AreKnown script m.doors rs m.tables m.names →
-    AreKnown script m.doors rs (tables_after_pass m p pass) m.names
+    (script : ScriptValue) (m : State) {rs : List Call} (p : ℕ) (pass : List Pass) → AreKnown script m.doors rs m.tables m.names m.bindings →
+    AreKnown script m.doors rs (tables_after_pass m p pass) m.names m.bindings
 passes-known script m p pass h = tables-known script m (tables_after_pass m p pass) h (released-known (length m.doors) m.tables p pass h.rows)
 
 installs-known :
     (script : ScriptValue) (m : State) {rs : List Call} (p : ℕ) (objects : List Obj) → AreKnownInTransit (length m.doors) objects →
-    AreKnown script m.doors rs m.tables m.names → AreKnown script m.doors rs (tables_with m p objects) m.names
+    AreKnown script m.doors rs m.tables m.names m.bindings → AreKnown script m.doors rs (tables_with m p objects) m.names m.bindings
 installs-known script m p objects all h = tables-known script m (tables_with m p objects) h (inserted-known (length m.doors) m.tables p objects all h.rows)
 
 with_row-known :
     (script : ScriptValue) (m : State) (p place : ℕ) (o : Option Obj) → IsKnown script m → IsKnownObject (length m.doors) o →
     IsKnown script (with_table_of m p (with_row (table_of m p) place o))
 with_row-known script m p place o h here =
-    record { doors = h.doors; calls = h.calls; rows = row-known (length m.doors) m.tables p place o here h.rows; names = h.names }
+    record { doors = h.doors; calls = h.calls; rows = row-known (length m.doors) m.tables p place o here h.rows; names = h.names; bindings = h.bindings }
 
 names-known :
     (script : ScriptValue) (m : State) (names : List Name) → IsKnown script m → AreKnownNames (length m.doors) names →
-    AreKnown script m.doors m.call_tree.calls m.tables names
-names-known script m names h here = record { doors = h.doors; calls = h.calls; rows = h.rows; names = here }
+    AreKnown script m.doors m.call_tree.calls m.tables names m.bindings
+names-known script m names h here = record { doors = h.doors; calls = h.calls; rows = h.rows; names = here; bindings = h.bindings }
+
+-- changes of the bindings
+
+bindings-known :
+    (script : ScriptValue) (m : State) (bindings : List (Option ℕ)) → IsKnown script m → AreKnownBindings (length m.doors) bindings →
+    AreKnown script m.doors m.call_tree.calls m.tables m.names bindings
+bindings-known script m bindings h here =
+    record { doors = h.doors; calls = h.calls; rows = h.rows; names = h.names; bindings = here }
+
+unbound-known :
+    (script : ScriptValue) (m : State) (t : ℕ) → IsKnown script m →
+    AreKnown script m.doors m.call_tree.calls m.tables m.names (unbind_thread m.bindings t)
+unbound-known script m t h =
+    bindings-known script m (unbind_thread m.bindings t) h
+    (binding-known (length m.doors) m.bindings t None (λ d e. absurd (cc e)) h.bindings)
 
 -- entries
 
@@ -345,6 +367,18 @@ info-known script m p refs d h here = by_door (door_of m d) refl
         let declared : IsDeclaredDoor script y = All-at_number (IsDeclaredDoor script) m.doors d y h.doors e
         in (by_target y declared y.owner_ended, declared.entry)
 
+-- the door that a thread is bound to, where it is bound to one
+bound_door :
+    (script : ScriptValue) (m : State) (t : ℕ) (other : Option Errno) → IsKnown script m →
+    (if is_none (bound_of m t) then Some EBADF else other) ≡ None → IsNumberOf (length m.doors) (unwrap_or (bound_of m t) 0)
+bound_door script m t other h e = by_bound (bound_of m t) refl e
+  where
+    by_bound :
+        (o : Option ℕ) → bound_of m t ≡ o → (if is_none o then Some EBADF else other) ≡ None →
+        IsNumberOf (length m.doors) (unwrap_or o 0)
+    by_bound None f k = absurd (cc k)
+    by_bound (Some d) f k = h.bindings t d f
+
 -- the process of a client, where there is one
 client-known :
     (script : ScriptValue) (m : State) (t : ℕ) (other : Option Errno) → IsKnown script m → HasOwners script m →
@@ -412,6 +446,19 @@ effect-known script m t p (request.Return bytes pass) h thread process owners ma
           h);
       answer = tt;
     }
+effect-known script m t p (request.Bind fd) h thread process owners made e =
+    record {
+      state =
+          bindings-known script m (bind_thread m.bindings t (door_at m p fd)) h
+          (binding-known (length m.doors) m.bindings t (Some (door_at m p fd))
+          (λ d f. subst (IsNumberOf (length m.doors)) (cc f) (valid_door m (door_at m p fd) (holds_unless (is_valid m (door_at m p fd)) _ e)))
+          h.bindings);
+      answer = tt;
+    }
+effect-known script m t p request.Unbind h thread process owners made e =
+    record { state = unbound-known script m t h; answer = tt }
+effect-known script m t p request.InfoQuery h thread process owners made e =
+    record { state = h; answer = info-known script m p _ (unwrap_or (bound_of m t) 0) h (bound_door script m t _ h e) }
 effect-known script m t p (request.Info fd) h thread process owners made e =
     record {
       state = h;
@@ -501,12 +548,12 @@ collect-known script m t p c h =
       answer = by_call (find_call m (is_to_collect_as c));
     }
   where
-    next : AreKnown script m.doors (collect_call m.call_tree c (now m)).calls m.tables m.names
+    next : AreKnown script m.doors (collect_call m.call_tree c (now m)).calls m.tables m.names m.bindings
     next = changed-known script m (is_to_collect_as c) _ (emptied script (length m.doors) (stage.Answered (now m)) tt) h
 
     by_room :
         (objects : List Obj) → AreKnownInTransit (length m.doors) objects → (b : Bool) →
-        AreKnown script m.doors (collect_call m.call_tree c (now m)).calls (if b then tables_with m p objects else m.tables) m.names
+        AreKnown script m.doors (collect_call m.call_tree c (now m)).calls (if b then tables_with m p objects else m.tables) m.names m.bindings
     by_room objects all true = installs-known script m p objects all next
     by_room objects all false = next
 
@@ -557,17 +604,16 @@ give_one-known script m (item.Call c) u h =
     changed-known script m (is_queued_as c) _ (staged script (length m.doors) (stage.Given (tid u)) tt) h
 give_one-known script m (item.Notice n) u h = h
 
-give_to-known : (script : ScriptValue) (m : State) (w : Waiting) (o : Option Parked) → IsKnown script m → IsKnown script (give_to m w o)
-give_to-known script m w None h = h
-give_to-known script m w (Some x) h = give_one-known script m w.item x.thread.0 h
-
-give_each-known : (script : ScriptValue) (m : State) (ws : List Waiting) → IsKnown script m → IsKnown script (give_each m ws)
-give_each-known script m [] h = h
-give_each-known script m (w ∷ ws) h =
-    give_each-known script (give_to m w (pick m (pool_of m w.door))) ws (give_to-known script m w (pick m (pool_of m w.door)) h)
-
 settle-known : (script : ScriptValue) (before m : State) → IsKnown script m → IsKnown script (settle before m)
-settle-known script before m h = give_each-known script m (waiting_items m) h
+settle-known script before m h =
+    settle-all
+    (IsKnown script)
+    (λ n t lost known. unbound-known script n t known)
+    (λ n w x picked known. give_one-known script n w.item x.thread.0 known)
+    (λ n t spare known. known)
+    before
+    m
+    h
 
 -- steps
 

@@ -1,6 +1,6 @@
 -- What a frame's request needs, by the line that it is at.
 use Rattle.std.proofs.Common.{◌≡◌, ℕ, ◌≤◌, List, [], ◌∷◌, Option, Some, None, Bool, true, false, length, arith, refl, subst, map, IsSome}
-use Rattle.std.specs.Prelude.{All, nat_lt, max}
+use Rattle.std.specs.Prelude.{All}
 use Rattle.std.proofs.lemmas.Bool.{ltb-false}
 use Rattle.std.proofs.Math.Nat.{le-max_left}
 use Rattle.std.proofs.lemmas.List.Elements.{All-head, All-weaker}
@@ -105,19 +105,13 @@ built_ahead procedure f (Do x ∷ steps) all =
 pub request-built : (f : Frame) → IsFrame IsBuiltLine f → capability_of (request_of f) ≤ BUILT
 request-built f h = built_ahead f.procedure f f.steps h.steps
 
--- a thread with an invocation makes no call and does not exit
+-- a thread with an invocation does not exit
 
 pub may_outside : (r : Request) → MayInside None r
-may_outside (request.Call fd bytes pass rsize) = tt
 may_outside request.Exit = tt
 may_outside r = tt
 
-call-later : (pass : List PassArg) → nat_lt BUILT (max (capability_of_pass (map (pass_of no_variables) pass)) 7) ≡ false → ⊥
-call-later [] h = cc
-call-later (x ∷ pass) h = cc
-
 inside_at : (v : Inv) (variables : Variables) (x : Line) → kind_of x ≡ Act → IsBuiltLine true x → MayInside (Some v) (request_at variables x)
-inside_at v variables (line.Call var fd bytes pass rsize) act h = call-later pass h
 inside_at v variables line.Exit act h = cc
 inside_at v variables (line.Repeat times) act h = cc
 inside_at v variables (line.If cond) act h = cc

@@ -8,10 +8,10 @@ use Rattle.std.proofs.lemmas.Option.{slice_get_within}
 use Rattle.dk_base.specs.declared.answer.Answer.TheVariants as answer
 use Rattle.written_kernel.specs.Types.{Answer, Event, Thread}
 use Rattle.kernel_records.specs.Words.{new_thread, process_in, state_in}
-use Rattle.written_kernel.specs.Words.{IsEntering, IsRun, MayTurn, State, can_go_on, event_of, invocation_of, is_runnable, is_running, opening, process_of, step, thread_of, with_new_thread}
+use Rattle.written_kernel.specs.Words.{IsEntering, IsRun, MayTurn, State, bound_of, can_go_on, event_of, invocation_of, is_runnable, is_running, opening, process_of, step, thread_of, with_new_thread}
 use Rattle.written_kernel.proofs.Lists.{numbered_within, numbered_there}
 use Rattle.written_kernel.proofs.Invocations.{new_invocation-step}
-use Rattle.written_kernel.proofs.Opening.{opened, invocation_of-opening, object_at-opening, opening_processes, length-with_new_thread, opening_threads}
+use Rattle.written_kernel.proofs.Opening.{opened, bound_of-opening, invocation_of-opening, object_at-opening, opening_processes, length-with_new_thread, opening_threads}
 use Rattle.written_kernel.proofs.Steps.{events-step, threads-step, processes-step, process_of-step}
 use Rattle.script_lang.specs.Types.{Line}
 use Rattle.script_line.specs.declared.line.Line.TheVariants as line
@@ -297,6 +297,9 @@ owner-there script m u has all thread = by_thread (thread_of m u) refl
     by_thread None e = absurd (false≢true (subst (λ (o : Option Thread). IsSome o) e there))
     by_thread (Some x) e = All-at_number (OwnsProcess script) m.process_table.threads u x all e
 
+none_bound : (o : Option ℕ) (d : ℕ) → o ≡ None → o ≡ Some d → ⊥
+none_bound o d none some = cc
+
 pub IsKnownHistory-first_history : (script : ScriptValue) → IsSound script → IsKnownHistory script (first_history script)
 IsKnownHistory-first_history script sound =
     let opens = opened (IsOpening-opening_of script sound)
@@ -310,6 +313,7 @@ IsKnownHistory-first_history script sound =
             no_rows-known (length (opening_of script).doors) (opening_of script).tables
             (object_at-opening (IsOpening-opening_of script sound));
         names = rw opens.names (All-nil (IsKnownName (length (opening_of script).doors)));
+        bindings = λ t d e. absurd (none_bound (bound_of (opening_of script) t) d (bound_of-opening (IsOpening-opening_of script sound) t) e);
       };
       events = All-nil (IsDeclaredEvent script);
       inside = λ u some. absurd (false≢true (subst (λ o. IsSome o) (invocation_of-opening (IsOpening-opening_of script sound) u) some));

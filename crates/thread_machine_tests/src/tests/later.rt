@@ -6,7 +6,7 @@ use std::test::Fail;
 use thread_machine::later::later;
 
 /// Lines of a thread that need no later capability, and lines that do.
-const BUILT_LINES: [&str; 20] = [
+const BUILT_LINES: [&str; 25] = [
     "create d e 0",
     "attach 1 p",
     "open v p",
@@ -27,13 +27,21 @@ const BUILT_LINES: [&str; 20] = [
     "cred",
     "call r 1 \"\" desc 1",
     "return \"\" desc 1",
-];
-
-const LATER_LINES: [&str; 32] = [
     "create d e 0 private",
     "bind 1",
     "unbind",
     "info query",
+    "create d e 0 private local",
+];
+
+/// Lines of a procedure, and a member, that need none either.
+const BUILT_SCRIPTS: [(&str, &str); 3] = [
+    ("call r 1 \"\" desc 1", ""),
+    ("bind 1\nunbind", ""),
+    ("serve", "spare s"),
+];
+
+const LATER_LINES: [&str; 28] = [
     "create d e 0 no-cancel",
     "revoke 1",
     "testcancel",
@@ -57,7 +65,7 @@ const LATER_LINES: [&str; 32] = [
     "if ok\nrevoke 1\nend",
     "repeat 2\nserve\nrevoke 1\nend",
     "serve\nrevoke 1",
-    "create d e 0 private local",
+    "create d e 0 private no-cancel",
     "work v digest \"\"",
     "get 1 nowait",
     "alert 1 none 0 0",
@@ -66,8 +74,8 @@ const LATER_LINES: [&str; 32] = [
 
 /// Lines of a thread and of a procedure, and a member, of which one needs a later capability.
 const LATER_SCRIPTS: [(&str, &str, &str); 3] = [
-    ("serve", "serve", "spare s"),
-    ("serve", "call r 1 \"\"", ""),
+    ("serve", "exit", ""),
+    ("exit", "serve", "spare s"),
     ("serve", "if ok\nrevoke 1\nend", ""),
 ];
 
@@ -100,6 +108,12 @@ fn later_lines(rt: HostRuntime) -> Result<(), Fail> {
     }
     for line in LATER_LINES {
         assert!(rt; is_later(alloc, line, "serve", "") == Some(true), "{line}");
+    }
+    for (procedure, member) in BUILT_SCRIPTS {
+        assert!(rt;
+            is_later(alloc, "serve", procedure, member) == Some(false),
+            "{procedure} {member}"
+        );
     }
     for (thread, procedure, member) in LATER_SCRIPTS {
         assert!(rt;

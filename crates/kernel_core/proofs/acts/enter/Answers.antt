@@ -1,6 +1,6 @@
 use Rattle.std.proofs.Common.{arith}
 use Rattle.written_kernel.specs.Words.{enter, process_of}
-use Rattle.kernel_core.specs.Stored.{stored_state}
+use Rattle.kernel_store.specs.Words.{stored_state}
 use Rattle.kernel_core.proofs.Live.{enter_live, is_kept}
 use Rattle.kernel_core.proofs.acts.enter.Goals as goal
 

@@ -1,6 +1,6 @@
 use Rattle.std.proofs.Common.{arith}
 use Rattle.written_kernel.specs.Words.{go_on, process_of, state_of}
-use Rattle.kernel_core.specs.Stored.{stored_state}
+use Rattle.kernel_store.specs.Words.{stored_state}
 use Rattle.kernel_core.proofs.Live.{go_on_live, is_kept}
 use Rattle.kernel_core.proofs.acts.go_on.Goals as goal
 
@@ -33,4 +33,6 @@ returns-in_default c =
     record {
       state = is_kept m (go_on m c.args.t.0 p s).state (go_on_live m c.args.t.0 p s c.requires.live (λ k e. grind arith)) (grind arith);
       answer = grind arith;
+      given_out = λ h pool e. h pool;
+      latest = omega (arith, c.requires.first);
     }

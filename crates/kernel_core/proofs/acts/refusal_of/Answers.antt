@@ -1,6 +1,6 @@
 use Rattle.std.proofs.Common.{ap, sym, ◌∙◌}
 use Rattle.written_kernel.specs.Words.{refusal_of}
-use Rattle.kernel_core.specs.Stored.{stored_state}
+use Rattle.kernel_store.specs.Words.{stored_state}
 use Rattle.kernel_core.proofs.acts.refusal_of.Goals as goal
 
 pub returns-in-Call : goal.returns-in-Call

@@ -1,7 +1,7 @@
-use Rattle.std.proofs.Common.{◌≡◌, [], ap, sym, ◌∙◌}
+use Rattle.std.proofs.Common.{◌≡◌, [], refl, ap, sym, ◌∙◌}
 use Rattle.written_kernel.specs.Words.{collect_answer_in, objects_collected, objects_collected_in, tables_after_collect}
-use Rattle.kernel_core.specs.Stored.{stored_state}
-use Rattle.kernel_core.proofs.Tables.{nothing_collected, nothing_told}
+use Rattle.kernel_store.specs.Words.{stored_state}
+use Rattle.kernel_core.proofs.Collected.{nothing_collected, nothing_told}
 use Rattle.kernel_core.proofs.doors.outcome.Goals as goal
 
 pub returns-in_default-clause-state : goal.returns-in_default-clause-state
@@ -24,4 +24,6 @@ returns c =
     record {
       state = sym (ap (λ tables. record m { tables = tables }) (ap (tables_after_collect m c.args.p.0) none ∙ nothing_collected m c.args.p.0));
       answer = sym (ap (collect_answer_in m c.args.p.0) c.in-Some.is ∙ told.1);
+      pools = refl;
+      latest = refl;
     }

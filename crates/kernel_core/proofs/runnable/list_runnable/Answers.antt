@@ -1,5 +1,5 @@
 use Rattle.std.proofs.Common.{ap, length, ◌∙◌, arith}
-use Rattle.kernel_core.specs.Stored.{stored_state}
+use Rattle.kernel_store.specs.Words.{stored_state}
 use Rattle.kernel_core.proofs.Readers.{length_runnables}
 use Rattle.kernel_core.proofs.runnable.list_runnable.Goals as goal
 

@@ -1,5 +1,5 @@
 use Rattle.std.proofs.Common.{◌≡◌, ◌+◌, ◌≤◌}
-use Rattle.kernel_core.specs.Stored.{stored_state}
+use Rattle.kernel_store.specs.Words.{stored_state}
 use Rattle.kernel_core.specs.Woken.{runnables}
 use Rattle.kernel_core.proofs.runnable.list_runnable.Given as goal
 

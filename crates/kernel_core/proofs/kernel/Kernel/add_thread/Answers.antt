@@ -1,8 +1,9 @@
-use Rattle.std.proofs.Common.{◌<◌, ap, arith, length, subst, sym, ◌∙◌}
+use Rattle.std.proofs.Common.{◌≡◌, ◌<◌, ap, arith, length, subst, sym, ◌∙◌}
 use Rattle.dk_base.specs.declared.limits.TheConstants.{THREADS_MAX}
+use Rattle.kernel_records.specs.Words.{ProcessTable}
 use Rattle.written_kernel.specs.Words.{State}
 use Rattle.written_kernel.proofs.Opening.{IsDeclaredIn}
-use Rattle.kernel_core.specs.Stored.{stored_state}
+use Rattle.kernel_store.specs.Words.{stored_state}
 use Rattle.kernel_core.proofs.Kept.{opening_lives, thread_result}
 use Rattle.kernel_core.proofs.kernel.Kernel.add_thread.Goals as goal
 
@@ -10,12 +11,15 @@ pub invariant_of-self : goal.invariant_of-self
 invariant_of-self c =
     let old = stored_state c.self.inside.parts.store in
     let there : IsDeclaredIn old c.args.process.0 = subst (λ k. IsDeclaredIn k c.args.process.0) (sym c.self.view_is) c.requires.declared in
+    let many = ap (λ (table : ProcessTable). length table.threads) c.processes.ensures in
     let few : length old.process_table.threads < THREADS_MAX =
-    omega (arith, c.thread_count.ensures.few, c.thread_count.ensures.count, c.if-thread_count-eq-THREADS_MAX.false) in
+    omega (arith, many, c.thread_count.ensures.few, c.thread_count.ensures.count, c.if-thread_count-eq-THREADS_MAX.false) in
     let kept =
     thread_result old (stored_state c.add_thread.new.self.store) c.args.process.0 c.args.spare c.self.invariant.0 c.self.invariant.1
     (ap (λ (k : State). k.events) c.self.view_is ∙ c.requires.opening) there few c.add_thread.result c.add_thread.ensures.ok c.add_thread.ensures.err in
-    (kept.0, kept.1, c.add_thread.ensures.current)
+    let opened : old.events ≡ 0 = ap (λ (k : State). k.events) c.self.view_is ∙ c.requires.opening in
+    let parked : c.add_thread.new.self.store.latest ≡ 0 = c.add_thread.ensures.latest ∙ omega (arith, opened, c.self.invariant.4) in
+    (kept.0, kept.1, c.add_thread.ensures.current, c.add_thread.ensures.given_out c.self.invariant.3, omega (arith, parked))
 
 pub add_thread-requires-clause-lives : goal.add_thread-requires-clause-lives
 add_thread-requires-clause-lives c =

@@ -1,6 +1,6 @@
-use Rattle.std.proofs.Common.{◌∙◌, Some}
-use Rattle.kernel_core.specs.Stored.{stored_state}
-use Rattle.kernel_core.proofs.Kept.{kept_result, refused_result, refused_stands}
+use Rattle.std.proofs.Common.{refl, ◌∙◌, Some}
+use Rattle.kernel_store.specs.Words.{stored_state}
+use Rattle.kernel_core.proofs.Kept.{kept_result, none_lost, placed, refused_result, refused_stands}
 use Rattle.kernel_core.proofs.Live.{stands_live}
 use Rattle.kernel_core.proofs.Steps.{step_stands, step_within, step_small}
 use Rattle.kernel_core.proofs.kernel.Kernel.enter.Goals as goal
@@ -12,6 +12,8 @@ invariant_of-self c =
       kept_result kept c.args.self.now new c.args.t.0 (Some c.args.request) c.enter.result c.self.view_is c.self.invariant.0 (record { running = c.requires.running; fit = c.requires.fit; built = c.requires.built; inside = c.requires.inside; few = c.requires.few }) c.enter.ensures.step c.enter.ensures.err,
       step_within kept c.args.self.now new c.args.t.0 (Some c.args.request) c.enter.result c.self.view_is c.self.invariant.1 c.requires.few c.enter.ensures.step c.enter.ensures.err,
       c.enter.ensures.current,
+      c.enter.ensures.given_out,
+      c.enter.ensures.parked,
     )
 
 pub enter-requires-clause-live : goal.enter-requires-clause-live
@@ -33,3 +35,10 @@ returns-clause-refused c =
 pub returns-clause-refused_step : goal.returns-clause-refused_step
 returns-clause-refused_step c =
     λ m h e g. refused_stands (stored_state c.self.inside.parts.store) m c.args.t.0 c.args.request e c.self.invariant.0 (c.self.view_is ∙ h) g
+
+pub enter-requires-clause-placed : goal.enter-requires-clause-placed
+enter-requires-clause-placed c = placed (stored_state c.self.inside.parts.store) (stored_state c.self.inside.parts.store) refl c.self.invariant.0
+
+pub enter-requires-clause-none_lost : goal.enter-requires-clause-none_lost
+enter-requires-clause-none_lost c =
+    none_lost (stored_state c.self.inside.parts.store) c.args.self.now c.args.t.0 (Some c.args.request) c.self.view_is c.self.invariant.0 (record { running = c.requires.running; fit = c.requires.fit; built = c.requires.built; inside = c.requires.inside; few = c.requires.few })

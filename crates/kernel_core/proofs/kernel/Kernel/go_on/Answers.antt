@@ -1,6 +1,6 @@
-use Rattle.std.proofs.Common.{None}
-use Rattle.kernel_core.specs.Stored.{stored_state}
-use Rattle.kernel_core.proofs.Kept.{kept_result}
+use Rattle.std.proofs.Common.{refl, None}
+use Rattle.kernel_store.specs.Words.{stored_state}
+use Rattle.kernel_core.proofs.Kept.{kept_result, none_lost, placed}
 use Rattle.kernel_core.proofs.Live.{stands_live}
 use Rattle.kernel_core.proofs.Steps.{step_stands, step_within, step_small}
 use Rattle.kernel_core.proofs.kernel.Kernel.go_on.Goals as goal
@@ -12,6 +12,8 @@ invariant_of-self c =
       kept_result kept c.args.self.now new c.args.t.0 None c.go_on.result c.self.view_is c.self.invariant.0 c.requires c.go_on.ensures.step c.go_on.ensures.err,
       step_within kept c.args.self.now new c.args.t.0 None c.go_on.result c.self.view_is c.self.invariant.1 c.requires.few c.go_on.ensures.step c.go_on.ensures.err,
       c.go_on.ensures.current,
+      c.go_on.ensures.given_out,
+      c.go_on.ensures.parked,
     )
 
 pub go_on-requires-clause-live : goal.go_on-requires-clause-live
@@ -25,3 +27,10 @@ returns-clause-step c =
 pub returns-clause-small : goal.returns-clause-small
 returns-clause-small c =
     step_small (stored_state c.self.inside.parts.store) (stored_state c.go_on.new.self.store) c.args.t.0 None c.go_on.result c.self.invariant.1 c.go_on.ensures.step
+
+pub go_on-requires-clause-placed : goal.go_on-requires-clause-placed
+go_on-requires-clause-placed c = placed (stored_state c.self.inside.parts.store) (stored_state c.self.inside.parts.store) refl c.self.invariant.0
+
+pub go_on-requires-clause-none_lost : goal.go_on-requires-clause-none_lost
+go_on-requires-clause-none_lost c =
+    none_lost (stored_state c.self.inside.parts.store) c.args.self.now c.args.t.0 None c.self.view_is c.self.invariant.0 c.requires

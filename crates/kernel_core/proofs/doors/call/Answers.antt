@@ -1,0 +1,23 @@
+use Rattle.std.proofs.Common.{◌≡◌, ◌<◌, true, ap, sym, subst, ◌∙◌}
+use Rattle.dk_base.specs.declared.limits.TheConstants.{QUEUE_MAX}
+use Rattle.written_kernel.specs.Types.{Call}
+use Rattle.written_kernel.specs.Words.{State, calls_waiting, is_valid, pool_of}
+use Rattle.kernel_store.specs.Words.{stored_state}
+use Rattle.kernel_core.proofs.Tests.{called_valid, not_full}
+use Rattle.kernel_core.proofs.doors.call.Goals as goal
+
+pub open_call-requires-clause-few : goal.open_call-requires-clause-few
+open_call-requires-clause-few c =
+    let m = stored_state c.args.store.now in
+    let door = ap (λ (r : Call). r.door) c.new_call-call.ensures ∙ c.door_named-door.ensures in
+    subst (λ (k : State). calls_waiting k (pool_of k c.new_call-call.result.door) < QUEUE_MAX) (sym c.take_out.ensures.state)
+    (subst (λ d. calls_waiting m (pool_of m d) < QUEUE_MAX) (sym door)
+    (not_full m c.args.p.0 c.args.fd c.args.bytes c.args.pass.now c.requires.allowed))
+
+pub open_call-requires-clause-door : goal.open_call-requires-clause-door
+open_call-requires-clause-door c =
+    let m = stored_state c.args.store.now in
+    let door = ap (λ (r : Call). r.door) c.new_call-call.ensures ∙ c.door_named-door.ensures in
+    ap (λ (k : State). is_valid k c.new_call-call.result.door) c.take_out.ensures.state
+    ∙ ap (is_valid m) door
+    ∙ called_valid m c.args.p.0 c.args.fd c.args.bytes c.args.pass.now c.requires.allowed

@@ -1,0 +1,63 @@
+//! The acts of bindings.
+ghost use Rattle.std.specs.Prelude.{◌≡◌, None, true};
+ghost use Rattle.kernel_records.specs.Words.{first_refusal};
+ghost use Rattle.written_kernel.specs.Words.{bind, binding_tests, bound_tests, information_of_bound, is_running, unbind};
+ghost use Rattle.pool_agreement.specs.Words.{IsGivenOut};
+ghost use Rattle.kernel_store.specs.Words.{stored_state};
+
+use crate::descriptors::door_named;
+use crate::information::information_of;
+use dk_base::answer::Answer;
+use dk_base::error::Errno;
+use dk_base::number::{Fd, Pid, Tid};
+use kernel_store::store::Store;
+
+/// door_bind(3C): EBADF for no door or an invalid one, EINVAL for one that is not private or is another process's.
+pub fn bind_refusal(store: &Store, p: Pid, fd: Fd) -> Option<Errno>
+    ensures { result ≡ first_refusal (binding_tests (stored_state store.now) p.0 fd) }
+{
+    store.doors().check_bind(door_named(store, p, fd), p)
+}
+
+/// door_bind(3C): the thread, which runs, is bound to the door, in place of one that it was bound to.
+pub fn bind(store: &mut Store, t: Tid, p: Pid, fd: Fd) -> Answer
+    requires { is_running (stored_state store.old) t.0 ≡ true }
+    ensures state { stored_state store.new ≡ (bind (stored_state store.old) t.0 p.0 fd).state }
+    ensures answer { result ≡ (bind (stored_state store.old) t.0 p.0 fd).answer }
+    ensures given_out { IsGivenOut store.old.pools → IsGivenOut store.new.pools }
+    ensures latest { store.new.latest ≡ store.old.latest }
+{
+    let door = door_named(store, p, fd);
+    store.bind(t, door);
+    Answer::Done
+}
+
+/// EBADF for a thread that is bound to no door.
+pub fn bound_refusal(store: &Store, t: Tid) -> Option<Errno>
+    ensures { result ≡ first_refusal (bound_tests (stored_state store.now) t.0) }
+{
+    if store.bound_door(t).is_none() {
+        return Some(Errno::EBADF);
+    }
+    None
+}
+
+/// door_unbind(3C): the thread, which runs, is bound to no door.
+pub fn unbind(store: &mut Store, t: Tid) -> Answer
+    requires running { is_running (stored_state store.old) t.0 ≡ true }
+    requires allowed { first_refusal (bound_tests (stored_state store.old) t.0) ≡ None }
+    ensures state { stored_state store.new ≡ (unbind (stored_state store.old) t.0).state }
+    ensures answer { result ≡ (unbind (stored_state store.old) t.0).answer }
+    ensures given_out { IsGivenOut store.old.pools → IsGivenOut store.new.pools }
+    ensures latest { store.new.latest ≡ store.old.latest }
+{
+    store.unbind(t);
+    Answer::Done
+}
+
+/// door_info(3C) of DOOR_QUERY: what the process is told of the door that the thread is bound to.
+pub fn information_of_bound(store: &Store, t: Tid, p: Pid) -> Answer
+    ensures { result ≡ (information_of_bound (stored_state store.now) t.0 p.0).answer }
+{
+    information_of(store, p, store.bound_door(t).unwrap_or(0))
+}

@@ -1,0 +1,136 @@
+-- Pools that hold the same threads, items and spares, and pools that hold no more: what that keeps.
+use Rattle.std.proofs.Common.{◌≡◌, inl, inr, ℕ, ◌+◌, ◌==◌, Bool, true, false, if◌then◌else◌, List, [], ◌∷◌, ◌++◌, Option, Some, None, option_map, length, refl, sym, ap, ◌∙◌, subst, subst₂, arith}
+use Rattle.std.proofs.lemmas.Bool.Decides.{nat_tests}
+use Rattle.dk_base.specs.ByNumber.{at_number}
+use Rattle.kernel_records.specs.declared.pool.Pool.TheVariants.{Common, Private}
+use Rattle.kernel_records.specs.Words.{CallTree, ProcessTable, is_pool}
+use Rattle.written_kernel.specs.Types.{Door, Pool}
+use Rattle.written_kernel.proofs.Lists.{numbered_past, numbered_push}
+use Rattle.server_pool.specs.Words.{PoolValue, PoolsValue, change_pool, empty_pool, pool_at, pool_or_empty, queue_in, spares_of, stack_in, with_room}
+use Rattle.server_pool.proofs.Changed.{pool_changed, pool_kept}
+use Rattle.pool_agreement.specs.Words.{Agrees, IsGivenOut, IsGivenOutIn, IsStackOf}
+use Rattle.pool_agreement.proofs.Readers.{bindings-change_pool, common-change_pool, private-change_pool, spares-change_pool}
+
+-- a field of the pools, read after one of them changed, which may not be there
+module _
+    {Y : Type 0} (read : PoolValue → Y) (next : Y → Y) (change : PoolValue → PoolValue) (reads : (x : PoolValue) → read (change x) ≡ next (read x))
+    (none : next (read empty_pool) ≡ read empty_pool) where
+  pub read_change :
+      (v : PoolsValue) (pool q : Pool) →
+      read (pool_or_empty (pool_at (change_pool v pool change) q))
+      ≡ (if is_pool pool q then next (read (pool_or_empty (pool_at v q))) else read (pool_or_empty (pool_at v q)))
+  read_change v pool q = go (is_pool pool q) refl
+    where
+      there : (o : Option PoolValue) → read (pool_or_empty (option_map change o)) ≡ next (read (pool_or_empty o))
+      there None = sym none
+      there (Some x) = reads x
+
+      go :
+          (b : Bool) → is_pool pool q ≡ b →
+          read (pool_or_empty (pool_at (change_pool v pool change) q))
+          ≡ (if b then next (read (pool_or_empty (pool_at v q))) else read (pool_or_empty (pool_at v q)))
+      go true e = ap (λ o. read (pool_or_empty o)) (pool_changed v pool q change e) ∙ there (pool_at v q)
+      go false e = ap (λ o. read (pool_or_empty o)) (pool_kept v pool q change e)
+
+-- a field that the change leaves
+pub read_kept :
+    {Y : Type 0} (read : PoolValue → Y) (change : PoolValue → PoolValue) → ((x : PoolValue) → read (change x) ≡ read x) →
+    (v : PoolsValue) (pool q : Pool) →
+    read (pool_or_empty (pool_at (change_pool v pool change) q)) ≡ read (pool_or_empty (pool_at v q))
+read_kept read change same v pool q =
+    read_change read (λ y. y) change same refl v pool q ∙ go (is_pool pool q) (read (pool_or_empty (pool_at v q)))
+  where
+    go : {Y : Type 0} (b : Bool) (y : Y) → (if b then y else y) ≡ y
+    go true y = refl
+    go false y = refl
+
+-- the pools hold the same, in whatever room
+pub record HoldsSame (v w : PoolsValue) : Type 0 where
+  pub bindings : w.bindings ≡ v.bindings
+  pub stacks : (pool : Pool) → stack_in w pool ≡ stack_in v pool
+  pub queues : (pool : Pool) → queue_in w pool ≡ queue_in v pool
+  pub spares : (p : ℕ) → spares_of w p ≡ spares_of v p
+  pub common : length w.common ≡ length v.common
+  pub spare_lists : length w.spares ≡ length v.spares
+  pub private : length w.private ≡ length v.private
+
+-- room for a door, and for a thread and an item of a pool
+pub same_in_room :
+    (v u w : PoolsValue) (doors threads items : ℕ) (pool : Pool) → u ≡ record v { door_room = doors } →
+    w ≡ change_pool u pool (with_room threads items) → HoldsSame v w
+same_in_room v u w doors threads items pool e f =
+    subst (HoldsSame v) (sym (f ∙ ap (λ x. change_pool x pool (with_room threads items)) e)) same
+  where
+    x : PoolsValue
+    x = record v { door_room = doors }
+
+    room : PoolValue → PoolValue
+    room = with_room threads items
+
+    same : HoldsSame v (change_pool x pool room)
+    same =
+        record {
+          bindings = bindings-change_pool x pool room;
+          stacks = read_kept (λ (y : PoolValue). y.parked) room (λ y. refl) x pool;
+          queues = read_kept (λ (y : PoolValue). y.waiting) room (λ y. refl) x pool;
+          spares = λ p. ap (λ spares. spares_of (record v { spares = spares }) p) (spares-change_pool x pool room);
+          common = common-change_pool x pool room;
+          spare_lists = ap length (spares-change_pool x pool room);
+          private = private-change_pool x pool room;
+        }
+
+pub agrees_same :
+    {n : ℕ} {table : ProcessTable} {doors : List Door} {tree : CallTree} {v w : PoolsValue} →
+    Agrees n table doors tree v → HoldsSame v w → Agrees n table doors tree w
+agrees_same {n} {table} {doors} {tree} {v} {w} h same =
+    record {
+      stacks = λ q. subst₂ (λ b s. IsStackOf table b n q s) (sym same.bindings) (sym (same.stacks q)) (h.stacks q);
+      queues = λ q. same.queues q ∙ h.queues q;
+      spares = λ p. same.spares p ∙ h.spares p;
+      calls = h.calls;
+      common = same.common ∙ h.common;
+      spare_lists = same.spare_lists ∙ h.spare_lists;
+      private = same.private ∙ h.private;
+    }
+
+-- what is given out stays so, where no thread and no item is added
+pub given_out_less :
+    (v w : PoolsValue) → ((pool : Pool) → stack_in w pool ≡ stack_in v pool) →
+    ((pool : Pool) → queue_in v pool ≡ [] → queue_in w pool ≡ []) → IsGivenOut v → IsGivenOut w
+given_out_less v w stacks queues h pool = go (h pool)
+  where
+    go : IsGivenOutIn v pool → IsGivenOutIn w pool
+    go (inl e) = inl (stacks pool ∙ e)
+    go (inr e) = inr (queues pool e)
+
+pub given_out_same : (v w : PoolsValue) → HoldsSame v w → IsGivenOut v → IsGivenOut w
+given_out_same v w same = given_out_less v w same.stacks (λ q e. same.queues q ∙ e)
+
+-- what is made with nothing in it leaves what is given out
+pub given_out_made :
+    (v w : PoolsValue) → ((pool : Pool) → pool_or_empty (pool_at w pool) ≡ pool_or_empty (pool_at v pool)) → IsGivenOut v → IsGivenOut w
+given_out_made v w same =
+    given_out_less v w (λ q. ap (λ (x : PoolValue). x.parked) (same q)) (λ q e. ap (λ (x : PoolValue). x.waiting) (same q) ∙ e)
+
+made_empty : (xs : List PoolValue) (k : ℕ) → pool_or_empty (at_number (xs ++ empty_pool ∷ []) k) ≡ pool_or_empty (at_number xs k)
+made_empty xs k = ap pool_or_empty (numbered_push xs empty_pool k) ∙ go (k == length xs + 1) refl
+  where
+    go : (b : Bool) → (k == length xs + 1) ≡ b → pool_or_empty (if b then Some empty_pool else at_number xs k) ≡ pool_or_empty (at_number xs k)
+    go true e = sym (ap pool_or_empty (numbered_past xs k (grind (arith, nat_tests))))
+    go false e = refl
+
+pub given_out_door :
+    (v w : PoolsValue) → w.common ≡ v.common → w.private ≡ v.private ++ empty_pool ∷ [] → IsGivenOut v → IsGivenOut w
+given_out_door v w common private = given_out_made v w same
+  where
+    same : (pool : Pool) → pool_or_empty (pool_at w pool) ≡ pool_or_empty (pool_at v pool)
+    same (Common p) = ap (λ xs. pool_or_empty (at_number xs p.0)) common
+    same (Private d) = ap (λ xs. pool_or_empty (at_number xs d)) private ∙ made_empty v.private d
+
+pub given_out_process :
+    (v w : PoolsValue) → w.private ≡ v.private → w.common ≡ v.common ++ empty_pool ∷ [] → IsGivenOut v → IsGivenOut w
+given_out_process v w private common = given_out_made v w same
+  where
+    same : (pool : Pool) → pool_or_empty (pool_at w pool) ≡ pool_or_empty (pool_at v pool)
+    same (Common p) = ap (λ xs. pool_or_empty (at_number xs p.0)) common ∙ made_empty v.common p.0
+    same (Private d) = ap (λ xs. pool_or_empty (at_number xs d)) private

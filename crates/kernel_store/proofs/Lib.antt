@@ -1,0 +1,8 @@
+mod Acts
+mod Alike
+mod Dropped
+mod Giving
+mod Made
+pub mod NoTable
+mod Spares
+mod Threads

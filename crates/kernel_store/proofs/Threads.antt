@@ -1,0 +1,79 @@
+-- A thread that is made, with a number above all others, and a spare that is taken back where there is no memory for it.
+use Rattle.std.proofs.Common.{◌≡◌, ℕ, zero, suc, ◌+◌, ◌-◌, ◌<◌, ◌==◌, Bool, true, false, if◌then◌else◌, List, [], ◌∷◌, ◌++◌, Option, Some, None, option_map, is_some, length, length-append, take, refl, sym, ap, ◌∙◌, subst, arith}
+use Rattle.std.proofs.lemmas.Bool.Decides.{nat_tests}
+use Rattle.dk_base.specs.ByNumber.{at_number}
+use Rattle.kernel_records.specs.Words.{CallTree, ProcessTable, is_live_in, is_spare_of, thread_at}
+use Rattle.written_kernel.specs.Types.{Door, Process, Thread}
+use Rattle.server_pool.specs.Words.{AllBelow, PoolsValue, change_at_number, change_spares, spares_of, spares_or_none, with_spare, without_highest}
+use Rattle.server_pool.proofs.Changed.{changed_elsewhere, changed_here}
+use Rattle.pool_agreement.specs.Words.{Agrees, spare_at, spare_in, spares_among}
+use Rattle.pool_agreement.proofs.Readers.{length-change_at_number, same_number}
+use Rattle.kernel_store.proofs.Alike.{HoldsSame}
+
+pub is_there : (o : Option Process) → is_live_in o ≡ true → is_some o ≡ true
+is_there None e = cc
+is_there (Some x) e = refl
+
+-- the spares are below each number above those of all threads
+
+all_append : (t : ℕ) (us vs : List ℕ) → AllBelow t us → AllBelow t vs → AllBelow t (us ++ vs)
+all_append t [] vs h k = k
+all_append t (u ∷ us) vs h k = (h.0, all_append t us vs h.1 k)
+
+one_below : (t p u : ℕ) (o : Option Thread) → u < t → AllBelow t (spare_in p u o)
+one_below t p u None l = tt
+one_below t p u (Some x) l = go (is_spare_of p x)
+  where
+    go : (b : Bool) → AllBelow t (if b then u ∷ [] else [])
+    go true = (l, tt)
+    go false = tt
+
+all_below : (table : ProcessTable) (t p n : ℕ) → n < t → AllBelow t (spares_among table p n)
+all_below table t p zero l = tt
+all_below table t p (suc n) l =
+    all_append t (spares_among table p n) (spare_at table p (suc n)) (all_below table t p n (omega arith)) (one_below t p (suc n) (thread_at table (suc n)) l)
+
+pub spares_below :
+    {n : ℕ} {table : ProcessTable} {doors : List Door} {tree : CallTree} {v : PoolsValue} → Agrees n table doors tree v → (p t : ℕ) →
+    length table.threads < t → AllBelow t (spares_of v p)
+spares_below {n} {table} h p t l = subst (AllBelow t) (sym (h.spares p)) (all_below table t p (length table.threads) l)
+
+-- a spare that is taken back
+
+taken_back : (t : ℕ) (ts : List ℕ) → without_highest (with_spare t ts) ≡ ts
+taken_back t ts = ap (λ k. take (k - 1) (ts ++ t ∷ [])) (length-append ts (t ∷ [])) ∙ ap (λ k. take k (ts ++ t ∷ [])) less ∙ front ts
+  where
+    less : length ts + 1 - 1 ≡ length ts
+    less = omega arith
+
+    front : (us : List ℕ) → take (length us) (us ++ t ∷ []) ≡ us
+    front [] = refl
+    front (u ∷ us) = ap (λ vs. u ∷ vs) (front us)
+
+pub same_taken_back : (v : PoolsValue) (p t : ℕ) → HoldsSame v (change_spares (change_spares v p (with_spare t)) p without_highest)
+same_taken_back v p t =
+    record {
+      bindings = refl;
+      stacks = λ pool. refl;
+      queues = λ pool. refl;
+      spares = λ q. spares q (p == q) refl;
+      common = refl;
+      spare_lists = length-change_at_number added p without_highest ∙ length-change_at_number v.spares p (with_spare t);
+      private = refl;
+    }
+  where
+    added : List (List ℕ)
+    added = change_at_number v.spares p (with_spare t)
+
+    back : (o : Option (List ℕ)) → spares_or_none (option_map without_highest (option_map (with_spare t) o)) ≡ spares_or_none o
+    back None = refl
+    back (Some ts) = taken_back t ts
+
+    spares : (q : ℕ) (b : Bool) → (p == q) ≡ b → spares_or_none (at_number (change_at_number added p without_highest) q) ≡ spares_of v q
+    spares q true e =
+        subst (λ k. spares_or_none (at_number (change_at_number added p without_highest) k) ≡ spares_of v k) (same_number p q e)
+        (ap spares_or_none (changed_here added p without_highest ∙ ap (option_map without_highest) (changed_here v.spares p (with_spare t)))
+        ∙ back (at_number v.spares p))
+    spares q false e =
+        let other : p ≡ q → ⊥ = λ f. grind (arith, nat_tests) in
+        ap spares_or_none (changed_elsewhere added p q without_highest other ∙ changed_elsewhere v.spares p q (with_spare t) other)

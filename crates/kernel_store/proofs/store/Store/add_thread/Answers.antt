@@ -1,0 +1,81 @@
+use Rattle.std.proofs.Common.{rules, ◌≡◌, ℕ, ◌+◌, ◌++◌, ◌∷◌, [], Bool, true, false, ap, sym, ◌∙◌, subst, subst₂, length, arith}
+use Rattle.dk_base.specs.ByNumber.{at_number}
+use Rattle.kernel_records.specs.Words.{ProcessTable, is_live_in, new_thread}
+use Rattle.server_pool.specs.Words.{PoolsValue, change_spares, with_spare, without_highest}
+use Rattle.pool_agreement.specs.Words.{Agrees, IsGivenOut}
+use Rattle.pool_agreement.proofs.Starting.{agrees_spare, agrees_thread}
+use Rattle.kernel_store.specs.Stored.{StoreValue}
+use Rattle.kernel_store.proofs.Alike.{agrees_same}
+use Rattle.kernel_store.proofs.Threads.{is_there, same_taken_back, spares_below}
+use Rattle.kernel_store.proofs.store.Store.add_thread.Goals as goal
+use Rattle.kernel_store.proofs.store.Store.add_thread.Goals.{then-spare+in_ok-add_spare, else-spare}
+
+not_both : {b : Bool} → b ≡ true → b ≡ false → ⊥
+not_both e f = absurd cc
+
+pub add_spare-requires : goal.add_spare-requires
+add_spare-requires c =
+    spares_below c.self.invariant c.args.p.0 (c.thread_count.result + 1) (rw c.thread_count.ensures.count (omega arith))
+
+pub returns-in_err-add_spare-clause-given_out : goal.returns-in_err-add_spare-clause-given_out
+returns-in_err-add_spare-clause-given_out c = λ h.
+    subst IsGivenOut (sym c.in_err-add_spare.ensures.err) (subst (λ (s : StoreValue). IsGivenOut s.pools) (sym c.self.view_is) h)
+
+pub invariant_of-self-then-is_ok : goal.invariant_of-self-then-is_ok
+invariant_of-self-then-is_ok c =
+    let before : ProcessTable = c.self.inside.processes in
+    let v : PoolsValue = c.self.inside.pools in
+    elim c.if-spare.branch [
+      | then-spare+in_ok-add_spare w ↦
+          let made : c.add_thread.new.self ≡ record before { threads = before.threads ++ new_thread (length before.threads + 1) c.args.p.0 c.args.spare ∷ [] } = search rules in
+          let lives = subst (λ (s : StoreValue). is_live_in (at_number s.processes.processes c.args.p.0) ≡ true) (sym c.self.view_is) c.requires.lives in
+          let added : w.add_spare.new.self ≡ change_spares v c.args.p.0 (with_spare (length before.threads + 1)) =
+          w.in_ok-add_spare.ensures.ok ∙ ap (λ n. change_spares v c.args.p.0 (with_spare (n + 1))) c.thread_count.ensures.count in
+          subst (λ s. Agrees s.latest c.add_thread.new.self s.doors.items s.calls.tree s.pools) (sym w.self-inside-is)
+          (subst₂ (λ table v. Agrees c.self.inside.latest table c.self.inside.doors.items c.self.inside.calls.tree v)
+          (sym (made ∙ ap (λ b. record before { threads = before.threads ++ new_thread (length before.threads + 1) c.args.p.0 b ∷ [] }) w.if-spare.true))
+          (sym added)
+          (agrees_spare c.self.invariant c.args.p.0 (is_there (at_number before.processes c.args.p.0) lives)))
+      | else-spare w ↦
+          let made : c.add_thread.new.self ≡ record before { threads = before.threads ++ new_thread (length before.threads + 1) c.args.p.0 c.args.spare ∷ [] } = search rules in
+          subst (λ s. Agrees s.latest c.add_thread.new.self s.doors.items s.calls.tree s.pools) (sym w.self-inside-is)
+          (subst (λ table. Agrees c.self.inside.latest table c.self.inside.doors.items c.self.inside.calls.tree v)
+          (sym (made ∙ ap (λ b. record before { threads = before.threads ++ new_thread (length before.threads + 1) c.args.p.0 b ∷ [] }) w.if-spare.false))
+          (agrees_thread c.self.invariant c.args.p.0))
+    ]
+
+pub returns-then-is_ok-clause-given_out : goal.returns-then-is_ok-clause-given_out
+returns-then-is_ok-clause-given_out c = λ h.
+    let before = subst (λ (s : StoreValue). IsGivenOut s.pools) (sym c.self.view_is) h in
+    elim c.if-spare.branch [
+      | then-spare+in_ok-add_spare w ↦
+          subst (λ s. IsGivenOut s.pools) (sym w.self-inside-is) (subst IsGivenOut (sym w.in_ok-add_spare.ensures.ok) before)
+      | else-spare w ↦ subst (λ s. IsGivenOut s.pools) (sym w.self-inside-is) before
+    ]
+
+pub invariant_of-self-then-spare-2 : goal.invariant_of-self-then-spare-2
+invariant_of-self-then-spare-2 c =
+    let v : PoolsValue = c.self.inside.pools in
+    let k : ℕ = c.thread_count.result + 1 in
+    elim c.if-spare.branch [
+      | then-spare+in_ok-add_spare w ↦
+          let kept : c.add_thread.new.self ≡ c.self.inside.processes = search rules in
+          let back : c.take_back.new.self ≡ change_spares (change_spares v c.args.p.0 (with_spare k)) c.args.p.0 without_highest =
+          c.take_back.ensures ∙ ap (λ s. change_spares s.pools c.args.p.0 without_highest) w.self-inside-is
+          ∙ ap (λ v. change_spares v c.args.p.0 without_highest) w.in_ok-add_spare.ensures.ok in
+          subst (λ s. Agrees s.latest c.add_thread.new.self s.doors.items s.calls.tree c.take_back.new.self) (sym w.self-inside-is)
+          (subst₂ (λ table v. Agrees c.self.inside.latest table c.self.inside.doors.items c.self.inside.calls.tree v) (sym kept) (sym back)
+          (agrees_same c.self.invariant (same_taken_back v c.args.p.0 k)))
+      | else-spare w ↦ absurd (not_both c.if-spare-2.true w.if-spare.false)
+    ]
+
+pub returns-then-spare-2-clause-given_out : goal.returns-then-spare-2-clause-given_out
+returns-then-spare-2-clause-given_out c = λ h.
+    let v : PoolsValue = c.self.inside.pools in
+    let before = subst (λ (s : StoreValue). IsGivenOut s.pools) (sym c.self.view_is) h in
+    elim c.if-spare.branch [
+      | then-spare+in_ok-add_spare w ↦
+          subst IsGivenOut (sym c.take_back.ensures)
+          (subst (λ s. IsGivenOut s.pools) (sym w.self-inside-is) (subst IsGivenOut (sym w.in_ok-add_spare.ensures.ok) before))
+      | else-spare w ↦ absurd (not_both c.if-spare-2.true w.if-spare.false)
+    ]

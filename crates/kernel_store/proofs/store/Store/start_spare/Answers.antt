@@ -1,0 +1,47 @@
+use Rattle.std.proofs.Common.{true, ap, ◌∙◌}
+use Rattle.written_kernel.specs.Words.{start_one}
+use Rattle.server_pool.specs.Words.{change_spares, without_lowest}
+use Rattle.kernel_store.specs.Stored.{stored_state}
+use Rattle.kernel_store.specs.contracts.store.Store.{the_view}
+use Rattle.kernel_store.proofs.Spares.{agrees_started, agrees_unstarted, given_out-spares, spare_not_done, spare_not_idle, state_started, state_unstarted}
+use Rattle.kernel_store.proofs.store.Store.start_spare.Goals as goal
+
+pub turn-requires-clause-not_done : goal.turn-requires-clause-not_done
+turn-requires-clause-not_done c =
+    spare_not_done (the_view c.self.inside) c.self.invariant c.args.p.0 c.in-Some.t.0 c.in-Some.ensures.result
+
+pub turn-requires-clause-not_idle : goal.turn-requires-clause-not_idle
+turn-requires-clause-not_idle c =
+    spare_not_idle (the_view c.self.inside) c.self.invariant c.args.p.0 c.in-Some.t.0 c.in-Some.ensures.result
+
+pub invariant_of-self : goal.invariant_of-self
+invariant_of-self c =
+    agrees_started (the_view c.self.inside) c.self.invariant c.args.p.0 c.in-Some.t.0 c.in-Some.ensures.result c.turn.new.self
+    c.take_spare.new.self c.turn.ensures c.take_spare.ensures.left
+
+pub invariant_of-self-in_default : goal.invariant_of-self-in_default
+invariant_of-self-in_default c =
+    agrees_unstarted (the_view c.self.inside) c.self.invariant c.args.p.0 c.in_default.ensures.result c.take_spare.new.self
+    c.take_spare.ensures.left
+
+pub returns-in-Some-clause-state : goal.returns-in-Some-clause-state
+returns-in-Some-clause-state c =
+    state_started (the_view c.self.inside) c.self.invariant c.args.p.0 c.in-Some.t.0 c.in-Some.ensures.result c.turn.new.self
+    c.take_spare.new.self c.turn.ensures c.take_spare.ensures.left
+    ∙ ap (λ s. start_one (stored_state s) c.args.p.0 true) c.self.view_is
+
+pub returns-in-Some-clause-given_out : goal.returns-in-Some-clause-given_out
+returns-in-Some-clause-given_out c =
+    given_out-spares c.args.self.now.pools c.take_spare.new.self c.args.p.0
+    (c.take_spare.ensures.left ∙ ap (λ s. change_spares s.pools c.args.p.0 without_lowest) c.self.view_is)
+
+pub returns-in_default-clause-state : goal.returns-in_default-clause-state
+returns-in_default-clause-state c =
+    state_unstarted (the_view c.self.inside) c.self.invariant c.args.p.0 c.in_default.ensures.result c.take_spare.new.self
+    c.take_spare.ensures.left
+    ∙ ap (λ s. start_one (stored_state s) c.args.p.0 true) c.self.view_is
+
+pub returns-in_default-clause-given_out : goal.returns-in_default-clause-given_out
+returns-in_default-clause-given_out c =
+    given_out-spares c.args.self.now.pools c.take_spare.new.self c.args.p.0
+    (c.take_spare.ensures.left ∙ ap (λ s. change_spares s.pools c.args.p.0 without_lowest) c.self.view_is)

@@ -1,0 +1,14 @@
+use Rattle.std.proofs.Common.{None, is_ok, ap, ◌∙◌}
+use Rattle.kernel_records.specs.Words.{unbind_thread}
+use Rattle.kernel_store.proofs.Acts.{bound, given_out_bound, holds_ok, leaves_door}
+use Rattle.kernel_store.proofs.store.Store.unbind.Goals as goal
+
+pub invariant_of-self : goal.invariant_of-self
+invariant_of-self c =
+    rw (holds_ok c.unbind.result (ap is_ok c.unbind.ensures.result ∙ leaves_door c.self.view_is c.args.t.0 c.requires.bound) c.unbind.ensures.ok)
+    (bound c.self.invariant c.self.view_is c.args.t.0 None c.requires.running)
+
+pub returns-clause-given_out : goal.returns-clause-given_out
+returns-clause-given_out c given =
+    rw (holds_ok c.unbind.result (ap is_ok c.unbind.ensures.result ∙ leaves_door c.self.view_is c.args.t.0 c.requires.bound) c.unbind.ensures.ok)
+    (given_out_bound c.self.view_is (unbind_thread c.self.inside.pools.bindings c.args.t.0) given)

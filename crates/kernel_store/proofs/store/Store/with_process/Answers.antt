@@ -1,0 +1,25 @@
+use Rattle.std.proofs.Common.{rules, ◌≡◌, ◌+◌, ◌++◌, ◌∷◌, [], ap, length, sym, subst}
+use Rattle.kernel_records.specs.Words.{ProcessTable, new_process}
+use Rattle.server_pool.specs.Words.{PoolsValue}
+use Rattle.pool_agreement.specs.Words.{Agrees, IsGivenOut}
+use Rattle.pool_agreement.proofs.Starting.{agrees_process}
+use Rattle.kernel_store.specs.Stored.{StoreValue}
+use Rattle.kernel_store.proofs.Alike.{given_out_process}
+use Rattle.kernel_store.proofs.store.Store.with_process.Goals as goal
+
+pub invariant_of-self : goal.invariant_of-self
+invariant_of-self c =
+    let before : ProcessTable = c.self.inside.processes in
+    let after : PoolsValue = c.add_process.new.self in
+    let made : c.add_proc.new.self ≡ record before { processes = before.processes ++ new_process (length before.processes + 1) c.args.limit ∷ [] } = search rules in
+    let pools = c.in_ok-add_process.ensures.ok in
+    subst (λ table. Agrees c.self.inside.latest table c.self.inside.doors.items c.self.inside.calls.tree after) (sym made)
+    (agrees_process c.self.invariant (new_process (length before.processes + 1) c.args.limit) after
+    (ap (λ (v : PoolsValue). v.bindings) pools) (ap (λ (v : PoolsValue). v.private) pools)
+    (ap (λ (v : PoolsValue). v.common) pools) (ap (λ (v : PoolsValue). v.spares) pools))
+
+pub returns-clause-given_out : goal.returns-clause-given_out
+returns-clause-given_out c = λ h.
+    let pools = c.in_ok-add_process.ensures.ok in
+    given_out_process c.self.inside.pools c.add_process.new.self (ap (λ (v : PoolsValue). v.private) pools)
+    (ap (λ (v : PoolsValue). v.common) pools) (subst (λ (s : StoreValue). IsGivenOut s.pools) (sym c.self.view_is) h)

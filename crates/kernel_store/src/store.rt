@@ -1,0 +1,684 @@
+//! What the kernel holds, by subject.
+ghost use Rattle.std.specs.Prelude.{◌≡◌, ℕ, ◌+◌, ◌<◌, ◌≤◌, ◌++◌, ◌&&◌, ◌||◌, not, [], length, None, Some, true, false, find, is_none, is_some, IfOk, IfNone, OnOk, OnErr, OnSome};
+ghost use Rattle.std.specs.Option.{option_map};
+ghost use Rattle.dk_base.specs.ByNumber.{at_number};
+ghost use Rattle.dk_base.specs.declared.limits.TheConstants.{PROCESSES_MAX, THREADS_MAX, EVENTS_MAX};
+ghost use Rattle.dk_base.specs.declared.object.Item.TheVariants as item;
+ghost use Rattle.dk_base.specs.declared.limits.TheConstants.{QUEUE_MAX};
+ghost use Rattle.kernel_records.specs.declared.pool.Pool.TheVariants.{Common};
+ghost use Rattle.kernel_records.specs.declared.record.ThreadState.TheVariants as is;
+ghost use Rattle.name_space.specs.Words.{HasRoomForName};
+ghost use Rattle.written_kernel.specs.Types.{Pool, Thread};
+ghost use Rattle.kernel_records.specs.Words.{bind_thread, close_row, collect_call, descriptor, door_attached, end_thread, enter_call, enter_thread, fail_call, first_refusal, free_place, has_told_attributes, insert_row, is_bad_pass, is_dormant, is_done, is_given_as, is_idle, is_owned_by, is_pool, is_queued, is_to_collect_as, live_calls, lowest_free, new_descriptors, objects_passed, open_call, park_thread, pid, return_call, set_param, set_param_tests, thread_at, unbind_thread, with_door, with_name, without_name};
+ghost use Rattle.written_kernel.specs.Words.{State, bound_of, calls_waiting, door_of, give, has_first_common_door, has_given_last, has_lost_door, has_room, is_live_process, is_running, is_valid, leave_process, name_of, needs_spare, no_process, now, object_at, pool_of, settle, start_one, start_spares, state_of, table_of, tables_after_pass, tables_with, with_event_counted, with_new_process, with_new_thread, with_state, with_table_of};
+ghost use Rattle.server_pool.specs.Words.{pick_of, stack_in};
+ghost use Rattle.pool_agreement.specs.Words.{IsGivenOut, IsGivenOutBut, IsGivenOutIn, IsWithoutProcess, is_this, own_pool};
+ghost use Rattle.kernel_store.specs.Stored.{ArePlaced, GivesOn, HasRoom, IsAgreed, stored_state};
+
+use crate::tables::Tables;
+use call_tree::calls::Calls;
+use dk_base::error::{Errno, NoMemory};
+use dk_base::list::{Bytes, FdList, ObjList, PassList, Room};
+use dk_base::number::{Fd, PathId, Pid, Tid};
+use dk_base::object::{Item, Obj};
+use dk_base::request::Param;
+use dk_base::set::Attrs;
+use door_object::doors::Doors;
+use kernel_records::pool::{Pool, Waiting};
+use kernel_records::record::{Call, Door, ThreadState};
+use name_space::names::Names;
+use proc_table::procs::Procs;
+use server_pool::facts::BindFacts;
+use server_pool::pools::Pools;
+use std::alloc::Global;
+use std::marker::Model;
+
+/// What the kernel holds. It keeps the calls that are live, and there are no notices yet. At every moment the pools hold the
+/// threads and the calls that the records of threads, doors and calls have there.
+#[derive(Drop)]
+pub struct Store {
+    processes: Procs,
+    pools: Pools,
+    tables: Tables,
+    names: Names,
+    doors: Doors,
+    calls: Calls,
+    events: u64,
+    /// The event at which a thread parked last.
+    latest: u64,
+}
+
+impl Model for Store {
+    ghost use Rattle.pool_agreement.specs.Words.{Agrees};
+    ghost use Rattle.kernel_store.specs.Stored.{StoreValue};
+
+    ghost Value = { StoreValue };
+
+    ghost view = { λ s. record { processes = s.processes; pools = s.pools; tables = s.tables; names = s.names; doors = s.doors; calls = s.calls; events = s.events; latest = s.latest } };
+
+    ghost invariant = { λ s. Agrees s.latest s.processes s.doors.items s.calls.tree s.pools };
+}
+
+impl Store {
+    pub fn new(alloc: Global) -> Result<Self, NoMemory>
+        ensures state { IfOk result (λ s. stored_state s ≡ no_process) }
+        ensures given_out { IfOk result (λ s. IsGivenOut s.pools) }
+        ensures latest { IfOk result (λ s. s.latest ≡ 0) }
+    {
+        Ok(Store {
+            processes: Procs::new(alloc),
+            pools: Pools::new(alloc)?,
+            tables: Tables::new(alloc),
+            names: Names::new(alloc),
+            doors: Doors::new(alloc),
+            calls: Calls::new(alloc),
+            events: 0,
+            latest: 0,
+        })
+    }
+
+    // readers
+
+    pub fn processes(&self) -> &Procs
+        ensures { result.now ≡ self.now.processes }
+    {
+        &self.processes
+    }
+
+    pub fn tables(&self) -> &Tables
+        ensures { result.now ≡ self.now.tables }
+    {
+        &self.tables
+    }
+
+    pub fn names(&self) -> &Names
+        ensures { result.now ≡ self.now.names }
+    {
+        &self.names
+    }
+
+    pub fn doors(&self) -> &Doors
+        ensures { result.now ≡ self.now.doors }
+    {
+        &self.doors
+    }
+
+    pub fn calls(&self) -> &Calls
+        ensures { result.now ≡ self.now.calls }
+    {
+        &self.calls
+    }
+
+    /// How many events there were.
+    pub fn events(&self) -> u64
+        ensures { result ≡ (stored_state self.now).events }
+    {
+        self.events
+    }
+
+    /// The number of the next event.
+    pub fn now(&self) -> u64
+        requires { self.now.events < EVENTS_MAX }
+        ensures { result ≡ now (stored_state self.now) }
+    {
+        self.events + 1
+    }
+
+    /// The door that a thread is bound to.
+    pub fn bound_door(&self, t: Tid) -> Option<u32>
+        ensures { result ≡ bound_of (stored_state self.now) t.0 }
+    {
+        self.pools.bound(t)
+    }
+
+    /// The pool in which a thread parks.
+    pub fn own_pool(&self, t: Tid) -> Pool
+        ensures { result ≡ own_pool (stored_state self.now) t.0 }
+    {
+        match self.pools.bound(t) {
+            Some(door) => Pool::Private(door),
+            None => Pool::Common(self.processes.process_of(t)),
+        }
+    }
+
+    /// How many calls wait in a pool.
+    pub fn calls_waiting(&self, pool: Pool) -> usize
+        ensures { result ≡ calls_waiting (stored_state self.now) pool }
+    {
+        self.pools.calls_waiting(pool)
+    }
+
+    /// What a descriptor of a process names.
+    pub fn object_at(&self, p: Pid, fd: Fd) -> Option<Obj>
+        ensures { result ≡ object_at (stored_state self.now) p.0 fd }
+    {
+        self.tables.object_at(p, fd)
+    }
+
+    /// Whether a process has no free descriptor.
+    pub fn is_full(&self, p: Pid) -> bool
+        ensures { result ≡ is_none (lowest_free (table_of (stored_state self.now) p.0)) }
+    {
+        self.tables.is_full(p)
+    }
+
+    /// Whether these descriptors cannot be passed out of a process's table (door_call(3C)).
+    pub fn is_bad_pass(&self, p: Pid, pass: &PassList) -> bool
+        ensures { result ≡ is_bad_pass (table_of (stored_state self.now) p.0) pass.now }
+    {
+        self.tables.is_bad_pass(p, pass)
+    }
+
+    /// Whether a process has a free descriptor for each of these objects.
+    pub fn has_room(&self, p: Pid, objects: &ObjList) -> bool
+        ensures { result ≡ has_room (stored_state self.now) p.0 objects.now }
+    {
+        self.tables.has_room(p, objects)
+    }
+
+    /// Whether a door is attached to a path.
+    pub fn has_name(&self, path: PathId) -> bool
+        ensures { result ≡ is_some (name_of (stored_state self.now) path) }
+    {
+        self.names.has(path)
+    }
+
+    /// The number of the door that is attached to a path, 0 for none.
+    pub fn door_attached(&self, path: PathId) -> u32
+        ensures { result ≡ door_attached (name_of (stored_state self.now) path) }
+    {
+        match self.names.look(path) {
+            Ok(door) => door,
+            Err(_) => 0,
+        }
+    }
+
+    pub fn door(&self, d: u32) -> Option<Door>
+        ensures { result ≡ door_of (stored_state self.now) d }
+    {
+        self.doors.door(d)
+    }
+
+    /// The pool that serves a door.
+    pub fn pool_of(&self, d: u32) -> Pool
+        ensures { result ≡ pool_of (stored_state self.now) d }
+    {
+        self.doors.pool_of(d)
+    }
+
+    // memory
+
+    /// Takes the memory that an act can need which touches this pool. It changes nothing else.
+    pub fn reserve(&mut self, touched: Pool) -> Result<(), NoMemory>
+        ensures state { stored_state self.new ≡ stored_state self.old }
+        ensures given_out { IsGivenOut self.old.pools → IsGivenOut self.new.pools }
+        ensures latest { self.new.latest ≡ self.old.latest }
+        ensures room { OnOk result (HasRoom self.new touched) }
+    {
+        self.names.reserve()?;
+        self.doors.reserve()?;
+        self.calls.reserve()?;
+        self.pools.reserve_door()?;
+        self.pools.room(touched)
+    }
+
+    // before the first event
+
+    /// Another process, under the next number. Want of memory lets the store go.
+    pub fn with_process(mut self, alloc: Global, limit: u32) -> Result<Self, NoMemory>
+        requires { length self.processes.processes < PROCESSES_MAX }
+        ensures state { IfOk result (λ s. stored_state s ≡ with_new_process (stored_state self) limit) }
+        ensures given_out { IfOk result (λ s. IsGivenOut self.pools → IsGivenOut s.pools) }
+        ensures latest { IfOk result (λ s. s.latest ≡ self.latest) }
+    {
+        self.tables.add(alloc, limit)?;
+        if self.processes.add_proc(limit).is_err() {
+            return Err(NoMemory);
+        }
+        self.pools.add_process()?;
+        Ok(self)
+    }
+
+    /// Another thread of a process that lives, under the next number: one that runs, or a spare one that was not started. Want
+    /// of memory changes nothing.
+    pub fn add_thread(&mut self, p: Pid, spare: bool) -> Result<Tid, NoMemory>
+        requires few { length self.old.processes.threads < THREADS_MAX }
+        requires lives { is_live_process (stored_state self.old) p.0 ≡ true }
+        ensures ok { OnOk result (stored_state self.new ≡ with_new_thread (stored_state self.old) p.0 spare) }
+        ensures number { IfOk result (λ t. t.0 ≡ length self.old.processes.threads + 1) }
+        ensures err { OnErr result (stored_state self.new ≡ stored_state self.old) }
+        ensures given_out { IsGivenOut self.old.pools → IsGivenOut self.new.pools }
+        ensures latest { self.new.latest ≡ self.old.latest }
+    {
+        let number = Tid(self.processes.thread_count() + 1);
+        if spare {
+            self.pools.add_spare(p, number)?;
+        }
+        if self.processes.add_thread(p, spare).is_ok() {
+            return Ok(number);
+        }
+        if spare {
+            self.pools.take_back(p);
+        }
+        Err(NoMemory)
+    }
+
+    // descriptors and names
+
+    /// An object gets the lowest free descriptor of a process that has one.
+    pub fn insert(&mut self, p: Pid, object: Obj) -> Fd
+        requires { is_some (lowest_free (table_of (stored_state self.old) p.0)) ≡ true }
+        ensures state { stored_state self.new ≡ with_table_of (stored_state self.old) p.0 (insert_row (table_of (stored_state self.old) p.0) object) }
+        ensures fd { result ≡ descriptor (free_place (table_of (stored_state self.old) p.0)) }
+        ensures pools { self.new.pools ≡ self.old.pools }
+        ensures latest { self.new.latest ≡ self.old.latest }
+    {
+        self.tables.insert(p, object)
+    }
+
+    /// Closes a descriptor of a process that names something.
+    pub fn close(&mut self, p: Pid, fd: Fd)
+        requires { is_some (object_at (stored_state self.old) p.0 fd) ≡ true }
+        ensures state { stored_state self.new ≡ with_table_of (stored_state self.old) p.0 (close_row (table_of (stored_state self.old) p.0) fd.0) }
+        ensures pools { self.new.pools ≡ self.old.pools }
+        ensures latest { self.new.latest ≡ self.old.latest }
+    {
+        self.tables.close(p, fd)
+    }
+
+    /// What a process's descriptors name follows what is in `into`, and those with release are closed. It takes no memory.
+    pub fn take_out(&mut self, p: Pid, pass: &PassList, into: &mut Room<Obj>)
+        requires { length pass.now ≤ into.old.spare }
+        ensures state { stored_state self.new ≡ record (stored_state self.old) { tables = tables_after_pass (stored_state self.old) p.0 pass.now } }
+        ensures items { into.new.items ≡ into.old.items ++ objects_passed (table_of (stored_state self.old) p.0) pass.now }
+        ensures pools { self.new.pools ≡ self.old.pools }
+        ensures latest { self.new.latest ≡ self.old.latest }
+        ensures room { (touched : Pool) → HasRoom self.old touched → HasRoom self.new touched }
+    {
+        self.tables.take_out(p, pass, into)
+    }
+
+    /// Objects get the lowest free descriptors of a process that has one for each, in order. It takes no memory.
+    pub fn install(&mut self, p: Pid, objects: &ObjList, fds: Room<Fd>) -> FdList
+        requires empty { fds.items ≡ [] }
+        requires room { length objects.now ≤ fds.spare }
+        requires free { has_room (stored_state self.old) p.0 objects.now ≡ true }
+        ensures state { stored_state self.new ≡ record (stored_state self.old) { tables = tables_with (stored_state self.old) p.0 objects.now } }
+        ensures fds { result ≡ new_descriptors (table_of (stored_state self.old) p.0) objects.now }
+        ensures pools { self.new.pools ≡ self.old.pools }
+        ensures latest { self.new.latest ≡ self.old.latest }
+    {
+        self.tables.install(p, objects, fds)
+    }
+
+    /// Attaches a door to a path that has none, which takes no memory.
+    pub fn attach(&mut self, path: PathId, door: u32)
+        requires room { HasRoomForName self.old.names }
+        requires free { is_some (name_of (stored_state self.old) path) ≡ false }
+        ensures state { stored_state self.new ≡ record (stored_state self.old) { names = with_name (stored_state self.old).names path door } }
+        ensures pools { self.new.pools ≡ self.old.pools }
+        ensures latest { self.new.latest ≡ self.old.latest }
+    {
+        let _ = self.names.attach(path, door);
+    }
+
+    /// A path has no door any more.
+    pub fn detach(&mut self, path: PathId)
+        ensures state { stored_state self.new ≡ record (stored_state self.old) { names = without_name (stored_state self.old).names path } }
+        ensures pools { self.new.pools ≡ self.old.pools }
+        ensures latest { self.new.latest ≡ self.old.latest }
+    {
+        let _ = self.names.detach(path);
+    }
+
+    // doors
+
+    /// Another door, under the next number, which takes no memory. The attributes are none that door_create(3C) refuses.
+    pub fn add_door(&mut self, owner: Pid, entry: u32, cookie: u64, attrs: Attrs) -> u32
+        requires few { length (stored_state self.old).doors < EVENTS_MAX }
+        requires room { 0 < self.old.doors.spare }
+        requires pool_room { 0 < self.old.pools.door_room }
+        requires placed { ArePlaced (stored_state self.old) }
+        requires allowed { has_told_attributes attrs ≡ false }
+        ensures state { stored_state self.new ≡ record (stored_state self.old) { doors = with_door (stored_state self.old).doors owner.0 entry cookie attrs } }
+        ensures number { result ≡ length (stored_state self.old).doors + 1 }
+        ensures given_out { IsGivenOut self.old.pools → IsGivenOut self.new.pools }
+        ensures latest { self.new.latest ≡ self.old.latest }
+    {
+        let Ok(number) = self.doors.create(owner, entry, cookie, attrs) else {
+            return 0;
+        };
+        self.pools.add_door();
+        number
+    }
+
+    /// A parameter of a door, where door_setparam(3C) by process `p` is not refused.
+    pub fn set_param(&mut self, d: u32, p: Pid, param: Param, value: u64)
+        requires { first_refusal (set_param_tests p.0 (door_of (stored_state self.old) d) param value) ≡ None }
+        ensures state { stored_state self.new ≡ record (stored_state self.old) { doors = set_param (stored_state self.old).doors d param value } }
+        ensures pools { self.new.pools ≡ self.old.pools }
+        ensures latest { self.new.latest ≡ self.old.latest }
+    {
+        let _ = self.doors.setparam(d, p, param, value);
+    }
+
+    // threads
+
+    /// A thread that is neither Done, Idle nor Dormant turns to another such state.
+    pub fn turn(&mut self, t: Tid, state: ThreadState)
+        requires not_done { is_done (state_of (stored_state self.old) t.0) ≡ false }
+        requires not_idle { is_idle (state_of (stored_state self.old) t.0) ≡ false }
+        requires not_dormant { is_dormant (state_of (stored_state self.old) t.0) ≡ false }
+        requires to_not_done { is_done state ≡ false }
+        requires to_not_idle { is_idle state ≡ false }
+        requires to_not_dormant { is_dormant state ≡ false }
+        ensures state { stored_state self.new ≡ with_state (stored_state self.old) t.0 state }
+        ensures pools { self.new.pools ≡ self.old.pools }
+        ensures latest { self.new.latest ≡ self.old.latest }
+    {
+        self.processes.turn(t, state)
+    }
+
+    /// A thread that runs ends.
+    pub fn end_thread(&mut self, t: Tid)
+        requires { is_running (stored_state self.old) t.0 ≡ true }
+        ensures state { stored_state self.new ≡ record (stored_state self.old) { process_table = end_thread (stored_state self.old).process_table t.0 } }
+        ensures pools { self.new.pools ≡ self.old.pools }
+        ensures latest { self.new.latest ≡ self.old.latest }
+    {
+        let _ = self.processes.end_thread(t);
+    }
+
+    /// A thread that runs is bound to a door, where door_bind(3C) is not refused.
+    pub fn bind(&mut self, t: Tid, d: u32)
+        requires { is_running (stored_state self.old) t.0 ≡ true }
+        ensures state { stored_state self.new ≡ record (stored_state self.old) { bindings = bind_thread (stored_state self.old).bindings t.0 d } }
+        ensures given_out { IsGivenOut self.old.pools → IsGivenOut self.new.pools }
+        ensures latest { self.new.latest ≡ self.old.latest }
+    {
+        let facts = BindFacts {
+            valid: true,
+            is_private: true,
+            own: true,
+        };
+        let _ = self.pools.bind(t, d, facts);
+    }
+
+    /// A thread that runs and is bound to a door is bound to none (door_unbind(3C)).
+    pub fn unbind(&mut self, t: Tid)
+        requires running { is_running (stored_state self.old) t.0 ≡ true }
+        requires bound { is_some (bound_of (stored_state self.old) t.0) ≡ true }
+        ensures state { stored_state self.new ≡ record (stored_state self.old) { bindings = unbind_thread (stored_state self.old).bindings t.0 } }
+        ensures given_out { IsGivenOut self.old.pools → IsGivenOut self.new.pools }
+        ensures latest { self.new.latest ≡ self.old.latest }
+    {
+        let _ = self.pools.unbind(t);
+    }
+
+    /// A thread that was in a pool's service is parked since the present event, at which none parked yet.
+    fn park(&mut self, t: Tid)
+        requires not_done { is_done (state_of (stored_state self.old) t.0) ≡ false }
+        requires not_idle { is_idle (state_of (stored_state self.old) t.0) ≡ false }
+        requires not_dormant { is_dormant (state_of (stored_state self.old) t.0) ≡ false }
+        requires few { self.old.events < EVENTS_MAX }
+        requires first { self.old.latest ≤ self.old.events }
+        requires placed { ArePlaced (stored_state self.old) }
+        requires room { HasRoom self.old (own_pool (stored_state self.old) t.0) }
+        ensures state { stored_state self.new ≡ record (stored_state self.old) { process_table = park_thread (stored_state self.old).process_table t.0 (now (stored_state self.old)) } }
+        ensures given_out { IsGivenOut self.old.pools → IsGivenOutBut (own_pool (stored_state self.old) t.0) self.new.pools }
+        ensures latest { self.new.latest ≡ now (stored_state self.old) }
+    {
+        let pool = self.own_pool(t);
+        self.latest = self.events + 1;
+        self.processes.park(t, self.latest);
+        self.pools.park(t, pool, self.latest);
+    }
+
+    // calls
+
+    /// A call waits in the pool of its door, which has room for it. It takes no memory.
+    pub fn open_call(&mut self, call: Call)
+        requires number { call.number ≡ (stored_state self.old).call_tree.made + 1 }
+        requires queued { is_queued call.stage ≡ true }
+        requires placed { ArePlaced (stored_state self.old) }
+        requires door { is_valid (stored_state self.old) call.door ≡ true }
+        requires room { HasRoom self.old (pool_of (stored_state self.old) call.door) }
+        requires few { calls_waiting (stored_state self.old) (pool_of (stored_state self.old) call.door) < QUEUE_MAX }
+        ensures state { stored_state self.new ≡ record (stored_state self.old) { call_tree = open_call (stored_state self.old).call_tree call } }
+        ensures given_out { IsGivenOut self.old.pools → IsGivenOutBut (pool_of (stored_state self.old) call.door) self.new.pools }
+        ensures latest { self.new.latest ≡ self.old.latest }
+    {
+        let pool = self.doors.pool_of(call.door);
+        let waiting = Waiting {
+            item: Item::Call(call.number),
+            made: call.made,
+            door: call.door,
+        };
+        let _ = self.pools.enqueue(pool, waiting);
+        self.calls.open(call);
+    }
+
+    /// The thread that was given a call enters it. The record as it was is handed out, if there is one.
+    pub fn enter_call(&mut self, alloc: Global, c: u32, t: Tid) -> Option<Call>
+        requires { state_of (stored_state self.old) t.0 ≡ is.Given (item.Call c) }
+        ensures entered { OnSome result (stored_state self.new ≡ record (stored_state self.old) { process_table = enter_thread (stored_state self.old).process_table t.0 (item.Call c); call_tree = enter_call (stored_state self.old).call_tree c t.0 }) }
+        ensures none { IfNone result (stored_state self.new ≡ stored_state self.old) }
+        ensures before { result ≡ find (is_given_as c t.0) (stored_state self.old).call_tree.calls }
+        ensures pools { self.new.pools ≡ self.old.pools }
+        ensures latest { self.new.latest ≡ self.old.latest }
+    {
+        let Some(call) = self.calls.enter(alloc, c, t) else {
+            return None;
+        };
+        self.processes.enter(t, Item::Call(c));
+        Some(call)
+    }
+
+    /// The call that a thread was given ends EMFILE, and the thread is parked again. The record as it was is handed out, if there
+    /// is one.
+    pub fn fail_call(&mut self, alloc: Global, c: u32, t: Tid) -> Option<Call>
+        requires given { state_of (stored_state self.old) t.0 ≡ is.Given (item.Call c) }
+        requires few { self.old.events < EVENTS_MAX }
+        requires first { self.old.latest ≤ self.old.events }
+        requires placed { ArePlaced (stored_state self.old) }
+        requires room { HasRoom self.old (own_pool (stored_state self.old) t.0) }
+        ensures failed { OnSome result (stored_state self.new ≡ record (stored_state self.old) { process_table = park_thread (stored_state self.old).process_table t.0 (now (stored_state self.old)); call_tree = fail_call (stored_state self.old).call_tree c t.0 }) }
+        ensures none { IfNone result (stored_state self.new ≡ stored_state self.old) }
+        ensures before { result ≡ find (is_given_as c t.0) (stored_state self.old).call_tree.calls }
+        ensures given_out { IsGivenOut self.old.pools → IsGivenOutBut (own_pool (stored_state self.old) t.0) self.new.pools }
+        ensures latest { self.new.latest ≤ now (stored_state self.old) }
+    {
+        if self.calls.given(c, t).is_none() {
+            return None;
+        }
+        self.park(t);
+        self.calls.fail(alloc, c, t)
+    }
+
+    /// A thread that runs returns to its client, if it has one, and is parked (door_return(3C)).
+    pub fn return_call(&mut self, alloc: Global, t: Tid, bytes: Bytes, objects: ObjList)
+        requires running { is_running (stored_state self.old) t.0 ≡ true }
+        requires few { self.old.events < EVENTS_MAX }
+        requires first { self.old.latest ≤ self.old.events }
+        requires placed { ArePlaced (stored_state self.old) }
+        requires room { HasRoom self.old (own_pool (stored_state self.old) t.0) }
+        ensures state { stored_state self.new ≡ record (stored_state self.old) { process_table = park_thread (stored_state self.old).process_table t.0 (now (stored_state self.old)); call_tree = return_call (stored_state self.old).call_tree t.0 bytes objects } }
+        ensures given_out { IsGivenOut self.old.pools → IsGivenOutBut (own_pool (stored_state self.old) t.0) self.new.pools }
+        ensures latest { self.new.latest ≡ now (stored_state self.old) }
+    {
+        self.park(t);
+        self.calls.give_back(alloc, t, bytes, objects);
+    }
+
+    /// A caller collects its call, which is handed out and forgotten.
+    pub fn collect_call(&mut self, c: u32) -> Option<Call>
+        ensures after { (at : ℕ) → stored_state self.new ≡ record (stored_state self.old) { call_tree = live_calls (collect_call (stored_state self.old).call_tree c at) } }
+        ensures before { result ≡ find (is_to_collect_as c) (stored_state self.old).call_tree.calls }
+        ensures pools { self.new.pools ≡ self.old.pools }
+        ensures latest { self.new.latest ≡ self.old.latest }
+    {
+        self.calls.collect(c)
+    }
+
+    // ends
+
+    /// All threads of a process end, of which none is idle, its doors become invalid, what waits at them ends, and its descriptors
+    /// are closed.
+    pub fn leave_process(&mut self, alloc: Global, p: Pid)
+        requires few { length (stored_state self.old).doors < EVENTS_MAX }
+        requires none_idle { (t : ℕ) (x : Thread) → thread_at (stored_state self.old).process_table t ≡ Some x → x.process.0 ≡ p.0 → is_idle x.state ≡ false }
+        requires placed { ArePlaced (stored_state self.old) }
+        ensures state { stored_state self.new ≡ leave_process (stored_state self.old) p.0 }
+        ensures given_out { IsGivenOut self.old.pools → IsGivenOut self.new.pools }
+        ensures latest { self.new.latest ≡ self.old.latest }
+    {
+        self.processes.end_process(p);
+        self.tables.close_all(p);
+        let doors = &self.doors;
+        self.calls.end_waiting(alloc, |d| is_owned(doors, d, p));
+        drop_pools(&mut self.pools, &self.doors, p);
+        self.doors.owner_ended(p);
+    }
+
+    /// Counts an event.
+    pub fn count(&mut self)
+        requires { self.old.events < EVENTS_MAX }
+        ensures state { stored_state self.new ≡ with_event_counted (stored_state self.old) }
+        ensures pools { self.new.pools ≡ self.old.pools }
+        ensures latest { self.new.latest ≡ self.old.latest }
+    {
+        self.events += 1;
+    }
+
+    // what follows an act
+
+    /// The pick of a pool gets the oldest item there, where there are both. Says whether.
+    fn give_next(&mut self, pool: Pool) -> bool
+        ensures given { result ≡ true → GivesOn pool self.old self.new }
+        ensures none { result ≡ false → (self.new ≡ self.old) × IsGivenOutIn self.old.pools pool }
+    {
+        let Some(next) = self.pools.match_next(pool) else {
+            return false;
+        };
+        self.processes.give(next.thread, next.item);
+        if let Item::Call(c) = next.item {
+            self.calls.give(c, next.thread);
+        }
+        true
+    }
+
+    /// A process starts its lowest spare, if it has one.
+    fn start_spare(&mut self, p: Pid)
+        ensures state { stored_state self.new ≡ start_one (stored_state self.old) p.0 true }
+        ensures given_out { IsGivenOut self.old.pools → IsGivenOut self.new.pools }
+        ensures latest { self.new.latest ≡ self.old.latest }
+    {
+        if let Some(t) = self.pools.take_spare(p) {
+            self.processes.turn(t, ThreadState::Running);
+        }
+    }
+
+    /// Whether an idle thread is parked in a pool. Its caller also learns here that the pools hold what the records say.
+    fn has_idle(&self, pool: Pool) -> bool
+        ensures idle { result ≡ is_some (pick_of (stack_in self.now.pools pool)) }
+        ensures agreed { IsAgreed self.now }
+    {
+        self.pools.pick(pool).is_some()
+    }
+
+    /// Gives what waits in a pool to the threads parked there, as long as it has both. The process whose common pool this is, where
+    /// a giving took its last idle thread. No other pool has both.
+    fn give_out(&mut self, pool: Pool) -> Option<Pid>
+        requires { IsGivenOutBut pool self.old.pools }
+        ensures state { stored_state self.new ≡ give (stored_state self.old) }
+        ensures last { (p : ℕ) → has_given_last (stored_state self.old) (give (stored_state self.old)) p ≡ is_this p (option_map (λ p. p.0) result) }
+        ensures given_out { IsGivenOut self.new.pools }
+        ensures latest { self.new.latest ≡ self.old.latest }
+    {
+        let had = self.has_idle(pool);
+        while self.give_next(pool) {}
+        let has = self.has_idle(pool);
+        last_given(pool, had, has)
+    }
+
+    /// Starts a spare of each process that needs one, of these two.
+    fn start_spares(&mut self, first: Option<Pid>, last: Option<Pid>)
+        ensures state { (before ungiven : State) → ((p : ℕ) → needs_spare before ungiven (stored_state self.old) p ≡ (is_this p (option_map (λ p. p.0) first) || is_this p (option_map (λ p. p.0) last))) → stored_state self.new ≡ start_spares before ungiven (stored_state self.old) }
+        ensures given_out { IsGivenOut self.old.pools → IsGivenOut self.new.pools }
+        ensures latest { self.new.latest ≡ self.old.latest }
+    {
+        if first.is_none() && last.is_none() {
+            return;
+        }
+        for i in 0..self.processes.process_count() {
+            if is_either(first, last, i + 1) {
+                self.start_spare(Pid(i + 1));
+            }
+        }
+    }
+
+    /// What follows an act that touched this pool: what waits is given to idle threads, and spares start. `first` is the process
+    /// whose first common door the act made.
+    pub fn settle(&mut self, touched: Pool, first: Option<Pid>)
+        requires given_out { IsGivenOutBut touched self.old.pools }
+        requires none_lost { (u : ℕ) → has_lost_door (stored_state self.old) u ≡ false }
+        ensures state { (before : State) → ((p : ℕ) → has_first_common_door before (give (stored_state self.old)) p ≡ is_this p (option_map (λ p. p.0) first)) → stored_state self.new ≡ settle before (stored_state self.old) }
+        ensures given_out { IsGivenOut self.new.pools }
+        ensures latest { self.new.latest ≡ self.old.latest }
+    {
+        let last = self.give_out(touched);
+        self.start_spares(first, last);
+    }
+}
+
+/// Whether a process is this one.
+fn is_this(process: Option<Pid>, p: u32) -> bool
+    ensures { result ≡ is_this p (option_map (λ p. p.0) process) }
+{
+    match process {
+        Some(process) => process.0 == p,
+        None => false,
+    }
+}
+
+/// Whether a process is one of these two.
+fn is_either(first: Option<Pid>, last: Option<Pid>, p: u32) -> bool
+    ensures { result ≡ (is_this p (option_map (λ p. p.0) first) || is_this p (option_map (λ p. p.0) last)) }
+{
+    is_this(first, p) || is_this(last, p)
+}
+
+/// The process whose common pool had an idle thread and has none.
+fn last_given(pool: Pool, had: bool, has: bool) -> Option<Pid>
+    ensures { (p : ℕ) → is_this p (option_map (λ p. p.0) result) ≡ (is_pool pool (Common (pid p)) && (had && not has)) }
+{
+    match pool {
+        Pool::Common(p) if had && !has => Some(p),
+        _ => None,
+    }
+}
+
+/// Whether a process made a door.
+fn is_owned(doors: &Doors, d: u32, p: Pid) -> bool
+    ensures { result ≡ is_owned_by p.0 (at_number doors.now.items d) }
+{
+    match doors.door(d) {
+        Some(door) => door.owner.0 == p.0,
+        None => false,
+    }
+}
+
+/// Nothing waits any more in the pools of a process that ended, and none of its spares can start.
+fn drop_pools(pools: &mut Pools, doors: &Doors, p: Pid)
+    requires { length doors.now.items < EVENTS_MAX }
+    ensures { IsWithoutProcess p.0 doors.now.items pools.old pools.new }
+{
+    pools.drop_waiting(Pool::Common(p));
+    pools.drop_spares(p);
+    for i in 0..doors.count() {
+        let d = i as u32 + 1;
+        if is_owned(doors, d, p) {
+            pools.drop_waiting(Pool::Private(d));
+        }
+    }
+}

@@ -1,0 +1,10 @@
+pub mod Readers
+pub mod Parked
+pub mod Parking
+pub mod Spares
+pub mod Stacks
+pub mod Starting
+pub mod Queued
+pub mod Queues
+pub mod Ends
+pub mod Settling

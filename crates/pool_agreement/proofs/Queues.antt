@@ -1,0 +1,362 @@
+-- What waits in the pools is what the calls say: where calls are opened, given, entered, returned and collected, and where doors
+-- are made and changed.
+use Rattle.std.proofs.Common.{◌≡◌, ℕ, ◌+◌, ◌≤◌, ◌&&◌, ◌==◌, Bool, true, false, not, nat_le, if◌then◌else◌, List, [], ◌∷◌, ◌++◌, Option, Some, None, option_map, is_some, length, map, filter, drop, slice_get, refl, sym, subst, subst₂, ap, ap₂, ◌∙◌, length-append, arith}
+use Rattle.std.proofs.lemmas.List.Sums.{length-filter}
+use Rattle.dk_base.specs.ByNumber.{at_number}
+use Rattle.dk_base.specs.declared.error.Errno.TheVariants.{EMFILE}
+use Rattle.dk_base.specs.declared.object.Item.TheVariants as item
+use Rattle.dk_base.specs.declared.request.Param.TheVariants as param
+use Rattle.kernel_records.specs.declared.pool.Pool.TheVariants.{Common, Private}
+use Rattle.kernel_records.specs.declared.record.CallStage.TheVariants as stage
+use Rattle.kernel_records.specs.declared.record.ThreadState.TheVariants as is
+use Rattle.kernel_records.specs.Words.{CallTree, ProcessTable, at_stage, change_first, collect_call, enter_call, fail_call, give_call, give_thread, is_client_call_of, is_given_as, is_given_to, is_entered_by, is_live_call, is_pool, is_private, is_queued, is_queued_as, is_queued_in, is_to_collect, is_to_collect_as, live_calls, open_call, pool_in, is_valid_door, queue_length, return_call, set_param, thread_at_state, tid, waiting_call, with_param, without_arguments_at}
+use Rattle.written_kernel.specs.Types.{Call, CallStage, Door, Obj, Param, Parked, Pool, Thread, Waiting}
+use Rattle.written_kernel.proofs.Doors.{at_number-change_door, map-change_door}
+use Rattle.written_kernel.proofs.Giving.{same_pool}
+use Rattle.written_kernel.proofs.Lists.{is_some-at_number, numbered_front, numbered_past, numbered_push, numbered_there, numbered_within, same_length}
+use Rattle.written_kernel.proofs.Threads.{processes-change_thread}
+use Rattle.server_pool.specs.Words.{PoolValue, PoolsValue, change_pool, count_calls, empty_pool, enqueue_in, match_in, pick_of, pool_at, pool_or_empty, queue_in, spares_or_none, stack_in}
+use Rattle.pool_agreement.specs.Words.{Agrees, AreInOrder, HasPlaces, IsStackOf, spares_among, waiting_in}
+use Rattle.pool_agreement.proofs.Queued.{IsOldest, both_true, counted_calls, filter-changed, filter-given, filter-given_elsewhere, oldest, oldest_served, order_changed, order_filter, order_push, waiting_doors, waiting_live, waiting_push}
+use Rattle.pool_agreement.proofs.Readers.{bindings-change_pool, common-change_pool, is_pool-sym, pool-change_other, pool-change_same, pool_there-queue, private-change_pool, same_number, spares-change_pool, there_is}
+use Rattle.pool_agreement.proofs.Stacks.{length-change_thread, spares_given, stack_given}
+
+-- a field of the pools, read after a pool that is there changed
+module _ {Y : Type 0} (read : PoolValue → Y) (next : Y → Y) (change : PoolValue → PoolValue) (reads : (x : PoolValue) → read (change x) ≡ next (read x)) where
+  read_changed :
+      (v : PoolsValue) (pool other : Pool) → is_some (pool_at v pool) ≡ true →
+      read (pool_or_empty (pool_at (change_pool v pool change) other))
+      ≡ (if is_pool pool other then next (read (pool_or_empty (pool_at v other))) else read (pool_or_empty (pool_at v other)))
+  read_changed v pool other there = go (is_pool pool other) refl
+    where
+      go :
+          (b : Bool) → is_pool pool other ≡ b →
+          read (pool_or_empty (pool_at (change_pool v pool change) other))
+          ≡ (if b then next (read (pool_or_empty (pool_at v other))) else read (pool_or_empty (pool_at v other)))
+      go true e =
+          ap (λ o. read (pool_or_empty o)) (pool-change_same v pool other change e there)
+          ∙ reads (pool_or_empty (pool_at v pool))
+          ∙ ap (λ q. next (read (pool_or_empty (pool_at v q)))) (same_pool pool other e)
+      go false e = ap (λ o. read (pool_or_empty o)) (pool-change_other v pool other change e)
+
+same_both : {Y : Type 0} (b : Bool) (y : Y) → (if b then y else y) ≡ y
+same_both true y = refl
+same_both false y = refl
+
+pub stack_same :
+    (table : ProcessTable) (n : ℕ) (pool : Pool) (b c : List (Option ℕ)) (s u : List Parked) → c ≡ b → u ≡ s → IsStackOf table b n pool s →
+    IsStackOf table c n pool u
+stack_same table n pool b c s u e f h = subst₂ (λ x y. IsStackOf table x n pool y) (sym e) (sym f) h
+
+-- stages that are not that of a call that waits
+
+collected_stage : (s : CallStage) → is_to_collect s ≡ true → is_queued s ≡ false
+collected_stage stage.Queued e = cc
+collected_stage _ e = refl
+
+given_stage : (t : ℕ) (s : CallStage) → is_given_to t s ≡ true → is_queued s ≡ false
+given_stage t stage.Queued e = cc
+given_stage t _ e = refl
+
+entered_stage : (t : ℕ) (s : CallStage) → is_entered_by t s ≡ true → is_queued s ≡ false
+entered_stage t stage.Queued e = cc
+entered_stage t _ e = refl
+
+collected_not_queued : (c : ℕ) (r : Call) → is_to_collect_as c r ≡ true → is_queued r.stage ≡ false
+collected_not_queued c r e = collected_stage r.stage (both_true (r.number == c) (is_to_collect r.stage) e).1
+
+given_not_queued : (c t : ℕ) (r : Call) → is_given_as c t r ≡ true → is_queued r.stage ≡ false
+given_not_queued c t r e = given_stage t r.stage (both_true (r.number == c) (is_given_to t r.stage) e).1
+
+client_not_queued : (t : ℕ) (r : Call) → is_client_call_of t r ≡ true → is_queued r.stage ≡ false
+client_not_queued t r e = entered_stage t r.stage (both_true (not r.abandoned) (is_entered_by t r.stage) e).1
+
+-- doors that changed in their parameters alone
+
+param_pool : (x : Param) (value : ℕ) (o : Option Door) → pool_in (option_map (with_param x value) o) ≡ pool_in o
+param_pool x value None = refl
+param_pool param.DataMax value (Some d) = refl
+param_pool param.DataMin value (Some d) = refl
+param_pool param.DescMax value (Some d) = refl
+
+param_pool_at :
+    (doors : List Door) (d : ℕ) (x : Param) (value k : ℕ) →
+    pool_in (at_number (set_param doors d x value) k) ≡ pool_in (at_number doors k)
+param_pool_at doors d x value k =
+    ap pool_in (at_number-change_door doors d k (with_param x value)) ∙ go (k == d) refl
+  where
+    go :
+        (b : Bool) → (k == d) ≡ b →
+        pool_in (if b then option_map (with_param x value) (at_number doors d) else at_number doors k) ≡ pool_in (at_number doors k)
+    go true e = param_pool x value (at_number doors d) ∙ ap (λ j. pool_in (at_number doors j)) (sym (same_number k d e))
+    go false e = refl
+
+-- what waits is a call, at a door that the pool serves
+pub record IsNextCall (doors : List Door) (pool : Pool) (w : Waiting) : Type 0 where
+  pub number : ℕ
+  pub is_call : w.item ≡ item.Call number
+  pub served : is_pool pool (pool_in (at_number doors w.door)) ≡ true
+
+module _ {n : ℕ} {table : ProcessTable} {doors : List Door} {tree : CallTree} {v : PoolsValue} (h : Agrees n table doors tree v) where
+  -- as many calls wait in a pool as the pool counts
+  pub queue_length_agrees : (pool : Pool) → queue_length doors tree.calls pool ≡ count_calls (queue_in v pool)
+  queue_length_agrees pool =
+      sym (length-filter (is_queued_in doors pool) tree.calls)
+      ∙ sym (counted_calls (filter (is_queued_in doors pool) tree.calls))
+      ∙ ap count_calls (sym (h.queues pool))
+
+  -- the pool of a valid door is there
+  pub door_pool_there :
+      HasPlaces table v.bindings doors tree.calls → (d : ℕ) (x : Door) → at_number doors d ≡ Some x → is_valid_door x ≡ true →
+      is_some (pool_at v (pool_in (at_number doors d))) ≡ true
+  door_pool_there places d x e valid = ap (λ o. is_some (pool_at v (pool_in o))) e ∙ go (is_private x.attrs)
+    where
+      go : (b : Bool) → is_some (pool_at v (if b then Private x.number else Common x.owner)) ≡ true
+      go true =
+          let within : (1 ≤ d) × (d ≤ length doors) = numbered_within doors d x e in
+          ap (λ k. is_some (at_number v.private k)) (places.door_number d x e)
+          ∙ numbered_there v.private d within.0 (rw h.private within.1)
+      go false =
+          is_some-at_number v.common x.owner.0
+          ∙ ap (λ k. nat_le 1 x.owner.0 && nat_le x.owner.0 k) h.common
+          ∙ sym (is_some-at_number table.processes x.owner.0)
+          ∙ places.owner_there d x e valid
+
+  -- a call waits, behind the others of its pool
+  pub agrees_open :
+      (r : Call) (pool : Pool) → r.number ≡ tree.made + 1 → is_queued r.stage ≡ true → pool ≡ pool_in (at_number doors r.door) →
+      is_some (pool_at v pool) ≡ true →
+      Agrees n table doors (open_call tree r) (change_pool v pool (enqueue_in (waiting_call r)))
+  agrees_open r pool number queued served there =
+      record {
+        stacks =
+            λ q.
+            stack_same table n q v.bindings w.bindings (stack_in v q) (stack_in w q) (bindings-change_pool v pool enter)
+            (read_changed (λ (x : PoolValue). x.parked) (λ xs. xs) enter (λ x. refl) v pool q there ∙ same_both (is_pool pool q) (stack_in v q))
+            (h.stacks q);
+        queues =
+            λ q.
+            read_changed (λ (x : PoolValue). x.waiting) (λ (ws : List Waiting). ws ++ waiting_call r ∷ []) enter (λ x. refl) v pool q there
+            ∙ ap₂ (λ (b : Bool) (ws : List Waiting). if b then ws ++ waiting_call r ∷ [] else ws) (is_pool-sym pool q ∙ ap (is_pool q) served) (h.queues q)
+            ∙ sym (waiting_push doors tree.calls r q queued);
+        spares = λ p. ap (λ xs. spares_or_none (at_number xs p)) (spares-change_pool v pool enter) ∙ h.spares p;
+        calls = order_push tree.calls 0 tree.made r (omega arith) number h.calls;
+        common = common-change_pool v pool enter ∙ h.common;
+        spare_lists = ap length (spares-change_pool v pool enter) ∙ h.spare_lists;
+        private = private-change_pool v pool enter ∙ h.private;
+      }
+    where
+      enter : PoolValue → PoolValue
+      enter = enqueue_in (waiting_call r)
+
+      w : PoolsValue
+      w = change_pool v pool enter
+
+  -- other calls, of which the same wait
+  with_calls :
+      (calls : List Call) → AreInOrder 0 tree.made calls → ((pool : Pool) → waiting_in doors calls pool ≡ waiting_in doors tree.calls pool) →
+      Agrees n table doors (record tree { calls = calls }) v
+  with_calls calls order same =
+      record {
+        stacks = h.stacks;
+        queues = λ pool. h.queues pool ∙ sym (same pool);
+        spares = h.spares;
+        calls = order;
+        common = h.common;
+        spare_lists = h.spare_lists;
+        private = h.private;
+      }
+
+  pub agrees_stage :
+      (test : Call → Bool) (change : Call → Call) → ((r : Call) → test r ≡ true → is_queued r.stage ≡ false) →
+      ((r : Call) → is_queued (change r).stage ≡ false) → ((r : Call) → (change r).number ≡ r.number) →
+      Agrees n table doors (record tree { calls = change_first test change tree.calls }) v
+  agrees_stage test change before after same =
+      with_calls (change_first test change tree.calls) (order_changed test change same tree.calls 0 tree.made h.calls)
+      (λ pool.
+      ap (map waiting_call)
+      (filter-changed test change doors pool
+      (λ r e. ap (λ b. b && is_pool pool (pool_in (at_number doors r.door))) (before r e)) after tree.calls))
+
+  -- a thread enters the call that it was given, has no room for its descriptors, or returns it
+
+  pub agrees_enter : (c t : ℕ) → Agrees n table doors (enter_call tree c t) v
+  agrees_enter c t =
+      agrees_stage (is_given_as c t) (without_arguments_at (stage.Entered (tid t))) (given_not_queued c t) (λ r. refl) (λ r. refl)
+
+  pub agrees_fail : (c t : ℕ) → Agrees n table doors (fail_call tree c t) v
+  agrees_fail c t =
+      agrees_stage (is_given_as c t) (without_arguments_at (stage.Ended EMFILE)) (given_not_queued c t) (λ r. refl) (λ r. refl)
+
+  pub agrees_return :
+      (t : ℕ) (bytes : List ℕ) (objects : List Obj) →
+      Agrees n table doors (return_call tree t bytes objects) v
+  agrees_return t bytes objects =
+      agrees_stage (is_client_call_of t) (without_arguments_at (stage.Returned bytes objects)) (client_not_queued t) (λ r. refl) (λ r. refl)
+
+  -- an answer is collected, and calls that are over leave the list
+  pub agrees_collect : (c at : ℕ) → Agrees n table doors (live_calls (collect_call tree c at)) v
+  agrees_collect c at =
+      with_calls (filter is_live_call (change_first collected answered tree.calls))
+      (order_filter is_live_call (change_first collected answered tree.calls) 0 tree.made
+      (order_changed collected answered (λ r. refl) tree.calls 0 tree.made h.calls))
+      (λ pool.
+      waiting_live doors (change_first collected answered tree.calls) pool
+      ∙ ap (map waiting_call) (filter-changed collected answered doors pool (λ r e. not_waiting r pool e) (λ r. refl) tree.calls))
+    where
+      collected : Call → Bool
+      collected = is_to_collect_as c
+
+      answered : Call → Call
+      answered = without_arguments_at (stage.Answered at)
+
+      not_waiting : (r : Call) (pool : Pool) → is_to_collect_as c r ≡ true → is_queued_in doors pool r ≡ false
+      not_waiting r pool e = ap (λ b. b && is_pool pool (pool_in (at_number doors r.door))) (collected_not_queued c r e)
+
+  -- doors of which the pools of queued calls are the same
+  with_doors :
+      (others : List Door) → length others ≡ length doors →
+      ((i : ℕ) (r : Call) → slice_get tree.calls i ≡ Some r → is_queued r.stage ≡ true → pool_in (at_number others r.door) ≡ pool_in (at_number doors r.door)) →
+      Agrees n table others tree v
+  with_doors others lengths same =
+      record {
+        stacks = h.stacks;
+        queues = λ pool. h.queues pool ∙ sym (waiting_doors doors others tree.calls pool same);
+        spares = h.spares;
+        calls = h.calls;
+        common = h.common;
+        spare_lists = h.spare_lists;
+        private = h.private ∙ sym lengths;
+      }
+
+  -- a parameter of a door changes
+  pub agrees_param : (d : ℕ) (x : Param) (value : ℕ) → Agrees n table (set_param doors d x value) tree v
+  agrees_param d x value =
+      with_doors (set_param doors d x value)
+      (same_length nothing (set_param doors d x value) doors (map-change_door nothing doors d (with_param x value) (λ y. refl)))
+      (λ i r e q. param_pool_at doors d x value r.door)
+    where
+      nothing : Door → ℕ
+      nothing y = 0
+
+  -- a door is made, with an empty pool
+  pub agrees_door :
+      (d : Door) (w : PoolsValue) → HasPlaces table v.bindings doors tree.calls → w.bindings ≡ v.bindings → w.common ≡ v.common →
+      w.spares ≡ v.spares → w.private ≡ v.private ++ empty_pool ∷ [] →
+      Agrees n table (doors ++ d ∷ []) tree w
+  agrees_door d w places bindings common spares private =
+      record {
+        stacks =
+            λ q.
+            stack_same table n q v.bindings w.bindings (stack_in v q) (stack_in w q) bindings (ap (λ (x : PoolValue). x.parked) (pool q)) (h.stacks q);
+        queues =
+            λ q.
+            ap (λ (x : PoolValue). x.waiting) (pool q) ∙ h.queues q
+            ∙ sym (waiting_doors doors (doors ++ d ∷ []) tree.calls q (λ i r e queued. there r (places.queued_door i r e queued)));
+        spares = λ p. ap (λ xs. spares_or_none (at_number xs p)) spares ∙ h.spares p;
+        calls = h.calls;
+        common = ap length common ∙ h.common;
+        spare_lists = ap length spares ∙ h.spare_lists;
+        private =
+            ap length private ∙ length-append v.private (empty_pool ∷ []) ∙ ap (λ k. k + 1) h.private ∙ sym (length-append doors (d ∷ []));
+      }
+    where
+      numbered : (k : ℕ) → pool_or_empty (at_number (v.private ++ empty_pool ∷ []) k) ≡ pool_or_empty (at_number v.private k)
+      numbered k = ap pool_or_empty (numbered_push v.private empty_pool k) ∙ go (k == length v.private + 1) refl
+        where
+          go :
+              (b : Bool) → (k == length v.private + 1) ≡ b →
+              pool_or_empty (if b then Some empty_pool else at_number v.private k) ≡ pool_or_empty (at_number v.private k)
+          go true e =
+              let past : k ≡ length v.private + 1 = same_number k (length v.private + 1) e in
+              sym (ap pool_or_empty (numbered_past v.private k (omega arith)))
+          go false e = refl
+
+      pool : (q : Pool) → pool_or_empty (pool_at w q) ≡ pool_or_empty (pool_at v q)
+      pool (Common p) = ap (λ xs. pool_or_empty (at_number xs p.0)) common
+      pool (Private k) = ap (λ xs. pool_or_empty (at_number xs k)) private ∙ numbered k
+
+      there : (r : Call) → is_some (at_number doors r.door) ≡ true → pool_in (at_number (doors ++ d ∷ []) r.door) ≡ pool_in (at_number doors r.door)
+      there r e =
+          let x : (x : Door) × (at_number doors r.door ≡ Some x) = there_is (at_number doors r.door) e in
+          ap pool_in (numbered_front doors (d ∷ []) r.door x.0 x.1 ∙ sym x.1)
+
+  -- the oldest call of a pool
+
+  pub next_is_call : (pool : Pool) (w : Waiting) (ws : List Waiting) → queue_in v pool ≡ w ∷ ws → IsNextCall doors pool w
+  next_is_call pool w ws e =
+      record {
+        number = first.call.number;
+        is_call = ap (λ (x : Waiting). x.item) (sym first.same);
+        served = oldest_served doors tree.calls pool w ws first;
+      }
+    where
+      first : IsOldest doors tree.calls pool w ws
+      first = oldest doors tree.calls pool w ws (sym (h.queues pool) ∙ e)
+
+  -- it leaves the queue of its pool, and every other queue stays
+  queue_given :
+      (pool : Pool) (w : Waiting) (ws : List Waiting) (c t : ℕ) → queue_in v pool ≡ w ∷ ws → w.item ≡ item.Call c →
+      (other : Pool) →
+      queue_in (change_pool v pool match_in) other ≡ waiting_in doors (give_call tree c t).calls other
+  queue_given pool w ws c t e is_call other =
+      read_changed (λ (x : PoolValue). x.waiting) (λ (xs : List Waiting). drop 1 xs) match_in (λ x. refl) v pool other (pool_there-queue v pool w ws e)
+      ∙ go (is_pool pool other) refl
+    where
+      first : IsOldest doors tree.calls pool w ws
+      first = oldest doors tree.calls pool w ws (sym (h.queues pool) ∙ e)
+
+      number : first.call.number ≡ c
+      number = let same : item.Call first.call.number ≡ item.Call c = ap (λ (x : Waiting). x.item) first.same ∙ is_call in cc
+
+      here : drop 1 (queue_in v pool) ≡ waiting_in doors (give_call tree c t).calls pool
+      here =
+          ap (drop 1) e
+          ∙ sym first.rest
+          ∙ ap (map waiting_call) (sym (filter-given doors pool c t tree.calls 0 tree.made first.call first.others h.calls first.first number))
+
+      go :
+          (b : Bool) → is_pool pool other ≡ b →
+          (if b then drop 1 (queue_in v other) else queue_in v other) ≡ waiting_in doors (give_call tree c t).calls other
+      go true f = subst (λ q. drop 1 (queue_in v q) ≡ waiting_in doors (give_call tree c t).calls q) (same_pool pool other f) here
+      go false f =
+          h.queues other
+          ∙ ap (map waiting_call)
+          (sym (filter-given_elsewhere doors pool other c t tree.calls 0 tree.made first.call first.others h.calls first.first number f))
+
+  -- the thread on top is given it
+  pub agrees_give :
+      (pool : Pool) (x : Parked) (w : Waiting) (ws : List Waiting) (c : ℕ) → pick_of (stack_in v pool) ≡ Some x →
+      queue_in v pool ≡ w ∷ ws → w.item ≡ item.Call c →
+      Agrees n (give_thread table x.thread.0 (item.Call c)) doors (give_call tree c x.thread.0) (change_pool v pool match_in)
+  agrees_give pool x w ws c picked e is_call =
+      record {
+        stacks =
+            λ q.
+            stack_same after n q v.bindings rest.bindings (stack_in rest q) (stack_in rest q) (bindings-change_pool v pool match_in) refl
+            (stack_given h pool x picked (item.Call c) q);
+        queues = queue_given pool w ws c x.thread.0 e is_call;
+        spares =
+            λ p.
+            ap (λ xs. spares_or_none (at_number xs p)) (spares-change_pool v pool match_in)
+            ∙ h.spares p
+            ∙ sym (spares_given h pool x picked (item.Call c) p (length table.threads))
+            ∙ ap (spares_among after p) (sym (length-change_thread table x.thread.0 turn));
+        calls =
+            order_changed (is_queued_as c) (at_stage (stage.Given (tid x.thread.0))) (λ r. refl) tree.calls 0 tree.made h.calls;
+        common = common-change_pool v pool match_in ∙ h.common ∙ processes;
+        spare_lists = ap length (spares-change_pool v pool match_in) ∙ h.spare_lists ∙ processes;
+        private = private-change_pool v pool match_in ∙ h.private;
+      }
+    where
+      turn : Thread → Thread
+      turn = thread_at_state (is.Given (item.Call c))
+
+      after : ProcessTable
+      after = give_thread table x.thread.0 (item.Call c)
+
+      rest : PoolsValue
+      rest = change_pool v pool match_in
+
+      processes : length table.processes ≡ length after.processes
+      processes = ap length (sym (processes-change_thread table x.thread.0 turn))

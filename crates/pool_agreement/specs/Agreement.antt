@@ -1,0 +1,90 @@
+-- What server pools hold, and what the records of threads, doors and calls say of it. The pools are redundant: each is found by
+-- a search of the records, which the pools save.
+use Rattle.std.specs.Prelude.{ℕ, ◌≡◌, ◌+◌, ◌<◌, ◌≤◌, ◌++◌, ◌==◌, List, [], ◌∷◌, Option, Bool, true, Some, None, filter, if◌then◌else◌, is_some, length, map, slice_get, suc, zero}
+use Rattle.dk_base.specs.ByNumber.{at_number}
+use Rattle.written_kernel.specs.Types.{Call, Door, Parked, Pool, Thread, Waiting}
+use Rattle.kernel_records.specs.declared.pool.Pool.TheVariants.{Common, Private}
+use Rattle.kernel_records.specs.Words.{CallTree, ProcessTable, bound_at, is_owned_by, is_pool, is_private_in, is_queued, is_queued_in, is_spare_of, is_valid_door, parked_at, process_in, thread_at, waiting_call}
+use Rattle.server_pool.specs.Words.{IsStack, PoolsValue, queue_in, spares_of, stack_in}
+
+-- parked threads
+
+-- a thread stands in a list
+pub record IsListed (stack : List Parked) (x : Parked) : Type 0 where
+  pub place : ℕ
+  pub there : slice_get stack place ≡ Some x
+
+-- the records say that x is parked in this pool, since no event after `latest`
+pub record IsParkedIn (table : ProcessTable) (bindings : List (Option ℕ)) (latest : ℕ) (pool : Pool) (x : Parked) : Type 0 where
+  pub parked : parked_at table bindings x.thread.0 ≡ Some x
+  pub same_pool : is_pool pool x.pool ≡ true
+  pub since : x.since ≤ latest
+
+-- the threads of a stack are those that the records have in its pool, in the order in which they parked
+pub record IsStackOf (table : ProcessTable) (bindings : List (Option ℕ)) (latest : ℕ) (pool : Pool) (stack : List Parked) : Type 0 where
+  pub parked : (i : ℕ) (x : Parked) → slice_get stack i ≡ Some x → IsParkedIn table bindings latest pool x
+  pub all : (t : ℕ) (x : Parked) → parked_at table bindings t ≡ Some x → is_pool pool x.pool ≡ true → IsListed stack x
+  pub in_order : IsStack stack
+
+-- waiting calls
+
+-- those that wait in a pool, the oldest first
+abbrev pub waiting_in : List Door → List Call → Pool → List Waiting
+waiting_in doors calls pool = map waiting_call (filter (is_queued_in doors pool) calls)
+
+-- the numbers of the calls go up, and are none above those that were made
+abbrev pub AreInOrder : ℕ → ℕ → List Call → Type 0
+AreInOrder low made [] = Unit {0}
+AreInOrder low made (r ∷ rs) = (low < r.number) × (r.number ≤ made) × AreInOrder r.number made rs
+
+-- spare threads that were not started
+
+abbrev pub spare_in : ℕ → ℕ → Option Thread → List ℕ
+spare_in p t None = []
+spare_in p t (Some x) = if is_spare_of p x then t ∷ [] else []
+
+abbrev pub spare_at : ProcessTable → ℕ → ℕ → List ℕ
+spare_at table p t = spare_in p t (thread_at table t)
+
+-- those of a process among the threads 1 to n, the lowest first
+abbrev pub spares_among : ProcessTable → ℕ → ℕ → List ℕ
+spares_among table p zero = []
+spares_among table p (suc n) = spares_among table p n ++ spare_at table p (suc n)
+
+-- the pools hold what the records say, where no thread parked after the event `latest`
+pub record Agrees (latest : ℕ) (table : ProcessTable) (doors : List Door) (tree : CallTree) (pools : PoolsValue) : Type 0 where
+  pub stacks : (pool : Pool) → IsStackOf table pools.bindings latest pool (stack_in pools pool)
+  pub queues : (pool : Pool) → queue_in pools pool ≡ waiting_in doors tree.calls pool
+  pub spares : (p : ℕ) → spares_of pools p ≡ spares_among table p (length table.threads)
+  pub calls : AreInOrder 0 tree.made tree.calls
+  -- there is a pool for each process, and one for each door
+  pub common : length pools.common ≡ length table.processes
+  pub spare_lists : length pools.spares ≡ length table.processes
+  pub private : length pools.private ≡ length doors
+
+-- the pools of a process: the common one, and those of its private doors
+abbrev pub is_pool_of_process : ℕ → List Door → Pool → Bool
+is_pool_of_process p doors (Common q) = q.0 == p
+is_pool_of_process p doors (Private d) = is_owned_by p (at_number doors d)
+
+-- the pools after a process ended, of which no thread was idle: nothing waits in its pools, and none of its spares can start
+pub record IsWithoutProcess (p : ℕ) (doors : List Door) (before after : PoolsValue) : Type 0 where
+  pub bindings : after.bindings ≡ before.bindings
+  pub stacks : (pool : Pool) → stack_in after pool ≡ stack_in before pool
+  pub queues : (pool : Pool) → queue_in after pool ≡ (if is_pool_of_process p doors pool then [] else queue_in before pool)
+  pub spares : (q : ℕ) → spares_of after q ≡ (if q == p then [] else spares_of before q)
+  pub common : length after.common ≡ length before.common
+  pub spare_lists : length after.spares ≡ length before.spares
+  pub private : length after.private ≡ length before.private
+
+-- What the invariant says of the records, as far as pools need it: threads and doors have the numbers of their places; the
+-- processes of threads and of valid doors, the doors to which threads are bound, and those of waiting calls are there.
+pub record HasPlaces (table : ProcessTable) (bindings : List (Option ℕ)) (doors : List Door) (calls : List Call) : Type 0 where
+  pub thread_number : (t : ℕ) (x : Thread) → thread_at table t ≡ Some x → x.number ≡ t
+  pub process_there : (t : ℕ) (x : Thread) → thread_at table t ≡ Some x → is_some (at_number table.processes x.process.0) ≡ true
+  pub owner_there :
+      (d : ℕ) (x : Door) → at_number doors d ≡ Some x → is_valid_door x ≡ true → is_some (at_number table.processes x.owner.0) ≡ true
+  pub door_number : (d : ℕ) (x : Door) → at_number doors d ≡ Some x → x.number ≡ d
+  pub bound_private : (t d : ℕ) → bound_at bindings t ≡ Some d → is_private_in (at_number doors d) ≡ true
+  pub bound_own : (t d : ℕ) → bound_at bindings t ≡ Some d → is_owned_by (process_in (thread_at table t)) (at_number doors d) ≡ true
+  pub queued_door : (i : ℕ) (r : Call) → slice_get calls i ≡ Some r → is_queued r.stage ≡ true → is_some (at_number doors r.door) ≡ true

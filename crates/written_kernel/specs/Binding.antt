@@ -1,0 +1,31 @@
+-- The acts of bindings: door_bind(3C), door_unbind(3C), and door_info(3C) of the door that a thread is bound to.
+use Rattle.std.specs.Prelude.{ℕ, List, [], ◌∷◌, is_none, unwrap_or}
+use Rattle.written_kernel.specs.Types.{Fd}
+use Rattle.dk_base.specs.declared.error.Errno.TheVariants.{EBADF}
+use Rattle.dk_base.specs.declared.answer.Answer.TheVariants as answer
+use Rattle.kernel_records.specs.Words.{Test, bind_tests, bind_thread, refused_where, unbind_thread}
+use Rattle.written_kernel.specs.State.{State, bound_of, door_of}
+use Rattle.written_kernel.specs.Acts.{ActResult}
+use Rattle.written_kernel.specs.Information.{door_at, information_of}
+
+-- door_bind: EBADF for no door or an invalid one, EINVAL for one that is not private or is another process's; the thread is
+-- bound to the door, in place of an earlier one
+
+abbrev pub binding_tests : State → ℕ → Fd → List Test
+binding_tests m p fd = bind_tests p (door_of m (door_at m p fd))
+
+abbrev pub bind : State → ℕ → ℕ → Fd → ActResult
+bind m t p fd =
+    record { state = record m { bindings = bind_thread m.bindings t (door_at m p fd) }; answer = answer.Done }
+
+-- EBADF for a thread that is bound to no door
+abbrev pub bound_tests : State → ℕ → List Test
+bound_tests m t = refused_where (is_none (bound_of m t)) EBADF ∷ []
+
+-- door_unbind: EBADF; the thread is bound to no door
+abbrev pub unbind : State → ℕ → ActResult
+unbind m t = record { state = record m { bindings = unbind_thread m.bindings t }; answer = answer.Done }
+
+-- door_info of DOOR_QUERY: EBADF; what the process is told of the door that the thread is bound to
+abbrev pub information_of_bound : State → ℕ → ℕ → ActResult
+information_of_bound m t p = information_of m p (unwrap_or (bound_of m t) 0)
