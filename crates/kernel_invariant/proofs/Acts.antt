@@ -1,5 +1,5 @@
 -- What an act keeps and which arrows calls take by it; the acts that touch no call.
-use Rattle.std.specs.Prelude.{ℕ, ◌≡◌, ◌+◌, List, [], ◌∷◌, Option, Bool, true, false, ◌==◌, Some, None, find, length, is_none, is_some, unwrap_or, ◌&&◌, ◌⊎◌, if◌then◌else◌, option_map}
+use Rattle.std.specs.Prelude.{ℕ, ◌≡◌, ◌+◌, List, [], ◌∷◌, Option, Bool, true, false, ◌==◌, Some, None, find, length, is_none, is_some, unwrap_or, ◌&&◌, ◌⊎◌, if◌then◌else◌}
 use Rattle.std.proofs.Common.{refl, sym, ap, subst, ◌∙◌, inl, inr, ⊎_elim}
 use native.Mathlib.Omega.{arith}
 use Rattle.std.proofs.lemmas.Bool.Decides.{nat_tests}
@@ -9,7 +9,7 @@ use Rattle.dk_base.specs.declared.request.Param.TheVariants as param
 use Rattle.kernel_records.specs.declared.record.ThreadState.TheVariants as is
 use Rattle.kernel_records.specs.declared.record.ProcessStage.TheVariants.{Live, Ended}
 use Rattle.dk_base.specs.ByNumber.{at_number, with_at_number}
-use Rattle.kernel_records.specs.Words.{CallTree, ProcessTable, bind_tests, bound_at, bound_in, change_door_in, change_first, first_refusal, has_told_attributes, is_live_in, is_live_stage, is_private_in, lowest_free, new_door, object_named, refused_where, set_param, state_in, table_in, with_door, with_param, with_table}
+use Rattle.kernel_records.specs.Words.{CallTree, ProcessTable, bind_tests, bound_at, bound_in, change_door_in, change_first, first_refusal, has_told_attributes, is_live_in, is_live_stage, is_private_in, lowest_free, new_door, object_named, refused_where, set_param, state_in, table_in, unbind_thread, with_door, with_param, with_table}
 use Rattle.written_kernel.specs.Words.{ActResult, State, await, await_name, bind, binding_tests, bound_of, create, create_tests, door_at, door_of, find_call, name_of, process_of, state_of, thread_of, unbind, with_state, with_table_of}
 use Rattle.kernel_invariant.specs.Records.{has_number, owner_in, record_of}
 use Rattle.kernel_invariant.specs.Core.{core, ended_in, is_ended_stage}
@@ -17,8 +17,8 @@ use Rattle.kernel_invariant.specs.Coherent.{IsCoherent, is_unbuilt}
 use Rattle.kernel_invariant.specs.Invariant.{IsInOrder, IsConsistent}
 use Rattle.kernel_invariant.specs.Arrows.{ByAct}
 use Rattle.kernel_invariant.specs.Arrows.ByAct.{stays}
-use Rattle.written_kernel.proofs.Doors.{at_number-change_door}
-use Rattle.written_kernel.proofs.Lists.{at_number-with_at_number, length-with_at_number, numbered_past, numbered_push, numbered_there, numbered_within}
+use Rattle.written_kernel.proofs.Lists.{at_number-with_at_number, length-with_at_number, numbered_past, numbered_there, numbered_within}
+use Rattle.kernel_invariant.proofs.Later.{by_act_later}
 use Rattle.kernel_invariant.proofs.Calls.{IsInOrder-change_first, find-change_first, find-found, length-change_first}
 use Rattle.kernel_invariant.proofs.Cores.{IsThere, Turns, act-core, change_door-core, set_thread_state-turns, upd, with_door-core}
 use Rattle.kernel_invariant.proofs.ThreadMoves.{IsSameButLimits, turn_keeps, door_keeps, is_quiet, limits_keep}
@@ -88,7 +88,7 @@ act_consistent m table tables tree h rows p i e k =
       coherent = k;
       tables = rows.counted ∙ sym (ap length p);
       no_rows = λ q fd f. rows.no_rows q fd (ap (λ xs. ended_in (at_number xs q)) (sym p) ∙ f);
-      unbuilt = record { no_notices = h.unbuilt.no_notices; none_revoked = h.unbuilt.none_revoked };
+      unbuilt = record { no_notices = h.unbuilt.no_notices };
     }
 
 -- an act that changes a thread and tables
@@ -189,7 +189,7 @@ names_does m t q names a h =
             coherent = h.coherent;
             tables = h.tables;
             no_rows = h.no_rows;
-            unbuilt = record { no_notices = h.unbuilt.no_notices; none_revoked = h.unbuilt.none_revoked };
+            unbuilt = record { no_notices = h.unbuilt.no_notices };
           };
       arrows = λ c. stays;
     }
@@ -210,48 +210,62 @@ rebound m t u d o e =
     go false f g = inr g
 
 -- to a private door of the thread's process, or to none
+rebind_keeps :
+    (m : State) (t : ℕ) (o : Option ℕ) → IsConsistent m →
+    ((d : ℕ) → o ≡ Some d → (owner_in (door_of m d) ≡ Some (process_of m t)) × (is_private_in (door_of m d) ≡ true)) →
+    IsConsistent (record m { bindings = with_at_number m.bindings t o })
+rebind_keeps m t o h own =
+    record {
+      in_order = h.in_order;
+      counted = h.counted;
+      coherent =
+          record {
+            waits = h.coherent.waits;
+            invocations = h.coherent.invocations;
+            notices_given = h.coherent.notices_given;
+            notices_entered = h.coherent.notices_entered;
+            servers = h.coherent.servers;
+            calls = h.coherent.calls;
+            at_doors = h.coherent.at_doors;
+            doors = h.coherent.doors;
+            bindings =
+                record {
+                  bound_own =
+                      λ u d e. ⊎_elim
+                      (λ k. (own d k.1).0 ∙ ap (λ (v : ℕ). Some (process_of m v)) (sym k.0))
+                      (h.coherent.bindings.bound_own u d)
+                      (rebound m t u d o e);
+                  bound_private =
+                      λ u d e. ⊎_elim
+                      (λ k. (own d k.1).1)
+                      (h.coherent.bindings.bound_private u d)
+                      (rebound m t u d o e);
+                };
+            processes = h.coherent.processes;
+            threads = h.coherent.threads;
+            has_built_state = h.coherent.has_built_state;
+          };
+      tables = h.tables;
+      no_rows = h.no_rows;
+      unbuilt = record { no_notices = h.unbuilt.no_notices };
+    }
+
+-- a thread is bound to no door
+pub unbound_keeps : (m : State) (t : ℕ) → IsConsistent m → IsConsistent (record m { bindings = unbind_thread m.bindings t })
+unbound_keeps m t h = rebind_keeps m t None h (λ d e. absurd (grind arith))
+
 rebind_does :
     (m : State) (t : ℕ) (q : Option Request) (o : Option ℕ) (a : Answer) → IsConsistent m →
     ((d : ℕ) → o ≡ Some d → (owner_in (door_of m d) ≡ Some (process_of m t)) × (is_private_in (door_of m d) ≡ true)) →
     Does m t q (act_result (record m { bindings = with_at_number m.bindings t o }) a)
-rebind_does m t q o a h own =
+rebind_does m t q o a h own = record { consistent = rebind_keeps m t o h own; arrows = λ c. stays }
+
+-- what an act does, of which its thread is unbound too
+pub unbound_does : (m : State) (t : ℕ) (q : Option Request) (n : State) (a : Answer) → Does m t q (act_result n a) → Does m t q (act_result (record n { bindings = unbind_thread n.bindings t }) a)
+unbound_does m t q n a d =
     record {
-      consistent =
-          record {
-            in_order = h.in_order;
-            counted = h.counted;
-            coherent =
-                record {
-                  waits = h.coherent.waits;
-                  invocations = h.coherent.invocations;
-                  notices_given = h.coherent.notices_given;
-                  notices_entered = h.coherent.notices_entered;
-                  servers = h.coherent.servers;
-                  calls = h.coherent.calls;
-                  at_doors = h.coherent.at_doors;
-                  doors = h.coherent.doors;
-                  bindings =
-                      record {
-                        bound_own =
-                            λ u d e. ⊎_elim
-                            (λ k. (own d k.1).0 ∙ ap (λ (v : ℕ). Some (process_of m v)) (sym k.0))
-                            (h.coherent.bindings.bound_own u d)
-                            (rebound m t u d o e);
-                        bound_private =
-                            λ u d e. ⊎_elim
-                            (λ k. (own d k.1).1)
-                            (h.coherent.bindings.bound_private u d)
-                            (rebound m t u d o e);
-                      };
-                  processes = h.coherent.processes;
-                  threads = h.coherent.threads;
-                  has_built_state = h.coherent.has_built_state;
-                };
-            tables = h.tables;
-            no_rows = h.no_rows;
-            unbuilt = record { no_notices = h.unbuilt.no_notices; none_revoked = h.unbuilt.none_revoked };
-          };
-      arrows = λ c. stays;
+      consistent = unbound_keeps n t d.consistent;
+      arrows = λ c. by_act_later m t q a n (record n { bindings = unbind_thread n.bindings t }) _ _ (λ e. refl) (record { after = λ u e. e; before = λ u e. e }) (d.arrows c);
     }
 
 bindable :
@@ -288,18 +302,18 @@ rows_does m t q table a h e = record { consistent = with_table_of_keeps m t tabl
 
 doors_consistent :
     (m : State) (doors : List Door) → IsConsistent m → IsCoherent (core (record m { doors = doors })) →
-    ((d : ℕ) (x : Door) → at_number doors d ≡ Some x → x.revoked ≡ false) → IsConsistent (record m { doors = doors })
-doors_consistent m doors h k valid =
+    IsConsistent (record m { doors = doors })
+doors_consistent m doors h k =
     record {
       in_order = h.in_order;
       counted = h.counted;
       coherent = k;
       tables = h.tables;
       no_rows = h.no_rows;
-      unbuilt = record { no_notices = h.unbuilt.no_notices; none_revoked = valid };
+      unbuilt = record { no_notices = h.unbuilt.no_notices };
     }
 
-same_but_limits : (x : Param) (value : ℕ) (y : Door) → IsSameButLimits y (with_param x value y)
+pub same_but_limits : (x : Param) (value : ℕ) (y : Door) → IsSameButLimits y (with_param x value y)
 same_but_limits param.DataMax value y = record { number = refl; owner = refl; attrs = refl; revoked = refl; owner_ended = refl }
 same_but_limits param.DataMin value y = record { number = refl; owner = refl; attrs = refl; revoked = refl; owner_ended = refl }
 same_but_limits param.DescMax value y = record { number = refl; owner = refl; attrs = refl; revoked = refl; owner_ended = refl }
@@ -309,21 +323,10 @@ pub set_param_does :
     Does m t q (act_result (record m { doors = set_param m.doors d x value }) a)
 set_param_does m t q d x value a h =
     record {
-      consistent =
-          doors_consistent m (set_param m.doors d x value) h (go (door_of m d) refl)
-          (λ e z f. valid e z (e == d) (door_of m d) refl (sym (at_number-change_door m.doors d e (with_param x value)) ∙ f));
+      consistent = doors_consistent m (set_param m.doors d x value) h (go (door_of m d) refl);
       arrows = λ c. stays;
     }
   where
-    valid :
-        (e : ℕ) (z : Door) (b : Bool) (o : Option Door) → door_of m d ≡ o →
-        (if b then option_map (with_param x value) o else door_of m e) ≡ Some z → z.revoked ≡ false
-    valid e z true None f g = cc
-    valid e z true (Some y) f g =
-        let same : with_param x value y ≡ z = cc in
-        ap (λ (w : Door). w.revoked) (sym same) ∙ (same_but_limits x value y).revoked ∙ h.unbuilt.none_revoked d y f
-    valid e z false o f g = h.unbuilt.none_revoked e z g
-
     go : (o : Option Door) → door_of m d ≡ o → IsCoherent (core (record m { doors = set_param m.doors d x value }))
     go None e =
         subst (λ (doors : List Door). IsCoherent (core (record m { doors = doors })))
@@ -377,13 +380,8 @@ create_does m t q entry cookie attrs h e f =
     n : State
     n = record m { doors = with_door m.doors (process_of m t) entry cookie attrs }
 
-    valid : (k : ℕ) (x : Door) (b : Bool) → (if b then Some d else door_of m k) ≡ Some x → x.revoked ≡ false
-    valid k x true g = let same : d ≡ x = cc in ap (λ (w : Door). w.revoked) (sym same)
-    valid k x false g = h.unbuilt.none_revoked k x g
-
     made : IsConsistent n
     made =
         doors_consistent m (with_door m.doors (process_of m t) entry cookie attrs) h
         (subst IsCoherent (sym (with_door-core m d refl))
         (door_keeps (core m) d h.coherent (numbered_past m.doors d.number (grind arith)) (grind (arith, creator_lives m t attrs h e f))))
-        (λ k x g. valid k x (k == length m.doors + 1) (sym (numbered_push m.doors d k) ∙ g))

@@ -8,32 +8,35 @@ use Rattle.written_kernel.specs.Types.{Request, ThreadState}
 use Rattle.kernel_records.specs.declared.record.ThreadState.TheVariants as is
 use Rattle.capabilities.specs.Words.{capability_of}
 use Rattle.capabilities.specs.declared.table.TheConstants.{BUILT}
-use Rattle.written_kernel.specs.Words.{MayInside, MayTurn, State, can_go_on, is_running_state, state_of, invocation_of}
+use Rattle.written_kernel.specs.Words.{MayTurn, State, can_go_on, is_running_state, state_of}
 use Rattle.kernel_invariant.specs.Coherent.{is_unbuilt}
 use Rattle.kernel_invariant.specs.Invariant.{IsConsistent, Invariant}
 use Rattle.kernel_invariant.specs.Events.{IsBuiltEnd, IsBuiltEntry, IsBuiltTurn, IsMade}
-use Rattle.kernel_invariant.proofs.Steps.{no_exit_inside}
 use Rattle.kernel_invariant.proofs.Waits.{given_found}
 
-entry_built : (m : State) (t : ℕ) (r : Request) → capability_of r ≤ BUILT → MayInside (invocation_of m t) r → IsBuiltEntry m t r
-entry_built m t (request.Create entry cookie attrs) h i = h
-entry_built m t (request.Call fd bytes pass rsize) h i = tt
-entry_built m t (request.Return bytes pass) h i = tt
-entry_built m t (request.Bind fd) h i = tt
-entry_built m t request.Unbind h i = tt
-entry_built m t (request.Info fd) h i = tt
-entry_built m t request.InfoQuery h i = tt
-entry_built m t (request.GetParam fd x) h i = tt
-entry_built m t (request.SetParam fd x value) h i = tt
-entry_built m t request.Cred h i = tt
-entry_built m t (request.Close fd) h i = tt
-entry_built m t (request.Dup fd) h i = tt
-entry_built m t (request.Attach fd path) h i = tt
-entry_built m t (request.Detach path) h i = tt
-entry_built m t (request.Open path) h i = tt
-entry_built m t (request.Await path) h i = tt
-entry_built m t request.Exit h i = no_exit_inside (invocation_of m t) i
-entry_built m t r h i = omega arith
+entry_built : (m : State) (t : ℕ) (r : Request) → capability_of r ≤ BUILT → IsBuiltEntry m t r
+entry_built m t (request.Create entry cookie attrs) h = h
+entry_built m t (request.Call fd bytes pass rsize) h = tt
+entry_built m t (request.Return bytes pass) h = tt
+entry_built m t (request.Revoke fd) h = tt
+entry_built m t (request.Bind fd) h = tt
+entry_built m t request.Unbind h = tt
+entry_built m t (request.Info fd) h = tt
+entry_built m t request.InfoQuery h = tt
+entry_built m t (request.GetParam fd x) h = tt
+entry_built m t (request.SetParam fd x value) h = tt
+entry_built m t request.Cred h = tt
+entry_built m t request.TestCancel h = tt
+entry_built m t (request.Close fd) h = tt
+entry_built m t (request.Dup fd) h = tt
+entry_built m t (request.Attach fd path) h = tt
+entry_built m t (request.Detach path) h = tt
+entry_built m t (request.Open path) h = tt
+entry_built m t (request.Await path) h = tt
+entry_built m t (request.Interrupt thread) h = tt
+entry_built m t (request.Kill process) h = tt
+entry_built m t request.Exit h = tt
+entry_built m t r h = omega arith
 
 made_of : {X : Type 0} (o : Option X) → is_some o ≡ true → IsMade o
 made_of None e = absurd (grind arith)
@@ -45,9 +48,10 @@ end_built :
 end_built m t (is.Given (item.Call c)) h e f g u = made_of _ (given_found m t c h e)
 end_built m t (is.Calling c) h e f g u = made_of _ f
 end_built m t (is.Awaiting path) h e f g u = made_of _ f
+end_built m t is.FailedReturn h e f g u = tt
 end_built m t s h e f g u = grind arith
 
 pub turn_built : (m : State) (t : ℕ) (q : Option Request) → Invariant m → MayTurn m t q → IsBuiltTurn m t q
-turn_built m t (Some r) h may = entry_built m t r may.built may.inside
+turn_built m t (Some r) h may = entry_built m t r may.built
 turn_built m t None h may =
     end_built m t (state_of m t) h.consistent refl may.runnable may.waits (h.consistent.coherent.has_built_state t)

@@ -4,10 +4,10 @@ use Rattle.std.proofs.Common.{refl, sym, ap, subst}
 use native.Mathlib.Omega.{arith}
 use Rattle.std.proofs.Common.{length-append}
 use Rattle.std.proofs.lemmas.Bool.Decides.{nat_tests}
-use Rattle.written_kernel.specs.Types.{Call, CallStage, Errno, Fd, Item, Obj, Pass, Request}
-use Rattle.kernel_records.specs.Words.{collect_call, first_refusal, is_client_call_of, is_entered_by, is_given_as, is_given_to, is_to_collect, is_to_collect_as, new_descriptors, objects_passed, open_call, park_thread, set_thread_state, tid, without_arguments_at}
-use Rattle.written_kernel.specs.Words.{ActResult, State, accept, accept_call, begin_call, call, call_tests, client_call, collect, collect_answer, collect_answer_in, door_named, fail_begin, find_call, has_room, invocation_of, is_valid, make_call, new_call, now, object_at, objects_collected, objects_collected_in, process_of, return, state_of, table_of, tables_after_collect, tables_after_pass, tables_with}
-use Rattle.dk_base.specs.declared.error.Errno.TheVariants.{EBADF, EMFILE}
+use Rattle.written_kernel.specs.Types.{Answer, Call, CallStage, Errno, Fd, Item, Obj, Pass, Request, ThreadState}
+use Rattle.kernel_records.specs.Words.{collect_call, end_invocation, first_refusal, is_client_call_of, is_entered_by, is_given_as, is_given_to, is_to_collect, is_to_collect_as, new_descriptors, objects_passed, open_call, park_thread, return_call, ProcessTable, set_thread_state, tid, without_arguments_at}
+use Rattle.written_kernel.specs.Words.{ActResult, State, accept, accept_call, begin_call, call, call_tests, client_call, collect, collect_answer, collect_answer_in, door_named, fail_begin, find_call, has_invalid_door, has_room, invocation_of, is_valid, make_call, new_call, now, object_at, objects_collected, objects_collected_in, process_of, return, return_answer, return_parked, return_tests, return_unbound, state_of, table_of, tables_after_collect, tables_after_pass, tables_with}
+use Rattle.dk_base.specs.declared.error.Errno.TheVariants.{EBADF, EINVAL, EMFILE}
 use Rattle.dk_base.specs.declared.object.Obj.TheVariants as obj
 use Rattle.dk_base.specs.declared.object.Item.TheVariants as item
 use Rattle.dk_base.specs.declared.request.Request.TheVariants as request
@@ -22,9 +22,9 @@ use Rattle.kernel_invariant.specs.Arrows.{ByAct}
 use Rattle.kernel_invariant.specs.Arrows.ByAct.{makes, returns, ends, collects_results, collects_nothing, collects_error, enters}
 use Rattle.kernel_invariant.specs.Arrows.EndsBy.{server_full}
 use Rattle.kernel_invariant.proofs.Calls.{IsInOrder-push, change_first-none, find-found, find-none, find-passes, find-past, find-push}
-use Rattle.kernel_invariant.proofs.Cores.{Turns, act-core, enter_thread-turns, park_thread-turns, set_thread_state-turns, upd}
-use Rattle.kernel_invariant.proofs.CallMoves.{call_keeps, enter_keeps, fail_keeps, return_keeps, park_keeps, collect_keeps}
-use Rattle.kernel_invariant.proofs.Acts.{AreTables, Does, act_consistent, act_result, after_act, arrow_at, does_call, does_nothing, does_thread, own_tables, same_tables, there}
+use Rattle.kernel_invariant.proofs.Cores.{Turns, act-core, end_invocation-turns, enter_thread-turns, park_thread-turns, set_thread_state-turns, upd}
+use Rattle.kernel_invariant.proofs.CallMoves.{call_keeps, enter_keeps, fail_keeps, is_after_return, return_keeps, park_keeps, collect_keeps}
+use Rattle.kernel_invariant.proofs.Acts.{AreTables, Does, act_consistent, act_result, after_act, arrow_at, does_call, does_nothing, does_thread, own_tables, same_tables, there, unbound_does}
 
 -- what a test finds is what its number finds
 pub record_found : (m : State) (test : Call → Bool) (r : Call) → IsConsistent m → find_call m test ≡ Some r → record_of m r.number ≡ Some r
@@ -240,34 +240,51 @@ no_client m t c h e f = go (record_of m c) refl
     go None g = grind (arith, h.coherent.invocations.entered_back c t f)
     go (Some r) g = grind (arith, nat_tests, h.coherent.invocations.entered_back c t f, find-none (is_client_call_of t) m.call_tree.calls c r e g)
 
-pub return_does :
-    (m : State) (t : ℕ) (bytes : List ℕ) (pass : List Pass) → IsConsistent m → state_of m t ≡ is.Running →
-    Does m t (Some (request.Return bytes pass)) (return m t (process_of m t) bytes pass)
-return_does m t bytes pass h e = go (client_call m t) refl
-  where
-    objects : List Obj
-    objects = objects_passed (table_of m (process_of m t)) pass
+-- what a Return leaves but for bindings, where its thread turns to a state after it
+module _ (m : State) (t : ℕ) (bytes : List ℕ) (pass : List Pass) (h : IsConsistent m) (e : state_of m t ≡ is.Running) (free : first_refusal (return_tests m t (process_of m t) bytes pass) ≡ None) where
+  return_turns :
+      (table : ProcessTable) (s : ThreadState) (a : Answer) → is_after_return s ≡ true → a ≡ return_answer m t →
+      Turns m.process_table table t s (upd (core m).serves t None) →
+      Does m t (Some (request.Return bytes pass))
+      (act_result (after_act m table (tables_after_pass m (process_of m t) pass) (return_call m.call_tree t bytes (objects_passed (table_of m (process_of m t)) pass))) a)
+  return_turns table s a w z turns = go (client_call m t) refl
+    where
+      objects : List Obj
+      objects = objects_passed (table_of m (process_of m t)) pass
 
-    tables : List (List (Option Obj))
-    tables = tables_after_pass m (process_of m t) pass
+      tables : List (List (Option Obj))
+      tables = tables_after_pass m (process_of m t) pass
 
-    rows : AreTables m tables
-    rows = own_tables m t _ h (λ z. grind arith)
+      rows : AreTables m tables
+      rows = own_tables m t _ h (λ z. grind arith)
 
-    turns : Turns m.process_table (park_thread m.process_table t (now m)) t (is.Idle (now m)) (upd (core m).serves t None)
-    turns = park_thread-turns m.process_table t (now m) (there m t (λ z. grind arith))
+      go :
+          (o : Option Call) → client_call m t ≡ o →
+          Does m t (Some (request.Return bytes pass)) (act_result (after_act m table tables (return_call m.call_tree t bytes objects)) a)
+      go (Some r) f =
+          let i : (r.abandoned ≡ false) × (r.stage ≡ stage.Entered (tid t)) = client_is t r (find-passes (is_client_call_of t) m.call_tree.calls r f) in
+          let g : record_of m r.number ≡ Some r = record_found m (is_client_call_of t) r h f in
+          does_call (is_client_call_of t) (without_arguments_at (stage.Returned bytes objects)) (λ x. refl)
+          m t _ a _ _ s _ r h rows turns f
+          (return_keeps (core m) t r bytes objects s h.coherent e w g (h.coherent.invocations.entered r.number t (grind arith)) i.0)
+          (returns r bytes pass refl free i.1 i.0 z)
+      go None f =
+          subst (λ rs. Does m t (Some (request.Return bytes pass)) (act_result (after_act m table tables (record m.call_tree { calls = rs })) a))
+          (sym (change_first-none (is_client_call_of t) (without_arguments_at (stage.Returned bytes objects)) m.call_tree.calls f))
+          (does_thread m t _ a _ tables s _ h rows turns
+          (park_keeps (core m) t s h.coherent e w (λ c g. no_client m t c h f g)
+          (λ i g. grind (arith, h.coherent.notices_entered.notice_entered_back i t g, h.unbuilt.no_notices))))
 
-    go : (o : Option Call) → client_call m t ≡ o → Does m t (Some (request.Return bytes pass)) (return m t (process_of m t) bytes pass)
-    go (Some r) f =
-        let s : (r.abandoned ≡ false) × (r.stage ≡ stage.Entered (tid t)) = client_is t r (find-passes (is_client_call_of t) m.call_tree.calls r f) in
-        let g : record_of m r.number ≡ Some r = record_found m (is_client_call_of t) r h f in
-        does_call (is_client_call_of t) (without_arguments_at (stage.Returned bytes objects)) (λ x. refl)
-        m t _ _ _ _ (is.Idle (now m)) _ r h rows turns f
-        (return_keeps (core m) t r bytes objects (now m) h.coherent e g (h.coherent.invocations.entered r.number t (grind arith)) s.0)
-        (returns r bytes pass refl s.1 s.0 refl)
-    go None f =
-        subst (λ rs. Does m t (Some (request.Return bytes pass)) (act_result (after_act m (park_thread m.process_table t (now m)) tables (record m.call_tree { calls = rs })) answer.Wait))
-        (sym (change_first-none (is_client_call_of t) (without_arguments_at (stage.Returned bytes objects)) m.call_tree.calls f))
-        (does_thread m t _ answer.Wait _ tables (is.Idle (now m)) _ h rows turns
-        (park_keeps (core m) t (now m) h.coherent e (λ c g. no_client m t c h f g)
-        (λ i g. grind (arith, h.coherent.notices_entered.notice_entered_back i t g, h.unbuilt.no_notices))))
+  pub return_does : Does m t (Some (request.Return bytes pass)) (return m t (process_of m t) bytes pass)
+  return_does = go (has_invalid_door m t) refl
+    where
+      go :
+          (b : Bool) → has_invalid_door m t ≡ b →
+          Does m t (Some (request.Return bytes pass)) (if b then return_unbound m t (process_of m t) bytes pass else return_parked m t (process_of m t) bytes pass)
+      go true f =
+          unbound_does m t _ _ (answer.Failure EINVAL)
+          (return_turns (end_invocation m.process_table t) is.Running (answer.Failure EINVAL) refl
+          (sym (ap (λ (b : Bool). if b then answer.Failure EINVAL else answer.Wait) f)) (end_invocation-turns m.process_table t e))
+      go false f =
+          return_turns (park_thread m.process_table t (now m)) (is.Idle (now m)) answer.Wait refl
+          (sym (ap (λ (b : Bool). if b then answer.Failure EINVAL else answer.Wait) f)) (park_thread-turns m.process_table t (now m) (there m t (λ z. grind arith)))

@@ -1,11 +1,11 @@
 -- The atomic changes of the core that acts of doors make: each keeps what holds of a core.
-use Rattle.std.specs.Prelude.{ℕ, ◌≡◌, ◌+◌, List, true, false, Some, None}
+use Rattle.std.specs.Prelude.{ℕ, ◌≡◌, ◌+◌, List, Bool, true, false, Some, None}
 use Rattle.std.proofs.Common.{refl}
 use native.Mathlib.Omega.{arith}
 use Rattle.std.proofs.lemmas.Bool.Decides.{nat_tests}
 use Rattle.dk_base.specs.declared.object.Item.TheVariants as item
 use Rattle.kernel_records.specs.declared.record.ThreadState.TheVariants as is
-use Rattle.written_kernel.specs.Types.{Call, Errno, Obj}
+use Rattle.written_kernel.specs.Types.{Call, Errno, Obj, ThreadState}
 use Rattle.kernel_records.specs.declared.record.CallStage.TheVariants as stage
 use Rattle.kernel_records.specs.Words.{is_to_collect, is_valid_in, new_invocation, no_cancel_of, tid, without_arguments_at}
 use Rattle.kernel_invariant.specs.Records.{item_in}
@@ -165,16 +165,22 @@ fail_keeps k t r x since h q g =
       has_built_state = λ v. grind (arith, nat_tests, h.has_built_state v);
     }
 
--- a thread returns from its call, and is parked
-abbrev pub returned_core : Core → ℕ → Call → List ℕ → List Obj → ℕ → Core
-returned_core k t r bytes objects since =
-    set_role (set_serves (set_call k r.number (without_arguments_at (stage.Returned bytes objects) r)) t None) t (is.Idle since)
+-- a thread that returns is parked, or goes on
+abbrev pub is_after_return : ThreadState → Bool
+is_after_return (is.Idle since) = true
+is_after_return is.Running = true
+is_after_return _ = false
+
+-- a thread returns from its call
+abbrev pub returned_core : Core → ℕ → Call → List ℕ → List Obj → ThreadState → Core
+returned_core k t r bytes objects s =
+    set_role (set_serves (set_call k r.number (without_arguments_at (stage.Returned bytes objects) r)) t None) t s
 
 pub return_keeps :
-    (k : Core) (t : ℕ) (r : Call) (bytes : List ℕ) (objects : List Obj) (since : ℕ) → IsCoherent k → k.role t ≡ is.Running →
-    k.call r.number ≡ Some r → item_in (k.serves t) ≡ Some (item.Call r.number) → r.abandoned ≡ false →
-    IsCoherent (returned_core k t r bytes objects since)
-return_keeps k t r bytes objects since h p q s a =
+    (k : Core) (t : ℕ) (r : Call) (bytes : List ℕ) (objects : List Obj) (s : ThreadState) → IsCoherent k → k.role t ≡ is.Running →
+    is_after_return s ≡ true → k.call r.number ≡ Some r → item_in (k.serves t) ≡ Some (item.Call r.number) → r.abandoned ≡ false →
+    IsCoherent (returned_core k t r bytes objects s)
+return_keeps k t r bytes objects s h p z q i a =
     record {
       waits =
           record {
@@ -190,7 +196,7 @@ return_keeps k t r bytes objects since h p q s a =
             entered_back = λ c v e f. grind (arith, nat_tests, h.invocations.entered_back c v, h.invocations.entered_back r.number t);
             kept = λ c e. grind (arith, nat_tests, h.invocations.kept c);
           };
-      notices_given = notices_turn k.role k.notice t _ h.notices_given (grind arith) refl;
+      notices_given = notices_turn k.role k.notice t _ h.notices_given (grind arith) (grind arith);
       notices_entered = notices_serve k.serves k.notice t _ h.notices_entered (λ n e. grind arith) (λ n e. grind arith);
       servers =
           record {
@@ -207,15 +213,15 @@ return_keeps k t r bytes objects since h p q s a =
       has_built_state = λ v. grind (arith, nat_tests, h.has_built_state v);
     }
 
--- a thread without a client is parked
-abbrev pub parked_core : Core → ℕ → ℕ → Core
-parked_core k t since = set_role (set_serves k t None) t (is.Idle since)
+-- a thread without a client returns
+abbrev pub parked_core : Core → ℕ → ThreadState → Core
+parked_core k t s = set_role (set_serves k t None) t s
 
 pub park_keeps :
-    (k : Core) (t since : ℕ) → IsCoherent k → k.role t ≡ is.Running →
+    (k : Core) (t : ℕ) (s : ThreadState) → IsCoherent k → k.role t ≡ is.Running → is_after_return s ≡ true →
     ((c : ℕ) → item_in (k.serves t) ≡ Some (item.Call c) → abandoned_in (k.call c) ≡ true) →
-    ((n : ℕ) → item_in (k.serves t) ≡ Some (item.Notice n) → ⊥) → IsCoherent (parked_core k t since)
-park_keeps k t since h p q z =
+    ((n : ℕ) → item_in (k.serves t) ≡ Some (item.Notice n) → ⊥) → IsCoherent (parked_core k t s)
+park_keeps k t s h p w q z =
     record {
       waits =
           record {
@@ -231,7 +237,7 @@ park_keeps k t since h p q z =
             entered_back = λ c v e f. grind (arith, nat_tests, h.invocations.entered_back c v);
             kept = h.invocations.kept;
           };
-      notices_given = notices_turn k.role k.notice t _ h.notices_given (grind arith) refl;
+      notices_given = notices_turn k.role k.notice t _ h.notices_given (grind arith) (grind arith);
       notices_entered = notices_serve k.serves k.notice t _ h.notices_entered z (λ n e. grind arith);
       servers =
           record {

@@ -5,12 +5,12 @@ use native.Mathlib.Omega.{arith}
 use Rattle.std.proofs.lemmas.Bool.Decides.{nat_tests}
 use Rattle.written_kernel.specs.Types.{Call, Door, Inv, Item, Thread, ThreadState}
 use Rattle.kernel_records.specs.declared.record.ThreadState.TheVariants as is
-use Rattle.kernel_records.specs.Words.{CallTree, ProcessTable, change_door, change_thread, end_thread, ended_thread, enter_thread, idle_thread, invocation_in, new_invocation, park_thread, process_in, set_thread_state, state_in, thread_at, thread_at_state, thread_in_invocation}
+use Rattle.kernel_records.specs.Words.{CallTree, ProcessTable, change_door, change_thread, end_invocation, enter_thread, idle_thread, invocation_in, new_invocation, park_thread, process_in, set_thread_state, state_in, thread_at, thread_at_state, thread_in_invocation, thread_outside}
 use Rattle.dk_base.specs.ByNumber.{at_number}
 use Rattle.written_kernel.specs.Words.{State}
 use Rattle.kernel_invariant.specs.Records.{has_number}
 use Rattle.kernel_invariant.specs.Core.{Core, core, number_in}
-use Rattle.written_kernel.proofs.Invocations.{invocation-end_thread, invocation-enter_thread, invocation-park_thread, invocation-set_thread_state}
+use Rattle.written_kernel.proofs.Invocations.{invocation-enter_thread, invocation-park_thread, invocation-set_thread_state, invocation-without}
 use Rattle.written_kernel.proofs.Doors.{at_number-change_door}
 use Rattle.written_kernel.proofs.Lists.{numbered_push}
 use Rattle.written_kernel.proofs.Threads.{processes-change_thread, thread_at-change_thread}
@@ -150,19 +150,34 @@ park_thread-turns table t now there =
     number None = refl
     number (Some x) = refl
 
-pub end_thread-turns :
-    (table : ProcessTable) (t : ℕ) → IsThere table t →
-    Turns table (end_thread table t) t is.Done (upd (λ u. invocation_in (thread_at table u)) t None)
-end_thread-turns table t there =
-    change_turns table t ended_thread is.Done _ (λ x. refl) process number there (invocation-end_thread table t)
+-- a thread that runs goes on without its invocation
+pub end_invocation-turns :
+    (table : ProcessTable) (t : ℕ) → state_in (thread_at table t) ≡ is.Running →
+    Turns table (end_invocation table t) t is.Running (upd (λ u. invocation_in (thread_at table u)) t None)
+end_invocation-turns table t e =
+    record {
+      role = λ u. read_same table t thread_outside state_in state u ∙ stays u (u == t) refl;
+      invocation = λ u. invocation-without table t u thread_outside (λ x. refl);
+      process = read_same table t thread_outside process_in process;
+      number = read_same table t thread_outside number_in number;
+      processes = processes-change_thread table t thread_outside;
+    }
   where
-    process : (o : Option Thread) → process_in (option_map ended_thread o) ≡ process_in o
+    state : (o : Option Thread) → state_in (option_map thread_outside o) ≡ state_in o
+    state None = refl
+    state (Some x) = refl
+
+    process : (o : Option Thread) → process_in (option_map thread_outside o) ≡ process_in o
     process None = refl
     process (Some x) = refl
 
-    number : (o : Option Thread) → number_in (option_map ended_thread o) ≡ number_in o
+    number : (o : Option Thread) → number_in (option_map thread_outside o) ≡ number_in o
     number None = refl
     number (Some x) = refl
+
+    stays : (u : ℕ) (b : Bool) → (u == t) ≡ b → state_in (thread_at table u) ≡ (if b then is.Running else state_in (thread_at table u))
+    stays u true f = ap (λ (v : ℕ). state_in (thread_at table v)) (grind (arith, nat_tests)) ∙ e
+    stays u false f = refl
 
 -- an act that changes a thread and the calls
 pub act-core :

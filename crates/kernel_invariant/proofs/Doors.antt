@@ -1,22 +1,23 @@
 -- A door stays over an event, or is new and made by a Create of the event's thread.
-use Rattle.std.specs.Prelude.{ℕ, ◌≡◌, ◌+◌, Option, Bool, true, false, ◌==◌, if◌then◌else◌, Some, None, length, option_map}
+use Rattle.std.specs.Prelude.{ℕ, ◌≡◌, ◌+◌, List, Option, Bool, true, false, ◌==◌, if◌then◌else◌, Some, None, length, option_map}
 use Rattle.std.proofs.Common.{refl, sym, subst}
 use native.Mathlib.Omega.{arith}
 use Rattle.std.proofs.lemmas.Bool.Decides.{nat_tests}
-use Rattle.written_kernel.specs.Types.{Attrs, Call, Door, Errno, Item, Name, Param, PathId, Request, ThreadState}
+use Rattle.written_kernel.specs.Types.{Attrs, Call, Door, Errno, Item, Name, Param, Pass, PathId, Request, ThreadState}
 use Rattle.dk_base.specs.declared.object.Item.TheVariants as item
 use Rattle.dk_base.specs.declared.request.Param.TheVariants as param
 use Rattle.dk_base.specs.declared.request.Request.TheVariants as request
 use Rattle.kernel_records.specs.declared.record.ThreadState.TheVariants as is
 use Rattle.dk_base.specs.ByNumber.{at_number}
-use Rattle.kernel_records.specs.Words.{is_given_as, is_last, new_door, set_param, with_door, with_owner_ended, with_param}
-use Rattle.written_kernel.specs.Words.{MayTurn, State, accept, accept_call, act, await, await_name, begin_call, door_of, effect, enter, exit, fail_begin, find_call, go_on, has_room, leave_process, leave_thread, name_of, process_of, refusal_of, state_of, step, unless_refused}
+use Rattle.kernel_records.specs.Words.{is_given_as, new_door, set_param, with_door, with_param}
+use Rattle.written_kernel.specs.Words.{MayTurn, State, accept, accept_call, act, await, await_name, begin_call, door_of, effect, enter, fail_begin, find_call, go_on, has_invalid_door, has_room, name_of, process_of, refusal_of, return, return_parked, return_unbound, state_of, step, unless_refused}
 use Rattle.written_kernel.proofs.Doors.{at_number-change_door}
-use Rattle.written_kernel.proofs.Lists.{at_number-map, numbered_push, numbered_past}
-use Rattle.kernel_invariant.specs.Invariant.{Invariant}
+use Rattle.written_kernel.proofs.Lists.{numbered_push, numbered_past}
+use Rattle.kernel_invariant.specs.Invariant.{IsConsistent, Invariant}
 use Rattle.kernel_invariant.specs.Events.{DoorArrow}
 use Rattle.kernel_invariant.specs.Events.DoorArrow.{none, kept, created}
-use Rattle.kernel_invariant.proofs.Steps.{StepDoes, step_does}
+use Rattle.kernel_invariant.proofs.Leaving.{exit_leaves, interrupt_leaves, kill_leaves, revoke_leaves}
+use Rattle.kernel_invariant.proofs.Steps.{StepDoes, running_is, step_does}
 
 -- door d, from state m to state n
 
@@ -73,35 +74,35 @@ await_holds m t q path d = go (name_of m path)
     go None = stays m t q (door_of m d)
     go (Some n) = stays m t q (door_of m d)
 
--- a door of a process that ends
-ended_holds : (m : State) (t : ℕ) (q : Option Request) (p : ℕ) (o : Option Door) → DoorArrow m t q o (option_map (with_owner_ended p) o)
-ended_holds m t q p None = none
-ended_holds m t q p (Some x) = go (x.owner.0 == p)
+return_holds :
+    (m : State) (t : ℕ) (q : Option Request) (p : ℕ) (bytes : List ℕ) (pass : List Pass) (d : ℕ) → Holds m t q (return m t p bytes pass).state d
+return_holds m t q p bytes pass d = go (has_invalid_door m t)
   where
-    go : (b : Bool) → DoorArrow m t q (Some x) (Some (if b then record x { owner_ended = true } else x))
-    go true = kept x _ (record { number = refl; owner = refl; entry = refl; cookie = refl; attrs = refl })
-    go false = stays m t q (Some x)
-
-exit_holds : (m : State) (t : ℕ) (q : Option Request) (p d : ℕ) → Holds m t q (exit m t p).state d
-exit_holds m t q p d = go (is_last m.process_table t p)
-  where
-    go : (b : Bool) → Holds m t q (if b then leave_process m p else leave_thread m t) d
-    go true = subst (λ o. DoorArrow m t q (door_of m d) o) (sym (at_number-map (with_owner_ended p) m.doors d)) (ended_holds m t q p (door_of m d))
+    go : (b : Bool) → Holds m t q (if b then return_unbound m t p bytes pass else return_parked m t p bytes pass).state d
+    go true = stays m t q (door_of m d)
     go false = stays m t q (door_of m d)
 
-effect_holds : (m : State) (t : ℕ) (r : Request) (d : ℕ) → Holds m t (Some r) (effect m t (process_of m t) r).state d
-effect_holds m t (request.Create entry cookie attrs) d = create_holds m t entry cookie attrs d
-effect_holds m t (request.SetParam fd x value) d = set_param_holds m t _ x value _ d
-effect_holds m t (request.Await path) d = await_holds m t _ path d
-effect_holds m t request.Exit d = exit_holds m t _ (process_of m t) d
-effect_holds m t r d = stays m t _ (door_of m d)
+effect_holds :
+    (m : State) (t : ℕ) (r : Request) (d : ℕ) → IsConsistent m → state_of m t ≡ is.Running →
+    Holds m t (Some r) (effect m t (process_of m t) r).state d
+effect_holds m t (request.Create entry cookie attrs) d h e = create_holds m t entry cookie attrs d
+effect_holds m t (request.Return bytes pass) d h e = return_holds m t _ (process_of m t) bytes pass d
+effect_holds m t (request.Revoke fd) d h e = (revoke_leaves m _ t fd h e).doors d
+effect_holds m t (request.SetParam fd x value) d h e = set_param_holds m t _ x value _ d
+effect_holds m t (request.Await path) d h e = await_holds m t _ path d
+effect_holds m t (request.Interrupt thread) d h e = (interrupt_leaves m t thread.0 h).doors d
+effect_holds m t (request.Kill process) d h e = (kill_leaves m t _ process.0 h).doors d
+effect_holds m t request.Exit d h e = (exit_leaves m t _ (process_of m t) h).doors d
+effect_holds m t r d h e = stays m t _ (door_of m d)
 
-enter_holds : (m : State) (t : ℕ) (r : Request) (d : ℕ) → Holds m t (Some r) (enter m t (process_of m t) r).state d
-enter_holds m t r d = go (refusal_of m t (process_of m t) r)
+enter_holds :
+    (m : State) (t : ℕ) (r : Request) (d : ℕ) → IsConsistent m → state_of m t ≡ is.Running →
+    Holds m t (Some r) (enter m t (process_of m t) r).state d
+enter_holds m t r d h e = go (refusal_of m t (process_of m t) r)
   where
     go : (o : Option Errno) → Holds m t (Some r) (unless_refused m o (effect m t (process_of m t) r)).state d
     go (Some x) = stays m t _ (door_of m d)
-    go None = effect_holds m t r d
+    go None = effect_holds m t r d h e
 
 accept_holds : (m : State) (t p : ℕ) (i : Item) (d : ℕ) → Holds m t None (accept m t p i).state d
 accept_holds m t p (item.Notice n) d = stays m t None (door_of m d)
@@ -119,9 +120,9 @@ go_on_holds : (m : State) (t p : ℕ) (s : ThreadState) (d : ℕ) → Holds m t 
 go_on_holds m t p (is.Given i) d = accept_holds m t p i d
 go_on_holds m t p s d = stays m t None (door_of m d)
 
-act_holds : (m : State) (t : ℕ) (q : Option Request) (d : ℕ) → Holds m t q (act m t q).state d
-act_holds m t (Some r) d = enter_holds m t r d
-act_holds m t None d = go_on_holds m t (process_of m t) (state_of m t) d
+act_holds : (m : State) (t : ℕ) (q : Option Request) (d : ℕ) → IsConsistent m → MayTurn m t q → Holds m t q (act m t q).state d
+act_holds m t (Some r) d h may = enter_holds m t r d h (running_is m t may.running)
+act_holds m t None d h may = go_on_holds m t (process_of m t) (state_of m t) d
 
 -- what the kernel does after an act leaves every door as it is
 pub step_holds :
@@ -130,4 +131,4 @@ pub step_holds :
 unfolding step
 step_holds m t q d h may =
     let k : StepDoes m t q = step_does m t q h may in
-    subst (λ o. DoorArrow m t q (door_of m d) o) (sym (k.settled.gave.doors d)) (act_holds m t q d)
+    subst (λ o. DoorArrow m t q (door_of m d) o) (sym (k.settled.gave.doors d)) (act_holds m t q d h.consistent may)

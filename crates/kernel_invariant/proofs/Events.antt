@@ -9,13 +9,14 @@ use Rattle.kernel_invariant.specs.Invariant.{Invariant}
 use Rattle.kernel_invariant.specs.Arrows.{ByGiving}
 use Rattle.kernel_invariant.specs.Arrows.ByGiving.{stays, gives}
 use Rattle.kernel_invariant.specs.Events.{IsMade, IsToldBy, Keeps}
-use Rattle.kernel_invariant.proofs.Steps.{StepDoes, step_does, step_invariant, step_arrows, step_none_lost}
+use Rattle.kernel_invariant.proofs.Steps.{StepDoes, step_does, step_invariant, step_arrows}
 use Rattle.kernel_invariant.proofs.Serving.{step_serves}
 use Rattle.kernel_invariant.proofs.Doors.{step_holds}
 use Rattle.kernel_invariant.proofs.Answers.{Tells, act_tells, is_there}
 use Rattle.kernel_invariant.proofs.Waits.{step_accepted, step_collected}
 use Rattle.kernel_invariant.proofs.Built.{turn_built}
 use Rattle.kernel_invariant.proofs.Refusals.{step_refused}
+use Rattle.kernel_invariant.proofs.Losing.{act_none_lost}
 
 step_tells : (m : State) (t : ℕ) (q : Option Request) → Invariant m → IsToldBy m t q (step m t q).answer
 unfolding step
@@ -48,6 +49,6 @@ step_keeps m t q h may =
       accepted = λ c e f. step_accepted m t q c h may e f;
       collected = λ c e f. step_collected m t q c h may e f;
       refused = λ r e f g. step_refused m t q r e h f g;
-      none_lost = λ u. step_none_lost m t u q h may;
+      none_lost = λ e u. act_none_lost m t u q h may e;
       is_built = turn_built m t q h may;
     }

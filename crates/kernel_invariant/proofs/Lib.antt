@@ -3,9 +3,13 @@ pub mod Cores
 pub mod Parts
 pub mod CallMoves
 pub mod ThreadMoves
+pub mod Later
 pub mod Acts
 pub mod CallActs
-pub mod Exits
+pub mod LeftCores
+pub mod LeftStates
+pub mod Leaving
+pub mod Failing
 pub mod Picks
 pub mod Settling
 pub mod Steps
@@ -15,5 +19,6 @@ pub mod Answers
 pub mod Waits
 pub mod Built
 pub mod Refusals
+pub mod Losing
 pub mod Events
 pub mod Openings

@@ -4,7 +4,7 @@ use Rattle.std.proofs.Common.{refl, sym, ap, subst, ⊎_elim}
 use native.Mathlib.Omega.{arith}
 use Rattle.std.proofs.lemmas.Bool.Decides.{nat_tests}
 use Rattle.std.proofs.lemmas.List.Elements.{All-nil}
-use Rattle.written_kernel.specs.Types.{Door, Process, Thread, ThreadState}
+use Rattle.written_kernel.specs.Types.{Process, Thread, ThreadState}
 use Rattle.kernel_records.specs.declared.record.ThreadState.TheVariants as is
 use Rattle.dk_base.specs.ByNumber.{at_number}
 use Rattle.kernel_records.specs.Words.{CallTree, NoticeList, process_in}
@@ -109,9 +109,6 @@ module _ (m : State) (o : IsOpening m) where
   no_door : (d : ℕ) → (core m).door d ≡ None
   no_door d = grind (arith, nat_tests, (opened o).doors)
 
-  no_doors : (d : ℕ) (x : Door) → (core m).door d ≡ Some x → ⊥
-  no_doors d x e = grind (arith, no_door d)
-
   no_notice : (n : ℕ) → (core m).notice n ≡ None
   no_notice n = grind (arith, nat_tests, (opened o).notice_list)
 
@@ -126,7 +123,7 @@ module _ (m : State) (o : IsOpening m) where
                   coherent_of (core m) no_call_at_first no_door no_notice states (invocation_of-opening o) numbers (bound_of-opening o) living there;
               tables = length-tables_opening o;
               no_rows = λ p fd e. object_at-opening o p fd;
-              unbuilt = record { no_notices = ap (λ (list : NoticeList). list.notices) (opened o).notice_list; none_revoked = λ d x e. absurd (no_doors d x e) };
+              unbuilt = record { no_notices = ap (λ (list : NoticeList). list.notices) (opened o).notice_list };
             };
         idle_valid = λ t d since e f. grind (arith, states t);
         given_out =

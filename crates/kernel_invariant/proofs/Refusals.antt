@@ -41,7 +41,7 @@ settles_nothing m lost h =
     ∙ starts_nothing m (length m.process_table.processes)
 
 pub settles_to_itself : (m : State) → Invariant m → settle m m ≡ m
-settles_to_itself m h = settles_nothing m (no_lost_door m h.consistent) h.given_out
+settles_to_itself m h = settles_nothing m (no_lost_door m h) h.given_out
 
 -- a refused entry, where no idle thread has lost its door and giving gives nothing
 pub refused_gives :
@@ -56,4 +56,4 @@ pub step_refused :
     (m : State) (t : ℕ) (q : Option Request) (r : Request) (e : Errno) → Invariant m → q ≡ Some r →
     refusal_of m t (process_of m t) r ≡ Some e → (step m t q).state ≡ with_event_counted m
 step_refused m t q r e h f g =
-    subst (λ o. (step m t o).state ≡ with_event_counted m) (sym f) (refused_gives m t r e (no_lost_door m h.consistent) h.given_out g)
+    subst (λ o. (step m t o).state ≡ with_event_counted m) (sym f) (refused_gives m t r e (no_lost_door m h) h.given_out g)

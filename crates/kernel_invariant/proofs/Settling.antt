@@ -1,28 +1,30 @@
--- What the kernel does after an act: calls that wait are given to idle threads, until no pool has both, and spare threads
--- start. No idle thread has lost the door that it is bound to.
-use Rattle.std.specs.Prelude.{ℕ, ◌≡◌, ◌+◌, ◌<◌, ◌≤◌, List, [], ◌∷◌, Option, Bool, true, false, not, ◌==◌, ◌&&◌, Some, None, is_some, map, filter, find, cond, All}
-use Rattle.std.proofs.Common.{refl, sym, ap, subst, ◌∙◌, inl, inr, true≢false}
+-- What the kernel does after an act: idle threads that lost their door fail, calls that wait are given to the others, until no
+-- pool has both, and spare threads start. Then no idle thread has lost the door that it is bound to.
+use Rattle.std.specs.Prelude.{ℕ, ◌≡◌, ◌+◌, ◌<◌, ◌≤◌, List, [], ◌∷◌, Option, Bool, true, false, not, ◌==◌, ◌&&◌, if◌then◌else◌, Some, None, map, filter, find, cond, All}
+use Rattle.std.proofs.Common.{refl, sym, ap, ap₂, subst, ◌∙◌, inl, inr}
 use native.Mathlib.Omega.{arith}
 use Rattle.std.proofs.lemmas.Bool.Decides.{nat_tests}
 use Rattle.dk_base.specs.declared.object.Item.TheVariants as item
-use Rattle.written_kernel.specs.Types.{Call, Door, Item, Parked, Thread, ThreadState}
+use Rattle.written_kernel.specs.Types.{Call, Item, Parked, ThreadState}
 use Rattle.kernel_records.specs.declared.record.ThreadState.TheVariants as is
 use Rattle.kernel_records.specs.declared.record.CallStage.TheVariants as stage
-use Rattle.kernel_records.specs.Words.{at_stage, is_idle, is_live_in, is_queued, is_queued_as, is_queued_call, is_valid_in, is_waiting_notice, set_thread_state, tid, waiting_call, waiting_notice, with_notices}
-use Rattle.written_kernel.specs.Words.{State, bound_of, door_of, find_call, give, give_each, give_one, give_to, has_lost_door, invocation_of, is_bound_to_invalid, is_valid, pick, pool_of, process_of, settle, state_of, thread_of, waiting_items, with_state}
-use Rattle.kernel_invariant.specs.Records.{has_number, owner_in, record_of}
-use Rattle.kernel_invariant.specs.Core.{Core, core, door_in, number_in}
+use Rattle.kernel_records.specs.Words.{at_stage, is_idle, is_queued, is_queued_as, is_queued_call, is_valid_in, is_waiting_notice, set_thread_state, tid, waiting_call, waiting_notice, with_notices}
+use Rattle.written_kernel.specs.Words.{State, bound_of, door_of, fail_return, fail_returns, find_call, give, give_and_start, give_each, give_one, give_to, has_invalid_door, has_lost_door, invocation_of, is_bound_to_invalid, pick, pool_of, settle, state_of, waiting_items, with_state}
+use Rattle.kernel_invariant.specs.Records.{has_number, record_of}
+use Rattle.kernel_invariant.specs.Core.{Core, core, door_in}
 use Rattle.kernel_invariant.specs.Coherent.{IsCoherent}
-use Rattle.kernel_invariant.specs.Invariant.{IsInOrder, IsConsistent}
+use Rattle.kernel_invariant.specs.Invariant.{IsInOrder, IsConsistent, Invariant}
 use Rattle.kernel_invariant.specs.Arrows.{ByGiving}
 use Rattle.kernel_invariant.specs.Arrows.ByGiving.{stays, gives}
 use Rattle.kernel_invariant.proofs.Calls.{IsInOrder-change_first, find-as, length-change_first}
 use Rattle.kernel_invariant.proofs.Cores.{Turns, act-core, set_role, set_thread_state-turns, upd}
 use Rattle.kernel_invariant.proofs.ThreadMoves.{given_core, Gives, give_keeps, start_keeps}
-use Rattle.kernel_invariant.proofs.Acts.{act_consistent, change-core, lives, not_ended, same_tables, there}
+use Rattle.kernel_invariant.proofs.Acts.{act_consistent, change-core, same_tables, there}
+use Rattle.kernel_invariant.proofs.Failing.{IsIdleSince, fail-turns, fail_return-keeps, idle_of_lost, lost-fail_return, valid_where_kept}
 use Rattle.kernel_invariant.proofs.Picks.{IsParked, pick_is, parked_is, pick_owner}
 use Rattle.written_kernel.proofs.Giving.{IsIn, IsApart, no_idle_for}
-use Rattle.written_kernel.proofs.Settling.{settle-none, start_spares-all}
+use Rattle.written_kernel.proofs.Failing.{has_lost_door-fail_returns}
+use Rattle.written_kernel.proofs.Settling.{fail_returns-all, start_spares-all}
 use Rattle.dk_base.specs.ByNumber.{at_number}
 use Rattle.std.proofs.lemmas.List.Elements.{All-nil, All-cons, All-map}
 
@@ -40,20 +42,23 @@ is_at_rest is.Dormant = true
 is_at_rest (is.Idle since) = true
 is_at_rest _ = false
 
--- a thread is idle since then, or was given an item
-pub data IsIdleOrGiven (since : ℕ) (s : ThreadState) : Type 0 where
-  still_idle : s ≡ is.Idle since → IsIdleOrGiven since s
-  given_item : (i : Item) → s ≡ is.Given i → IsIdleOrGiven since s
+-- a thread t that was idle since then is still idle, or was given an item, or has failed since it had lost its door in state m
+pub data IsIdleOrGiven (m : State) (t since : ℕ) (s : ThreadState) : Type 0 where
+  still_idle : s ≡ is.Idle since → IsIdleOrGiven m t since s
+  given_item : (i : Item) → s ≡ is.Given i → IsIdleOrGiven m t since s
+  failed : has_lost_door m t ≡ true → s ≡ is.FailedReturn → IsIdleOrGiven m t since s
 
--- what giving and starting keep, and the arrows that calls take by them
+-- what failing, giving and starting keep, and the arrows that calls take by them
 pub record Gave (m n : State) : Type 0 where
   pub consistent : IsConsistent n
   pub arrows : (c : ℕ) → ByGiving (record_of m c) (record_of n c)
   pub serves : (t : ℕ) → invocation_of n t ≡ invocation_of m t
-  -- only threads that are idle or dormant turn to another state, an idle one as it is given an item, and none is done
+  -- only threads that are idle or dormant turn to another state, an idle one as it is given an item or fails, and none is done
   pub busy : (t : ℕ) → is_at_rest (state_of m t) ≡ false → state_of n t ≡ state_of m t
-  pub idle : (t since : ℕ) → state_of m t ≡ is.Idle since → IsIdleOrGiven since (state_of n t)
+  pub idle : (t since : ℕ) → state_of m t ≡ is.Idle since → IsIdleOrGiven m t since (state_of n t)
   pub done : (t : ℕ) → state_of n t ≡ is.Done → state_of m t ≡ is.Done
+  -- no thread loses its door
+  pub lost : (t : ℕ) → has_lost_door m t ≡ false → has_lost_door n t ≡ false
   pub doors : (d : ℕ) → door_of n d ≡ door_of m d
   pub processes : (p : ℕ) → (core n).proc p ≡ (core m).proc p
 
@@ -66,13 +71,28 @@ gave_nothing m h =
       busy = λ t e. refl;
       idle = λ t since e. still_idle e;
       done = λ t e. e;
+      lost = λ t e. e;
       doors = λ d. refl;
       processes = λ p. refl;
     }
 
-idle_then : (m n : State) (t since : ℕ) → Gave m n → IsIdleOrGiven since (state_of m t) → IsIdleOrGiven since (state_of n t)
-idle_then m n t since g (still_idle e) = g.idle t since e
-idle_then m n t since g (given_item i e) = given_item i (g.busy t (ap is_at_rest e) ∙ e)
+lost_before : (m n : State) (t : ℕ) → Gave m n → has_lost_door n t ≡ true → has_lost_door m t ≡ true
+lost_before m n t g e = go (has_lost_door m t) refl
+  where
+    go : (b : Bool) → has_lost_door m t ≡ b → b ≡ true
+    go true f = refl
+    go false f = sym (g.lost t f) ∙ e
+
+idle_then :
+    (m n o : State) (t since : ℕ) → Gave m n → Gave n o → IsIdleOrGiven m t since (state_of n t) → IsIdleOrGiven m t since (state_of o t)
+idle_then m n o t since g h (still_idle e) = go _ (h.idle t since e)
+  where
+    go : (s : ThreadState) → IsIdleOrGiven n t since s → IsIdleOrGiven m t since s
+    go s (still_idle f) = still_idle f
+    go s (given_item i f) = given_item i f
+    go s (failed l f) = failed (lost_before m n t g l) f
+idle_then m n o t since g h (given_item i e) = given_item i (h.busy t (ap is_at_rest e) ∙ e)
+idle_then m n o t since g h (failed l e) = failed l (h.busy t (ap is_at_rest e) ∙ e)
 
 gave_then : (m n o : State) → Gave m n → Gave n o → Gave m o
 gave_then m n o g h =
@@ -81,8 +101,9 @@ gave_then m n o g h =
       arrows = λ c. giving_then (record_of m c) (record_of n c) (record_of o c) (g.arrows c) (h.arrows c);
       serves = λ t. h.serves t ∙ g.serves t;
       busy = λ t e. h.busy t (ap is_at_rest (g.busy t e) ∙ e) ∙ g.busy t e;
-      idle = λ t since e. idle_then n o t since h (g.idle t since e);
+      idle = λ t since e. idle_then m n o t since g h (g.idle t since e);
       done = λ t e. g.done t (h.done t e);
+      lost = λ t e. h.lost t (g.lost t e);
       doors = λ d. h.doors d ∙ g.doors d;
       processes = λ p. h.processes p ∙ g.processes p;
     }
@@ -101,6 +122,16 @@ giving_at i x f g e a c = go (c == i) refl
     go false h =
         let is : g c ≡ f c = grind (arith, e c) in
         subst (λ o. ByGiving (f c) o) (sym is) stays
+
+-- where one thread turns to a state that is not idle, no thread loses its door
+lost_turned :
+    (m n : State) (u t : ℕ) (s : ThreadState) → is_idle s ≡ false → state_of n t ≡ upd (λ v. state_of m v) u s t →
+    has_invalid_door n t ≡ has_invalid_door m t → has_lost_door m t ≡ false → has_lost_door n t ≡ false
+lost_turned m n u t s i e f l = ap₂ (λ (x : ThreadState) (b : Bool). is_idle x && b) e f ∙ go (t == u)
+  where
+    go : (b : Bool) → is_idle (if b then s else state_of m t) && has_invalid_door m t ≡ false
+    go true = ap (λ (b : Bool). b && has_invalid_door m t) i
+    go false = l
 
 -- a waiting call, to the pick of its pool if there is one
 
@@ -126,6 +157,7 @@ give_one_does m r u h g =
             busy = λ t e. grind (arith, nat_tests, g.idle, ap (λ (k : Core). k.role t) l);
             idle = idle;
             done = λ t e. grind (arith, nat_tests, ap (λ (k : Core). k.role t) l);
+            lost = λ t e. lost_at t (ap (λ (k : Core). k.role t) l) e;
             doors = λ d. refl;
             processes = λ p. ap (λ (k : Core). k.proc p) l;
           };
@@ -147,10 +179,14 @@ give_one_does m r u h g =
     l : core n ≡ given_core (core m) r u
     l = change-core (is_queued_as r.number) change (λ y. refl) m u _ m.tables _ _ r h turns found
 
-    idle : (t since : ℕ) → state_of m t ≡ is.Idle since → IsIdleOrGiven since (state_of n t)
+    -- the thread is no more idle
+    lost_at : (t : ℕ) → state_of n t ≡ upd (λ v. state_of m v) u (is.Given (item.Call r.number)) t → has_lost_door m t ≡ false → has_lost_door n t ≡ false
+    lost_at t f e = lost_turned m n u t (is.Given (item.Call r.number)) refl f refl e
+
+    idle : (t since : ℕ) → state_of m t ≡ is.Idle since → IsIdleOrGiven m t since (state_of n t)
     idle t since e = go (t == u) refl
       where
-        go : (b : Bool) → (t == u) ≡ b → IsIdleOrGiven since (state_of n t)
+        go : (b : Bool) → (t == u) ≡ b → IsIdleOrGiven m t since (state_of n t)
         go true f = given_item (item.Call r.number) (grind (arith, nat_tests, ap (λ (k : Core). k.role t) l))
         go false f = still_idle (grind (arith, nat_tests, ap (λ (k : Core). k.role t) l))
 
@@ -239,6 +275,7 @@ start_does m t h e =
       busy = λ u f. grind (arith, nat_tests, turns.role u);
       idle = λ u since f. still_idle (still u since f);
       done = λ u f. grind (arith, nat_tests, turns.role u);
+      lost = λ u f. lost_turned m (with_state m t is.Running) t u is.Running refl (turns.role u) refl f;
       doors = λ d. refl;
       processes = λ p. ap (λ (k : Core). k.proc p) l;
     }
@@ -252,44 +289,77 @@ start_does m t h e =
     l : core (with_state m t is.Running) ≡ set_role (core m) t is.Running
     l = act-core m (set_thread_state m.process_table t is.Running) m.call_tree t is.Running _ (core m).call turns (λ c. refl)
 
--- a thread that is not Done is of a process that lives, and so the door that it is bound to is valid
-pub bound_valid :
-    (m : State) → IsConsistent m → (t d : ℕ) → (state_of m t ≡ is.Done → ⊥) → bound_of m t ≡ Some d → is_valid m d ≡ true
-bound_valid m h t d busy e = go (door_of m d) refl (h.coherent.bindings.bound_own t d e)
+-- an idle thread that lost its door fails
+
+fail_does : (m : State) (t : ℕ) → IsConsistent m → has_lost_door m t ≡ true → Gave m (fail_return m t)
+fail_does m t h l =
+    record {
+      consistent = fail_return-keeps m t i.since i.idle h;
+      arrows = λ c. stays;
+      serves = λ u. turns.invocation u;
+      busy = λ u f. grind (arith, nat_tests, turns.role u, i.idle);
+      idle = λ u since f. idle u since f (u == t) refl;
+      done = λ u f. grind (arith, nat_tests, turns.role u);
+      lost = λ u f. lost-fail_return m t i.since i.idle u ∙ lost u f (u == t);
+      doors = λ d. refl;
+      processes = λ p. ap (λ xs. at_number xs p) turns.processes;
+    }
   where
-    number : (o : Option Thread) → is_some o ≡ true → (n : ℕ) × (number_in o ≡ Some n)
-    number None f = absurd (true≢false (sym f))
-    number (Some x) f = (x.number, refl)
+    i : IsIdleSince m t
+    i = idle_of_lost m t l
 
-    live : is_live_in (at_number m.process_table.processes (process_of m t)) ≡ true
-    live =
-        let n : (n : ℕ) × (number_in (thread_of m t) ≡ Some n) = number (thread_of m t) (there m t busy) in
-        lives _ (h.coherent.threads.process_there t n.0 n.1) (not_ended m t h busy)
+    turns : Turns m.process_table (set_thread_state m.process_table t is.FailedReturn) t is.FailedReturn (core m).serves
+    turns = fail-turns m t i.since i.idle
 
-    go : (o : Option Door) → door_of m d ≡ o → owner_in o ≡ Some (process_of m t) → is_valid_in o ≡ true
-    go None f g = absurd (grind arith)
-    go (Some x) f g =
-        let owner : x.owner.0 ≡ process_of m t = grind arith in
-        grind (arith, h.unbuilt.none_revoked d x f, h.coherent.doors.owner_ended d x f, live)
+    idle : (u since : ℕ) → state_of m u ≡ is.Idle since → (b : Bool) → (u == t) ≡ b → IsIdleOrGiven m u since (state_of (fail_return m t) u)
+    idle u since f true g =
+        let same : t ≡ u = grind (arith, nat_tests) in
+        failed (ap (has_lost_door m) (sym same) ∙ l) (grind (arith, nat_tests, turns.role u))
+    idle u since f false g = still_idle (grind (arith, nat_tests, turns.role u))
+
+    lost : (u : ℕ) → has_lost_door m u ≡ false → (b : Bool) → (if b then false else has_lost_door m u) ≡ false
+    lost u f true = refl
+    lost u f false = f
+
+fail_returns_does : (m : State) → IsConsistent m → Gave m (fail_returns m)
+fail_returns_does m h =
+    fail_returns-all (Gave m) (λ n t l g. gave_then m n (fail_return n t) g (fail_does n t g.consistent l)) m (gave_nothing m h)
+
+give_and_start_does : (before m : State) → IsConsistent m → Gave m (give_and_start before m)
+give_and_start_does before m h =
+    start_spares-all (Gave m) (λ n t d g. gave_then m n (with_state n t is.Running) g (start_does n t g.consistent d)) before m (give m)
+    (give_does m h)
+
+settle_gave : (before m : State) → IsConsistent m → Gave m (settle before m)
+settle_gave before m h =
+    let f : Gave m (fail_returns m) = fail_returns_does m h in
+    gave_then m (fail_returns m) (settle before m) f (give_and_start_does before (fail_returns m) f.consistent)
+
+-- and so none is left that lost its door
+settle_none_lost : (before m : State) → IsConsistent m → (t : ℕ) → has_lost_door (settle before m) t ≡ false
+settle_none_lost before m h t =
+    let f : Gave m (fail_returns m) = fail_returns_does m h in
+    let g : Gave (fail_returns m) (settle before m) = give_and_start_does before (fail_returns m) f.consistent in
+    g.lost t (has_lost_door-fail_returns m t)
+
+-- the doors of idle threads are valid where none has lost its door, and conversely
+
+pub not_not : (b : Bool) → not b ≡ false → b ≡ true
+not_not true e = refl
+not_not false e = sym e
 
 pub idle_valid_of :
-    (m : State) → IsConsistent m → (t d since : ℕ) → (core m).role t ≡ is.Idle since → (core m).bound t ≡ Some d →
+    (m : State) → ((t : ℕ) → has_lost_door m t ≡ false) → (t d since : ℕ) → (core m).role t ≡ is.Idle since → (core m).bound t ≡ Some d →
     is_valid_in ((core m).door d) ≡ true
-idle_valid_of m h t d since e f = bound_valid m h t d (λ z. grind arith) f
+idle_valid_of m h t d since e f = not_not (is_valid_in (door_of m d)) (valid_where_kept m h t d since e f)
 
-pub no_lost_door : (m : State) → IsConsistent m → (t : ℕ) → has_lost_door m t ≡ false
+pub no_lost_door : (m : State) → Invariant m → (t : ℕ) → has_lost_door m t ≡ false
 no_lost_door m h t = go (state_of m t) refl (bound_of m t) refl
   where
     go : (s : ThreadState) → state_of m t ≡ s → (o : Option ℕ) → bound_of m t ≡ o → is_idle s && is_bound_to_invalid m o ≡ false
     go (is.Idle since) e None f = refl
-    go (is.Idle since) e (Some d) f = ap not (idle_valid_of m h t d since e f)
+    go (is.Idle since) e (Some d) f = ap not (h.idle_valid t d since e f)
     go s e o f = refl
-
-settle_gave : (before m : State) → IsConsistent m → Gave m (settle before m)
-settle_gave before m h =
-    subst (Gave m) (sym (settle-none before m (no_lost_door m h)))
-    (start_spares-all (Gave m) (λ n t d g. gave_then m n (with_state n t is.Running) g (start_does n t g.consistent d)) before m (give m)
-    (give_does m h))
 
 -- no pool is left with a waiting call and an idle thread
 
@@ -325,9 +395,10 @@ all_given_out before m n e h g =
 
 pub record Settles (m n : State) : Type 0 where
   pub gave : Gave m n
+  pub none_lost : (t : ℕ) → has_lost_door n t ≡ false
   pub given_out : All (λ w. pick n (pool_of n w.door) ≡ None) (waiting_items n)
 
 pub settle_does : (before m : State) → IsConsistent m → Settles m (settle before m)
 settle_does before m h =
     let g : Gave m (settle before m) = settle_gave before m h in
-    record { gave = g; given_out = all_given_out before m (settle before m) refl h g.consistent }
+    record { gave = g; none_lost = settle_none_lost before m h; given_out = all_given_out before m (settle before m) refl h g.consistent }

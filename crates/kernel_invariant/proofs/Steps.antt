@@ -1,21 +1,21 @@
 -- What an act does, and what the kernel does after it.
-use Rattle.std.specs.Prelude.{ℕ, ◌≡◌, Option, true, false, Some, None}
+use Rattle.std.specs.Prelude.{ℕ, ◌≡◌, Option, true, Some, None}
 use Rattle.std.proofs.Common.{refl, ◌∙◌, ap}
 use native.Mathlib.Omega.{arith}
-use Rattle.written_kernel.specs.Types.{Answer, Call, Errno, Inv, Request, ThreadState}
+use Rattle.written_kernel.specs.Types.{Errno, Request, ThreadState}
 use Rattle.dk_base.specs.declared.request.Request.TheVariants as request
 use Rattle.kernel_records.specs.declared.record.ThreadState.TheVariants as is
 use Rattle.kernel_records.specs.Words.{is_valid_in}
-use Rattle.written_kernel.specs.Words.{MayInside, MayTurn, State, act, can_go_on, effect, enter, go_on, has_lost_door, invocation_of, is_running, is_running_state, is_valid, process_of, refusal_of, settle, state_of, step, unless_refused, with_event_counted}
+use Rattle.written_kernel.specs.Words.{MayTurn, State, act, can_go_on, effect, enter, go_on, is_running, is_running_state, process_of, refusal_of, settle, state_of, step, unless_refused, with_event_counted}
 use Rattle.kernel_invariant.specs.Records.{record_of}
 use Rattle.kernel_invariant.specs.Invariant.{IsConsistent, Invariant}
-use Rattle.kernel_invariant.specs.Arrows.{ByAct, EndsBy, Arrow}
-use Rattle.kernel_invariant.specs.Arrows.ByAct.{stays, makes, enters, returns, ends, collects_results, collects_nothing, collects_error}
-use Rattle.kernel_invariant.specs.Arrows.EndsBy.{door_invalid, server_full}
+use Rattle.kernel_invariant.specs.Arrows.{Arrow}
+use Rattle.kernel_invariant.proofs.Later.{AreSameDone, by_act_later}
 use Rattle.kernel_invariant.proofs.Acts.{Does, bind_does, does_nothing, create_does, names_does, rows_does, set_param_does, await_does, turned_to, unbind_does}
 use Rattle.kernel_invariant.proofs.CallActs.{call_does, return_does, accept_does, collect_does}
-use Rattle.kernel_invariant.proofs.Exits.{exit_does}
-use Rattle.kernel_invariant.proofs.Settling.{Settles, idle_valid_of, no_lost_door, settle_does}
+use Rattle.kernel_invariant.proofs.Failing.{wake_does}
+use Rattle.kernel_invariant.proofs.Leaving.{exit_does, interrupt_does, kill_does, revoke_does}
+use Rattle.kernel_invariant.proofs.Settling.{Settles, idle_valid_of, is_at_rest, settle_does}
 
 pub running_is : (m : State) (t : ℕ) → is_running m t ≡ true → state_of m t ≡ is.Running
 running_is m t e = go (state_of m t) e
@@ -24,36 +24,34 @@ running_is m t e = go (state_of m t) e
     go is.Running e = refl
     go s e = grind arith
 
-pub no_exit_inside : (o : Option Inv) → MayInside o request.Exit → o ≡ None
-no_exit_inside None h = refl
-no_exit_inside (Some v) h = absurd h
-
 effect_does :
-    (m : State) (t : ℕ) (r : Request) → IsConsistent m → state_of m t ≡ is.Running → MayInside (invocation_of m t) r →
+    (m : State) (t : ℕ) (r : Request) → IsConsistent m → state_of m t ≡ is.Running →
     refusal_of m t (process_of m t) r ≡ None → Does m t (Some r) (effect m t (process_of m t) r)
-effect_does m t (request.Create entry cookie attrs) h e i f = create_does m t _ entry cookie attrs h e f
-effect_does m t (request.Call fd bytes pass rsize) h e i f = call_does m t rsize fd bytes pass h e f
-effect_does m t (request.Return bytes pass) h e i f = return_does m t bytes pass h e
-effect_does m t (request.Bind fd) h e i f = bind_does m t _ fd h f
-effect_does m t request.Unbind h e i f = unbind_does m t _ h
-effect_does m t (request.SetParam fd x value) h e i f = set_param_does m t _ _ x value _ h
-effect_does m t (request.Close fd) h e i f = rows_does m t _ _ _ h e
-effect_does m t (request.Dup fd) h e i f = rows_does m t _ _ _ h e
-effect_does m t (request.Attach fd path) h e i f = names_does m t _ _ _ h
-effect_does m t (request.Detach path) h e i f = names_does m t _ _ _ h
-effect_does m t (request.Open path) h e i f = rows_does m t _ _ _ h e
-effect_does m t (request.Await path) h e i f = await_does m t _ path h e
-effect_does m t request.Exit h e i f = exit_does m t _ h e (no_exit_inside (invocation_of m t) i)
-effect_does m t r h e i f = does_nothing m t _ _ h
+effect_does m t (request.Create entry cookie attrs) h e f = create_does m t _ entry cookie attrs h e f
+effect_does m t (request.Call fd bytes pass rsize) h e f = call_does m t rsize fd bytes pass h e f
+effect_does m t (request.Return bytes pass) h e f = return_does m t bytes pass h e f
+effect_does m t (request.Revoke fd) h e f = revoke_does m t _ fd h e
+effect_does m t (request.Bind fd) h e f = bind_does m t _ fd h f
+effect_does m t request.Unbind h e f = unbind_does m t _ h
+effect_does m t (request.SetParam fd x value) h e f = set_param_does m t _ _ x value _ h
+effect_does m t (request.Close fd) h e f = rows_does m t _ _ _ h e
+effect_does m t (request.Dup fd) h e f = rows_does m t _ _ _ h e
+effect_does m t (request.Attach fd path) h e f = names_does m t _ _ _ h
+effect_does m t (request.Detach path) h e f = names_does m t _ _ _ h
+effect_does m t (request.Open path) h e f = rows_does m t _ _ _ h e
+effect_does m t (request.Await path) h e f = await_does m t _ path h e
+effect_does m t (request.Interrupt thread) h e f = interrupt_does m t thread.0 h
+effect_does m t (request.Kill process) h e f = kill_does m t _ process.0 h
+effect_does m t request.Exit h e f = exit_does m t _ h
+effect_does m t r h e f = does_nothing m t _ _ h
 
 enter_does :
-    (m : State) (t : ℕ) (r : Request) → IsConsistent m → state_of m t ≡ is.Running → MayInside (invocation_of m t) r →
-    Does m t (Some r) (enter m t (process_of m t) r)
-enter_does m t r h e i = go (refusal_of m t (process_of m t) r) refl
+    (m : State) (t : ℕ) (r : Request) → IsConsistent m → state_of m t ≡ is.Running → Does m t (Some r) (enter m t (process_of m t) r)
+enter_does m t r h e = go (refusal_of m t (process_of m t) r) refl
   where
     go : (o : Option Errno) → refusal_of m t (process_of m t) r ≡ o → Does m t (Some r) (unless_refused m o (effect m t (process_of m t) r))
     go (Some x) f = does_nothing m t _ _ h
-    go None f = effect_does m t r h e i f
+    go None f = effect_does m t r h e f
 
 go_on_does :
     (m : State) (t : ℕ) (s : ThreadState) → IsConsistent m → state_of m t ≡ s → can_go_on m s ≡ true →
@@ -62,10 +60,11 @@ go_on_does m t (is.Given i) h e f = accept_does m t i h e
 go_on_does m t (is.Calling c) h e f = collect_does m t c h e f
 go_on_does m t (is.Awaiting path) h e f = turned_to m t None is.Running _ h (grind arith) refl refl
 go_on_does m t (is.Working op input) h e f = turned_to m t None is.Running _ h (grind arith) refl refl
+go_on_does m t is.FailedReturn h e f = wake_does m t None h e
 go_on_does m t s h e f = does_nothing m t None _ h
 
 pub act_does : (m : State) (t : ℕ) (q : Option Request) → IsConsistent m → MayTurn m t q → Does m t q (act m t q)
-act_does m t (Some r) h may = enter_does m t r h (running_is m t may.running) may.inside
+act_does m t (Some r) h may = enter_does m t r h (running_is m t may.running)
 act_does m t None h may = go_on_does m t (state_of m t) h refl may.runnable
 
 counted_keeps : (m : State) → IsConsistent m → IsConsistent (with_event_counted m)
@@ -76,29 +75,8 @@ counted_keeps m h =
       coherent = h.coherent;
       tables = h.tables;
       no_rows = h.no_rows;
-      unbuilt = record { no_notices = h.unbuilt.no_notices; none_revoked = h.unbuilt.none_revoked };
+      unbuilt = record { no_notices = h.unbuilt.no_notices };
     }
-
--- an arrow of an act, seen from a later state in which the same doors are valid and no more threads are done
-ends_later :
-    (m : State) (t : ℕ) (q : Option Request) (a : Answer) (n o : State) (r : Call) (e : Errno) →
-    ((d : ℕ) → is_valid o d ≡ is_valid n d) → ((u : ℕ) → state_of o u ≡ is.Done → state_of n u ≡ is.Done) →
-    EndsBy m t q a n r e → EndsBy m t q a o r e
-ends_later m t q a n o r _ h d (door_invalid e f g k) = door_invalid e f (h r.door ∙ g) (λ z. k (d r.caller.0 z))
-ends_later m t q a n o r _ h d (server_full e f g k l) = server_full e f g k l
-
-by_act_later :
-    (m : State) (t : ℕ) (q : Option Request) (a : Answer) (n o : State) (before after : Option Call) →
-    ((d : ℕ) → is_valid o d ≡ is_valid n d) → ((u : ℕ) → state_of o u ≡ is.Done → state_of n u ≡ is.Done) →
-    ByAct m t q a n before after → ByAct m t q a o before after
-by_act_later m t q a n o before after h d stays = stays
-by_act_later m t q a n o before after h d (makes door rsize fd bytes pass e f g k) = makes door rsize fd bytes pass e f g k
-by_act_later m t q a n o before after h d (enters r e f g k l) = enters r e f g k l
-by_act_later m t q a n o before after h d (returns r bytes pass e f g k) = returns r bytes pass e f g k
-by_act_later m t q a n o before after h d (ends r e f) = ends r e (ends_later m t q a n o r e h d f)
-by_act_later m t q a n o before after h d (collects_results r bytes objects e f g k l z) = collects_results r bytes objects e f g k l z
-by_act_later m t q a n o before after h d (collects_nothing r bytes objects e f g k l z) = collects_nothing r bytes objects e f g k l z
-by_act_later m t q a n o before after h d (collects_error r e f g k l z) = collects_error r e f g k l z
 
 -- what an act and the kernel after it do
 pub record StepDoes (m : State) (t : ℕ) (q : Option Request) : Type 0 where
@@ -115,15 +93,16 @@ unfolding step
 step_invariant m t q h may =
     record {
       consistent = counted_keeps (settle m (act m t q).state) d.settled.gave.consistent;
-      idle_valid = idle_valid_of (settle m (act m t q).state) d.settled.gave.consistent;
+      idle_valid = idle_valid_of (settle m (act m t q).state) d.settled.none_lost;
       given_out = d.settled.given_out;
     }
   where
     d : StepDoes m t q
     d = step_does m t q h may
 
-pub step_none_lost : (m : State) (t u : ℕ) (q : Option Request) → Invariant m → MayTurn m t q → has_lost_door (act m t q).state u ≡ false
-step_none_lost m t u q h may = no_lost_door (act m t q).state (act_does m t q h.consistent may).consistent u
+-- the same threads are done after the act and after the event
+pub same_done : (m : State) (t : ℕ) (q : Option Request) → StepDoes m t q → AreSameDone (act m t q).state (with_event_counted (settle m (act m t q).state))
+same_done m t q d = record { after = λ u e. d.settled.gave.busy u (ap is_at_rest e) ∙ e; before = d.settled.gave.done }
 
 pub step_arrows :
     (m : State) (t : ℕ) (q : Option Request) (c : ℕ) → Invariant m → MayTurn m t q →
@@ -135,7 +114,7 @@ step_arrows m t q c h may =
       act =
           by_act_later m t q (act m t q).answer (act m t q).state (with_event_counted (settle m (act m t q).state)) _ _
           (λ e. ap is_valid_in (d.settled.gave.doors e))
-          d.settled.gave.done
+          (same_done m t q d)
           (d.acted.arrows c);
       giving = d.settled.gave.arrows c;
     }

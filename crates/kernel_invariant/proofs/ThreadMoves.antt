@@ -1,20 +1,19 @@
--- The other atomic changes of the core: a thread turns to another wait, a spare thread starts, a door is made, a call is
--- given, threads leave, and a process ends. Each keeps what holds of a core.
-use Rattle.std.specs.Prelude.{ℕ, ◌≡◌, Option, Bool, not, true, false, ◌==◌, ◌&&◌, if◌then◌else◌, Some, None, is_some, option_map}
+-- The other atomic changes of the core: a thread turns to another wait, a spare thread starts, a door is made or its parameters
+-- change, and a call is given. Each keeps what holds of a core.
+use Rattle.std.specs.Prelude.{ℕ, ◌≡◌, Option, Bool, not, true, false, ◌==◌, ◌&&◌, if◌then◌else◌, Some, None, is_some}
 use Rattle.std.proofs.Common.{refl, sym, ap, ap₂, subst, ◌∙◌}
 use native.Mathlib.Omega.{arith}
 use Rattle.std.proofs.lemmas.Bool.Decides.{nat_tests}
-use Rattle.dk_base.specs.declared.error.Errno.TheVariants.{EBADF}
 use Rattle.dk_base.specs.declared.object.Item.TheVariants as item
 use Rattle.written_kernel.specs.Types.{Call, Door, Pid, ThreadState}
 use Rattle.kernel_records.specs.declared.record.ThreadState.TheVariants as is
 use Rattle.kernel_records.specs.declared.record.CallStage.TheVariants as stage
-use Rattle.kernel_records.specs.Words.{at_stage, ended_process, has_no_cancel, is_live_in, is_owned_by, is_private, is_private_in, is_queued, is_valid_in, no_cancel_of, tid, with_owner_ended, without_arguments_at}
+use Rattle.kernel_records.specs.Words.{at_stage, has_no_cancel, is_live_in, is_private, is_private_in, is_valid_in, no_cancel_of, tid}
 use Rattle.kernel_invariant.specs.Core.{Core, door_in}
 use Rattle.kernel_invariant.specs.Coherent.{IsCoherent, is_unbuilt}
 use Rattle.kernel_invariant.specs.Records.{owner_in}
-use Rattle.kernel_invariant.proofs.Cores.{set_role, set_serves, set_call, set_door, upd}
-use Rattle.kernel_invariant.proofs.Parts.{notices_serve, notices_turn, processes_turn}
+use Rattle.kernel_invariant.proofs.Cores.{set_role, set_call, set_door, upd}
+use Rattle.kernel_invariant.proofs.Parts.{notices_turn, processes_turn}
 
 -- states in which a thread is in no call but the one that it serves
 abbrev pub is_quiet : ThreadState → Bool
@@ -194,45 +193,6 @@ limits_keep k d x y h there s =
         (s.owner_ended ∙ h.doors.owner_ended d x there ∙ ap (λ (p : Pid). not (is_live_in (k.proc p.0))) (sym s.owner))
     ended e z false f = h.doors.owner_ended e z f
 
--- a thread without an invocation ends
-abbrev pub left_core : Core → ℕ → Core
-left_core k t = set_role (set_serves k t None) t is.Done
-
-pub leave_keeps :
-    (k : Core) (t : ℕ) → IsCoherent k → k.role t ≡ is.Running → k.serves t ≡ None → IsCoherent (left_core k t)
-leave_keeps k t h p q =
-    record {
-      waits =
-          record {
-            given = λ c v e. grind (arith, nat_tests, h.waits.given c v);
-            given_back = λ c v e. grind (arith, nat_tests, h.waits.given_back c v);
-            caller = λ c v e. grind (arith, nat_tests, h.waits.caller c v);
-            live = λ c v e. grind (arith, nat_tests, h.waits.live c v);
-            calling = λ c e. grind (arith, nat_tests, h.waits.calling c);
-          };
-      invocations =
-          record {
-            entered = λ c v e. grind (arith, nat_tests, h.invocations.entered c v);
-            entered_back = λ c v e f. grind (arith, nat_tests, h.invocations.entered_back c v);
-            kept = h.invocations.kept;
-          };
-      notices_given = notices_turn k.role k.notice t _ h.notices_given (grind arith) refl;
-      notices_entered = notices_serve k.serves k.notice t _ h.notices_entered (λ n e. grind arith) (λ n e. grind arith);
-      servers =
-          record {
-            outside = λ v e. grind (arith, nat_tests, h.servers.outside v);
-            below = λ c d v e f. grind (arith, nat_tests, h.servers.below c d v);
-            served_made = λ c v e. grind (arith, nat_tests, h.servers.served_made c v);
-          };
-      calls = h.calls;
-      at_doors = h.at_doors;
-      doors = h.doors;
-      bindings = h.bindings;
-      processes = processes_turn k.role k.process k.proc t _ h.processes (grind arith);
-      threads = h.threads;
-      has_built_state = λ v. grind (arith, nat_tests, h.has_built_state v);
-    }
-
 -- a waiting call is given to an idle thread of the process that made its door
 abbrev pub given_core : Core → Call → ℕ → Core
 given_core k r u = set_role (set_call k r.number (at_stage (stage.Given (tid u)) r)) u (is.Given (item.Call r.number))
@@ -287,96 +247,5 @@ give_keeps k r u h p =
       bindings = h.bindings;
       processes = processes_turn k.role k.process k.proc u _ h.processes (grind (arith, p.idle));
       threads = h.threads;
-      has_built_state = λ v. grind (arith, nat_tests, h.has_built_state v);
-    }
-
--- a process ends: its threads are done, and the calls that wait at its doors end
-abbrev pub ended_call_of : Core → ℕ → Call → Call
-ended_call_of k p r = if is_queued r.stage && is_owned_by p (k.door r.door) then without_arguments_at (stage.Ended EBADF) r else r
-
-abbrev pub ended_core : Core → ℕ → Core
-ended_core k p =
-    record k {
-      role = λ t. if k.process t == p then is.Done else k.role t;
-      serves = λ t. if k.process t == p then None else k.serves t;
-      proc = λ q. if q == p then option_map ended_process (k.proc p) else k.proc q;
-      door = λ d. option_map (with_owner_ended p) (k.door d);
-      call = λ c. option_map (ended_call_of k p) (k.call c);
-    }
-
--- the states of a thread that a process that ends may have
-abbrev pub may_leave : ThreadState → Bool
-may_leave is.Dormant = true
-may_leave is.Running = true
-may_leave is.Done = true
-may_leave _ = false
-
-pub record Leaves (k : Core) (p : ℕ) : Type 0 where
-  pub states : (t : ℕ) → k.process t ≡ p → may_leave (k.role t) ≡ true
-  pub outside : (t : ℕ) → k.process t ≡ p → k.serves t ≡ None
-
-pub end_keeps : (k : Core) (p : ℕ) → IsCoherent k → Leaves k p → IsCoherent (ended_core k p)
-end_keeps k p h l =
-    record {
-      waits =
-          record {
-            given = λ c v e. grind (arith, nat_tests, h.waits.given c v, l.states v);
-            given_back = λ c v e. grind (arith, nat_tests, h.waits.given_back c v);
-            caller = λ c v e. grind (arith, nat_tests, h.waits.caller c v);
-            live = λ c v e. grind (arith, nat_tests, h.waits.live c v);
-            calling = λ c e. grind (arith, nat_tests, h.waits.calling c, l.states);
-          };
-      invocations =
-          record {
-            entered = λ c v e. grind (arith, nat_tests, h.invocations.entered c v, l.outside v);
-            entered_back = λ c v e f. grind (arith, nat_tests, h.invocations.entered_back c v);
-            kept = λ c e. grind (arith, nat_tests, h.invocations.kept c);
-          };
-      notices_given =
-          record {
-            notice_given = λ n v e. grind (arith, nat_tests, h.notices_given.notice_given n v, l.states v);
-            notice_given_back = λ n v e. grind (arith, nat_tests, h.notices_given.notice_given_back n v);
-          };
-      notices_entered =
-          record {
-            notice_entered = λ n v e. grind (arith, nat_tests, h.notices_entered.notice_entered n v, l.outside v);
-            notice_entered_back = λ n v e. grind (arith, nat_tests, h.notices_entered.notice_entered_back n v);
-          };
-      servers =
-          record {
-            outside = λ v e. grind (arith, nat_tests, h.servers.outside v);
-            below = λ c d v e f. grind (arith, nat_tests, h.servers.below c d v);
-            served_made = λ c v e. grind (arith, nat_tests, h.servers.served_made c v);
-          };
-      calls =
-          record {
-            arguments = λ c x e f. grind (arith, nat_tests, h.calls.arguments c x);
-            call_number = λ c x e. grind (arith, nat_tests, h.calls.call_number c x);
-            unmade = λ c e. grind (arith, nat_tests, h.calls.unmade c);
-          };
-      at_doors =
-          record {
-            door_there = λ c x e. grind (arith, nat_tests, h.at_doors.door_there c);
-            no_cancel = λ c x e. grind (arith, nat_tests, h.at_doors.no_cancel c);
-            waiting_valid = λ c e. grind (arith, nat_tests, h.at_doors.waiting_valid c);
-            given_owner = λ c v e. grind (arith, nat_tests, h.at_doors.given_owner c v);
-            entered_owner = λ c v e. grind (arith, nat_tests, h.at_doors.entered_owner c v);
-          };
-      doors =
-          record {
-            door_number = λ d x e. grind (arith, nat_tests, h.doors.door_number d);
-            owner_ended = λ d x e. grind (arith, nat_tests, h.doors.owner_ended d);
-          };
-      bindings =
-          record {
-            bound_own = λ v d e. grind (arith, nat_tests, h.bindings.bound_own v d);
-            bound_private = λ v d e. grind (arith, nat_tests, h.bindings.bound_private v d);
-          };
-      processes = record { ended_done = λ v e. grind (arith, nat_tests, h.processes.ended_done v) };
-      threads =
-          record {
-            thread_number = h.threads.thread_number;
-            process_there = λ v n e. grind (arith, nat_tests, h.threads.process_there v n);
-          };
       has_built_state = λ v. grind (arith, nat_tests, h.has_built_state v);
     }

@@ -95,10 +95,10 @@ parked m t p c d (Some r) h e = go (has_room m p r.objects) e
     go true f = absurd (cc f)
     go false f = (park_thread-turns m.process_table t (now m) h).role t ∙ grind (arith, nat_tests)
 
--- and after the event is idle since then, or was given another item
+-- and after the event is idle since then, or was given another item, or has failed if it has lost its door
 pub step_parked :
     (m : State) (t c d : ℕ) (q : Option Request) → Invariant m → MayTurn m t q → q ≡ None → state_of m t ≡ is.Given (item.Call c) →
-    (step m t q).answer ≡ answer.EnterFailed d → IsIdleOrGiven (now m) (state_of (step m t q).state t)
+    (step m t q).answer ≡ answer.EnterFailed d → IsIdleOrGiven (act m t q).state t (now m) (state_of (step m t q).state t)
 unfolding step
 step_parked m t c d q h may e f a = (step_does m t q h may).settled.gave.idle t (now m) (acted a)
   where

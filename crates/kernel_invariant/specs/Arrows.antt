@@ -1,16 +1,17 @@
 -- The arrows of calls: from the state before an event to the state after it each call's record stays as it is or takes
 -- arrows of this table. An arrow keeps each field of the record that it doesn't name, and says what the event answers.
-use Rattle.std.specs.Prelude.{ℕ, ◌≡◌, List, Option, Bool, true, false, Some, None, length, nat_lt}
+use Rattle.std.specs.Prelude.{ℕ, ◌≡◌, ◌⊎◌, List, Option, Bool, true, false, Some, None, length, nat_lt}
 use Rattle.written_kernel.specs.Types.{Answer, Call, Errno, Fd, Obj, Pass, Request}
-use Rattle.dk_base.specs.declared.error.Errno.TheVariants.{EBADF, EMFILE}
+use Rattle.dk_base.specs.declared.error.Errno.TheVariants.{EBADF, EINTR, EMFILE}
 use Rattle.dk_base.specs.declared.object.Obj.TheVariants as obj
 use Rattle.dk_base.specs.declared.object.Item.TheVariants as item
 use Rattle.dk_base.specs.declared.request.Request.TheVariants as request
 use Rattle.dk_base.specs.declared.answer.Answer.TheVariants as answer
 use Rattle.kernel_records.specs.declared.record.ThreadState.TheVariants as is
 use Rattle.kernel_records.specs.declared.record.CallStage.TheVariants as stage
-use Rattle.kernel_records.specs.Words.{at_stage, cookie_of, entry_of, first_refusal, new_descriptors, objects_passed, tid, without_arguments_at}
-use Rattle.written_kernel.specs.Words.{State, call_tests, door_of, has_room, is_valid, new_call, now, object_at, process_of, state_of, table_of}
+use Rattle.kernel_records.specs.Words.{abandoned_at, at_stage, cookie_of, entry_of, first_refusal, gone_call_at, is_live, new_descriptors, objects_passed, tid, without_arguments_at}
+use Rattle.written_kernel.specs.Words.{State, call_tests, door_of, has_room, is_valid, new_call, now, object_at, process_of, return_answer, return_tests, state_of, table_of}
+use Rattle.kernel_invariant.specs.Core.{has_arguments}
 
 -- the table of a thread's process
 abbrev pub own_table : State → ℕ → List (Option Obj)
@@ -19,6 +20,11 @@ own_table m t = table_of m (process_of m t)
 -- whether it has a free descriptor for each of these
 abbrev pub has_own_room : State → ℕ → List Obj → Bool
 has_own_room m t objects = has_room m (process_of m t) objects
+
+-- a thread is Done only after the event
+pub record EndsNow (m n : State) (u : ℕ) : Type 0 where
+  pub before : state_of m u ≡ is.Done → ⊥
+  pub after : state_of n u ≡ is.Done
 
 -- Why a call ends without results, by an act of thread t from state m to state n: a constructor for each cause. The caller does
 -- not end in the event.
@@ -31,6 +37,14 @@ pub data EndsBy (m : State) (t : ℕ) (q : Option Request) (a : Answer) (n : Sta
   server_full :
       q ≡ None → state_of m t ≡ is.Given (item.Call r.number) → r.stage ≡ stage.Given (tid t) →
       has_own_room m t r.objects ≡ false → a ≡ answer.EnterFailed r.number → EndsBy m t q a n r EMFILE
+  -- its caller is interrupted before a thread has entered it
+  interrupted :
+      q ≡ Some (request.Interrupt r.caller) → has_arguments r.stage ≡ true → (state_of n r.caller.0 ≡ is.Done → ⊥) →
+      EndsBy m t q a n r EINTR
+  -- the thread that it was given to, or that has entered it, ends
+  server_ended :
+      (u : ℕ) → (r.stage ≡ stage.Given (tid u)) ⊎ (r.stage ≡ stage.Entered (tid u)) → EndsNow m n u →
+      (state_of n r.caller.0 ≡ is.Done → ⊥) → EndsBy m t q a n r EINTR
 
 -- by the act of thread t, with request q or the end of its wait and answer a, from state m to state n
 pub data ByAct (m : State) (t : ℕ) (q : Option Request) (a : Answer) (n : State) : Option Call → Option Call → Type 0 where
@@ -50,11 +64,19 @@ pub data ByAct (m : State) (t : ℕ) (q : Option Request) (a : Answer) (n : Stat
   -- Entered to Returned, at a Return of the thread that entered it, that is not refused
   returns :
       (r : Call) (bytes : List ℕ) (pass : List Pass) → q ≡ Some (request.Return bytes pass) →
-      r.stage ≡ stage.Entered (tid t) → r.abandoned ≡ false → a ≡ answer.Wait →
+      first_refusal (return_tests m t (process_of m t) bytes pass) ≡ None → r.stage ≡ stage.Entered (tid t) → r.abandoned ≡ false →
+      a ≡ return_answer m t →
       ByAct m t q a n (Some r) (Some (without_arguments_at (stage.Returned bytes (objects_passed (own_table m t) pass)) r))
   -- to Ended
   ends :
       (r : Call) (e : Errno) → EndsBy m t q a n r e → ByAct m t q a n (Some r) (Some (without_arguments_at (stage.Ended e) r))
+  -- Entered to Ended, at an Interrupt of its caller: the thread that entered it stays in its invocation
+  breaks_off :
+      (r : Call) (u : ℕ) → q ≡ Some (request.Interrupt r.caller) → r.stage ≡ stage.Entered (tid u) →
+      (state_of n r.caller.0 ≡ is.Done → ⊥) → ByAct m t q a n (Some r) (Some (abandoned_at (stage.Ended EINTR) r))
+  -- to Gone, where its caller ends
+  leaves :
+      (r : Call) → is_live r.stage ≡ true → EndsNow m n r.caller.0 → ByAct m t q a n (Some r) (Some (gone_call_at r.stage r))
   -- Returned to Answered, at the collect of its caller, with a descriptor for each of the objects
   collects_results :
       (r : Call) (bytes : List ℕ) (objects : List Obj) → q ≡ None → state_of m t ≡ is.Calling r.number → r.caller.0 ≡ t →

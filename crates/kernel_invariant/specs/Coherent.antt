@@ -94,7 +94,6 @@ abbrev pub is_unbuilt : ThreadState → Bool
 is_unbuilt (is.Given (item.Notice n)) = true
 is_unbuilt (is.Getting port max nget one interrupted) = true
 is_unbuilt (is.Working op input) = true
-is_unbuilt is.FailedReturn = true
 is_unbuilt _ = false
 
 -- A change of a core keeps by itself the parts that read nothing of what it changes.

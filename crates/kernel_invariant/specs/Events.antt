@@ -1,21 +1,21 @@
 -- What every event does: it keeps the invariant; each call's record takes arrows of the table, and the invocation of each
--- thread one of its own; what its answer tells is so; doors are made and kept; a refused entry changes nothing; and no idle
--- thread loses its door.
-use Rattle.std.specs.Prelude.{ℕ, ◌≡◌, ◌+◌, ◌≤◌, ◌⊎◌, Option, List, Some, None, false}
-use Rattle.written_kernel.specs.Types.{Answer, Door, Errno, Fd, Inv, Item, Pass, Request, ThreadState}
+-- thread one of its own; what its answer tells is so; doors are made and kept; a refused entry changes nothing; and only an act
+-- of leaving takes a door from a thread that another one left idle.
+use Rattle.std.specs.Prelude.{ℕ, ◌≡◌, ◌+◌, ◌≤◌, ◌⊎◌, Option, List, Some, None, Bool, false, true}
+use Rattle.written_kernel.specs.Types.{Answer, Call, Door, Errno, Fd, Inv, Item, Pass, Request, ThreadState}
 use Rattle.dk_base.specs.declared.error.Errno.TheVariants.{EMFILE}
 use Rattle.dk_base.specs.declared.object.Item.TheVariants as item
 use Rattle.dk_base.specs.declared.request.Request.TheVariants as request
 use Rattle.dk_base.specs.declared.answer.Answer.TheVariants as answer
 use Rattle.kernel_records.specs.declared.record.ThreadState.TheVariants as is
 use Rattle.kernel_records.specs.declared.record.CallStage.TheVariants as stage
-use Rattle.kernel_records.specs.Words.{is_given_as, is_to_collect_as, new_invocation, tid}
+use Rattle.kernel_records.specs.Words.{cancelled_invocation, first_refusal, is_given_as, is_to_collect_as, new_invocation, tid}
 use Rattle.capabilities.specs.Capability.{capability_of_attrs}
 use Rattle.capabilities.specs.declared.table.TheConstants.{BUILT}
-use Rattle.written_kernel.specs.Words.{State, act, door_of, find_call, has_lost_door, invocation_of, name_of, process_of, refusal_of, state_of, step, with_event_counted}
+use Rattle.written_kernel.specs.Words.{State, act, door_of, find_call, has_invalid_door, has_lost_door, invocation_of, name_of, process_of, refusal_of, return_answer, return_tests, state_of, step, with_event_counted}
 use Rattle.kernel_invariant.specs.Records.{record_of, stage_of}
 use Rattle.kernel_invariant.specs.Invariant.{Invariant}
-use Rattle.kernel_invariant.specs.Arrows.{Arrow}
+use Rattle.kernel_invariant.specs.Arrows.{Arrow, EndsNow}
 
 -- the answer says that an invocation of this item begins
 abbrev pub Begins : Answer → Item → Type 0
@@ -23,15 +23,31 @@ Begins (answer.Entered c entry cookie bytes fds) i = i ≡ item.Call c
 Begins (answer.EnteredNotice n entry cookie) i = i ≡ item.Notice n
 Begins a i = ⊥
 
--- The invocation of thread u, by an event of thread t: it stays, begins at an accept of its own, ends at a Return of its own
--- that is not refused, or leaves with its thread.
+-- the caller of a call leaves it by the event: it is interrupted, or ends
+pub data IsLeft (m : State) (q : Option Request) (n : State) (r : Call) : Type 0 where
+  interrupted : q ≡ Some (request.Interrupt r.caller) → IsLeft m q n r
+  caller_ends : EndsNow m n r.caller.0 → IsLeft m q n r
+
+-- thread u has entered this call, whose door does not bar cancels, and whose caller leaves it by the event
+pub record IsCancelled (m : State) (q : Option Request) (n : State) (u : ℕ) (v : Inv) : Type 0 where
+  pub call : Call
+  pub item : v.item ≡ item.Call call.number
+  pub there : record_of m call.number ≡ Some call
+  pub entered : call.stage ≡ stage.Entered (tid u)
+  pub may_cancel : call.no_cancel ≡ false
+  pub is_left : IsLeft m q n call
+
+-- The invocation of thread u, by an event of thread t: it stays, begins at an accept of its own, has its flag set where its client
+-- leaves, ends at a Return of its own that is not refused, or leaves with its thread.
 pub data InvocationArrow (m : State) (t : ℕ) (q : Option Request) (a : Answer) (n : State) (u : ℕ) : Option Inv → Option Inv → Type 0 where
   stays : {v : Option Inv} → InvocationArrow m t q a n u v v
   begins :
       (i : Item) → u ≡ t → q ≡ None → state_of m t ≡ is.Given i → Begins a i →
       InvocationArrow m t q a n u None (Some (new_invocation i))
+  cancels : (v : Inv) → IsCancelled m q n u v → InvocationArrow m t q a n u (Some v) (Some (cancelled_invocation v))
   ends :
-      (v : Inv) (bytes : List ℕ) (pass : List Pass) → u ≡ t → q ≡ Some (request.Return bytes pass) → a ≡ answer.Wait →
+      (v : Inv) (bytes : List ℕ) (pass : List Pass) → u ≡ t → q ≡ Some (request.Return bytes pass) →
+      first_refusal (return_tests m t (process_of m t) bytes pass) ≡ None → a ≡ return_answer m t →
       InvocationArrow m t q a n u (Some v) None
   leaves : (v : Inv) → state_of n u ≡ is.Done → InvocationArrow m t q a n u (Some v) None
 
@@ -89,11 +105,12 @@ IsAcceptedNow n t c = (stage_of n c ≡ Some (stage.Entered (tid t))) ⊎ (stage
 abbrev pub IsAnsweredNow : State → State → ℕ → Type 0
 IsAnsweredNow m n c = stage_of n c ≡ Some (stage.Answered (m.events + 1))
 
--- the entries that are built: a thread in an invocation does not exit yet
+-- the entries that are built
 abbrev pub IsBuiltEntry : State → ℕ → Request → Type 0
 IsBuiltEntry m t (request.Create entry cookie attrs) = capability_of_attrs attrs ≤ BUILT
 IsBuiltEntry m t (request.Call fd bytes pass rsize) = Unit {0}
 IsBuiltEntry m t (request.Return bytes pass) = Unit {0}
+IsBuiltEntry m t (request.Revoke fd) = Unit {0}
 IsBuiltEntry m t (request.Bind fd) = Unit {0}
 IsBuiltEntry m t request.Unbind = Unit {0}
 IsBuiltEntry m t (request.Info fd) = Unit {0}
@@ -101,13 +118,16 @@ IsBuiltEntry m t request.InfoQuery = Unit {0}
 IsBuiltEntry m t (request.GetParam fd param) = Unit {0}
 IsBuiltEntry m t (request.SetParam fd param value) = Unit {0}
 IsBuiltEntry m t request.Cred = Unit {0}
+IsBuiltEntry m t request.TestCancel = Unit {0}
 IsBuiltEntry m t (request.Close fd) = Unit {0}
 IsBuiltEntry m t (request.Dup fd) = Unit {0}
 IsBuiltEntry m t (request.Attach fd path) = Unit {0}
 IsBuiltEntry m t (request.Detach path) = Unit {0}
 IsBuiltEntry m t (request.Open path) = Unit {0}
 IsBuiltEntry m t (request.Await path) = Unit {0}
-IsBuiltEntry m t request.Exit = invocation_of m t ≡ None
+IsBuiltEntry m t (request.Interrupt thread) = Unit {0}
+IsBuiltEntry m t (request.Kill process) = Unit {0}
+IsBuiltEntry m t request.Exit = Unit {0}
 IsBuiltEntry m t r = ⊥
 
 -- the ends of waits that are built, each with what the thread waits for
@@ -115,11 +135,26 @@ abbrev pub IsBuiltEnd : State → ℕ → ThreadState → Type 0
 IsBuiltEnd m t (is.Given (item.Call c)) = IsMade (find_call m (is_given_as c t))
 IsBuiltEnd m t (is.Calling c) = IsMade (find_call m (is_to_collect_as c))
 IsBuiltEnd m t (is.Awaiting path) = IsMade (name_of m path)
+IsBuiltEnd m t is.FailedReturn = Unit {0}
 IsBuiltEnd m t s = ⊥
 
 abbrev pub IsBuiltTurn : State → ℕ → Option Request → Type 0
 IsBuiltTurn m t (Some r) = IsBuiltEntry m t r
 IsBuiltTurn m t None = IsBuiltEnd m t (state_of m t)
+
+-- an entry by which callers, threads or doors leave
+abbrev pub is_leaving : Request → Bool
+is_leaving (request.Revoke fd) = true
+is_leaving (request.Interrupt thread) = true
+is_leaving (request.Kill process) = true
+is_leaving request.Exit = true
+is_leaving _ = false
+
+-- a turn whose act can leave a thread idle that is bound to a door that is not valid: an entry of leaving, and the end of a wait of
+-- a thread that is so bound already
+abbrev pub may_lose_door : State → ℕ → Option Request → Bool
+may_lose_door m t (Some r) = is_leaving r
+may_lose_door m t None = has_invalid_door m t
 
 pub record Keeps (m : State) (t : ℕ) (q : Option Request) : Type 0 where
   pub invariant : Invariant (step m t q).state
@@ -137,7 +172,7 @@ pub record Keeps (m : State) (t : ℕ) (q : Option Request) : Type 0 where
   -- an entry that is refused changes nothing but the number of events
   pub refused :
       (r : Request) (e : Errno) → q ≡ Some r → refusal_of m t (process_of m t) r ≡ Some e → (step m t q).state ≡ with_event_counted m
-  -- no idle thread is bound to a door that the act made invalid
-  pub none_lost : (u : ℕ) → has_lost_door (act m t q).state u ≡ false
+  -- no other act leaves a thread idle that is bound to a door that is not valid
+  pub none_lost : may_lose_door m t q ≡ false → (u : ℕ) → has_lost_door (act m t q).state u ≡ false
   -- an act that is not built is never reached
   pub is_built : IsBuiltTurn m t q

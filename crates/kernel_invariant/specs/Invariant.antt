@@ -1,6 +1,6 @@
 -- The invariant of every run: what holds of each state between two events.
-use Rattle.std.specs.Prelude.{ℕ, ◌≡◌, ◌+◌, List, [], ◌∷◌, false, true, Some, None, length, All}
-use Rattle.written_kernel.specs.Types.{Call, Door, Fd}
+use Rattle.std.specs.Prelude.{ℕ, ◌≡◌, ◌+◌, List, [], ◌∷◌, true, Some, None, length, All}
+use Rattle.written_kernel.specs.Types.{Call, Fd}
 use Rattle.kernel_records.specs.declared.record.ThreadState.TheVariants as is
 use Rattle.kernel_records.specs.Words.{is_valid_in}
 use Rattle.written_kernel.specs.Words.{State, object_at, pick, pool_of, waiting_items}
@@ -15,7 +15,6 @@ IsInOrder n (r ∷ rs) = (r.number ≡ n + 1) × IsInOrder (n + 1) rs
 -- what no built kind of event makes: these go as the capabilities come
 pub record HasNothingUnbuilt (m : State) : Type 0 where
   pub no_notices : m.notice_list.notices ≡ []
-  pub none_revoked : (d : ℕ) (x : Door) → (core m).door d ≡ Some x → x.revoked ≡ false
 
 -- what holds at each time: also between an act and what the kernel does after it
 pub record IsConsistent (m : State) : Type 0 where

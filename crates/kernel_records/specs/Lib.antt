@@ -8,4 +8,5 @@ pub mod Doors
 pub mod Calls
 pub mod Notices
 pub mod Pools
+pub mod Leaving
 pub mod Words

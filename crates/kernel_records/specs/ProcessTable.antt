@@ -1,6 +1,6 @@
 -- Processes and threads, numbered from 1 by their places. Every reader is total: a number that no thread has reads as that of a
 -- Done thread, and a writer at such a number changes nothing.
-use Rattle.std.specs.Prelude.{ℕ, ◌+◌, List, Option, Bool, true, false, ◌==◌, ◌&&◌, not, if◌then◌else◌, Some, None, count_by, map, position}
+use Rattle.std.specs.Prelude.{ℕ, ◌+◌, List, Option, Bool, true, false, ◌==◌, ◌&&◌, not, if◌then◌else◌, Some, None, count_by, position}
 use Rattle.std.specs.List.{list_any}
 use Rattle.dk_base.specs.declared.object.Inv.{Inv}
 use Rattle.dk_base.specs.declared.object.Item.{Item}
@@ -82,6 +82,10 @@ thread_in_invocation i x = record x { invocation = Some (new_invocation i); stat
 abbrev pub idle_thread : ℕ → Thread → Thread
 idle_thread now x = record x { invocation = None; state = is.Idle now }
 
+-- its invocation ends, and it goes on
+abbrev pub thread_outside : Thread → Thread
+thread_outside x = record x { invocation = None }
+
 -- it ends
 abbrev pub ended_thread : Thread → Thread
 ended_thread x = record x { invocation = None; state = is.Done }
@@ -101,6 +105,9 @@ park_thread table t now = change_thread table t (idle_thread now)
 abbrev pub end_thread : ProcessTable → ℕ → ProcessTable
 end_thread table t = change_thread table t ended_thread
 
+abbrev pub end_invocation : ProcessTable → ℕ → ProcessTable
+end_invocation table t = change_thread table t thread_outside
+
 -- spare threads that were not started
 
 abbrev pub is_dormant : ThreadState → Bool
@@ -118,20 +125,14 @@ start_thread_at table (Some place) = set_thread_state table (place + 1) is.Runni
 abbrev pub start_spare : ProcessTable → ℕ → ProcessTable
 start_spare table p = start_thread_at table (position (is_spare_of p) table.threads)
 
--- the end of a process: all its threads end
-
-abbrev pub ended_thread_of : ℕ → Thread → Thread
-ended_thread_of p x = if x.process.0 == p then ended_thread x else x
+-- the end of a process
 
 abbrev pub with_ended : ProcessTable → ℕ → Option Process → ProcessTable
 with_ended table p None = table
 with_ended table p (Some x) = record table { processes = with_at_number table.processes p (ended_process x) }
 
-abbrev pub with_ended_threads : ProcessTable → ℕ → ProcessTable
-with_ended_threads table p = record table { threads = map (ended_thread_of p) table.threads }
-
 abbrev pub end_process : ProcessTable → ℕ → ProcessTable
-end_process table p = with_ended (with_ended_threads table p) p (at_number table.processes p)
+end_process table p = with_ended table p (at_number table.processes p)
 
 -- a thread that keeps its process from ending
 abbrev pub is_active : ThreadState → Bool

@@ -1,6 +1,7 @@
 //! The records of the written kernel's state, as the kernel's code has them too: processes, threads, doors, names, calls and
-//! notices, and what server pools hold.
+//! notices, what server pools hold, and who leaves.
 #![tactic(auto)]
 
+pub mod leaving;
 pub mod pool;
 pub mod record;

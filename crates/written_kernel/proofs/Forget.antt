@@ -1,16 +1,17 @@
 -- A kernel may forget the calls that were answered or whose callers ended: what a step gives is the same.
 use Rattle.std.proofs.Common.{◌≡◌, ℕ, zero, suc, Bool, true, false, if◌then◌else◌, List, [], ◌∷◌, Option, None, Some, is_some, ◌++◌, flat_map, length, map, filter, unwrap_or, refl, sym, subst, ap, ap₂, ◌∙◌}
 use Rattle.std.specs.Option.{option_map_or}
-use Rattle.written_kernel.specs.Types.{Answer, Call, Errno, Item, Name, Obj, Parked, PathId, Pool, Request, Stepped, ThreadState, Waiting}
+use Rattle.written_kernel.specs.Types.{Answer, Call, Errno, Fd, Item, Name, Obj, Parked, Pass, PathId, Pool, Request, Stepped, Thread, ThreadState, Waiting}
 use Rattle.dk_base.specs.declared.answer.Answer.TheVariants as answer
 use Rattle.dk_base.specs.declared.object.Item.TheVariants as item
 use Rattle.dk_base.specs.declared.object.Obj.TheVariants as obj
 use Rattle.dk_base.specs.declared.request.Request.TheVariants as request
 use Rattle.kernel_records.specs.declared.record.ThreadState.TheVariants as is
-use Rattle.kernel_records.specs.Words.{CallTree, collect_call, first_refusal, give_call, is_client_call_of, is_given_as, is_last, is_queued_call, is_queued_in, is_served_by, is_to_collect_as, info_in, is_waiting_notice, live_calls, objects_of, objects_passed, pid, set_thread_state, waiting_call, waiting_notice, with_notices}
+use Rattle.kernel_records.specs.Words.{CallTree, Leaving, ProcessTable, close_row, close_table, collect_call, end_owner, end_process, first_refusal, give_call, interruption, is_client_call_of, is_given_as, is_last, is_queued_call, is_queued_in, is_served_by, is_to_collect_as, info_in, is_waiting_notice, left_thread, left_thread_of, left_threads, live_calls, objects_of, objects_passed, pid, process_end, revocation, revoke_door, set_thread_state, thread_end, waiting_call, waiting_notice, with_notices, with_table}
 use Rattle.written_kernel.specs.Step.{step}
-use Rattle.written_kernel.specs.Words.{ActResult, IsStep, StandsFor, State, Step, accept, accept_call, act, await, await_name, begin_call, bound_of, call, calls_waiting, caller_in, caller_of, can_go_on, client_call, client_process, collect, collect_answer_in, credentials, door_at, door_named, door_of, effect, end_calls, enter, tests_of, exit, fail_begin, fail_each, fail_one, fail_return, fail_returns, find_call, forget, give, give_and_start, give_each, give_one, give_to, go_on, has_lost_door, has_room, holdings, information_of, invocation_of, is_runnable, is_running, leave_process, leave_thread, name_of, named_object, needs_spare, new_call, now, no_act, object_at, objects_collected_in, pick, pool_of, process_of, refs, refusal_of, return, root, served_by, settle, start_each, start_one, start_spares, state_of, step_after, table_of, tables_after_collect, unless_refused, waiting_items, walk, with_event_counted, woken_among, woken_threads}
-use Rattle.written_kernel.proofs.CallLists.{HaveSameLive, IsOfLiveCalls, client_is_live, collect_call-live, count_by-live, end_calls-live, enter_call-live, fail_call-live, filter-live, find-live, give_call-live, given_as_is_live, live_calls-live, objects-live, open_call-live, queued_call_is_live, queued_in_is_live, ready_as_is_live, return_call-live, served_is_live}
+use Rattle.written_kernel.specs.Words.{ActResult, IsStep, StandsFor, State, Step, accept, accept_call, act, await, await_name, begin_call, bound_of, call, calls_waiting, caller_in, caller_of, can_go_on, client_call, client_process, collect, collect_answer_in, credentials, door_at, door_named, door_of, effect, enter, tests_of, exit, fail_begin, fail_each, fail_one, fail_return, fail_returns, find_call, forget, give, give_and_start, give_each, give_one, give_to, go_on, has_invalid_door, has_lost_door, has_room, holdings, information_of, interrupt, invocation_of, is_live_process, is_runnable, is_running, kill, leave, leave_process, leave_thread, name_of, named_object, needs_spare, new_call, now, no_act, object_at, objects_collected_in, pick, pool_of, process_of, refs, refusal_of, return, return_parked, return_unbound, revoke, root, served_by, settle, start_each, start_one, start_spares, state_of, step_after, table_of, tables_after_collect, unless_refused, waiting_items, walk, with_event_counted, woken_among, woken_threads}
+use Rattle.written_kernel.proofs.CallLists.{HaveSameLive, IsOfLiveCalls, client_is_live, collect_call-live, count_by-live, enter_call-live, fail_call-live, filter-live, find-live, give_call-live, given_as_is_live, left_calls-live, live_calls-live, objects-live, open_call-live, queued_call_is_live, queued_in_is_live, ready_as_is_live, return_call-live, served_is_live}
+use Rattle.written_kernel.proofs.Lists.{map-same}
 
 -- The readers of calls. What reads none is the same by its form.
 
@@ -120,6 +121,61 @@ await-forget m t path = go (name_of m path)
     go (Some n) = kept_act (await_name m t path (Some n))
     go None = kept_act (await_name m t path None)
 
+-- what threads, calls and notices become depends on live calls alone
+
+pub left_thread_of-forget :
+    (m : State) (who : Leaving) (n : ℕ) (x : Thread) →
+    left_thread_of who n (forget m).call_tree.calls x ≡ left_thread_of who n m.call_tree.calls x
+left_thread_of-forget m who n x =
+    ap (λ served. left_thread who n served x) (find-live (is_served_by x.number) (served_is_live x.number) m.call_tree.calls)
+
+pub left_threads-forget :
+    (m : State) (who : Leaving) (n : ℕ) (table : ProcessTable) →
+    left_threads who n (forget m).call_tree.calls table ≡ left_threads who n m.call_tree.calls table
+left_threads-forget m who n table =
+    ap (λ xs. record table { threads = xs })
+    (map-same
+    (left_thread_of who n (forget m).call_tree.calls)
+    (left_thread_of who n m.call_tree.calls)
+    (left_thread_of-forget m who n)
+    table.threads)
+
+pub leave-forget : (m : State) (who : Leaving) → AreAlike (leave (forget m) who) (leave m who)
+leave-forget m who =
+    ap₂ (λ table calls. record (leave m who) { process_table = table; call_tree = calls })
+    (left_threads-forget m who (now m) m.process_table)
+    (left_calls-live m.call_tree who)
+
+pub leave_process-forget : (m : State) (p : ℕ) → AreAlike (leave_process (forget m) p) (leave_process m p)
+leave_process-forget m p =
+    ap {A = State} {B = State}
+    (λ n.
+    record n {
+      process_table = end_process n.process_table p;
+      tables = with_table n.tables p (close_table (table_of n p));
+      doors = end_owner n.doors p;
+    })
+    (leave-forget m (process_end m.process_table m.doors p))
+
+revoke-forget : (m : State) (p : ℕ) (fd : Fd) → SameAct (revoke (forget m) p fd) (revoke m p fd)
+revoke-forget m p fd =
+    record {
+      state =
+          ap {A = State} {B = State} (λ n. record n { tables = with_table n.tables p (close_row (table_of n p) fd.0); doors = revoke_door n.doors (door_at m p fd) })
+          (leave-forget m (revocation (door_at m p fd)));
+      answer = refl;
+    }
+
+interrupt-forget : (m : State) (t : ℕ) → SameAct (interrupt (forget m) t) (interrupt m t)
+interrupt-forget m t = record { state = leave-forget m (interruption t); answer = refl }
+
+kill-forget : (m : State) (p : ℕ) → SameAct (kill (forget m) p) (kill m p)
+kill-forget m p = record { state = go (is_live_process m p); answer = refl }
+  where
+    go : (b : Bool) → AreAlike (if b then leave_process (forget m) p else forget m) (if b then leave_process m p else m)
+    go true = leave_process-forget m p
+    go false = forget-forget m
+
 exit-forget : (m : State) (t p : ℕ) → SameAct (exit (forget m) t p) (exit m t p)
 exit-forget m t p = record { state = go (is_last m.process_table t p); answer = refl }
   where
@@ -128,9 +184,22 @@ exit-forget m t p = record { state = go (is_last m.process_table t p); answer = 
         AreAlike
         (if b then leave_process (forget m) p else leave_thread (forget m) t)
         (if b then leave_process m p else leave_thread m t)
+    go true = leave_process-forget m p
+    go false = leave-forget m (thread_end t)
+
+return-forget :
+    (m : State) (t p : ℕ) (bytes : List ℕ) (pass : List Pass) → SameAct (return (forget m) t p bytes pass) (return m t p bytes pass)
+return-forget m t p bytes pass = go (has_invalid_door m t)
+  where
+    go :
+        (b : Bool) →
+        SameAct
+        (if b then return_unbound (forget m) t p bytes pass else return_parked (forget m) t p bytes pass)
+        (if b then return_unbound m t p bytes pass else return_parked m t p bytes pass)
     go true =
-        alike_calls (leave_process m p) (end_calls (live_calls m.call_tree) m.doors p) (end_calls-live m.call_tree m.doors p)
-    go false = forget-forget (leave_thread m t)
+        same_act (return_unbound m t p bytes pass) (return_call-live m.call_tree t bytes (objects_passed (table_of m p) pass)) refl
+    go false =
+        same_act (return_parked m t p bytes pass) (return_call-live m.call_tree t bytes (objects_passed (table_of m p) pass)) refl
 
 information_of-forget : (m : State) (p d : ℕ) → SameAct (information_of (forget m) p d) (information_of m p d)
 information_of-forget m p d =
@@ -206,12 +275,14 @@ effect-forget m t p (request.Call fd bytes pass rsize) =
     (call m t p fd bytes pass rsize)
     (open_call-live m.call_tree (new_call m t (door_named (object_at m p fd)) bytes (objects_passed (table_of m p) pass) rsize))
     refl
-effect-forget m t p (request.Return bytes pass) =
-    same_act (return m t p bytes pass) (return_call-live m.call_tree t bytes (objects_passed (table_of m p) pass)) refl
+effect-forget m t p (request.Return bytes pass) = return-forget m t p bytes pass
+effect-forget m t p (request.Revoke fd) = revoke-forget m p fd
 effect-forget m t p (request.Info fd) = information_of-forget m p (door_at m p fd)
 effect-forget m t p request.InfoQuery = information_of-forget m p (unwrap_or (bound_of m t) 0)
 effect-forget m t p request.Cred = credentials-forget m t
 effect-forget m t p (request.Await path) = await-forget m t path
+effect-forget m t p (request.Interrupt thread) = interrupt-forget m thread.0
+effect-forget m t p (request.Kill process) = kill-forget m process.0
 effect-forget m t p request.Exit = exit-forget m t p
 effect-forget m t p r = kept_act (effect m t p r)
 

@@ -1,21 +1,23 @@
 -- A thread gets an invocation only at an accept of its own that answers Entered.
-use Rattle.std.proofs.Common.{◌≡◌, ℕ, ◌==◌, ◌&&◌, Bool, true, false, if◌then◌else◌, Option, None, Some, IsSome, is_some, option_map, refl, sym, ap, ◌∙◌, ◌⊎◌, inl, inr, arith}
+use Rattle.std.proofs.Common.{◌≡◌, ℕ, ◌==◌, ◌&&◌, Bool, true, false, if◌then◌else◌, List, Option, None, Some, IsSome, is_some, option_map, refl, sym, ap, ◌∙◌, ◌⊎◌, inl, inr, arith}
 use Rattle.std.proofs.lemmas.Bool.Decides.{nat_tests}
-use Rattle.written_kernel.specs.Types.{Call, Item, Name, PathId, Request, Thread, ThreadState}
+use Rattle.written_kernel.specs.Types.{Call, Inv, Item, Name, Pass, PathId, Request, Thread, ThreadState}
 use Rattle.dk_base.specs.declared.object.Item.TheVariants as item
 use Rattle.dk_base.specs.declared.request.Request.TheVariants as request
 use Rattle.kernel_records.specs.declared.record.ThreadState.TheVariants as is
-use Rattle.kernel_records.specs.Words.{ProcessTable, end_process, end_thread, ended_thread, ended_thread_of, enter_thread, thread_in_invocation, invocation_in, is_given_as, is_last, new_invocation, park_thread, idle_thread, thread_at, set_thread_state, thread_at_state, change_thread}
-use Rattle.written_kernel.specs.State.{State, find_call, invocation_of, name_of, process_of, state_of, thread_of, with_state, now}
+use Rattle.kernel_records.specs.Words.{Leaving, ProcessTable, cancelled_invocation, end_thread, ended_thread, enter_thread, interruption, left_thread_of, process_end, revocation, thread_end, thread_outside, thread_in_invocation, invocation_in, is_given_as, is_last, new_invocation, park_thread, idle_thread, thread_at, set_thread_state, thread_at_state, change_thread}
+use Rattle.written_kernel.specs.State.{State, find_call, has_invalid_door, invocation_of, is_live_process, name_of, process_of, state_of, thread_of, with_state, now}
 use Rattle.written_kernel.specs.Answers.{IsEntering}
 use Rattle.written_kernel.specs.Descriptors.{await, await_name}
-use Rattle.written_kernel.specs.Doors.{accept, accept_call, begin_call, fail_begin, has_room}
-use Rattle.written_kernel.specs.Leaving.{exit, leave_process, leave_thread}
+use Rattle.written_kernel.specs.Doors.{accept, accept_call, begin_call, fail_begin, has_room, return, return_parked, return_unbound}
+use Rattle.written_kernel.specs.Information.{door_at}
+use Rattle.written_kernel.specs.Leaving.{exit, kill, leave, leave_process, leave_thread}
 use Rattle.written_kernel.specs.Settle.{give_one, settle}
 use Rattle.written_kernel.specs.Step.{act, effect, enter, go_on, step}
 use Rattle.written_kernel.proofs.Entries.{enter_either}
 use Rattle.written_kernel.proofs.Settling.{settle-all}
-use Rattle.written_kernel.proofs.Threads.{ended_thread_of-case, invocation-change_thread, thread_at-end_process}
+use Rattle.written_kernel.proofs.Threads.{invocation-change_thread, left_thread_of-case}
+use Rattle.written_kernel.proofs.Leaving.{thread_of-leave, thread_of-leave_process}
 
 -- a thread that turns keeps its invocation
 pub invocation-set_thread_state :
@@ -96,13 +98,24 @@ without-none table t change none =
     go u true h = cc
     go u false h = h
 
-end_process-none : (table : ProcessTable) (p : ℕ) → NoneNew table (end_process table p)
-end_process-none table p =
-    record { had = λ u h. go (thread_at table u) (sym (ap (λ o. is_some (invocation_in o)) (thread_at-end_process table p u)) ∙ h) }
+-- a thread that leaves gets none
+pub left_thread_of-none :
+    (who : Leaving) (now : ℕ) (calls : List Call) (x : Thread) → IsSome (left_thread_of who now calls x).invocation →
+    IsSome x.invocation
+left_thread_of-none who now calls x =
+    left_thread_of-case (λ (y : Thread). IsSome y.invocation → IsSome x.invocation) who now calls x (λ h. h) (λ h. cc) (λ h. h)
+    (λ y ih h. cc)
+    (λ y ih h. ih (was y.invocation h))
   where
-    go : (o : Option Thread) → IsSome (invocation_in (option_map (ended_thread_of p) o)) → IsSome (invocation_in o)
-    go None h = h
-    go (Some x) h = ended_thread_of-case (λ (y : Thread). IsSome y.invocation → IsSome x.invocation) p x (λ k. cc) (λ k. k) h
+    was : (o : Option Inv) → IsSome (option_map cancelled_invocation o) → IsSome o
+    was None h = h
+    was (Some v) h = refl
+
+pub left-none :
+    (who : Leaving) (now : ℕ) (calls : List Call) (o : Option Thread) → IsSome (invocation_in (option_map (left_thread_of who now calls) o)) →
+    IsSome (invocation_in o)
+left-none who now calls None h = h
+left-none who now calls (Some x) h = left_thread_of-none who now calls x h
 
 -- acts that begin no invocation
 
@@ -116,17 +129,50 @@ await-none m t path = go (name_of m path)
     go (Some n) = none_same m.process_table
     go None = set_thread_state-none m.process_table t (is.Awaiting path)
 
+leave-none : (m : State) (who : Leaving) → BeginsNone m (leave m who)
+leave-none m who =
+    record {
+      had =
+          λ u h. left-none who (now m) m.call_tree.calls (thread_of m u) (sym (ap (λ o. is_some (invocation_in o)) (thread_of-leave m who u)) ∙ h);
+    }
+
+leave_process-none : (m : State) (p : ℕ) → BeginsNone m (leave_process m p)
+leave_process-none m p =
+    record {
+      had =
+          λ u h.
+          left-none (process_end m.process_table m.doors p) (now m) m.call_tree.calls (thread_of m u)
+          (sym (ap (λ o. is_some (invocation_in o)) (thread_of-leave_process m p u)) ∙ h);
+    }
+
 exit-none : (m : State) (t p : ℕ) → BeginsNone m (exit m t p).state
 exit-none m t p = go (is_last m.process_table t p)
   where
     go : (b : Bool) → BeginsNone m (if b then leave_process m p else leave_thread m t)
-    go true = end_process-none m.process_table p
-    go false = without-none m.process_table t ended_thread (λ x. refl)
+    go true = leave_process-none m p
+    go false = leave-none m (thread_end t)
+
+kill-none : (m : State) (p : ℕ) → BeginsNone m (kill m p).state
+kill-none m p = go (is_live_process m p)
+  where
+    go : (b : Bool) → BeginsNone m (if b then leave_process m p else m)
+    go true = leave_process-none m p
+    go false = none_same m.process_table
+
+return-none : (m : State) (t p : ℕ) (bytes : List ℕ) (pass : List Pass) → BeginsNone m (return m t p bytes pass).state
+return-none m t p bytes pass = go (has_invalid_door m t)
+  where
+    go : (b : Bool) → BeginsNone m (if b then return_unbound m t p bytes pass else return_parked m t p bytes pass).state
+    go true = without-none m.process_table t thread_outside (λ x. refl)
+    go false = without-none m.process_table t (idle_thread (now m)) (λ x. refl)
 
 effect-none : (m : State) (t p : ℕ) (r : Request) → BeginsNone m (effect m t p r).state
 effect-none m t p (request.Call fd bytes pass rsize) = set_thread_state-none m.process_table t _
-effect-none m t p (request.Return bytes pass) = without-none m.process_table t _ (λ x. refl)
+effect-none m t p (request.Return bytes pass) = return-none m t p bytes pass
+effect-none m t p (request.Revoke fd) = leave-none m (revocation (door_at m p fd))
 effect-none m t p (request.Await path) = await-none m t path
+effect-none m t p (request.Interrupt thread) = leave-none m (interruption thread.0)
+effect-none m t p (request.Kill process) = kill-none m process.0
 effect-none m t p request.Exit = exit-none m t p
 effect-none m t p _ = none_same m.process_table
 
@@ -174,6 +220,7 @@ go_on-one m t p (is.Given i) u h = accept-one m t p i u h
 go_on-one m t p (is.Calling c) u h = inl ((set_thread_state-none m.process_table t is.Running).had u h)
 go_on-one m t p (is.Awaiting path) u h = inl ((set_thread_state-none m.process_table t is.Running).had u h)
 go_on-one m t p (is.Working op input) u h = inl ((set_thread_state-none m.process_table t is.Running).had u h)
+go_on-one m t p is.FailedReturn u h = inl ((set_thread_state-none m.process_table t is.Running).had u h)
 go_on-one m t p _ u h = inl h
 
 -- settling

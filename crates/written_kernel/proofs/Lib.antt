@@ -4,6 +4,7 @@ pub mod Threads
 pub mod Doors
 pub mod Entries
 pub mod Settling
+pub mod Failing
 pub mod Forget
 pub mod Invocations
 pub mod Steps
@@ -13,3 +14,4 @@ pub mod Places
 pub mod Waits
 pub mod Giving
 pub mod Numbers
+pub mod Leaving

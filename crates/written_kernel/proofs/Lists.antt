@@ -122,6 +122,21 @@ pub map-map_same :
 map-map_same f g h [] = refl
 map-map_same f g h (x ∷ xs) = ap₂ (λ y ys. y ∷ ys) (h x) (map-map_same f g h xs)
 
+pub map-same : {X Y : Type 0} (f g : X → Y) → ((x : X) → f x ≡ g x) → (xs : List X) → map f xs ≡ map g xs
+map-same f g h [] = refl
+map-same f g h (x ∷ xs) = ap₂ (λ y ys. y ∷ ys) (h x) (map-same f g h xs)
+
+pub map_unchanged : {X : Type 0} (f : X → X) → ((x : X) → f x ≡ x) → (xs : List X) → map f xs ≡ xs
+map_unchanged f h [] = refl
+map_unchanged f h (x ∷ xs) = ap₂ (λ y ys. y ∷ ys) (h x) (map_unchanged f h xs)
+
+-- a search that does not see a change of each item
+pub find-map_same :
+    {X : Type 0} (test : X → Bool) (f : X → X) → ((x : X) → test (f x) ≡ test x) → (xs : List X) →
+    find test (map f xs) ≡ option_map f (find test xs)
+find-map_same test f same [] = refl
+find-map_same test f same (x ∷ xs) = grind (arith, same x, find-map_same test f same xs)
+
 -- lists that a reader sees alike
 
 pub same_length : {X Y : Type 0} (f : X → Y) (xs ys : List X) → map f xs ≡ map f ys → length xs ≡ length ys

@@ -1,24 +1,22 @@
 -- Doors, calls and notices stand in their lists under their own numbers, in every run; so nothing ever waits in a pool that
 -- has an idle thread.
-use Rattle.std.proofs.Common.{◌≡◌, ℕ, ◌+◌, ◌==◌, ◌&&◌, Bool, true, false, if◌then◌else◌, List, [], ◌∷◌, Option, None, Some, count_by, length, map, refl, sym, ap, subst, ◌∙◌, ◌⊎◌, inl, length-append}
+use Rattle.std.proofs.Common.{◌≡◌, ℕ, ◌+◌, Bool, true, false, if◌then◌else◌, List, [], ◌∷◌, Option, None, Some, count_by, length, map, refl, sym, ap, subst, ◌∙◌, ◌⊎◌, inl, length-append}
 use Rattle.std.specs.List.{All}
 use Rattle.std.proofs.lemmas.List.{length-map}
 use Rattle.std.proofs.lemmas.List.Elements.{All-nil}
-use Rattle.written_kernel.specs.Types.{Attrs, Call, Door, Item, Name, Notice, Param, PathId, Pool, Process, Request, Thread, ThreadState}
-use Rattle.dk_base.specs.declared.error.Errno.TheVariants.{EBADF, EMFILE}
+use Rattle.written_kernel.specs.Types.{Attrs, Call, Door, Fd, Item, Name, Param, Pass, PathId, Pool, Process, Request, Thread, ThreadState}
+use Rattle.dk_base.specs.declared.error.Errno.TheVariants.{EMFILE}
 use Rattle.dk_base.specs.declared.object.Item.TheVariants as item
 use Rattle.dk_base.specs.declared.request.Param.TheVariants as param
 use Rattle.dk_base.specs.declared.request.Request.TheVariants as request
 use Rattle.kernel_records.specs.declared.record.ThreadState.TheVariants as is
 use Rattle.kernel_records.specs.declared.record.CallStage.TheVariants as stage
-use Rattle.kernel_records.specs.declared.record.NoticeStage.TheVariants as notice
-use Rattle.dk_base.specs.ByNumber.{at_number}
-use Rattle.kernel_records.specs.Words.{CallTree, NoticeList, at_stage, change_first, give_notice, is_client_call_of, is_given_as, is_last, is_owned_by, is_queued, is_queued_as, is_queued_in, is_to_collect_as, is_waiting_notice, new_door, objects_passed, open_call, set_param, tid, with_door, with_owner_ended, with_param, without_arguments_at}
-use Rattle.written_kernel.specs.State.{State, calls_waiting, find_call, name_of, now, object_at, pick, pool_of, process_of, state_of, table_of, waiting_items}
+use Rattle.kernel_records.specs.Words.{CallTree, Leaving, NoticeList, at_stage, change_first, end_owner, give_notice, interruption, is_client_call_of, is_given_as, is_last, is_queued_as, is_queued_in, is_to_collect_as, left_call, left_notice, new_door, objects_passed, open_call, process_end, return_call, revocation, revoke_door, revoked_door, set_param, thread_end, tid, with_door, with_param, without_arguments_at}
+use Rattle.written_kernel.specs.State.{State, calls_waiting, find_call, has_invalid_door, is_live_process, name_of, now, object_at, pick, pool_of, process_of, state_of, table_of, waiting_items}
 use Rattle.written_kernel.specs.Descriptors.{await_name, door_named}
-use Rattle.written_kernel.specs.Doors.{accept, accept_call, begin_call, fail_begin, has_room, new_call}
+use Rattle.written_kernel.specs.Doors.{accept, accept_call, begin_call, fail_begin, has_room, new_call, return, return_parked, return_unbound}
 use Rattle.written_kernel.specs.Information.{door_at}
-use Rattle.written_kernel.specs.Leaving.{dropped_notice, ended_call, exit, leave_process, leave_thread}
+use Rattle.written_kernel.specs.Leaving.{exit, kill, leave, leave_process, leave_thread, revoke}
 use Rattle.written_kernel.specs.Settle.{give_one, settle}
 use Rattle.written_kernel.specs.Step.{act, effect, enter, go_on, step}
 use Rattle.written_kernel.specs.Opening.{IsOpening}
@@ -26,7 +24,9 @@ use Rattle.written_kernel.specs.Runs.{Turn, state_after, state_after_turn}
 use Rattle.written_kernel.proofs.Lists.{map-map_same, same_length}
 use Rattle.written_kernel.proofs.Places.{map-change_first, order_by, order_none, order_push, order_same}
 pub use Rattle.written_kernel.proofs.Places.{IsInOrder}
-use Rattle.written_kernel.proofs.Doors.{map-change_door}
+use Rattle.written_kernel.proofs.Doors.{map-change_door, map-end_owner}
+use Rattle.written_kernel.proofs.CallLists.{left_call-number}
+use Rattle.written_kernel.proofs.Leaving.{map-left_notices}
 use Rattle.written_kernel.proofs.Entries.{enter_either}
 use Rattle.written_kernel.proofs.Settling.{settle-all}
 use Rattle.written_kernel.proofs.Opening.{IsOpened, opened, waiting_items-opening}
@@ -112,44 +112,45 @@ one_notice_given : (m : State) (n u : ℕ) → IsListed m → AreListed m.call_t
 one_notice_given m n u l =
     record { calls_made = l.calls_made; calls = l.calls; doors = l.doors; notices = notices_in_order m.notice_list n u l.notices }
 
-with_owner_ended-number : (p : ℕ) (d : Door) → door_number (with_owner_ended p d) ≡ door_number d
-with_owner_ended-number p d = go (d.owner.0 == p)
-  where
-    go : (b : Bool) → door_number (if b then record d { owner_ended = true } else d) ≡ door_number d
-    go true = refl
-    go false = refl
+-- calls, threads and notices that leave
+leave-listed : (m : State) (who : Leaving) → IsListed m → IsListed (leave m who)
+leave-listed m who l =
+    record {
+      calls_made = l.calls_made ∙ sym (length-map m.call_tree.calls (left_call who));
+      calls =
+          order_same call_number m.call_tree.calls (map (left_call who) m.call_tree.calls)
+          (map-map_same call_number (left_call who) (left_call-number who) m.call_tree.calls)
+          l.calls;
+      doors = l.doors;
+      notices =
+          order_same notice_number m.notice_list.notices (map (left_notice who) m.notice_list.notices)
+          (map-left_notices notice_number (λ s n. refl) who m.notice_list.notices)
+          l.notices;
+    }
 
-ended_call-number : (doors : List Door) (p : ℕ) (r : Call) → call_number (ended_call doors p r) ≡ call_number r
-ended_call-number doors p r = go (is_queued r.stage && is_owned_by p (at_number doors r.door))
-  where
-    go : (b : Bool) → call_number (if b then without_arguments_at (stage.Ended EBADF) r else r) ≡ call_number r
-    go true = refl
-    go false = refl
-
-dropped_notice-number : (doors : List Door) (p : ℕ) (n : Notice) → notice_number (dropped_notice doors p n) ≡ notice_number n
-dropped_notice-number doors p n = go (is_waiting_notice n && is_owned_by p (at_number doors n.door))
-  where
-    go : (b : Bool) → notice_number (if b then record n { stage = notice.Dropped } else n) ≡ notice_number n
-    go true = refl
-    go false = refl
+-- doors of the same numbers
+doors_change :
+    (m : State) (doors : List Door) → map door_number doors ≡ map door_number m.doors → IsListed m →
+    AreListed m.call_tree doors m.notice_list
+doors_change m doors same l =
+    record {
+      calls_made = l.calls_made;
+      calls = l.calls;
+      doors = order_same door_number m.doors doors same l.doors;
+      notices = l.notices;
+    }
 
 leave_process-listed : (m : State) (p : ℕ) → IsListed m → IsListed (leave_process m p)
 leave_process-listed m p l =
-    record {
-      calls_made = l.calls_made ∙ sym (length-map m.call_tree.calls (ended_call m.doors p));
-      calls =
-          order_same call_number m.call_tree.calls (map (ended_call m.doors p) m.call_tree.calls)
-          (map-map_same call_number (ended_call m.doors p) (ended_call-number m.doors p) m.call_tree.calls)
-          l.calls;
-      doors =
-          order_same door_number m.doors (map (with_owner_ended p) m.doors)
-          (map-map_same door_number (with_owner_ended p) (with_owner_ended-number p) m.doors)
-          l.doors;
-      notices =
-          order_same notice_number m.notice_list.notices (map (dropped_notice m.doors p) m.notice_list.notices)
-          (map-map_same notice_number (dropped_notice m.doors p) (dropped_notice-number m.doors p) m.notice_list.notices)
-          l.notices;
-    }
+    doors_change (leave m (process_end m.process_table m.doors p)) (end_owner m.doors p)
+    (map-end_owner door_number (λ x. refl) m.doors p)
+    (leave-listed m (process_end m.process_table m.doors p) l)
+
+revoke-listed : (m : State) (p : ℕ) (fd : Fd) → IsListed m → IsListed (revoke m p fd).state
+revoke-listed m p fd l =
+    doors_change (leave m (revocation (door_at m p fd))) (revoke_door m.doors (door_at m p fd))
+    (map-change_door door_number m.doors (door_at m p fd) revoked_door (λ x. refl))
+    (leave-listed m (revocation (door_at m p fd)) l)
 
 -- acts, where they touch what is listed
 
@@ -162,7 +163,26 @@ exit-listed m t p l = go (is_last m.process_table t p)
   where
     go : (b : Bool) → IsListed (if b then leave_process m p else leave_thread m t)
     go true = leave_process-listed m p l
+    go false = leave-listed m (thread_end t) l
+
+kill-listed : (m : State) (p : ℕ) → IsListed m → IsListed (kill m p).state
+kill-listed m p l = go (is_live_process m p)
+  where
+    go : (b : Bool) → IsListed (if b then leave_process m p else m)
+    go true = leave_process-listed m p l
     go false = l
+
+return-listed : (m : State) (t p : ℕ) (bytes : List ℕ) (pass : List Pass) → IsListed m → IsListed (return m t p bytes pass).state
+return-listed m t p bytes pass l = go (has_invalid_door m t)
+  where
+    moved :
+        AreListed (return_call m.call_tree t bytes (objects_passed (table_of m p) pass)) m.doors m.notice_list
+    moved =
+        one_call_moves m (is_client_call_of t) (without_arguments_at (stage.Returned bytes (objects_passed (table_of m p) pass))) (λ r. refl) l
+
+    go : (b : Bool) → IsListed (if b then return_unbound m t p bytes pass else return_parked m t p bytes pass).state
+    go true = moved
+    go false = moved
 
 accept-listed : (m : State) (t p : ℕ) (i : Item) → IsListed m → IsListed (accept m t p i).state
 accept-listed m t p (item.Call c) l = go (find_call m (is_given_as c t))
@@ -180,10 +200,12 @@ effect-listed : (m : State) (t p : ℕ) (r : Request) → IsListed m → IsListe
 effect-listed m t p (request.Create entry cookie attrs) l = one_door_more m p entry cookie attrs l
 effect-listed m t p (request.Call fd bytes pass rsize) l =
     one_call_more m (new_call m t (door_named (object_at m p fd)) bytes (objects_passed (table_of m p) pass) rsize) refl l
-effect-listed m t p (request.Return bytes pass) l =
-    one_call_moves m (is_client_call_of t) (without_arguments_at (stage.Returned bytes (objects_passed (table_of m p) pass))) (λ r. refl) l
+effect-listed m t p (request.Return bytes pass) l = return-listed m t p bytes pass l
+effect-listed m t p (request.Revoke fd) l = revoke-listed m p fd l
 effect-listed m t p (request.SetParam fd x value) l = one_door_changes m (door_at m p fd) x value l
 effect-listed m t p (request.Await path) l = await-listed m t path (name_of m path) l
+effect-listed m t p (request.Interrupt thread) l = leave-listed m (interruption thread.0) l
+effect-listed m t p (request.Kill process) l = kill-listed m process.0 l
 effect-listed m t p request.Exit l = exit-listed m t p l
 effect-listed m t p _ l = l
 

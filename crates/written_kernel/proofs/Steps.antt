@@ -1,25 +1,25 @@
 -- What every step keeps: the numbers of processes and threads, who the threads are, and what doors were made as.
-use Rattle.std.proofs.Common.{◌≡◌, ℕ, ◌+◌, ◌==◌, Bool, true, false, if◌then◌else◌, List, [], ◌∷◌, ◌++◌, Option, None, Some, option_map, length, map, unwrap_or, refl, sym, ap, ◌∙◌, length-set}
+use Rattle.std.proofs.Common.{◌≡◌, ℕ, ◌+◌, Bool, true, false, if◌then◌else◌, List, [], ◌∷◌, ◌++◌, Option, None, Some, option_map, length, map, unwrap_or, refl, sym, ap, ◌∙◌, length-set}
 use Rattle.std.proofs.lemmas.List.{length-map, map-append}
 use Rattle.dk_base.specs.ByNumber.{at_number}
-use Rattle.written_kernel.specs.Types.{Attrs, Call, Door, Item, Name, Obj, Param, Pass, PathId, Pid, Process, Request, Thread, ThreadState}
+use Rattle.written_kernel.specs.Types.{Attrs, Call, Door, Fd, Item, Name, Obj, Param, Pass, PathId, Pid, Process, Request, Thread, ThreadState}
 use Rattle.dk_base.specs.declared.object.Item.TheVariants as item
 use Rattle.dk_base.specs.declared.request.Param.TheVariants as param
 use Rattle.dk_base.specs.declared.request.Request.TheVariants as request
 use Rattle.kernel_records.specs.declared.record.ThreadState.TheVariants as is
-use Rattle.kernel_records.specs.Words.{CallTree, NoticeList, ProcessTable, close_row, close_table, end_process, ended_thread, ended_process, free_place, free_row, insert_row, insert_rows, is_given_as, is_last, is_to_collect_as, process_in, release_row, release_rows, set_param, thread_at_state, with_door, with_ended, with_ended_threads, with_owner_ended, with_param, with_row, change_thread}
-use Rattle.written_kernel.specs.State.{State, door_of, find_call, name_of, process_of, state_of, table_of, thread_of, with_state, with_table_of}
+use Rattle.kernel_records.specs.Words.{CallTree, Leaving, NoticeList, ProcessTable, close_row, close_table, end_owner, end_process, ended_process, free_place, free_row, insert_row, insert_rows, interruption, is_given_as, is_last, is_to_collect_as, process_end, process_in, release_row, release_rows, revocation, revoke_door, revoked_door, set_param, thread_at_state, thread_end, thread_outside, with_door, with_ended, with_param, with_row, with_table, change_thread}
+use Rattle.written_kernel.specs.State.{State, door_of, find_call, has_invalid_door, is_live_process, name_of, now, process_of, state_of, table_of, thread_of, with_state, with_table_of}
 use Rattle.written_kernel.specs.Descriptors.{await, await_name, insert_object}
-use Rattle.written_kernel.specs.Doors.{accept, accept_call, begin_call, create, fail_begin, has_room, objects_collected_in, tables_after_collect, tables_after_pass, tables_with}
-use Rattle.written_kernel.specs.Leaving.{exit, leave_process, leave_thread}
+use Rattle.written_kernel.specs.Doors.{accept, accept_call, begin_call, create, fail_begin, has_room, objects_collected_in, return, return_parked, return_unbound, tables_after_collect, tables_after_pass, tables_with}
+use Rattle.written_kernel.specs.Leaving.{exit, kill, leave, leave_process, leave_thread, revoke}
 use Rattle.written_kernel.specs.Information.{door_at}
 use Rattle.written_kernel.specs.Settle.{fail_return, give_one, settle}
 use Rattle.written_kernel.specs.Step.{act, effect, enter, go_on, step}
 use Rattle.written_kernel.proofs.Entries.{enter_either}
 use Rattle.written_kernel.proofs.Settling.{settle-all}
-use Rattle.written_kernel.proofs.Lists.{length-with_at_number, same_length, same_numbered, at_number-map, at_number-extends, map-with_at_number, map-map_same, Extends, Extends-same, Extends-then}
-use Rattle.written_kernel.proofs.Threads.{map-end_process, map-change_thread, processes-change_thread}
-use Rattle.written_kernel.proofs.Doors.{map-change_door}
+use Rattle.written_kernel.proofs.Lists.{length-with_at_number, same_length, same_numbered, at_number-map, at_number-extends, map-with_at_number, Extends, Extends-same, Extends-then}
+use Rattle.written_kernel.proofs.Threads.{map-change_thread, map-left_threads, processes-change_thread, threads-end_process}
+use Rattle.written_kernel.proofs.Doors.{map-change_door, map-end_owner}
 
 -- what of a thread, of a process and of a door never changes
 
@@ -226,43 +226,99 @@ processes-end_process table p = go (at_number table.processes p) refl
   where
     go :
         (o : Option Process) → at_number table.processes p ≡ o →
-        map process_identity (with_ended (with_ended_threads table p) p o).processes ≡ map process_identity table.processes
+        map process_identity (with_ended table p o).processes ≡ map process_identity table.processes
     go None e = refl
     go (Some x) e =
         map-with_at_number process_identity table.processes p (ended_process x)
         (λ y h. let k : x ≡ y = cc in ap process_identity k)
 
-door_identity-with_owner_ended : (p : ℕ) (d : Door) → door_identity (with_owner_ended p d) ≡ door_identity d
-door_identity-with_owner_ended p d = go (d.owner.0 == p)
-  where
-    go : (b : Bool) → door_identity (if b then record d { owner_ended = true } else d) ≡ door_identity d
-    go true = refl
-    go false = refl
+-- calls, threads and notices that leave
+leave-keeps : (m : State) (who : Leaving) → Keeps m (leave m who)
+leave-keeps m who =
+    record {
+      processes = refl;
+      threads = map-left_threads thread_identity (λ v s x. refl) who (now m) m.call_tree.calls m.process_table;
+      bindings = refl;
+      tables = refl;
+      doors = doors_same m.doors;
+      events = refl;
+    }
+
+-- a process is Ended, with its descriptors and its doors
+process_ended-keeps :
+    (m : State) (p : ℕ) →
+    Keeps m
+    (record m {
+      process_table = end_process m.process_table p;
+      tables = with_table m.tables p (close_table (table_of m p));
+      doors = end_owner m.doors p;
+    })
+process_ended-keeps m p =
+    record {
+      processes = processes-end_process m.process_table p;
+      threads = ap (map thread_identity) (threads-end_process m.process_table p);
+      bindings = refl;
+      tables = tables-with_table_of m p (close_table (table_of m p)) (length-map (table_of m p) free_row);
+      doors = Extends-same (map door_identity m.doors) _ (map-end_owner door_identity (λ x. refl) m.doors p);
+      events = refl;
+    }
 
 leave_process-keeps : (m : State) (p : ℕ) → Keeps m (leave_process m p)
 leave_process-keeps m p =
-    record {
-      processes = processes-end_process m.process_table p;
-      threads = map-end_process thread_identity m.process_table p (λ x. refl);
-      bindings = refl;
-      tables = tables-with_table_of m p (close_table (table_of m p)) (length-map (table_of m p) free_row);
-      doors =
-          Extends-same (map door_identity m.doors) _
-          (map-map_same door_identity (with_owner_ended p) (door_identity-with_owner_ended p) m.doors);
-      events = refl;
-    }
+    keeps_then
+    (leave-keeps m (process_end m.process_table m.doors p))
+    (process_ended-keeps (leave m (process_end m.process_table m.doors p)) p)
 
 exit-keeps : (m : State) (t p : ℕ) → Keeps m (exit m t p).state
 exit-keeps m t p = go (is_last m.process_table t p)
   where
     go : (b : Bool) → Keeps m (if b then leave_process m p else leave_thread m t)
     go true = leave_process-keeps m p
-    go false = thread-keeps m t ended_thread m.call_tree m.notice_list (λ x. refl)
+    go false = leave-keeps m (thread_end t)
+
+kill-keeps : (m : State) (p : ℕ) → Keeps m (kill m p).state
+kill-keeps m p = go (is_live_process m p)
+  where
+    go : (b : Bool) → Keeps m (if b then leave_process m p else m)
+    go true = leave_process-keeps m p
+    go false = keeps_same m
+
+-- a door is revoked, and a descriptor closed
+revoked-keeps :
+    (m : State) (p place d : ℕ) →
+    Keeps m (record m { tables = with_table m.tables p (close_row (table_of m p) place); doors = revoke_door m.doors d })
+revoked-keeps m p place d =
+    record {
+      processes = refl;
+      threads = refl;
+      bindings = refl;
+      tables = tables-with_table_of m p (close_row (table_of m p) place) (length-set (table_of m p) place None);
+      doors = Extends-same (map door_identity m.doors) _ (map-change_door door_identity m.doors d revoked_door (λ x. refl));
+      events = refl;
+    }
+
+revoke-keeps : (m : State) (p : ℕ) (fd : Fd) → Keeps m (revoke m p fd).state
+revoke-keeps m p fd =
+    keeps_then
+    (leave-keeps m (revocation (door_at m p fd)))
+    (revoked-keeps (leave m (revocation (door_at m p fd))) p fd.0 (door_at m p fd))
+
+return-keeps : (m : State) (t p : ℕ) (bytes : List ℕ) (pass : List Pass) → Keeps m (return m t p bytes pass).state
+return-keeps m t p bytes pass = go (has_invalid_door m t)
+  where
+    go : (b : Bool) → Keeps m (if b then return_unbound m t p bytes pass else return_parked m t p bytes pass).state
+    go true =
+        keeps_then
+        (message-keeps m t thread_outside (tables_after_pass m p pass) (return_unbound m t p bytes pass).state.call_tree (λ x. refl)
+        (after_pass-long m p pass))
+        (bindings-keeps _ _ (length-with_at_number m.bindings t None))
+    go false = message-keeps m t _ _ _ (λ x. refl) (after_pass-long m p pass)
 
 effect-keeps : (m : State) (t p : ℕ) (r : Request) → Keeps m (effect m t p r).state
 effect-keeps m t p (request.Create entry cookie attrs) = create-keeps m p entry cookie attrs
 effect-keeps m t p (request.Call fd bytes pass rsize) = message-keeps m t _ _ _ (λ x. refl) (after_pass-long m p pass)
-effect-keeps m t p (request.Return bytes pass) = message-keeps m t _ _ _ (λ x. refl) (after_pass-long m p pass)
+effect-keeps m t p (request.Return bytes pass) = return-keeps m t p bytes pass
+effect-keeps m t p (request.Revoke fd) = revoke-keeps m p fd
 effect-keeps m t p (request.Bind fd) = bindings-keeps m _ (length-with_at_number m.bindings t (Some (door_at m p fd)))
 effect-keeps m t p request.Unbind = bindings-keeps m _ (length-with_at_number m.bindings t None)
 effect-keeps m t p (request.SetParam fd x value) = set_param-keeps m _ x value
@@ -272,6 +328,8 @@ effect-keeps m t p (request.Attach fd path) = names-keeps m _
 effect-keeps m t p (request.Detach path) = names-keeps m _
 effect-keeps m t p (request.Open path) = insert_object-keeps m p _
 effect-keeps m t p (request.Await path) = await-keeps m t path
+effect-keeps m t p (request.Interrupt thread) = leave-keeps m (interruption thread.0)
+effect-keeps m t p (request.Kill process) = kill-keeps m process.0
 effect-keeps m t p request.Exit = exit-keeps m t p
 effect-keeps m t p _ = keeps_same m
 
@@ -296,6 +354,7 @@ go_on-keeps m t p (is.Calling c) =
     message-keeps m t _ _ _ (λ x. refl) (after_collect-long m p (objects_collected_in (find_call m (is_to_collect_as c))))
 go_on-keeps m t p (is.Awaiting path) = with_state-keeps m t is.Running
 go_on-keeps m t p (is.Working op input) = with_state-keeps m t is.Running
+go_on-keeps m t p is.FailedReturn = with_state-keeps m t is.Running
 go_on-keeps m t p _ = keeps_same m
 
 pub act-keeps : (m : State) (t : ℕ) (r : Option Request) → Keeps m (act m t r).state

@@ -1,10 +1,12 @@
 -- The process table after a change of one thread, and the readers that see it.
-use Rattle.std.proofs.Common.{◌≡◌, ℕ, ◌==◌, Bool, true, false, if◌then◌else◌, Option, None, Some, option_map, map, refl, ap, ◌∙◌, arith}
+use Rattle.std.proofs.Common.{◌≡◌, ℕ, ◌==◌, Bool, true, false, if◌then◌else◌, List, Option, None, Some, option_map, map, find, refl, ap, ◌∙◌, arith}
 use Rattle.std.proofs.lemmas.Bool.Decides.{nat_tests}
-use Rattle.written_kernel.specs.Types.{Process, Thread}
+use Rattle.written_kernel.specs.Types.{Call, CallStage, Inv, Process, Thread, ThreadState}
+use Rattle.kernel_records.specs.declared.record.CallStage.TheVariants as stage
+use Rattle.kernel_records.specs.declared.record.ThreadState.TheVariants as is
 use Rattle.dk_base.specs.ByNumber.{at_number}
-use Rattle.kernel_records.specs.Words.{ProcessTable, end_process, ended_thread, ended_thread_of, invocation_in, thread_at, with_ended, with_ended_threads, change_thread, change_thread_in}
-use Rattle.written_kernel.proofs.Lists.{at_number-map, at_number-renumbered_there, map-with_at_number, map-map_same}
+use Rattle.kernel_records.specs.Words.{Leaving, ProcessTable, cancelled_invocation, cancelled_thread, change_thread, change_thread_in, deserted_at, deserted_in, end_process, ended_process, ended_thread, idle_thread, interrupted_state, interrupted_thread, interrupted_where, invocation_in, is_left, is_served_by, left_thread, left_thread_of, left_threads, revocation, thread_at, with_ended}
+use Rattle.written_kernel.proofs.Lists.{at_number-map, at_number-renumbered_there, map-with_at_number, map-map_same, map_unchanged}
 
 -- a change of one thread
 
@@ -44,33 +46,178 @@ map-change_thread f table t change same = go (thread_at table t) refl
 
 -- the end of a process
 
-pub threads-end_process : (table : ProcessTable) (p : ℕ) → (end_process table p).threads ≡ map (ended_thread_of p) table.threads
+pub threads-end_process : (table : ProcessTable) (p : ℕ) → (end_process table p).threads ≡ table.threads
 threads-end_process table p = go (at_number table.processes p)
   where
-    go : (o : Option Process) → (with_ended (with_ended_threads table p) p o).threads ≡ map (ended_thread_of p) table.threads
+    go : (o : Option Process) → (with_ended table p o).threads ≡ table.threads
     go None = refl
     go (Some x) = refl
 
--- a thread ends with the process, or stays
-pub ended_thread_of-case : (P : Thread → Type 0) (p : ℕ) (x : Thread) → P (ended_thread x) → P x → P (ended_thread_of p x)
-ended_thread_of-case P p x h k = go (x.process.0 == p)
+pub thread_at-end_process : (table : ProcessTable) (p u : ℕ) → thread_at (end_process table p) u ≡ thread_at table u
+thread_at-end_process table p u = ap (λ xs. at_number xs u) (threads-end_process table p)
+
+pub at_number-end_process :
+    (table : ProcessTable) (p q : ℕ) →
+    at_number (end_process table p).processes q
+    ≡ (if q == p then option_map ended_process (at_number table.processes p) else at_number table.processes q)
+at_number-end_process table p q = go (at_number table.processes p) refl
   where
-    go : (b : Bool) → P (if b then ended_thread x else x)
-    go true = h
-    go false = k
+    there : (b : Bool) → (q == p) ≡ b → at_number table.processes p ≡ None → at_number table.processes q ≡ (if b then None else at_number table.processes q)
+    there true f e = ap (at_number table.processes) (grind (arith, nat_tests)) ∙ e
+    there false f e = refl
 
-pub thread_at-end_process :
-    (table : ProcessTable) (p u : ℕ) → thread_at (end_process table p) u ≡ option_map (ended_thread_of p) (thread_at table u)
-thread_at-end_process table p u =
-    ap (λ xs. at_number xs u) (threads-end_process table p) ∙ at_number-map (ended_thread_of p) table.threads u
+    go :
+        (o : Option Process) → at_number table.processes p ≡ o →
+        at_number (with_ended table p o).processes q ≡ (if q == p then option_map ended_process o else at_number table.processes q)
+    go None e = there (q == p) refl e
+    go (Some x) e = at_number-renumbered_there table.processes p q (ended_process x) x e
 
--- a reader that sees no end of a thread reads the same threads at the end of a process
-pub map-end_process :
-    {Y : Type 0} (f : Thread → Y) (table : ProcessTable) (p : ℕ) → ((x : Thread) → f (ended_thread x) ≡ f x) →
-    map f (end_process table p).threads ≡ map f table.threads
-map-end_process f table p same =
-    ap (map f) (threads-end_process table p)
-    ∙ map-map_same f (ended_thread_of p) (λ x. ended_thread_of-case (λ y. f y ≡ f x) p x (same x) refl) table.threads
+-- threads when callers and threads leave
+
+-- what each change of a thread keeps, its leaving keeps
+pub left_thread-case :
+    (P : Thread → Type 0) (who : Leaving) (now : ℕ) (served : Option Call) (x : Thread) → P x → P (ended_thread x) →
+    P (interrupted_thread x) → ((y : Thread) → P y → P (idle_thread now y)) → ((y : Thread) → P y → P (cancelled_thread y)) →
+    P (left_thread who now served x)
+left_thread-case P who now served x same ended interrupted idle cancelled = go (who.ends x.number)
+  where
+    unless : (b : Bool) (y : Thread) → P y → P (if b then y else cancelled_thread y)
+    unless true y h = h
+    unless false y h = cancelled y h
+
+    deserted : (no_cancel : Bool) (s : CallStage) (y : Thread) → P y → P (deserted_at now no_cancel s y)
+    deserted no_cancel (stage.Given u) y h = idle y h
+    deserted no_cancel (stage.Entered u) y h = unless no_cancel y h
+    deserted no_cancel stage.Queued y h = h
+    deserted no_cancel (stage.Returned bytes objects) y h = h
+    deserted no_cancel (stage.Ended e) y h = h
+    deserted no_cancel (stage.Answered k) y h = h
+    deserted no_cancel stage.Gone y h = h
+
+    left : (b : Bool) (r : Call) (y : Thread) → P y → P (if b then deserted_at now r.no_cancel r.stage y else y)
+    left true r y h = deserted r.no_cancel r.stage y h
+    left false r y h = h
+
+    served_left : (o : Option Call) (y : Thread) → P y → P (deserted_in who now o y)
+    served_left None y h = h
+    served_left (Some r) y h = left (is_left who r) r y h
+
+    where_interrupted : (b : Bool) → P (interrupted_where b x)
+    where_interrupted true = interrupted
+    where_interrupted false = same
+
+    go :
+        (b : Bool) → P (if b then ended_thread x else deserted_in who now served (interrupted_where (who.interrupts x.number) x))
+    go true = ended
+    go false = served_left served (interrupted_where (who.interrupts x.number) x) (where_interrupted (who.interrupts x.number))
+
+pub left_thread_of-case :
+    (P : Thread → Type 0) (who : Leaving) (now : ℕ) (calls : List Call) (x : Thread) → P x → P (ended_thread x) →
+    P (interrupted_thread x) → ((y : Thread) → P y → P (idle_thread now y)) → ((y : Thread) → P y → P (cancelled_thread y)) →
+    P (left_thread_of who now calls x)
+left_thread_of-case P who now calls x = left_thread-case P who now (find (is_served_by x.number) calls) x
+
+-- a reader that sees neither an invocation nor a state
+pub left_thread_of-same :
+    {Y : Type 0} (f : Thread → Y) →
+    ((invocation : Option Inv) (state : ThreadState) (x : Thread) → f (record x { invocation = invocation; state = state }) ≡ f x) →
+    (who : Leaving) (now : ℕ) (calls : List Call) (x : Thread) → f (left_thread_of who now calls x) ≡ f x
+left_thread_of-same f same who now calls x =
+    left_thread_of-case (λ y. f y ≡ f x) who now calls x refl
+    (same None is.Done x)
+    (same x.invocation (interrupted_state x.state) x)
+    (λ y h. same None (is.Idle now) y ∙ h)
+    (λ y h. same (option_map cancelled_invocation y.invocation) y.state y ∙ h)
+
+-- a thread ends, or it does not
+pub left_thread_of-ended :
+    (who : Leaving) (now : ℕ) (calls : List Call) (x : Thread) → who.ends x.number ≡ true →
+    left_thread_of who now calls x ≡ ended_thread x
+left_thread_of-ended who now calls x e =
+    ap
+    (λ b.
+    if b then ended_thread x else deserted_in who now (find (is_served_by x.number) calls) (interrupted_where (who.interrupts x.number) x))
+    e
+
+pub left_thread_of-not_ended :
+    (who : Leaving) (now : ℕ) (calls : List Call) (x : Thread) → who.ends x.number ≡ false →
+    left_thread_of who now calls x ≡ deserted_in who now (find (is_served_by x.number) calls) (interrupted_where (who.interrupts x.number) x)
+left_thread_of-not_ended who now calls x e =
+    ap
+    (λ b.
+    if b then ended_thread x else deserted_in who now (find (is_served_by x.number) calls) (interrupted_where (who.interrupts x.number) x))
+    e
+
+-- one that serves no call is not left by a caller
+pub left_thread_of-unserving :
+    (who : Leaving) (now : ℕ) (calls : List Call) (x : Thread) → who.ends x.number ≡ false → find (is_served_by x.number) calls ≡ None →
+    left_thread_of who now calls x ≡ interrupted_where (who.interrupts x.number) x
+left_thread_of-unserving who now calls x e f =
+    left_thread_of-not_ended who now calls x e
+    ∙ ap (λ o. deserted_in who now o (interrupted_where (who.interrupts x.number) x)) f
+
+-- nor is one whose caller stays
+pub left_thread_of-kept :
+    (who : Leaving) (now : ℕ) (calls : List Call) (x : Thread) (r : Call) → who.ends x.number ≡ false →
+    find (is_served_by x.number) calls ≡ Some r → is_left who r ≡ false →
+    left_thread_of who now calls x ≡ interrupted_where (who.interrupts x.number) x
+left_thread_of-kept who now calls x r e f g =
+    left_thread_of-not_ended who now calls x e
+    ∙ ap (λ o. deserted_in who now o (interrupted_where (who.interrupts x.number) x)) f
+    ∙ ap
+    (λ b.
+    if b then deserted_at now r.no_cancel r.stage (interrupted_where (who.interrupts x.number) x)
+    else interrupted_where (who.interrupts x.number) x)
+    g
+
+pub left_thread_of-deserted :
+    (who : Leaving) (now : ℕ) (calls : List Call) (x : Thread) (r : Call) → who.ends x.number ≡ false →
+    find (is_served_by x.number) calls ≡ Some r → is_left who r ≡ true →
+    left_thread_of who now calls x ≡ deserted_at now r.no_cancel r.stage (interrupted_where (who.interrupts x.number) x)
+left_thread_of-deserted who now calls x r e f g =
+    left_thread_of-not_ended who now calls x e
+    ∙ ap (λ o. deserted_in who now o (interrupted_where (who.interrupts x.number) x)) f
+    ∙ ap
+    (λ b.
+    if b then deserted_at now r.no_cancel r.stage (interrupted_where (who.interrupts x.number) x)
+    else interrupted_where (who.interrupts x.number) x)
+    g
+
+-- a revocation leaves threads as they are
+pub left_thread_of-revocation :
+    (d now : ℕ) (calls : List Call) (x : Thread) → left_thread_of (revocation d) now calls x ≡ x
+left_thread_of-revocation d now calls x = go (find (is_served_by x.number) calls)
+  where
+    go : (o : Option Call) → deserted_in (revocation d) now o x ≡ x
+    go None = refl
+    go (Some r) = refl
+
+pub left_threads-revocation :
+    (d now : ℕ) (calls : List Call) (table : ProcessTable) → left_threads (revocation d) now calls table ≡ table
+left_threads-revocation d now calls table =
+    ap (λ xs. record table { threads = xs })
+    (map_unchanged (left_thread_of (revocation d) now calls) (left_thread_of-revocation d now calls) table.threads)
+
+pub left_thread_of-number :
+    (who : Leaving) (now : ℕ) (calls : List Call) (x : Thread) → (left_thread_of who now calls x).number ≡ x.number
+left_thread_of-number = left_thread_of-same (λ (x : Thread). x.number) (λ v s x. refl)
+
+pub left_thread_of-process :
+    (who : Leaving) (now : ℕ) (calls : List Call) (x : Thread) → (left_thread_of who now calls x).process ≡ x.process
+left_thread_of-process = left_thread_of-same (λ (x : Thread). x.process) (λ v s x. refl)
+
+pub map-left_threads :
+    {Y : Type 0} (f : Thread → Y) →
+    ((invocation : Option Inv) (state : ThreadState) (x : Thread) → f (record x { invocation = invocation; state = state }) ≡ f x) →
+    (who : Leaving) (now : ℕ) (calls : List Call) (table : ProcessTable) →
+    map f (left_threads who now calls table).threads ≡ map f table.threads
+map-left_threads f same who now calls table =
+    map-map_same f (left_thread_of who now calls) (left_thread_of-same f same who now calls) table.threads
+
+pub thread_at-left_threads :
+    (who : Leaving) (now : ℕ) (calls : List Call) (table : ProcessTable) (t : ℕ) →
+    thread_at (left_threads who now calls table) t ≡ option_map (left_thread_of who now calls) (thread_at table t)
+thread_at-left_threads who now calls table t = at_number-map (left_thread_of who now calls) table.threads t
 
 -- invocations
 

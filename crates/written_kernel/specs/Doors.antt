@@ -10,8 +10,8 @@ use Rattle.dk_base.specs.declared.answer.Answer.TheVariants as answer
 use Rattle.kernel_records.specs.declared.record.ThreadState.TheVariants as is
 use Rattle.kernel_records.specs.declared.record.CallStage.TheVariants as stage
 use Rattle.dk_base.specs.declared.limits.TheConstants.{DATA_MAX, PASS_MAX, QUEUE_MAX}
-use Rattle.kernel_records.specs.Words.{Test, collect_call, cookie_of, enter_call, enter_thread, entry_of, fail_call, free_rows, has_told_attributes, insert_rows, is_bad_pass, is_given_as, is_to_collect_as, limit_tests, lowest_free, new_descriptors, no_cancel_of, objects_passed, open_call, park_thread, refused_where, release_rows, return_call, set_thread_state, tid, with_door, with_table}
-use Rattle.written_kernel.specs.State.{State, calls_waiting, client_call, door_of, find_call, now, object_at, pool_of, table_of}
+use Rattle.kernel_records.specs.Words.{Test, collect_call, cookie_of, end_invocation, enter_call, enter_thread, entry_of, fail_call, free_rows, has_told_attributes, insert_rows, is_bad_pass, is_given_as, is_to_collect_as, limit_tests, lowest_free, new_descriptors, no_cancel_of, objects_passed, open_call, park_thread, refused_where, release_rows, return_call, set_thread_state, tid, unbind_thread, with_door, with_table}
+use Rattle.written_kernel.specs.State.{State, calls_waiting, client_call, door_of, find_call, has_invalid_door, now, object_at, pool_of, table_of}
 use Rattle.written_kernel.specs.Acts.{ActResult, no_act}
 use Rattle.written_kernel.specs.Descriptors.{door_named, insert_object}
 
@@ -85,16 +85,19 @@ call m t p fd bytes pass rsize =
     make_call m t p pass (new_call m t (door_named (object_at m p fd)) bytes (objects_passed (table_of m p) pass) rsize)
 
 -- door_return: E2BIG with a client, EINVAL; the client's call is Returned with the results, the invocation ends, and the
--- thread is parked. Results without a client are dropped. In either case descriptors with release are closed. That a thread which is
--- bound to an invalid door is not parked, and is told EINVAL, comes with the revoking of doors: no door is invalid before its threads end.
+-- thread is parked. Results without a client are dropped. In either case descriptors with release are closed. A thread that is
+-- bound to an invalid door does all this too, but is not parked: it is unbound, goes on, and is told EINVAL.
 
 abbrev pub return_tests : State → ℕ → ℕ → List ℕ → List Pass → List Test
 return_tests m t p bytes pass =
     refused_where (is_some (client_call m t) && (nat_lt DATA_MAX (length bytes) || nat_lt PASS_MAX (length pass))) E2BIG
     ∷ pass_tests m p pass
 
-abbrev pub return : State → ℕ → ℕ → List ℕ → List Pass → ActResult
-return m t p bytes pass =
+abbrev pub return_answer : State → ℕ → Answer
+return_answer m t = if has_invalid_door m t then answer.Failure EINVAL else answer.Wait
+
+abbrev pub return_parked : State → ℕ → ℕ → List ℕ → List Pass → ActResult
+return_parked m t p bytes pass =
     record {
       state =
           record m {
@@ -104,6 +107,23 @@ return m t p bytes pass =
           };
       answer = answer.Wait;
     }
+
+abbrev pub return_unbound : State → ℕ → ℕ → List ℕ → List Pass → ActResult
+return_unbound m t p bytes pass =
+    record {
+      state =
+          record m {
+            process_table = end_invocation m.process_table t;
+            bindings = unbind_thread m.bindings t;
+            tables = tables_after_pass m p pass;
+            call_tree = return_call m.call_tree t bytes (objects_passed (table_of m p) pass);
+          };
+      answer = answer.Failure EINVAL;
+    }
+
+abbrev pub return : State → ℕ → ℕ → List ℕ → List Pass → ActResult
+return m t p bytes pass =
+    if has_invalid_door m t then return_unbound m t p bytes pass else return_parked m t p bytes pass
 
 -- the end of the wait of a thread that was given a call: the invocation begins, where there is such a call
 

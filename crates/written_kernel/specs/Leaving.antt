@@ -1,43 +1,74 @@
--- The acts of leaving. A thread ends by Exit; a process ends when its last thread that is neither Done nor Dormant
--- does. What becomes of the calls of a thread that leaves comes with the capability of leaving in mid-call.
-use Rattle.std.specs.Prelude.{ℕ, List, ◌&&◌, if◌then◌else◌, map}
-use Rattle.dk_base.specs.declared.error.Errno.TheVariants.{EBADF}
-use Rattle.written_kernel.specs.Types.{Call, Door, Notice}
+-- The acts of leaving: interrupts, the ends of threads and of processes, and door_revoke(3C); and how a server learns that its
+-- client has left. What becomes of calls, threads and notices is one word for all of them, `leave`, which takes each record from
+-- what stands before the event.
+use Rattle.std.specs.Prelude.{ℕ, List, Option, Bool, false, Some, None, if◌then◌else◌}
+use Rattle.written_kernel.specs.Types.{Fd, Inv}
+use Rattle.dk_base.specs.declared.error.Errno.TheVariants.{EINVAL}
 use Rattle.dk_base.specs.declared.answer.Answer.TheVariants as answer
-use Rattle.kernel_records.specs.declared.record.CallStage.TheVariants as stage
-use Rattle.kernel_records.specs.declared.record.NoticeStage.TheVariants as notice
-use Rattle.dk_base.specs.ByNumber.{at_number}
-use Rattle.kernel_records.specs.Words.{CallTree, NoticeList, close_table, end_owner, end_process, end_thread, is_last, is_owned_by, is_queued, is_waiting_notice, with_table, without_arguments_at}
-use Rattle.written_kernel.specs.State.{State, table_of}
+use Rattle.kernel_records.specs.declared.record.ThreadState.TheVariants as is
+use Rattle.kernel_records.specs.Words.{Leaving, Test, close_row, close_table, end_owner, end_process, interruption, is_last, left_calls, left_notices, left_threads, process_end, revocation, revoke_door, revoke_tests, thread_end, with_table}
+use Rattle.written_kernel.specs.State.{State, door_of, invocation_of, is_live_process, now, table_of, with_state}
 use Rattle.written_kernel.specs.Acts.{ActResult}
+use Rattle.written_kernel.specs.Information.{door_at}
 
--- calls that wait at a door whose owner ends are ended, and their objects dropped
-abbrev pub ended_call : List Door → ℕ → Call → Call
-ended_call doors p r = if is_queued r.stage && is_owned_by p (at_number doors r.door) then without_arguments_at (stage.Ended EBADF) r else r
-
-abbrev pub end_calls : CallTree → List Door → ℕ → CallTree
-end_calls tree doors p = record tree { calls = map (ended_call doors p) tree.calls }
-
-abbrev pub dropped_notice : List Door → ℕ → Notice → Notice
-dropped_notice doors p n =
-    if is_waiting_notice n && is_owned_by p (at_number doors n.door) then record n { stage = notice.Dropped } else n
-
-abbrev pub drop_notices : NoticeList → List Door → ℕ → NoticeList
-drop_notices list doors p = record list { notices = map (dropped_notice doors p) list.notices }
-
--- all threads of a process end, its doors become invalid with it, what waits at them ends, and its rows are closed
-abbrev pub leave_process : State → ℕ → State
-leave_process m p =
+abbrev pub leave : State → Leaving → State
+leave m who =
     record m {
-      process_table = end_process m.process_table p;
-      tables = with_table m.tables p (close_table (table_of m p));
-      doors = end_owner m.doors p;
-      call_tree = end_calls m.call_tree m.doors p;
-      notice_list = drop_notices m.notice_list m.doors p;
+      process_table = left_threads who (now m) m.call_tree.calls m.process_table;
+      call_tree = left_calls who m.call_tree;
+      notice_list = left_notices who m.notice_list;
     }
 
-abbrev pub leave_thread : State → ℕ → State
-leave_thread m t = record m { process_table = end_thread m.process_table t }
+-- an interrupt of a thread: EINTR for its call, or for its wait for the events of a port; nothing for any other thread
+abbrev pub interrupt : State → ℕ → ActResult
+interrupt m t = record { state = leave m (interruption t); answer = answer.Done }
 
+-- the end of a thread whose process goes on
+abbrev pub leave_thread : State → ℕ → State
+leave_thread m t = leave m (thread_end t)
+
+-- the end of a process: all its threads end, its doors become invalid with it, and its descriptors are closed
+abbrev pub leave_process : State → ℕ → State
+leave_process m p =
+    record (leave m (process_end m.process_table m.doors p)) {
+      process_table = end_process (leave m (process_end m.process_table m.doors p)).process_table p;
+      tables = with_table m.tables p (close_table (table_of m p));
+      doors = end_owner m.doors p;
+    }
+
+-- the end of the thread that asks: its process ends with its last thread that is neither Done nor Dormant
 abbrev pub exit : State → ℕ → ℕ → ActResult
 exit m t p = record { state = if is_last m.process_table t p then leave_process m p else leave_thread m t; answer = answer.Done }
+
+-- a process that lives ends, whoever asks
+abbrev pub kill : State → ℕ → ActResult
+kill m p = record { state = if is_live_process m p then leave_process m p else m; answer = answer.Done }
+
+-- door_revoke: EBADF for no door or an invalid one, EPERM for another process's; the door is invalid, and its descriptor closed
+
+abbrev pub revoking_tests : State → ℕ → Fd → List Test
+revoking_tests m p fd = revoke_tests p (door_of m (door_at m p fd))
+
+abbrev pub revoke : State → ℕ → Fd → ActResult
+revoke m p fd =
+    record {
+      state =
+          record (leave m (revocation (door_at m p fd))) {
+            tables = with_table m.tables p (close_row (table_of m p) fd.0);
+            doors = revoke_door m.doors (door_at m p fd);
+          };
+      answer = answer.Done;
+    }
+
+-- whether the client of an invocation has left it
+
+abbrev pub is_cancelled : Option Inv → Bool
+is_cancelled None = false
+is_cancelled (Some v) = v.cancelled
+
+abbrev pub test_cancel : State → ℕ → ActResult
+test_cancel m t = record { state = m; answer = answer.Cancel (is_cancelled (invocation_of m t)) }
+
+-- a thread whose door became invalid while it was parked goes on, and is told EINVAL
+abbrev pub wake : State → ℕ → ActResult
+wake m t = record { state = with_state m t is.Running; answer = answer.Failure EINVAL }

@@ -1,12 +1,11 @@
--- Which turns a thread may take. The conditions on the form of a request, and on what a thread in an invocation asks, are
--- lifted as the capabilities come.
+-- Which turns a thread may take. The condition on the form of a request is lifted as the capabilities come.
 use Rattle.std.specs.Prelude.{ℕ, ◌≡◌, ◌≤◌, ◌<◌, Option, Some, None, true, false, length}
-use Rattle.written_kernel.specs.Types.{Inv, Request}
+use Rattle.written_kernel.specs.Types.{Request}
 use Rattle.dk_base.specs.declared.request.Request.TheVariants as request
 use Rattle.dk_base.specs.declared.limits.TheConstants.{DATA_MAX, ANSWER_ITEMS_MAX, EVENTS_MAX}
 use Rattle.capabilities.specs.Words.{capability_of}
 use Rattle.capabilities.specs.declared.table.TheConstants.{BUILT}
-use Rattle.written_kernel.specs.State.{State, invocation_of}
+use Rattle.written_kernel.specs.State.{State}
 use Rattle.written_kernel.specs.Turns.{is_runnable, is_running}
 
 -- the threads and processes that a request of thread t names are there, and its counts are in range
@@ -17,16 +16,10 @@ IsFit m t (request.Read fd max) = (1 ≤ max) × (max ≤ DATA_MAX)
 IsFit m t (request.GetN port max nget wait) = max ≤ ANSWER_ITEMS_MAX
 IsFit m t _ = Unit {0}
 
--- what a thread in an invocation may ask: it does not exit, until that capability comes
-abbrev pub MayInside : Option Inv → Request → Type 0
-MayInside (Some v) request.Exit = ⊥
-MayInside _ _ = Unit {0}
-
 pub record MayEnter (m : State) (t : ℕ) (r : Request) : Type 0 where
   pub running : is_running m t ≡ true
   pub fit : IsFit m t r
   pub built : capability_of r ≤ BUILT
-  pub inside : MayInside (invocation_of m t) r
   pub few : m.events < EVENTS_MAX
 
 pub record MayGoOn (m : State) (t : ℕ) : Type 0 where

@@ -7,16 +7,12 @@ use Rattle.dk_base.specs.declared.object.Item.TheVariants as item
 use Rattle.kernel_records.specs.declared.pool.Pool.TheVariants.{Common}
 use Rattle.kernel_records.specs.declared.record.ThreadState.TheVariants as is
 use Rattle.kernel_records.specs.Words.{give_call, give_notice, give_thread, has_common_door, is_idle, pid, set_thread_state, start_spare, unbind_thread}
-use Rattle.written_kernel.specs.State.{State, bound_of, is_valid, pick, pool_of, state_of, waiting_items}
+use Rattle.written_kernel.specs.State.{State, has_invalid_door, pick, pool_of, state_of, waiting_items}
 
 -- An idle thread that is bound to a door that is not valid has nothing to wait for: it is unbound, and wakes with EINVAL.
 
-abbrev pub is_bound_to_invalid : State → Option ℕ → Bool
-is_bound_to_invalid m None = false
-is_bound_to_invalid m (Some d) = not (is_valid m d)
-
 abbrev pub has_lost_door : State → ℕ → Bool
-has_lost_door m t = is_idle (state_of m t) && is_bound_to_invalid m (bound_of m t)
+has_lost_door m t = is_idle (state_of m t) && has_invalid_door m t
 
 abbrev pub fail_return : State → ℕ → State
 fail_return m t =

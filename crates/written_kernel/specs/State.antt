@@ -1,6 +1,6 @@
 -- The written state: plain lists of records, by subject, and their readers. Every reader is total: a number that nothing
 -- has reads as nothing.
-use Rattle.std.specs.Prelude.{ℕ, ◌+◌, List, Option, Bool, find}
+use Rattle.std.specs.Prelude.{ℕ, ◌+◌, List, Option, Bool, false, not, Some, None, find}
 use Rattle.dk_base.specs.ByNumber.{at_number}
 use Rattle.written_kernel.specs.Types.{Call, Door, Fd, Inv, Name, Obj, Parked, PathId, Pool, Thread, ThreadState, Waiting}
 use Rattle.kernel_records.specs.Words.{CallTree, NoticeList, ProcessTable, bound_at, invocation_in, is_client_call_of, is_live_in, name_in, object_named, pick_parked, pool_in, process_in, queue_length, state_in, table_in, thread_at, set_thread_state, is_valid_in, items_in_order, with_table}
@@ -45,6 +45,15 @@ invocation_of m t = invocation_in (thread_of m t)
 -- the door that a thread is bound to
 abbrev pub bound_of : State → ℕ → Option ℕ
 bound_of m t = bound_at m.bindings t
+
+-- a thread is bound to a door that is not valid
+
+abbrev pub is_bound_to_invalid : State → Option ℕ → Bool
+is_bound_to_invalid m None = false
+is_bound_to_invalid m (Some d) = not (is_valid_in (at_number m.doors d))
+
+abbrev pub has_invalid_door : State → ℕ → Bool
+has_invalid_door m t = is_bound_to_invalid m (bound_of m t)
 
 -- a thread turns to another state
 abbrev pub with_state : State → ℕ → ThreadState → State

@@ -12,7 +12,7 @@ use Rattle.written_kernel.specs.Doors.{accept, call, call_tests, collect, create
 use Rattle.written_kernel.specs.Descriptors.{attach, attach_tests, await, close, close_tests, detach, detach_tests, dup, dup_tests, end_await, open_path, open_tests}
 use Rattle.written_kernel.specs.Binding.{bind, binding_tests, bound_tests, information_of_bound, unbind}
 use Rattle.written_kernel.specs.Information.{credentials, credentials_tests, door_tests, information, parameter, set_parameter, set_parameter_tests}
-use Rattle.written_kernel.specs.Leaving.{exit}
+use Rattle.written_kernel.specs.Leaving.{exit, interrupt, kill, revoke, revoking_tests, test_cancel, wake}
 use Rattle.written_kernel.specs.Settle.{settle}
 use Rattle.written_kernel.specs.Turns.{woken_threads}
 use Rattle.written_kernel.specs.Walks.{root}
@@ -22,6 +22,7 @@ abbrev pub tests_of : State → ℕ → ℕ → Request → List Test
 tests_of m t p (request.Create entry cookie attrs) = create_tests m p attrs
 tests_of m t p (request.Call fd bytes pass rsize) = call_tests m p fd bytes pass
 tests_of m t p (request.Return bytes pass) = return_tests m t p bytes pass
+tests_of m t p (request.Revoke fd) = revoking_tests m p fd
 tests_of m t p (request.Bind fd) = binding_tests m p fd
 tests_of m t p request.Unbind = bound_tests m t
 tests_of m t p (request.Info fd) = door_tests m p fd
@@ -45,6 +46,7 @@ abbrev pub effect : State → ℕ → ℕ → Request → ActResult
 effect m t p (request.Create entry cookie attrs) = create m p entry cookie attrs
 effect m t p (request.Call fd bytes pass rsize) = call m t p fd bytes pass rsize
 effect m t p (request.Return bytes pass) = return m t p bytes pass
+effect m t p (request.Revoke fd) = revoke m p fd
 effect m t p (request.Bind fd) = bind m t p fd
 effect m t p request.Unbind = unbind m t
 effect m t p (request.Info fd) = information m p fd
@@ -52,12 +54,15 @@ effect m t p request.InfoQuery = information_of_bound m t p
 effect m t p (request.GetParam fd param) = parameter m p fd param
 effect m t p (request.SetParam fd param value) = set_parameter m p fd param value
 effect m t p request.Cred = credentials m t
+effect m t p request.TestCancel = test_cancel m t
 effect m t p (request.Close fd) = close m p fd
 effect m t p (request.Dup fd) = dup m p fd
 effect m t p (request.Attach fd path) = attach m p fd path
 effect m t p (request.Detach path) = detach m path
 effect m t p (request.Open path) = open_path m p path
 effect m t p (request.Await path) = await m t path
+effect m t p (request.Interrupt thread) = interrupt m thread.0
+effect m t p (request.Kill process) = kill m process.0
 effect m t p request.Exit = exit m t p
 effect m t p _ = no_act m
 
@@ -75,6 +80,7 @@ go_on m t p (is.Given item) = accept m t p item
 go_on m t p (is.Calling c) = collect m t p c
 go_on m t p (is.Awaiting path) = end_await m t
 go_on m t p (is.Working op input) = end_work m t
+go_on m t p is.FailedReturn = wake m t
 go_on m t p _ = no_act m
 
 -- the act of a Running thread is its request; that of another thread is the end of its wait

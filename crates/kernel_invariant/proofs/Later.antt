@@ -1,0 +1,39 @@
+-- An arrow of an act, seen from a later state in which the same doors are valid and the same threads are done.
+use Rattle.std.specs.Prelude.{ℕ, ◌≡◌, Option}
+use Rattle.std.proofs.Common.{◌∙◌}
+use Rattle.written_kernel.specs.Types.{Answer, Call, Errno, Request}
+use Rattle.kernel_records.specs.declared.record.ThreadState.TheVariants as is
+use Rattle.written_kernel.specs.Words.{State, is_valid, state_of}
+use Rattle.kernel_invariant.specs.Arrows.{ByAct, EndsBy, EndsNow}
+use Rattle.kernel_invariant.specs.Arrows.ByAct.{stays, makes, enters, returns, ends, breaks_off, leaves, collects_results, collects_nothing, collects_error}
+use Rattle.kernel_invariant.specs.Arrows.EndsBy.{door_invalid, server_full, interrupted, server_ended}
+
+-- a thread is done in both of two states, or in neither
+pub record AreSameDone (n o : State) : Type 0 where
+  pub after : (u : ℕ) → state_of n u ≡ is.Done → state_of o u ≡ is.Done
+  pub before : (u : ℕ) → state_of o u ≡ is.Done → state_of n u ≡ is.Done
+
+pub ends_now_later : (m n o : State) (u : ℕ) → AreSameDone n o → EndsNow m n u → EndsNow m o u
+ends_now_later m n o u d e = record { before = e.before; after = d.after u e.after }
+
+ends_later :
+    (m : State) (t : ℕ) (q : Option Request) (a : Answer) (n o : State) (r : Call) (e : Errno) →
+    ((d : ℕ) → is_valid o d ≡ is_valid n d) → AreSameDone n o → EndsBy m t q a n r e → EndsBy m t q a o r e
+ends_later m t q a n o r _ h d (door_invalid e f g k) = door_invalid e f (h r.door ∙ g) (λ z. k (d.before r.caller.0 z))
+ends_later m t q a n o r _ h d (server_full e f g k l) = server_full e f g k l
+ends_later m t q a n o r _ h d (interrupted e f k) = interrupted e f (λ z. k (d.before r.caller.0 z))
+ends_later m t q a n o r _ h d (server_ended u e f k) = server_ended u e (ends_now_later m n o u d f) (λ z. k (d.before r.caller.0 z))
+
+pub by_act_later :
+    (m : State) (t : ℕ) (q : Option Request) (a : Answer) (n o : State) (before after : Option Call) →
+    ((d : ℕ) → is_valid o d ≡ is_valid n d) → AreSameDone n o → ByAct m t q a n before after → ByAct m t q a o before after
+by_act_later m t q a n o before after h d stays = stays
+by_act_later m t q a n o before after h d (makes door rsize fd bytes pass e f g k) = makes door rsize fd bytes pass e f g k
+by_act_later m t q a n o before after h d (enters r e f g k l) = enters r e f g k l
+by_act_later m t q a n o before after h d (returns r bytes pass e f g k l) = returns r bytes pass e f g k l
+by_act_later m t q a n o before after h d (ends r e f) = ends r e (ends_later m t q a n o r e h d f)
+by_act_later m t q a n o before after h d (breaks_off r u e f k) = breaks_off r u e f (λ z. k (d.before r.caller.0 z))
+by_act_later m t q a n o before after h d (leaves r e f) = leaves r e (ends_now_later m n o r.caller.0 d f)
+by_act_later m t q a n o before after h d (collects_results r bytes objects e f g k l z) = collects_results r bytes objects e f g k l z
+by_act_later m t q a n o before after h d (collects_nothing r bytes objects e f g k l z) = collects_nothing r bytes objects e f g k l z
+by_act_later m t q a n o before after h d (collects_error r e f g k l z) = collects_error r e f g k l z

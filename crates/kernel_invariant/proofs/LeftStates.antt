@@ -1,0 +1,431 @@
+-- A state after callers were interrupted, threads ended, and doors became invalid: it is consistent, calls take the arrows of
+-- leaving, and so do the invocations of threads.
+use Rattle.std.specs.Prelude.{ℕ, ◌≡◌, ◌⊎◌, ◌||◌, [], List, Option, Bool, true, false, if◌then◌else◌, Some, None, find, is_some, length, map, option_map}
+use Rattle.std.proofs.Common.{refl, sym, ap, subst, ◌∙◌, inl, inr, ⊎_elim}
+use native.Mathlib.Omega.{arith}
+use Rattle.std.proofs.lemmas.List.{length-map}
+use Rattle.std.proofs.lemmas.Bool.Decides.{nat_tests}
+use Rattle.dk_base.specs.ByNumber.{at_number}
+use Rattle.dk_base.specs.declared.error.Errno.TheVariants.{EBADF, EINTR}
+use Rattle.dk_base.specs.declared.object.Item.TheVariants as item
+use Rattle.dk_base.specs.declared.request.Request.TheVariants as request
+use Rattle.written_kernel.specs.Types.{Answer, Call, CallStage, Door, Fd, Inv, Obj, Process, Request, Thread, ThreadState}
+use Rattle.kernel_records.specs.declared.record.ThreadState.TheVariants as is
+use Rattle.kernel_records.specs.declared.record.CallStage.TheVariants as stage
+use Rattle.kernel_records.specs.Words.{Leaving, abandoned_at, broken_call_at, cancelled_invocation, without_arguments_at, deserted_at, deserted_in, ended_thread, ended_where, gone_call_at, interrupted_state, interrupted_thread, interrupted_where, invocation_in, is_entered_by, is_given_to, is_left, is_live, is_private_in, is_served_by, is_valid_in, left_call, left_notice, left_thread, left_thread_of, left_threads, no_cancel_of, object_named, process_in, state_in, table_in, tid}
+use Rattle.written_kernel.specs.Words.{State, door_of, invocation_of, is_valid, leave, now, process_of, state_of, thread_of}
+use Rattle.kernel_invariant.specs.Records.{item_in, owner_in, record_of, stage_in}
+use Rattle.kernel_invariant.specs.Core.{abandoned_in, caller_number, core, door_in, ended_in, has_arguments, is_outside, is_underway, live_in, number_in, underway_in}
+use Rattle.kernel_invariant.specs.Coherent.{AreDoors, is_unbuilt}
+use Rattle.kernel_invariant.specs.Invariant.{IsConsistent}
+use Rattle.kernel_invariant.specs.Arrows.{ByAct, EndsNow}
+use Rattle.kernel_invariant.specs.Arrows.ByAct.{stays, ends, breaks_off, leaves}
+use Rattle.kernel_invariant.specs.Arrows.EndsBy.{door_invalid, interrupted, server_ended}
+use Rattle.kernel_invariant.specs.Events.{InvocationArrow, IsLeft}
+use Rattle.kernel_invariant.specs.Events.InvocationArrow.{stays as invocation_stays, cancels as invocation_cancels, leaves as invocation_leaves}
+use Rattle.kernel_invariant.specs.Events.IsLeft.{interrupted as is_interrupted, caller_ends}
+use Rattle.written_kernel.proofs.Lists.{at_number-map}
+use Rattle.kernel_invariant.proofs.Calls.{IsInOrder-map, find-found, find-map, find-none, find-passes}
+use Rattle.kernel_invariant.proofs.LeftCores.{LeftCore, LeftThread, ended_now, leaving_keeps, left_fields, still_calling}
+use Rattle.kernel_invariant.proofs.LeftCores.LeftThread.{ends as thread_ends, parks as thread_parks, cancels as thread_cancels, stays as thread_stays}
+use Rattle.kernel_invariant.proofs.Acts.{Does, act_result}
+
+-- the state after callers, threads and doors leave, with these processes, tables and doors
+abbrev pub left_state : State → Leaving → List Process → List (List (Option Obj)) → List Door → State
+left_state m who processes tables doors =
+    record (leave m who) {
+      process_table = record { processes = processes; threads = (left_threads who (now m) m.call_tree.calls m.process_table).threads };
+      tables = tables;
+      doors = doors;
+    }
+
+-- the processes, tables and doors that an event of leaving may leave, with this request
+pub record MayLeave (m : State) (q : Option Request) (who : Leaving) (processes : List Process) (tables : List (List (Option Obj))) (doors : List Door) : Type 0 where
+  -- a caller is interrupted by name
+  pub interrupts : (u : ℕ) → who.interrupts u ≡ true → q ≡ Some (request.Interrupt (tid u))
+  pub counted : length tables ≡ length processes
+  pub no_rows : (p : ℕ) (fd : Fd) → ended_in (at_number processes p) ≡ true → object_named (table_in tables p) fd ≡ None
+  pub door_there : (d : ℕ) → is_some (at_number doors d) ≡ is_some (door_of m d)
+  pub door_owner : (d : ℕ) → owner_in (at_number doors d) ≡ owner_in (door_of m d)
+  pub door_no_cancel : (d : ℕ) → no_cancel_of (at_number doors d) ≡ no_cancel_of (door_of m d)
+  pub door_private : (d : ℕ) → is_private_in (at_number doors d) ≡ is_private_in (door_of m d)
+  -- doors are valid that were so, but for those that are lost
+  pub door_valid : (d : ℕ) → is_valid m d ≡ true → who.loses d ≡ false → is_valid_in (at_number doors d) ≡ true
+  pub door_lost : (d : ℕ) → who.loses d ≡ true → is_valid_in (at_number doors d) ≡ false
+  pub are_doors : AreDoors (λ d. at_number doors d) (λ p. at_number processes p)
+  -- all threads end of a process that ends
+  pub ended : (u : ℕ) → ended_in (at_number processes (process_of m u)) ≡ true → (state_of m u ≡ is.Done) ⊎ (who.ends u ≡ true)
+  pub proc_there : (p : ℕ) → is_some (at_number m.process_table.processes p) ≡ true → is_some (at_number processes p) ≡ true
+
+-- threads
+
+-- a thread that waits for no events is as an interrupt leaves it
+not_interrupted : (b : Bool) (x : Thread) → is_unbuilt x.state ≡ false → interrupted_where b x ≡ x
+not_interrupted false x e = refl
+not_interrupted true x e = ap (λ s. record x { state = s }) (go x.state e)
+  where
+    go : (s : ThreadState) → is_unbuilt s ≡ false → interrupted_state s ≡ s
+    go (is.Getting port max nget one told) e = absurd (grind arith)
+    go s e = refl
+
+-- a call that a thread serves
+record Serves (m : State) (u : ℕ) (r : Call) : Type 0 where
+  there : record_of m r.number ≡ Some r
+  stage : (r.stage ≡ stage.Given (tid u)) ⊎ (r.stage ≡ stage.Entered (tid u))
+
+served_stage : (u : ℕ) (s : CallStage) → (is_given_to u s || is_entered_by u s) ≡ true → (s ≡ stage.Given (tid u)) ⊎ (s ≡ stage.Entered (tid u))
+served_stage u (stage.Given v) e = inl (ap (λ (n : ℕ). stage.Given (tid n)) (grind (arith, nat_tests)))
+served_stage u (stage.Entered v) e = inr (ap (λ (n : ℕ). stage.Entered (tid n)) (grind (arith, nat_tests)))
+served_stage u s e = absurd (grind arith)
+
+given_is_served : (u : ℕ) (r : Call) → r.abandoned ≡ false → r.stage ≡ stage.Given (tid u) → is_served_by u r ≡ true
+given_is_served u r e f = grind (arith, nat_tests)
+
+module _ (m : State) (who : Leaving) (h : IsConsistent m) where
+  does_serve : (u : ℕ) (r : Call) → find (is_served_by u) m.call_tree.calls ≡ Some r → Serves m u r
+  does_serve u r f =
+      let passes : is_served_by u r ≡ true = find-passes (is_served_by u) m.call_tree.calls r f in
+      record {
+        there = find-found (is_served_by u) m.call_tree.calls 0 r h.in_order f;
+        stage = served_stage u r.stage (grind arith);
+      }
+
+  given_to : (u : ℕ) (r : Call) → record_of m r.number ≡ Some r → r.stage ≡ stage.Given (tid u) → state_of m u ≡ is.Given (item.Call r.number)
+  given_to u r e f = h.coherent.waits.given r.number u (ap stage_in e ∙ ap (λ s. Some s) f)
+
+  entered_by : (u : ℕ) (r : Call) → record_of m r.number ≡ Some r → r.stage ≡ stage.Entered (tid u) → item_in (invocation_of m u) ≡ Some (item.Call r.number)
+  entered_by u r e f = h.coherent.invocations.entered r.number u (ap stage_in e ∙ ap (λ s. Some s) f)
+
+  -- a thread that has an invocation was given no call
+  not_both : (u : ℕ) (r x : Call) → record_of m r.number ≡ Some r → r.stage ≡ stage.Given (tid u) → record_of m x.number ≡ Some x → x.stage ≡ stage.Entered (tid u) → ⊥
+  not_both u r x e f g i =
+      let none : invocation_of m u ≡ None = h.coherent.servers.outside u (ap is_outside (given_to u r e f)) in
+      let some : item_in (invocation_of m u) ≡ Some (item.Call x.number) = entered_by u x g i in
+      grind arith
+
+  -- only one call is given to a thread
+  one_given : (u : ℕ) (r x : Call) → record_of m r.number ≡ Some r → r.stage ≡ stage.Given (tid u) → record_of m x.number ≡ Some x → x.stage ≡ stage.Given (tid u) → r ≡ x
+  one_given u r x e f g i =
+      let a : state_of m u ≡ is.Given (item.Call r.number) = given_to u r e f in
+      let b : state_of m u ≡ is.Given (item.Call x.number) = given_to u x g i in
+      let same : r.number ≡ x.number = grind arith in
+      let there : record_of m x.number ≡ Some r = ap (λ c. record_of m c) (sym same) ∙ e in
+      cc
+
+  left_thread_is :
+      (x : Thread) → thread_of m x.number ≡ Some x →
+      LeftThread (core m) who (now m) x.number (left_thread_of who (now m) m.call_tree.calls x).state (left_thread_of who (now m) m.call_tree.calls x).invocation
+  left_thread_is x there = go (who.ends x.number) refl
+    where
+      u : ℕ
+      u = x.number
+
+      role : x.state ≡ state_of m u
+      role = sym (ap state_in there)
+
+      invocation : x.invocation ≡ invocation_of m u
+      invocation = sym (ap invocation_in there)
+
+      -- as this makes of it
+      After : Thread → Type 0
+      After y = LeftThread (core m) who (now m) u y.state y.invocation
+
+      deserted :
+          (r : Call) (b : Bool) (s : CallStage) → who.ends u ≡ false → record_of m r.number ≡ Some r → r.stage ≡ s → is_left who r ≡ true → r.no_cancel ≡ b →
+          (s ≡ stage.Given (tid u)) ⊎ (s ≡ stage.Entered (tid u)) → After (deserted_at (now m) b s x)
+      deserted r b (stage.Given v) e f g l k w = thread_parks r e f (⊎_elim (λ i. g ∙ i) (λ i. absurd (grind arith)) w) l refl refl
+      deserted r true (stage.Entered v) e f g l k w =
+          thread_stays e (λ y i j. absurd (not_both u y r i j f (⊎_elim (λ z. absurd (grind arith)) (λ z. g ∙ z) w))) role invocation
+      deserted r false (stage.Entered v) e f g l k w =
+          thread_cancels r e f (⊎_elim (λ z. absurd (grind arith)) (λ z. g ∙ z) w) l k role (ap (option_map _) invocation)
+      deserted r b s e f g l k w = absurd (⊎_elim (λ i. grind arith) (λ i. grind arith) w)
+
+      served : (o : Option Call) → find (is_served_by u) m.call_tree.calls ≡ o → who.ends u ≡ false → After (deserted_in who (now m) o x)
+      served None f e =
+          thread_stays e
+          (λ r i j.
+          let kept : r.abandoned ≡ false = sym (ap abandoned_in i) ∙ h.coherent.invocations.kept r.number (ap underway_in i ∙ ap is_underway j) in
+          absurd (grind (arith, find-none (is_served_by u) m.call_tree.calls r.number r f i, given_is_served u r kept j)))
+          role invocation
+      served (Some r) f e = by_left (is_left who r) refl
+        where
+          s : Serves m u r
+          s = does_serve u r f
+
+          by_left : (b : Bool) → is_left who r ≡ b → After (if b then deserted_at (now m) r.no_cancel r.stage x else x)
+          by_left true l = deserted r r.no_cancel r.stage e s.there refl l refl s.stage
+          by_left false l =
+              thread_stays e
+              (λ y i j. ⊎_elim
+              (λ z. ap (is_left who) (one_given u y r i j s.there z) ∙ l)
+              (λ z. absurd (not_both u y r i j s.there z))
+              s.stage)
+              role invocation
+
+      go : (b : Bool) → who.ends u ≡ b → After (if b then ended_thread x else deserted_in who (now m) (find (is_served_by u) m.call_tree.calls) (interrupted_where (who.interrupts u) x))
+      go true e = thread_ends e refl refl
+      go false e =
+          subst (λ y. After (deserted_in who (now m) (find (is_served_by u) m.call_tree.calls) y))
+          (sym (not_interrupted (who.interrupts u) x (ap is_unbuilt role ∙ h.coherent.has_built_state u)))
+          (served (find (is_served_by u) m.call_tree.calls) refl e)
+
+-- the number and the process of a thread stay
+
+record KeepsThread (x y : Thread) : Type 0 where
+  number : y.number ≡ x.number
+  process : y.process ≡ x.process
+
+deserted_at_fields : (now : ℕ) (b : Bool) (s : CallStage) (x : Thread) → KeepsThread x (deserted_at now b s x)
+deserted_at_fields now b (stage.Given u) x = record { number = refl; process = refl }
+deserted_at_fields now true (stage.Entered u) x = record { number = refl; process = refl }
+deserted_at_fields now false (stage.Entered u) x = record { number = refl; process = refl }
+deserted_at_fields now b s x = record { number = refl; process = refl }
+
+deserted_fields : (who : Leaving) (now : ℕ) (o : Option Call) (x : Thread) → KeepsThread x (deserted_in who now o x)
+deserted_fields who now None x = record { number = refl; process = refl }
+deserted_fields who now (Some r) x = go (is_left who r)
+  where
+    go : (b : Bool) → KeepsThread x (if b then deserted_at now r.no_cancel r.stage x else x)
+    go true = deserted_at_fields now r.no_cancel r.stage x
+    go false = record { number = refl; process = refl }
+
+left_thread_fields : (who : Leaving) (now : ℕ) (o : Option Call) (x : Thread) → KeepsThread x (left_thread who now o x)
+left_thread_fields who now o x = go (who.ends x.number)
+  where
+    at_interrupt : (b : Bool) → KeepsThread x (deserted_in who now o (interrupted_where b x))
+    at_interrupt true =
+        let d : KeepsThread (interrupted_thread x) (deserted_in who now o (interrupted_thread x)) = deserted_fields who now o (interrupted_thread x) in
+        record { number = d.number; process = d.process }
+    at_interrupt false = deserted_fields who now o x
+
+    go : (b : Bool) → KeepsThread x (if b then ended_thread x else deserted_in who now o (interrupted_where (who.interrupts x.number) x))
+    go true = record { number = refl; process = refl }
+    go false = at_interrupt (who.interrupts x.number)
+
+-- the whole
+
+module _ (m : State) (q : Option Request) (who : Leaving) (processes : List Process) (tables : List (List (Option Obj))) (doors : List Door) where
+  abbrev after : State
+  after = left_state m who processes tables doors
+
+  threads_after : (u : ℕ) → thread_of after u ≡ option_map (left_thread_of who (now m) m.call_tree.calls) (thread_of m u)
+  threads_after u = at_number-map (left_thread_of who (now m) m.call_tree.calls) m.process_table.threads u
+
+  left_number : (r : Call) → (left_call who r).number ≡ r.number
+  left_number r = (left_fields who r).number
+
+  pub calls_after : (c : ℕ) → record_of after c ≡ option_map (left_call who) (record_of m c)
+  calls_after c = find-map (left_call who) left_number m.call_tree.calls c
+
+  -- an event of leaving keeps of a thread what it is
+  kept_process : (o : Option Thread) → process_in (option_map (left_thread_of who (now m) m.call_tree.calls) o) ≡ process_in o
+  kept_process None = refl
+  kept_process (Some x) = ap (λ p. p.0) (left_thread_fields who (now m) (find (is_served_by x.number) m.call_tree.calls) x).process
+
+  kept_number : (o : Option Thread) → number_in (option_map (left_thread_of who (now m) m.call_tree.calls) o) ≡ number_in o
+  kept_number None = refl
+  kept_number (Some x) = ap (λ n. Some n) (left_thread_fields who (now m) (find (is_served_by x.number) m.call_tree.calls) x).number
+
+  module _ (h : IsConsistent m) (may : MayLeave m q who processes tables doors) where
+    -- what an event of leaving makes of a thread
+    pub thread_after : (u : ℕ) → LeftThread (core m) who (now m) u (state_of after u) (invocation_of after u)
+    thread_after u = go (thread_of m u) refl
+      where
+        none : thread_of m u ≡ None → LeftThread (core m) who (now m) u is.Done None
+        none e = by_end (who.ends u) refl
+          where
+            by_end : (b : Bool) → who.ends u ≡ b → LeftThread (core m) who (now m) u is.Done None
+            by_end true f = thread_ends f refl refl
+            by_end false f =
+                thread_stays f (λ r i j. absurd (grind (arith, given_to m who h u r i j, ap state_in e))) (sym (ap state_in e)) (sym (ap invocation_in e))
+
+        go : (o : Option Thread) → thread_of m u ≡ o → LeftThread (core m) who (now m) u (state_of after u) (invocation_of after u)
+        go None e =
+            subst (λ o. LeftThread (core m) who (now m) u (state_in o) (invocation_in o))
+            (sym (threads_after u ∙ ap (option_map (left_thread_of who (now m) m.call_tree.calls)) e))
+            (none e)
+        go (Some x) e =
+            let number : x.number ≡ u = h.coherent.threads.thread_number u x.number (ap number_in e) in
+            subst (λ o. LeftThread (core m) who (now m) u (state_in o) (invocation_in o))
+            (sym (threads_after u ∙ ap (option_map (left_thread_of who (now m) m.call_tree.calls)) e))
+            (subst (λ (j : ℕ). LeftThread (core m) who (now m) j (left_thread_of who (now m) m.call_tree.calls x).state (left_thread_of who (now m) m.call_tree.calls x).invocation)
+            number
+            (left_thread_is m who h x (ap (λ j. thread_of m j) number ∙ e)))
+
+    no_notice : (n : ℕ) → (core m).notice n ≡ None
+    no_notice n = grind (arith, nat_tests, h.unbuilt.no_notices)
+
+    none_after : after.notice_list.notices ≡ []
+    none_after = ap (map (left_notice who)) h.unbuilt.no_notices
+
+    left_core : LeftCore (core m) who (now m) (core after)
+    left_core =
+        record {
+          thread = thread_after;
+          process = λ u. ap process_in (threads_after u) ∙ kept_process (thread_of m u);
+          number = λ u. ap number_in (threads_after u) ∙ kept_number (thread_of m u);
+          bound = λ u. refl;
+          call = calls_after;
+          made = refl;
+          no_notice = λ n. grind (arith, nat_tests, none_after);
+          door_there = may.door_there;
+          door_owner = may.door_owner;
+          door_no_cancel = may.door_no_cancel;
+          door_private = may.door_private;
+          door_valid = may.door_valid;
+          doors = may.are_doors;
+          ended = may.ended;
+          proc_there = may.proc_there;
+        }
+
+    left_consistent : IsConsistent after
+    left_consistent =
+        record {
+          in_order = IsInOrder-map (left_call who) left_number m.call_tree.calls 0 h.in_order;
+          counted = length-map m.call_tree.calls (left_call who) ∙ h.counted;
+          coherent = leaving_keeps (core m) who (now m) (core after) h.coherent left_core no_notice;
+          tables = may.counted;
+          no_rows = may.no_rows;
+          unbuilt = record { no_notices = none_after };
+        }
+
+    -- calls
+
+    module _ (t : ℕ) (a : Answer) (c : ℕ) (r : Call) (there : record_of m c ≡ Some r) where
+      -- the caller of a call that is neither answered nor left waits for it
+      caller_waits : is_live r.stage ≡ true → state_of m r.caller.0 ≡ is.Calling c
+      caller_waits e = ap (λ o. state_of m (caller_number o)) (sym there) ∙ h.coherent.waits.calling c (ap live_in there ∙ e)
+
+      ends_now : (u : ℕ) → who.ends u ≡ true → (state_of m u ≡ is.Done → ⊥) → EndsNow m after u
+      ends_now u e f = record { before = f; after = ended_now (core m) who (now m) u _ _ h.coherent (thread_after u) e }
+
+      caller_stays : is_live r.stage ≡ true → who.ends r.caller.0 ≡ false → state_of after r.caller.0 ≡ is.Done → ⊥
+      caller_stays e f g =
+          let still : state_of after r.caller.0 ≡ is.Calling c =
+          still_calling (core m) who (now m) r.caller.0 _ _ h.coherent (thread_after r.caller.0) c (caller_waits e) f
+          in
+          grind arith
+
+      server_was_given : (u : ℕ) → r.stage ≡ stage.Given (tid u) → state_of m u ≡ is.Done → ⊥
+      server_was_given u e f =
+          let given : state_of m u ≡ is.Given (item.Call c) = h.coherent.waits.given c u (ap stage_in there ∙ ap (λ s. Some s) e) in
+          grind arith
+
+      server_had_entered : (u : ℕ) → r.stage ≡ stage.Entered (tid u) → state_of m u ≡ is.Done → ⊥
+      server_had_entered u e f =
+          let entered : item_in (invocation_of m u) ≡ Some (item.Call c) = h.coherent.invocations.entered c u (ap stage_in there ∙ ap (λ s. Some s) e) in
+          let none : invocation_of m u ≡ None = h.coherent.servers.outside u (ap is_outside f) in
+          grind arith
+
+      gone_arrow : (s : CallStage) → r.stage ≡ s → who.ends r.caller.0 ≡ true → ByAct m t q a after (Some r) (Some (gone_call_at s r))
+      gone_arrow (stage.Answered k) f e = stays
+      gone_arrow stage.Gone f e = stays
+      gone_arrow s f e =
+          let alive : is_live r.stage ≡ true = ap is_live f in
+          let waits : state_of m r.caller.0 ≡ is.Calling c = caller_waits alive in
+          subst (λ z. ByAct m t q a after (Some r) (Some (gone_call_at z r))) f
+          (leaves r alive (ends_now r.caller.0 e (λ d. grind arith)))
+
+      broken_arrow : (s : CallStage) → r.stage ≡ s → who.ends r.caller.0 ≡ false → ByAct m t q a after (Some r) (Some (broken_call_at who s r))
+      broken_arrow stage.Queued f e = by_interrupt (who.interrupts r.caller.0) refl
+        where
+          alive : is_live r.stage ≡ true
+          alive = ap is_live f
+
+          by_door : (b : Bool) → who.loses r.door ≡ b → ByAct m t q a after (Some r) (Some (ended_where b EBADF r))
+          by_door true g =
+              let valid : is_valid m r.door ≡ true =
+              ap (λ o. is_valid m (door_in o)) (sym there) ∙ h.coherent.at_doors.waiting_valid c (ap stage_in there ∙ ap (λ s. Some s) f)
+              in
+              ends r EBADF (door_invalid f valid (may.door_lost r.door g) (caller_stays alive e))
+          by_door false g = stays
+
+          by_interrupt :
+              (b : Bool) → who.interrupts r.caller.0 ≡ b →
+              ByAct m t q a after (Some r) (Some (if b then without_arguments_at (stage.Ended EINTR) r else ended_where (who.loses r.door) EBADF r))
+          by_interrupt true g = ends r EINTR (interrupted (may.interrupts r.caller.0 g) (ap has_arguments f) (caller_stays alive e))
+          by_interrupt false g = by_door (who.loses r.door) refl
+      broken_arrow (stage.Given u) f e = go (who.interrupts r.caller.0) (who.ends u.0) refl refl
+        where
+          alive : is_live r.stage ≡ true
+          alive = ap is_live f
+
+          go : (b d : Bool) → who.interrupts r.caller.0 ≡ b → who.ends u.0 ≡ d → ByAct m t q a after (Some r) (Some (ended_where (b || d) EINTR r))
+          go true d g i = ends r EINTR (interrupted (may.interrupts r.caller.0 g) (ap has_arguments f) (caller_stays alive e))
+          go false true g i = ends r EINTR (server_ended u.0 (inl f) (ends_now u.0 i (server_was_given u.0 f)) (caller_stays alive e))
+          go false false g i = stays
+      broken_arrow (stage.Entered u) f e = go (who.interrupts r.caller.0) (who.ends u.0) refl refl
+        where
+          alive : is_live r.stage ≡ true
+          alive = ap is_live f
+
+          go :
+              (b d : Bool) → who.interrupts r.caller.0 ≡ b → who.ends u.0 ≡ d →
+              ByAct m t q a after (Some r) (Some (if b then abandoned_at (stage.Ended EINTR) r else ended_where d EINTR r))
+          go true d g i = breaks_off r u.0 (may.interrupts r.caller.0 g) f (caller_stays alive e)
+          go false true g i = ends r EINTR (server_ended u.0 (inr f) (ends_now u.0 i (server_had_entered u.0 f)) (caller_stays alive e))
+          go false false g i = stays
+      broken_arrow s f e = stays
+
+      left_arrow : ByAct m t q a after (Some r) (Some (left_call who r))
+      left_arrow = go (who.ends r.caller.0) refl
+        where
+          go : (b : Bool) → who.ends r.caller.0 ≡ b → ByAct m t q a after (Some r) (Some (if b then gone_call_at r.stage r else broken_call_at who r.stage r))
+          go true e = gone_arrow r.stage refl e
+          go false e = broken_arrow r.stage refl e
+
+    pub leaving_does : (t : ℕ) (a : Answer) → Does m t q (act_result after a)
+    leaving_does t a =
+        record {
+          consistent = left_consistent;
+          arrows = λ c. subst (λ o. ByAct m t q a after (record_of m c) o) (sym (calls_after c)) (go c (record_of m c) refl);
+        }
+      where
+        go : (c : ℕ) (o : Option Call) → record_of m c ≡ o → ByAct m t q a after o (option_map (left_call who) o)
+        go c None e = stays
+        go c (Some r) e = left_arrow t a c r e
+
+    -- invocations
+
+    pub leaving_serves : (t : ℕ) (a : Answer) (u : ℕ) → InvocationArrow m t q a after u (invocation_of m u) (invocation_of after u)
+    leaving_serves t a u = go (state_of after u) (invocation_of after u) refl (thread_after u)
+      where
+        Takes : Option Inv → Option Inv → Type 0
+        Takes v w = InvocationArrow m t q a after u v w
+
+        ended_takes : (v : Option Inv) → state_of after u ≡ is.Done → Takes v None
+        ended_takes None e = invocation_stays
+        ended_takes (Some v) e = invocation_leaves v e
+
+        -- its caller has left it
+        leaves_by : (r : Call) (b : Bool) → record_of m r.number ≡ Some r → r.stage ≡ stage.Entered (tid u) → who.ends r.caller.0 ≡ b → (b || who.interrupts r.caller.0) ≡ true → IsLeft m q after r
+        leaves_by r true f g e l =
+            let waits : state_of m r.caller.0 ≡ is.Calling r.number = caller_waits t a r.number r f (ap is_live g) in
+            caller_ends (ends_now t a r.number r f r.caller.0 e (λ d. grind arith))
+        leaves_by r false f g e l = is_interrupted (may.interrupts r.caller.0 l)
+
+        cancelled_takes :
+            (r : Call) (v : Option Inv) → invocation_of m u ≡ v → record_of m r.number ≡ Some r → r.stage ≡ stage.Entered (tid u) →
+            is_left who r ≡ true → r.no_cancel ≡ false → Takes v (option_map cancelled_invocation v)
+        cancelled_takes r None e f g l n = invocation_stays
+        cancelled_takes r (Some v) e f g l n =
+            invocation_cancels v
+            (record {
+              call = r;
+              item = grind (arith, ap item_in e, entered_by m who h u r f g);
+              there = f;
+              entered = g;
+              may_cancel = n;
+              is_left = leaves_by r (who.ends r.caller.0) f g refl l;
+            })
+
+        go :
+            (s : ThreadState) (w : Option Inv) → state_of after u ≡ s → LeftThread (core m) who (now m) u s w →
+            Takes (invocation_of m u) w
+        go s w e (thread_ends f g i) = subst (λ w. Takes (invocation_of m u) w) (sym i) (ended_takes (invocation_of m u) (e ∙ g))
+        go s w e (thread_parks r f g i l j z) =
+            let none : invocation_of m u ≡ None = h.coherent.servers.outside u (ap is_outside (given_to m who h u r g i)) in
+            subst (λ w. Takes (invocation_of m u) w) (none ∙ sym z) invocation_stays
+        go s w e (thread_cancels r f g i l n j z) =
+            subst (λ w. Takes (invocation_of m u) w) (sym z) (cancelled_takes r (invocation_of m u) refl g i l n)
+        go s w e (thread_stays f g j z) = subst (λ w. Takes (invocation_of m u) w) (sym z) invocation_stays
