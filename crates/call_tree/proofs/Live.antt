@@ -1,5 +1,5 @@
 -- Calls stay live as they go on, and a call that is answered leaves the list.
-use Rattle.std.proofs.Common.{◌≡◌, ℕ, suc, zero, ◌+◌, ◌<◌, ◌++◌, Bool, true, false, not, cond, if◌then◌else◌, List, [], ◌∷◌, Some, filter, get_or, length, remove, set, refl, ap, ◌∙◌, sym, arith, position}
+use Rattle.std.proofs.Common.{◌≡◌, ℕ, suc, zero, ◌+◌, ◌<◌, ◌++◌, Bool, true, false, not, cond, if◌then◌else◌, List, [], ◌∷◌, Some, filter, get_or, length, remove, set, refl, ap, ◌∙◌, subst, sym, arith, position}
 use Rattle.std.specs.List.{position_or_len}
 use Rattle.std.proofs.lemmas.List.Quantifiers.{position-Some}
 use Rattle.kernel_records.specs.declared.record.Call.{Call}
@@ -53,3 +53,16 @@ removed_there c at rs i d h e =
     let w = position-Some (is_to_collect_as c) rs i d e in
     let z = first_removed (is_to_collect_as c) (without_arguments_at (stage.Answered at)) rs (λ r. refl) h (omega (arith, k, w.0)) in
     ap (remove rs) k ∙ sym z
+
+-- the live ones of some calls
+
+kept_if : (b : Bool) (r : Call) (rs : List Call) → is_live_call r ≡ b → AreLive rs → AreLive (cond b (r ∷ rs) rs)
+kept_if true r rs e h = (e, h)
+kept_if false r rs e h = h
+
+kept_live : (rs : List Call) → AreLive (filter is_live_call rs)
+kept_live [] = tt
+kept_live (r ∷ rs) = kept_if (is_live_call r) r (filter is_live_call rs) refl (kept_live rs)
+
+pub live_left : (rs kept : List Call) → kept ≡ filter is_live_call rs → AreLive kept
+live_left rs kept e = subst AreLive (sym e) (kept_live rs)

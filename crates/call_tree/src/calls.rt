@@ -1,12 +1,13 @@
 //! The door calls of a kernel.
-ghost use Rattle.std.specs.Prelude.{◌≡◌, ◌+◌, ◌≤◌, [], ℕ, Bool, true, find, length, OnOk};
+ghost use Rattle.std.specs.Prelude.{◌≡◌, ◌+◌, ◌≤◌, [], ℕ, true, find, length, OnOk};
 ghost use Rattle.std.specs.Option.{option_copied, option_map};
 ghost use Rattle.std.specs.List.{list_any};
-ghost use Rattle.kernel_records.specs.Words.{collect_call, enter_call, fail_call, give_call, is_client_call_of, is_given_as, is_live_call, is_served_as, is_served_by, is_to_collect_as, live_calls, open_call, return_call};
-ghost use Rattle.call_tree.specs.LiveCalls.{AnswersAs, AreLive, HasRoomForCall, end_calls_where, is_ready_call};
+ghost use Rattle.kernel_records.specs.Words.{Leaving, collect_call, enter_call, fail_call, give_call, is_client_call_of, is_given_as, is_live_call, is_served_as, is_served_by, is_to_collect_as, left_calls, live_calls, open_call, return_call};
+ghost use Rattle.call_tree.specs.LiveCalls.{AnswersAs, AreLive, HasRoomForCall, is_ready_call};
 ghost use Rattle.call_tree.specs.Walks.{argument_objects, caller_among, door_in, is_call, lead_in, root_in, server_in};
 
-use crate::change::{answer_client, end_all, give_queued, place_ready, take_given};
+use crate::change::{answer_client, give_queued, place_ready, take_given};
+use crate::leave::{keep_live, leave_all};
 use crate::stage::{
     is_call, is_client_call_of, is_given_as, is_ready_call, is_served_by, is_to_collect_as,
 };
@@ -231,11 +232,22 @@ impl Calls {
         Some(self.calls.remove(place))
     }
 
-    /// The calls that wait at doors for which the test holds end EBADF.
-    pub fn end_waiting<F: Fn(u32) -> bool>(&mut self, alloc: Global, is_lost: F)
-        requires { F.IsAlwaysCallable is_lost }
-        ensures { (lost : ℕ → Bool) → AnswersAs (F.post is_lost) lost → self.new.tree ≡ end_calls_where lost self.old.tree }
+    /// What becomes of the calls where threads end, callers are interrupted and doors are lost, of which the tests tell by number:
+    /// of threads, of threads, and of doors. The calls whose callers end are forgotten.
+    pub fn leave<E: Fn(u32) -> bool, I: Fn(u32) -> bool, L: Fn(u32) -> bool>(
+        &mut self,
+        alloc: Global,
+        ends: E,
+        interrupts: I,
+        loses: L,
+    )
+        requires ends { E.IsAlwaysCallable ends }
+        requires interrupts { I.IsAlwaysCallable interrupts }
+        requires loses { L.IsAlwaysCallable loses }
+        ensures tree { (who : Leaving) → AnswersAs (E.post ends) who.ends → AnswersAs (I.post interrupts) who.interrupts → AnswersAs (L.post loses) who.loses → self.new.tree ≡ live_calls (left_calls who self.old.tree) }
+        ensures spare { self.old.spare ≤ self.new.spare }
     {
-        end_all(alloc, &mut self.calls, is_lost);
+        leave_all(alloc, &mut self.calls, ends, interrupts, loses);
+        keep_live(&mut self.calls);
     }
 }

@@ -1,12 +1,10 @@
 //! Calls that go on to their next stage.
-ghost use Rattle.std.specs.Prelude.{◌≡◌, ℕ, Bool, true, find, map, position};
-ghost use Rattle.dk_base.specs.declared.error.Errno.TheVariants.{EBADF};
+ghost use Rattle.std.specs.Prelude.{◌≡◌, true, find, position};
 ghost use Rattle.kernel_records.specs.declared.record.CallStage.TheVariants as stage;
-ghost use Rattle.kernel_records.specs.Words.{at_stage, change_first, is_client_call_of, is_given_as, is_live, is_live_call, is_queued_as, is_to_collect_as, tid, without_arguments_at};
-ghost use Rattle.call_tree.specs.LiveCalls.{AnswersAs, AreLive, ended_where};
+ghost use Rattle.kernel_records.specs.Words.{at_stage, change_first, is_client_call_of, is_given_as, is_live, is_queued_as, is_to_collect_as, tid, without_arguments_at};
+ghost use Rattle.call_tree.specs.LiveCalls.{AreLive};
 
-use crate::stage::{is_client_call_of, is_given_as, is_queued, is_queued_as, is_to_collect_as};
-use dk_base::error::Errno;
+use crate::stage::{is_client_call_of, is_given_as, is_queued_as, is_to_collect_as};
 use dk_base::list::{Bytes, ObjList};
 use dk_base::number::Tid;
 use kernel_records::record::{Call, CallStage};
@@ -14,7 +12,7 @@ use std::alloc::Global;
 use std::mem;
 
 /// A call goes on to a stage, which its arguments leave. The record as it was is handed out.
-fn move_on(alloc: Global, call: &mut Call, stage: CallStage) -> Call
+pub fn move_on(alloc: Global, call: &mut Call, stage: CallStage) -> Call
     ensures after { call.new ≡ without_arguments_at stage call.old }
     ensures before { result ≡ call.old }
 {
@@ -37,32 +35,6 @@ fn give(call: &mut Call, to: Tid)
     ensures { call.new ≡ at_stage (stage.Given (tid to.0)) call.old }
 {
     call.stage = CallStage::Given { to };
-}
-
-/// A call that waits at a door for which the test holds ends EBADF.
-fn end_where<F: Fn(u32) -> bool>(alloc: Global, call: &mut Call, is_lost: &F)
-    requires { F.IsAlwaysCallable is_lost.now }
-    ensures ended { (lost : ℕ → Bool) → AnswersAs (F.post is_lost.now) lost → call.new ≡ ended_where lost call.old }
-    ensures live { is_live_call call.old ≡ true → is_live_call call.new ≡ true }
-{
-    if is_queued(&call.stage) && is_lost(call.door) {
-        call.bytes = Bytes::new(alloc);
-        call.objects = ObjList::new(alloc);
-        call.stage = CallStage::Ended {
-            error: Errno::EBADF,
-        };
-    }
-}
-
-/// The calls that wait at doors for which the test holds end EBADF.
-pub fn end_all<F: Fn(u32) -> bool>(alloc: Global, calls: &mut [Call], is_lost: F)
-    requires { F.IsAlwaysCallable is_lost }
-    ensures ended { (lost : ℕ → Bool) → AnswersAs (F.post is_lost) lost → calls.new ≡ map (ended_where lost) calls.old }
-    ensures live { AreLive calls.old → AreLive calls.new }
-{
-    for call in calls.iter_mut() {
-        end_where(alloc, call, &is_lost);
-    }
 }
 
 /// The place of call `c`, where it waits for a server thread.

@@ -3,5 +3,6 @@
 
 pub mod calls;
 mod change;
+mod leave;
 pub mod stage;
 mod walks;

@@ -1,6 +1,6 @@
 //! Where a call stands, and who serves it.
 ghost use Rattle.std.specs.Prelude.{◌≡◌};
-ghost use Rattle.kernel_records.specs.Words.{is_client_call_of, is_entered_by, is_given_as, is_given_to, is_queued, is_queued_as, is_served, is_served_as, is_served_by, is_to_collect, is_to_collect_as};
+ghost use Rattle.kernel_records.specs.Words.{is_client_call_of, is_entered_by, is_given_as, is_given_to, is_live, is_live_call, is_queued, is_queued_as, is_served, is_served_as, is_served_by, is_to_collect, is_to_collect_as};
 ghost use Rattle.call_tree.specs.LiveCalls.{is_ready_call};
 ghost use Rattle.call_tree.specs.Walks.{is_call, is_served_for};
 
@@ -26,6 +26,12 @@ fn is_served(stage: &CallStage) -> bool
     ensures { result ≡ is_served stage.now }
 {
     matches!(stage, CallStage::Given { .. } | CallStage::Entered { .. })
+}
+
+fn is_live(stage: &CallStage) -> bool
+    ensures { result ≡ is_live stage.now }
+{
+    !matches!(stage, CallStage::Answered { .. } | CallStage::Gone)
 }
 
 fn is_given_to(stage: &CallStage, t: Tid) -> bool
@@ -107,4 +113,11 @@ pub(crate) fn is_ready_call(call: &Call) -> bool
     ensures { result ≡ is_ready_call call.now }
 {
     is_to_collect(&call.stage)
+}
+
+/// Whether a call is neither answered nor left by a caller that ended.
+pub(crate) fn is_live_call(call: &Call) -> bool
+    ensures { result ≡ is_live_call call.now }
+{
+    is_live(&call.stage)
 }

@@ -4,17 +4,10 @@ use dk_base::error::Errno;
 use dk_base::number::{Pid, Tid};
 use dk_base::object::Item;
 use kernel_records::pool::{Pool, Waiting};
-use server_pool::facts::BindFacts;
 use server_pool::pools::Pools;
 use std::test::Fail;
 
 const SERVED: Pool = Pool::Common(Pid(1));
-
-const ALLOWED: BindFacts = BindFacts {
-    valid: true,
-    is_private: true,
-    own: true,
-};
 
 /// Whether a process and a door are added with ample memory.
 fn are_two_pools_added(pools: &mut Pools) -> bool {
@@ -28,6 +21,18 @@ fn are_two_pools_added(pools: &mut Pools) -> bool {
 /// Whether a thread parks in a pool that is there, after all that are parked there.
 fn is_parked(pools: &mut Pools, t: Tid, pool: Pool, since: u64) -> bool {
     if !pools.has(pool) || pools.room(pool).is_err() || !pools.is_later(t, pool, since) {
+        return false;
+    }
+    pools.park(t, pool, since);
+    true
+}
+
+/// The same, where room for two threads is taken.
+fn is_parked_with_room(pools: &mut Pools, t: Tid, pool: Pool, since: u64) -> bool {
+    if !pools.has(pool) || pools.room_for_threads(pool, 2).is_err() {
+        return false;
+    }
+    if !pools.is_later(t, pool, since) {
         return false;
     }
     pools.park(t, pool, since);
@@ -90,21 +95,10 @@ fn are_calls_withdrawn(pools: &mut Pools) -> bool {
         && is_full(pools, SERVED, Item::Call(35))
 }
 
-fn are_all_dropped(pools: &mut Pools) -> bool {
-    pools.drop_waiting(SERVED);
-    pools.next(SERVED).is_none()
-        && pools.calls_waiting(SERVED) == 0
-        && pools.calls_waiting(Pool::Private(1)) == 1
-}
-
 #[test]
 fn at_most_32_calls_wait_in_a_pool(rt: HostRuntime) -> Result<(), Fail> {
     let mut pools = Pools::new(rt.alloc())?;
-    assert!(rt;
-        are_calls_counted(&mut pools)
-            && are_calls_withdrawn(&mut pools)
-            && are_all_dropped(&mut pools)
-    );
+    assert!(rt; are_calls_counted(&mut pools) && are_calls_withdrawn(&mut pools));
     Ok(())
 }
 
@@ -118,7 +112,7 @@ fn are_three_parked(pools: &mut Pools) -> bool {
         && is_parked(pools, Tid(4), SERVED, 7)
         && !is_parked(pools, Tid(1), SERVED, 6)
         && !is_parked(pools, Tid(3), SERVED, 7)
-        && is_parked(pools, Tid(3), Pool::Private(1), 7)
+        && is_parked_with_room(pools, Tid(3), Pool::Private(1), 7)
 }
 
 fn is_picked(pools: &Pools, pool: Pool, t: u32) -> bool {
@@ -172,31 +166,17 @@ fn the_thread_that_parked_last_is_picked(rt: HostRuntime) -> Result<(), Fail> {
     Ok(())
 }
 
-const INVALID: BindFacts = BindFacts {
-    valid: false,
-    ..ALLOWED
-};
-
-const COMMON: BindFacts = BindFacts {
-    is_private: false,
-    ..ALLOWED
-};
-
-const ANOTHERS: BindFacts = BindFacts {
-    own: false,
-    ..ALLOWED
-};
+/// Whether a thread is bound to a door, in place of the one that it was bound to.
+fn is_bound(pools: &mut Pools, t: Tid, d: u32) -> bool {
+    pools.bind(t, d);
+    pools.bound(t) == Some(d)
+}
 
 /// Thread 64 is bound to door 3, then to door 5, then to none.
 fn is_bound_and_unbound(pools: &mut Pools) -> bool {
     pools.unbind(Tid(64)) == Err(Errno::EBADF)
-        && pools.bind(Tid(64), 3, INVALID) == Err(Errno::EBADF)
-        && pools.bind(Tid(64), 3, COMMON) == Err(Errno::EINVAL)
-        && pools.bind(Tid(64), 3, ANOTHERS) == Err(Errno::EINVAL)
-        && pools.bound(Tid(64)).is_none()
-        && pools.bind(Tid(64), 3, ALLOWED) == Ok(())
-        && pools.bind(Tid(64), 5, ALLOWED) == Ok(())
-        && pools.bound(Tid(64)) == Some(5)
+        && is_bound(pools, Tid(64), 3)
+        && is_bound(pools, Tid(64), 5)
         && pools.bound(Tid(1)).is_none()
         && pools.unbind(Tid(64)) == Ok(5)
         && pools.unbind(Tid(64)) == Err(Errno::EBADF)
@@ -233,14 +213,23 @@ fn are_spares_taken(pools: &mut Pools) -> bool {
         && pools.take_spare(Pid(2)).is_none()
 }
 
-fn are_spares_dropped(pools: &mut Pools) -> bool {
-    pools.drop_spares(Pid(1));
-    pools.take_spare(Pid(1)).is_none()
+/// Of three further spares, the second is withdrawn.
+fn is_spare_withdrawn(pools: &mut Pools) -> bool {
+    if !(is_spare_added(pools, Pid(2), Tid(11))
+        && is_spare_added(pools, Pid(2), Tid(12))
+        && is_spare_added(pools, Pid(2), Tid(13)))
+    {
+        return false;
+    }
+    pools.withdraw_spare(Pid(2), Tid(12));
+    is_spare_taken(pools, Pid(2), 11)
+        && is_spare_taken(pools, Pid(2), 13)
+        && pools.take_spare(Pid(2)).is_none()
 }
 
 #[test]
 fn the_lowest_spare_is_taken(rt: HostRuntime) -> Result<(), Fail> {
     let mut pools = Pools::new(rt.alloc())?;
-    assert!(rt; are_spares_taken(&mut pools) && are_spares_dropped(&mut pools));
+    assert!(rt; are_spares_taken(&mut pools) && is_spare_withdrawn(&mut pools));
     Ok(())
 }

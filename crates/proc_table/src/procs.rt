@@ -1,14 +1,17 @@
 //! Processes and threads.
-ghost use Rattle.std.specs.Prelude.{◌≡◌, ◌+◌, ◌<◌, ◌≤◌, ◌++◌, ◌∷◌, ◌↔◌, [], true, false, length, map, count_by, IfOk, OnOk, OnErr};
+ghost use Rattle.std.specs.Prelude.{◌≡◌, ◌+◌, ◌<◌, ◌≤◌, ◌++◌, ◌∷◌, ◌↔◌, [], true, false, length, None, count_by, IfNone, IfOk, IfSome, OnOk, OnErr};
 ghost use Rattle.std.specs.List.{list_any};
 ghost use Rattle.dk_base.specs.declared.error.ProcFault.TheVariants.{Full};
 ghost use Rattle.dk_base.specs.declared.limits.TheConstants.{PROCESSES_MAX, THREADS_MAX};
 ghost use Rattle.dk_base.specs.ByNumber.{at_number};
 ghost use Rattle.kernel_records.specs.declared.record.ThreadState.TheVariants.{Done};
-ghost use Rattle.kernel_records.specs.Words.{ProcessTable, active_threads, end_process, end_thread, ended_thread_of, enter_thread, give_thread, invocation_in, is_active_of, is_done, is_idle, is_idle_thread, is_last, is_live_in, keeps_alive, new_process, new_thread, opening_state, park_thread, process_in, set_thread_state, state_in, thread_at, with_ended};
+ghost use Rattle.kernel_records.specs.Words.{ProcessTable, active_threads, cancelled_thread, change_thread, end_invocation, end_process, end_thread, enter_thread, give_thread, interrupted_thread, invocation_in, is_active_of, is_done, is_idle, is_idle_thread, is_last, is_live_in, keeps_alive, new_process, new_thread, opening_state, park_thread, process_in, set_thread_state, state_in, thread_at};
 
 use crate::numbered::numbered_item;
-use crate::thread::{end, end_with, enter, is_active_of, is_idle_thread, keeps_alive, park, turn};
+use crate::thread::{
+    cancel, end, end_invocation, enter, interrupt, is_active_of, is_idle_thread, keeps_alive, park,
+    turn,
+};
 use dk_base::error::ProcFault;
 use dk_base::limits::{PROCESSES_MAX, THREADS_MAX};
 use dk_base::number::{Pid, Tid};
@@ -18,7 +21,7 @@ use std::alloc::Global;
 use std::marker::Model;
 
 /// Processes and threads, numbered from 1: at most 64 of each. A number that no thread has reads as that of a Done thread
-/// of process 0, and each change but `end_process` is of a thread that has not ended, so such a number is never written to.
+/// of process 0, and a change of it changes nothing.
 #[derive(Drop)]
 pub struct Procs {
     processes: Vec<Process>,
@@ -56,6 +59,22 @@ fn place_of(threads: &[Thread], t: Tid) -> usize
     t.0 as usize - 1
 }
 
+/// The place of a thread, if it is there.
+fn find_place(threads: &[Thread], t: Tid) -> Option<usize>
+    ensures place { IfSome result (λ place. (place + 1 ≡ t.0) × (place < length threads.now)) }
+    ensures none { IfNone result (at_number threads.now t.0 ≡ None) }
+{
+    if t.0 == 0 {
+        return None;
+    }
+    let place = t.0 as usize - 1;
+    if place < threads.len() {
+        Some(place)
+    } else {
+        None
+    }
+}
+
 /// Whether a thread other than `t` keeps the process from ending.
 fn has_another(threads: &[Thread], t: Tid, p: Pid) -> bool
     ensures { result ≡ list_any (keeps_alive t.0 p.0) threads.now }
@@ -70,14 +89,6 @@ fn count_active(threads: &[Thread], p: Pid) -> usize
         .iter()
         .filter(|thread| is_active_of(thread, p))
         .count()
-}
-
-fn end_all(threads: &mut [Thread], p: Pid)
-    ensures { threads.new ≡ map (ended_thread_of p.0) threads.old }
-{
-    for thread in threads.iter_mut() {
-        end_with(thread, p);
-    }
 }
 
 impl Procs {
@@ -253,6 +264,15 @@ impl Procs {
         self.set_state(t, ThreadState::Given { item });
     }
 
+    /// A thread that is Idle at a door that is lost leaves its pool, and is woken with EINVAL (door_return(3C)).
+    #[tactic(auto, using(crate::proofs::Places::idle_is_not_done))]
+    pub fn fail(&mut self, t: Tid)
+        requires { is_idle (state_in (thread_at self.old t.0)) ≡ true }
+        ensures { self.new ≡ set_thread_state self.old t.0 ThreadState.FailedReturn }
+    {
+        self.set_state(t, ThreadState::FailedReturn);
+    }
+
     /// A thread enters the invocation of the item that it was given, and runs. The change itself needs only that the thread
     /// has not ended; that it is this item is for what stands above.
     #[tactic(auto, using(crate::proofs::Places::numbered_here))]
@@ -265,37 +285,71 @@ impl Procs {
         enter(thread, item);
     }
 
-    /// A thread's invocation ends, and it is parked since an event (door_return(3C)). That it was not Idle, so that it enters
-    /// a pool, is for what stands above.
+    /// A thread's invocation ends, and it is parked since an event (door_return(3C)). That it enters a pool is for what stands
+    /// above.
     #[tactic(auto, using(crate::proofs::Places::numbered_here))]
     pub fn park(&mut self, t: Tid, since: u64)
-        requires not_done { is_done (state_in (thread_at self.old t.0)) ≡ false }
-        requires not_idle { is_idle (state_in (thread_at self.old t.0)) ≡ false }
         ensures { self.new ≡ park_thread self.old t.0 since }
     {
-        let place = place_of(&self.threads, t);
-        let thread = &mut self.threads[place];
-        park(thread, since);
+        if let Some(place) = find_place(&self.threads, t) {
+            let thread = &mut self.threads[place];
+            park(thread, since);
+        }
     }
 
     /// A thread ends, and leaves the invocation that it is in. Says whether it was the last thread of its process that was
     /// neither Done nor Dormant.
     #[tactic(auto, using(crate::proofs::Places::numbered_here))]
     pub fn end_thread(&mut self, t: Tid) -> bool
-        requires { is_done (state_in (thread_at self.old t.0)) ≡ false }
         ensures state { self.new ≡ end_thread self.old t.0 }
         ensures last { result ≡ is_last self.old t.0 (process_in (thread_at self.old t.0)) }
     {
         let last = self.is_last(t, self.process_of(t));
-        let place = place_of(&self.threads, t);
-        let thread = &mut self.threads[place];
-        end(thread);
+        if let Some(place) = find_place(&self.threads, t) {
+            let thread = &mut self.threads[place];
+            end(thread);
+        }
         last
     }
 
+    /// The caller of the thread's invocation has left it, so the flag of the invocation is set (DOOR_NO_CANCEL,
+    /// door_create(3C)). A thread that is in none stays as it is.
     #[tactic(auto, using(crate::proofs::Places::numbered_here))]
-    fn mark_ended(&mut self, p: Pid)
-        ensures { self.new ≡ with_ended self.old p.0 (at_number self.old.processes p.0) }
+    pub fn cancel(&mut self, t: Tid)
+        ensures { self.new ≡ change_thread self.old t.0 cancelled_thread }
+    {
+        if let Some(place) = find_place(&self.threads, t) {
+            let thread = &mut self.threads[place];
+            cancel(thread);
+        }
+    }
+
+    /// A thread is interrupted: its wait for the events of a port is marked. A thread at anything else stays as it is.
+    #[tactic(auto, using(crate::proofs::Places::numbered_here))]
+    pub fn interrupt(&mut self, t: Tid)
+        ensures { self.new ≡ change_thread self.old t.0 interrupted_thread }
+    {
+        if let Some(place) = find_place(&self.threads, t) {
+            let thread = &mut self.threads[place];
+            interrupt(thread);
+        }
+    }
+
+    /// A thread's invocation ends, and the thread goes on as it was.
+    #[tactic(auto, using(crate::proofs::Places::numbered_here))]
+    pub fn end_invocation(&mut self, t: Tid)
+        requires { is_done (state_in (thread_at self.old t.0)) ≡ false }
+        ensures { self.new ≡ end_invocation self.old t.0 }
+    {
+        let place = place_of(&self.threads, t);
+        let thread = &mut self.threads[place];
+        end_invocation(thread);
+    }
+
+    /// A process ends; its threads stay as they are. A number that no process has ends no process.
+    #[tactic(auto, using(crate::proofs::Places::numbered_here))]
+    pub fn end_process(&mut self, p: Pid)
+        ensures { self.new ≡ end_process self.old p.0 }
     {
         if p.0 == 0 {
             return;
@@ -304,14 +358,5 @@ impl Procs {
         if place < self.processes.len() {
             self.processes[place].stage = ProcessStage::Ended;
         }
-    }
-
-    /// A process ends with all its threads, each of which leaves the invocation that it is in. A number that no process has
-    /// ends no process.
-    pub fn end_process(&mut self, p: Pid)
-        ensures { self.new ≡ end_process self.old p.0 }
-    {
-        end_all(&mut self.threads, p);
-        self.mark_ended(p);
     }
 }

@@ -1,6 +1,6 @@
 //! What becomes of one thread, and what is asked of one.
 ghost use Rattle.std.specs.Prelude.{◌≡◌};
-ghost use Rattle.kernel_records.specs.Words.{ended_thread, ended_thread_of, idle_thread, is_active, is_active_of, is_idle_thread, keeps_alive, thread_at_state, thread_in_invocation};
+ghost use Rattle.kernel_records.specs.Words.{cancelled_thread, ended_thread, idle_thread, interrupted_thread, is_active, is_active_of, is_idle_thread, keeps_alive, thread_at_state, thread_in_invocation, thread_outside};
 
 use dk_base::number::{Pid, Tid};
 use dk_base::object::{Inv, Item};
@@ -51,11 +51,18 @@ pub fn enter(thread: &mut Thread, item: Item)
     thread.state = ThreadState::Running;
 }
 
+/// Its invocation ends, and it goes on.
+pub fn end_invocation(thread: &mut Thread)
+    ensures { thread.new ≡ thread_outside thread.old }
+{
+    thread.invocation = None;
+}
+
 /// It is in no invocation any more, and turns to another state.
 fn leave(thread: &mut Thread, state: ThreadState)
     ensures { thread.new ≡ record thread.old { invocation = None; state = state } }
 {
-    thread.invocation = None;
+    end_invocation(thread);
     thread.state = state;
 }
 
@@ -73,11 +80,23 @@ pub fn end(thread: &mut Thread)
     leave(thread, ThreadState::Done);
 }
 
-/// It ends where it is of process `p`.
-pub fn end_with(thread: &mut Thread, p: Pid)
-    ensures { thread.new ≡ ended_thread_of p.0 thread.old }
+/// The flag of its invocation is set, if it is in one.
+pub fn cancel(thread: &mut Thread)
+    ensures { thread.new ≡ cancelled_thread thread.old }
 {
-    if thread.process.0 == p.0 {
-        end(thread);
+    if let Some(invocation) = thread.invocation {
+        thread.invocation = Some(Inv {
+            item: invocation.item,
+            cancelled: true,
+        });
+    }
+}
+
+/// Its wait for the events of a port is marked, if it is at one.
+pub fn interrupt(thread: &mut Thread)
+    ensures { thread.new ≡ interrupted_thread thread.old }
+{
+    if let ThreadState::Getting { interrupted, .. } = &mut thread.state {
+        *interrupted = true;
     }
 }

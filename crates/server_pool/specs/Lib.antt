@@ -1,6 +1,5 @@
 pub mod Ordered
 pub mod Stack
 pub mod Pool
-pub mod Binding
 pub mod Pools
 pub mod Words

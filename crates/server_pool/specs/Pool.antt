@@ -77,9 +77,6 @@ enqueue_in w pool = with_waiting (pool.waiting ++ w ∷ []) pool
 abbrev pub withdraw_in : Item → PoolValue → PoolValue
 withdraw_in item pool = with_waiting (without_item item pool.waiting) pool
 
-abbrev pub drop_waiting_in : PoolValue → PoolValue
-drop_waiting_in pool = with_waiting [] pool
-
 -- the thread on top and the oldest item leave
 abbrev pub match_in : PoolValue → PoolValue
 match_in pool = with_parked (take (length pool.parked - 1) pool.parked) (with_waiting (drop 1 pool.waiting) pool)

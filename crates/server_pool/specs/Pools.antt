@@ -1,5 +1,5 @@
 -- All server pools, with the bindings of threads and the spare threads of each process.
-use Rattle.std.specs.Prelude.{◌-◌, ℕ, ◌<◌, List, [], Option, None, Some, ◌∷◌, ◌++◌, drop, length, replicate, slice_get, take}
+use Rattle.std.specs.Prelude.{◌-◌, ℕ, ◌<◌, Bool, ◌==◌, not, List, [], Option, None, Some, ◌∷◌, ◌++◌, drop, filter, length, replicate, slice_get, take}
 use Rattle.std.specs.List.{AllByRecursion}
 use Rattle.dk_base.specs.ByNumber.{at_number}
 use Rattle.dk_base.specs.declared.limits.TheConstants.{THREADS_MAX}
@@ -80,8 +80,12 @@ without_lowest spares = drop 1 spares
 abbrev pub without_highest : List ℕ → List ℕ
 without_highest spares = take (length spares - 1) spares
 
-abbrev pub no_spares : List ℕ → List ℕ
-no_spares spares = []
+abbrev pub is_another_spare : ℕ → ℕ → Bool
+is_another_spare t u = not (u == t)
+
+-- without every place of a thread
+abbrev pub without_spare : ℕ → List ℕ → List ℕ
+without_spare t spares = filter (is_another_spare t) spares
 
 abbrev pub change_spares : PoolsValue → ℕ → (List ℕ → List ℕ) → PoolsValue
 change_spares pools p change = record pools { spares = change_at_number pools.spares p change }

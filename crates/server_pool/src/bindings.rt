@@ -1,12 +1,10 @@
 //! The door that each thread is bound to.
 ghost use Rattle.std.specs.Prelude.{◌≡◌, IfOk, None, replicate};
 ghost use Rattle.dk_base.specs.ByNumber.{with_at_number};
-ghost use Rattle.kernel_records.specs.Words.{bound_at, first_refusal};
-ghost use Rattle.server_pool.specs.Words.{bind_refusals};
+ghost use Rattle.kernel_records.specs.Words.{bound_at};
 
-use crate::facts::BindFacts;
 use crate::numbered::{numbered_item, place_of};
-use dk_base::error::{Errno, NoMemory};
+use dk_base::error::NoMemory;
 use dk_base::number::Tid;
 use std::alloc::Global;
 
@@ -37,17 +35,4 @@ pub fn set_binding(bindings: &mut [Option<u32>], t: Tid, door: Option<u32>)
     if let Some(place) = place_of(bindings, t.0) {
         bindings[place] = door;
     }
-}
-
-/// What door_bind(3C) is refused with: EBADF, EINVAL.
-pub fn bind_refusal(facts: BindFacts) -> Option<Errno>
-    ensures { result ≡ first_refusal (bind_refusals facts) }
-{
-    if !facts.valid {
-        return Some(Errno::EBADF);
-    }
-    if !(facts.is_private && facts.own) {
-        return Some(Errno::EINVAL);
-    }
-    None
 }

@@ -3,7 +3,7 @@ ghost use Rattle.std.specs.Prelude.{◌≡◌, ◌+◌, ◌<◌, ◌≤◌, ◌�
 ghost use Rattle.std.specs.List.{list_any};
 ghost use Rattle.std.specs.VecDeque.{deque_capacity};
 ghost use Rattle.dk_base.specs.declared.error.Errno.TheVariants.{EAGAIN};
-ghost use Rattle.server_pool.specs.Words.{AllParkedBefore, IsStack, ParkedBefore, count_calls, drop_waiting_in, empty_pool, enqueue_in, first_match, is_call, is_call_too_many, is_item, is_thread, is_waiting_as, match_in, next_of, park_in, pick_of, unpark_in, with_room, withdraw_in, without_item, without_thread};
+ghost use Rattle.server_pool.specs.Words.{AllParkedBefore, IsStack, ParkedBefore, count_calls, empty_pool, enqueue_in, first_match, is_call, is_call_too_many, is_item, is_thread, is_waiting_as, match_in, next_of, park_in, pick_of, unpark_in, with_room, withdraw_in, without_item, without_thread};
 
 use crate::facts::Match;
 use dk_base::error::{Errno, NoMemory};
@@ -137,6 +137,19 @@ impl ServerPool {
         }
     }
 
+    /// Room for so many more threads. Want of memory changes nothing.
+    pub fn room_for_threads(&mut self, n: usize) -> Result<(), NoMemory>
+        ensures same { self.new ≡ with_room self.new.thread_room self.new.item_room self.old }
+        ensures threads { self.old.thread_room ≤ self.new.thread_room }
+        ensures items { self.old.item_room ≤ self.new.item_room }
+        ensures ok { OnOk result (n ≤ self.new.thread_room) }
+    {
+        match self.parked.reserve(n) {
+            Ok(()) => Ok(()),
+            Err(_) => Err(NoMemory),
+        }
+    }
+
     /// Whether a thread would park after all the others.
     pub fn is_later(&self, x: Parked) -> bool
         ensures { IsTrue result ↔ AllParkedBefore self.now.parked x }
@@ -234,13 +247,5 @@ impl ServerPool {
         remove_item(&mut self.waiting, item);
         self.calls = count_calls(&self.waiting);
         there
-    }
-
-    /// All items leave.
-    pub fn drop_waiting(&mut self)
-        ensures { self.new ≡ drop_waiting_in self.old }
-    {
-        self.waiting.clear();
-        self.calls = 0;
     }
 }

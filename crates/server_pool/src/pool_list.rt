@@ -3,7 +3,7 @@ ghost use Rattle.std.specs.Prelude.{◌≡◌, ◌+◌, ◌<◌, ◌≤◌, Err,
 ghost use Rattle.std.specs.List.{list_any};
 ghost use Rattle.dk_base.specs.declared.error.Errno.TheVariants.{EAGAIN};
 ghost use Rattle.dk_base.specs.ByNumber.{at_number};
-ghost use Rattle.server_pool.specs.Words.{AllParkedBefore, PoolValue, change_at_number, drop_waiting_in, enqueue_in, first_match, is_call_too_many, is_thread, is_waiting_as, match_in, park_in, pool_or_empty, unpark_in, with_room, withdraw_in};
+ghost use Rattle.server_pool.specs.Words.{AllParkedBefore, PoolValue, change_at_number, enqueue_in, first_match, is_call_too_many, is_thread, is_waiting_as, match_in, park_in, pool_or_empty, unpark_in, with_room, withdraw_in};
 
 use crate::facts::Match;
 use crate::numbered::place_of;
@@ -26,6 +26,23 @@ pub fn room_at(pools: &mut [ServerPool], number: u32) -> Result<(), NoMemory>
         Some(place) => {
             let pool = &mut pools[place];
             pool.room()
+        }
+        None => Ok(()),
+    }
+}
+
+/// Room for so many more threads of a pool, if it is there.
+#[tactic(auto, using(crate::proofs::Places::numbered_here))]
+pub fn room_for_threads_at(pools: &mut [ServerPool], number: u32, n: usize) -> Result<(), NoMemory>
+    ensures same { pools.new ≡ change_at_number pools.old number (with_room (pool_or_empty (at_number pools.new number)).thread_room (pool_or_empty (at_number pools.new number)).item_room) }
+    ensures threads { (pool_or_empty (at_number pools.old number)).thread_room ≤ (pool_or_empty (at_number pools.new number)).thread_room }
+    ensures items { (pool_or_empty (at_number pools.old number)).item_room ≤ (pool_or_empty (at_number pools.new number)).item_room }
+    ensures ok { OnOk result (is_some (at_number pools.old number) ≡ true → n ≤ (pool_or_empty (at_number pools.new number)).thread_room) }
+{
+    match place_of(pools, number) {
+        Some(place) => {
+            let pool = &mut pools[place];
+            pool.room_for_threads(n)
         }
         None => Ok(()),
     }
@@ -104,16 +121,5 @@ pub fn withdraw_at(pools: &mut [ServerPool], number: u32, item: Item) -> bool
             pool.withdraw(item)
         }
         None => false,
-    }
-}
-
-/// All items leave a pool.
-#[tactic(auto, using(crate::proofs::Places::numbered_here))]
-pub fn drop_waiting_at(pools: &mut [ServerPool], number: u32)
-    ensures { pools.new ≡ change_at_number pools.old number drop_waiting_in }
-{
-    if let Some(place) = place_of(pools, number) {
-        let pool = &mut pools[place];
-        pool.drop_waiting();
     }
 }

@@ -4,17 +4,17 @@ ghost use Rattle.std.specs.List.{list_any};
 ghost use Rattle.std.specs.Option.{option_copied, option_map};
 ghost use Rattle.dk_base.specs.declared.error.Errno.TheVariants.{EAGAIN, EBADF};
 ghost use Rattle.dk_base.specs.declared.limits.TheConstants.{THREADS_MAX};
-ghost use Rattle.kernel_records.specs.Words.{bind_thread, bound_at, first_refusal, unbind_thread, unless_refused_with};
-ghost use Rattle.server_pool.specs.Words.{AllBelow, AllParkedBefore, IsAscending, IsStack, bind_refusals, change_pool, change_spares, count_calls, drop_waiting_in, empty_pool, enqueue_in, first_match, is_call_too_many, is_thread, is_waiting_as, item_room_in, lowest_spare, match_in, next_of, no_pools, no_spares, park_in, pick_of, pool_at, queue_in, spares_of, stack_in, thread_room_in, unpark_in, with_room, with_spare, withdraw_in, without_highest, without_lowest};
+ghost use Rattle.kernel_records.specs.Words.{bind_thread, bound_at, unbind_thread};
+ghost use Rattle.server_pool.specs.Words.{AllBelow, AllParkedBefore, IsAscending, IsStack, change_pool, change_spares, count_calls, empty_pool, enqueue_in, first_match, is_call_too_many, is_thread, is_waiting_as, item_room_in, lowest_spare, match_in, next_of, no_pools, park_in, pick_of, pool_at, queue_in, spares_of, stack_in, thread_room_in, unpark_in, with_room, with_spare, withdraw_in, without_highest, without_lowest, without_spare};
 
-use crate::bindings::{bind_refusal, bound_at, no_bindings, set_binding};
-use crate::facts::{BindFacts, Match};
+use crate::bindings::{bound_at, no_bindings, set_binding};
+use crate::facts::Match;
 use crate::numbered::numbered_item;
 use crate::pool::ServerPool;
 use crate::pool_list::{
-    drop_waiting_at, enqueue_at, match_at, park_at, room_at, unpark_at, withdraw_at,
+    enqueue_at, match_at, park_at, room_at, room_for_threads_at, unpark_at, withdraw_at,
 };
-use crate::spares::{Spares, add_spare_at, clear_spares_at, take_back_at, take_spare_at};
+use crate::spares::{Spares, add_spare_at, take_back_at, take_spare_at, withdraw_spare_at};
 use dk_base::error::{Errno, NoMemory};
 use dk_base::limits::THREADS_MAX;
 use dk_base::number::{Pid, Tid};
@@ -109,6 +109,20 @@ impl Pools {
         }
     }
 
+    /// Room for so many more threads in a pool, if it is there. Want of memory changes nothing but the room, which is never
+    /// less than it was.
+    pub fn room_for_threads(&mut self, pool: Pool, n: usize) -> Result<(), NoMemory>
+        ensures same { self.new ≡ change_pool self.old pool (with_room (thread_room_in self.new pool) (item_room_in self.new pool)) }
+        ensures threads { thread_room_in self.old pool ≤ thread_room_in self.new pool }
+        ensures items { item_room_in self.old pool ≤ item_room_in self.new pool }
+        ensures ok { OnOk result (is_some (pool_at self.old pool) ≡ true → n ≤ thread_room_in self.new pool) }
+    {
+        match pool {
+            Pool::Common(p) => room_for_threads_at(&mut self.common, p.0, n),
+            Pool::Private(d) => room_for_threads_at(&mut self.private, d, n),
+        }
+    }
+
     /// The door that a thread is bound to.
     pub fn bound(&self, t: Tid) -> Option<u32>
         ensures door { result ≡ bound_at self.now.bindings t.0 }
@@ -117,18 +131,12 @@ impl Pools {
         bound_at(&self.bindings, t)
     }
 
-    /// door_bind(3C): a thread is bound to a door, in place of the one that it was bound to. EBADF for no door or an invalid
-    /// one, EINVAL for one that is not private or is another process's; either changes nothing.
-    pub fn bind(&mut self, t: Tid, d: u32, facts: BindFacts) -> Result<(), Errno>
-        ensures result { result ≡ unless_refused_with (first_refusal (bind_refusals facts)) }
-        ensures ok { OnOk result (self.new ≡ record self.old { bindings = bind_thread self.old.bindings t.0 d }) }
-        ensures err { OnErr result (self.new ≡ self.old) }
+    /// door_bind(3C): a thread is bound to a door, in place of the one that it was bound to. What the call is refused with is
+    /// tested before.
+    pub fn bind(&mut self, t: Tid, d: u32)
+        ensures { self.new ≡ record self.old { bindings = bind_thread self.old.bindings t.0 d } }
     {
-        if let Some(error) = bind_refusal(facts) {
-            return Err(error);
-        }
         set_binding(&mut self.bindings, t, Some(d));
-        Ok(())
     }
 
     /// door_unbind(3C): a thread is bound to no door, and the one that it was bound to is answered. EBADF for a thread that is
@@ -273,16 +281,6 @@ impl Pools {
         }
     }
 
-    /// All items leave the queue of a pool, whose door or process has ended.
-    pub fn drop_waiting(&mut self, pool: Pool)
-        ensures { self.new ≡ change_pool self.old pool drop_waiting_in }
-    {
-        match pool {
-            Pool::Common(p) => drop_waiting_at(&mut self.common, p.0),
-            Pool::Private(d) => drop_waiting_at(&mut self.private, d),
-        }
-    }
-
     /// Whether a number is above those of all spares of a process.
     pub fn is_above_spares(&self, p: Pid, t: Tid) -> bool
         ensures { IsTrue result ↔ AllBelow t.0 (spares_of self.now p.0) }
@@ -319,10 +317,10 @@ impl Pools {
         take_back_at(&mut self.spares, p.0)
     }
 
-    /// All spares of a process leave.
-    pub fn drop_spares(&mut self, p: Pid)
-        ensures { self.new ≡ change_spares self.old p.0 no_spares }
+    /// A thread that ends before it was started is no spare of its process any more; the others keep their order.
+    pub fn withdraw_spare(&mut self, p: Pid, t: Tid)
+        ensures { self.new ≡ change_spares self.old p.0 (without_spare t.0) }
     {
-        clear_spares_at(&mut self.spares, p.0)
+        withdraw_spare_at(&mut self.spares, p.0, t)
     }
 }

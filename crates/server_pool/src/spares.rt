@@ -3,7 +3,7 @@ ghost use Rattle.std.specs.Prelude.{◌≡◌, ◌↔◌, [], IsTrue, OnErr, OnO
 ghost use Rattle.std.specs.List.{list_all};
 ghost use Rattle.std.specs.Option.{option_map};
 ghost use Rattle.dk_base.specs.ByNumber.{at_number};
-ghost use Rattle.server_pool.specs.Words.{AllBelow, IsAscending, change_at_number, lowest_spare, no_spares, spares_or_none, with_spare, without_highest, without_lowest};
+ghost use Rattle.server_pool.specs.Words.{AllBelow, IsAscending, change_at_number, lowest_spare, spares_or_none, with_spare, without_highest, without_lowest, without_spare};
 
 use crate::numbered::place_of;
 use dk_base::error::NoMemory;
@@ -33,6 +33,12 @@ fn all_below(threads: &VecDeque<u32>, t: Tid) -> bool
     ensures { result ≡ list_all (λ u. nat_lt u t.0) threads.now.items }
 {
     threads.iter().all(|u| *u < t.0)
+}
+
+fn remove_spare(threads: &mut VecDeque<u32>, t: Tid)
+    ensures { threads.new.items ≡ without_spare t.0 threads.old.items }
+{
+    threads.retain(|u| *u != t.0);
 }
 
 impl Spares {
@@ -83,11 +89,11 @@ impl Spares {
         self.threads.truncate(left);
     }
 
-    /// All leave.
-    pub fn clear(&mut self)
-        ensures { self.new ≡ no_spares self.old }
+    /// A thread leaves, if it is one of them; the others keep their order.
+    pub fn withdraw(&mut self, t: Tid)
+        ensures { self.new ≡ without_spare t.0 self.old }
     {
-        self.threads.clear();
+        remove_spare(&mut self.threads, t);
     }
 }
 
@@ -134,13 +140,13 @@ pub fn take_back_at(spares: &mut [Spares], number: u32)
     }
 }
 
-/// All spares of a process leave.
+/// A thread is no spare of a process any more, if it was one.
 #[tactic(auto, using(crate::proofs::Places::numbered_here))]
-pub fn clear_spares_at(spares: &mut [Spares], number: u32)
-    ensures { spares.new ≡ change_at_number spares.old number no_spares }
+pub fn withdraw_spare_at(spares: &mut [Spares], number: u32, t: Tid)
+    ensures { spares.new ≡ change_at_number spares.old number (without_spare t.0) }
 {
     if let Some(place) = place_of(spares, number) {
         let of_process = &mut spares[place];
-        of_process.clear();
+        of_process.withdraw(t);
     }
 }
