@@ -1,9 +1,9 @@
 -- What an act and what follows it add to a state: a door and a call at most, and calls of few bytes and objects.
-use Rattle.std.proofs.Common.{◌≡◌, ℕ, suc, ◌+◌, ◌≤◌, ◌&&◌, ◌++◌, Bool, true, false, if◌then◌else◌, not, nat_lt, is_some, List, [], ◌∷◌, Option, Some, None, length, map, find, filter, refl, ap, ◌∙◌, subst, sym, arith, length-append, ◌||◌}
+use Rattle.std.proofs.Common.{◌≡◌, ℕ, suc, ◌+◌, ◌≤◌, ◌&&◌, ◌++◌, Bool, true, false, if◌then◌else◌, not, nat_lt, is_some, List, [], ◌∷◌, Option, Some, None, length, map, find, filter, refl, ap, ◌∙◌, subst, sym, arith, length-append, inl, inr, ◌||◌}
 use Rattle.std.specs.List.{cons_option}
 use Rattle.std.proofs.lemmas.Bool.{ltb-false, or_parts}
 use Rattle.std.proofs.lemmas.List.{length-map}
-use Rattle.written_kernel.specs.Types.{Attrs, Call, CallStage, Door, Errno, Fd, Item, Name, Obj, Parked, Pass, PathId, Process, Request, Thread, ThreadState, Waiting, Param}
+use Rattle.written_kernel.specs.Types.{Attrs, Call, CallStage, Door, Errno, Fd, Item, Name, Obj, Parked, Pass, PathId, Request, Thread, ThreadState, Waiting, Param}
 use Rattle.dk_base.specs.declared.error.Errno.TheVariants.{EBADF, E2BIG, EMFILE, ENFILE, ENOBUFS, ENOTSUP}
 use Rattle.dk_base.specs.declared.object.Item.TheVariants as item
 use Rattle.dk_base.specs.declared.request.Request.TheVariants as request
@@ -11,9 +11,11 @@ use Rattle.dk_base.specs.declared.answer.Answer.TheVariants as answer
 use Rattle.kernel_records.specs.declared.record.ThreadState.TheVariants as is
 use Rattle.kernel_records.specs.declared.record.CallStage.TheVariants as stage
 use Rattle.dk_base.specs.ByNumber.{at_number}
-use Rattle.kernel_records.specs.Words.{CallTree, ProcessTable, at_stage, change_first, change_thread, change_thread_in, end_process, ended_thread, ended_thread_of, first_refusal, idle_thread, insert_row, is_client_call_of, is_given_as, is_last, is_live_call, is_owned_by, is_queued, is_queued_as, is_to_collect_as, new_descriptors, object_passed, objects_passed, thread_at, thread_at_state, thread_in_invocation, tid, with_ended, with_ended_threads, without_arguments_at, Test, change_door, change_door_in, refused_where, with_param, has_refused_size, has_too_many, is_valid_in, refuses_descriptors_in}
-use Rattle.written_kernel.specs.Words.{ActResult, StandsFor, State, accept, accept_call, act, attach, await, await_name, begin_call, call, call_tests, client_call, collect, collect_answer, collect_answer_in, create, door_named, effect, ended_call, enter, exit, fail_begin, find_call, fail_return, give_one, go_on, has_lost_door, has_room, leave_process, leave_thread, name_of, new_call, no_act, now, object_at, objects_collected_in, open_path, pass_tests, pick, pool_of, process_of, refusal_of, refused_act, return, return_tests, settle, state_of, table_of, tables_after_collect, tables_after_pass, tables_with, unless_refused, with_state, close, dup, detach, set_parameter, door_at, door_of, pool_tests}
+use Rattle.kernel_records.specs.Words.{CallTree, ProcessTable, at_stage, change_first, change_thread, change_thread_in, first_refusal, idle_thread, insert_row, interruption, is_client_call_of, is_given_as, is_last, is_live_call, is_queued_as, is_to_collect_as, left_call, new_descriptors, object_passed, objects_passed, process_end, return_call, revocation, revoked_door, thread_at, thread_at_state, thread_end, thread_in_invocation, thread_outside, tid, unbind_thread, with_owner_ended, without_arguments_at, Leaving, Test, change_door, change_door_in, refused_where, with_param, has_refused_size, has_too_many, is_valid_in, refuses_descriptors_in}
+use Rattle.written_kernel.specs.Words.{ActResult, StandsFor, State, accept, accept_call, act, attach, await, await_name, begin_call, call, call_tests, client_call, collect, collect_answer, collect_answer_in, create, door_named, effect, enter, exit, fail_begin, find_call, fail_return, give_one, go_on, has_invalid_door, has_lost_door, has_room, is_live_process, kill, leave, leave_process, leave_thread, name_of, new_call, no_act, now, object_at, objects_collected_in, open_path, pass_tests, pick, pool_of, process_of, refusal_of, refused_act, return, return_parked, return_tests, return_unbound, revoke, settle, state_of, table_of, tables_after_collect, tables_after_pass, tables_with, unless_refused, with_state, close, dup, detach, set_parameter, door_at, door_of, pool_tests}
 use Rattle.written_kernel.proofs.Lists.{length-with_at_number}
+use Rattle.written_kernel.proofs.CallLists.{IsOver, left_call-over}
+use Rattle.written_kernel.proofs.Leaving.{calls-leave, threads-leave, threads_of-leave_process}
 use Rattle.written_kernel.proofs.Settling.{settle-all}
 use Rattle.kernel_core.specs.Within.{IsSmallStage, IsSmallCall, AreSmall, IsSmall}
 
@@ -48,13 +50,6 @@ length-change_thread table t change = go (thread_at table t)
     go : (o : Option Thread) → length (change_thread_in table t change o).threads ≡ length table.threads
     go None = refl
     go (Some x) = length-with_at_number table.threads t (change x)
-
-length-end_process : (table : ProcessTable) (p : ℕ) → length (end_process table p).threads ≡ length table.threads
-length-end_process table p = go (at_number table.processes p)
-  where
-    go : (o : Option Process) → length (with_ended (with_ended_threads table p) p o).threads ≡ length table.threads
-    go None = length-map table.threads (ended_thread_of p)
-    go (Some x) = length-map table.threads (ended_thread_of p)
 
 -- an act that changes one thread, and no door and no call
 thread-grows : (k : ℕ) (m : State) (t : ℕ) (change : Thread → Thread) → Grows k m (record m { process_table = change_thread m.process_table t change })
@@ -305,21 +300,41 @@ few_results m t p bytes pass e h =
     with_client true many f g = g
     with_client false many f g = cc
 
+-- a thread that returns, whatever becomes of its own record and binding
+returned-grows :
+    (m : State) (t p : ℕ) (bytes : List ℕ) (pass : List Pass) (turn : Thread → Thread) → first_refusal (return_tests m t p bytes pass) ≡ None →
+    Grows
+    1
+    m
+    (record m {
+      process_table = change_thread m.process_table t turn;
+      tables = tables_after_pass m p pass;
+      call_tree = return_call m.call_tree t bytes (objects_passed (table_of m p) pass);
+    })
+returned-grows m t p bytes pass turn e =
+    let returned = stage.Returned bytes (objects_passed (table_of m p) pass) in
+    call-grows m t turn (tables_after_pass m p pass) (is_client_call_of t) (without_arguments_at returned)
+    (change_found-small (is_client_call_of t) (without_arguments_at returned) m.call_tree.calls
+    (λ f r h.
+    let few = few_results m t p bytes pass e f in
+    without_arguments_at-small r returned (few.0, omega (arith, few.1, few_passed (table_of m p) pass))))
+
+bound_otherwise-grows : (k : ℕ) (m n : State) (bindings : List (Option ℕ)) → Grows k m n → Grows k m (record n { bindings = bindings })
+bound_otherwise-grows k m n bindings g =
+    record { threads = g.threads; calls = g.calls; doors = g.doors; calls_made = g.calls_made; events = g.events; small = g.small }
+
 return-tidy :
     (m : State) (t p : ℕ) (bytes : List ℕ) (pass : List Pass) → first_refusal (return_tests m t p bytes pass) ≡ None →
     IsTidy m (return m t p bytes pass)
-return-tidy m t p bytes pass e =
-    let objects = objects_passed (table_of m p) pass in
-    let returned = stage.Returned bytes objects in
-    record {
-      grows =
-          call-grows m t (idle_thread (now m)) (tables_after_pass m p pass) (is_client_call_of t) (without_arguments_at returned)
-          (change_found-small (is_client_call_of t) (without_arguments_at returned) m.call_tree.calls
-          (λ f r h.
-          let few = few_results m t p bytes pass e f in
-          without_arguments_at-small r returned (few.0, omega (arith, few.1, few_passed (table_of m p) pass))));
-      small = λ h. tt;
-    }
+return-tidy m t p bytes pass e = go (has_invalid_door m t)
+  where
+    go : (b : Bool) → IsTidy m (if b then return_unbound m t p bytes pass else return_parked m t p bytes pass)
+    go true =
+        record {
+          grows = bound_otherwise-grows 1 m _ (unbind_thread m.bindings t) (returned-grows m t p bytes pass thread_outside e);
+          small = λ h. tt;
+        }
+    go false = record { grows = returned-grows m t p bytes pass (idle_thread (now m)) e; small = λ h. tt }
 
 -- each object gets one descriptor
 length-new_descriptors : (table : List (Option Obj)) (objects : List Obj) → length (new_descriptors table objects) ≡ length objects
@@ -389,24 +404,63 @@ collect-tidy m t p c =
 
 -- leaving
 
-ended_call-small : (doors : List Door) (p : ℕ) (r : Call) → IsSmallCall r → IsSmallCall (ended_call doors p r)
-ended_call-small doors p r h =
-    elim (is_queued r.stage && is_owned_by p (at_number doors r.door)) as (λ b. IsSmallCall (if b then without_arguments_at (stage.Ended EBADF) r else r))
-    [ true ↦ without_arguments_at-small r (stage.Ended EBADF) tt | false ↦ h ]
+without_stage-small : (r : Call) (s : CallStage) → IsOver s → IsSmallStage s
+without_stage-small r s (inl e) = subst IsSmallStage (sym e) tt
+without_stage-small r s (inr (x, e)) = subst IsSmallStage (sym e) tt
 
-ended_calls-small : (doors : List Door) (p : ℕ) (rs : List Call) → AreSmall rs → AreSmall (map (ended_call doors p) rs)
-ended_calls-small doors p [] h = h
-ended_calls-small doors p (r ∷ rs) h = (ended_call-small doors p r h.0, ended_calls-small doors p rs h.1)
+left_call-small : (who : Leaving) (r : Call) → IsSmallCall r → IsSmallCall (left_call who r)
+left_call-small who r h =
+    left_call-over IsSmallCall who r h (λ s o. without_arguments_at-small r s (without_stage-small r s o))
+    (λ s o. let g = without_arguments_at-small r s (without_stage-small r s o) in record { arguments = g.arguments; objects = g.objects; results = g.results })
+
+left_calls-small : (who : Leaving) (rs : List Call) → AreSmall rs → AreSmall (map (left_call who) rs)
+left_calls-small who [] h = h
+left_calls-small who (r ∷ rs) h = (left_call-small who r h.0, left_calls-small who rs h.1)
+
+leave-grows : (m : State) (who : Leaving) → Grows 1 m (leave m who)
+leave-grows m who =
+    record {
+      threads = threads-leave m who;
+      calls = omega (arith, calls-leave m who);
+      doors = omega arith;
+      calls_made = omega arith;
+      events = refl;
+      small = left_calls-small who m.call_tree.calls;
+    }
 
 leave_process-grows : (m : State) (p : ℕ) → Grows 1 m (leave_process m p)
 leave_process-grows m p =
+    let g = leave-grows m (process_end m.process_table m.doors p) in
     record {
-      threads = length-end_process m.process_table p;
-      calls = omega (arith, length-map m.call_tree.calls (ended_call m.doors p));
-      doors = omega (arith, length-map m.doors (Rattle.kernel_records.specs.Doors.with_owner_ended p));
-      calls_made = omega arith;
+      threads = threads_of-leave_process m p;
+      calls = g.calls;
+      doors = omega (arith, length-map m.doors (with_owner_ended p));
+      calls_made = g.calls_made;
       events = refl;
-      small = ended_calls-small m.doors p m.call_tree.calls;
+      small = g.small;
+    }
+
+kill-tidy : (m : State) (p : ℕ) → IsTidy m (kill m p)
+kill-tidy m p = record { grows = go (is_live_process m p); small = λ h. tt }
+  where
+    go : (b : Bool) → Grows 1 m (if b then leave_process m p else m)
+    go true = leave_process-grows m p
+    go false = grows_same 1 m
+
+revoke-tidy : (m : State) (p : ℕ) (fd : Fd) → IsTidy m (revoke m p fd)
+revoke-tidy m p fd =
+    let g = leave-grows m (revocation (door_at m p fd)) in
+    record {
+      grows =
+          record {
+            threads = g.threads;
+            calls = g.calls;
+            doors = omega (arith, length-change_door m.doors (door_at m p fd) revoked_door);
+            calls_made = g.calls_made;
+            events = refl;
+            small = g.small;
+          };
+      small = λ h. tt;
     }
 
 exit-tidy : (m : State) (t p : ℕ) → IsTidy m (exit m t p)
@@ -414,7 +468,7 @@ exit-tidy m t p = record { grows = go (is_last m.process_table t p); small = λ 
   where
     go : (b : Bool) → Grows 1 m (if b then leave_process m p else leave_thread m t)
     go true = leave_process-grows m p
-    go false = thread-grows 1 m t ended_thread
+    go false = leave-grows m (thread_end t)
 
 -- any act
 
@@ -427,6 +481,9 @@ effect-tidy : (m : State) (t p : ℕ) (r : Request) → refusal_of m t p r ≡ N
 effect-tidy m t p (request.Create entry cookie attrs) e = create-tidy m p entry cookie attrs
 effect-tidy m t p (request.Call fd bytes pass rsize) e = call-tidy m t p fd bytes pass rsize (few_arguments m p fd bytes pass e)
 effect-tidy m t p (request.Return bytes pass) e = return-tidy m t p bytes pass e
+effect-tidy m t p (request.Revoke fd) e = revoke-tidy m p fd
+effect-tidy m t p (request.Interrupt thread) e = record { grows = leave-grows m (interruption thread.0); small = λ h. tt }
+effect-tidy m t p (request.Kill process) e = kill-tidy m process.0
 effect-tidy m t p (request.SetParam fd param value) e = set_parameter-tidy m p fd param value
 effect-tidy m t p (request.Close fd) e = close-tidy m p fd
 effect-tidy m t p (request.Dup fd) e = dup-tidy m p fd
@@ -450,6 +507,7 @@ pub go_on-tidy : (m : State) (t p : ℕ) (s : ThreadState) → IsTidy m (go_on m
 go_on-tidy m t p (is.Given i) = accept-tidy m t p i
 go_on-tidy m t p (is.Calling c) = collect-tidy m t p c
 go_on-tidy m t p (is.Awaiting path) = record { grows = thread-grows 1 m t (thread_at_state is.Running); small = λ h. tt }
+go_on-tidy m t p is.FailedReturn = record { grows = thread-grows 1 m t (thread_at_state is.Running); small = λ h. tt }
 go_on-tidy m t p (is.Working op input) = record { grows = thread-grows 1 m t (thread_at_state is.Running); small = λ h. omega arith }
 go_on-tidy m t p _ = no_act-tidy m
 

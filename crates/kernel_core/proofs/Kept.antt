@@ -13,7 +13,7 @@ use Rattle.written_kernel.proofs.Lists.{numbered_there}
 use Rattle.written_kernel.proofs.Opening.{IsDeclaredIn, forget-opening, opened, opening_threads}
 use Rattle.written_kernel.proofs.Steps.{events-step}
 use Rattle.kernel_invariant.specs.Core.{number_in}
-use Rattle.kernel_invariant.specs.Events.{Keeps}
+use Rattle.kernel_invariant.specs.Events.{Keeps, may_lose_door}
 use Rattle.kernel_invariant.specs.Invariant.{IsConsistent, IsInOrder}
 use Rattle.kernel_invariant.specs.Records.{has_number, owner_in}
 use Rattle.kernel_store.specs.Words.{ArePlaced}
@@ -30,7 +30,7 @@ use Rattle.kernel_core.specs.Woken.{IsCurrent, runnables}
 -- a turn of what is kept is a turn of what it stands for
 may_stands : (m : State) (t : ℕ) (q : Option Request) → MayTurn (forget m) t q → MayTurn m t q
 may_stands m t (Some r) may =
-    record { running = may.running; fit = may.fit; built = may.built; inside = may.inside; few = may.few }
+    record { running = may.running; fit = may.fit; built = may.built; few = may.few }
 may_stands m t None may =
     record { runnable = sym (is_runnable-forget m t) ∙ may.runnable; waits = may.waits; few = may.few }
 
@@ -104,16 +104,23 @@ none_idle-of_forget m h = subst (λ ws. All (λ w. pick m (pool_of m w.door) ≡
 
 -- no thread of a state that a kernel stands for is idle and bound to an invalid door
 lost_stands : (kept m : State) (u : ℕ) → IsKept kept → StandsFor kept m → has_lost_door m u ≡ false
-lost_stands kept m u k h = ap (λ n. has_lost_door n u) (sym h ∙ k.stands) ∙ no_lost_door k.written k.invariant.consistent u
+lost_stands kept m u k h = ap (λ n. has_lost_door n u) (sym h ∙ k.stands) ∙ no_lost_door k.written k.invariant u
 
--- the same after the act of a turn
+-- the same after the act of a turn that takes no door from an idle thread
+
+may_lose-forget : (m : State) (t : ℕ) (q : Option Request) → may_lose_door (forget m) t q ≡ may_lose_door m t q
+may_lose-forget m t None = refl
+may_lose-forget m t (Some r) = refl
+
 pub none_lost :
-    (kept m : State) (t : ℕ) (q : Option Request) → kept ≡ m → IsKept kept → MayTurn m t q → (u : ℕ) → has_lost_door (act kept t q).state u ≡ false
-none_lost kept m t q same k may u =
+    (kept m : State) (t : ℕ) (q : Option Request) → kept ≡ m → IsKept kept → MayTurn m t q → may_lose_door kept t q ≡ false → (u : ℕ) →
+    has_lost_door (act kept t q).state u ≡ false
+none_lost kept m t q same k may stays u =
     let w = may_stands k.written t q (subst (λ n. MayTurn n t q) k.stands (subst (λ n. MayTurn n t q) (sym same) may)) in
     ap (λ n. has_lost_door (act n t q).state u) k.stands
     ∙ ap (λ n. has_lost_door n u) (act-forget k.written t q).state
-    ∙ (step_keeps k.written t q k.invariant w).none_lost u
+    ∙ (step_keeps k.written t q k.invariant w).none_lost
+    (sym (may_lose-forget k.written t q) ∙ ap (λ n. may_lose_door n t q) (sym k.stands) ∙ stays) u
 
 -- a refused entry of each state that a kernel stands for
 pub refused_stands :

@@ -1,14 +1,13 @@
 -- A kernel keeps live calls alone: acts and giving leave live calls live, and a call that is answered leaves the list.
-use Rattle.std.proofs.Common.{◌≡◌, ℕ, suc, ◌+◌, ◌<◌, ◌++◌, ◌&&◌, Bool, true, false, not, cond, if◌then◌else◌, List, [], ◌∷◌, Option, Some, None, filter, length, map, remove, refl, sym, subst, ap, ◌∙◌, arith, position}
-use Rattle.written_kernel.specs.Types.{Call, Door, Errno, Item, Name, Parked, PathId, Request, ThreadState, Waiting}
-use Rattle.dk_base.specs.declared.error.Errno.TheVariants.{EBADF}
+use Rattle.std.proofs.Common.{◌≡◌, ℕ, suc, ◌+◌, ◌<◌, ◌++◌, ◌&&◌, Bool, true, false, not, cond, if◌then◌else◌, List, [], ◌∷◌, Option, Some, None, filter, length, map, remove, refl, sym, subst, ap, ◌∙◌, arith, position, true≢false}
+use Rattle.written_kernel.specs.Types.{Call, Errno, Item, Name, Parked, Pass, PathId, Request, ThreadState, Waiting}
 use Rattle.dk_base.specs.declared.object.Item.TheVariants as item
 use Rattle.dk_base.specs.declared.request.Request.TheVariants as request
 use Rattle.kernel_records.specs.declared.record.ThreadState.TheVariants as is
 use Rattle.kernel_records.specs.declared.record.CallStage.TheVariants as stage
-use Rattle.dk_base.specs.ByNumber.{at_number}
-use Rattle.kernel_records.specs.Words.{at_stage, change_first, is_client_call_of, is_given_as, is_last, is_live_call, is_owned_by, is_queued, is_queued_as, is_to_collect_as, tid, without_arguments_at}
-use Rattle.written_kernel.specs.Words.{State, StandsFor, accept, accept_call, await, await_name, begin_call, effect, ended_call, enter, exit, fail_begin, find_call, forget, give_each, give_one, give_to, go_on, has_room, leave_process, leave_thread, name_of, pick, pool_of, refusal_of, settle, unless_refused, waiting_items}
+use Rattle.kernel_records.specs.Words.{at_stage, change_first, is_client_call_of, is_given_as, is_live_call, is_queued_as, is_to_collect_as, objects_passed, tid, without_arguments_at}
+use Rattle.written_kernel.specs.Words.{State, StandsFor, accept, accept_call, await, await_name, begin_call, effect, enter, fail_begin, find_call, forget, give_each, give_one, give_to, go_on, has_invalid_door, has_room, name_of, pick, pool_of, refusal_of, return, return_parked, return_unbound, settle, table_of, unless_refused, waiting_items}
+use Rattle.kernel_invariant.specs.Events.{is_leaving}
 use Rattle.call_tree.specs.Words.{AreLive}
 use Rattle.kernel_core.specs.Kept.{HasLiveCalls}
 use Rattle.written_kernel.proofs.Settling.{settle-all}
@@ -42,17 +41,6 @@ pushed_live : (rs : List Call) (r : Call) → is_live_call r ≡ true → AreLiv
 pushed_live [] r e h = (e, tt)
 pushed_live (x ∷ rs) r e h = (h.0, pushed_live rs r e h.1)
 
-ended_live : (doors : List Door) (p : ℕ) (r : Call) → is_live_call r ≡ true → is_live_call (ended_call doors p r) ≡ true
-ended_live doors p r e = go (is_queued r.stage && is_owned_by p (at_number doors r.door))
-  where
-    go : (b : Bool) → is_live_call (if b then without_arguments_at (stage.Ended EBADF) r else r) ≡ true
-    go true = refl
-    go false = e
-
-all_ended_live : (doors : List Door) (p : ℕ) (rs : List Call) → AreLive rs → AreLive (map (ended_call doors p) rs)
-all_ended_live doors p [] h = tt
-all_ended_live doors p (r ∷ rs) h = (ended_live doors p r h.0, all_ended_live doors p rs h.1)
-
 -- states
 
 pub live_state : (m : State) → HasLiveCalls m → forget m ≡ m
@@ -68,7 +56,17 @@ stands_live kept m e = subst HasLiveCalls (sym e) (live_forget m)
 pub is_kept : (n m : State) → HasLiveCalls m → n ≡ m → StandsFor n m
 is_kept n m h e = e ∙ sym (live_state m h)
 
--- acts: no entry forgets a call
+-- acts
+
+return_live : (m : State) (t p : ℕ) (bytes : List ℕ) (pass : List Pass) → HasLiveCalls m → HasLiveCalls (return m t p bytes pass).state
+return_live m t p bytes pass h = go (has_invalid_door m t)
+  where
+    calls : AreLive (change_first (is_client_call_of t) (without_arguments_at (stage.Returned bytes (objects_passed (table_of m p) pass))) m.call_tree.calls)
+    calls = changed_live (is_client_call_of t) _ m.call_tree.calls (λ r. refl) h
+
+    go : (b : Bool) → HasLiveCalls (if b then return_unbound m t p bytes pass else return_parked m t p bytes pass).state
+    go true = calls
+    go false = calls
 
 await_live : (m : State) (t : ℕ) (path : PathId) → HasLiveCalls m → HasLiveCalls (await m t path).state
 await_live m t path h = go (name_of m path)
@@ -77,26 +75,24 @@ await_live m t path h = go (name_of m path)
     go None = h
     go (Some n) = h
 
-exit_live : (m : State) (t p : ℕ) → HasLiveCalls m → HasLiveCalls (exit m t p).state
-exit_live m t p h = go (is_last m.process_table t p)
-  where
-    go : (b : Bool) → HasLiveCalls (if b then leave_process m p else leave_thread m t)
-    go true = all_ended_live m.doors p m.call_tree.calls h
-    go false = h
+-- none by which no caller, thread or door leaves
+pub effect_live : (m : State) (t p : ℕ) (r : Request) → is_leaving r ≡ false → HasLiveCalls m → HasLiveCalls (effect m t p r).state
+effect_live m t p (request.Call fd bytes pass rsize) e h = pushed_live m.call_tree.calls _ refl h
+effect_live m t p (request.Return bytes pass) e h = return_live m t p bytes pass h
+effect_live m t p (request.Await path) e h = await_live m t path h
+effect_live m t p (request.Revoke fd) e h = absurd (true≢false e)
+effect_live m t p (request.Interrupt thread) e h = absurd (true≢false e)
+effect_live m t p (request.Kill process) e h = absurd (true≢false e)
+effect_live m t p request.Exit e h = absurd (true≢false e)
+effect_live m t p _ e h = h
 
-effect_live : (m : State) (t p : ℕ) (r : Request) → HasLiveCalls m → HasLiveCalls (effect m t p r).state
-effect_live m t p (request.Call fd bytes pass rsize) h = pushed_live m.call_tree.calls _ refl h
-effect_live m t p (request.Return bytes pass) h = changed_live (is_client_call_of t) _ m.call_tree.calls (λ r. refl) h
-effect_live m t p (request.Await path) h = await_live m t path h
-effect_live m t p request.Exit h = exit_live m t p h
-effect_live m t p _ h = h
-
-pub enter_live : (m : State) (t p : ℕ) (r : Request) → HasLiveCalls m → HasLiveCalls (enter m t p r).state
-enter_live m t p r h = go (refusal_of m t p r)
+-- the same of an entry, whether it is refused or not
+pub enter_live : (m : State) (t p : ℕ) (r : Request) → is_leaving r ≡ false → HasLiveCalls m → HasLiveCalls (enter m t p r).state
+enter_live m t p r e h = go (refusal_of m t p r)
   where
     go : (o : Option Errno) → HasLiveCalls (unless_refused m o (effect m t p r)).state
-    go (Some e) = h
-    go None = effect_live m t p r h
+    go (Some x) = h
+    go None = effect_live m t p r e h
 
 accept_live : (m : State) (t p : ℕ) (i : Item) → HasLiveCalls m → HasLiveCalls (accept m t p i).state
 accept_live m t p (item.Call c) h = go (find_call m (is_given_as c t))

@@ -1,5 +1,5 @@
 -- What a step keeps within.
-use Rattle.std.proofs.Common.{◌≡◌, ℕ, ◌<◌, ◌&&◌, not, length, List, [], ◌∷◌, Option, None, refl, Result, Ok, Err, IfOk, OnErr, subst, sym, ap, ◌∙◌, arith}
+use Rattle.std.proofs.Common.{◌≡◌, ℕ, ◌<◌, ◌&&◌, true, false, true≢false, not, length, List, [], ◌∷◌, Option, None, refl, Result, Ok, Err, IfOk, OnErr, subst, sym, ap, ◌∙◌, arith}
 use Rattle.written_kernel.specs.Types.{Item, NoMemory, Request, Stepped, Tid}
 use Rattle.dk_base.specs.Words.{RoomValue}
 use Rattle.kernel_core.specs.declared.event.Parts.{Parts}
@@ -8,17 +8,22 @@ use Rattle.kernel_store.specs.Words.{stored_state}
 use Rattle.kernel_core.specs.Woken.{HasListRoom, IsCurrent, IsReady, IsReadyToSettle}
 use Rattle.kernel_core.proofs.Readers.{length_runnables}
 use Rattle.dk_base.specs.declared.object.Item.TheVariants as item
+use Rattle.dk_base.specs.declared.request.Request.TheVariants as request
 use Rattle.kernel_records.specs.Words.{has_common_door, is_live_call}
+use Rattle.kernel_invariant.specs.Events.{is_leaving}
+use Rattle.written_kernel.proofs.Failing.{doors-fail_returns}
 use Rattle.pool_agreement.specs.Words.{first_common_of, is_this}
 use Rattle.pool_agreement.proofs.Settling.{first_common, no_first_common}
-use Rattle.written_kernel.specs.Words.{IsStep, StandsFor, State, act, enter, forget, give, give_one, go_on, has_first_common_door, no_process, process_of, settle, state_of, step, with_event_counted, with_new_process, with_processes, woken_threads}
+use Rattle.written_kernel.specs.Words.{IsStep, StandsFor, State, act, enter, fail_returns, forget, give, give_one, go_on, has_first_common_door, no_process, process_of, settle, state_of, step, with_event_counted, with_new_process, with_processes, woken_threads}
 use Rattle.kernel_core.specs.Kept.{HasLiveCalls}
 use Rattle.kernel_core.specs.Numbers.{HasNumbersLeft}
 use Rattle.kernel_core.specs.Within.{IsWithin, IsSmall}
+use Rattle.written_kernel.proofs.Lists.{same_length}
 use Rattle.written_kernel.proofs.Settling.{give-all}
+use Rattle.written_kernel.proofs.Steps.{act-keeps, process_identity}
 use Rattle.written_kernel.proofs.Forget.{IsStep-stands_for, forget-forget, settle-forget, woken_threads-forget}
 use Rattle.kernel_core.proofs.Live.{live_state, settle_live}
-use Rattle.kernel_core.proofs.Grows.{Grows, act-tidy, settle-grows, filter-small}
+use Rattle.kernel_core.proofs.Grows.{Grows, act-tidy, filter-small, grows_kept, settle-grows}
 
 pub step-within : (m : State) (t : ℕ) (r : Option Request) → IsWithin m → m.events < 1000000 → IsWithin (forget (step m t r).state)
 unfolding step
@@ -105,17 +110,40 @@ pub settled_kept :
     n ≡ forget (with_event_counted (settle before m))
 settled_kept before m n h e = e ∙ ap with_event_counted (sym (live_state (settle before m) (settle_live before m h)))
 
--- what was taken before an event suffices after its act
+-- what was taken before an event suffices after its act and what follows it
 pub ready_after :
-    (p : Parts) (s : StoreValue) (woken : RoomValue Tid) → IsReady p woken → Grows 1 (stored_state p.store) (stored_state s) →
-    IsCurrent p.runnable (stored_state p.store) →
+    (p : Parts) (s : StoreValue) (woken : RoomValue Tid) → IsReady p woken →
+    length s.processes.threads ≡ length p.store.processes.threads → IsCurrent p.runnable (stored_state p.store) →
     IsReadyToSettle (record { store = s; runnable = p.runnable }) woken
 ready_after p s woken h g k =
     record {
       woken = h.woken;
-      woken_room = omega (arith, h.woken_room, g.threads);
-      listed = ap length k.items ∙ length_runnables (stored_state p.store) (length p.store.processes.threads) ∙ sym g.threads;
-      room = subst (HasListRoom p.runnable) (sym g.threads) k.room;
+      woken_room = omega (arith, h.woken_room, g);
+      listed = ap length k.items ∙ length_runnables (stored_state p.store) (length p.store.processes.threads) ∙ sym g;
+      room = subst (HasListRoom p.runnable) (sym g) k.room;
+    }
+
+-- an act leaves as many processes as before
+pub processes_after :
+    (m n : State) (t : ℕ) (r : Option Request) → StandsFor n (act m t r).state →
+    length n.process_table.processes ≡ length m.process_table.processes
+processes_after m n t r h =
+    ap (λ (k : State). length k.process_table.processes) h
+    ∙ same_length process_identity (act m t r).state.process_table.processes m.process_table.processes (act-keeps m t r).processes
+
+-- as many threads and events as before, until this event is counted
+pub record IsSettled (m s : State) : Type 0 where
+  pub threads : length s.process_table.threads ≡ length m.process_table.threads
+  pub events : s.events ≡ m.events
+
+pub settled_after :
+    (m n s : State) (t : ℕ) (r : Option Request) → StandsFor n (act m t r).state → s ≡ settle m n → IsSettled m s
+settled_after m n s t r h e =
+    let g : Grows 1 m n = grows_kept 1 m (act m t r).state n (act-tidy m t r).grows h in
+    let f : Grows 0 n (settle m n) = settle-grows m n in
+    record {
+      threads = ap (λ (k : State). length k.process_table.threads) e ∙ f.threads ∙ g.threads;
+      events = ap (λ (k : State). k.events) e ∙ f.events ∙ g.events;
     }
 
 -- whether an act made a first common door is seen of what is kept
@@ -143,3 +171,29 @@ pub first_gone_on :
     (p : ℕ) → has_first_common_door m (give n) p ≡ is_this p None
 first_gone_on m n t h =
     λ p. first_kept m n (go_on m t (process_of m t) (state_of m t)).state p h ∙ no_first_common m t (state_of m t) p
+
+-- where no thread's door is lost nothing fails before the giving, and an act of leaving makes no door
+
+doors-given : (m : State) → (give (fail_returns m)).doors ≡ m.doors
+doors-given m = doors-give (fail_returns m) ∙ doors-fail_returns m
+
+none_first_left : (m : State) (t : ℕ) (r : Request) → is_leaving r ≡ true → first_common_of m t r ≡ None
+none_first_left m t (request.Create entry cookie attrs) l = absurd (true≢false (sym l))
+none_first_left m t r l = refl
+
+first_given : (before m : State) (p : ℕ) → has_first_common_door before (give (fail_returns m)) p ≡ has_first_common_door before (give m) p
+first_given before m p =
+    ap (λ doors. not (has_common_door before.doors p) && has_common_door doors p) (doors-given m ∙ sym (doors-give m))
+
+pub no_first_left :
+    (m n : State) (t : ℕ) (r : Request) → is_leaving r ≡ true → StandsFor n (enter m t (process_of m t) r).state →
+    (p : ℕ) → has_first_common_door m (give (fail_returns n)) p ≡ false
+no_first_left m n t r l h p =
+    first_given m n p
+    ∙ first_entered m n t r (first_common_of m t r) h refl p
+    ∙ ap (is_this p) (none_first_left m t r l)
+
+pub no_first_gone_on :
+    (m n : State) (t : ℕ) → StandsFor n (go_on m t (process_of m t) (state_of m t)).state →
+    (p : ℕ) → has_first_common_door m (give (fail_returns n)) p ≡ false
+no_first_gone_on m n t h p = first_given m n p ∙ first_gone_on m n t h p

@@ -4,8 +4,7 @@ use Rattle.dk_base.specs.declared.number.Tid.{Tid}
 use Rattle.dk_base.specs.Words.{RoomValue}
 use Rattle.kernel_core.specs.declared.event.Parts.{Parts}
 use Rattle.kernel_core.specs.declared.runnable.Runnable.{Runnable}
-use Rattle.written_kernel.specs.Words.{State, give, has_first_common_door, is_runnable}
-use Rattle.pool_agreement.specs.Words.{is_this}
+use Rattle.written_kernel.specs.Words.{State, is_runnable}
 
 -- of each of the threads 1 to n whether it can take a turn
 abbrev pub runnables : State → ℕ → List Bool
@@ -34,7 +33,7 @@ pub record IsReadyToSettle (parts : Parts) (list : RoomValue Tid) : Type 0 where
   pub listed : length parts.runnable.list.items ≡ length parts.store.processes.threads
   pub room : HasListRoom parts.runnable (length parts.store.processes.threads)
 
--- There is a state before an act from which this process, or none, got its first common door by the act.
-pub record IsFirstCommon (acted : State) (first : Option ℕ) : Type 0 where
-  pub before : State
-  pub known : (p : ℕ) → has_first_common_door before (give acted) p ≡ is_this p first
+-- there is room for a flag of each process
+pub record HasFlags (parts : Parts) (list : RoomValue Bool) : Type 0 where
+  pub none : list.items ≡ []
+  pub room : length parts.store.processes.processes ≤ list.spare

@@ -6,7 +6,8 @@ ghost use Rattle.kernel_core.specs.Handed.{count_passed, objects_at_end};
 ghost use Rattle.kernel_core.specs.Kept.{HasLiveCalls};
 ghost use Rattle.kernel_core.specs.Numbers.{HasNumbersLeft};
 ghost use Rattle.pool_agreement.specs.Words.{IsGivenOut, IsGivenOutBut, own_pool, pool_of_request};
-ghost use Rattle.kernel_store.specs.Words.{ArePlaced, HasRoom, stored_state};
+ghost use Rattle.kernel_invariant.specs.Events.{is_leaving};
+ghost use Rattle.kernel_store.specs.Words.{ArePlaced, HasRoom, HasRoomToLeave, stored_state};
 
 use crate::binding::{bind, bind_refusal, bound_refusal, information_of_bound, unbind};
 use crate::descriptors::{
@@ -20,7 +21,7 @@ use crate::information::{
     credentials, credentials_refusal, door_refusal, information, parameter, set_parameter,
     set_parameter_refusal,
 };
-use crate::leaving::exit;
+use crate::leaving::{exit, interrupt, kill, revoke, revoke_refusal, test_cancel, wake};
 use dk_base::answer::Answer;
 use dk_base::error::Errno;
 use dk_base::list::{Bytes, Room};
@@ -44,6 +45,7 @@ fn refusal_of(store: &Store, t: Tid, p: Pid, request: &Request) -> Option<Errno>
             ..
         } => call_refusal(store, p, *door, bytes, pass),
         Request::Return { bytes, pass } => return_refusal(store, t, p, bytes, pass),
+        Request::Revoke { fd } => revoke_refusal(store, p, *fd),
         Request::Bind { fd } => bind_refusal(store, p, *fd),
         Request::Unbind => bound_refusal(store, t),
         Request::Info { fd } => door_refusal(store, p, *fd),
@@ -73,8 +75,9 @@ pub fn count_passed(request: &Request) -> usize
     }
 }
 
-/// What an entry of a thread that runs does where it is not refused. What is passed goes into `objects`.
-fn effect(
+/// What an entry of a thread that runs does where it is not refused, and no caller, thread or door leaves. What is passed goes
+/// into `objects`.
+fn staying_effect(
     store: &mut Store,
     alloc: Global,
     t: Tid,
@@ -89,6 +92,7 @@ fn effect(
     requires running { is_running (stored_state store.old) t.0 ≡ true }
     requires own { p.0 ≡ process_of (stored_state store.old) t.0 }
     requires allowed { refusal_of (stored_state store.old) t.0 p.0 request ≡ None }
+    requires stays { is_leaving request ≡ false }
     requires empty { objects.items ≡ [] }
     requires spare { count_passed request ≤ objects.spare }
     ensures state { stored_state store.new ≡ (effect (stored_state store.old) t.0 p.0 request).state }
@@ -118,15 +122,79 @@ fn effect(
         Request::GetParam { fd, param } => parameter(store, p, fd, param),
         Request::SetParam { fd, param, value } => set_parameter(store, p, fd, param, value),
         Request::Cred => credentials(store, t),
+        Request::TestCancel => test_cancel(store, t),
         Request::Close { fd } => close(store, p, fd),
         Request::Dup { fd } => dup(store, p, fd),
         Request::Attach { fd, path } => attach(store, p, fd, path),
         Request::Detach { path } => detach(store, path),
         Request::Open { path } => open_path(store, p, path),
         Request::Await { path } => await_path(store, t, path),
+        _ => Answer::Done,
+    }
+}
+
+/// What an entry does by which callers, threads or doors leave, where it is not refused.
+fn leaving_effect(store: &mut Store, alloc: Global, t: Tid, p: Pid, request: Request) -> Answer
+    requires leaves { is_leaving request ≡ true }
+    requires numbers { HasNumbersLeft (stored_state store.old) }
+    requires live { HasLiveCalls (stored_state store.old) }
+    requires room { HasRoomToLeave store.old }
+    requires placed { ArePlaced (stored_state store.old) }
+    requires first { store.old.latest ≤ store.old.events }
+    requires allowed { refusal_of (stored_state store.old) t.0 p.0 request ≡ None }
+    ensures state { StandsFor (stored_state store.new) (effect (stored_state store.old) t.0 p.0 request).state }
+    ensures answer { result ≡ (effect (stored_state store.old) t.0 p.0 request).answer }
+    ensures latest { store.new.latest ≤ now (stored_state store.old) }
+{
+    match request {
+        Request::Revoke { fd } => revoke(store, alloc, p, fd),
+        Request::Interrupt { thread } => interrupt(store, alloc, thread),
+        Request::Kill { process } => kill(store, alloc, process),
         Request::Exit => exit(store, alloc, t, p),
         _ => Answer::Done,
     }
+}
+
+/// What an entry of a thread that runs does where it is not refused. What is passed goes into `objects`.
+fn effect(
+    store: &mut Store,
+    alloc: Global,
+    t: Tid,
+    p: Pid,
+    request: Request,
+    objects: Room<Obj>,
+) -> Answer
+    requires numbers { HasNumbersLeft (stored_state store.old) }
+    requires room { HasRoom store.old (pool_of_request (stored_state store.old) t.0 request) }
+    requires leaving_room { is_leaving request ≡ true → HasRoomToLeave store.old }
+    requires placed { ArePlaced (stored_state store.old) }
+    requires first { store.old.latest ≤ store.old.events }
+    requires live { HasLiveCalls (stored_state store.old) }
+    requires running { is_running (stored_state store.old) t.0 ≡ true }
+    requires own { p.0 ≡ process_of (stored_state store.old) t.0 }
+    requires allowed { refusal_of (stored_state store.old) t.0 p.0 request ≡ None }
+    requires empty { objects.items ≡ [] }
+    requires spare { count_passed request ≤ objects.spare }
+    ensures state { StandsFor (stored_state store.new) (effect (stored_state store.old) t.0 p.0 request).state }
+    ensures answer { result ≡ (effect (stored_state store.old) t.0 p.0 request).answer }
+    ensures given_out { is_leaving request ≡ false → IsGivenOut store.old.pools → IsGivenOutBut (pool_of_request (stored_state store.old) t.0 request) store.new.pools }
+    ensures latest { store.new.latest ≤ now (stored_state store.old) }
+{
+    if is_leaving(&request) {
+        leaving_effect(store, alloc, t, p, request)
+    } else {
+        staying_effect(store, alloc, t, p, request, objects)
+    }
+}
+
+/// Whether callers, threads or doors leave by an entry.
+pub fn is_leaving(request: &Request) -> bool
+    ensures { result ≡ is_leaving request.now }
+{
+    matches!(
+        request,
+        Request::Revoke { .. } | Request::Interrupt { .. } | Request::Kill { .. } | Request::Exit
+    )
 }
 
 /// A kernel entry of a thread that runs. What it passes goes into `objects`.
@@ -142,12 +210,13 @@ pub fn enter(
     requires placed { ArePlaced (stored_state store.old) }
     requires first { store.old.latest ≤ store.old.events }
     requires live { HasLiveCalls (stored_state store.old) }
+    requires leaving_room { is_leaving request ≡ true → HasRoomToLeave store.old }
     requires running { is_running (stored_state store.old) t.0 ≡ true }
     requires empty { objects.items ≡ [] }
     requires spare { count_passed request ≤ objects.spare }
     ensures state { StandsFor (stored_state store.new) (enter (stored_state store.old) t.0 (process_of (stored_state store.old) t.0) request).state }
     ensures answer { result ≡ (enter (stored_state store.old) t.0 (process_of (stored_state store.old) t.0) request).answer }
-    ensures given_out { IsGivenOut store.old.pools → IsGivenOutBut (pool_of_request (stored_state store.old) t.0 request) store.new.pools }
+    ensures given_out { is_leaving request ≡ false → IsGivenOut store.old.pools → IsGivenOutBut (pool_of_request (stored_state store.old) t.0 request) store.new.pools }
     ensures latest { store.new.latest ≤ now (stored_state store.old) }
 {
     let p = store.processes().process_of(t);
@@ -199,6 +268,7 @@ pub fn go_on(store: &mut Store, alloc: Global, t: Tid, fds: Room<Fd>) -> Answer
         }
         ThreadState::Awaiting { .. } => found(store, t),
         ThreadState::Working { .. } => end_work(store, alloc, t),
+        ThreadState::FailedReturn => wake(store, t),
         _ => Answer::Done,
     }
 }

@@ -194,10 +194,15 @@ pub fn return_from(
     ensures state { stored_state store.new ≡ (return (stored_state store.old) t.0 p.0 bytes pass.now).state }
     ensures answer { result ≡ (return (stored_state store.old) t.0 p.0 bytes pass.now).answer }
     ensures given_out { IsGivenOut store.old.pools → IsGivenOutBut (own_pool (stored_state store.old) t.0) store.new.pools }
-    ensures latest { store.new.latest ≡ now (stored_state store.old) }
+    ensures latest { store.new.latest ≤ now (stored_state store.old) }
 {
     store.take_out(p, pass, &mut objects);
-    store.return_call(alloc, t, bytes, objects.into_list());
+    let objects = objects.into_list();
+    if store.has_invalid_door(t) {
+        store.return_unbound(alloc, t, bytes, objects);
+        return Answer::Failure(Errno::EINVAL);
+    }
+    store.return_call(alloc, t, bytes, objects);
     Answer::Wait
 }
 

@@ -2,14 +2,15 @@
 ghost use Rattle.std.specs.Prelude.{◌≡◌, ℕ, ◌+◌, ◌<◌, ◌≤◌, false, length, true, Some, None, IfOk, OnOk, OnErr};
 ghost use Rattle.std.specs.Option.{option_map};
 ghost use Rattle.dk_base.specs.declared.limits.TheConstants.{EVENTS_MAX, THREADS_MAX};
-ghost use Rattle.written_kernel.specs.Words.{IsStep, State, act, forget, give, has_first_common_door, has_lost_door, is_live_process, is_running, settle, step, with_event_counted, with_new_thread, woken_threads};
+ghost use Rattle.written_kernel.specs.Words.{IsStep, State, act, has_invalid_door, has_lost_door, is_live_process, is_running, step, with_event_counted, with_new_thread, woken_threads};
 ghost use Rattle.kernel_core.specs.Kept.{HasLiveCalls};
 ghost use Rattle.kernel_core.specs.Numbers.{HasNumbersLeft};
-ghost use Rattle.pool_agreement.specs.Words.{IsGivenOut, IsGivenOutBut, first_common_of, is_this, makes_first_common, pool_of_request};
+ghost use Rattle.kernel_invariant.specs.Events.{is_leaving};
+ghost use Rattle.pool_agreement.specs.Words.{IsGivenOut, first_common_of, makes_first_common, pool_of_request};
 ghost use Rattle.kernel_store.specs.Words.{ArePlaced, HasRoom, stored_state};
-ghost use Rattle.kernel_core.specs.Woken.{IsCurrent, IsFirstCommon, IsReady, IsReadyToSettle};
+ghost use Rattle.kernel_core.specs.Woken.{HasFlags, IsCurrent, IsReady, IsReadyToSettle};
 
-use crate::acts::{count_passed, enter, go_on};
+use crate::acts::{count_passed, enter, go_on, is_leaving};
 use crate::descriptors::door_named;
 use crate::doors::{count_at_end, create_refusal};
 use crate::runnable::Runnable;
@@ -102,30 +103,24 @@ impl Parts {
         Room::with_room(alloc, self.store.processes().thread_count() as usize)
     }
 
-    /// What follows an act that touched this pool. `first` is the process whose first common door the act made.
-    #[tactic(auto, using(crate::proofs::Grows::events_settle, crate::proofs::Grows::threads_settle))]
-    fn finish(
-        &mut self,
-        mut woken: Room<Tid>,
-        answer: Answer,
-        touched: Pool,
-        first: Option<Pid>,
-    ) -> Stepped
-        requires live { HasLiveCalls (stored_state self.old.store) }
+    /// Room for a flag of each process.
+    fn reserve_flags(&self, alloc: Global) -> Result<Room<bool>, NoMemory>
+        ensures { IfOk result (λ had. HasFlags self.now had) }
+    {
+        Room::with_room(alloc, self.store.processes().process_count() as usize)
+    }
+
+    /// The event is counted once all that follows its act is done, and who can take a turn is listed anew.
+    fn end_event(&mut self, mut woken: Room<Tid>, answer: Answer) -> Stepped
         requires few { self.old.store.events < EVENTS_MAX }
         requires ready { IsReadyToSettle self.old woken }
-        requires given_out { IsGivenOutBut touched self.old.store.pools }
-        requires none_lost { (u : ℕ) → has_lost_door (stored_state self.old.store) u ≡ false }
-        requires first { IsFirstCommon (stored_state self.old.store) (option_map (λ p. p.0) first) }
-        ensures state { (before : State) → ((p : ℕ) → has_first_common_door before (give (stored_state self.old.store)) p ≡ is_this p (option_map (λ p. p.0) first)) → stored_state self.new.store ≡ forget (with_event_counted (settle before (stored_state self.old.store))) }
+        ensures state { stored_state self.new.store ≡ with_event_counted (stored_state self.old.store) }
         ensures answer { result.answer ≡ answer }
-        ensures woken { (before : State) → ((p : ℕ) → has_first_common_door before (give (stored_state self.old.store)) p ≡ is_this p (option_map (λ p. p.0) first)) → IsCurrent self.old.runnable before → result.woken ≡ woken_threads before (with_event_counted (settle before (stored_state self.old.store))) }
+        ensures woken { (before : State) → IsCurrent self.old.runnable before → result.woken ≡ woken_threads before (with_event_counted (stored_state self.old.store)) }
         ensures current { IsCurrent self.new.runnable (stored_state self.new.store) }
-        ensures given_out { IsGivenOut self.new.store.pools }
+        ensures pools { self.new.store.pools ≡ self.old.store.pools }
         ensures latest { self.new.store.latest ≡ self.old.store.latest }
-        ensures events { self.new.store.events ≡ self.old.store.events + 1 }
     {
-        self.store.settle(touched, first);
         self.store.count();
         self.runnable.advance(&self.store, &mut woken);
         Stepped {
@@ -134,14 +129,20 @@ impl Parts {
         }
     }
 
-    /// The event of a kernel entry.
+    /// The event of an entry by which no caller, thread or door leaves.
     #[tactic(auto, unfolding(written_kernel::specs::Step::step))]
-    pub fn enter(&mut self, alloc: Global, t: Tid, request: Request) -> Result<Stepped, NoMemory>
+    fn enter_staying(
+        &mut self,
+        alloc: Global,
+        t: Tid,
+        request: Request,
+    ) -> Result<Stepped, NoMemory>
         requires running { is_running (stored_state self.old.store) t.0 ≡ true }
         requires numbers { HasNumbersLeft (stored_state self.old.store) }
         requires live { HasLiveCalls (stored_state self.old.store) }
         requires current { IsCurrent self.old.runnable (stored_state self.old.store) }
         requires placed { ArePlaced (stored_state self.old.store) }
+        requires stays { is_leaving request ≡ false }
         requires none_lost { (u : ℕ) → has_lost_door (act (stored_state self.old.store) t.0 (Some request)).state u ≡ false }
         requires given_out { IsGivenOut self.old.store.pools }
         requires parked { self.old.store.latest ≤ self.old.store.events }
@@ -156,12 +157,68 @@ impl Parts {
         let objects = Room::with_room(alloc, count_passed(&request))?;
         let first = first_common(&self.store, t, &request);
         let answer = enter(&mut self.store, alloc, t, request, objects);
-        Ok(self.finish(woken, answer, touched, first))
+        self.store.settle(touched, first);
+        Ok(self.end_event(woken, answer))
     }
 
-    /// The event of the end of a wait.
+    /// The event of an entry by which callers, threads or doors leave.
     #[tactic(auto, unfolding(written_kernel::specs::Step::step))]
-    pub fn go_on(&mut self, alloc: Global, t: Tid) -> Result<Stepped, NoMemory>
+    fn enter_leaving(
+        &mut self,
+        alloc: Global,
+        t: Tid,
+        request: Request,
+    ) -> Result<Stepped, NoMemory>
+        requires running { is_running (stored_state self.old.store) t.0 ≡ true }
+        requires numbers { HasNumbersLeft (stored_state self.old.store) }
+        requires live { HasLiveCalls (stored_state self.old.store) }
+        requires current { IsCurrent self.old.runnable (stored_state self.old.store) }
+        requires placed { ArePlaced (stored_state self.old.store) }
+        requires leaves { is_leaving request ≡ true }
+        requires given_out { IsGivenOut self.old.store.pools }
+        requires parked { self.old.store.latest ≤ self.old.store.events }
+        ensures step { IfOk result (λ s. IsStep (step (stored_state self.old.store) t.0 (Some request)) (stored_state self.new.store) s) }
+        ensures current { IsCurrent self.new.runnable (stored_state self.new.store) }
+        ensures err { OnErr result (stored_state self.new.store ≡ stored_state self.old.store) }
+        ensures given_out { IsGivenOut self.new.store.pools }
+        ensures parked { self.new.store.latest ≤ self.new.store.events }
+    {
+        let touched = pool_of_request(&self.store, t, &request);
+        let woken = self.reserve(alloc, touched)?;
+        let had = self.reserve_flags(alloc)?;
+        let objects = Room::with_room(alloc, count_passed(&request))?;
+        self.store.reserve_leaving()?;
+        let answer = enter(&mut self.store, alloc, t, request, objects);
+        self.store.settle_all(had);
+        Ok(self.end_event(woken, answer))
+    }
+
+    /// The event of a kernel entry.
+    pub fn enter(&mut self, alloc: Global, t: Tid, request: Request) -> Result<Stepped, NoMemory>
+        requires running { is_running (stored_state self.old.store) t.0 ≡ true }
+        requires numbers { HasNumbersLeft (stored_state self.old.store) }
+        requires live { HasLiveCalls (stored_state self.old.store) }
+        requires current { IsCurrent self.old.runnable (stored_state self.old.store) }
+        requires placed { ArePlaced (stored_state self.old.store) }
+        requires none_lost { is_leaving request ≡ false → (u : ℕ) → has_lost_door (act (stored_state self.old.store) t.0 (Some request)).state u ≡ false }
+        requires given_out { IsGivenOut self.old.store.pools }
+        requires parked { self.old.store.latest ≤ self.old.store.events }
+        ensures step { IfOk result (λ s. IsStep (step (stored_state self.old.store) t.0 (Some request)) (stored_state self.new.store) s) }
+        ensures current { IsCurrent self.new.runnable (stored_state self.new.store) }
+        ensures err { OnErr result (stored_state self.new.store ≡ stored_state self.old.store) }
+        ensures given_out { IsGivenOut self.new.store.pools }
+        ensures parked { self.new.store.latest ≤ self.new.store.events }
+    {
+        if is_leaving(&request) {
+            self.enter_leaving(alloc, t, request)
+        } else {
+            self.enter_staying(alloc, t, request)
+        }
+    }
+
+    /// The event of the end of a wait of a thread that is not bound to an invalid door.
+    #[tactic(auto, unfolding(written_kernel::specs::Step::step))]
+    fn go_on_served(&mut self, alloc: Global, t: Tid) -> Result<Stepped, NoMemory>
         requires numbers { HasNumbersLeft (stored_state self.old.store) }
         requires live { HasLiveCalls (stored_state self.old.store) }
         requires current { IsCurrent self.old.runnable (stored_state self.old.store) }
@@ -179,6 +236,53 @@ impl Parts {
         let woken = self.reserve(alloc, touched)?;
         let fds = Room::with_room(alloc, count_at_end(&self.store, t))?;
         let answer = go_on(&mut self.store, alloc, t, fds);
-        Ok(self.finish(woken, answer, touched, None))
+        self.store.settle(touched, None);
+        Ok(self.end_event(woken, answer))
+    }
+
+    /// The event of the end of a wait of a thread that is bound to an invalid door: where it parks again, it wakes with EINVAL.
+    #[tactic(auto, unfolding(written_kernel::specs::Step::step))]
+    fn go_on_unserved(&mut self, alloc: Global, t: Tid) -> Result<Stepped, NoMemory>
+        requires numbers { HasNumbersLeft (stored_state self.old.store) }
+        requires live { HasLiveCalls (stored_state self.old.store) }
+        requires current { IsCurrent self.old.runnable (stored_state self.old.store) }
+        requires placed { ArePlaced (stored_state self.old.store) }
+        requires given_out { IsGivenOut self.old.store.pools }
+        requires parked { self.old.store.latest ≤ self.old.store.events }
+        ensures step { IfOk result (λ s. IsStep (step (stored_state self.old.store) t.0 None) (stored_state self.new.store) s) }
+        ensures current { IsCurrent self.new.runnable (stored_state self.new.store) }
+        ensures err { OnErr result (stored_state self.new.store ≡ stored_state self.old.store) }
+        ensures given_out { IsGivenOut self.new.store.pools }
+        ensures parked { self.new.store.latest ≤ self.new.store.events }
+    {
+        let touched = self.store.own_pool(t);
+        let woken = self.reserve(alloc, touched)?;
+        let had = self.reserve_flags(alloc)?;
+        let fds = Room::with_room(alloc, count_at_end(&self.store, t))?;
+        let answer = go_on(&mut self.store, alloc, t, fds);
+        self.store.settle_all(had);
+        Ok(self.end_event(woken, answer))
+    }
+
+    /// The event of the end of a wait.
+    pub fn go_on(&mut self, alloc: Global, t: Tid) -> Result<Stepped, NoMemory>
+        requires numbers { HasNumbersLeft (stored_state self.old.store) }
+        requires live { HasLiveCalls (stored_state self.old.store) }
+        requires current { IsCurrent self.old.runnable (stored_state self.old.store) }
+        requires placed { ArePlaced (stored_state self.old.store) }
+        requires none_lost { has_invalid_door (stored_state self.old.store) t.0 ≡ false → (u : ℕ) → has_lost_door (act (stored_state self.old.store) t.0 None).state u ≡ false }
+        requires given_out { IsGivenOut self.old.store.pools }
+        requires parked { self.old.store.latest ≤ self.old.store.events }
+        ensures step { IfOk result (λ s. IsStep (step (stored_state self.old.store) t.0 None) (stored_state self.new.store) s) }
+        ensures current { IsCurrent self.new.runnable (stored_state self.new.store) }
+        ensures err { OnErr result (stored_state self.new.store ≡ stored_state self.old.store) }
+        ensures given_out { IsGivenOut self.new.store.pools }
+        ensures parked { self.new.store.latest ≤ self.new.store.events }
+    {
+        if self.store.has_invalid_door(t) {
+            self.go_on_unserved(alloc, t)
+        } else {
+            self.go_on_served(alloc, t)
+        }
     }
 }

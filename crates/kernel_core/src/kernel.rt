@@ -1,4 +1,4 @@
-ghost use Rattle.std.specs.Prelude.{◌≡◌, ◌+◌, ◌<◌, ◌≤◌, ◌↔◌, Some, None, true, is_some, length, IfOk, OnOk, OnErr};
+ghost use Rattle.std.specs.Prelude.{◌≡◌, ◌+◌, ◌<◌, ◌≤◌, ◌↔◌, Some, None, true, length, IfOk, OnOk, OnErr};
 ghost use Rattle.std.specs.Option.{option_map};
 ghost use Rattle.dk_base.specs.declared.answer.Answer.TheVariants.{Failure};
 ghost use Rattle.dk_base.specs.declared.error.ProcFault.TheVariants.{Full};
@@ -6,7 +6,7 @@ ghost use Rattle.written_kernel.specs.Types.{Errno};
 ghost use Rattle.dk_base.specs.declared.limits.TheConstants.{PROCESSES_MAX, THREADS_MAX, EVENTS_MAX};
 ghost use Rattle.capabilities.specs.declared.table.TheConstants.{BUILT};
 ghost use Rattle.capabilities.specs.Words.{capability_of};
-ghost use Rattle.written_kernel.specs.Words.{IsFit, IsStep, MayGoOn, MayInside, StandsFor, State, invocation_of, is_runnable, is_running, least_runnable, opening, process_of, refusal_of, root, state_of, step, with_event_counted, with_new_thread, with_processes};
+ghost use Rattle.written_kernel.specs.Words.{IsFit, IsStep, MayGoOn, StandsFor, State, is_runnable, is_running, least_runnable, opening, process_of, refusal_of, root, state_of, step, with_event_counted, with_new_thread, with_processes};
 ghost use Rattle.kernel_core.specs.Kept.{IsKept};
 ghost use Rattle.pool_agreement.specs.Words.{IsGivenOut};
 ghost use Rattle.kernel_store.specs.Words.{stored_state};
@@ -78,7 +78,6 @@ impl Kernel {
         requires running { is_running self.old t.0 ≡ true }
         requires fit { IsFit self.old t.0 request }
         requires built { capability_of request ≤ BUILT }
-        requires inside { MayInside (invocation_of self.old t.0) request }
         requires few { self.old.events < EVENTS_MAX }
         ensures step { IfOk result (λ s. (m : State) → StandsFor self.old m → IsStep (step m t.0 (Some request)) self.new s) }
         ensures refused { IfOk result (λ s. (e : Errno) → refusal_of self.old t.0 (process_of self.old t.0) request ≡ Some e → (s.answer ≡ Failure e) × (self.new ≡ with_event_counted self.old)) }
@@ -122,14 +121,6 @@ impl Kernel {
         ensures stands { (m : State) → StandsFor self.now m → result ≡ is_running m t.0 }
     {
         is_running_state(self.parts.store.processes().state(t))
-    }
-
-    /// Whether a thread is in an invocation of a server procedure.
-    pub fn is_inside(&self, t: Tid) -> bool
-        ensures kept { result ≡ is_some (invocation_of self.now t.0) }
-        ensures stands { (m : State) → StandsFor self.now m → result ≡ is_some (invocation_of m t.0) }
-    {
-        self.parts.store.processes().invocation(t).is_some()
     }
 
     /// The end of the walk from a thread to the caller of the call that it serves, and so on.

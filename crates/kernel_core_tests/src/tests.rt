@@ -1,4 +1,4 @@
-use crate::turns::{CLIENT, Entry, Gives, OuterEntry, Row, SERVER, Turn, right_turns_of_new};
+use crate::turns::{CLIENT, Entry, Gives, Row, SERVER, Turn, right_turns_of_new};
 use dk_base::error::Errno;
 use dk_base::list::IdList;
 use dk_base::number::Fd;
@@ -22,7 +22,7 @@ const ECHO: [Row; 11] = [
     (CLIENT, Turn::Enters(Entry::Open), Gives::NewFd(0), &[]),
     (
         CLIENT,
-        Turn::EntersOutside(OuterEntry::Call(b"hi", &[])),
+        Turn::Enters(Entry::Call(b"hi", &[])),
         Gives::WaitCall(1),
         &[SERVER],
     ),
@@ -34,12 +34,7 @@ const ECHO: [Row; 11] = [
         &[CLIENT],
     ),
     (CLIENT, Turn::GoesOn, Gives::Grown(b"hi", &[]), &[]),
-    (
-        CLIENT,
-        Turn::EntersOutside(OuterEntry::Exit),
-        Gives::Done,
-        &[],
-    ),
+    (CLIENT, Turn::Enters(Entry::Exit), Gives::Done, &[]),
 ];
 
 const ZERO: Pass = Pass {
@@ -99,7 +94,7 @@ const PASSING: [Row; 22] = [
     (CLIENT, Turn::Enters(Entry::Create), Gives::NewFd(2), &[]),
     (
         CLIENT,
-        Turn::EntersOutside(OuterEntry::Call(b"hi", &[TWO, ONE_RELEASED])),
+        Turn::Enters(Entry::Call(b"hi", &[TWO, ONE_RELEASED])),
         Gives::WaitCall(1),
         &[SERVER],
     ),
@@ -127,13 +122,13 @@ const PASSING: [Row; 22] = [
     (CLIENT, Turn::Enters(Entry::Info(3)), Gives::Unique(4), &[]),
     (
         CLIENT,
-        Turn::EntersOutside(OuterEntry::Call(b"hi", &[FOUR])),
+        Turn::Enters(Entry::Call(b"hi", &[FOUR])),
         Gives::Failure(Errno::EINVAL),
         &[],
     ),
     (
         CLIENT,
-        Turn::EntersOutside(OuterEntry::Call(b"hi", &[ZERO, ZERO])),
+        Turn::Enters(Entry::Call(b"hi", &[ZERO, ZERO])),
         Gives::WaitCall(2),
         &[SERVER],
     ),
@@ -174,7 +169,7 @@ const FULL_SERVER: [Row; 12] = [
     (CLIENT, Turn::Enters(Entry::Create), Gives::NewFd(1), &[]),
     (
         CLIENT,
-        Turn::EntersOutside(OuterEntry::Call(b"hi", &[ONE_RELEASED])),
+        Turn::Enters(Entry::Call(b"hi", &[ONE_RELEASED])),
         Gives::WaitCall(1),
         &[SERVER],
     ),
@@ -183,7 +178,7 @@ const FULL_SERVER: [Row; 12] = [
     (CLIENT, Turn::Enters(Entry::Create), Gives::NewFd(1), &[]),
     (
         CLIENT,
-        Turn::EntersOutside(OuterEntry::Call(b"hi", &[])),
+        Turn::Enters(Entry::Call(b"hi", &[])),
         Gives::WaitCall(2),
         &[SERVER],
     ),
@@ -205,7 +200,7 @@ const FULL_CLIENT: [Row; 15] = [
     (CLIENT, Turn::Enters(Entry::Create), Gives::NewFd(1), &[]),
     (
         CLIENT,
-        Turn::EntersOutside(OuterEntry::Call(b"hi", &[])),
+        Turn::Enters(Entry::Call(b"hi", &[])),
         Gives::WaitCall(1),
         &[SERVER],
     ),
@@ -219,7 +214,7 @@ const FULL_CLIENT: [Row; 15] = [
     (CLIENT, Turn::GoesOn, Gives::Failure(Errno::EMFILE), &[]),
     (
         CLIENT,
-        Turn::EntersOutside(OuterEntry::Call(b"hi", &[])),
+        Turn::Enters(Entry::Call(b"hi", &[])),
         Gives::WaitCall(2),
         &[SERVER],
     ),

@@ -3,8 +3,7 @@ ghost use Rattle.std.specs.Prelude.{ℕ, ◌≡◌, ◌≤◌, Option, IfOk, len
 ghost use Rattle.capabilities.specs.Capability.{capability_of_pass};
 ghost use Rattle.capabilities.specs.Words.{capability_of};
 ghost use Rattle.capabilities.specs.declared.table.TheConstants.{BUILT};
-ghost use Rattle.written_kernel.specs.Types.{Inv};
-ghost use Rattle.written_kernel.specs.Words.{IsFit, MayInside, State};
+ghost use Rattle.written_kernel.specs.Words.{IsFit, State};
 
 use dk_base::answer::Answer;
 use dk_base::error::{Errno, NoMemory};
@@ -17,7 +16,7 @@ use dk_base::set::Attrs;
 use kernel_core::kernel::Kernel;
 use std::alloc::Global;
 
-/// An entry that a thread may make inside an invocation and outside.
+/// An entry of a thread.
 #[derive(Clone, Copy)]
 pub enum Entry {
     Create,
@@ -25,13 +24,8 @@ pub enum Entry {
     Await,
     Open,
     Info(u32),
-    Return(&'static [u8], &'static [Pass]),
-}
-
-/// One that it may make outside alone.
-#[derive(Clone, Copy)]
-pub enum OuterEntry {
     Call(&'static [u8], &'static [Pass]),
+    Return(&'static [u8], &'static [Pass]),
     Exit,
 }
 
@@ -39,7 +33,6 @@ pub enum OuterEntry {
 #[derive(Clone, Copy)]
 pub enum Turn {
     Enters(Entry),
-    EntersOutside(OuterEntry),
     GoesOn,
 }
 
@@ -94,7 +87,6 @@ fn is_step(stepped: &Result<Stepped, NoMemory>, gives: Gives, wakes: &[Tid]) -> 
 fn request(alloc: Global, entry: Entry) -> Result<Request, NoMemory>
     ensures fit { IfOk result (λ r. (m : State) (t : ℕ) → IsFit m t r) }
     ensures built { IfOk result (λ r. capability_of r ≤ BUILT) }
-    ensures inside { IfOk result (λ r. (v : Option Inv) → MayInside v r) }
 {
     match entry {
         Entry::Create => Ok(Request::Create {
@@ -109,21 +101,7 @@ fn request(alloc: Global, entry: Entry) -> Result<Request, NoMemory>
         Entry::Await => Ok(Request::Await { path: PathId(0) }),
         Entry::Open => Ok(Request::Open { path: PathId(0) }),
         Entry::Info(fd) => Ok(Request::Info { fd: Fd(fd) }),
-        Entry::Return(text, passed) => {
-            let pass = PassList::from_slice(alloc, passed)?;
-            let bytes = Bytes::from_slice(alloc, text)?;
-            Ok(Request::Return { bytes, pass })
-        }
-    }
-}
-
-#[tactic(auto, using(crate::proofs::Built::passing_built))]
-fn outer_request(alloc: Global, entry: OuterEntry) -> Result<Request, NoMemory>
-    ensures fit { IfOk result (λ r. (m : State) (t : ℕ) → IsFit m t r) }
-    ensures built { IfOk result (λ r. capability_of r ≤ BUILT) }
-{
-    match entry {
-        OuterEntry::Call(text, passed) => {
+        Entry::Call(text, passed) => {
             let pass = PassList::from_slice(alloc, passed)?;
             let bytes = Bytes::from_slice(alloc, text)?;
             Ok(Request::Call {
@@ -133,7 +111,12 @@ fn outer_request(alloc: Global, entry: OuterEntry) -> Result<Request, NoMemory>
                 rsize: 1,
             })
         }
-        OuterEntry::Exit => Ok(Request::Exit),
+        Entry::Exit => Ok(Request::Exit),
+        Entry::Return(text, passed) => {
+            let pass = PassList::from_slice(alloc, passed)?;
+            let bytes = Bytes::from_slice(alloc, text)?;
+            Ok(Request::Return { bytes, pass })
+        }
     }
 }
 
@@ -142,21 +125,6 @@ fn enters(alloc: Global, kernel: &mut Kernel, t: Tid, entry: Entry) -> Result<St
         return Err(NoMemory);
     }
     match request(alloc, entry) {
-        Ok(request) => kernel.enter(t, request),
-        Err(error) => Err(error),
-    }
-}
-
-fn enters_outside(
-    alloc: Global,
-    kernel: &mut Kernel,
-    t: Tid,
-    entry: OuterEntry,
-) -> Result<Stepped, NoMemory> {
-    if !kernel.is_running(t) || kernel.is_inside(t) || kernel.events() >= 1_000_000 {
-        return Err(NoMemory);
-    }
-    match outer_request(alloc, entry) {
         Ok(request) => kernel.enter(t, request),
         Err(error) => Err(error),
     }
@@ -179,11 +147,6 @@ fn is_turn(
 ) -> bool {
     match turn {
         Turn::Enters(entry) => is_step(&enters(alloc, kernel, t, entry), gives, wakes),
-        Turn::EntersOutside(entry) => is_step(
-            &enters_outside(alloc, kernel, t, entry),
-            gives,
-            wakes,
-        ),
         Turn::GoesOn => is_step(&goes_on(kernel, t), gives, wakes),
     }
 }

@@ -1,58 +1,16 @@
 -- Pools that hold the same threads, items and spares, and pools that hold no more: what that keeps.
-use Rattle.std.proofs.Common.{◌≡◌, inl, inr, ℕ, ◌+◌, ◌==◌, Bool, true, false, if◌then◌else◌, List, [], ◌∷◌, ◌++◌, Option, Some, None, option_map, length, refl, sym, ap, ◌∙◌, subst, subst₂, arith}
+use Rattle.std.proofs.Common.{◌≡◌, inl, inr, ℕ, ◌+◌, ◌==◌, Bool, true, false, if◌then◌else◌, List, [], ◌∷◌, ◌++◌, Some, length, refl, sym, ap, ◌∙◌, subst, subst₂, arith}
 use Rattle.std.proofs.lemmas.Bool.Decides.{nat_tests}
 use Rattle.dk_base.specs.ByNumber.{at_number}
 use Rattle.kernel_records.specs.declared.pool.Pool.TheVariants.{Common, Private}
-use Rattle.kernel_records.specs.Words.{CallTree, ProcessTable, is_pool}
+use Rattle.kernel_records.specs.Words.{CallTree, ProcessTable}
 use Rattle.written_kernel.specs.Types.{Door, Pool}
 use Rattle.written_kernel.proofs.Lists.{numbered_past, numbered_push}
 use Rattle.server_pool.specs.Words.{PoolValue, PoolsValue, change_pool, empty_pool, pool_at, pool_or_empty, queue_in, spares_of, stack_in, with_room}
-use Rattle.server_pool.proofs.Changed.{pool_changed, pool_kept}
 use Rattle.pool_agreement.specs.Words.{Agrees, IsGivenOut, IsGivenOutIn, IsStackOf}
+use Rattle.pool_agreement.proofs.Leaving.{read_kept}
 use Rattle.pool_agreement.proofs.Readers.{bindings-change_pool, common-change_pool, private-change_pool, spares-change_pool}
-
--- a field of the pools, read after one of them changed, which may not be there
-module _
-    {Y : Type 0} (read : PoolValue → Y) (next : Y → Y) (change : PoolValue → PoolValue) (reads : (x : PoolValue) → read (change x) ≡ next (read x))
-    (none : next (read empty_pool) ≡ read empty_pool) where
-  pub read_change :
-      (v : PoolsValue) (pool q : Pool) →
-      read (pool_or_empty (pool_at (change_pool v pool change) q))
-      ≡ (if is_pool pool q then next (read (pool_or_empty (pool_at v q))) else read (pool_or_empty (pool_at v q)))
-  read_change v pool q = go (is_pool pool q) refl
-    where
-      there : (o : Option PoolValue) → read (pool_or_empty (option_map change o)) ≡ next (read (pool_or_empty o))
-      there None = sym none
-      there (Some x) = reads x
-
-      go :
-          (b : Bool) → is_pool pool q ≡ b →
-          read (pool_or_empty (pool_at (change_pool v pool change) q))
-          ≡ (if b then next (read (pool_or_empty (pool_at v q))) else read (pool_or_empty (pool_at v q)))
-      go true e = ap (λ o. read (pool_or_empty o)) (pool_changed v pool q change e) ∙ there (pool_at v q)
-      go false e = ap (λ o. read (pool_or_empty o)) (pool_kept v pool q change e)
-
--- a field that the change leaves
-pub read_kept :
-    {Y : Type 0} (read : PoolValue → Y) (change : PoolValue → PoolValue) → ((x : PoolValue) → read (change x) ≡ read x) →
-    (v : PoolsValue) (pool q : Pool) →
-    read (pool_or_empty (pool_at (change_pool v pool change) q)) ≡ read (pool_or_empty (pool_at v q))
-read_kept read change same v pool q =
-    read_change read (λ y. y) change same refl v pool q ∙ go (is_pool pool q) (read (pool_or_empty (pool_at v q)))
-  where
-    go : {Y : Type 0} (b : Bool) (y : Y) → (if b then y else y) ≡ y
-    go true y = refl
-    go false y = refl
-
--- the pools hold the same, in whatever room
-pub record HoldsSame (v w : PoolsValue) : Type 0 where
-  pub bindings : w.bindings ≡ v.bindings
-  pub stacks : (pool : Pool) → stack_in w pool ≡ stack_in v pool
-  pub queues : (pool : Pool) → queue_in w pool ≡ queue_in v pool
-  pub spares : (p : ℕ) → spares_of w p ≡ spares_of v p
-  pub common : length w.common ≡ length v.common
-  pub spare_lists : length w.spares ≡ length v.spares
-  pub private : length w.private ≡ length v.private
+pub use Rattle.kernel_store.specs.Leaving.{HoldsSame}
 
 -- room for a door, and for a thread and an item of a pool
 pub same_in_room :

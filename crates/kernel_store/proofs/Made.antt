@@ -10,7 +10,7 @@ use Rattle.written_kernel.specs.Types.{Door, Pool, Waiting}
 use Rattle.server_pool.specs.Words.{PoolValue, PoolsValue, change_pool, count_calls, is_call_too_many, is_waiting_call, pool_at}
 use Rattle.pool_agreement.specs.Words.{Agrees, HasPlaces, IsGivenOutIn}
 use Rattle.pool_agreement.proofs.Queues.{door_pool_there}
-use Rattle.pool_agreement.proofs.Readers.{queue-change_other, stack-change_other, there_is}
+use Rattle.pool_agreement.proofs.Readers.{queue-change_other, stack-change_other}
 
 -- the pool of a valid door
 pub served_there :

@@ -1,11 +1,8 @@
 -- A number that no table has: nothing is taken out there, and nothing is installed.
-use Rattle.std.proofs.Common.{◌≡◌, ℕ, zero, suc, ◌-◌, ◌==◌, not, Bool, true, false, List, [], ◌∷◌, ◌++◌, Option, Some, None, if◌then◌else◌, nat_le, length, unwrap_or, slice_get, slice_set, refl, sym, ap, ◌∙◌, arith, append-nil}
+use Rattle.std.proofs.Common.{◌≡◌, ℕ, zero, suc, ◌-◌, ◌==◌, not, true, false, List, [], ◌∷◌, ◌++◌, Option, Some, None, if◌then◌else◌, nat_le, length, unwrap_or, slice_get, slice_set, refl, sym, ap, ◌∙◌, arith, append-nil}
 use Rattle.std.proofs.lemmas.Bool.Decides.{nat_tests}
-use Rattle.written_kernel.specs.Types.{Call, CallStage, Errno, Obj, Pass}
-use Rattle.dk_base.specs.declared.answer.Answer.TheVariants.{Done}
-use Rattle.kernel_records.specs.declared.record.CallStage.TheVariants as stage
+use Rattle.written_kernel.specs.Types.{Obj, Pass}
 use Rattle.dk_base.specs.ByNumber.{at_number}
-use Rattle.written_kernel.specs.Words.{State, collect_answer, has_room, objects_collected, tables_after_collect, tables_with}
 use Rattle.kernel_records.specs.Words.{free_rows, insert_rows, is_bad_pass, new_descriptors, objects_passed, table_in, with_table}
 
 set_same : {X : Type 0} (xs : List X) (i : ℕ) (x : X) → slice_get xs i ≡ Some x → slice_set xs i x ≡ xs

@@ -1,2 +1,4 @@
+pub mod GivingAll
+pub mod Leaving
 pub mod Stored
 pub mod Words

@@ -1,13 +1,13 @@
 -- What a store holds, by the values of its parts, and the written state that this is.
-use Rattle.std.specs.Prelude.{ℕ, ◌≡◌, ◌<◌, List, [], Option, is_some, length, true}
+use Rattle.std.specs.Prelude.{ℕ, ◌≡◌, ◌<◌, ◌≤◌, List, [], Option, is_some, length, true}
 use Rattle.dk_base.specs.Words.{RoomValue}
 use Rattle.written_kernel.specs.Types.{Door, Obj, Pool}
-use Rattle.kernel_records.specs.Words.{ProcessTable}
+use Rattle.kernel_records.specs.Words.{ProcessTable, thread_at}
 use Rattle.written_kernel.specs.Words.{State, give_each}
 use Rattle.name_space.specs.Words.{HasRoomForName, NameTable}
 use Rattle.server_pool.specs.Words.{PoolsValue, item_room_in, pool_at, queue_in, thread_room_in}
 use Rattle.call_tree.specs.Words.{CallsValue, HasRoomForCall}
-use Rattle.pool_agreement.specs.Words.{Agrees, HasPlaces, IsGivenOutBut}
+use Rattle.pool_agreement.specs.Words.{Agrees, HasPlaces, IsGivenOutBut, own_pool}
 
 pub record StoreValue : Type 0 where
   pub processes : ProcessTable
@@ -51,6 +51,12 @@ pub record HasRoom (store : StoreValue) (touched : Pool) : Type 0 where
   pub calls : HasRoomForCall store.calls
   pub threads : is_some (pool_at store.pools touched) ≡ true → 0 < thread_room_in store.pools touched
   pub items : is_some (pool_at store.pools touched) ≡ true → 0 < item_room_in store.pools touched
+
+-- the pool of each thread, if it is there, has room for as many more threads as there are threads in all
+abbrev pub HasRoomToLeave : StoreValue → Type 0
+HasRoomToLeave store =
+    (t : ℕ) → is_some (thread_at store.processes t) ≡ true → is_some (pool_at store.pools (own_pool (stored_state store) t)) ≡ true →
+    length store.processes.threads ≤ thread_room_in store.pools (own_pool (stored_state store) t)
 
 -- A giving in this pool: what is given out of it by the written kernel is the same before and after, and one item less waits
 -- there; all other pools stay.

@@ -2,6 +2,8 @@
 //! in agreement with threads, doors and calls.
 #![tactic(auto)]
 
+mod leaving;
 mod numbered;
+mod settling;
 pub mod store;
 pub mod tables;

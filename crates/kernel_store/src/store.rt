@@ -1,7 +1,6 @@
 //! What the kernel holds, by subject.
-ghost use Rattle.std.specs.Prelude.{◌≡◌, ℕ, ◌+◌, ◌<◌, ◌≤◌, ◌++◌, ◌&&◌, ◌||◌, not, [], length, None, Some, true, false, find, is_none, is_some, IfOk, IfNone, OnOk, OnErr, OnSome};
+ghost use Rattle.std.specs.Prelude.{◌≡◌, ℕ, ◌+◌, ◌<◌, ◌≤◌, ◌++◌, ◌&&◌, ◌||◌, not, [], length, None, Some, true, false, find, is_none, is_some, slice_get, IfOk, IfNone, OnOk, OnErr, OnSome};
 ghost use Rattle.std.specs.Option.{option_map};
-ghost use Rattle.dk_base.specs.ByNumber.{at_number};
 ghost use Rattle.dk_base.specs.declared.limits.TheConstants.{PROCESSES_MAX, THREADS_MAX, EVENTS_MAX};
 ghost use Rattle.dk_base.specs.declared.object.Item.TheVariants as item;
 ghost use Rattle.dk_base.specs.declared.limits.TheConstants.{QUEUE_MAX};
@@ -9,12 +8,15 @@ ghost use Rattle.kernel_records.specs.declared.pool.Pool.TheVariants.{Common};
 ghost use Rattle.kernel_records.specs.declared.record.ThreadState.TheVariants as is;
 ghost use Rattle.name_space.specs.Words.{HasRoomForName};
 ghost use Rattle.written_kernel.specs.Types.{Pool, Thread};
-ghost use Rattle.kernel_records.specs.Words.{bind_thread, close_row, collect_call, descriptor, door_attached, end_thread, enter_call, enter_thread, fail_call, first_refusal, free_place, has_told_attributes, insert_row, is_bad_pass, is_dormant, is_done, is_given_as, is_idle, is_owned_by, is_pool, is_queued, is_to_collect_as, live_calls, lowest_free, new_descriptors, objects_passed, open_call, park_thread, pid, return_call, set_param, set_param_tests, thread_at, unbind_thread, with_door, with_name, without_name};
-ghost use Rattle.written_kernel.specs.Words.{State, bound_of, calls_waiting, door_of, give, has_first_common_door, has_given_last, has_lost_door, has_room, is_live_process, is_running, is_valid, leave_process, name_of, needs_spare, no_process, now, object_at, pool_of, settle, start_one, start_spares, state_of, table_of, tables_after_pass, tables_with, with_event_counted, with_new_process, with_new_thread, with_state, with_table_of};
+ghost use Rattle.kernel_records.specs.Words.{bind_thread, close_row, close_table, collect_call, descriptor, door_attached, end_invocation, end_owner, end_process, enter_call, enter_thread, fail_call, first_refusal, free_place, has_told_attributes, insert_row, is_bad_pass, is_done, is_dormant, is_given_as, is_idle, is_pool, is_queued, is_to_collect_as, leaving_of, live_calls, lowest_free, new_descriptors, objects_passed, open_call, park_thread, pid, return_call, revoke_door, revoke_tests, set_param, set_param_tests, thread_at, unbind_thread, with_door, with_name, with_table, without_name};
+ghost use Rattle.written_kernel.specs.Words.{State, bound_of, calls_waiting, door_of, fail_one, fail_returns, forget, give, has_first_common_door, has_given_last, has_invalid_door, has_lost_door, has_room, is_live_process, is_running, is_valid, leave, name_of, needs_spare, no_process, now, object_at, pick, pool_of, settle, start_one, start_spares, state_of, table_of, tables_after_pass, tables_with, with_event_counted, with_new_process, with_new_thread, with_state, with_table_of};
 ghost use Rattle.server_pool.specs.Words.{pick_of, stack_in};
-ghost use Rattle.pool_agreement.specs.Words.{IsGivenOut, IsGivenOutBut, IsGivenOutIn, IsWithoutProcess, is_this, own_pool};
-ghost use Rattle.kernel_store.specs.Stored.{ArePlaced, GivesOn, HasRoom, IsAgreed, stored_state};
+ghost use Rattle.pool_agreement.specs.Words.{IsGivenOut, IsGivenOutBut, IsGivenOutIn, is_this, own_pool};
+ghost use Rattle.kernel_store.specs.Stored.{ArePlaced, GivesOn, HasRoom, HasRoomToLeave, IsAgreed, stored_state};
+ghost use Rattle.kernel_store.specs.GivingAll.{give_call_to_pick, if_queued, is_flagged};
 
+use crate::leaving::{leave_calls, leave_threads, make_room, own_pool, withdraw_calls};
+use crate::settling::{is_flagged_without, queued_at};
 use crate::tables::Tables;
 use call_tree::calls::Calls;
 use dk_base::error::{Errno, NoMemory};
@@ -24,11 +26,11 @@ use dk_base::object::{Item, Obj};
 use dk_base::request::Param;
 use dk_base::set::Attrs;
 use door_object::doors::Doors;
+use kernel_records::leaving::Leaver;
 use kernel_records::pool::{Pool, Waiting};
 use kernel_records::record::{Call, Door, ThreadState};
 use name_space::names::Names;
 use proc_table::procs::Procs;
-use server_pool::facts::BindFacts;
 use server_pool::pools::Pools;
 use std::alloc::Global;
 use std::marker::Model;
@@ -131,14 +133,21 @@ impl Store {
         self.pools.bound(t)
     }
 
+    /// Whether a thread is bound to a door that is not valid.
+    pub fn has_invalid_door(&self, t: Tid) -> bool
+        ensures { result ≡ has_invalid_door (stored_state self.now) t.0 }
+    {
+        match self.pools.bound(t) {
+            Some(door) => !self.doors.valid(door),
+            None => false,
+        }
+    }
+
     /// The pool in which a thread parks.
     pub fn own_pool(&self, t: Tid) -> Pool
         ensures { result ≡ own_pool (stored_state self.now) t.0 }
     {
-        match self.pools.bound(t) {
-            Some(door) => Pool::Private(door),
-            None => Pool::Common(self.processes.process_of(t)),
-        }
+        own_pool(&self.processes, &self.pools, t)
     }
 
     /// How many calls wait in a pool.
@@ -379,16 +388,6 @@ impl Store {
         self.processes.turn(t, state)
     }
 
-    /// A thread that runs ends.
-    pub fn end_thread(&mut self, t: Tid)
-        requires { is_running (stored_state self.old) t.0 ≡ true }
-        ensures state { stored_state self.new ≡ record (stored_state self.old) { process_table = end_thread (stored_state self.old).process_table t.0 } }
-        ensures pools { self.new.pools ≡ self.old.pools }
-        ensures latest { self.new.latest ≡ self.old.latest }
-    {
-        let _ = self.processes.end_thread(t);
-    }
-
     /// A thread that runs is bound to a door, where door_bind(3C) is not refused.
     pub fn bind(&mut self, t: Tid, d: u32)
         requires { is_running (stored_state self.old) t.0 ≡ true }
@@ -396,12 +395,7 @@ impl Store {
         ensures given_out { IsGivenOut self.old.pools → IsGivenOut self.new.pools }
         ensures latest { self.new.latest ≡ self.old.latest }
     {
-        let facts = BindFacts {
-            valid: true,
-            is_private: true,
-            own: true,
-        };
-        let _ = self.pools.bind(t, d, facts);
+        self.pools.bind(t, d);
     }
 
     /// A thread that runs and is bound to a door is bound to none (door_unbind(3C)).
@@ -510,6 +504,19 @@ impl Store {
         self.calls.give_back(alloc, t, bytes, objects);
     }
 
+    /// A thread that runs and is bound returns to its client, if it has one, and is bound to no door; it is not parked.
+    pub fn return_unbound(&mut self, alloc: Global, t: Tid, bytes: Bytes, objects: ObjList)
+        requires running { is_running (stored_state self.old) t.0 ≡ true }
+        requires bound { is_some (bound_of (stored_state self.old) t.0) ≡ true }
+        ensures state { stored_state self.new ≡ record (stored_state self.old) { process_table = end_invocation (stored_state self.old).process_table t.0; bindings = unbind_thread (stored_state self.old).bindings t.0; call_tree = return_call (stored_state self.old).call_tree t.0 bytes objects } }
+        ensures given_out { IsGivenOut self.old.pools → IsGivenOut self.new.pools }
+        ensures latest { self.new.latest ≡ self.old.latest }
+    {
+        self.processes.end_invocation(t);
+        let _ = self.pools.unbind(t);
+        self.calls.give_back(alloc, t, bytes, objects);
+    }
+
     /// A caller collects its call, which is handed out and forgotten.
     pub fn collect_call(&mut self, c: u32) -> Option<Call>
         ensures after { (at : ℕ) → stored_state self.new ≡ record (stored_state self.old) { call_tree = live_calls (collect_call (stored_state self.old).call_tree c at) } }
@@ -522,22 +529,62 @@ impl Store {
 
     // ends
 
-    /// All threads of a process end, of which none is idle, its doors become invalid, what waits at them ends, and its descriptors
-    /// are closed.
-    pub fn leave_process(&mut self, alloc: Global, p: Pid)
-        requires few { length (stored_state self.old).doors < EVENTS_MAX }
-        requires none_idle { (t : ℕ) (x : Thread) → thread_at (stored_state self.old).process_table t ≡ Some x → x.process.0 ≡ p.0 → is_idle x.state ≡ false }
-        requires placed { ArePlaced (stored_state self.old) }
-        ensures state { stored_state self.new ≡ leave_process (stored_state self.old) p.0 }
+    /// Takes the memory that threads can need which park again as their callers leave. It changes nothing else.
+    pub fn reserve_leaving(&mut self) -> Result<(), NoMemory>
+        ensures state { stored_state self.new ≡ stored_state self.old }
         ensures given_out { IsGivenOut self.old.pools → IsGivenOut self.new.pools }
+        ensures latest { self.new.latest ≡ self.old.latest }
+        ensures room { OnOk result (HasRoomToLeave self.new) }
+        ensures kept { (touched : Pool) → HasRoom self.old touched → HasRoom self.new touched }
+    {
+        make_room(&mut self.pools, &self.processes)
+    }
+
+    /// Callers are interrupted, threads end and doors are lost, of which it is told: the calls that wait leave their pools, threads
+    /// end or are parked again, or learn that their callers have left, and calls end. It takes no memory.
+    pub fn leave(&mut self, alloc: Global, who: Leaver)
+        requires few { self.old.events < EVENTS_MAX }
+        requires first { self.old.latest ≤ self.old.events }
+        requires placed { ArePlaced (stored_state self.old) }
+        requires room { HasRoomToLeave self.old }
+        ensures state { stored_state self.new ≡ forget (leave (stored_state self.old) (leaving_of (stored_state self.old).process_table (stored_state self.old).doors who)) }
+        ensures latest { self.new.latest ≤ now (stored_state self.old) }
+    {
+        self.latest = self.events + 1;
+        withdraw_calls(
+            &mut self.pools,
+            who,
+            &self.processes,
+            &self.doors,
+            &self.calls,
+        );
+        leave_threads(
+            &mut self.processes,
+            &mut self.pools,
+            who,
+            &self.calls,
+            self.latest,
+        );
+        leave_calls(alloc, &mut self.calls, who, &self.processes, &self.doors);
+    }
+
+    /// A process that has no thread left has ended: its descriptors are closed, and its doors are invalid.
+    pub fn end_process(&mut self, p: Pid)
+        ensures state { stored_state self.new ≡ record (stored_state self.old) { process_table = end_process (stored_state self.old).process_table p.0; tables = with_table (stored_state self.old).tables p.0 (close_table (table_of (stored_state self.old) p.0)); doors = end_owner (stored_state self.old).doors p.0 } }
         ensures latest { self.new.latest ≡ self.old.latest }
     {
         self.processes.end_process(p);
         self.tables.close_all(p);
-        let doors = &self.doors;
-        self.calls.end_waiting(alloc, |d| is_owned(doors, d, p));
-        drop_pools(&mut self.pools, &self.doors, p);
         self.doors.owner_ended(p);
+    }
+
+    /// A door is revoked, where door_revoke(3C) by process `p` is not refused.
+    pub fn revoke(&mut self, d: u32, p: Pid)
+        requires { first_refusal (revoke_tests p.0 (door_of (stored_state self.old) d)) ≡ None }
+        ensures state { stored_state self.new ≡ record (stored_state self.old) { doors = revoke_door (stored_state self.old).doors d } }
+        ensures latest { self.new.latest ≡ self.old.latest }
+    {
+        let _ = self.doors.revoke(d, p);
     }
 
     /// Counts an event.
@@ -571,6 +618,8 @@ impl Store {
     fn start_spare(&mut self, p: Pid)
         ensures state { stored_state self.new ≡ start_one (stored_state self.old) p.0 true }
         ensures given_out { IsGivenOut self.old.pools → IsGivenOut self.new.pools }
+        ensures picks { (pool : Pool) → pick (stored_state self.new) pool ≡ pick (stored_state self.old) pool }
+        ensures agreed { IsAgreed self.new }
         ensures latest { self.new.latest ≡ self.old.latest }
     {
         if let Some(t) = self.pools.take_spare(p) {
@@ -629,6 +678,119 @@ impl Store {
         let last = self.give_out(touched);
         self.start_spares(first, last);
     }
+
+    // what follows an act that can touch many pools
+
+    /// Whether a thread is idle and bound to a door that is not valid.
+    pub fn has_lost_door(&self, t: Tid) -> bool
+        ensures { result ≡ has_lost_door (stored_state self.now) t.0 }
+    {
+        matches!(self.processes.state(t), ThreadState::Idle { .. }) && self.has_invalid_door(t)
+    }
+
+    /// A thread that is idle and has lost its door is unbound, and wakes with EINVAL.
+    fn fail_one(&mut self, t: Tid)
+        ensures state { stored_state self.new ≡ fail_one (stored_state self.old) t.0 }
+        ensures latest { self.new.latest ≡ self.old.latest }
+    {
+        if !self.has_lost_door(t) {
+            return;
+        }
+        let pool = self.own_pool(t);
+        self.pools.unpark(t, pool);
+        let _ = self.pools.unbind(t);
+        self.processes.fail(t);
+    }
+
+    /// All threads that are idle and have lost their doors are unbound, and wake with EINVAL.
+    fn fail_all(&mut self)
+        ensures state { stored_state self.new ≡ fail_returns (stored_state self.old) }
+        ensures latest { self.new.latest ≡ self.old.latest }
+    {
+        for i in 0..self.processes.thread_count() {
+            self.fail_one(Tid(i + 1));
+        }
+    }
+
+    /// The call at a place of the list, where it waits, is given to the pick of its pool, where there is one.
+    fn give_at(&mut self, place: usize)
+        ensures state { stored_state self.new ≡ give_call_to_pick (stored_state self.old) (if_queued (slice_get (stored_state self.old).call_tree.calls place)) }
+        ensures latest { self.new.latest ≡ self.old.latest }
+    {
+        let Some(call) = queued_at(self.calls.list(), place) else {
+            return;
+        };
+        let number = call.number;
+        let pool = self.doors.pool_of(call.door);
+        let Some(pick) = self.pools.pick(pool) else {
+            return;
+        };
+        self.pools.withdraw(pool, Item::Call(number));
+        self.pools.unpark(pick.thread, pool);
+        self.processes.give(pick.thread, Item::Call(number));
+        self.calls.give(number, pick.thread);
+    }
+
+    /// What waits in any pool is given to idle threads there, the oldest first, as long as there are both.
+    fn give_all(&mut self)
+        ensures state { stored_state self.new ≡ give (stored_state self.old) }
+        ensures latest { self.new.latest ≡ self.old.latest }
+    {
+        for i in 0..self.calls.list().len() {
+            self.give_at(i);
+        }
+    }
+
+    /// A flag for each process, whether a thread is idle in its common pool. It takes no memory.
+    fn note_idle(&self, mut had: Room<bool>) -> Room<bool>
+        requires empty { had.items ≡ [] }
+        requires room { length self.now.processes.processes ≤ had.spare }
+        ensures flags { (p : ℕ) → is_flagged result.items p ≡ is_some (pick (stored_state self.now) (Common (pid p))) }
+        ensures agreed { IsAgreed self.now }
+    {
+        for i in 0..self.processes.process_count() {
+            had.push(self.has_idle(Pool::Common(Pid(i + 1))));
+        }
+        had
+    }
+
+    /// Whether the common pool of a process had an idle thread and has none now.
+    fn has_none_left(&self, had: &[bool], p: Pid) -> bool
+        ensures { result ≡ (is_flagged had.now p.0 && is_none (pick (stored_state self.now) (Common (pid p.0)))) }
+    {
+        let idle = self.has_idle(Pool::Common(p));
+        is_flagged_without(had, p.0, idle)
+    }
+
+    /// Starts a spare of each process whose common pool had an idle thread before the giving and has none after it.
+    fn start_all(&mut self, had: &[bool])
+        ensures state { (before ungiven : State) → ((p : ℕ) → has_first_common_door before (stored_state self.old) p ≡ false) → ((p : ℕ) → is_flagged had.now p ≡ is_some (pick ungiven (Common (pid p)))) → stored_state self.new ≡ start_spares before ungiven (stored_state self.old) }
+        ensures agreed { IsAgreed self.new }
+        ensures latest { self.new.latest ≡ self.old.latest }
+    {
+        for i in 0..self.processes.process_count() {
+            let p = Pid(i + 1);
+            if self.has_none_left(had, p) {
+                self.start_spare(p);
+            }
+        }
+    }
+
+    /// What follows an act after which any pool may have both a waiting call and an idle thread, and idle threads may have lost
+    /// their doors: these wake with EINVAL, what waits is given, the oldest first, and spares start. The act makes no process's
+    /// first common door. `had` has room for a flag of each process.
+    pub fn settle_all(&mut self, had: Room<bool>)
+        requires empty { had.items ≡ [] }
+        requires room { length self.old.processes.processes ≤ had.spare }
+        ensures state { (before : State) → ((p : ℕ) → has_first_common_door before (give (fail_returns (stored_state self.old))) p ≡ false) → stored_state self.new ≡ settle before (stored_state self.old) }
+        ensures given_out { IsGivenOut self.new.pools }
+        ensures latest { self.new.latest ≡ self.old.latest }
+    {
+        self.fail_all();
+        let had = self.note_idle(had);
+        self.give_all();
+        self.start_all(had.slice());
+    }
 }
 
 /// Whether a process is this one.
@@ -655,30 +817,5 @@ fn last_given(pool: Pool, had: bool, has: bool) -> Option<Pid>
     match pool {
         Pool::Common(p) if had && !has => Some(p),
         _ => None,
-    }
-}
-
-/// Whether a process made a door.
-fn is_owned(doors: &Doors, d: u32, p: Pid) -> bool
-    ensures { result ≡ is_owned_by p.0 (at_number doors.now.items d) }
-{
-    match doors.door(d) {
-        Some(door) => door.owner.0 == p.0,
-        None => false,
-    }
-}
-
-/// Nothing waits any more in the pools of a process that ended, and none of its spares can start.
-fn drop_pools(pools: &mut Pools, doors: &Doors, p: Pid)
-    requires { length doors.now.items < EVENTS_MAX }
-    ensures { IsWithoutProcess p.0 doors.now.items pools.old pools.new }
-{
-    pools.drop_waiting(Pool::Common(p));
-    pools.drop_spares(p);
-    for i in 0..doors.count() {
-        let d = i as u32 + 1;
-        if is_owned(doors, d, p) {
-            pools.drop_waiting(Pool::Private(d));
-        }
     }
 }

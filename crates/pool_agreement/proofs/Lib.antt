@@ -6,5 +6,7 @@ pub mod Stacks
 pub mod Starting
 pub mod Queued
 pub mod Queues
-pub mod Ends
+pub mod Leaving
+pub mod Unparking
+pub mod GivingAll
 pub mod Settling

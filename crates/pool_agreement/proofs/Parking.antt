@@ -1,13 +1,13 @@
 -- The stack of a pool after one thread parked or left, or was in no pool before or after.
-use Rattle.std.proofs.Common.{◌≡◌, ◌⊎◌, inl, inr, ⊎_elim, ℕ, ◌-◌, ◌<◌, ◌≤◌, ◌==◌, Bool, true, false, List, [], ◌∷◌, ◌++◌, Option, Some, None, length, take, slice_get, refl, sym, ap, ◌∙◌, subst, true≢false, length-append, arith}
+use Rattle.std.proofs.Common.{◌≡◌, inl, inr, ⊎_elim, ℕ, ◌-◌, ◌<◌, ◌≤◌, ◌==◌, Bool, true, false, not, if◌then◌else◌, List, [], ◌∷◌, ◌++◌, Option, Some, None, filter, length, take, slice_get, refl, sym, ap, ◌∙◌, subst, true≢false, length-append, arith}
 use Rattle.std.proofs.Math.Seq.{take-append_seam}
 use Rattle.std.specs.List.{AllByRecursion}
 use Rattle.std.proofs.lemmas.Bool.Decides.{nat_tests}
 use Rattle.kernel_records.specs.declared.pool.Parked.{Parked}
 use Rattle.kernel_records.specs.declared.pool.Pool.{Pool}
 use Rattle.kernel_records.specs.Words.{ProcessTable, is_pool, parked_at}
-use Rattle.server_pool.specs.Words.{AllParkedBefore, IsOrderedBy, IsStack, ParkedBefore, pick_of}
-use Rattle.server_pool.proofs.Order.{ordered_push}
+use Rattle.server_pool.specs.Words.{AllParkedBefore, IsOrderedBy, IsStack, ParkedBefore, is_another_thread, pick_of, without_thread}
+use Rattle.server_pool.proofs.Order.{ordered_filter, ordered_push}
 use Rattle.written_kernel.proofs.Places.{IsIn, place_of}
 use Rattle.pool_agreement.specs.Words.{IsListed, IsParkedIn, IsStackOf}
 use Rattle.pool_agreement.proofs.Parked.{all_in, in_all, in_at, in_front, in_last, in_push, not_both, parked_number, top_of_stack, top_unique}
@@ -87,22 +87,22 @@ module _
       let s : IsStacked table bindings n pool stack = to_stacked table bindings n pool stack h in
       all_in (λ x. ParkedBefore x y) stack (λ x m. let p : IsParkedIn table bindings n pool x = s.parked x m in inl (omega (arith, p.since)))
 
-  pub stack_pushed :
-      (y : Parked) → parked_at table bindings t ≡ None → parked_at after bound t ≡ Some y → is_pool pool y.pool ≡ true → n < y.since →
-      y.since ≤ k → IsStackOf after bound k pool (stack ++ y ∷ [])
-  stack_pushed y before later here l m =
+  pub stack_pushed_after :
+      (y : Parked) → parked_at table bindings t ≡ None → parked_at after bound t ≡ Some y → is_pool pool y.pool ≡ true → AllParkedBefore stack y →
+      n ≤ k → y.since ≤ k → IsStackOf after bound k pool (stack ++ y ∷ [])
+  stack_pushed_after y before later here above l m =
       from_stacked after bound k pool (stack ++ y ∷ [])
       (record {
         parked = λ x i. ⊎_elim (λ j. old x (x.thread.0 == t) refl (s.parked x j)) new (in_push stack x y i);
         all = λ u x e f. listed u x (u == t) refl e f;
-        in_order = ordered_push ParkedBefore stack y h.in_order (all_before y l);
+        in_order = ordered_push ParkedBefore stack y h.in_order above;
       })
     where
       s : IsStacked table bindings n pool stack
       s = to_stacked table bindings n pool stack h
 
       old : (x : Parked) (b : Bool) → (x.thread.0 == t) ≡ b → IsParkedIn table bindings n pool x → IsParkedIn after bound k pool x
-      old x false e p = still_parked x (omega arith) e p
+      old x false e p = still_parked x l e p
       old x true e p =
           let there : parked_at table bindings t ≡ Some x = ap (parked_at table bindings) (sym (same_number x.thread.0 t e)) ∙ p.parked in
           absurd cc
@@ -121,6 +121,11 @@ module _
           let there : parked_at after bound t ≡ Some x = ap (parked_at after bound) (sym (same_number u t e)) ∙ f in
           let same : y ≡ x = cc in
           subst (λ z. IsIn z (stack ++ y ∷ [])) same (in_last stack y)
+
+  pub stack_pushed :
+      (y : Parked) → parked_at table bindings t ≡ None → parked_at after bound t ≡ Some y → is_pool pool y.pool ≡ true → n < y.since →
+      y.since ≤ k → IsStackOf after bound k pool (stack ++ y ∷ [])
+  stack_pushed y before later here l m = stack_pushed_after y before later here (all_before y l) (omega arith) m
 
 -- the last of a list
 
@@ -152,7 +157,31 @@ ordered_last :
 ordered_last Before [] y o = tt
 ordered_last Before (x ∷ xs) y o = (all_last (Before x) xs y o.0, ordered_last Before xs y o.1)
 
--- the thread on top leaves
+-- items of a list that pass a test
+
+in_filter : {X : Type 0} (p : X → Bool) (xs : List X) (x : X) → IsIn x (filter p xs) → IsIn x xs × (p x ≡ true)
+in_filter p [] x h = absurd h
+in_filter {X} p (y ∷ ys) x h = go (p y) refl (in_filter p ys x) h
+  where
+    go :
+        (b : Bool) → p y ≡ b → (IsIn x (filter p ys) → IsIn x ys × (p x ≡ true)) → IsIn x (if b then y ∷ filter p ys else filter p ys) →
+        IsIn x (y ∷ ys) × (p x ≡ true)
+    go true e ih (inl f) = (inl f, ap p f ∙ e)
+    go true e ih (inr k) = let r : IsIn x ys × (p x ≡ true) = ih k in (inr r.0, r.1)
+    go false e ih k = let r : IsIn x ys × (p x ≡ true) = ih k in (inr r.0, r.1)
+
+to_filter : {X : Type 0} (p : X → Bool) (xs : List X) (x : X) → IsIn x xs → p x ≡ true → IsIn x (filter p xs)
+to_filter p [] x h e = absurd h
+to_filter p (y ∷ ys) x h e = go (p y) refl h (λ k. to_filter p ys x k e)
+  where
+    go :
+        (b : Bool) → p y ≡ b → IsIn x (y ∷ ys) → (IsIn x ys → IsIn x (filter p ys)) → IsIn x (if b then y ∷ filter p ys else filter p ys)
+    go true f (inl k) ih = inl k
+    go true f (inr k) ih = inr (ih k)
+    go false f (inl k) ih = absurd (true≢false (sym e ∙ ap p k ∙ f))
+    go false f (inr k) ih = ih k
+
+-- a thread leaves, wherever it stands, or the one on top
 module _
     (t : ℕ) (table : ProcessTable) (bindings : List (Option ℕ)) (after : ProcessTable) (bound : List (Option ℕ)) (n : ℕ) (pool : Pool)
     (alike : IsParkedAlikeBut t table bindings after bound) where
@@ -219,3 +248,39 @@ module _
             in_last zs w,
             λ z i. ⊎_elim (λ j. inr (in_all (λ v. ParkedBefore v w) zs z (ordered_last ParkedBefore zs w o) j)) inl (in_push zs z w i),
           )
+
+  pub stack_without :
+      (stack : List Parked) → parked_at after bound t ≡ None → IsStackOf table bindings n pool stack →
+      IsStackOf after bound n pool (without_thread t stack)
+  stack_without stack gone h =
+      from_stacked after bound n pool (without_thread t stack)
+      (record {
+        parked =
+            λ x i.
+            let both : IsIn x stack × (not (x.thread.0 == t) ≡ true) = in_filter (is_another_thread t) stack x i in
+            other x (x.thread.0 == t) refl both.1 (s.parked x both.0);
+        all = λ u x e f. listed u x (u == t) refl e f;
+        in_order = ordered_filter ParkedBefore (is_another_thread t) stack h.in_order;
+      })
+    where
+      s : IsStacked table bindings n pool stack
+      s = to_stacked table bindings n pool stack h
+
+      other :
+          (x : Parked) (b : Bool) → (x.thread.0 == t) ≡ b → not (x.thread.0 == t) ≡ true → IsParkedIn table bindings n pool x →
+          IsParkedIn after bound n pool x
+      other x false e k p =
+          record { parked = alike.others x.thread.0 e ∙ p.parked; same_pool = p.same_pool; since = p.since }
+      other x true e k p = absurd (true≢false (sym k ∙ ap not e))
+
+      listed :
+          (u : ℕ) (x : Parked) (b : Bool) → (u == t) ≡ b → parked_at after bound u ≡ Some x → is_pool pool x.pool ≡ true →
+          IsIn x (without_thread t stack)
+      listed u x true e f g = absurd (none (parked_at after bound u) (ap (parked_at after bound) (same_number u t e) ∙ gone) f)
+        where
+          none : (o : Option Parked) → o ≡ None → o ≡ Some x → ⊥
+          none o a b = cc
+      listed u x false e f g =
+          let there : parked_at table bindings u ≡ Some x = sym (alike.others u e) ∙ f in
+          to_filter (is_another_thread t) stack x (s.all u x there g)
+          (ap (λ k. not (k == t)) (parked_number table bindings u x there) ∙ ap not e)

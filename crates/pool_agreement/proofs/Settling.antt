@@ -10,9 +10,9 @@ use Rattle.dk_base.specs.declared.request.Param.TheVariants as param
 use Rattle.dk_base.specs.declared.request.Request.TheVariants as request
 use Rattle.kernel_records.specs.declared.pool.Pool.TheVariants.{Common}
 use Rattle.kernel_records.specs.declared.record.ThreadState.TheVariants as is
-use Rattle.kernel_records.specs.Words.{ProcessTable, better_parked, end_owner, first_refusal, give_thread, has_common_door, is_common_of, is_given_as, is_last, is_pool, is_private, is_queued, is_queued_call, is_queued_in, items_in_order, later_parked, new_door, parked_at, parked_thread, pick_among, pick_parked, pid, pool_in, set_param, thread_at, thread_at_state, waiting_call, with_owner_ended, with_param}
-use Rattle.written_kernel.specs.Types.{Attrs, Call, Door, Errno, Item, Name, Param, Parked, PathId, Pool, Request, Thread, ThreadState, Waiting}
-use Rattle.written_kernel.specs.Words.{State, accept, accept_call, await, await_name, begin_call, create, create_tests, door_at, effect, enter, exit, fail_begin, find_call, give, give_each, give_one, give_to, go_on, has_first_common_door, has_given_last, has_room, leave_process, leave_thread, name_of, needs_spare, pick, pool_of, process_of, start_each, start_one, start_spares, unless_refused}
+use Rattle.kernel_records.specs.Words.{ProcessTable, better_parked, end_owner, first_refusal, give_thread, has_common_door, is_common_of, is_given_as, is_last, is_pool, is_private, is_queued, is_queued_call, is_queued_in, items_in_order, later_parked, new_door, parked_at, parked_thread, pick_among, pick_parked, pid, pool_in, revoke_door, revoked_door, set_param, thread_at, thread_at_state, waiting_call, with_owner_ended, with_param}
+use Rattle.written_kernel.specs.Types.{Attrs, Call, Door, Errno, Item, Name, Param, Parked, Pass, PathId, Pool, Request, Thread, ThreadState, Waiting}
+use Rattle.written_kernel.specs.Words.{State, accept, accept_call, await, await_name, begin_call, create, create_tests, door_at, effect, enter, exit, fail_begin, find_call, give, give_each, give_one, give_to, go_on, has_first_common_door, has_given_last, has_invalid_door, has_room, is_live_process, kill, leave_process, leave_thread, name_of, needs_spare, pick, pool_of, process_of, return, return_parked, return_unbound, start_each, start_one, start_spares, unless_refused}
 use Rattle.written_kernel.proofs.Doors.{map-change_door}
 use Rattle.written_kernel.proofs.Entries.{enter_either}
 use Rattle.written_kernel.proofs.Giving.{same_pool}
@@ -443,6 +443,30 @@ has_common-exit m t p q = go (is_last m.process_table t q)
         (map-map_same (is_common_of p) (with_owner_ended q) (common-with_owner_ended p q) m.doors)
     go false = refl
 
+has_common-kill : (m : State) (p q : ℕ) → has_common_door (kill m q).state.doors p ≡ has_common_door m.doors p
+has_common-kill m p q = go (is_live_process m q)
+  where
+    go : (b : Bool) → has_common_door (if b then leave_process m q else m).doors p ≡ has_common_door m.doors p
+    go true =
+        has_common-same p m.doors (end_owner m.doors q)
+        (map-map_same (is_common_of p) (with_owner_ended q) (common-with_owner_ended p q) m.doors)
+    go false = refl
+
+has_common-revoke : (m : State) (p d : ℕ) → has_common_door (revoke_door m.doors d) p ≡ has_common_door m.doors p
+has_common-revoke m p d =
+    has_common-same p m.doors (revoke_door m.doors d) (map-change_door (is_common_of p) m.doors d revoked_door (λ x. refl))
+
+has_common-return :
+    (m : State) (t p q : ℕ) (bytes : List ℕ) (pass : List Pass) →
+    has_common_door (return m t q bytes pass).state.doors p ≡ has_common_door m.doors p
+has_common-return m t p q bytes pass = go (has_invalid_door m t)
+  where
+    go :
+        (b : Bool) →
+        has_common_door (if b then return_unbound m t q bytes pass else return_parked m t q bytes pass).state.doors p ≡ has_common_door m.doors p
+    go true = refl
+    go false = refl
+
 has_common-await : (m : State) (t p : ℕ) (path : PathId) → has_common_door (await m t path).state.doors p ≡ has_common_door m.doors p
 has_common-await m t p path = go (name_of m path)
   where
@@ -495,6 +519,12 @@ first_by_entry m t (request.SetParam fd x value) p =
     (has_common-set_param m p (door_at m (process_of m t) fd) x value)
 first_by_entry m t (request.Await path) p =
     none_by_entry m t p (process_of m t) (request.Await path) (has_common-await m t p path)
+first_by_entry m t (request.Return bytes pass) p =
+    none_by_entry m t p (process_of m t) (request.Return bytes pass) (has_common-return m t p (process_of m t) bytes pass)
+first_by_entry m t (request.Revoke fd) p =
+    none_by_entry m t p (process_of m t) (request.Revoke fd) (has_common-revoke m p (door_at m (process_of m t) fd))
+first_by_entry m t (request.Kill process) p =
+    none_by_entry m t p (process_of m t) (request.Kill process) (has_common-kill m p process.0)
 first_by_entry m t request.Exit p = none_by_entry m t p (process_of m t) request.Exit (has_common-exit m t p (process_of m t))
 first_by_entry m t r p = none_by_entry m t p (process_of m t) r refl
 

@@ -1,5 +1,5 @@
 -- The spare threads of a process: the lowest of them, and those that are left when it starts.
-use Rattle.std.proofs.Common.{◌≡◌, ◌⊎◌, ⊎_elim, ℕ, zero, suc, ◌+◌, ◌<◌, ◌≤◌, ◌==◌, ◌&&◌, Bool, true, false, if◌then◌else◌, cond, not, List, [], ◌∷◌, ◌++◌, Option, Some, None, length, slice_get, position, refl, sym, ap, ap₂, ◌∙◌, subst, eq-or-lt_of_le, add-one, arith}
+use Rattle.std.proofs.Common.{◌≡◌, ⊎_elim, ℕ, zero, suc, ◌+◌, ◌<◌, ◌≤◌, ◌==◌, ◌&&◌, Bool, true, false, if◌then◌else◌, cond, not, List, [], ◌∷◌, ◌++◌, Option, Some, None, length, slice_get, position, refl, sym, ap, ap₂, ◌∙◌, subst, eq-or-lt_of_le, add-one, arith}
 use Rattle.std.specs.List.{position_or_len}
 use Rattle.std.proofs.lemmas.Bool.Decides.{nat_tests}
 use Rattle.std.proofs.lemmas.Option.{slice_get_within}

@@ -1,9 +1,8 @@
 -- What server pools hold, and what the records of threads, doors and calls say of it. The pools are redundant: each is found by
 -- a search of the records, which the pools save.
-use Rattle.std.specs.Prelude.{ℕ, ◌≡◌, ◌+◌, ◌<◌, ◌≤◌, ◌++◌, ◌==◌, List, [], ◌∷◌, Option, Bool, true, Some, None, filter, if◌then◌else◌, is_some, length, map, slice_get, suc, zero}
+use Rattle.std.specs.Prelude.{ℕ, ◌≡◌, ◌<◌, ◌≤◌, ◌++◌, List, [], ◌∷◌, Option, true, Some, None, filter, if◌then◌else◌, is_some, length, map, slice_get, suc, zero}
 use Rattle.dk_base.specs.ByNumber.{at_number}
 use Rattle.written_kernel.specs.Types.{Call, Door, Parked, Pool, Thread, Waiting}
-use Rattle.kernel_records.specs.declared.pool.Pool.TheVariants.{Common, Private}
 use Rattle.kernel_records.specs.Words.{CallTree, ProcessTable, bound_at, is_owned_by, is_pool, is_private_in, is_queued, is_queued_in, is_spare_of, is_valid_door, parked_at, process_in, thread_at, waiting_call}
 use Rattle.server_pool.specs.Words.{IsStack, PoolsValue, queue_in, spares_of, stack_in}
 
@@ -61,21 +60,6 @@ pub record Agrees (latest : ℕ) (table : ProcessTable) (doors : List Door) (tre
   pub common : length pools.common ≡ length table.processes
   pub spare_lists : length pools.spares ≡ length table.processes
   pub private : length pools.private ≡ length doors
-
--- the pools of a process: the common one, and those of its private doors
-abbrev pub is_pool_of_process : ℕ → List Door → Pool → Bool
-is_pool_of_process p doors (Common q) = q.0 == p
-is_pool_of_process p doors (Private d) = is_owned_by p (at_number doors d)
-
--- the pools after a process ended, of which no thread was idle: nothing waits in its pools, and none of its spares can start
-pub record IsWithoutProcess (p : ℕ) (doors : List Door) (before after : PoolsValue) : Type 0 where
-  pub bindings : after.bindings ≡ before.bindings
-  pub stacks : (pool : Pool) → stack_in after pool ≡ stack_in before pool
-  pub queues : (pool : Pool) → queue_in after pool ≡ (if is_pool_of_process p doors pool then [] else queue_in before pool)
-  pub spares : (q : ℕ) → spares_of after q ≡ (if q == p then [] else spares_of before q)
-  pub common : length after.common ≡ length before.common
-  pub spare_lists : length after.spares ≡ length before.spares
-  pub private : length after.private ≡ length before.private
 
 -- What the invariant says of the records, as far as pools need it: threads and doors have the numbers of their places; the
 -- processes of threads and of valid doors, the doors to which threads are bound, and those of waiting calls are there.

@@ -1,3 +1,4 @@
 pub mod Agreement
 pub mod Touched
+pub mod Leaving
 pub mod Words

@@ -25,6 +25,13 @@ returns-in-Working-clause-state c =
     let p = process_of m c.args.t.0 in
     is_kept (stored_state c.end_work.new.store) (go_on m c.args.t.0 p s).state (go_on_live m c.args.t.0 p s c.requires.live (λ k e. grind arith)) (grind arith)
 
+pub returns-in-FailedReturn-clause-state : goal.returns-in-FailedReturn-clause-state
+returns-in-FailedReturn-clause-state c =
+    let m = stored_state c.args.store.now in
+    let s = state_of m c.args.t.0 in
+    let p = process_of m c.args.t.0 in
+    is_kept (stored_state c.wake.new.store) (go_on m c.args.t.0 p s).state (go_on_live m c.args.t.0 p s c.requires.live (λ k e. grind arith)) (grind arith)
+
 pub returns-in_default : goal.returns-in_default
 returns-in_default c =
     let m = stored_state c.args.store.now in

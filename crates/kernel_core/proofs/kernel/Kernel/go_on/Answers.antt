@@ -33,4 +33,5 @@ go_on-requires-clause-placed c = placed (stored_state c.self.inside.parts.store)
 
 pub go_on-requires-clause-none_lost : goal.go_on-requires-clause-none_lost
 go_on-requires-clause-none_lost c =
-    none_lost (stored_state c.self.inside.parts.store) c.args.self.now c.args.t.0 None c.self.view_is c.self.invariant.0 c.requires
+    λ stays.
+    none_lost (stored_state c.self.inside.parts.store) c.args.self.now c.args.t.0 None c.self.view_is c.self.invariant.0 c.requires stays

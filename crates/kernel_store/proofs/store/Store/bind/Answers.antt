@@ -1,14 +1,11 @@
-use Rattle.std.proofs.Common.{Some, is_ok, ap}
+use Rattle.std.proofs.Common.{Some}
 use Rattle.kernel_records.specs.Words.{bind_thread}
-use Rattle.kernel_store.proofs.Acts.{bound, given_out_bound, holds_ok}
+use Rattle.kernel_store.proofs.Acts.{bound, given_out_bound}
 use Rattle.kernel_store.proofs.store.Store.bind.Goals as goal
 
 pub invariant_of-self : goal.invariant_of-self
-invariant_of-self c =
-    rw (holds_ok c.bind.result (ap is_ok c.bind.ensures.result) c.bind.ensures.ok)
-    (bound c.self.invariant c.self.view_is c.args.t.0 (Some c.args.d) c.requires)
+invariant_of-self c = rw c.bind.ensures (bound c.self.invariant c.self.view_is c.args.t.0 (Some c.args.d) c.requires)
 
 pub returns-clause-given_out : goal.returns-clause-given_out
 returns-clause-given_out c given =
-    rw (holds_ok c.bind.result (ap is_ok c.bind.ensures.result) c.bind.ensures.ok)
-    (given_out_bound c.self.view_is (bind_thread c.self.inside.pools.bindings c.args.t.0 c.args.d) given)
+    rw c.bind.ensures (given_out_bound c.self.view_is (bind_thread c.self.inside.pools.bindings c.args.t.0 c.args.d) given)

@@ -4,6 +4,7 @@ use Rattle.server_pool.specs.Words.{change_spares, without_lowest}
 use Rattle.kernel_store.specs.Stored.{stored_state}
 use Rattle.kernel_store.specs.contracts.store.Store.{the_view}
 use Rattle.kernel_store.proofs.Spares.{agrees_started, agrees_unstarted, given_out-spares, spare_not_done, spare_not_idle, state_started, state_unstarted}
+use Rattle.kernel_store.proofs.GivingAll.{picks_kept}
 use Rattle.kernel_store.proofs.store.Store.start_spare.Goals as goal
 
 pub turn-requires-clause-not_done : goal.turn-requires-clause-not_done
@@ -45,3 +46,20 @@ pub returns-in_default-clause-given_out : goal.returns-in_default-clause-given_o
 returns-in_default-clause-given_out c =
     given_out-spares c.args.self.now.pools c.take_spare.new.self c.args.p.0
     (c.take_spare.ensures.left ∙ ap (λ s. change_spares s.pools c.args.p.0 without_lowest) c.self.view_is)
+
+pub returns-in-Some-clause-picks : goal.returns-in-Some-clause-picks
+returns-in-Some-clause-picks c pool =
+    picks_kept c.self.invariant c.self.view_is (record (the_view c.self.inside) { processes = c.turn.new.self; pools = c.take_spare.new.self })
+    (agrees_started (the_view c.self.inside) c.self.invariant c.args.p.0 c.in-Some.t.0 c.in-Some.ensures.result c.turn.new.self
+    c.take_spare.new.self c.turn.ensures c.take_spare.ensures.left)
+    c.args.p.0 c.take_spare.ensures.left pool
+
+pub returns-in-Some-clause-agreed : goal.returns-in-Some-clause-agreed
+returns-in-Some-clause-agreed c =
+    agrees_started (the_view c.self.inside) c.self.invariant c.args.p.0 c.in-Some.t.0 c.in-Some.ensures.result c.turn.new.self
+    c.take_spare.new.self c.turn.ensures c.take_spare.ensures.left
+
+pub returns-in_default-clause-agreed : goal.returns-in_default-clause-agreed
+returns-in_default-clause-agreed c =
+    agrees_unstarted (the_view c.self.inside) c.self.invariant c.args.p.0 c.in_default.ensures.result c.take_spare.new.self
+    c.take_spare.ensures.left

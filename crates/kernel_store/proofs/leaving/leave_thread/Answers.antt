@@ -1,0 +1,39 @@
+use Rattle.std.proofs.Common.{if◌then◌else◌, sym, ap, ◌∙◌}
+use Rattle.kernel_records.specs.Words.{ProcessTable, change_thread, ended_thread, interrupted_where}
+use Rattle.kernel_store.specs.Leaving.{deserted_as}
+use Rattle.kernel_store.proofs.Left.{agrees_interrupted, own_pool_interrupted, there_changed}
+use Rattle.pool_agreement.proofs.Unparking.{change_twice}
+use Rattle.kernel_store.proofs.leaving.leave_thread.Goals as goal
+
+pub desert-requires-clause-there : goal.desert-requires-clause-there
+desert-requires-clause-there c =
+    rw c.interrupt_where.ensures (there_changed c.args.processes.now c.args.t.0 (interrupted_where c.args.fate.interrupted) c.requires.there)
+
+pub desert-requires-clause-room : goal.desert-requires-clause-room
+desert-requires-clause-room c =
+    rw c.interrupt_where.ensures
+    (rw (own_pool_interrupted c.args.processes.now c.args.pools.now.bindings c.args.t.0 c.args.fate.interrupted) c.requires.room)
+
+pub desert-requires-clause-later : goal.desert-requires-clause-later
+desert-requires-clause-later c =
+    rw c.interrupt_where.ensures
+    (rw (own_pool_interrupted c.args.processes.now c.args.pools.now.bindings c.args.t.0 c.args.fate.interrupted) c.requires.later)
+
+pub returns-then-fate-clause-agreed : goal.returns-then-fate-clause-agreed
+returns-then-fate-clause-agreed c = λ doors tree h. c.end_thread.ensures.agreed c.args.now doors tree h
+
+pub returns-clause-thread : goal.returns-clause-thread
+returns-clause-thread c =
+    let table = c.args.processes.now in
+    let t = c.args.t.0 in
+    let fate = c.args.fate in
+    c.desert.ensures.thread
+    ∙ ap (λ (x : ProcessTable). change_thread x t (deserted_as c.args.now fate.desertion)) c.interrupt_where.ensures
+    ∙ change_twice table t (interrupted_where fate.interrupted) (deserted_as c.args.now fate.desertion)
+    ∙ ap
+    (λ b. change_thread table t (λ x. if b then ended_thread x else deserted_as c.args.now fate.desertion (interrupted_where fate.interrupted x)))
+    (sym c.if-fate.false)
+
+pub returns-clause-agreed : goal.returns-clause-agreed
+returns-clause-agreed c = λ doors tree h.
+    c.desert.ensures.agreed doors tree (rw c.interrupt_where.ensures (agrees_interrupted h c.args.t.0 c.args.fate.interrupted))

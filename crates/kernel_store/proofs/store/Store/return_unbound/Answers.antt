@@ -1,0 +1,20 @@
+use Rattle.std.proofs.Common.{None, is_ok, refl, ap, ◌∙◌}
+use Rattle.kernel_records.specs.Words.{thread_outside, unbind_thread}
+use Rattle.pool_agreement.proofs.Queues.{agrees_return}
+use Rattle.pool_agreement.proofs.Unparking.{agrees_alike}
+use Rattle.kernel_store.proofs.Acts.{bound, given_out_bound, holds_ok, leaves_door}
+use Rattle.kernel_store.proofs.store.Store.return_unbound.Goals as goal
+
+pub invariant_of-self : goal.invariant_of-self
+invariant_of-self c =
+    rw c.end_invocation.ensures
+    (rw c.give_back.ensures
+    (rw (holds_ok c.unbind.result (ap is_ok c.unbind.ensures.result ∙ leaves_door c.self.view_is c.args.t.0 c.requires.bound) c.unbind.ensures.ok)
+    (agrees_return
+    (agrees_alike (bound c.self.invariant c.self.view_is c.args.t.0 None c.requires.running) c.args.t.0 thread_outside (λ x b. refl) (λ x p. refl))
+    c.args.t.0 c.args.bytes c.args.objects)))
+
+pub returns-clause-given_out : goal.returns-clause-given_out
+returns-clause-given_out c given =
+    rw (holds_ok c.unbind.result (ap is_ok c.unbind.ensures.result ∙ leaves_door c.self.view_is c.args.t.0 c.requires.bound) c.unbind.ensures.ok)
+    (given_out_bound c.self.view_is (unbind_thread c.self.inside.pools.bindings c.args.t.0) given)

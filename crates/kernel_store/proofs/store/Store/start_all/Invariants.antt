@@ -1,0 +1,5 @@
+use Rattle.kernel_store.proofs.GivingAll.{HasStartedAll}
+use Rattle.kernel_store.proofs.store.Store.start_all.Given as goal
+
+abbrev pub invariant-loop-i : goal.invariant-loop-i
+invariant-loop-i l = HasStartedAll l.fn.had l.initial.self l.self l.i

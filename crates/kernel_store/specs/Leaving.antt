@@ -1,0 +1,41 @@
+-- What becomes of a thread where callers are interrupted or end, and threads end, as decided for it.
+use Rattle.std.specs.Prelude.{ℕ, ◌≡◌, ◌≤◌, if◌then◌else◌, List, Option, is_some, length}
+use Rattle.kernel_records.specs.Words.{ProcessTable, bound_at, cancelled_thread, ended_thread, idle_thread, interrupted_where, process_in, thread_at}
+use Rattle.written_kernel.specs.Types.{Pool, Thread}
+use Rattle.server_pool.specs.Words.{PoolsValue, item_room_in, pool_at, queue_in, spares_of, stack_in, thread_room_in}
+use Rattle.pool_agreement.specs.Words.{pool_by}
+use Rattle.kernel_store.specs.declared.leaving.Desertion.{Desertion}
+use Rattle.kernel_store.specs.declared.leaving.Desertion.TheVariants.{Stays, Parks, IsCancelled}
+use Rattle.kernel_store.specs.declared.leaving.Fate.{Fate}
+
+-- the pool in which a thread parks, by the records of threads and their bindings
+abbrev pub own_pool_in : ProcessTable → List (Option ℕ) → ℕ → Pool
+own_pool_in table bindings t = pool_by (process_in (thread_at table t)) (bound_at bindings t)
+
+-- a thread whose caller leaves
+abbrev pub deserted_as : ℕ → Desertion → Thread → Thread
+deserted_as now Stays x = x
+deserted_as now Parks x = idle_thread now x
+deserted_as now IsCancelled x = cancelled_thread x
+
+abbrev pub fated : ℕ → Fate → Thread → Thread
+fated now fate x = if fate.ends then ended_thread x else deserted_as now fate.desertion (interrupted_where fate.interrupted x)
+
+-- memory
+
+-- the pools hold the same, in whatever room
+pub record HoldsSame (v w : PoolsValue) : Type 0 where
+  pub bindings : w.bindings ≡ v.bindings
+  pub stacks : (pool : Pool) → stack_in w pool ≡ stack_in v pool
+  pub queues : (pool : Pool) → queue_in w pool ≡ queue_in v pool
+  pub spares : (p : ℕ) → spares_of w p ≡ spares_of v p
+  pub common : length w.common ≡ length v.common
+  pub spare_lists : length w.spares ≡ length v.spares
+  pub private : length w.private ≡ length v.private
+
+-- the same pools are there, with no less room
+pub record HasNoLessRoom (v w : PoolsValue) : Type 0 where
+  pub doors : v.door_room ≤ w.door_room
+  pub there : (pool : Pool) → is_some (pool_at w pool) ≡ is_some (pool_at v pool)
+  pub threads : (pool : Pool) → thread_room_in v pool ≤ thread_room_in w pool
+  pub items : (pool : Pool) → item_room_in v pool ≤ item_room_in w pool

@@ -1,0 +1,471 @@
+-- The queues where calls leave them, and what waits where a process ends or a door is revoked.
+use Rattle.std.proofs.Common.{◌≡◌, ℕ, zero, suc, ◌+◌, ◌<◌, ◌≤◌, ◌&&◌, ◌||◌, ◌==◌, Bool, true, false, not, if◌then◌else◌, List, [], ◌∷◌, ◌++◌, Option, Some, None, option_map, length, map, filter, slice_get, refl, sym, subst, ap, ap₂, ◌∙◌, add-one, arith}
+use Rattle.std.proofs.lemmas.Bool.Decides.{nat_tests}
+use Rattle.std.proofs.lemmas.List.{length-map}
+use Rattle.dk_base.specs.ByNumber.{at_number}
+use Rattle.dk_base.specs.declared.object.Item.TheVariants as item
+use Rattle.dk_base.specs.declared.error.Errno.TheVariants.{EBADF, EINTR}
+use Rattle.kernel_records.specs.declared.record.CallStage.TheVariants as stage
+use Rattle.kernel_records.specs.Words.{CallTree, Leaving, ProcessTable, abandoned_at, broken_call_at, end_owner, end_process, ended_process, ended_where, gone_call_at, is_live_call, is_pool, is_queued, is_queued_in, left_call, left_calls, live_calls, pool_in, pool_of_door, revoke_door, revoked_door, waiting_call, with_ended, with_owner_ended, without_arguments_at}
+use Rattle.written_kernel.specs.Types.{Call, CallStage, Door, Errno, Pool, Process, Waiting}
+use Rattle.written_kernel.proofs.Doors.{at_number-change_door, map-change_door}
+use Rattle.written_kernel.proofs.Lists.{at_number-map, length-with_at_number, same_length}
+use Rattle.server_pool.specs.Words.{PoolValue, PoolsValue, change_pool, empty_pool, is_waiting_otherwise, pool_at, pool_or_empty, queue_in, spares_or_none, stack_in, withdraw_in, without_item}
+use Rattle.server_pool.proofs.Changed.{pool_changed, pool_kept}
+use Rattle.pool_agreement.specs.Words.{Agrees, AreInOrder, leaves_queue, spare_at, spares_among, waiting_in}
+use Rattle.pool_agreement.proofs.Queued.{order_filter, waiting_doors, waiting_live}
+use Rattle.pool_agreement.proofs.Queues.{stack_same}
+use Rattle.pool_agreement.proofs.Readers.{bindings-change_pool, common-change_pool, is_pool-sym, private-change_pool, same_number, spares-change_pool}
+
+-- a field of the pools, read after one of them changed, which may not be there
+module _
+    {Y : Type 0} (read : PoolValue → Y) (next : Y → Y) (change : PoolValue → PoolValue) (reads : (x : PoolValue) → read (change x) ≡ next (read x))
+    (none : next (read empty_pool) ≡ read empty_pool) where
+  pub read_change :
+      (v : PoolsValue) (pool q : Pool) →
+      read (pool_or_empty (pool_at (change_pool v pool change) q))
+      ≡ (if is_pool pool q then next (read (pool_or_empty (pool_at v q))) else read (pool_or_empty (pool_at v q)))
+  read_change v pool q = go (is_pool pool q) refl
+    where
+      there : (o : Option PoolValue) → read (pool_or_empty (option_map change o)) ≡ next (read (pool_or_empty o))
+      there None = sym none
+      there (Some x) = reads x
+
+      go :
+          (b : Bool) → is_pool pool q ≡ b →
+          read (pool_or_empty (pool_at (change_pool v pool change) q))
+          ≡ (if b then next (read (pool_or_empty (pool_at v q))) else read (pool_or_empty (pool_at v q)))
+      go true e = ap (λ o. read (pool_or_empty o)) (pool_changed v pool q change e) ∙ there (pool_at v q)
+      go false e = ap (λ o. read (pool_or_empty o)) (pool_kept v pool q change e)
+
+-- a field that the change leaves
+pub read_kept :
+    {Y : Type 0} (read : PoolValue → Y) (change : PoolValue → PoolValue) → ((x : PoolValue) → read (change x) ≡ read x) →
+    (v : PoolsValue) (pool q : Pool) →
+    read (pool_or_empty (pool_at (change_pool v pool change) q)) ≡ read (pool_or_empty (pool_at v q))
+read_kept read change same v pool q =
+    read_change read (λ y. y) change same refl v pool q ∙ go (is_pool pool q) (read (pool_or_empty (pool_at v q)))
+  where
+    go : {Y : Type 0} (b : Bool) (y : Y) → (if b then y else y) ≡ y
+    go true y = refl
+    go false y = refl
+
+-- one call
+
+module _ (who : Leaving) where
+  -- what is read of neither its stage nor its arguments stays
+  left_reads :
+      {Y : Type 0} (f : Call → Y) → ((s : CallStage) (r : Call) → f (without_arguments_at s r) ≡ f r) →
+      ((s : CallStage) (r : Call) → f (abandoned_at s r) ≡ f r) → (r : Call) → f (left_call who r) ≡ f r
+  left_reads f same too r = go (who.ends r.caller.0)
+    where
+      gone : (s : CallStage) → f (gone_call_at s r) ≡ f r
+      gone (stage.Entered u) = too stage.Gone r
+      gone (stage.Answered k) = refl
+      gone stage.Gone = refl
+      gone _ = same stage.Gone r
+
+      ended : (b : Bool) (e : Errno) → f (ended_where b e r) ≡ f r
+      ended true e = same (stage.Ended e) r
+      ended false e = refl
+
+      queued : (b : Bool) → f (if b then without_arguments_at (stage.Ended EINTR) r else ended_where (who.loses r.door) EBADF r) ≡ f r
+      queued true = same (stage.Ended EINTR) r
+      queued false = ended (who.loses r.door) EBADF
+
+      entered : (b c : Bool) → f (if b then abandoned_at (stage.Ended EINTR) r else ended_where c EINTR r) ≡ f r
+      entered true c = too (stage.Ended EINTR) r
+      entered false c = ended c EINTR
+
+      broken : (s : CallStage) → f (broken_call_at who s r) ≡ f r
+      broken stage.Queued = queued (who.interrupts r.caller.0)
+      broken (stage.Given u) = ended (who.interrupts r.caller.0 || who.ends u.0) EINTR
+      broken (stage.Entered u) = entered (who.interrupts r.caller.0) (who.ends u.0)
+      broken _ = refl
+
+      go : (b : Bool) → f (if b then gone_call_at r.stage r else broken_call_at who r.stage r) ≡ f r
+      go true = gone r.stage
+      go false = broken r.stage
+
+  pub left_number : (r : Call) → (left_call who r).number ≡ r.number
+  left_number r = left_reads (λ (x : Call). x.number) (λ s x. refl) (λ s x. refl) r
+
+  left_waiting : (r : Call) → waiting_call (left_call who r) ≡ waiting_call r
+  left_waiting r = left_reads waiting_call (λ s x. refl) (λ s x. refl) r
+
+  left_door : (r : Call) → (left_call who r).door ≡ r.door
+  left_door r = left_reads (λ (x : Call). x.door) (λ s x. refl) (λ s x. refl) r
+
+  -- it waits as long as it does not leave
+  left_queued : (r : Call) → is_queued (left_call who r).stage ≡ (is_queued r.stage && not (leaves_queue who r))
+  left_queued r = go (who.ends r.caller.0) r.stage refl
+    where
+      ended : (b : Bool) (e : Errno) → is_queued r.stage ≡ false → is_queued (ended_where b e r).stage ≡ false
+      ended true e k = refl
+      ended false e k = k
+
+      broken :
+          (b c : Bool) (s : CallStage) → is_queued r.stage ≡ false → is_queued s ≡ false →
+          is_queued (if b then abandoned_at s r else ended_where c EINTR r).stage ≡ false
+      broken true c s k l = l
+      broken false c s k l = ended c EINTR k
+
+      waits :
+          (b c : Bool) → is_queued r.stage ≡ true →
+          is_queued (if b then without_arguments_at (stage.Ended EINTR) r else ended_where c EBADF r).stage ≡ not (b || c)
+      waits true c k = refl
+      waits false true k = refl
+      waits false false k = k
+
+      go :
+          (b : Bool) (s : CallStage) → r.stage ≡ s →
+          is_queued (if b then gone_call_at s r else broken_call_at who s r).stage
+          ≡ (is_queued s && not (b || (who.interrupts r.caller.0 || who.loses r.door)))
+      go true (stage.Answered k) e = ap is_queued e
+      go true stage.Gone e = ap is_queued e
+      go true _ e = refl
+      go false stage.Queued e = waits (who.interrupts r.caller.0) (who.loses r.door) (ap is_queued e)
+      go false (stage.Given u) e = ended (who.interrupts r.caller.0 || who.ends u.0) EINTR (ap is_queued e)
+      go false (stage.Entered u) e = broken (who.interrupts r.caller.0) (who.ends u.0) (stage.Ended EINTR) (ap is_queued e) refl
+      go false (stage.Returned bytes objects) e = ap is_queued e
+      go false (stage.Ended k) e = ap is_queued e
+      go false (stage.Answered k) e = ap is_queued e
+      go false stage.Gone e = ap is_queued e
+
+  left_queued_in :
+      (doors : List Door) (pool : Pool) (r : Call) →
+      is_queued_in doors pool (left_call who r) ≡ (is_queued_in doors pool r && not (leaves_queue who r))
+  left_queued_in doors pool r =
+      ap₂ (λ b d. b && is_pool pool (pool_in (at_number doors d))) (left_queued r) (left_door r)
+      ∙ go (is_queued r.stage) (is_pool pool (pool_in (at_number doors r.door))) (leaves_queue who r)
+    where
+      go : (a b c : Bool) → ((a && not c) && b) ≡ ((a && b) && not c)
+      go true true true = refl
+      go true true false = refl
+      go true false true = refl
+      go true false false = refl
+      go false b c = refl
+
+-- the list of calls, of which the first ones are left
+
+abbrev pub left_first : Leaving → ℕ → List Call → List Call
+left_first who zero rs = rs
+left_first who (suc n) [] = []
+left_first who (suc n) (r ∷ rs) = left_call who r ∷ left_first who n rs
+
+left_all : (who : Leaving) (n : ℕ) (rs : List Call) → length rs ≤ n → left_first who n rs ≡ map (left_call who) rs
+left_all who zero [] l = refl
+left_all who zero (r ∷ rs) l = absurd (omega arith)
+left_all who (suc n) [] l = refl
+left_all who (suc n) (r ∷ rs) l = ap (λ xs. left_call who r ∷ xs) (left_all who n rs (omega arith))
+
+order_first : (who : Leaving) (n : ℕ) (rs : List Call) (low made : ℕ) → AreInOrder low made rs → AreInOrder low made (left_first who n rs)
+order_first who zero rs low made h = h
+order_first who (suc n) [] low made h = h
+order_first who (suc n) (r ∷ rs) low made h =
+    subst (λ k. (low < k) × (k ≤ made) × AreInOrder k made (left_first who n rs)) (sym (left_number who r))
+    (h.0, h.1, order_first who n rs r.number made h.2)
+
+-- the numbers of a list are above those before it
+number_above : (rs : List Call) (low made i : ℕ) (r : Call) → AreInOrder low made rs → slice_get rs i ≡ Some r → low < r.number
+number_above [] low made i r h e = cc
+number_above (x ∷ xs) low made zero r h e = let same : x ≡ r = cc in subst (λ (y : Call). low < y.number) same h.0
+number_above (x ∷ xs) low made (suc i) r h e =
+    let a : low < x.number = h.0 in
+    let b : x.number < r.number = number_above xs x.number made i r h.2 e in omega arith
+
+waiting_cons :
+    (doors : List Door) (pool : Pool) (r : Call) (rs : List Call) (b : Bool) → is_queued_in doors pool r ≡ b →
+    waiting_in doors (r ∷ rs) pool ≡ (if b then waiting_call r ∷ waiting_in doors rs pool else waiting_in doors rs pool)
+waiting_cons doors pool r rs b e =
+    ap (λ c. map waiting_call (if c then r ∷ filter (is_queued_in doors pool) rs else filter (is_queued_in doors pool) rs)) e ∙ go b
+  where
+    go :
+        (c : Bool) →
+        map waiting_call (if c then r ∷ filter (is_queued_in doors pool) rs else filter (is_queued_in doors pool) rs)
+        ≡ (if c then waiting_call r ∷ waiting_in doors rs pool else waiting_in doors rs pool)
+    go true = refl
+    go false = refl
+
+-- a number that is none of theirs
+without_cons :
+    (c : ℕ) (w : Waiting) (ws : List Waiting) (k : ℕ) → w.item ≡ item.Call k → (c == k) ≡ false →
+    without_item (item.Call c) (w ∷ ws) ≡ w ∷ without_item (item.Call c) ws
+without_cons c w ws k e f = ap (λ b. if b then w ∷ without_item (item.Call c) ws else without_item (item.Call c) ws) kept
+  where
+    kept : is_waiting_otherwise (item.Call c) w ≡ true
+    kept = ap (λ i. is_waiting_otherwise (item.Call c) (record w { item = i })) e ∙ ap not f
+
+none_of_them :
+    (doors : List Door) (pool : Pool) (rs : List Call) (c low made : ℕ) → c ≤ low → AreInOrder low made rs →
+    without_item (item.Call c) (waiting_in doors rs pool) ≡ waiting_in doors rs pool
+none_of_them doors pool [] c low made l h = refl
+none_of_them doors pool (r ∷ rs) c low made l h =
+    let above : low < r.number = h.0 in
+    let rest : without_item (item.Call c) (waiting_in doors rs pool) ≡ waiting_in doors rs pool =
+    none_of_them doors pool rs c r.number made (omega arith) h.2 in
+    go (is_queued_in doors pool r) refl (grind (arith, nat_tests)) rest
+  where
+    go :
+        (b : Bool) → is_queued_in doors pool r ≡ b → (c == r.number) ≡ false →
+        without_item (item.Call c) (waiting_in doors rs pool) ≡ waiting_in doors rs pool →
+        without_item (item.Call c) (waiting_in doors (r ∷ rs) pool) ≡ waiting_in doors (r ∷ rs) pool
+    go true e f ih =
+        ap (without_item (item.Call c)) (waiting_cons doors pool r rs true e)
+        ∙ without_cons c (waiting_call r) (waiting_in doors rs pool) r.number refl f
+        ∙ ap (λ ws. waiting_call r ∷ ws) ih
+        ∙ sym (waiting_cons doors pool r rs true e)
+    go false e f ih =
+        ap (without_item (item.Call c)) (waiting_cons doors pool r rs false e) ∙ ih ∙ sym (waiting_cons doors pool r rs false e)
+
+-- the item itself
+without_same : (c : ℕ) (w : Waiting) (ws : List Waiting) → w.item ≡ item.Call c → without_item (item.Call c) (w ∷ ws) ≡ without_item (item.Call c) ws
+without_same c w ws e = ap (λ b. if b then w ∷ without_item (item.Call c) ws else without_item (item.Call c) ws) dropped
+  where
+    dropped : is_waiting_otherwise (item.Call c) w ≡ false
+    dropped = ap (λ i. is_waiting_otherwise (item.Call c) (record w { item = i })) e ∙ grind (arith, nat_tests)
+
+module _ (who : Leaving) (doors : List Door) (pool : Pool) where
+  -- where the next call leaves the pool, it is withdrawn
+  queue_withdrawn :
+      (i : ℕ) (rs : List Call) (low made : ℕ) (r : Call) → AreInOrder low made rs → slice_get rs i ≡ Some r → is_queued_in doors pool r ≡ true →
+      leaves_queue who r ≡ true →
+      without_item (item.Call r.number) (waiting_in doors (left_first who i rs) pool) ≡ waiting_in doors (left_first who (suc i) rs) pool
+  queue_withdrawn i [] low made r h e q l = cc
+  queue_withdrawn zero (x ∷ xs) low made r h e q l =
+      let same : x ≡ r = cc in
+      let number : x.number ≡ r.number = ap (λ (y : Call). y.number) same in
+      let waits : is_queued_in doors pool x ≡ true = ap (is_queued_in doors pool) same ∙ q in
+      ap (without_item (item.Call r.number)) (waiting_cons doors pool x xs true waits)
+      ∙ without_same r.number (waiting_call x) (waiting_in doors xs pool) (ap item.Call number)
+      ∙ none_of_them doors pool xs r.number x.number made (omega arith) h.2
+      ∙ sym (waiting_cons doors pool (left_call who x) xs false
+      (left_queued_in who doors pool x ∙ ap₂ (λ a b. a && not b) waits (ap (leaves_queue who) same ∙ l)))
+  queue_withdrawn (suc i) (x ∷ xs) low made r h e q l =
+      let above : x.number < r.number = number_above xs x.number made i r h.2 e in
+      go (is_queued_in doors pool (left_call who x)) refl (grind (arith, nat_tests)) (queue_withdrawn i xs x.number made r h.2 e q l)
+    where
+      go :
+          (b : Bool) → is_queued_in doors pool (left_call who x) ≡ b → (r.number == x.number) ≡ false →
+          without_item (item.Call r.number) (waiting_in doors (left_first who i xs) pool) ≡ waiting_in doors (left_first who (suc i) xs) pool →
+          without_item (item.Call r.number) (waiting_in doors (left_call who x ∷ left_first who i xs) pool)
+          ≡ waiting_in doors (left_call who x ∷ left_first who (suc i) xs) pool
+      go true f g ih =
+          ap (without_item (item.Call r.number)) (waiting_cons doors pool (left_call who x) (left_first who i xs) true f)
+          ∙ without_cons r.number (waiting_call (left_call who x)) (waiting_in doors (left_first who i xs) pool) (left_call who x).number refl
+          (ap (λ k. r.number == k) (left_number who x) ∙ g)
+          ∙ ap (λ ws. waiting_call (left_call who x) ∷ ws) ih
+          ∙ sym (waiting_cons doors pool (left_call who x) (left_first who (suc i) xs) true f)
+      go false f g ih =
+          ap (without_item (item.Call r.number)) (waiting_cons doors pool (left_call who x) (left_first who i xs) false f) ∙ ih
+          ∙ sym (waiting_cons doors pool (left_call who x) (left_first who (suc i) xs) false f)
+
+  -- and else what waits in the pool stays
+  queue_stays :
+      (i : ℕ) (rs : List Call) (r : Call) → slice_get rs i ≡ Some r → (is_queued_in doors pool r && leaves_queue who r) ≡ false →
+      waiting_in doors (left_first who (suc i) rs) pool ≡ waiting_in doors (left_first who i rs) pool
+  queue_stays i [] r e s = cc
+  queue_stays zero (x ∷ xs) r e s =
+      let same : x ≡ r = cc in
+      go (is_queued_in doors pool x) (leaves_queue who x) refl refl (ap (λ y. is_queued_in doors pool y && leaves_queue who y) same ∙ s)
+    where
+      go :
+          (a b : Bool) → is_queued_in doors pool x ≡ a → leaves_queue who x ≡ b → (a && b) ≡ false →
+          waiting_in doors (left_call who x ∷ xs) pool ≡ waiting_in doors (x ∷ xs) pool
+      go true true f g k = cc
+      go true false f g k =
+          waiting_cons doors pool (left_call who x) xs true (left_queued_in who doors pool x ∙ ap₂ (λ a b. a && not b) f g)
+          ∙ ap (λ w. w ∷ waiting_in doors xs pool) (left_waiting who x)
+          ∙ sym (waiting_cons doors pool x xs true f)
+      go false b f g k =
+          waiting_cons doors pool (left_call who x) xs false (left_queued_in who doors pool x ∙ ap (λ a. a && not (leaves_queue who x)) f)
+          ∙ sym (waiting_cons doors pool x xs false f)
+  queue_stays (suc i) (x ∷ xs) r e s = go (is_queued_in doors pool (left_call who x)) refl (queue_stays i xs r e s)
+    where
+      go :
+          (b : Bool) → is_queued_in doors pool (left_call who x) ≡ b →
+          waiting_in doors (left_first who (suc i) xs) pool ≡ waiting_in doors (left_first who i xs) pool →
+          waiting_in doors (left_call who x ∷ left_first who (suc i) xs) pool ≡ waiting_in doors (left_call who x ∷ left_first who i xs) pool
+      go true f ih =
+          waiting_cons doors pool (left_call who x) (left_first who (suc i) xs) true f
+          ∙ ap (λ ws. waiting_call (left_call who x) ∷ ws) ih
+          ∙ sym (waiting_cons doors pool (left_call who x) (left_first who i xs) true f)
+      go false f ih =
+          waiting_cons doors pool (left_call who x) (left_first who (suc i) xs) false f ∙ ih
+          ∙ sym (waiting_cons doors pool (left_call who x) (left_first who i xs) false f)
+
+-- the pools, after the first so many calls were left
+
+abbrev pub tree_left : Leaving → ℕ → CallTree → CallTree
+tree_left who i tree = record tree { calls = left_first who i tree.calls }
+
+module _ {n : ℕ} {table : ProcessTable} {doors : List Door} {v : PoolsValue} (tree : CallTree) (who : Leaving) (i : ℕ) where
+  pub next_is : Agrees n table doors (tree_left who (suc i) tree) v → Agrees n table doors (tree_left who (i + 1) tree) v
+  next_is h = subst (λ k. Agrees n table doors (tree_left who k tree) v) (sym (add-one i)) h
+
+  pub agrees_withdrawn :
+      (r : Call) → AreInOrder 0 tree.made tree.calls → slice_get tree.calls i ≡ Some r → (is_queued r.stage && leaves_queue who r) ≡ true →
+      Agrees n table doors (tree_left who i tree) v →
+      Agrees n table doors (tree_left who (suc i) tree) (change_pool v (pool_in (at_number doors r.door)) (withdraw_in (item.Call r.number)))
+  agrees_withdrawn r order at leaves h =
+      record {
+        stacks =
+            λ q. stack_same table n q v.bindings w.bindings (stack_in v q) (stack_in w q) (bindings-change_pool v pool change)
+            (read_kept (λ (x : PoolValue). x.parked) change (λ x. refl) v pool q) (h.stacks q);
+        queues =
+            λ q. read_change (λ (x : PoolValue). x.waiting) (without_item (item.Call r.number)) change (λ x. refl) refl v pool q
+            ∙ queue q (is_pool pool q) refl (both (is_queued r.stage) (leaves_queue who r) leaves);
+        spares = λ p. ap (λ xs. spares_or_none (at_number xs p)) (spares-change_pool v pool change) ∙ h.spares p;
+        calls = order_first who (suc i) tree.calls 0 tree.made order;
+        common = common-change_pool v pool change ∙ h.common;
+        spare_lists = ap length (spares-change_pool v pool change) ∙ h.spare_lists;
+        private = private-change_pool v pool change ∙ h.private;
+      }
+    where
+      pool : Pool
+      pool = pool_in (at_number doors r.door)
+
+      change : PoolValue → PoolValue
+      change = withdraw_in (item.Call r.number)
+
+      w : PoolsValue
+      w = change_pool v pool change
+
+      both : (a b : Bool) → (a && b) ≡ true → (a ≡ true) × (b ≡ true)
+      both true b e = (refl, e)
+      both false b e = cc
+
+      queue :
+          (q : Pool) (b : Bool) → is_pool pool q ≡ b → (is_queued r.stage ≡ true) × (leaves_queue who r ≡ true) →
+          (if b then without_item (item.Call r.number) (queue_in v q) else queue_in v q) ≡ waiting_in doors (left_first who (suc i) tree.calls) q
+      queue q true e k =
+          ap (without_item (item.Call r.number)) (h.queues q)
+          ∙ queue_withdrawn who doors q i tree.calls 0 tree.made r order at (ap₂ (λ a b. a && b) k.0 (is_pool-sym q pool ∙ e)) k.1
+      queue q false e k =
+          h.queues q
+          ∙ sym (queue_stays who doors q i tree.calls r at
+          (ap₂ (λ a b. (a && b) && leaves_queue who r) k.0 (is_pool-sym q pool ∙ e)))
+
+  pub agrees_stays :
+      (r : Call) → AreInOrder 0 tree.made tree.calls → slice_get tree.calls i ≡ Some r → (is_queued r.stage && leaves_queue who r) ≡ false →
+      Agrees n table doors (tree_left who i tree) v → Agrees n table doors (tree_left who (suc i) tree) v
+  agrees_stays r order at stays h =
+      record {
+        stacks = h.stacks;
+        queues =
+            λ q. h.queues q
+            ∙ sym (queue_stays who doors q i tree.calls r at
+            (neither (is_queued r.stage) (is_pool q (pool_in (at_number doors r.door))) (leaves_queue who r) stays));
+        spares = h.spares;
+        calls = order_first who (suc i) tree.calls 0 tree.made order;
+        common = h.common;
+        spare_lists = h.spare_lists;
+        private = h.private;
+      }
+    where
+      neither : (a b c : Bool) → (a && c) ≡ false → ((a && b) && c) ≡ false
+      neither true true c e = e
+      neither true false c e = refl
+      neither false b c e = refl
+
+  -- after all of them those that are live are kept
+  pub agrees_left :
+      length tree.calls ≤ i → Agrees n table doors (tree_left who i tree) v → Agrees n table doors (live_calls (left_calls who tree)) v
+  agrees_left l h =
+      record {
+        stacks = h.stacks;
+        queues =
+            λ q. h.queues q ∙ ap (λ rs. waiting_in doors rs q) all
+            ∙ sym (waiting_live doors (map (left_call who) tree.calls) q);
+        spares = h.spares;
+        calls =
+            order_filter is_live_call (map (left_call who) tree.calls) 0 tree.made (subst (AreInOrder 0 tree.made) all h.calls);
+        common = h.common;
+        spare_lists = h.spare_lists;
+        private = h.private;
+      }
+    where
+      all : left_first who i tree.calls ≡ map (left_call who) tree.calls
+      all = left_all who i tree.calls l
+
+-- doors that are invalid serve what they served
+
+pool_in-ended : (doors : List Door) (p k : ℕ) → pool_in (at_number (end_owner doors p) k) ≡ pool_in (at_number doors k)
+pool_in-ended doors p k = ap pool_in (at_number-map (with_owner_ended p) doors k) ∙ go (at_number doors k)
+  where
+    kept : (d : Door) (b : Bool) → pool_of_door (if b then record d { owner_ended = true } else d) ≡ pool_of_door d
+    kept d true = refl
+    kept d false = refl
+
+    go : (o : Option Door) → pool_in (option_map (with_owner_ended p) o) ≡ pool_in o
+    go None = refl
+    go (Some d) = kept d (d.owner.0 == p)
+
+pool_in-revoked : (doors : List Door) (d k : ℕ) → pool_in (at_number (revoke_door doors d) k) ≡ pool_in (at_number doors k)
+pool_in-revoked doors d k = ap pool_in (at_number-change_door doors d k revoked_door) ∙ go (k == d) refl
+  where
+    kept : (o : Option Door) → pool_in (option_map revoked_door o) ≡ pool_in o
+    kept None = refl
+    kept (Some x) = refl
+
+    go :
+        (b : Bool) → (k == d) ≡ b → pool_in (if b then option_map revoked_door (at_number doors d) else at_number doors k) ≡ pool_in (at_number doors k)
+    go true e = kept (at_number doors d) ∙ ap (λ j. pool_in (at_number doors j)) (sym (same_number k d e))
+    go false e = refl
+
+processes-end_process : (table : ProcessTable) (p : ℕ) → length (end_process table p).processes ≡ length table.processes
+processes-end_process table p = go (at_number table.processes p)
+  where
+    go : (o : Option Process) → length (with_ended table p o).processes ≡ length table.processes
+    go None = refl
+    go (Some x) = length-with_at_number table.processes p (ended_process x)
+
+threads-end_process : (table : ProcessTable) (p : ℕ) → (end_process table p).threads ≡ table.threads
+threads-end_process table p = go (at_number table.processes p)
+  where
+    go : (o : Option Process) → (with_ended table p o).threads ≡ table.threads
+    go None = refl
+    go (Some x) = refl
+
+module _ {n : ℕ} {table : ProcessTable} {doors : List Door} {tree : CallTree} {v : PoolsValue} (h : Agrees n table doors tree v) where
+  -- other records of processes and doors, of as many, with the same threads and the same pools of doors
+  with_others :
+      (after : ProcessTable) (others : List Door) → after.threads ≡ table.threads → length after.processes ≡ length table.processes →
+      length others ≡ length doors → ((k : ℕ) → pool_in (at_number others k) ≡ pool_in (at_number doors k)) → Agrees n after others tree v
+  with_others after others threads processes lengths same =
+      subst (λ (t : ProcessTable). Agrees n t others tree v) (ap (λ ts. record after { threads = ts }) (sym threads))
+      (record {
+        stacks = λ q. let s = h.stacks q in record {
+          parked = λ i x e. let k = s.parked i x e in record { parked = k.parked; same_pool = k.same_pool; since = k.since };
+          all = s.all;
+          in_order = s.in_order;
+        };
+        queues = λ q. h.queues q ∙ sym (waiting_doors doors others tree.calls q (λ i r e k. same r.door));
+        spares = λ p. h.spares p ∙ spares p (length table.threads);
+        calls = h.calls;
+        common = h.common ∙ sym processes;
+        spare_lists = h.spare_lists ∙ sym processes;
+        private = h.private ∙ sym lengths;
+      })
+    where
+      placed : ProcessTable
+      placed = record after { threads = table.threads }
+
+      spares : (p k : ℕ) → spares_among table p k ≡ spares_among placed p k
+      spares p zero = refl
+      spares p (suc k) = ap (λ us. us ++ spare_at table p (suc k)) (spares p k)
+
+  -- a process ends that has no thread left
+  pub agrees_end : (p : ℕ) → Agrees n (end_process table p) (end_owner doors p) tree v
+  agrees_end p =
+      with_others (end_process table p) (end_owner doors p) (threads-end_process table p) (processes-end_process table p)
+      (length-map doors (with_owner_ended p)) (pool_in-ended doors p)
+
+  -- a door is revoked
+  pub agrees_revoke : (d : ℕ) → Agrees n table (revoke_door doors d) tree v
+  agrees_revoke d =
+      with_others table (revoke_door doors d) refl refl
+      (same_length nothing (revoke_door doors d) doors (map-change_door nothing doors d revoked_door (λ y. refl))) (pool_in-revoked doors d)
+    where
+      nothing : Door → ℕ
+      nothing y = 0

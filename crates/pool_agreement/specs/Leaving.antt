@@ -1,0 +1,16 @@
+-- Which waiting calls leave their pool, where callers are interrupted, threads end, and doors become invalid.
+use Rattle.std.specs.Prelude.{ℕ, Bool, ◌||◌, List}
+use Rattle.kernel_records.specs.Words.{CallTree, Leaving, ProcessTable}
+use Rattle.written_kernel.specs.Types.{Call, Door}
+use Rattle.server_pool.specs.Words.{PoolsValue}
+use Rattle.pool_agreement.specs.Agreement.{Agrees}
+
+-- a call that waits does so no longer where its caller ends or is interrupted, or its door becomes invalid
+abbrev pub leaves_queue : Leaving → Call → Bool
+leaves_queue who r = who.ends r.caller.0 || (who.interrupts r.caller.0 || who.loses r.door)
+
+-- the pools hold what these threads say, with some doors and calls
+pub record AgreesSomehow (latest : ℕ) (table : ProcessTable) (pools : PoolsValue) : Type 0 where
+  pub doors : List Door
+  pub tree : CallTree
+  pub agrees : Agrees latest table doors tree pools
