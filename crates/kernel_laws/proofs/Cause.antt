@@ -1,9 +1,9 @@
 -- What refuses a Call, and what a caller collects, has its cause in every run.
-use Rattle.std.specs.Prelude.{ℕ, ◌≡◌, ◌+◌, ◌≤◌, ◌↔◌, ◌⊎◌, List, Option, Bool, true, false, Some, None, length, nat_lt, slice_get}
+use Rattle.std.specs.Prelude.{ℕ, ◌≡◌, ◌+◌, ◌<◌, ◌≤◌, ◌↔◌, ◌⊎◌, List, Option, Bool, true, false, Some, None, length, nat_lt, slice_get}
 use Rattle.std.proofs.Common.{refl, sym, ap, subst, ◌∙◌, inl, inr}
 use native.Mathlib.Omega.{arith}
 use Rattle.std.proofs.lemmas.Option.{slice_get_within}
-use Rattle.written_kernel.specs.Types.{Answer, Call, CallStage, Errno, Fd, Obj, Pass, Request, ThreadState}
+use Rattle.written_kernel.specs.Types.{Answer, Call, CallStage, Errno, Fd, Obj, Pass, Request, ThreadState, Tid}
 use Rattle.dk_base.specs.declared.error.Errno.TheVariants.{EMFILE}
 use Rattle.dk_base.specs.declared.request.Request.TheVariants as request
 use Rattle.dk_base.specs.declared.answer.Answer.TheVariants as answer
@@ -12,21 +12,26 @@ use Rattle.kernel_records.specs.declared.record.ThreadState.TheVariants as is
 use Rattle.kernel_records.specs.Words.{is_live, new_descriptors, objects_passed, tid}
 use Rattle.written_kernel.specs.Words.{State, Turn, door_named, make_call, new_call, object_at, process_of, state_at, state_of, step, unless_refused}
 use Rattle.kernel_invariant.specs.Records.{record_of, stage_in, stage_of}
-use Rattle.kernel_invariant.specs.Core.{caller_number, is_underway, live_in, underway_in}
-use Rattle.kernel_invariant.specs.Arrows.{EndsBy, own_table}
-use Rattle.kernel_invariant.specs.Arrows.EndsBy.{door_invalid as invalid, server_full as full}
+use Rattle.kernel_invariant.specs.Core.{caller_number, has_arguments, is_underway, live_in, underway_in}
+use Rattle.kernel_invariant.specs.Arrows.{EndsNow, own_table}
+use Rattle.kernel_invariant.specs.Arrows.EndsBy.{door_invalid as invalid, server_full as full, interrupted as by_caller, server_ended as by_server}
 use Rattle.kernel_laws.specs.Places.{IsCollect, IsRefusedBy, ReturnsCall, answer_at, process_at}
+use Rattle.kernel_laws.specs.Refused.{Fails}
+use Rattle.kernel_laws.specs.Refused.Fails.{refused as by_test}
 use Rattle.kernel_laws.specs.Cause.{Cause, HasCause, IsCall, IsCaused, Leaves, MakesOne, TellsSame, has_room_at}
-use Rattle.kernel_laws.specs.Cause.Cause.{results, caller_full, server_full, door_invalid}
-use Rattle.kernel_laws.proofs.Refusals.{entry_tells, none_of, refusal_at, refusal_of_table, table_of_refusal}
-use Rattle.kernel_laws.proofs.Changes.{over_rank, rank_in, underway_rank}
-use Rattle.kernel_laws.proofs.Known.{Known, invariant_before, never_less, rises_once, same_turn}
+use Rattle.kernel_laws.specs.Cause.Cause.{results, caller_full, server_full, door_invalid, interrupted, server_ended}
+use Rattle.kernel_laws.proofs.Refusals.{call_fails, entry_tells, none_of, refusal_at, refusal_of_table, table_of_refusal}
+use Rattle.kernel_laws.proofs.Changes.{gone_by_rank, gone_rank, gone_stage, over_rank, rank_in, underway_rank}
+use Rattle.kernel_laws.proofs.Changes.Change.{made, given, entered, returned, ended as has_ended, broken_off, left, results_collected, nothing_collected, error_collected}
+use Rattle.kernel_laws.proofs.Done.{doors_interrupted_at, is_leaving_turn, none_ends_at}
+use Rattle.kernel_laws.proofs.Known.{ChangeAt, Known, TurnAt, invariant_before, never_falls, never_less, rises_once, same_turn, stays_or_changes, turn_at}
 use Rattle.kernel_laws.proofs.Story.{story}
-use Rattle.kernel_laws.proofs.Rows.{HandsOver, is_ended_call, is_ended_in}
+use Rattle.kernel_laws.proofs.Rows.{Breaks, GoesOn, HandsOver, is_ended_call, is_ended_in}
+use Rattle.kernel_laws.proofs.Rows.Breaks.{by_cause, by_interrupt}
 use Rattle.kernel_laws.proofs.Rows.HandsOver.{results as hands_results, nothing as hands_nothing, error as hands_error}
 use Rattle.kernel_laws.proofs.Readers.{AnsweredRowAt, EndedAt, ReturnedAt, ended, number_of, same_record, table_at}
-use Rattle.kernel_laws.proofs.Once.{answered_by, collects, returned_before}
-use Rattle.kernel_laws.proofs.Match.{GoesOn, goes_on, made_by, returns_call, same_objects, same_results}
+use Rattle.kernel_laws.proofs.Once.{answered_by, caller_waits, collects, returned_before}
+use Rattle.kernel_laws.proofs.Match.{goes_on, made_by, returns_call, same_objects, same_results}
 
 -- a Call that is not refused answers the number of a call
 
@@ -70,11 +75,18 @@ same_told :
 same_told b d fds n l e f =
     ap (λ (x : List ℕ). answer.Results x fds (nat_lt n (length x))) e ∙ ap (λ (x : ℕ). answer.Results d fds (nat_lt x (length d))) f
 
+waiting_underway : (s : CallStage) → has_arguments s ≡ true → is_underway s ≡ true
+waiting_underway s e = grind arith
+
 ends_underway :
-    (m : State) (t : ℕ) (q : Option Request) (a : Answer) (n : State) (r : Call) (e : Errno) → EndsBy m t q a n r e →
+    (m : State) (t : ℕ) (q : Option Request) (a : Answer) (n : State) (r : Call) (e : Errno) → Breaks m t q a n r e →
     is_underway r.stage ≡ true
-ends_underway m t q a n r e (invalid s v w d) = ap is_underway s
-ends_underway m t q a n r e (full s v w d f) = ap is_underway w
+ends_underway m t q a n r e (by_cause x (invalid s v w d)) = ap is_underway s
+ends_underway m t q a n r e (by_cause x (full s v w d f)) = ap is_underway w
+ends_underway m t q a n r e (by_cause x (by_caller s v d)) = waiting_underway r.stage v
+ends_underway m t q a n r e (by_cause x (by_server u (inl s) w d)) = ap is_underway s
+ends_underway m t q a n r e (by_cause x (by_server u (inr s) w d)) = ap is_underway s
+ends_underway m t q a n r e (by_interrupt u s w d) = ap is_underway w
 
 given_not_entered : (o : Option Call) (r : Call) (t u : ℕ) → o ≡ Some r → r.stage ≡ stage.Given (tid u) → stage_in o ≡ Some (stage.Entered (tid t)) → ⊥
 given_not_entered o r t u e f g = grind arith
@@ -85,6 +97,21 @@ given_not_queued o r s u e f g h = grind arith
 -- what is returned at one place
 same_handed : (o : Option CallStage) (b d : List ℕ) (x y : List Obj) → o ≡ Some (stage.Returned b x) → o ≡ Some (stage.Returned d y) → x ≡ y
 same_handed o b d x y e f = cc
+
+not_asked : {q p : Option Request} {b : List ℕ} {x : List Pass} {t : Tid} → q ≡ p → q ≡ Some (request.Return b x) → p ≡ Some (request.Interrupt t) → ⊥
+not_asked e f g = cc
+
+none_asked : {q p : Option Request} {t : Tid} → q ≡ p → q ≡ None → p ≡ Some (request.Interrupt t) → ⊥
+none_asked e f g = cc
+
+still_valid : {a b : Bool} → a ≡ b → b ≡ true → a ≡ false → ⊥
+still_valid e f g = cc
+
+queued_not_served :
+    (o : Option Call) (r s : Call) (u : ℕ) → o ≡ Some r → o ≡ Some s → r.stage ≡ stage.Queued →
+    (s.stage ≡ stage.Given (tid u)) ⊎ (s.stage ≡ stage.Entered (tid u)) → ⊥
+queued_not_served o r s u e f g (inl h) = grind arith
+queued_not_served o r s u e f g (inr h) = grind arith
 
 underway_at_least : (o : Option Call) → underway_in o ≡ true → 1 ≤ rank_in o
 underway_at_least o e = grind arith
@@ -98,6 +125,12 @@ not_live o r s c e h d = go (is_live r.stage) refl
     go true f = absurd (cc (h (ap live_in e ∙ f), d))
     go false f = f
 
+not_calling : (s : ThreadState) (c : ℕ) → s ≡ is.Calling c → s ≡ is.Done → ⊥
+not_calling s c e f = cc
+
+some_call : (a b : Call) → Some a ≡ Some b → a ≡ b
+some_call a b e = cc
+
 not_gone : (o : Option Call) → live_in o ≡ true → stage_in o ≡ Some stage.Gone → ⊥
 not_gone o e f = grind arith
 
@@ -109,8 +142,10 @@ module _ (m : State) (xs : List Turn) (k : Known m xs) where
   call_tells :
       (i : ℕ) (x : Turn) (fd : Fd) (bytes : List ℕ) (e : Errno) → (h : IsCall m xs i x fd bytes) →
       (answer_at m xs i x ≡ answer.Failure e) ↔ (refusal_in i x fd bytes h.pass ≡ Some e)
-  call_tells i x fd bytes e h =
-      entry_tells (state_at m xs i) x.thread x.request (request.Call fd bytes h.pass h.rsize) e h.request
+  call_tells i x fd bytes e h = (λ a. call_fails (state_at m xs i) x.thread _ fd bytes h.pass h.rsize e refl (both.0 a), λ f. both.1 (by_test e f))
+    where
+      both : (answer_at m xs i x ≡ answer.Failure e) ↔ Fails (state_at m xs i) x.thread (request.Call fd bytes h.pass h.rsize) e
+      both = entry_tells (state_at m xs i) x.thread x.request (request.Call fd bytes h.pass h.rsize) e h.request
 
   refused :
       (i : ℕ) (x : Turn) (fd : Fd) (bytes : List ℕ) (e : Errno) → (h : IsCall m xs i x fd bytes) →
@@ -156,26 +191,49 @@ module _ (m : State) (xs : List Turn) (k : Known m xs) where
       ∙ ap (λ (os : List Obj). has_room_at m xs n z.thread os) (same_handed _ back.bytes more.bytes back.objects more.objects back.is_returned more.is_returned)
       ∙ g))
 
+  same_asked : (e : ℕ) (w v : Turn) → slice_get xs e ≡ Some w → slice_get xs e ≡ Some v → w.request ≡ v.request
+  same_asked e w v f g = ap (λ (y : Turn). y.request) (same_turn xs e w v f g)
+
   exact : (c e n : ℕ) (z : Turn) (a b : Answer) → Cause m xs c e n z a → Cause m xs c e n z b → TellsSame a b
-  exact c e n z a b (results r w fds f back k) (results s v fds' g more l) = (same_bytes, ap (λ l. nat_lt r.rsize (length l)) same_bytes ∙ ap (λ (y : Call). nat_lt y.rsize (length more.bytes)) (same_record _ r s f g))
+  exact c e n z a b (results r w fds f back room) (results s v fds' g more l) = (same_bytes, ap (λ l. nat_lt r.rsize (length l)) same_bytes ∙ ap (λ (y : Call). nat_lt y.rsize (length more.bytes)) (same_record _ r s f g))
     where
       same_bytes : back.bytes ≡ more.bytes
-      same_bytes = same_return w.request v.request back.bytes more.bytes back.pass more.pass (ap (λ (y : Turn). y.request) (same_turn xs e w v back.turn more.turn)) back.request more.request
-  exact c e n z a b (results r w fds f back k) (caller_full s v g more l) = absurd (one_room c e n z w v back more k l)
-  exact c e n z a b (caller_full s v g more l) (results r w fds f back k) = absurd (one_room c e n z w v back more k l)
-  exact c e n z a b (results r w fds f back k) (server_full s v y g q x d) = absurd (given_not_entered _ s w.thread v.thread g q back.was_entered)
-  exact c e n z a b (server_full s v y g q x d) (results r w fds f back k) = absurd (given_not_entered _ s w.thread v.thread g q back.was_entered)
-  exact c e n z a b (results r w fds f back k) (door_invalid s g q v x d) = absurd (not_both _ s w.thread g q back.was_entered)
-  exact c e n z a b (door_invalid s g q v x d) (results r w fds f back k) = absurd (not_both _ s w.thread g q back.was_entered)
-  exact c e n z a b (caller_full r w f back k) (caller_full s v g more l) = refl
-  exact c e n z a b (caller_full r w f back k) (server_full s v y g q x d) = refl
-  exact c e n z a b (server_full s v y g q x d) (caller_full r w f back k) = refl
-  exact c e n z a b (caller_full r w f back k) (door_invalid s g q v x d) = absurd (not_both _ s w.thread g q back.was_entered)
-  exact c e n z a b (door_invalid s g q v x d) (caller_full r w f back k) = absurd (not_both _ s w.thread g q back.was_entered)
-  exact c e n z a b (server_full s v y g q x d) (server_full r w h f p k l) = refl
-  exact c e n z a b (server_full r w h f p k l) (door_invalid s g q v x d) = absurd (given_not_queued _ r s w.thread f g p q)
-  exact c e n z a b (door_invalid s g q v x d) (server_full r w h f p k l) = absurd (given_not_queued _ r s w.thread f g p q)
-  exact c e n z a b (door_invalid s g q v x d) (door_invalid r f p y w h) = refl
+      same_bytes = same_return w.request v.request back.bytes more.bytes back.pass more.pass (same_asked e w v back.turn more.turn) back.is_return.asked more.is_return.asked
+  exact c e n z a b (results r w fds f back room) (caller_full s v g more l) = absurd (one_room c e n z w v back more room l)
+  exact c e n z a b (caller_full s v g more l) (results r w fds f back room) = absurd (one_room c e n z w v back more room l)
+  exact c e n z a b (results r w fds f back room) (server_full r' w' h' q' f' g' y' d') = absurd (given_not_entered _ r' w.thread w'.thread f' g' back.was_entered)
+  exact c e n z a b (results r w fds f back room) (door_invalid r' f' g' v' x' d') = absurd (not_both _ r' w.thread f' g' back.was_entered)
+  exact c e n z a b (results r w fds f back room) (interrupted r' w' h' f' u' q' d') = absurd (not_asked (same_asked e w w' back.turn h') back.is_return.asked q')
+  exact c e n z a b (results r w fds f back room) (server_ended r' u' f' g' h' d') = absurd (none_ends_at m xs k e w back.turn (ap is_leaving_turn back.is_return.asked) u' h')
+  exact c e n z a b (caller_full r w f back room) (caller_full r' w' f' back' room') = refl
+  exact c e n z a b (caller_full r w f back room) (server_full r' w' h' q' f' g' y' d') = absurd (given_not_entered _ r' w.thread w'.thread f' g' back.was_entered)
+  exact c e n z a b (caller_full r w f back room) (door_invalid r' f' g' v' x' d') = absurd (not_both _ r' w.thread f' g' back.was_entered)
+  exact c e n z a b (caller_full r w f back room) (interrupted r' w' h' f' u' q' d') = absurd (not_asked (same_asked e w w' back.turn h') back.is_return.asked q')
+  exact c e n z a b (caller_full r w f back room) (server_ended r' u' f' g' h' d') = absurd (none_ends_at m xs k e w back.turn (ap is_leaving_turn back.is_return.asked) u' h')
+  exact c e n z a b (server_full r w h q f g y d) (results r' w' fds' f' back' room') = absurd (given_not_entered _ r w'.thread w.thread f g back'.was_entered)
+  exact c e n z a b (server_full r w h q f g y d) (caller_full r' w' f' back' room') = absurd (given_not_entered _ r w'.thread w.thread f g back'.was_entered)
+  exact c e n z a b (server_full r w h q f g y d) (server_full r' w' h' q' f' g' y' d') = refl
+  exact c e n z a b (server_full r w h q f g y d) (door_invalid r' f' g' v' x' d') = absurd (given_not_queued _ r r' w.thread f f' g g')
+  exact c e n z a b (server_full r w h q f g y d) (interrupted r' w' h' f' u' q' d') = absurd (none_asked (same_asked e w w' h h') q q')
+  exact c e n z a b (server_full r w h q f g y d) (server_ended r' u' f' g' h' d') = absurd (none_ends_at m xs k e w h (ap is_leaving_turn q) u' h')
+  exact c e n z a b (door_invalid r f g v x d) (results r' w' fds' f' back' room') = absurd (not_both _ r w'.thread f g back'.was_entered)
+  exact c e n z a b (door_invalid r f g v x d) (caller_full r' w' f' back' room') = absurd (not_both _ r w'.thread f g back'.was_entered)
+  exact c e n z a b (door_invalid r f g v x d) (server_full r' w' h' q' f' g' y' d') = absurd (given_not_queued _ r' r w'.thread f' f g' g)
+  exact c e n z a b (door_invalid r f g v x d) (door_invalid r' f' g' v' x' d') = refl
+  exact c e n z a b (door_invalid r f g v x d) (interrupted r' w' h' f' u' q' d') = absurd (still_valid (doors_interrupted_at m xs k e w' r'.caller r.door h' q') v x)
+  exact c e n z a b (door_invalid r f g v x d) (server_ended r' u' f' g' h' d') = absurd (queued_not_served _ r r' u' f f' g g')
+  exact c e n z a b (interrupted r w h f u q d) (results r' w' fds' f' back' room') = absurd (not_asked (same_asked e w' w back'.turn h) back'.is_return.asked q)
+  exact c e n z a b (interrupted r w h f u q d) (caller_full r' w' f' back' room') = absurd (not_asked (same_asked e w' w back'.turn h) back'.is_return.asked q)
+  exact c e n z a b (interrupted r w h f u q d) (server_full r' w' h' q' f' g' y' d') = absurd (none_asked (same_asked e w' w h' h) q' q)
+  exact c e n z a b (interrupted r w h f u q d) (door_invalid r' f' g' v' x' d') = absurd (still_valid (doors_interrupted_at m xs k e w r.caller r'.door h q) v' x')
+  exact c e n z a b (interrupted r w h f u q d) (interrupted r' w' h' f' u' q' d') = refl
+  exact c e n z a b (interrupted r w h f u q d) (server_ended r' u' f' g' h' d') = refl
+  exact c e n z a b (server_ended r u f g h d) (results r' w' fds' f' back' room') = absurd (none_ends_at m xs k e w' back'.turn (ap is_leaving_turn back'.is_return.asked) u h)
+  exact c e n z a b (server_ended r u f g h d) (caller_full r' w' f' back' room') = absurd (none_ends_at m xs k e w' back'.turn (ap is_leaving_turn back'.is_return.asked) u h)
+  exact c e n z a b (server_ended r u f g h d) (server_full r' w' h' q' f' g' y' d') = absurd (none_ends_at m xs k e w' h' (ap is_leaving_turn q') u h)
+  exact c e n z a b (server_ended r u f g h d) (door_invalid r' f' g' v' x' d') = absurd (queued_not_served _ r' r u f' f g' g)
+  exact c e n z a b (server_ended r u f g h d) (interrupted r' w' h' f' u' q' d') = refl
+  exact c e n z a b (server_ended r u f g h d) (server_ended r' u' f' g' h' d') = refl
 
   -- what is collected
 
@@ -230,11 +288,14 @@ module _ (m : State) (xs : List Turn) (k : Known m xs) where
 
   cause_of_end :
       (c e n : ℕ) (w z : Turn) (r : Call) (x : Errno) → slice_get xs e ≡ Some w → record_of (state_at m xs e) c ≡ Some r →
-      EndsBy (state_at m xs e) w.thread w.request (answer_at m xs e w) (state_at m xs (e + 1)) r x →
+      Breaks (state_at m xs e) w.thread w.request (answer_at m xs e w) (state_at m xs (e + 1)) r x →
       Cause m xs c e n z (answer.Failure x)
-  cause_of_end c e n w z r x h f (invalid q v y d) = door_invalid r f q v y d
-  cause_of_end c e n w z r x h f (full q v g d a) =
-      server_full r w h f g (a ∙ ap (λ (j : ℕ). answer.EnterFailed j) (number_of (state_at m xs e) c r f)) d
+  cause_of_end c e n w z r x h f (by_cause y (invalid q v b d)) = door_invalid r f q v b d
+  cause_of_end c e n w z r x h f (by_cause y (full q v g d a)) =
+      server_full r w h q f g (a ∙ ap (λ (j : ℕ). answer.EnterFailed j) (number_of (state_at m xs e) c r f)) d
+  cause_of_end c e n w z r x h f (by_cause y (by_caller q v d)) = interrupted r w h f (waiting_underway r.stage v) q d
+  cause_of_end c e n w z r x h f (by_cause y (by_server u s v d)) = server_ended r u f s v d
+  cause_of_end c e n w z r x h f (by_interrupt u q s d) = interrupted r w h f (ap is_underway s) q d
 
   caused_by_end :
       (i c : ℕ) (z : Turn) (r : Call) (x : Errno) (o : Option Call) → o ≡ Some r → r.stage ≡ stage.Ended x →
@@ -246,17 +307,17 @@ module _ (m : State) (xs : List Turn) (k : Known m xs) where
         leaves =
             record {
               within = slice_get_within xs b.at b.turn b.found;
-              underway = ap underway_in (b.was ∙ b.row.before) ∙ ends_underway _ _ _ _ _ b.row.call b.row.error b.row.ends;
-              over = ap underway_in (b.there ∙ b.row.after);
+              underway = ap underway_in (b.was ∙ b.row.before) ∙ ends_underway _ _ _ _ _ b.row.call b.row.error b.row.breaks;
+              over = ap underway_in (b.there ∙ h) ∙ ap is_underway s;
             };
         cause =
             subst (Cause m xs c b.at i z)
-            (ap (λ (y : Errno). answer.Failure y) (same_error b.row.error x r.stage first.stage s) ∙ sym f)
-            (cause_of_end c b.at i b.turn z b.row.call b.row.error b.found (b.was ∙ b.row.before) b.row.ends);
+            (ap (λ (y : Errno). answer.Failure y) (same_error b.row.error x r.stage (ap (λ (y : Call). y.stage) same ∙ b.row.goes_on.stage) s) ∙ sym f)
+            (cause_of_end c b.at i b.turn z b.row.call b.row.error b.found (b.was ∙ b.row.before) b.row.breaks);
       }
     where
-      first : GoesOn b.row.call r (stage.Ended b.row.error)
-      first = goes_on b.row.call r _ o h b.row.after
+      same : r ≡ b.row.ended
+      same = same_record o r b.row.ended h b.row.after
 
   caused :
       (i c : ℕ) (z : Turn) (r : Call) (a : Answer) → i ≤ length xs → record_of (state_at m xs i) c ≡ Some r →
@@ -281,10 +342,66 @@ module _ (m : State) (xs : List Turn) (k : Known m xs) where
       is_live r.stage ≡ false
   gone i c r l e d = not_live _ r (state_of (state_at m xs i) r.caller.0) c e (λ h. subst (λ o. state_of (state_at m xs i) (caller_number o) ≡ is.Calling c) e ((k.invariant i l).consistent.coherent.waits.calling c h)) d
 
+  -- what its caller leaves is Gone
+  gone_now :
+      (i c : ℕ) (r : Call) (x : Turn) → slice_get xs i ≡ Some x → record_of (state_at m xs i) c ≡ Some r → is_live r.stage ≡ true →
+      state_of (state_at m xs (i + 1)) r.caller.0 ≡ is.Done → stage_of (state_at m xs (i + 1)) c ≡ Some stage.Gone
+  gone_now i c r x e f l d = go (stays_or_changes m xs k c i x e)
+    where
+      ends : EndsNow (state_at m xs i) (state_at m xs (i + 1)) r.caller.0
+      ends =
+          record {
+            before = λ h. not_calling _ c (caller_waits m xs k i c r (omega (arith, slice_get_within xs i x e)) f l) h;
+            after = d;
+          }
+
+      -- its caller does not wait after it
+      not_live_after : (s : Call) → record_of (state_at m xs (i + 1)) c ≡ Some s → s.caller ≡ r.caller → is_live s.stage ≡ true → ⊥
+      not_live_after s g h b =
+          not_calling _ c
+          (ap (λ (y : Tid). state_of (state_at m xs (i + 1)) y.0) (sym h)
+          ∙ caller_waits m xs k (i + 1) c s (omega (arith, slice_get_within xs i x e)) g b)
+          d
+
+      by :
+          (o p : Option Call) → ChangeAt m xs i x o p → o ≡ Some r → record_of (state_at m xs (i + 1)) c ≡ p →
+          stage_in p ≡ Some stage.Gone
+      by o p (left s v h) g a = ap (λ (y : CallStage). Some y) (gone_stage s.stage s v)
+      by o p (made b rsize fd bytes pass s v h w y q) g a = absurd (cc g)
+      by o p (given s u v) g a = absurd (not_live_after _ a (ap (λ (y : Call). y.caller) (some_call s r g)) refl)
+      by o p (entered s v h w y q) g a = absurd (not_live_after _ a (ap (λ (y : Call). y.caller) (some_call s r g)) refl)
+      by o p (returned s bytes pass v h w y q) g a = absurd (not_live_after _ a (ap (λ (y : Call). y.caller) (some_call s r g)) refl)
+      by o p (has_ended s v h) g a = absurd (not_live_after _ a (ap (λ (y : Call). y.caller) (some_call s r g)) refl)
+      by o p (broken_off s u v h w) g a = absurd (not_live_after _ a (ap (λ (y : Call). y.caller) (some_call s r g)) refl)
+      by o p (results_collected s bytes objects v h w y q b) g a = absurd (none_ends_at m xs k i x e (ap is_leaving_turn v) r.caller.0 ends)
+      by o p (nothing_collected s bytes objects v h w y q b) g a = absurd (none_ends_at m xs k i x e (ap is_leaving_turn v) r.caller.0 ends)
+      by o p (error_collected s y v h w q b) g a = absurd (none_ends_at m xs k i x e (ap is_leaving_turn v) r.caller.0 ends)
+
+      go :
+          (record_of (state_at m xs (i + 1)) c ≡ record_of (state_at m xs i) c)
+          ⊎ ChangeAt m xs i x (record_of (state_at m xs i) c) (record_of (state_at m xs (i + 1)) c) →
+          stage_of (state_at m xs (i + 1)) c ≡ Some stage.Gone
+      go (inl same) = absurd (not_live_after r (same ∙ f) refl l)
+      go (inr w) = by _ _ w f refl
+
+  gone_for_ever :
+      (i j c : ℕ) (r : Call) → i < j → j ≤ length xs → record_of (state_at m xs i) c ≡ Some r → is_live r.stage ≡ true →
+      state_of (state_at m xs (i + 1)) r.caller.0 ≡ is.Done → stage_of (state_at m xs j) c ≡ Some stage.Gone
+  gone_for_ever i j c r l b f v d = go (turn_at xs i (omega (arith, l, b)))
+    where
+      go : TurnAt xs i → stage_of (state_at m xs j) c ≡ Some stage.Gone
+      go t =
+          gone_by_rank _
+          (omega (
+            arith,
+            gone_rank _ (gone_now i c r t.turn t.found f v d),
+            never_falls (λ n. rank_in (record_of (state_at m xs n) c)) (length xs) (never_less m xs k c) (i + 1) j (omega (arith, l)) b,
+          ))
+
   gone_unanswered :
       (i c : ℕ) (x : Turn) → slice_get xs i ≡ Some x → IsCollect m xs i x c → stage_of (state_at m xs i) c ≡ Some stage.Gone → ⊥
   gone_unanswered i c x e w g = not_gone _ ((invariant_before m xs k i x e).consistent.coherent.waits.live c x.thread w.calling) g
 
   pub cause_holds : HasCause m xs
   cause_holds =
-      record { refused = refused; not_refused = not_refused; told = told; exact = exact; gone = gone; gone_unanswered = gone_unanswered; left_once = left_once }
+      record { refused = refused; not_refused = not_refused; told = told; exact = exact; gone = gone; gone_for_ever = gone_for_ever; gone_unanswered = gone_unanswered; left_once = left_once }

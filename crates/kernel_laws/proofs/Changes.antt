@@ -1,23 +1,24 @@
 -- What one event does to a call's record, as one row: the table of arrows together with the giving that may follow an act. A
 -- record that stays has no row. Each row raises the rank of the record.
 use Rattle.std.specs.Prelude.{ℕ, ◌≡◌, ◌<◌, ◌≤◌, ◌⊎◌, List, Option, Bool, true, false, Some, None, length, nat_lt}
-use Rattle.std.proofs.Common.{refl, sym, subst, inl, inr}
+use Rattle.std.proofs.Common.{refl, sym, ap, subst, inl, inr}
 use native.Mathlib.Omega.{arith}
 use Rattle.written_kernel.specs.Types.{Answer, Call, CallStage, Errno, Fd, Obj, Pass, Request}
-use Rattle.dk_base.specs.declared.error.Errno.TheVariants.{EMFILE}
+use Rattle.dk_base.specs.declared.error.Errno.TheVariants.{EINTR, EMFILE}
 use Rattle.dk_base.specs.declared.object.Obj.TheVariants as obj
 use Rattle.dk_base.specs.declared.object.Item.TheVariants as item
 use Rattle.dk_base.specs.declared.request.Request.TheVariants as request
 use Rattle.dk_base.specs.declared.answer.Answer.TheVariants as answer
 use Rattle.kernel_records.specs.declared.record.ThreadState.TheVariants as is
 use Rattle.kernel_records.specs.declared.record.CallStage.TheVariants as stage
-use Rattle.kernel_records.specs.Words.{at_stage, cookie_of, entry_of, first_refusal, new_descriptors, objects_passed, tid, without_arguments_at}
-use Rattle.written_kernel.specs.Words.{State, call_tests, door_of, new_call, now, object_at, process_of, state_of}
+use Rattle.kernel_records.specs.Words.{abandoned_at, at_stage, cookie_of, entry_of, first_refusal, gone_call_at, is_live, is_queued, new_descriptors, objects_passed, tid, without_arguments_at}
+use Rattle.written_kernel.specs.Words.{State, call_tests, door_of, new_call, now, object_at, process_of, return_answer, return_tests, state_of}
 use Rattle.kernel_invariant.specs.Core.{has_arguments, underway_in}
-use Rattle.kernel_invariant.specs.Arrows.{Arrow, ByAct, ByGiving, EndsBy, has_own_room, own_table}
-use Rattle.kernel_invariant.specs.Arrows.ByAct.{stays, makes, enters, returns, ends, collects_results, collects_nothing, collects_error}
+use Rattle.kernel_invariant.specs.Records.{stage_in}
+use Rattle.kernel_invariant.specs.Arrows.{Arrow, ByAct, ByGiving, EndsBy, EndsNow, has_own_room, own_table}
+use Rattle.kernel_invariant.specs.Arrows.ByAct.{stays, makes, enters, returns, ends, breaks_off, leaves, collects_results, collects_nothing, collects_error}
 use Rattle.kernel_invariant.specs.Arrows.ByGiving.{stays as keeps, gives}
-use Rattle.kernel_invariant.specs.Arrows.EndsBy.{door_invalid, server_full}
+use Rattle.kernel_invariant.specs.Arrows.EndsBy.{door_invalid, server_full, interrupted, server_ended}
 use Rattle.kernel_laws.specs.Places.{is_answered_in, is_entered_in, is_returned_in}
 
 -- by an event of thread t, with request q or the end of its wait and answer a, from state m to state n
@@ -35,10 +36,16 @@ pub data Change (m : State) (t : ℕ) (q : Option Request) (a : Answer) (n : Sta
       Change m t q a n (Some r) (Some (without_arguments_at (stage.Entered (tid t)) r))
   returned :
       (r : Call) (bytes : List ℕ) (pass : List Pass) → q ≡ Some (request.Return bytes pass) →
-      r.stage ≡ stage.Entered (tid t) → r.abandoned ≡ false → a ≡ answer.Wait →
+      first_refusal (return_tests m t (process_of m t) bytes pass) ≡ None → r.stage ≡ stage.Entered (tid t) → r.abandoned ≡ false →
+      a ≡ return_answer m t →
       Change m t q a n (Some r) (Some (without_arguments_at (stage.Returned bytes (objects_passed (own_table m t) pass)) r))
   ended :
       (r : Call) (e : Errno) → EndsBy m t q a n r e → Change m t q a n (Some r) (Some (without_arguments_at (stage.Ended e) r))
+  broken_off :
+      (r : Call) (u : ℕ) → q ≡ Some (request.Interrupt r.caller) → r.stage ≡ stage.Entered (tid u) →
+      (state_of n r.caller.0 ≡ is.Done → ⊥) → Change m t q a n (Some r) (Some (abandoned_at (stage.Ended EINTR) r))
+  left :
+      (r : Call) → is_live r.stage ≡ true → EndsNow m n r.caller.0 → Change m t q a n (Some r) (Some (gone_call_at r.stage r))
   results_collected :
       (r : Call) (bytes : List ℕ) (objects : List Obj) → q ≡ None → state_of m t ≡ is.Calling r.number → r.caller.0 ≡ t →
       r.stage ≡ stage.Returned bytes objects → has_own_room m t objects ≡ true →
@@ -56,11 +63,17 @@ pub data Change (m : State) (t : ℕ) (q : Option Request) (a : Answer) (n : Sta
 
 abbrev is_queued_in : Option Call → Bool
 is_queued_in None = false
-is_queued_in (Some r) = is_queued_stage r.stage
-  where
-    is_queued_stage : CallStage → Bool
-    is_queued_stage stage.Queued = true
-    is_queued_stage _ = false
+is_queued_in (Some r) = is_queued r.stage
+
+-- a live call that its caller leaves is Gone
+pub gone_stage : (s : CallStage) (r : Call) → is_live s ≡ true → (gone_call_at s r).stage ≡ stage.Gone
+gone_stage stage.Queued r e = refl
+gone_stage (stage.Given u) r e = refl
+gone_stage (stage.Entered u) r e = refl
+gone_stage (stage.Returned bytes objects) r e = refl
+gone_stage (stage.Ended x) r e = refl
+gone_stage (stage.Answered k) r e = absurd (cc e)
+gone_stage stage.Gone r e = absurd (cc e)
 
 same_given : (o p : Option Call) → ByGiving o p → is_queued_in o ≡ false → p ≡ o
 same_given o p keeps h = refl
@@ -92,8 +105,10 @@ module _ (m : State) (t : ℕ) (q : Option Request) (a : Answer) (n : State) whe
   act_then o b p stays g = only_given o p g
   act_then o b p (makes d rsize fd bytes pass e f v k) g = inr (made_then d rsize fd bytes pass b p e f v k refl g)
   act_then o b p (enters r e f k v w) g = stays_then o b p (entered r e f k v w) g refl
-  act_then o b p (returns r bytes pass e f k v) g = stays_then o b p (returned r bytes pass e f k v) g refl
+  act_then o b p (returns r bytes pass e x f k v) g = stays_then o b p (returned r bytes pass e x f k v) g refl
   act_then o b p (ends r e h) g = stays_then o b p (ended r e h) g refl
+  act_then o b p (breaks_off r u e f d) g = stays_then o b p (broken_off r u e f d) g refl
+  act_then o b p (leaves r l h) g = stays_then o b p (left r l h) g (ap is_queued (gone_stage r.stage r l))
   act_then o b p (collects_results r bytes objects e f k v w z) g = stays_then o b p (results_collected r bytes objects e f k v w z) g refl
   act_then o b p (collects_nothing r bytes objects e f k v w z) g = stays_then o b p (nothing_collected r bytes objects e f k v w z) g refl
   act_then o b p (collects_error r x e f k v w) g = stays_then o b p (error_collected r x e f k v w) g refl
@@ -123,6 +138,12 @@ ends_rank :
     (m : State) (t : ℕ) (q : Option Request) (a : Answer) (n : State) (r : Call) (e : Errno) → EndsBy m t q a n r e → rank_of r.stage < 4
 ends_rank m t q a n r e (door_invalid f v w d) = grind arith
 ends_rank m t q a n r e (server_full f g k v w) = grind arith
+ends_rank m t q a n r e (interrupted f g d) = grind arith
+ends_rank m t q a n r e (server_ended u (inl f) g d) = grind arith
+ends_rank m t q a n r e (server_ended u (inr f) g d) = grind arith
+
+live_rank : (s : CallStage) → is_live s ≡ true → rank_of s < 6
+live_rank s e = grind arith
 
 pub change_rises :
     (m : State) (t : ℕ) (q : Option Request) (a : Answer) (n : State) (o p : Option Call) → Change m t q a n o p →
@@ -130,8 +151,10 @@ pub change_rises :
 change_rises m t q a n o p (made d rsize fd bytes pass s e f v k w) = omega (arith, new_rank s w)
 change_rises m t q a n o p (given r u e) = grind arith
 change_rises m t q a n o p (entered r e f g k v) = grind arith
-change_rises m t q a n o p (returned r bytes pass e f g k) = grind arith
+change_rises m t q a n o p (returned r bytes pass e x f g k) = grind arith
 change_rises m t q a n o p (ended r e h) = ends_rank m t q a n r e h
+change_rises m t q a n o p (broken_off r u e f d) = grind arith
+change_rises m t q a n o p (left r l h) = omega (arith, live_rank r.stage l, ap rank_of (gone_stage r.stage r l))
 change_rises m t q a n o p (results_collected r bytes objects e f g k l z) = grind arith
 change_rises m t q a n o p (nothing_collected r bytes objects e f g k l z) = grind arith
 change_rises m t q a n o p (error_collected r x e f g k l) = grind arith
@@ -146,6 +169,17 @@ returned_rank o e = grind arith
 
 pub answered_rank : (o : Option Call) → is_answered_in o ≡ true → rank_in o ≡ 5
 answered_rank o e = grind arith
+
+pub gone_rank : (o : Option Call) → stage_in o ≡ Some stage.Gone → rank_in o ≡ 6
+gone_rank o e = grind arith
+
+pub gone_by_rank : (o : Option Call) → 6 ≤ rank_in o → stage_in o ≡ Some stage.Gone
+gone_by_rank None l = absurd (omega (arith, l))
+gone_by_rank (Some r) l = ap (λ (s : CallStage). Some s) (last r.stage l)
+  where
+    last : (s : CallStage) → 6 ≤ rank_of s → s ≡ stage.Gone
+    last stage.Gone l = refl
+    last s l = absurd (grind (arith, l))
 
 pub underway_rank : (o : Option Call) → underway_in o ≡ true → rank_in o ≤ 3
 underway_rank o e = grind arith

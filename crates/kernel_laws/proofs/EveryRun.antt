@@ -8,7 +8,7 @@ use Rattle.kernel_invariant.specs.Invariant.{Invariant}
 use Rattle.kernel_laws.specs.Laws.{Laws}
 use Rattle.kernel_laws.specs.EventsShown.{EventsShown}
 use Rattle.kernel_laws.specs.Pools.{HasNoneIdle, IsBoundToOwn}
-use Rattle.kernel_laws.specs.Refused.{RefusedByFirstTest, RefusedChangesNothing}
+use Rattle.kernel_laws.specs.Refused.{FailsByFirstTest, RefusedChangesNothing}
 use Rattle.kernel_laws.proofs.Known.{Known, next}
 use Rattle.kernel_laws.proofs.Refusals.{entry_tells}
 use Rattle.kernel_laws.proofs.Runs.{known}
@@ -18,8 +18,10 @@ use Rattle.kernel_laws.proofs.Cause.{cause_holds}
 use Rattle.kernel_laws.proofs.NoLoss.{no_loss_holds}
 use Rattle.kernel_laws.proofs.Held.{held_holds}
 use Rattle.kernel_laws.proofs.Creators.{made_by_creator}
+use Rattle.kernel_laws.proofs.Ends.{ends_holds}
+use Rattle.kernel_laws.proofs.Cancels.{cancels_holds}
 
-by_first_test : (m : State) (xs : List Turn) → RefusedByFirstTest m xs
+by_first_test : (m : State) (xs : List Turn) → FailsByFirstTest m xs
 by_first_test m xs i x r e f q = entry_tells (state_at m xs i) x.thread x.request r e q
 
 changes_nothing : (m : State) (xs : List Turn) → Known m xs → RefusedChangesNothing m xs
@@ -54,6 +56,8 @@ all_hold m xs k =
       refused = record { by_first_test = by_first_test m xs; changes_nothing = changes_nothing m xs k };
       no_pool_has_both = λ i l. (k.invariant i l).given_out;
       bound_to_own = λ i t d l e. bound_to_own (state_at m xs i) (k.invariant i l) t d e;
+      ends = ends_holds m xs k;
+      cancels = cancels_holds m xs k;
       events_shown = events_shown m xs k;
     }
 

@@ -10,7 +10,7 @@ use Rattle.written_kernel.specs.Opening.IsOpening.{processes, thread}
 use Rattle.written_kernel.proofs.Runs.{IsRun-append}
 use Rattle.kernel_laws.specs.Places.{BecomesAnswered, BecomesEntered, BecomesReturned}
 use Rattle.kernel_laws.specs.Cause.{Leaves}
-use Rattle.dk_base.specs.declared.error.Errno.TheVariants.{EBADF, EINVAL, EMFILE, ENOBUFS, EPERM}
+use Rattle.dk_base.specs.declared.error.Errno.TheVariants.{EBADF, EINTR, EINVAL, EMFILE, ENOBUFS, EPERM}
 
 abbrev start : State
 start = with_new_thread (with_new_thread (with_new_thread (opening (16 ∷ 16 ∷ [])) 1 false) 1 false) 2 false
@@ -45,19 +45,19 @@ opens =
 is_run : IsRun start turns
 unfolding step
 is_run = (
-  record { running = refl; fit = tt; built = lit≤ tt; inside = tt; few = lit< tt },
+  record { running = refl; fit = tt; built = lit≤ tt; few = lit< tt },
   (
-    record { running = refl; fit = tt; built = lit≤ tt; inside = tt; few = lit< tt },
+    record { running = refl; fit = tt; built = lit≤ tt; few = lit< tt },
     (
-      record { running = refl; fit = tt; built = lit≤ tt; inside = tt; few = lit< tt },
+      record { running = refl; fit = tt; built = lit≤ tt; few = lit< tt },
       (
-        record { running = refl; fit = tt; built = lit≤ tt; inside = tt; few = lit< tt },
+        record { running = refl; fit = tt; built = lit≤ tt; few = lit< tt },
         (
-          record { running = refl; fit = tt; built = lit≤ tt; inside = tt; few = lit< tt },
+          record { running = refl; fit = tt; built = lit≤ tt; few = lit< tt },
           (
             record { runnable = refl; waits = refl; few = lit< tt },
             (
-              record { running = refl; fit = tt; built = lit≤ tt; inside = tt; few = lit< tt },
+              record { running = refl; fit = tt; built = lit≤ tt; few = lit< tt },
               (record { runnable = refl; waits = refl; few = lit< tt }, tt),
             ),
           ),
@@ -107,18 +107,18 @@ left_answers = refl
 left_is_run : IsRun alone left_turns
 unfolding step
 left_is_run = (
-  record { running = refl; fit = tt; built = lit≤ tt; inside = tt; few = lit< tt },
+  record { running = refl; fit = tt; built = lit≤ tt; few = lit< tt },
   (
-    record { running = refl; fit = tt; built = lit≤ tt; inside = tt; few = lit< tt },
+    record { running = refl; fit = tt; built = lit≤ tt; few = lit< tt },
     (
-      record { running = refl; fit = tt; built = lit≤ tt; inside = tt; few = lit< tt },
+      record { running = refl; fit = tt; built = lit≤ tt; few = lit< tt },
       (
-        record { running = refl; fit = tt; built = lit≤ tt; inside = tt; few = lit< tt },
+        record { running = refl; fit = tt; built = lit≤ tt; few = lit< tt },
         (
-          record { running = refl; fit = tt; built = lit≤ tt; inside = tt; few = lit< tt },
+          record { running = refl; fit = tt; built = lit≤ tt; few = lit< tt },
           (
             record { runnable = refl; waits = refl; few = lit< tt },
-            (record { running = refl; fit = tt; built = lit≤ tt; inside = tt; few = lit< tt }, tt),
+            (record { running = refl; fit = tt; built = lit≤ tt; few = lit< tt }, tt),
           ),
         ),
       ),
@@ -194,24 +194,24 @@ told_is_run : IsRun start told_turns
 unfolding step
 told_is_run =
     IsRun-append start door_turns client_turns (
-      record { running = refl; fit = tt; built = lit≤ tt; inside = tt; few = lit< tt },
+      record { running = refl; fit = tt; built = lit≤ tt; few = lit< tt },
       (
-        record { running = refl; fit = tt; built = lit≤ tt; inside = tt; few = lit< tt },
+        record { running = refl; fit = tt; built = lit≤ tt; few = lit< tt },
         (
-          record { running = refl; fit = tt; built = lit≤ tt; inside = tt; few = lit< tt },
+          record { running = refl; fit = tt; built = lit≤ tt; few = lit< tt },
           (
-            record { running = refl; fit = tt; built = lit≤ tt; inside = tt; few = lit< tt },
+            record { running = refl; fit = tt; built = lit≤ tt; few = lit< tt },
             (
-              record { running = refl; fit = tt; built = lit≤ tt; inside = tt; few = lit< tt },
+              record { running = refl; fit = tt; built = lit≤ tt; few = lit< tt },
               (
-                record { running = refl; fit = tt; built = lit≤ tt; inside = tt; few = lit< tt },
+                record { running = refl; fit = tt; built = lit≤ tt; few = lit< tt },
                 (
-                  record { running = refl; fit = tt; built = lit≤ tt; inside = tt; few = lit< tt },
+                  record { running = refl; fit = tt; built = lit≤ tt; few = lit< tt },
                   (
-                    record { running = refl; fit = tt; built = lit≤ tt; inside = tt; few = lit< tt },
+                    record { running = refl; fit = tt; built = lit≤ tt; few = lit< tt },
                     (
-                      record { running = refl; fit = tt; built = lit≤ tt; inside = tt; few = lit< tt },
-                      (record { running = refl; fit = tt; built = lit≤ tt; inside = tt; few = lit< tt }, tt),
+                      record { running = refl; fit = tt; built = lit≤ tt; few = lit< tt },
+                      (record { running = refl; fit = tt; built = lit≤ tt; few = lit< tt }, tt),
                     ),
                   ),
                 ),
@@ -221,24 +221,24 @@ told_is_run =
         ),
       ),
     ) (
-      record { running = refl; fit = tt; built = lit≤ tt; inside = tt; few = lit< tt },
+      record { running = refl; fit = tt; built = lit≤ tt; few = lit< tt },
       (
-        record { running = refl; fit = tt; built = lit≤ tt; inside = tt; few = lit< tt },
+        record { running = refl; fit = tt; built = lit≤ tt; few = lit< tt },
         (
-          record { running = refl; fit = tt; built = lit≤ tt; inside = tt; few = lit< tt },
+          record { running = refl; fit = tt; built = lit≤ tt; few = lit< tt },
           (
-            record { running = refl; fit = tt; built = lit≤ tt; inside = tt; few = lit< tt },
+            record { running = refl; fit = tt; built = lit≤ tt; few = lit< tt },
             (
-              record { running = refl; fit = tt; built = lit≤ tt; inside = tt; few = lit< tt },
+              record { running = refl; fit = tt; built = lit≤ tt; few = lit< tt },
               (
-                record { running = refl; fit = tt; built = lit≤ tt; inside = tt; few = lit< tt },
+                record { running = refl; fit = tt; built = lit≤ tt; few = lit< tt },
                 (
                   record { runnable = refl; waits = refl; few = lit< tt },
                   (
-                    record { running = refl; fit = tt; built = lit≤ tt; inside = tt; few = lit< tt },
+                    record { running = refl; fit = tt; built = lit≤ tt; few = lit< tt },
                     (
-                      record { running = refl; fit = tt; built = lit≤ tt; inside = tt; few = lit< tt },
-                      (record { running = refl; fit = tt; built = lit≤ tt; inside = tt; few = lit< tt }, tt),
+                      record { running = refl; fit = tt; built = lit≤ tt; few = lit< tt },
+                      (record { running = refl; fit = tt; built = lit≤ tt; few = lit< tt }, tt),
                     ),
                   ),
                 ),
@@ -314,19 +314,19 @@ passing_is_run : IsRun small all_passing
 unfolding step
 passing_is_run =
     IsRun-append small passing_turns full_turns (
-      record { running = refl; fit = tt; built = lit≤ tt; inside = tt; few = lit< tt },
+      record { running = refl; fit = tt; built = lit≤ tt; few = lit< tt },
       (
-        record { running = refl; fit = tt; built = lit≤ tt; inside = tt; few = lit< tt },
+        record { running = refl; fit = tt; built = lit≤ tt; few = lit< tt },
         (
-          record { running = refl; fit = tt; built = lit≤ tt; inside = tt; few = lit< tt },
+          record { running = refl; fit = tt; built = lit≤ tt; few = lit< tt },
           (
-            record { running = refl; fit = tt; built = lit≤ tt; inside = tt; few = lit< tt },
+            record { running = refl; fit = tt; built = lit≤ tt; few = lit< tt },
             (
-              record { running = refl; fit = tt; built = lit≤ tt; inside = tt; few = lit< tt },
+              record { running = refl; fit = tt; built = lit≤ tt; few = lit< tt },
               (
                 record { runnable = refl; waits = refl; few = lit< tt },
                 (
-                  record { running = refl; fit = tt; built = lit≤ tt; inside = tt; few = lit< tt },
+                  record { running = refl; fit = tt; built = lit≤ tt; few = lit< tt },
                   (record { runnable = refl; waits = refl; few = lit< tt }, tt),
                 ),
               ),
@@ -335,19 +335,19 @@ passing_is_run =
         ),
       ),
     ) (
-      record { running = refl; fit = tt; built = lit≤ tt; inside = tt; few = lit< tt },
+      record { running = refl; fit = tt; built = lit≤ tt; few = lit< tt },
       (
-        record { running = refl; fit = tt; built = lit≤ tt; inside = tt; few = lit< tt },
+        record { running = refl; fit = tt; built = lit≤ tt; few = lit< tt },
         (
           record { runnable = refl; waits = refl; few = lit< tt },
           (
             record { runnable = refl; waits = refl; few = lit< tt },
             (
-              record { running = refl; fit = tt; built = lit≤ tt; inside = tt; few = lit< tt },
+              record { running = refl; fit = tt; built = lit≤ tt; few = lit< tt },
               (
                 record { runnable = refl; waits = refl; few = lit< tt },
                 (
-                  record { running = refl; fit = tt; built = lit≤ tt; inside = tt; few = lit< tt },
+                  record { running = refl; fit = tt; built = lit≤ tt; few = lit< tt },
                   (record { runnable = refl; waits = refl; few = lit< tt }, tt),
                 ),
               ),
@@ -356,3 +356,159 @@ passing_is_run =
         ),
       ),
     )
+
+-- a fifth: a caller is interrupted while a server is in its call, which learns of it and returns to nobody; and the server's process
+-- is killed with a call given to one of its threads
+
+abbrev interrupt_turns : List Turn
+interrupt_turns =
+    record { thread = 1; request = Some (request.Create 5 7 (record { 0 = 0 })) }
+    ∷ record { thread = 1; request = Some (request.Attach (record { 0 = 0 }) (record { 0 = 0 })) }
+    ∷ record { thread = 2; request = Some (request.Return [] []) }
+    ∷ record { thread = 3; request = Some (request.Open (record { 0 = 0 })) }
+    ∷ record { thread = 3; request = Some (request.Call (record { 0 = 0 }) (1 ∷ 2 ∷ []) [] 100) }
+    ∷ record { thread = 2; request = None }
+    ∷ record { thread = 2; request = Some request.TestCancel }
+    ∷ record { thread = 1; request = Some (request.Interrupt (record { 0 = 3 })) }
+    ∷ record { thread = 2; request = Some request.TestCancel }
+    ∷ record { thread = 3; request = None }
+    ∷ record { thread = 2; request = Some (request.Return (9 ∷ []) []) }
+    ∷ record { thread = 3; request = Some (request.Call (record { 0 = 0 }) [] [] 100) }
+    ∷ record { thread = 1; request = Some (request.Kill (record { 0 = 1 })) }
+    ∷ record { thread = 3; request = None }
+    ∷ []
+
+interrupt_answers :
+    map answer_of (events_of start interrupt_turns) ≡
+    answer.NewFd (record { 0 = 0 })
+    ∷ answer.Done
+    ∷ answer.Wait
+    ∷ answer.NewFd (record { 0 = 0 })
+    ∷ answer.WaitCall 1
+    ∷ answer.Entered 1 5 7 (1 ∷ 2 ∷ []) []
+    ∷ answer.Cancel false
+    ∷ answer.Done
+    ∷ answer.Cancel true
+    ∷ answer.Failure EINTR
+    ∷ answer.Wait
+    ∷ answer.WaitCall 2
+    ∷ answer.Done
+    ∷ answer.Failure EINTR
+    ∷ []
+unfolding step
+interrupt_answers = refl
+
+interrupt_is_run : IsRun start interrupt_turns
+unfolding step
+interrupt_is_run = (
+  record { running = refl; fit = tt; built = lit≤ tt; few = lit< tt },
+  (
+    record { running = refl; fit = tt; built = lit≤ tt; few = lit< tt },
+    (
+      record { running = refl; fit = tt; built = lit≤ tt; few = lit< tt },
+      (
+        record { running = refl; fit = tt; built = lit≤ tt; few = lit< tt },
+        (
+          record { running = refl; fit = tt; built = lit≤ tt; few = lit< tt },
+          (
+            record { runnable = refl; waits = refl; few = lit< tt },
+            (
+              record { running = refl; fit = tt; built = lit≤ tt; few = lit< tt },
+              (
+                record { running = refl; fit = (lit≤ tt, lit≤ tt); built = lit≤ tt; few = lit< tt },
+                (
+                  record { running = refl; fit = tt; built = lit≤ tt; few = lit< tt },
+                  (
+                    record { runnable = refl; waits = refl; few = lit< tt },
+                    (
+                      record { running = refl; fit = tt; built = lit≤ tt; few = lit< tt },
+                      (
+                        record { running = refl; fit = tt; built = lit≤ tt; few = lit< tt },
+                        (
+                          record { running = refl; fit = (lit≤ tt, lit≤ tt); built = lit≤ tt; few = lit< tt },
+                          (record { runnable = refl; waits = refl; few = lit< tt }, tt),
+                        ),
+                      ),
+                    ),
+                  ),
+                ),
+              ),
+            ),
+          ),
+        ),
+      ),
+    ),
+  ),
+)
+
+leaves_at_interrupt : Leaves start interrupt_turns 1 7
+unfolding step
+leaves_at_interrupt = record { within = lit< tt; underway = refl; over = refl }
+
+leaves_at_kill : Leaves start interrupt_turns 2 12
+unfolding step
+leaves_at_kill = record { within = lit< tt; underway = refl; over = refl }
+
+-- a sixth: a private door is revoked while a thread that is bound to it is parked, and then while one runs, whose next Return has its
+-- effects and answers EINVAL
+
+abbrev revoke_turns : List Turn
+revoke_turns =
+    record { thread = 1; request = Some (request.Create 5 7 (record { 0 = 2 })) }
+    ∷ record { thread = 2; request = Some (request.Bind (record { 0 = 0 })) }
+    ∷ record { thread = 2; request = Some (request.Return [] []) }
+    ∷ record { thread = 1; request = Some (request.Revoke (record { 0 = 0 })) }
+    ∷ record { thread = 2; request = None }
+    ∷ record { thread = 1; request = Some (request.Create 5 7 (record { 0 = 2 })) }
+    ∷ record { thread = 2; request = Some (request.Bind (record { 0 = 0 })) }
+    ∷ record { thread = 1; request = Some (request.Revoke (record { 0 = 0 })) }
+    ∷ record { thread = 2; request = Some (request.Return [] []) }
+    ∷ record { thread = 2; request = Some (request.Return [] []) }
+    ∷ []
+
+revoke_answers :
+    map answer_of (events_of start revoke_turns) ≡
+    answer.NewFd (record { 0 = 0 })
+    ∷ answer.Done
+    ∷ answer.Wait
+    ∷ answer.Done
+    ∷ answer.Failure EINVAL
+    ∷ answer.NewFd (record { 0 = 0 })
+    ∷ answer.Done
+    ∷ answer.Done
+    ∷ answer.Failure EINVAL
+    ∷ answer.Wait
+    ∷ []
+unfolding step
+revoke_answers = refl
+
+revoke_is_run : IsRun start revoke_turns
+unfolding step
+revoke_is_run = (
+  record { running = refl; fit = tt; built = lit≤ tt; few = lit< tt },
+  (
+    record { running = refl; fit = tt; built = lit≤ tt; few = lit< tt },
+    (
+      record { running = refl; fit = tt; built = lit≤ tt; few = lit< tt },
+      (
+        record { running = refl; fit = tt; built = lit≤ tt; few = lit< tt },
+        (
+          record { runnable = refl; waits = refl; few = lit< tt },
+          (
+            record { running = refl; fit = tt; built = lit≤ tt; few = lit< tt },
+            (
+              record { running = refl; fit = tt; built = lit≤ tt; few = lit< tt },
+              (
+                record { running = refl; fit = tt; built = lit≤ tt; few = lit< tt },
+                (
+                  record { running = refl; fit = tt; built = lit≤ tt; few = lit< tt },
+                  (record { running = refl; fit = tt; built = lit≤ tt; few = lit< tt }, tt),
+                ),
+              ),
+            ),
+          ),
+        ),
+      ),
+    ),
+  ),
+)

@@ -1,17 +1,16 @@
 -- Both walks end, and the one is the other turned round, since a thread serves an older call than the one that it waits in.
-use Rattle.std.specs.Prelude.{ℕ, ◌≡◌, ◌+◌, ◌-◌, ◌<◌, ◌≤◌, ◌⊎◌, ◌||◌, List, Option, Bool, true, false, ◌==◌, Some, None, zero, suc, length, slice_get, is_some, find}
+use Rattle.std.specs.Prelude.{ℕ, ◌≡◌, ◌+◌, ◌-◌, ◌<◌, ◌≤◌, ◌⊎◌, ◌||◌, List, Option, true, false, Some, None, zero, suc, is_some}
 use Rattle.std.specs.Option.{option_map_or}
 use Rattle.std.proofs.Common.{refl, sym, ap, subst, ◌∙◌, inl, inr}
 use native.Mathlib.Omega.{arith}
 use Rattle.std.proofs.lemmas.Bool.Decides.{nat_tests}
 use Rattle.std.proofs.lemmas.Option.{slice_get_within}
-use Rattle.dk_base.specs.declared.object.Item.TheVariants as item
 use Rattle.written_kernel.specs.Types.{Call, CallStage, Request, ThreadState}
 use Rattle.kernel_records.specs.declared.record.ThreadState.TheVariants as is
 use Rattle.kernel_records.specs.declared.record.CallStage.TheVariants as stage
 use Rattle.kernel_records.specs.Words.{is_entered_by, is_given_to, is_live, is_served, is_served_as, is_served_by, is_to_collect, is_to_collect_as, tid}
 use Rattle.written_kernel.specs.Words.{MayTurn, State, Turn, caller_in, caller_of, can_go_on, find_call, is_runnable, is_running_state, lead, root, served_by, server_at, server_for, server_in, server_of, state_at, state_of, walk, walk_down}
-use Rattle.kernel_invariant.specs.Records.{has_number, item_in, record_of, stage_in}
+use Rattle.kernel_invariant.specs.Records.{record_of, stage_in}
 use Rattle.kernel_invariant.specs.Core.{caller_number, core, live_in}
 use Rattle.kernel_invariant.specs.Coherent.{IsCoherent}
 use Rattle.kernel_invariant.specs.Invariant.{Invariant}
@@ -31,13 +30,13 @@ steps_down made (is.Calling c) = made + 1 - c
 steps_down made _ = 0
 
 -- a thread was given a call or has entered it, as the call's record says
-abbrev IsWith : ℕ → CallStage → Type 0
+abbrev pub IsWith : ℕ → CallStage → Type 0
 IsWith t s = (s ≡ stage.Given (tid t)) ⊎ (s ≡ stage.Entered (tid t))
 
-record Serves (m : State) (t : ℕ) (r : Call) : Type 0 where
-  found : record_of m r.number ≡ Some r
-  with_it : IsWith t r.stage
-  here : r.abandoned ≡ false
+pub record Serves (m : State) (t : ℕ) (r : Call) : Type 0 where
+  pub found : record_of m r.number ≡ Some r
+  pub with_it : IsWith t r.stage
+  pub here : r.abandoned ≡ false
 
 with_thread : (t : ℕ) (s : CallStage) → (is_given_to t s || is_entered_by t s) ≡ true → IsWith t s
 with_thread t (stage.Given u) e = inl (grind (arith, nat_tests))
@@ -79,7 +78,7 @@ module _ (m : State) (h : Invariant m) where
   coherent : IsCoherent (core m)
   coherent = h.consistent.coherent
 
-  serves_of : (t : ℕ) (r : Call) → served_by m t ≡ Some r → Serves m t r
+  pub serves_of : (t : ℕ) (r : Call) → served_by m t ≡ Some r → Serves m t r
   serves_of t r e =
       let it = served_by_is t r (find-passes (is_served_by t) m.call_tree.calls r e) in
       record { found = find-found (is_served_by t) m.call_tree.calls 0 r h.consistent.in_order e; with_it = it.0; here = it.1 }

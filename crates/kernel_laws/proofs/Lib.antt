@@ -7,6 +7,8 @@ mod Known
 mod Story
 mod Rows
 mod Readers
+mod Done
+mod Parked
 mod Returns
 mod Once
 mod Match
@@ -14,6 +16,9 @@ mod Cause
 mod NoLoss
 mod Held
 mod Creators
+mod Ends
+mod Left
+mod Cancels
 mod Runs
 mod EveryRun
 mod Example

@@ -20,7 +20,7 @@ use Rattle.kernel_laws.proofs.Known.{Known, becomes_once, changes, false_not_tru
 use Rattle.kernel_laws.proofs.Story.{story}
 use Rattle.kernel_laws.proofs.Tables.{Installs, accept_installs, call_passes, collect_installs, return_passes}
 use Rattle.kernel_laws.proofs.Returns.{return_hands_over}
-use Rattle.kernel_laws.proofs.Rows.{Origin, origin, returned_row}
+use Rattle.kernel_laws.proofs.Rows.{GoesOn, Origin, origin, returned_row}
 use Rattle.kernel_laws.proofs.Rows.Origin.{new, older}
 use Rattle.kernel_laws.proofs.Readers.{AnsweredRowAt, EnteredAt, EnteredRowAt, HasObjects, ReturnedAt, ReturnedRowAt, WasMade, accept_of, made, made_here, number_of, table_at}
 use Rattle.kernel_laws.proofs.Once.{HandsBack, accepts, answered_by, caller_of_results, collected_results, collects, entered_by, returned_before}
@@ -38,11 +38,6 @@ absent o e = ap is_there e
 present : (o : Option Call) (r : Call) → o ≡ Some r → is_there o ≡ true
 unfolding is_there
 present o r e = ap is_there e
-
-pub record GoesOn (s r : Call) (c : CallStage) : Type 0 where
-  pub caller : r.caller ≡ s.caller
-  pub rsize : r.rsize ≡ s.rsize
-  pub stage : r.stage ≡ c
 
 pub goes_on : (s r : Call) (c : CallStage) (o : Option Call) → o ≡ Some r → o ≡ Some (without_arguments_at c s) → GoesOn s r c
 goes_on s r c o e f = go (sym e ∙ f)
@@ -235,7 +230,7 @@ module _ (m : State) (xs : List Turn) (k : Known m xs) where
         turn = e;
         bytes = row.bytes;
         pass = row.pass;
-        request = row.asked;
+        is_return = record { asked = row.asked; not_refused = row.not_refused };
         answer = row.answers;
         was_entered = ap stage_in (b ∙ row.before) ∙ ap (λ (s : CallStage). Some s) row.was_entered;
         not_abandoned = ap abandoned_in (b ∙ row.before) ∙ row.not_abandoned;
@@ -306,7 +301,7 @@ module _ (m : State) (xs : List Turn) (k : Known m xs) where
                 same_server = same_server b.turn.thread a.turn.thread b.row.call.stage b.row.was_entered second.stage;
                 same_bytes = same_results bytes b.row.bytes g.objects passed r.stage g.returned first.stage;
                 objects = passed;
-                passed = (return_passes (state_at m xs b.at) b.turn.thread b.turn.request b.row.bytes b.row.pass b.row.asked b.row.answers).named;
+                passed = (return_passes (state_at m xs b.at) b.turn.thread b.turn.request b.row.bytes b.row.pass b.row.asked b.row.not_refused).named;
                 installed = name_after i z fds g.objects passed e n g.descriptors (same_objects bytes b.row.bytes g.objects passed r.stage g.returned first.stage);
                 only_return = λ j h. returned_once c j b.at h (becomes_returned b.at c b.turn back);
                 grown = g.grown ∙ ap (λ n. nat_lt n (length bytes)) (first.rsize ∙ second.rsize ∙ v.rsize);

@@ -9,7 +9,7 @@ use Rattle.dk_base.specs.declared.request.Request.TheVariants as request
 use Rattle.dk_base.specs.declared.answer.Answer.TheVariants as answer
 use Rattle.kernel_records.specs.declared.record.CallStage.TheVariants as stage
 use Rattle.kernel_records.specs.declared.record.ThreadState.TheVariants as is
-use Rattle.kernel_records.specs.Words.{cookie_of, entry_of, new_descriptors, objects_passed, tid, without_arguments_at}
+use Rattle.kernel_records.specs.Words.{cookie_of, entry_of, gone_call_at, new_descriptors, objects_passed, tid}
 use Rattle.written_kernel.specs.Words.{State, Turn, door_of, object_at, objects_in_call, objects_in_transit, state_at, step}
 use Rattle.kernel_invariant.specs.Core.{has_arguments}
 use Rattle.kernel_invariant.specs.Records.{record_of, stage_in}
@@ -20,8 +20,8 @@ use Rattle.kernel_laws.specs.NoLoss.Brings.{by_accept, by_collect}
 use Rattle.kernel_laws.specs.NoLoss.Fate.{stay, installed, dropped}
 use Rattle.kernel_laws.specs.NoLoss.Passes.{at_call, at_return}
 use Rattle.kernel_laws.specs.NoLoss.Puts.{by_call, by_return}
-use Rattle.kernel_laws.proofs.Changes.{Change}
-use Rattle.kernel_laws.proofs.Changes.Change.{made, given, entered, returned, ended, results_collected, nothing_collected, error_collected}
+use Rattle.kernel_laws.proofs.Changes.{Change, gone_stage}
+use Rattle.kernel_laws.proofs.Changes.Change.{made, given, entered, returned, ended, broken_off, left, results_collected, nothing_collected, error_collected}
 use Rattle.kernel_laws.proofs.Known.{ChangeAt, Known, changes, false_not_true, next, stays_or_changes}
 use Rattle.kernel_laws.proofs.Rows.{HandsOver, Origin, answered_row, ended_row, entered_row, is_ended_in, origin, returned_row}
 use Rattle.kernel_laws.proofs.Rows.HandsOver.{results, nothing, error}
@@ -56,15 +56,27 @@ entered_not_returned o t e = grind arith
 returned_now : (o : Option Call) (b : List ℕ) (x : List Obj) → stage_in o ≡ Some (stage.Returned b x) → is_returned_in o ≡ true
 returned_now o b x e = grind arith
 
+none_or_some : (o : Option (List Obj)) (objects : List Obj) → o ≡ None → o ≡ Some objects → ⊥
+none_or_some o objects e f = cc
+
+ended_empty : (o : Option Call) (x : Errno) → stage_in o ≡ Some (stage.Ended x) → message_in o ≡ None
+ended_empty o x e = grind arith
+
+gone_empty : (o : Option Call) → stage_in o ≡ Some stage.Gone → message_in o ≡ None
+gone_empty o e = grind arith
+
 -- what puts a message where none was
 put_row :
     (m : State) (t : ℕ) (q : Option Request) (a : Answer) (n : State) (o p : Option Call) (objects : List Obj) → Change m t q a n o p →
     message_in o ≡ None → message_in p ≡ Some objects → (o ≡ None) ⊎ (is_returned_in p ≡ true)
 put_row m t q a n o p objects (made d rsize fd bytes pass s e f v k w) h g = inl refl
-put_row m t q a n o p objects (returned r bytes pass e f k v) h g = inr refl
+put_row m t q a n o p objects (returned r bytes pass e x f k v) h g = inr refl
 put_row m t q a n o p objects (given r u e) h g = absurd (grind arith)
 put_row m t q a n o p objects (entered r e f k v w) h g = absurd (grind arith)
 put_row m t q a n o p objects (ended r x e) h g = absurd (grind arith)
+put_row m t q a n o p objects (broken_off r u e f d) h g = absurd (grind arith)
+put_row m t q a n o p objects (left r l e) h g =
+    absurd (none_or_some _ objects (gone_empty (Some (gone_call_at r.stage r)) (ap (λ (s : CallStage). Some s) (gone_stage r.stage r l))) g)
 put_row m t q a n o p objects (results_collected r bytes os e f k v w z) h g = absurd (grind arith)
 put_row m t q a n o p objects (nothing_collected r bytes os e f k v w z) h g = absurd (grind arith)
 put_row m t q a n o p objects (error_collected r x e f k v w) h g = absurd (grind arith)
@@ -94,11 +106,14 @@ not_returned o e = grind arith
 answered_not_entered : (o : Option Call) (t : ℕ) → is_answered_in o ≡ true → stage_in o ≡ Some (stage.Entered (tid t)) → ⊥
 answered_not_entered o t e f = grind arith
 
-ended_not_entered : (o : Option Call) (r : Call) (x : Errno) (t : ℕ) → o ≡ Some (without_arguments_at (stage.Ended x) r) → stage_in o ≡ Some (stage.Entered (tid t)) → ⊥
-ended_not_entered o r x t e f = grind arith
+not_at_both : (o : Option Call) (s c : CallStage) → stage_in o ≡ Some s → stage_in o ≡ Some c → (s ≡ c → ⊥) → ⊥
+not_at_both o s c e f h = h (cc)
 
-ended_not_answered : (o : Option Call) (r : Call) (x : Errno) → o ≡ Some (without_arguments_at (stage.Ended x) r) → is_answered_in o ≡ true → ⊥
-ended_not_answered o r x e f = grind arith
+ended_not_answered : (o : Option Call) (x : Errno) → stage_in o ≡ Some (stage.Ended x) → is_answered_in o ≡ true → ⊥
+ended_not_answered o x e f = grind arith
+
+gone_not_answered : (o : Option Call) → stage_in o ≡ Some stage.Gone → is_answered_in o ≡ true → ⊥
+gone_not_answered o e f = grind arith
 
 some_same : (a b : List Obj) → Some a ≡ Some b → a ≡ b
 some_same a b e = cc
@@ -140,12 +155,16 @@ counted_at r stage.Gone = refl
 fate_row :
     (m : State) (t : ℕ) (q : Option Request) (a : Answer) (n : State) (o p : Option Call) (objects : List Obj) → Change m t q a n o p →
     message_in o ≡ Some objects →
-    (message_in p ≡ Some objects) ⊎ ((is_entered_in p ≡ true) ⊎ ((is_answered_in p ≡ true) ⊎ (is_ended_in p ≡ true)))
+    (message_in p ≡ Some objects)
+    ⊎ ((is_entered_in p ≡ true)
+    ⊎ ((is_answered_in p ≡ true) ⊎ ((is_ended_in p ≡ true) ⊎ (stage_in p ≡ Some stage.Gone))))
 fate_row m t q a n o p objects (made d rsize fd bytes pass s e f v k w) h = absurd (grind arith)
 fate_row m t q a n o p objects (given r u e) h = inl (grind arith)
 fate_row m t q a n o p objects (entered r e f k v w) h = inr (inl refl)
-fate_row m t q a n o p objects (returned r bytes pass e f k v) h = absurd (grind arith)
-fate_row m t q a n o p objects (ended r x e) h = inr (inr (inr refl))
+fate_row m t q a n o p objects (returned r bytes pass e x f k v) h = absurd (grind arith)
+fate_row m t q a n o p objects (ended r x e) h = inr (inr (inr (inl refl)))
+fate_row m t q a n o p objects (broken_off r u e f d) h = inr (inr (inr (inl refl)))
+fate_row m t q a n o p objects (left r l e) h = inr (inr (inr (inr (ap (λ (s : CallStage). Some s) (gone_stage r.stage r l)))))
 fate_row m t q a n o p objects (results_collected r bytes os e f k v w z) h = inr (inr (inl refl))
 fate_row m t q a n o p objects (nothing_collected r bytes os e f k v w z) h = inr (inr (inl refl))
 fate_row m t q a n o p objects (error_collected r x e f k v w) h = inr (inr (inl refl))
@@ -201,7 +220,7 @@ module _ (m : State) (xs : List Turn) (k : Known m xs) where
   return_puts i c x h =
       record {
         objects = objects_passed (table_at m xs i x) h.pass;
-        named = (return_passes (state_at m xs i) x.thread x.request h.bytes h.pass h.request h.answer).named;
+        named = (return_passes (state_at m xs i) x.thread x.request h.bytes h.pass h.is_return.asked h.is_return.not_refused).named;
         on_the_way = go (becomes_returned i c x h);
       }
     where
@@ -210,7 +229,7 @@ module _ (m : State) (xs : List Turn) (k : Known m xs) where
           in_transit (state_at m xs (i + 1)) c ≡ Some (objects_passed (table_at m xs i x) h.pass)
       by w =
           ap message_in w.after
-          ∙ ap (λ (pass : List Pass). Some (objects_passed (table_at m xs i x) pass)) (same_return x.request w.bytes h.bytes w.pass h.pass w.asked h.request)
+          ∙ ap (λ (pass : List Pass). Some (objects_passed (table_at m xs i x) pass)) (same_return x.request w.bytes h.bytes w.pass h.pass w.asked h.is_return.asked)
 
       go : BecomesReturned m xs c i → in_transit (state_at m xs (i + 1)) c ≡ Some (objects_passed (table_at m xs i x) h.pass)
       go b = by (returned_row _ _ _ _ _ _ _ (changes m xs k c i x is_returned_in false true h.turn false_not_true b.before b.after) b.after)
@@ -333,13 +352,32 @@ module _ (m : State) (xs : List Turn) (k : Known m xs) where
   ended_fate :
       (i c : ℕ) (x : Turn) (objects : List Obj) → slice_get xs i ≡ Some x →
       EndedRowAt m xs i x (record_of (state_at m xs i) c) (record_of (state_at m xs (i + 1)) c) → Fate m xs i x c objects
-  ended_fate i c x objects e w = dropped none (ap message_in w.after)
+  ended_fate i c x objects e w = dropped none (ended_empty _ w.error after)
     where
+      after : stage_in (record_of (state_at m xs (i + 1)) c) ≡ Some (stage.Ended w.error)
+      after = ap stage_in w.after ∙ ap (λ (s : CallStage). Some s) w.goes_on.stage
+
       not_accepted : Enters m xs i x c → ⊥
-      not_accepted h = ended_not_entered _ w.call w.error x.thread w.after h.stage_after
+      not_accepted h = not_at_both _ (stage.Ended w.error) (stage.Entered (tid x.thread)) after h.stage_after (λ z. cc)
 
       not_collected : BecomesAnswered m xs c i → ⊥
-      not_collected h = ended_not_answered _ w.call w.error w.after h.after
+      not_collected h = ended_not_answered _ w.error after h.after
+
+      none : (fds : List Fd) → Brings m xs i x c fds → ⊥
+      none fds (by_accept entry cookie bytes h) = not_accepted (accepts m xs k i c entry cookie x bytes fds e h)
+      none fds (by_collect bytes grown h f) = not_collected (collects m xs k i c x e h)
+
+  -- and what its caller leaves
+  gone_fate :
+      (i c : ℕ) (x : Turn) (objects : List Obj) → slice_get xs i ≡ Some x →
+      stage_in (record_of (state_at m xs (i + 1)) c) ≡ Some stage.Gone → Fate m xs i x c objects
+  gone_fate i c x objects e after = dropped none (gone_empty _ after)
+    where
+      not_accepted : Enters m xs i x c → ⊥
+      not_accepted h = not_at_both _ stage.Gone (stage.Entered (tid x.thread)) after h.stage_after (λ z. cc)
+
+      not_collected : BecomesAnswered m xs c i → ⊥
+      not_collected h = gone_not_answered _ after h.after
 
       none : (fds : List Fd) → Brings m xs i x c fds → ⊥
       none fds (by_accept entry cookie bytes h) = not_accepted (accepts m xs k i c entry cookie x bytes fds e h)
@@ -354,12 +392,15 @@ module _ (m : State) (xs : List Turn) (k : Known m xs) where
           ChangeAt m xs i x (record_of (state_at m xs i) c) (record_of (state_at m xs (i + 1)) c) →
           (in_transit (state_at m xs (i + 1)) c ≡ Some objects)
           ⊎ ((is_entered_in (record_of (state_at m xs (i + 1)) c) ≡ true)
-          ⊎ ((is_answered_in (record_of (state_at m xs (i + 1)) c) ≡ true) ⊎ (is_ended_in (record_of (state_at m xs (i + 1)) c) ≡ true))) →
+          ⊎ ((is_answered_in (record_of (state_at m xs (i + 1)) c) ≡ true)
+          ⊎ ((is_ended_in (record_of (state_at m xs (i + 1)) c) ≡ true)
+          ⊎ (stage_in (record_of (state_at m xs (i + 1)) c) ≡ Some stage.Gone)))) →
           Fate m xs i x c objects
       by w (inl h) = stay h
       by w (inr (inl h)) = entered_fate i c x objects e b (entered_row _ _ _ _ _ _ _ w h)
       by w (inr (inr (inl h))) = answered_fate i c x objects e b h (answered_row _ _ _ _ _ _ _ w h)
-      by w (inr (inr (inr h))) = ended_fate i c x objects e (ended_row _ _ _ _ _ _ _ w h)
+      by w (inr (inr (inr (inl h)))) = ended_fate i c x objects e (ended_row _ _ _ _ _ _ _ w h)
+      by w (inr (inr (inr (inr h)))) = gone_fate i c x objects e h
 
       go :
           (record_of (state_at m xs (i + 1)) c ≡ record_of (state_at m xs i) c)
@@ -422,8 +463,8 @@ module _ (m : State) (xs : List Turn) (k : Known m xs) where
       AreReleased m xs i (process_at m xs i x.thread) pass
   released i x pass e (at_call fd bytes rsize c f g) =
       are_released i x pass e (call_passes (state_at m xs i) x.thread c rsize x.request fd bytes pass f g).releases
-  released i x pass e (at_return bytes f g) =
-      are_released i x pass e (return_passes (state_at m xs i) x.thread x.request bytes pass f g).releases
+  released i x pass e (at_return bytes h) =
+      are_released i x pass e (return_passes (state_at m xs i) x.thread x.request bytes pass h.asked h.not_refused).releases
 
   pub no_loss_holds : NoLoss m xs
   no_loss_holds =

@@ -10,26 +10,26 @@ use Rattle.dk_base.specs.declared.answer.Answer.TheVariants as answer
 use Rattle.kernel_records.specs.declared.record.ThreadState.TheVariants as is
 use Rattle.kernel_records.specs.declared.record.CallStage.TheVariants as stage
 use Rattle.kernel_records.specs.Words.{is_live, new_descriptors, new_invocation, tid}
-use Rattle.written_kernel.specs.Words.{State, Turn, caller_in, door_of, invocation_of, now, state_at, state_of}
+use Rattle.written_kernel.specs.Words.{State, Turn, caller_in, door_of, invocation_of, state_at, state_of}
 use Rattle.kernel_invariant.specs.Records.{door_at, item_in, item_of, owner_in, record_of, stage_in, stage_of}
 use Rattle.kernel_invariant.specs.Core.{caller_number, door_in, is_outside, live_in}
 use Rattle.kernel_invariant.specs.Coherent.{IsCoherent}
 use Rattle.kernel_invariant.specs.Core.{core}
 use Rattle.kernel_invariant.specs.Events.{Begins, InvocationArrow, IsAcceptedNow, IsCaller, IsToldBy}
-use Rattle.kernel_invariant.specs.Arrows.{EndsBy, has_own_room, own_table}
-use Rattle.kernel_invariant.specs.Arrows.EndsBy.{door_invalid, server_full}
-use Rattle.kernel_invariant.specs.Events.InvocationArrow.{stays, begins, ends, leaves}
-use Rattle.kernel_invariant.proofs.Settling.{IsIdleOrGiven}
-use Rattle.kernel_invariant.proofs.Settling.IsIdleOrGiven.{still_idle, given_item}
-use Rattle.kernel_invariant.proofs.Waits.{step_parked}
+use Rattle.kernel_invariant.specs.Arrows.{has_own_room, own_table}
+use Rattle.kernel_invariant.specs.Arrows.EndsBy.{door_invalid, server_full, interrupted, server_ended}
+use Rattle.kernel_invariant.specs.Events.InvocationArrow.{stays, begins, cancels, ends, leaves}
 use Rattle.kernel_laws.specs.Places.{BecomesAnswered, BecomesEntered, HasEntered, IsAccept, IsCollect, answer_at, is_answered_in, is_entered_in, is_returned_in, is_returned_stage}
 use Rattle.kernel_laws.specs.Once.{CollectsEntered, Enters, FailsToEnter, InvocationMoves, Once, WaitsAgain, WasEntered}
-use Rattle.kernel_laws.specs.Once.WaitsAgain.{is_idle, is_given}
+use Rattle.kernel_laws.specs.Once.WaitsAgain.{is_idle, is_given, has_failed}
 use Rattle.kernel_laws.proofs.Changes.{answered_rank, entered_rank}
 use Rattle.kernel_laws.proofs.Known.{Known, becomes_once, changes, false_not_true, invariant_after, invariant_before, next}
-use Rattle.kernel_laws.proofs.Returns.{return_ends}
+use Rattle.kernel_laws.proofs.Returns.{return_answers, return_ends}
 use Rattle.kernel_laws.proofs.Story.{story}
-use Rattle.kernel_laws.proofs.Rows.{HandsOver, answered_row, ended_row, entered_row, is_ended_in}
+use Rattle.kernel_laws.proofs.Parked.{Parks, failed_accept_parks}
+use Rattle.kernel_laws.proofs.Parked.Parks.{idle, given, unbound}
+use Rattle.kernel_laws.proofs.Rows.{Breaks, HandsOver, answered_row, ended_row, entered_row, is_ended_in}
+use Rattle.kernel_laws.proofs.Rows.Breaks.{by_cause, by_interrupt}
 use Rattle.kernel_laws.proofs.Rows.HandsOver.{results, nothing, error}
 use Rattle.kernel_laws.proofs.Readers.{AnsweredRowAt, EndedRowAt, EnteredAt, EnteredRowAt, ReturnedAt, accept_of, number_of, returned}
 
@@ -72,7 +72,7 @@ live_not_answered o e = grind arith
 live_caller : (t : ℕ) (o : Option Call) → live_in o ≡ true → caller_number o ≡ t → caller_in o ≡ Some t
 live_caller t o e f = grind arith
 
-owner_same : (m : State) (o : Option Call) (s : CallStage) → stage_in o ≡ Some s → owner_in (door_at m o) ≡ owner_in (door_of m (door_in o))
+pub owner_same : (m : State) (o : Option Call) (s : CallStage) → stage_in o ≡ Some s → owner_in (door_at m o) ≡ owner_in (door_of m (door_in o))
 owner_same m None s e = grind arith
 owner_same m (Some r) s e = refl
 
@@ -83,7 +83,8 @@ begun m t q a n u c o p stays e f = absurd (grind arith)
 begun m t q a n u c o p (begins i g h k b) e f =
     let same : i ≡ item.Call c = cc in
     ap (λ (z : Item). Some (new_invocation z)) same
-begun m t q a n u c o p (ends v bytes pass g h k) e f = absurd (grind arith)
+begun m t q a n u c o p (cancels v g) e f = absurd (grind arith)
+begun m t q a n u c o p (ends v bytes pass g h l k) e f = absurd (grind arith)
 begun m t q a n u c o p (leaves v g) e f = absurd (grind arith)
 
 -- an accept that fails begins no invocation
@@ -92,7 +93,8 @@ not_begun :
     InvocationArrow m t q a n u o p → o ≡ None → a ≡ answer.EnterFailed c → p ≡ None
 not_begun m t q a n u c o p stays e f = e
 not_begun m t q a n u c o p (begins i g h k b) e f = absurd (subst (λ (z : Answer). Begins z i) f b)
-not_begun m t q a n u c o p (ends v bytes pass g h k) e f = refl
+not_begun m t q a n u c o p (cancels v g) e f = absurd (cc e)
+not_begun m t q a n u c o p (ends v bytes pass g h l k) e f = refl
 not_begun m t q a n u c o p (leaves v g) e f = refl
 
 -- a call that was given to a thread ends only by an accept that fails
@@ -100,17 +102,16 @@ some_call : (a b : Call) → Some a ≡ Some b → a ≡ b
 some_call a b e = cc
 
 failed :
-    (m : State) (t : ℕ) (q : Option Request) (a : Answer) (n : State) (u : ℕ) (r : Call) (x : Errno) → EndsBy m t q a n r x →
-    stage_in (Some r) ≡ Some (stage.Given (tid u)) → a ≡ answer.EnterFailed r.number
-failed m t q a n u r x (door_invalid e f g h) s = absurd (grind arith)
-failed m t q a n u r x (server_full e f g h k) s = k
+    (m : State) (t : ℕ) (q : Option Request) (a : Answer) (n : State) (r : Call) (x : Errno) → Breaks m t q a n r x → x ≡ EMFILE →
+    (a ≡ answer.EnterFailed r.number) × (has_own_room m t r.objects ≡ false)
+failed m t q a n r x (by_interrupt u e f d) s = absurd (cc s)
+failed m t q a n r x (by_cause y (door_invalid e f g h)) s = absurd (cc s)
+failed m t q a n r x (by_cause y (interrupted e f d)) s = absurd (cc s)
+failed m t q a n r x (by_cause y (server_ended u e f d)) s = absurd (cc s)
+failed m t q a n r x (by_cause y (server_full e f g h k)) s = (k, h)
 
--- and there are too few descriptors
-failed_full :
-    (m : State) (t : ℕ) (q : Option Request) (a : Answer) (n : State) (u : ℕ) (r : Call) (x : Errno) → EndsBy m t q a n r x →
-    stage_in (Some r) ≡ Some (stage.Given (tid u)) → has_own_room m t r.objects ≡ false
-failed_full m t q a n u r x (door_invalid e f g h) s = absurd (grind arith)
-failed_full m t q a n u r x (server_full e f g h k) s = h
+same_error : (e f : Errno) (o : Option Call) → stage_in o ≡ Some (stage.Ended e) → stage_in o ≡ Some (stage.Ended f) → e ≡ f
+same_error e f o g h = cc
 
 -- results come only from a call that is Returned, with descriptors for what comes with them
 
@@ -139,7 +140,7 @@ hands_back m t r a bytes fds more (error x e) f = absurd (cc)
 -- Once
 
 module _ (m : State) (xs : List Turn) (k : Known m xs) where
-  entered_once : (c i j : ℕ) → BecomesEntered m xs c i → BecomesEntered m xs c j → i ≡ j
+  pub entered_once : (c i j : ℕ) → BecomesEntered m xs c i → BecomesEntered m xs c j → i ≡ j
   entered_once c i j a b = becomes_once m xs k c i j 3 is_entered_in entered_rank a b
 
   answered_once : (c i j : ℕ) → BecomesAnswered m xs c i → BecomesAnswered m xs c j → i ≡ j
@@ -162,7 +163,7 @@ module _ (m : State) (xs : List Turn) (k : Known m xs) where
       go : IsAccept m xs i x c → ⊥
       go a = differs n c entry cookie a.entry a.cookie a.bytes a.descriptors (sym f ∙ a.answer)
 
-  invocations : (i t : ℕ) (x : Turn) → slice_get xs i ≡ Some x → InvocationMoves m xs i x t
+  pub invocations : (i t : ℕ) (x : Turn) → slice_get xs i ≡ Some x → InvocationMoves m xs i x t
   invocations i t x e =
       subst
       (λ n. InvocationArrow (state_at m xs i) x.thread x.request (answer_at m xs i x) n t (invocation_of (state_at m xs i) t) (invocation_of n t))
@@ -236,27 +237,35 @@ module _ (m : State) (xs : List Turn) (k : Known m xs) where
             free_after = not_begun _ _ _ _ _ x.thread c _ _ (invocations i x.thread x e) (h.servers.outside x.thread (ap is_outside s)) a;
             parked =
                 again
-                (subst (λ n. IsIdleOrGiven (now (state_at m xs i)) (state_of n x.thread)) (sym (next m xs k i x e))
-                (step_parked (state_at m xs i) x.thread c c x.request (invariant_before m xs k i x e) (k.may i x e) q s a));
+                (subst (λ n. Parks (state_at m xs i) n x.thread) (sym (next m xs k i x e))
+                (failed_accept_parks (state_at m xs i) x.thread c c x.request q s a));
           }
         where
-          again : IsIdleOrGiven (now (state_at m xs i)) (state_of (state_at m xs (i + 1)) x.thread) → WaitsAgain m xs i x c
-          again (still_idle b) = is_idle b
-          again (given_item other b) =
-              is_given other
+          again : Parks (state_at m xs i) (state_at m xs (i + 1)) x.thread → WaitsAgain m xs i x c
+          again (idle v b) = is_idle v b
+          again (given v other b) =
+              is_given other v
               (λ same. ended_not_given EMFILE x.thread _ after (g.waits.given_back c x.thread (b ∙ ap (λ (y : Item). is.Given y) same)))
               b
+          again (unbound v b d) = has_failed v b d
 
           none : {d : ℕ} → IsAccept m xs i x d → ⊥
           none {d} b = entered_not_failed c d b.entry b.cookie b.bytes b.descriptors (sym a ∙ b.answer)
 
       go : EndedRowAt m xs i x (record_of (state_at m xs i) c) (record_of (state_at m xs (i + 1)) c) → FailsToEnter m xs i x c
-      go w =
-          with_answer w.call w.before (failed_full _ _ _ _ _ x.thread w.call w.error w.ends (ap stage_in (sym w.before) ∙ before))
-          (failed _ _ _ _ _ x.thread w.call w.error w.ends (ap stage_in (sym w.before) ∙ before)
-          ∙ ap (λ (d : ℕ). answer.EnterFailed d) (number_of (state_at m xs i) c w.call w.before))
+      go w = by (failed _ _ _ _ _ w.call w.error w.breaks is_full)
+        where
+          is_full : w.error ≡ EMFILE
+          is_full = same_error w.error EMFILE _ (ap stage_in w.after ∙ ap (λ (y : CallStage). Some y) w.goes_on.stage) after
 
-  given_enters :
+          by :
+              (answer_at m xs i x ≡ answer.EnterFailed w.call.number) × (has_own_room (state_at m xs i) x.thread w.call.objects ≡ false) →
+              FailsToEnter m xs i x c
+          by b =
+              with_answer w.call w.before b.1
+              (b.0 ∙ ap (λ (d : ℕ). answer.EnterFailed d) (number_of (state_at m xs i) c w.call w.before))
+
+  pub given_enters :
       (i c : ℕ) (x : Turn) → slice_get xs i ≡ Some x → x.request ≡ None → state_of (state_at m xs i) x.thread ≡ is.Given (item.Call c) →
       Enters m xs i x c ⊎ FailsToEnter m xs i x c
   given_enters i c x e q s =
@@ -337,7 +346,7 @@ module _ (m : State) (xs : List Turn) (k : Known m xs) where
   collects_own i c x e w =
       live_caller x.thread _ (live_call i c x e w) ((invariant_before m xs k i x e).consistent.coherent.waits.caller c x.thread w.calling)
 
-  caller_waits :
+  pub caller_waits :
       (i c : ℕ) (r : Call) → i ≤ length xs → record_of (state_at m xs i) c ≡ Some r → is_live r.stage ≡ true →
       state_of (state_at m xs i) r.caller.0 ≡ is.Calling c
   caller_waits i c r l e f =
@@ -428,6 +437,7 @@ module _ (m : State) (xs : List Turn) (k : Known m xs) where
         in_its_invocation = in_its_invocation;
         one_at_once = one_at_once;
         invocations = invocations;
+        return_answers = return_answers m xs k;
         return_ends = return_ends m xs k;
         none_when_done = λ i t l e. (k.invariant i l).consistent.coherent.servers.outside t (ap is_outside e);
         collects = collects;

@@ -4,16 +4,18 @@ use Rattle.std.proofs.Common.{refl, sym, ap, subst, ◌∙◌, inl, inr}
 use native.Mathlib.Omega.{arith}
 use Rattle.std.proofs.lemmas.Bool.Decides.{nat_tests, not_from_Decides, Decides-and, Decides-eqb, Decides-ltb, Decides-or}
 use Rattle.std.specs.Bool.{Decides}
-use Rattle.written_kernel.specs.Types.{Answer, Door, Errno, Name, Obj, Pass, PathId, Request}
+use Rattle.written_kernel.specs.Types.{Answer, Door, Errno, Fd, Name, Obj, Pass, PathId, Request}
 use Rattle.dk_base.specs.declared.error.Errno.TheVariants.{E2BIG, EAGAIN, EBADF, EINVAL, ENFILE, ENOBUFS, ENOTSUP}
 use Rattle.dk_base.specs.declared.limits.TheConstants.{DATA_MAX, PASS_MAX, QUEUE_MAX}
 use Rattle.dk_base.specs.declared.object.Obj.TheVariants as obj
 use Rattle.dk_base.specs.declared.request.Request.TheVariants as request
 use Rattle.dk_base.specs.declared.answer.Answer.TheVariants as answer
-use Rattle.written_kernel.specs.Words.{ActResult, State, await_name, calls_waiting, door_named, door_of, effect, is_valid, name_of, pass_tests, pool_of, pool_tests, process_of, refusal_of, step, table_of, unless_refused}
+use Rattle.written_kernel.specs.Words.{State, await_name, calls_waiting, door_named, door_of, effect, has_invalid_door, is_valid, name_of, pass_tests, pool_of, pool_tests, process_of, refusal_of, return, return_answer, return_parked, return_unbound, step, table_of, unless_refused}
 use Rattle.kernel_records.specs.Words.{first_refusal, has_refused_size, has_too_many, is_bad_pass, limit_tests, refuses_descriptors_in}
 use Rattle.kernel_laws.specs.Refusals.{CannotPass, HasRefusedSize, HasTooMany, Refusal, RefusesPassed}
 use Rattle.kernel_laws.specs.Refusals.Refusal.{no_door, not_valid, refused_size, takes_none, too_many, too_long, cannot_pass, full_pool}
+use Rattle.kernel_laws.specs.Refused.{Fails}
+use Rattle.kernel_laws.specs.Refused.Fails.{refused as by_test, returned_unbound}
 use Rattle.kernel_laws.proofs.Passed.{pass_decides}
 
 -- a Call, by a thread of process p, of so many bytes and these descriptors, through a descriptor of this object
@@ -275,38 +277,88 @@ await_is_done : (m : State) (t : ℕ) (path : PathId) (o : Option Name) → IsNo
 await_is_done m t path None e h = cc
 await_is_done m t path (Some n) e h = cc
 
--- no effect answers an error
-effect_is_done : (m : State) (t p : ℕ) (r : Request) → IsNoFailure (effect m t p r).answer
-effect_is_done m t p (request.Await path) e h = await_is_done m t path (name_of m path) e h
-effect_is_done m t p (request.Create entry cookie attrs) e h = cc
-effect_is_done m t p (request.Call fd bytes pass rsize) e h = cc
-effect_is_done m t p (request.Return bytes pass) e h = cc
-effect_is_done m t p (request.Info fd) e h = cc
-effect_is_done m t p (request.GetParam fd x) e h = cc
-effect_is_done m t p (request.SetParam fd x value) e h = cc
-effect_is_done m t p request.Cred e h = cc
-effect_is_done m t p (request.Close fd) e h = cc
-effect_is_done m t p (request.Dup fd) e h = cc
-effect_is_done m t p (request.Attach fd path) e h = cc
-effect_is_done m t p (request.Detach path) e h = cc
-effect_is_done m t p (request.Open path) e h = cc
-effect_is_done m t p request.Exit e h = cc
-effect_is_done m t p r e h = grind arith
+-- a Return answers so
+pub return_result : (m : State) (t p : ℕ) (bytes : List ℕ) (pass : List Pass) → (return m t p bytes pass).answer ≡ return_answer m t
+return_result m t p bytes pass = go (has_invalid_door m t)
+  where
+    go :
+        (b : Bool) →
+        (if b then return_unbound m t p bytes pass else return_parked m t p bytes pass).answer
+        ≡ (if b then answer.Failure EINVAL else answer.Wait)
+    go true = refl
+    go false = refl
 
-unless_tells :
-    (m : State) (o : Option Errno) (a : ActResult) (e : Errno) → IsNoFailure a.answer →
-    ((unless_refused m o a).answer ≡ answer.Failure e) ↔ (o ≡ Some e)
-unless_tells m None a e h = (λ f. absurd (h e f), λ f. absurd (cc))
-unless_tells m (Some x) a e h = (λ f. grind arith, λ f. grind arith)
+abbrev is_return : Request → Bool
+is_return (request.Return bytes pass) = true
+is_return _ = false
 
-step_tells :
-    (m : State) (t : ℕ) (r : Request) (e : Errno) →
-    ((step m t (Some r)).answer ≡ answer.Failure e) ↔ (refusal_of m t (process_of m t) r ≡ Some e)
+-- no other effect answers an error
+effect_is_done : (m : State) (t p : ℕ) (r : Request) → is_return r ≡ false → IsNoFailure (effect m t p r).answer
+effect_is_done m t p (request.Return bytes pass) n e h = absurd (cc n)
+effect_is_done m t p (request.Await path) n e h = await_is_done m t path (name_of m path) e h
+effect_is_done m t p (request.Create entry cookie attrs) n e h = cc
+effect_is_done m t p (request.Call fd bytes pass rsize) n e h = cc
+effect_is_done m t p (request.Info fd) n e h = cc
+effect_is_done m t p (request.GetParam fd x) n e h = cc
+effect_is_done m t p (request.SetParam fd x value) n e h = cc
+effect_is_done m t p request.Cred n e h = cc
+effect_is_done m t p (request.Close fd) n e h = cc
+effect_is_done m t p (request.Dup fd) n e h = cc
+effect_is_done m t p (request.Attach fd path) n e h = cc
+effect_is_done m t p (request.Detach path) n e h = cc
+effect_is_done m t p (request.Open path) n e h = cc
+effect_is_done m t p (request.Revoke fd) n e h = cc
+effect_is_done m t p (request.Interrupt thread) n e h = cc
+effect_is_done m t p (request.Kill process) n e h = cc
+effect_is_done m t p request.Exit n e h = cc
+effect_is_done m t p request.TestCancel n e h = cc
+effect_is_done m t p r n e h = grind arith
+
+same_failure : (e f : Errno) → answer.Failure e ≡ answer.Failure f → e ≡ f
+same_failure e f h = cc
+
+-- what fails though it is not refused is a Return
+effect_fails :
+    (m : State) (t : ℕ) (r : Request) (e : Errno) → refusal_of m t (process_of m t) r ≡ None →
+    (effect m t (process_of m t) r).answer ≡ answer.Failure e → Fails m t r e
+effect_fails m t (request.Return bytes pass) e n h =
+    go (has_invalid_door m t) refl (sym (return_result m t (process_of m t) bytes pass) ∙ h)
+  where
+    go :
+        (b : Bool) → has_invalid_door m t ≡ b → (if b then answer.Failure EINVAL else answer.Wait) ≡ answer.Failure e →
+        Fails m t (request.Return bytes pass) e
+    go true f g = subst (Fails m t (request.Return bytes pass)) (same_failure EINVAL e g) (returned_unbound bytes pass refl n f)
+    go false f g = absurd (cc g)
+effect_fails m t r e n h = absurd (effect_is_done m t (process_of m t) r refl e h)
+
+unless_fails :
+    (m : State) (t : ℕ) (r : Request) (o : Option Errno) (e : Errno) → refusal_of m t (process_of m t) r ≡ o →
+    (unless_refused m o (effect m t (process_of m t) r)).answer ≡ answer.Failure e → Fails m t r e
+unless_fails m t r None e n h = effect_fails m t r e n h
+unless_fails m t r (Some x) e n h = subst (Fails m t r) (same_failure x e h) (by_test x n)
+
+step_fails : (m : State) (t : ℕ) (r : Request) (e : Errno) → (step m t (Some r)).answer ≡ answer.Failure e → Fails m t r e
 unfolding step
-step_tells m t r e = unless_tells m (refusal_of m t (process_of m t) r) (effect m t (process_of m t) r) e (effect_is_done m t (process_of m t) r)
+step_fails m t r e h = unless_fails m t r (refusal_of m t (process_of m t) r) e refl h
+
+fails_step : (m : State) (t : ℕ) (r : Request) (e : Errno) → Fails m t r e → (step m t (Some r)).answer ≡ answer.Failure e
+unfolding step
+fails_step m t r e (by_test x f) = ap (λ o. (unless_refused m o (effect m t (process_of m t) r)).answer) f
+fails_step m t r e (returned_unbound bytes pass f n v) =
+    ap (λ o. (unless_refused m o (effect m t (process_of m t) r)).answer) n
+    ∙ ap (λ (q : Request). (effect m t (process_of m t) q).answer) f
+    ∙ return_result m t (process_of m t) bytes pass
+    ∙ ap (λ (b : Bool). if b then answer.Failure EINVAL else answer.Wait) v
 
 pub entry_tells :
     (m : State) (t : ℕ) (q : Option Request) (r : Request) (e : Errno) → q ≡ Some r →
-    ((step m t q).answer ≡ answer.Failure e) ↔ (refusal_of m t (process_of m t) r ≡ Some e)
+    ((step m t q).answer ≡ answer.Failure e) ↔ Fails m t r e
 entry_tells m t q r e h =
-    subst (λ o. ((step m t o).answer ≡ answer.Failure e) ↔ (refusal_of m t (process_of m t) r ≡ Some e)) (sym h) (step_tells m t r e)
+    subst (λ o. ((step m t o).answer ≡ answer.Failure e) ↔ Fails m t r e) (sym h) (step_fails m t r e, fails_step m t r e)
+
+-- a Call fails only where it is refused
+pub call_fails :
+    (m : State) (t : ℕ) (r : Request) (fd : Fd) (bytes : List ℕ) (pass : List Pass) (rsize : ℕ) (e : Errno) →
+    r ≡ request.Call fd bytes pass rsize → Fails m t r e → refusal_of m t (process_of m t) r ≡ Some e
+call_fails m t r fd bytes pass rsize e h (by_test x f) = f
+call_fails m t r fd bytes pass rsize e h (returned_unbound b x f n v) = absurd (cc (sym h ∙ f))

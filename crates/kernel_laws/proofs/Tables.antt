@@ -5,7 +5,7 @@ use Rattle.std.specs.List.{list_any}
 use Rattle.std.proofs.Common.{refl, sym, ap, ◌∙◌}
 use native.Mathlib.Omega.{arith}
 use Rattle.std.proofs.lemmas.Bool.Decides.{nat_tests}
-use Rattle.written_kernel.specs.Types.{Answer, Call, CallStage, Errno, Fd, Item, Obj, Parked, Pass, Request, ThreadState, Waiting}
+use Rattle.written_kernel.specs.Types.{Answer, Call, CallStage, Errno, Fd, Obj, Pass, Request, ThreadState}
 use Rattle.dk_base.specs.declared.error.Errno.TheVariants.{E2BIG, EINVAL, EMFILE}
 use Rattle.dk_base.specs.declared.limits.TheConstants.{DATA_MAX, PASS_MAX}
 use Rattle.dk_base.specs.declared.object.Item.TheVariants as item
@@ -14,12 +14,13 @@ use Rattle.dk_base.specs.declared.answer.Answer.TheVariants as answer
 use Rattle.kernel_records.specs.declared.record.ThreadState.TheVariants as is
 use Rattle.kernel_records.specs.declared.record.CallStage.TheVariants as stage
 use Rattle.kernel_records.specs.Words.{Test, first_refusal, free_rows, insert_rows, is_bad_pass, is_given_as, is_not_open, is_to_collect_as, limit_tests, new_descriptors, object_in, object_named, objects_passed, refused_where, release_rows, table_in, tid, with_table}
-use Rattle.written_kernel.specs.Words.{State, accept_call, act, begin_call, client_call, collect_answer, collect_answer_in, door_named, door_of, effect, fail_begin, find_call, give_each, give_one, give_to, go_on, has_room, object_at, objects_collected, objects_collected_in, pick, pool_of, pool_tests, process_of, refusal_of, state_of, step, table_of, tables_after_collect, tables_after_pass, tables_with, unless_refused, waiting_items}
+use Rattle.written_kernel.specs.Words.{State, accept_call, act, begin_call, client_call, collect_answer, collect_answer_in, door_named, door_of, effect, fail_begin, find_call, go_on, has_room, object_at, objects_collected, objects_collected_in, pool_tests, process_of, refusal_of, return, return_parked, return_unbound, has_invalid_door, state_of, step, table_of, tables_after_collect, tables_after_pass, tables_with, unless_refused}
 use Rattle.written_kernel.proofs.Settling.{tables-settle}
 use Rattle.kernel_invariant.specs.Records.{record_of}
 use Rattle.kernel_invariant.specs.Arrows.{has_own_room, own_table}
 use Rattle.kernel_invariant.proofs.Calls.{find-as}
 use Rattle.kernel_laws.specs.NoLoss.{is_descriptor, is_release_of}
+use Rattle.kernel_laws.specs.Refused.Fails.{refused}
 use Rattle.kernel_laws.proofs.Installed.{differ, installed_then, named_none, names_new, not_released, others_stay, released_none, released_then, table_elsewhere, table_put_back}
 use Rattle.kernel_laws.proofs.Passed.{names_each}
 use Rattle.kernel_laws.proofs.Refusals.{entry_tells, none_of}
@@ -225,7 +226,7 @@ releases m n p pass e =
 not_refused :
     (m : State) (t : ℕ) (q : Option Request) (r : Request) (a : Answer) → q ≡ Some r → (step m t q).answer ≡ a →
     ((e : Errno) → a ≡ answer.Failure e → ⊥) → refusal_of m t (process_of m t) r ≡ None
-not_refused m t q r a e f h = none_of _ (λ x g. h x (sym f ∙ (entry_tells m t q r x e).1 g))
+not_refused m t q r a e f h = none_of _ (λ x g. h x (sym f ∙ (entry_tells m t q r x e).1 (refused x g)))
 
 not_held : (xs : List Test) (x : Test) (ys : List Test) → first_refusal (xs ++ x ∷ ys) ≡ None → x.holds ≡ false
 not_held [] x ys e = grind arith
@@ -257,10 +258,20 @@ call_passes m t c rsize q fd bytes pass e f =
     none : refusal_of m t (process_of m t) (request.Call fd bytes pass rsize) ≡ None
     none = not_refused m t q (request.Call fd bytes pass rsize) (answer.WaitCall c) e f (λ x g. cc)
 
+tables-return :
+    (m : State) (t p : ℕ) (bytes : List ℕ) (pass : List Pass) → (return m t p bytes pass).state.tables ≡ tables_after_pass m p pass
+tables-return m t p bytes pass = go (has_invalid_door m t)
+  where
+    go :
+        (b : Bool) →
+        (if b then return_unbound m t p bytes pass else return_parked m t p bytes pass).state.tables ≡ tables_after_pass m p pass
+    go true = refl
+    go false = refl
+
 pub return_passes :
     (m : State) (t : ℕ) (q : Option Request) (bytes : List ℕ) (pass : List Pass) → q ≡ Some (request.Return bytes pass) →
-    (step m t q).answer ≡ answer.Wait → Passed m t q pass
-return_passes m t q bytes pass e f =
+    refusal_of m t (process_of m t) (request.Return bytes pass) ≡ None → Passed m t q pass
+return_passes m t q bytes pass e none =
     record {
       named =
           names_each (own_table m t) pass
@@ -268,8 +279,5 @@ return_passes m t q bytes pass e f =
           (not_held
           (refused_where (is_some (client_call m t) && (nat_lt DATA_MAX (length bytes) || nat_lt PASS_MAX (length pass))) E2BIG ∷ [])
           (refused_where (is_bad_pass (own_table m t) pass) EINVAL) [] none));
-      releases = releases m (step m t q).state (process_of m t) pass (ap (λ o. (step m t o).state.tables) e ∙ tables-effect m t (request.Return bytes pass) none);
+      releases = releases m (step m t q).state (process_of m t) pass (ap (λ o. (step m t o).state.tables) e ∙ tables-effect m t (request.Return bytes pass) none ∙ tables-return m t (process_of m t) bytes pass);
     }
-  where
-    none : refusal_of m t (process_of m t) (request.Return bytes pass) ≡ None
-    none = not_refused m t q (request.Return bytes pass) answer.Wait e f (λ x g. cc)

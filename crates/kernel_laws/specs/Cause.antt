@@ -1,8 +1,8 @@
--- Cause: a Call is refused exactly where the first of its tests that holds says so, and what a caller collects has its cause
--- at the one place where its call left the queue or its server.
-use Rattle.std.specs.Prelude.{ℕ, ◌≡◌, ◌+◌, ◌<◌, ◌≤◌, ◌↔◌, List, Bool, true, false, Some, length, nat_lt, slice_get}
+-- Cause: a Call is refused exactly where the first of its tests that holds says so; what a caller collects has its cause at the
+-- one place where its call left the queue or its server; and the call of a caller that ended is Gone for ever.
+use Rattle.std.specs.Prelude.{ℕ, ◌≡◌, ◌+◌, ◌<◌, ◌≤◌, ◌↔◌, ◌⊎◌, List, Bool, true, false, Some, None, length, nat_lt, slice_get}
 use Rattle.written_kernel.specs.Types.{Answer, Call, Errno, Fd, Obj, Pass}
-use Rattle.dk_base.specs.declared.error.Errno.TheVariants.{EBADF, EMFILE}
+use Rattle.dk_base.specs.declared.error.Errno.TheVariants.{EBADF, EINTR, EMFILE}
 use Rattle.dk_base.specs.declared.request.Request.TheVariants as request
 use Rattle.dk_base.specs.declared.answer.Answer.TheVariants as answer
 use Rattle.kernel_records.specs.declared.record.CallStage.TheVariants as stage
@@ -10,7 +10,8 @@ use Rattle.kernel_records.specs.declared.record.ThreadState.TheVariants as is
 use Rattle.kernel_records.specs.Words.{is_live, tid}
 use Rattle.written_kernel.specs.Words.{State, Turn, has_room, is_valid, state_at, state_of}
 use Rattle.kernel_invariant.specs.Records.{record_of, stage_of}
-use Rattle.kernel_invariant.specs.Core.{underway_in}
+use Rattle.kernel_invariant.specs.Core.{is_underway, underway_in}
+use Rattle.kernel_invariant.specs.Arrows.{EndsNow}
 use Rattle.kernel_laws.specs.Places.{IsCollect, IsRefusedBy, MakesCall, ReturnsCall, answer_at, process_at}
 
 -- the turn of place i is this Call
@@ -49,7 +50,8 @@ pub data Cause (m : State) (xs : List Turn) (c e k : ℕ) (z : Turn) : Answer �
       has_room_at m xs k z.thread back.objects ≡ false → Cause m xs c e k z (answer.Failure EMFILE)
   -- the thread that it was given to accepted it, and its process had too few descriptors free
   server_full :
-      (r : Call) (w : Turn) → slice_get xs e ≡ Some w → record_of (state_at m xs e) c ≡ Some r → r.stage ≡ stage.Given (tid w.thread) →
+      (r : Call) (w : Turn) → slice_get xs e ≡ Some w → w.request ≡ None → record_of (state_at m xs e) c ≡ Some r →
+      r.stage ≡ stage.Given (tid w.thread) →
       answer_at m xs e w ≡ answer.EnterFailed c → has_room_at m xs e w.thread r.objects ≡ false →
       Cause m xs c e k z (answer.Failure EMFILE)
   -- it waited, its door became invalid, and its caller did not end
@@ -57,6 +59,16 @@ pub data Cause (m : State) (xs : List Turn) (c e k : ℕ) (z : Turn) : Answer �
       (r : Call) → record_of (state_at m xs e) c ≡ Some r → r.stage ≡ stage.Queued → is_valid (state_at m xs e) r.door ≡ true →
       is_valid (state_at m xs (e + 1)) r.door ≡ false → (state_of (state_at m xs (e + 1)) r.caller.0 ≡ is.Done → ⊥) →
       Cause m xs c e k z (answer.Failure EBADF)
+  -- it was underway, its caller was interrupted, and did not end
+  interrupted :
+      (r : Call) (w : Turn) → slice_get xs e ≡ Some w → record_of (state_at m xs e) c ≡ Some r → is_underway r.stage ≡ true →
+      w.request ≡ Some (request.Interrupt r.caller) → (state_of (state_at m xs (e + 1)) r.caller.0 ≡ is.Done → ⊥) →
+      Cause m xs c e k z (answer.Failure EINTR)
+  -- the thread that it was given to, or that had entered it, ended, and its caller did not
+  server_ended :
+      (r : Call) (u : ℕ) → record_of (state_at m xs e) c ≡ Some r →
+      (r.stage ≡ stage.Given (tid u)) ⊎ (r.stage ≡ stage.Entered (tid u)) → EndsNow (state_at m xs e) (state_at m xs (e + 1)) u →
+      (state_of (state_at m xs (e + 1)) r.caller.0 ≡ is.Done → ⊥) → Cause m xs c e k z (answer.Failure EINTR)
 
 -- two answers of collects tell the same, but for the numbers of descriptors
 abbrev pub TellsSame : Answer → Answer → Type 0
@@ -80,10 +92,14 @@ pub record HasCause (m : State) (xs : List Turn) : Type 0 where
       ((e : Errno) → IsRefusedBy m xs i x.thread fd bytes asked.pass e → ⊥) → MakesOne m xs i x
   pub told : (k c : ℕ) (z : Turn) → slice_get xs k ≡ Some z → IsCollect m xs k z c → IsCaused m xs c k z
   pub exact : (c e k : ℕ) (z : Turn) (a b : Answer) → Cause m xs c e k z a → Cause m xs c e k z b → TellsSame a b
-  -- a call whose caller ended is Gone, or was answered before; and a call that is Gone is not collected
+  -- a call whose caller ended is Gone, or was answered before; one that is live when its caller ends is Gone from then on; and a
+  -- call that is Gone is not collected
   pub gone :
       (i c : ℕ) (r : Call) → i ≤ length xs → record_of (state_at m xs i) c ≡ Some r → state_of (state_at m xs i) r.caller.0 ≡ is.Done →
       is_live r.stage ≡ false
+  pub gone_for_ever :
+      (i j c : ℕ) (r : Call) → i < j → j ≤ length xs → record_of (state_at m xs i) c ≡ Some r → is_live r.stage ≡ true →
+      state_of (state_at m xs (i + 1)) r.caller.0 ≡ is.Done → stage_of (state_at m xs j) c ≡ Some stage.Gone
   pub gone_unanswered :
       (i c : ℕ) (x : Turn) → slice_get xs i ≡ Some x → IsCollect m xs i x c → stage_of (state_at m xs i) c ≡ Some stage.Gone → ⊥
   pub left_once : (c e f : ℕ) → Leaves m xs c e → Leaves m xs c f → e ≡ f

@@ -9,6 +9,8 @@ use Rattle.kernel_laws.specs.MadeByCreator.{MadeByCreator}
 use Rattle.kernel_laws.specs.Refused.{Refused}
 use Rattle.kernel_laws.specs.Held.{Held}
 use Rattle.kernel_laws.specs.Pools.{AreBoundToOwn, NoPoolHasBoth}
+use Rattle.kernel_laws.specs.Ends.{Ends}
+use Rattle.kernel_laws.specs.Cancels.{Cancels}
 use Rattle.kernel_laws.specs.EventsShown.{EventsShown}
 
 pub record AllLaws (m : State) (xs : List Turn) : Type 0 where
@@ -21,6 +23,8 @@ pub record AllLaws (m : State) (xs : List Turn) : Type 0 where
   pub refused : Refused m xs
   pub no_pool_has_both : NoPoolHasBoth m xs
   pub bound_to_own : AreBoundToOwn m xs
+  pub ends : Ends m xs
+  pub cancels : Cancels m xs
   pub events_shown : EventsShown m xs
 
 unfoldable pub Laws : State → List Turn → Type 0

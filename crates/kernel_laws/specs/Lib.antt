@@ -6,6 +6,8 @@ pub mod Cause
 pub mod MadeByCreator
 pub mod Refused
 pub mod Pools
+pub mod Ends
+pub mod Cancels
 pub mod EventsShown
 pub mod NoLoss
 pub mod Held

@@ -1,11 +1,10 @@
 -- Match: a server sees what the caller of the call sent, and the caller gets what the server returned for that call.
 use Rattle.std.specs.Prelude.{ℕ, ◌≡◌, ◌+◌, ◌<◌, List, Bool, Some, None, length, map, nat_lt, slice_get}
 use Rattle.written_kernel.specs.Types.{Call, Fd, Obj, Pass}
-use Rattle.dk_base.specs.declared.request.Request.TheVariants as request
 use Rattle.dk_base.specs.declared.answer.Answer.TheVariants as answer
 use Rattle.written_kernel.specs.Words.{State, Turn, door_of, state_at}
 use Rattle.kernel_invariant.specs.Records.{record_of}
-use Rattle.kernel_laws.specs.Places.{BecomesReturned, HasEntered, IsAccept, IsCollect, IsOf, MakesCall, ReturnsCall, answer_at, objects_at, objects_named, process_at}
+use Rattle.kernel_laws.specs.Places.{BecomesReturned, HasEntered, IsAccept, IsCollect, IsOf, IsReturn, MakesCall, ReturnsCall, answer_at, objects_at, objects_named, process_at}
 
 -- What the accept of call c at place a shows was sent: by the Call that made c, at an earlier place. The bytes are the same,
 -- procedure and cookie are those of the door that the caller's descriptor named, and the descriptors that are shown name, in
@@ -65,9 +64,8 @@ pub record Match (m : State) (xs : List Turn) : Type 0 where
   pub only_by_return : (j c : ℕ) (w : Turn) → slice_get xs j ≡ Some w → BecomesReturned m xs c j → ReturnsCall m xs j w c
   -- and each Return, not refused, of a thread that has entered a call returns it
   pub return_hands_over :
-      (j c : ℕ) (w : Turn) (bytes : List ℕ) (pass : List Pass) → slice_get xs j ≡ Some w →
-      w.request ≡ Some (request.Return bytes pass) → answer_at m xs j w ≡ answer.Wait → HasEntered (state_at m xs j) w.thread c →
-      BecomesReturned m xs c j
+      (j c : ℕ) (w : Turn) (bytes : List ℕ) (pass : List Pass) → slice_get xs j ≡ Some w → IsReturn m xs j w bytes pass →
+      HasEntered (state_at m xs j) w.thread c → BecomesReturned m xs c j
   pub returned_once : (c i j : ℕ) → BecomesReturned m xs c i → BecomesReturned m xs c j → i ≡ j
   pub results :
       (k : ℕ) (z : Turn) (bytes : List ℕ) (fds : List Fd) (more : Bool) → slice_get xs k ≡ Some z →

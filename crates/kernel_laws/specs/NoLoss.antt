@@ -9,7 +9,7 @@ use Rattle.kernel_records.specs.declared.record.CallStage.TheVariants as stage
 use Rattle.written_kernel.specs.Words.{State, Turn, object_at, objects_in_call, state_at}
 use Rattle.kernel_invariant.specs.Core.{has_arguments}
 use Rattle.kernel_invariant.specs.Records.{record_of}
-use Rattle.kernel_laws.specs.Places.{IsCollect, MakesCall, ReturnsCall, answer_at, objects_at, objects_named, process_at}
+use Rattle.kernel_laws.specs.Places.{IsCollect, IsReturn, MakesCall, ReturnsCall, answer_at, objects_at, objects_named, process_at}
 
 -- what of a call is in transit: its arguments while it waits or is given to a thread, its results until they are collected
 
@@ -86,8 +86,7 @@ pub data Passes (m : State) (xs : List Turn) (i : ℕ) (x : Turn) (pass : List P
   at_call :
       (fd : Fd) (bytes : List ℕ) (rsize c : ℕ) → x.request ≡ Some (request.Call fd bytes pass rsize) →
       answer_at m xs i x ≡ answer.WaitCall c → Passes m xs i x pass
-  at_return :
-      (bytes : List ℕ) → x.request ≡ Some (request.Return bytes pass) → answer_at m xs i x ≡ answer.Wait → Passes m xs i x pass
+  at_return : (bytes : List ℕ) → IsReturn m xs i x bytes pass → Passes m xs i x pass
 
 abbrev pub is_release_of : Fd → Pass → Bool
 is_release_of fd y = if y.release then is_descriptor fd y.fd else false

@@ -5,15 +5,14 @@ use Rattle.std.specs.Prelude.{ℕ, ◌≡◌, ◌+◌, ◌<◌, ◌≤◌, ◌�
 use Rattle.written_kernel.specs.Types.{Call, Fd, Item, Pass}
 use Rattle.dk_base.specs.declared.error.Errno.TheVariants.{EMFILE}
 use Rattle.dk_base.specs.declared.object.Item.TheVariants as item
-use Rattle.dk_base.specs.declared.request.Request.TheVariants as request
 use Rattle.dk_base.specs.declared.answer.Answer.TheVariants as answer
 use Rattle.kernel_records.specs.declared.record.CallStage.TheVariants as stage
 use Rattle.kernel_records.specs.declared.record.ThreadState.TheVariants as is
 use Rattle.kernel_records.specs.Words.{is_live, new_invocation, tid}
-use Rattle.written_kernel.specs.Words.{State, Turn, caller_in, has_room, invocation_of, now, process_of, state_at, state_of}
+use Rattle.written_kernel.specs.Words.{State, Turn, bound_of, caller_in, has_invalid_door, has_room, invocation_of, now, process_of, return_answer, state_at, state_of}
 use Rattle.kernel_invariant.specs.Records.{item_of, owner_of_call, record_of, stage_of}
 use Rattle.kernel_invariant.specs.Events.{InvocationArrow}
-use Rattle.kernel_laws.specs.Places.{BecomesAnswered, BecomesEntered, HasEntered, IsAccept, IsCollect, answer_at}
+use Rattle.kernel_laws.specs.Places.{BecomesAnswered, BecomesEntered, HasEntered, IsAccept, IsCollect, IsReturn, answer_at}
 
 -- the turn of place i ends the wait of a thread that was given call c: the thread enters c, and nothing else
 pub record Enters (m : State) (xs : List Turn) (i : ℕ) (x : Turn) (c : ℕ) : Type 0 where
@@ -27,16 +26,21 @@ pub record Enters (m : State) (xs : List Turn) (i : ℕ) (x : Turn) (c : ℕ) : 
   pub free_before : invocation_of (state_at m xs i) x.thread ≡ None
   pub invocation_after : invocation_of (state_at m xs (i + 1)) x.thread ≡ Some (new_invocation (item.Call c))
 
--- the thread of the turn of place i waits again after it: it is idle since this event, or was given another item than call c at once
+-- The thread of the turn of place i waits again after it: it is idle since this event, or was given another item than call c at
+-- once. Where it was bound to a door that is not valid, it was unbound instead, and will be told so.
 pub data WaitsAgain (m : State) (xs : List Turn) (i : ℕ) (x : Turn) (c : ℕ) : Type 0 where
-  is_idle : state_of (state_at m xs (i + 1)) x.thread ≡ is.Idle (now (state_at m xs i)) → WaitsAgain m xs i x c
+  is_idle :
+      has_invalid_door (state_at m xs i) x.thread ≡ false →
+      state_of (state_at m xs (i + 1)) x.thread ≡ is.Idle (now (state_at m xs i)) → WaitsAgain m xs i x c
   is_given :
-      (other : Item) → (other ≡ item.Call c → ⊥) → state_of (state_at m xs (i + 1)) x.thread ≡ is.Given other →
-      WaitsAgain m xs i x c
+      (other : Item) → has_invalid_door (state_at m xs i) x.thread ≡ false → (other ≡ item.Call c → ⊥) →
+      state_of (state_at m xs (i + 1)) x.thread ≡ is.Given other → WaitsAgain m xs i x c
+  has_failed :
+      has_invalid_door (state_at m xs i) x.thread ≡ true → state_of (state_at m xs (i + 1)) x.thread ≡ is.FailedReturn →
+      bound_of (state_at m xs (i + 1)) x.thread ≡ None → WaitsAgain m xs i x c
 
 -- The turn of place i ends the wait of a thread that was given call c: its process has too few descriptors free for what comes
--- with the call, which ends with EMFILE; no call is entered, and the thread has no invocation. The thread waits again: it is idle
--- since this event, or was given another item at once.
+-- with the call, which ends with EMFILE; no call is entered, and the thread has no invocation. The thread waits again.
 pub record FailsToEnter (m : State) (xs : List Turn) (i : ℕ) (x : Turn) (c : ℕ) : Type 0 where
   pub no_request : x.request ≡ None
   pub was_given : state_of (state_at m xs i) x.thread ≡ is.Given (item.Call c)
@@ -63,8 +67,8 @@ pub record CollectsEntered (m : State) (xs : List Turn) (i : ℕ) (x : Turn) : T
   pub answered : BecomesAnswered m xs call i
   pub was_entered : WasEntered m xs i call
 
--- the invocation of thread t over the turn of place i: it stays as it is, begins at an accept of t that says so, ends at a
--- Return of t that is not refused, or leaves with the end of t
+-- the invocation of thread t over the turn of place i: it stays as it is, begins at an accept of t that says so, has its flag set
+-- where its client leaves, ends at a Return of t that is not refused, or leaves with the end of t
 abbrev pub InvocationMoves : State → List Turn → ℕ → Turn → ℕ → Type 0
 InvocationMoves m xs i x t =
     InvocationArrow (state_at m xs i) x.thread x.request (answer_at m xs i x) (state_at m xs (i + 1)) t (invocation_of (state_at m xs i) t)
@@ -93,10 +97,14 @@ pub record Once (m : State) (xs : List Turn) : Type 0 where
       (i t c d : ℕ) → i ≤ length xs → HasEntered (state_at m xs i) t c → HasEntered (state_at m xs i) t d → c ≡ d
   -- so between two invocations of a thread lies a Return of it, or its end
   pub invocations : (i t : ℕ) (x : Turn) → slice_get xs i ≡ Some x → InvocationMoves m xs i x t
-  -- a Return that is not refused leaves its thread without one, and a thread that is Done has none
+  -- a Return that is not refused answers Wait, or EINVAL where its thread is bound to a door that is not valid, and leaves its
+  -- thread without one; and a thread that is Done has none
+  pub return_answers :
+      (i : ℕ) (x : Turn) (bytes : List ℕ) (pass : List Pass) → slice_get xs i ≡ Some x → IsReturn m xs i x bytes pass →
+      answer_at m xs i x ≡ return_answer (state_at m xs i) x.thread
   pub return_ends :
-      (i : ℕ) (x : Turn) (bytes : List ℕ) (pass : List Pass) → slice_get xs i ≡ Some x → x.request ≡ Some (request.Return bytes pass) →
-      answer_at m xs i x ≡ answer.Wait → invocation_of (state_at m xs (i + 1)) x.thread ≡ None
+      (i : ℕ) (x : Turn) (bytes : List ℕ) (pass : List Pass) → slice_get xs i ≡ Some x → IsReturn m xs i x bytes pass →
+      invocation_of (state_at m xs (i + 1)) x.thread ≡ None
   pub none_when_done : (i t : ℕ) → i ≤ length xs → state_of (state_at m xs i) t ≡ is.Done → invocation_of (state_at m xs i) t ≡ None
   pub collects : (i c : ℕ) (x : Turn) → slice_get xs i ≡ Some x → IsCollect m xs i x c → BecomesAnswered m xs c i
   pub only_by_collect : (i c : ℕ) (x : Turn) → slice_get xs i ≡ Some x → BecomesAnswered m xs c i → IsCollect m xs i x c

@@ -8,7 +8,7 @@ use Rattle.dk_base.specs.declared.answer.Answer.TheVariants as answer
 use Rattle.kernel_records.specs.declared.record.CallStage.TheVariants as stage
 use Rattle.kernel_records.specs.declared.record.ThreadState.TheVariants as is
 use Rattle.kernel_records.specs.Words.{tid}
-use Rattle.written_kernel.specs.Words.{State, Turn, object_at, process_of, state_at, state_of, step}
+use Rattle.written_kernel.specs.Words.{State, Turn, object_at, process_of, refusal_of, return_answer, state_at, state_of, step}
 use Rattle.kernel_invariant.specs.Records.{record_of, stage_of}
 use Rattle.kernel_invariant.specs.Core.{abandoned_in, has_arguments}
 use Rattle.kernel_laws.specs.Refusals.{Refusal}
@@ -127,13 +127,20 @@ pub record IsAccept (m : State) (xs : List Turn) (i : ℕ) (x : Turn) (c : ℕ) 
   pub descriptors : List Fd
   pub answer : answer_at m xs i x ≡ answer.Entered c entry cookie bytes descriptors
 
+-- The turn of place i is this Return, and it is not refused. The answer does not tell: a Return with its effects answers EINVAL too,
+-- where its thread is bound to a door that is not valid.
+pub record IsReturn (m : State) (xs : List Turn) (i : ℕ) (x : Turn) (bytes : List ℕ) (pass : List Pass) : Type 0 where
+  pub asked : x.request ≡ Some (request.Return bytes pass)
+  pub not_refused : refusal_of (state_at m xs i) x.thread (process_at m xs i x.thread) (request.Return bytes pass) ≡ None
+
 -- the turn of place i is a Return, by the thread that has entered call c, that hands over the results of c
 pub record ReturnsCall (m : State) (xs : List Turn) (i : ℕ) (x : Turn) (c : ℕ) : Type 0 where
   pub turn : slice_get xs i ≡ Some x
   pub bytes : List ℕ
   pub pass : List Pass
-  pub request : x.request ≡ Some (request.Return bytes pass)
-  pub answer : answer_at m xs i x ≡ answer.Wait
+  pub is_return : IsReturn m xs i x bytes pass
+  -- Wait, or EINVAL where its thread is bound to a door that is not valid
+  pub answer : answer_at m xs i x ≡ return_answer (state_at m xs i) x.thread
   pub was_entered : HasEntered (state_at m xs i) x.thread c
   pub not_abandoned : abandoned_in (record_of (state_at m xs i) c) ≡ false
   pub objects : List Obj

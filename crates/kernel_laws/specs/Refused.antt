@@ -1,16 +1,26 @@
--- Refused: an entry answers an error exactly where the first of its tests that holds says so, and changes nothing then. It is
--- an event, and so the state after it has one event more.
-use Rattle.std.specs.Prelude.{ℕ, ◌≡◌, ◌+◌, ◌↔◌, List, Some, slice_get}
-use Rattle.written_kernel.specs.Types.{Errno, Request}
+-- Refused: an entry is refused where the first of its tests that holds says so, and changes nothing then. It is an event, and so
+-- the state after it has one event more. It answers an error exactly there, and at a Return with its effects, by a thread that
+-- is bound to a door that is not valid.
+use Rattle.std.specs.Prelude.{ℕ, ◌≡◌, ◌+◌, ◌↔◌, List, Some, None, true, slice_get}
+use Rattle.written_kernel.specs.Types.{Errno, Pass, Request}
+use Rattle.dk_base.specs.declared.error.Errno.TheVariants.{EINVAL}
+use Rattle.dk_base.specs.declared.request.Request.TheVariants as request
 use Rattle.dk_base.specs.declared.answer.Answer.TheVariants as answer
-use Rattle.written_kernel.specs.Words.{State, Turn, refusal_of, state_at, with_event_counted}
+use Rattle.written_kernel.specs.Words.{State, Turn, has_invalid_door, process_of, refusal_of, state_at, with_event_counted}
 use Rattle.kernel_laws.specs.Places.{answer_at, process_at}
 
--- an error is answered exactly where the first test of the entry that holds, in the state before, has it
-abbrev pub RefusedByFirstTest : State → List Turn → Type 0
-RefusedByFirstTest m xs =
+-- why entry r of thread t answers an error: the first of its tests that holds has it, or it is a Return with its effects
+pub data Fails (m : State) (t : ℕ) (r : Request) : Errno → Type 0 where
+  refused : (e : Errno) → refusal_of m t (process_of m t) r ≡ Some e → Fails m t r e
+  returned_unbound :
+      (bytes : List ℕ) (pass : List Pass) → r ≡ request.Return bytes pass → refusal_of m t (process_of m t) r ≡ None →
+      has_invalid_door m t ≡ true → Fails m t r EINVAL
+
+-- an error is answered exactly where there is such a reason
+abbrev pub FailsByFirstTest : State → List Turn → Type 0
+FailsByFirstTest m xs =
     (i : ℕ) (x : Turn) (r : Request) (e : Errno) → slice_get xs i ≡ Some x → x.request ≡ Some r →
-    (answer_at m xs i x ≡ answer.Failure e) ↔ (refusal_of (state_at m xs i) x.thread (process_at m xs i x.thread) r ≡ Some e)
+    (answer_at m xs i x ≡ answer.Failure e) ↔ Fails (state_at m xs i) x.thread r e
 
 abbrev pub RefusedChangesNothing : State → List Turn → Type 0
 RefusedChangesNothing m xs =
@@ -19,5 +29,5 @@ RefusedChangesNothing m xs =
     state_at m xs (i + 1) ≡ with_event_counted (state_at m xs i)
 
 pub record Refused (m : State) (xs : List Turn) : Type 0 where
-  pub by_first_test : RefusedByFirstTest m xs
+  pub by_first_test : FailsByFirstTest m xs
   pub changes_nothing : RefusedChangesNothing m xs

@@ -1,0 +1,141 @@
+-- Which events end threads: only acts of leaving.
+use Rattle.std.specs.Prelude.{ℕ, ◌≡◌, ◌+◌, ◌==◌, List, Option, Bool, true, false, if◌then◌else◌, Some, None, slice_get}
+use Rattle.std.specs.Option.{option_map}
+use Rattle.std.proofs.Common.{refl, sym, ap, subst, ◌∙◌}
+use native.Mathlib.Omega.{arith}
+use Rattle.std.proofs.lemmas.Bool.Decides.{nat_tests}
+use Rattle.written_kernel.specs.Types.{Call, Item, Name, PathId, Request, Thread, ThreadState, Tid}
+use Rattle.dk_base.specs.ByNumber.{at_number}
+use Rattle.dk_base.specs.declared.object.Item.TheVariants as item
+use Rattle.dk_base.specs.declared.request.Request.TheVariants as request
+use Rattle.kernel_records.specs.declared.record.ThreadState.TheVariants as is
+use Rattle.kernel_records.specs.Words.{ProcessTable, change_thread, idle_thread, is_given_as, is_valid_in, state_in, thread_at, thread_at_state, thread_in_invocation, thread_outside}
+use Rattle.written_kernel.specs.Words.{State, Turn, accept_call, act, await, await_name, begin_call, effect, fail_begin, find_call, give_one, go_on, has_invalid_door, has_room, is_valid, name_of, now, process_of, return_parked, return_unbound, settle, state_at, state_of, step}
+use Rattle.written_kernel.proofs.Entries.{enter_either}
+use Rattle.written_kernel.proofs.Settling.{doors-settle, settle-all}
+use Rattle.written_kernel.proofs.Threads.{thread_at-change_thread}
+use Rattle.kernel_invariant.specs.Arrows.{EndsNow}
+use Rattle.kernel_invariant.specs.Events.{is_leaving}
+use Rattle.kernel_laws.proofs.Known.{Known, next}
+
+-- a turn at which callers, threads or doors leave
+abbrev pub is_leaving_turn : Option Request → Bool
+is_leaving_turn None = false
+is_leaving_turn (Some r) = is_leaving r
+
+-- a thread that is Done is Done before
+pub record EndsNone (m n : ProcessTable) : Type 0 where
+  pub done : (u : ℕ) → state_in (thread_at n u) ≡ is.Done → state_in (thread_at m u) ≡ is.Done
+
+same_none : (table : ProcessTable) → EndsNone table table
+same_none table = record { done = λ u h. h }
+
+-- a change of one thread that doesn't end it
+change_none :
+    (table : ProcessTable) (t : ℕ) (change : Thread → Thread) → ((x : Thread) → (change x).state ≡ is.Done → x.state ≡ is.Done) →
+    EndsNone table (change_thread table t change)
+change_none table t change h =
+    record { done = λ u d. go u (u == t) refl (thread_at table t) refl (sym (ap state_in (thread_at-change_thread table t u change)) ∙ d) }
+  where
+    go :
+        (u : ℕ) (b : Bool) → (u == t) ≡ b → (o : Option Thread) → thread_at table t ≡ o →
+        state_in (if b then option_map change o else thread_at table u) ≡ is.Done → state_in (thread_at table u) ≡ is.Done
+    go u false e o f d = d
+    go u true e None f d =
+        let same : u ≡ t = grind (arith, nat_tests) in
+        ap (λ v. state_in (thread_at table v)) same ∙ ap state_in f
+    go u true e (Some x) f d =
+        let same : u ≡ t = grind (arith, nat_tests) in
+        ap (λ v. state_in (thread_at table v)) same ∙ ap state_in f ∙ h x d
+
+-- to a state that is not Done
+turn_none : (table : ProcessTable) (t : ℕ) (s : ThreadState) → (s ≡ is.Done → ⊥) → EndsNone table (change_thread table t (thread_at_state s))
+turn_none table t s h = change_none table t (thread_at_state s) (λ x d. absurd (h d))
+
+-- acts
+
+abbrev pub EndsNoneIn : State → State → Type 0
+EndsNoneIn m n = EndsNone m.process_table n.process_table
+
+await_none : (m : State) (t : ℕ) (path : PathId) → EndsNoneIn m (await m t path).state
+await_none m t path = go (name_of m path)
+  where
+    go : (o : Option Name) → EndsNoneIn m (await_name m t path o).state
+    go (Some n) = same_none m.process_table
+    go None = turn_none m.process_table t (is.Awaiting path) (λ d. cc)
+
+pub effect_none : (m : State) (t p : ℕ) (r : Request) → is_leaving r ≡ false → EndsNoneIn m (effect m t p r).state
+effect_none m t p (request.Call fd bytes pass rsize) e = turn_none m.process_table t _ (λ d. cc)
+effect_none m t p (request.Return bytes pass) e = go (has_invalid_door m t)
+  where
+    go : (b : Bool) → EndsNoneIn m (if b then return_unbound m t p bytes pass else return_parked m t p bytes pass).state
+    go true = change_none m.process_table t thread_outside (λ x d. d)
+    go false = change_none m.process_table t (idle_thread (now m)) (λ x d. absurd (cc d))
+effect_none m t p (request.Await path) e = await_none m t path
+effect_none m t p (request.Revoke fd) e = absurd (cc e)
+effect_none m t p (request.Interrupt thread) e = absurd (cc e)
+effect_none m t p (request.Kill process) e = absurd (cc e)
+effect_none m t p request.Exit e = absurd (cc e)
+effect_none m t p _ e = same_none m.process_table
+
+accept_none : (m : State) (t p c : ℕ) (o : Option Call) → EndsNoneIn m (accept_call m t p c o).state
+accept_none m t p c None = same_none m.process_table
+accept_none m t p c (Some r) = go (has_room m p r.objects)
+  where
+    go : (b : Bool) → EndsNoneIn m (if b then begin_call m t p c r else fail_begin m t c r).state
+    go true = change_none m.process_table t (thread_in_invocation (item.Call c)) (λ x d. absurd (cc d))
+    go false = change_none m.process_table t (idle_thread (now m)) (λ x d. absurd (cc d))
+
+pub go_on_none : (m : State) (t p : ℕ) (s : ThreadState) → EndsNoneIn m (go_on m t p s).state
+go_on_none m t p (is.Given (item.Call c)) = accept_none m t p c (find_call m (is_given_as c t))
+go_on_none m t p (is.Given (item.Notice n)) = same_none m.process_table
+go_on_none m t p (is.Calling c) = turn_none m.process_table t is.Running (λ d. cc)
+go_on_none m t p (is.Awaiting path) = turn_none m.process_table t is.Running (λ d. cc)
+go_on_none m t p (is.Working op input) = turn_none m.process_table t is.Running (λ d. cc)
+go_on_none m t p is.FailedReturn = turn_none m.process_table t is.Running (λ d. cc)
+go_on_none m t p _ = same_none m.process_table
+
+act_none : (m : State) (t : ℕ) (q : Option Request) → is_leaving_turn q ≡ false → EndsNoneIn m (act m t q).state
+act_none m t (Some r) e =
+    enter_either (λ a. EndsNoneIn m a.state) m t (process_of m t) r (λ x. same_none m.process_table) (effect_none m t (process_of m t) r e)
+act_none m t None e = go_on_none m t (process_of m t) (state_of m t)
+
+-- and what the kernel does after them
+
+give_none : (m : State) (i : Item) (u : ℕ) → EndsNoneIn m (give_one m i u)
+give_none m (item.Call c) u = turn_none m.process_table u _ (λ d. cc)
+give_none m (item.Notice n) u = turn_none m.process_table u _ (λ d. cc)
+
+pub settle_none : (before m : State) (u : ℕ) → state_of (settle before m) u ≡ is.Done → state_of m u ≡ is.Done
+settle_none before m u =
+    settle-all (λ n. state_of n u ≡ is.Done → state_of m u ≡ is.Done)
+    (λ n t l e d. e ((turn_none n.process_table t is.FailedReturn (λ f. cc)).done u d))
+    (λ n w x p e d. e ((give_none n w.item x.thread.0).done u d))
+    (λ n t r e d. e ((turn_none n.process_table t is.Running (λ f. cc)).done u d))
+    before m
+    (λ d. d)
+
+pub none_ends : (m : State) (t : ℕ) (q : Option Request) (u : ℕ) → is_leaving_turn q ≡ false → EndsNow m (step m t q).state u → ⊥
+unfolding step
+none_ends m t q u e h = h.before ((act_none m t q e).done u (settle_none m (act m t q).state u h.after))
+
+-- at a place of a run
+pub none_ends_at :
+    (m : State) (xs : List Turn) → Known m xs → (i : ℕ) (x : Turn) → slice_get xs i ≡ Some x → is_leaving_turn x.request ≡ false → (u : ℕ) →
+    EndsNow (state_at m xs i) (state_at m xs (i + 1)) u → ⊥
+none_ends_at m xs k i x e l u h =
+    none_ends (state_at m xs i) x.thread x.request u l (subst (λ n. EndsNow (state_at m xs i) n u) (next m xs k i x e) h)
+
+-- an Interrupt makes no door invalid
+
+doors_interrupted : (m : State) (t : ℕ) (u : Tid) (d : ℕ) → is_valid (step m t (Some (request.Interrupt u))).state d ≡ is_valid m d
+unfolding step
+doors_interrupted m t u d = ap (λ doors. is_valid_in (at_number doors d)) (doors-settle m (act m t (Some (request.Interrupt u))).state)
+
+pub doors_interrupted_at :
+    (m : State) (xs : List Turn) → Known m xs → (i : ℕ) (x : Turn) (u : Tid) (d : ℕ) → slice_get xs i ≡ Some x →
+    x.request ≡ Some (request.Interrupt u) → is_valid (state_at m xs (i + 1)) d ≡ is_valid (state_at m xs i) d
+doors_interrupted_at m xs k i x u d e q =
+    ap (λ n. is_valid n d) (next m xs k i x e)
+    ∙ ap (λ r. is_valid (step (state_at m xs i) x.thread r).state d) q
+    ∙ doors_interrupted (state_at m xs i) x.thread u d

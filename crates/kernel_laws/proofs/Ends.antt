@@ -1,0 +1,317 @@
+-- What has ended stays so, and what is left of a process that has ended.
+use Rattle.std.specs.Prelude.{ℕ, ◌≡◌, ◌+◌, ◌<◌, ◌≤◌, ◌==◌, ◌⊎◌, List, Option, Bool, true, false, if◌then◌else◌, Some, None, zero, suc, find, length, not, slice_get}
+use Rattle.std.specs.Option.{option_map}
+use Rattle.std.proofs.Common.{refl, sym, ap, subst, ◌∙◌, add-one, inl, inr}
+use native.Mathlib.Omega.{arith}
+use Rattle.std.proofs.lemmas.Bool.Decides.{nat_tests}
+use Rattle.written_kernel.specs.Types.{Call, Door, Item, Name, PathId, Process, Request, Thread, ThreadState}
+use Rattle.dk_base.specs.ByNumber.{at_number}
+use Rattle.dk_base.specs.declared.object.Item.TheVariants as item
+use Rattle.dk_base.specs.declared.request.Request.TheVariants as request
+use Rattle.kernel_records.specs.declared.record.ThreadState.TheVariants as is
+use Rattle.kernel_records.specs.declared.record.CallStage.TheVariants as stage
+use Rattle.kernel_records.specs.Words.{Leaving, ProcessTable, change_thread, end_process, ended_process, ended_thread, idle_thread, interrupted_where, interruption, is_given_as, is_last, is_live, is_live_in, is_served_by, is_valid_in, left_thread, left_thread_of, process_end, revocation, state_in, thread_at, thread_at_state, thread_end, thread_in_invocation, thread_outside, tid, with_ended}
+use Rattle.written_kernel.specs.Words.{MayTurn, State, Turn, accept_call, act, await, await_name, begin_call, door_at, door_of, effect, exit, fail_begin, find_call, give_one, go_on, has_invalid_door, has_room, is_live_process, is_running_state, can_go_on, is_valid, kill, leave, leave_process, leave_thread, name_of, now, process_of, return_parked, return_unbound, served_by, settle, state_at, state_of, step, thread_of}
+use Rattle.written_kernel.proofs.Entries.{enter_either}
+use Rattle.written_kernel.proofs.Lists.{at_number-map, at_number-renumbered_there}
+use Rattle.written_kernel.proofs.Settling.{settle-all}
+use Rattle.written_kernel.proofs.Threads.{processes-change_thread}
+use Rattle.kernel_invariant.specs.Records.{item_in, owner_in, owner_of_call, record_of, stage_in, stage_of}
+use Rattle.kernel_invariant.specs.Core.{core, door_in, ended_in, is_outside, number_in}
+use Rattle.kernel_invariant.specs.Coherent.{IsCoherent}
+use Rattle.kernel_invariant.specs.Invariant.{Invariant}
+use Rattle.kernel_laws.specs.Ends.{Ends, HasEnded, HasNoCall, is_ended}
+use Rattle.kernel_laws.proofs.Held.{IsWith, Serves, serves_of}
+use Rattle.kernel_laws.proofs.Known.{Known, TurnAt, invariant_before, next, split, turn_at}
+use Rattle.kernel_laws.proofs.Once.{caller_waits, owner_same}
+use Rattle.kernel_laws.proofs.Parked.{loses_idle, picked_idle, state_elsewhere}
+
+-- a thread that is Done stays so, and a process that has ended
+record KeepsEnds (m n : ProcessTable) : Type 0 where
+  done : (u : ℕ) → state_in (thread_at m u) ≡ is.Done → state_in (thread_at n u) ≡ is.Done
+  ended : (p : ℕ) → ended_in (at_number m.processes p) ≡ true → ended_in (at_number n.processes p) ≡ true
+
+same_keeps : (table : ProcessTable) → KeepsEnds table table
+same_keeps table = record { done = λ u d. d; ended = λ p e. e }
+
+keeps_then : (a b c : ProcessTable) → KeepsEnds a b → KeepsEnds b c → KeepsEnds a c
+keeps_then a b c h k = record { done = λ u d. k.done u (h.done u d); ended = λ p e. k.ended p (h.ended p e) }
+
+-- a change of one thread that is not Done
+change_keeps :
+    (table : ProcessTable) (t : ℕ) (change : Thread → Thread) → (state_in (thread_at table t) ≡ is.Done → ⊥) →
+    KeepsEnds table (change_thread table t change)
+change_keeps table t change h =
+    record {
+      done = λ u d. go u (u == t) refl d;
+      ended = λ p e. ap (λ ps. ended_in (at_number ps p)) (processes-change_thread table t change) ∙ e;
+    }
+  where
+    go :
+        (u : ℕ) (b : Bool) → (u == t) ≡ b → state_in (thread_at table u) ≡ is.Done →
+        state_in (thread_at (change_thread table t change) u) ≡ is.Done
+    go u false e d = state_elsewhere table t u change e ∙ d
+    go u true e d =
+        let same : t ≡ u = grind (arith, nat_tests) in
+        absurd (h (ap (λ v. state_in (thread_at table v)) same ∙ d))
+
+-- the end of a process
+end_keeps : (table : ProcessTable) (p : ℕ) → KeepsEnds table (end_process table p)
+end_keeps table p = go (at_number table.processes p) refl
+  where
+    go : (o : Option Process) → at_number table.processes p ≡ o → KeepsEnds table (with_ended table p o)
+    go None f = same_keeps table
+    go (Some x) f =
+        record {
+          done = λ u d. d;
+          ended = λ q e. ap ended_in (at_number-renumbered_there table.processes p q (ended_process x) x f) ∙ by q (q == p) e;
+        }
+      where
+        by :
+            (q : ℕ) (b : Bool) → ended_in (at_number table.processes q) ≡ true →
+            ended_in (if b then Some (ended_process x) else at_number table.processes q) ≡ true
+        by q true e = refl
+        by q false e = e
+
+-- leaving
+
+not_at_both : (s r z : ThreadState) → s ≡ r → s ≡ z → (r ≡ z → ⊥) → ⊥
+not_at_both s r z e f h = h (sym e ∙ f)
+
+some_call : (a : Call) → Some a ≡ None → ⊥
+some_call a e = cc
+
+none_served : (m : State) → Invariant m → (t : ℕ) → state_of m t ≡ is.Done → served_by m t ≡ None
+none_served m h t d = go (served_by m t) refl
+  where
+    coherent : IsCoherent (core m)
+    coherent = h.consistent.coherent
+
+    by : (r : Call) → Serves m t r → IsWith t r.stage → ⊥
+    by r s (inl f) =
+        not_at_both (state_of m t) _ _ (coherent.waits.given r.number t (ap stage_in s.found ∙ ap (λ z. Some z) f)) d (λ z. cc)
+    by r s (inr f) =
+        absurd
+        (cc
+        (sym (ap item_in (coherent.servers.outside t (ap is_outside d)))
+        ∙ coherent.invocations.entered r.number t (ap stage_in s.found ∙ ap (λ z. Some z) f)))
+
+    served : (r : Call) → Serves m t r → ⊥
+    served r s = by r s s.with_it
+
+    go : (o : Option Call) → served_by m t ≡ o → o ≡ None
+    go None e = refl
+    go (Some r) e = absurd (served r (serves_of m h t r e))
+
+left_state :
+    (who : Leaving) (n : ℕ) (o : Option Call) (x : Thread) → o ≡ None → x.state ≡ is.Done → (left_thread who n o x).state ≡ is.Done
+left_state who n o x e d = ap (λ p. (left_thread who n p x).state) e ∙ go (who.ends x.number) (who.interrupts x.number)
+  where
+    go : (a b : Bool) → (if a then ended_thread x else interrupted_where b x).state ≡ is.Done
+    go true b = refl
+    go false false = d
+    go false true = grind (arith, d)
+
+leave_keeps : (m : State) (who : Leaving) → Invariant m → KeepsEnds m.process_table (leave m who).process_table
+leave_keeps m who h = record { done = λ u d. done u d; ended = λ p e. e }
+  where
+    done : (u : ℕ) → state_of m u ≡ is.Done → state_of (leave m who) u ≡ is.Done
+    done u d =
+        ap state_in (at_number-map (left_thread_of who (now m) m.call_tree.calls) m.process_table.threads u) ∙ go (thread_of m u) refl d
+      where
+        go :
+            (o : Option Thread) → thread_of m u ≡ o → state_in o ≡ is.Done →
+            state_in (option_map (left_thread_of who (now m) m.call_tree.calls) o) ≡ is.Done
+        go None e f = refl
+        go (Some x) e f =
+            left_state who (now m) (find (is_served_by x.number) m.call_tree.calls) x
+            (ap (λ n. served_by m n) (h.consistent.coherent.threads.thread_number u x.number (ap number_in e)) ∙ none_served m h u d)
+            f
+
+-- acts
+
+abbrev KeepsEndsIn : State → State → Type 0
+KeepsEndsIn m n = KeepsEnds m.process_table n.process_table
+
+leave_process_keeps : (m : State) (p : ℕ) → Invariant m → KeepsEndsIn m (leave_process m p)
+leave_process_keeps m p h =
+    keeps_then m.process_table (leave m (process_end m.process_table m.doors p)).process_table _
+    (leave_keeps m (process_end m.process_table m.doors p) h)
+    (end_keeps (leave m (process_end m.process_table m.doors p)).process_table p)
+
+exit_keeps : (m : State) (t p : ℕ) → Invariant m → KeepsEndsIn m (exit m t p).state
+exit_keeps m t p h = go (is_last m.process_table t p)
+  where
+    go : (b : Bool) → KeepsEndsIn m (if b then leave_process m p else leave_thread m t)
+    go true = leave_process_keeps m p h
+    go false = leave_keeps m (thread_end t) h
+
+kill_keeps : (m : State) (p : ℕ) → Invariant m → KeepsEndsIn m (kill m p).state
+kill_keeps m p h = go (is_live_process m p)
+  where
+    go : (b : Bool) → KeepsEndsIn m (if b then leave_process m p else m)
+    go true = leave_process_keeps m p h
+    go false = same_keeps m.process_table
+
+await_keeps : (m : State) (t : ℕ) (path : PathId) → (state_of m t ≡ is.Done → ⊥) → KeepsEndsIn m (await m t path).state
+await_keeps m t path h = go (name_of m path)
+  where
+    go : (o : Option Name) → KeepsEndsIn m (await_name m t path o).state
+    go (Some n) = same_keeps m.process_table
+    go None = change_keeps m.process_table t (thread_at_state (is.Awaiting path)) h
+
+effect_keeps : (m : State) (t p : ℕ) (r : Request) → Invariant m → (state_of m t ≡ is.Done → ⊥) → KeepsEndsIn m (effect m t p r).state
+effect_keeps m t p (request.Call fd bytes pass rsize) i h = change_keeps m.process_table t _ h
+effect_keeps m t p (request.Return bytes pass) i h = go (has_invalid_door m t)
+  where
+    go : (b : Bool) → KeepsEndsIn m (if b then return_unbound m t p bytes pass else return_parked m t p bytes pass).state
+    go true = change_keeps m.process_table t thread_outside h
+    go false = change_keeps m.process_table t (idle_thread (now m)) h
+effect_keeps m t p (request.Await path) i h = await_keeps m t path h
+effect_keeps m t p (request.Revoke fd) i h = leave_keeps m (revocation (door_at m p fd)) i
+effect_keeps m t p (request.Interrupt thread) i h = leave_keeps m (interruption thread.0) i
+effect_keeps m t p (request.Kill process) i h = kill_keeps m process.0 i
+effect_keeps m t p request.Exit i h = exit_keeps m t p i
+effect_keeps m t p _ i h = same_keeps m.process_table
+
+accept_keeps : (m : State) (t p c : ℕ) (o : Option Call) → (state_of m t ≡ is.Done → ⊥) → KeepsEndsIn m (accept_call m t p c o).state
+accept_keeps m t p c None h = same_keeps m.process_table
+accept_keeps m t p c (Some r) h = go (has_room m p r.objects)
+  where
+    go : (b : Bool) → KeepsEndsIn m (if b then begin_call m t p c r else fail_begin m t c r).state
+    go true = change_keeps m.process_table t (thread_in_invocation (item.Call c)) h
+    go false = change_keeps m.process_table t (idle_thread (now m)) h
+
+go_on_keeps : (m : State) (t p : ℕ) (s : ThreadState) → (state_of m t ≡ is.Done → ⊥) → KeepsEndsIn m (go_on m t p s).state
+go_on_keeps m t p (is.Given (item.Call c)) h = accept_keeps m t p c (find_call m (is_given_as c t)) h
+go_on_keeps m t p (is.Given (item.Notice n)) h = same_keeps m.process_table
+go_on_keeps m t p (is.Calling c) h = change_keeps m.process_table t _ h
+go_on_keeps m t p (is.Awaiting path) h = change_keeps m.process_table t _ h
+go_on_keeps m t p (is.Working op input) h = change_keeps m.process_table t _ h
+go_on_keeps m t p is.FailedReturn h = change_keeps m.process_table t _ h
+go_on_keeps m t p _ h = same_keeps m.process_table
+
+-- a thread that takes a turn is not Done
+takes_turn : (m : State) (t : ℕ) (q : Option Request) → MayTurn m t q → state_of m t ≡ is.Done → ⊥
+takes_turn m t (Some r) may d = absurd (cc (sym may.running ∙ ap is_running_state d))
+takes_turn m t None may d = absurd (cc (sym may.runnable ∙ ap (can_go_on m) d))
+
+act_keeps : (m : State) (t : ℕ) (q : Option Request) → Invariant m → (state_of m t ≡ is.Done → ⊥) → KeepsEndsIn m (act m t q).state
+act_keeps m t (Some r) i h =
+    enter_either (λ a. KeepsEndsIn m a.state) m t (process_of m t) r (λ x. same_keeps m.process_table) (effect_keeps m t (process_of m t) r i h)
+act_keeps m t None i h = go_on_keeps m t (process_of m t) (state_of m t) h
+
+-- and what the kernel does after them
+
+give_keeps : (m : State) (i : Item) (u : ℕ) → (state_of m u ≡ is.Done → ⊥) → KeepsEndsIn m (give_one m i u)
+give_keeps m (item.Call c) u h = change_keeps m.process_table u _ h
+give_keeps m (item.Notice n) u h = change_keeps m.process_table u _ h
+
+settle_keeps : (before m : State) → KeepsEndsIn m (settle before m)
+settle_keeps before m =
+    settle-all (λ n. KeepsEndsIn m n)
+    (λ n t l e. keeps_then m.process_table n.process_table _ e
+    (change_keeps n.process_table t (thread_at_state is.FailedReturn) (λ d. not_at_both (state_of n t) _ _ (loses_idle n t l).1 d (λ z. cc))))
+    (λ n w x p e. keeps_then m.process_table n.process_table _ e
+    (give_keeps n w.item x.thread.0 (λ d. not_at_both (state_of n x.thread.0) _ _ (picked_idle n _ x p) d (λ z. cc))))
+    (λ n t r e. keeps_then m.process_table n.process_table _ e
+    (change_keeps n.process_table t (thread_at_state is.Running) (λ d. not_at_both (state_of n t) _ _ r d (λ z. cc))))
+    before m
+    (same_keeps m.process_table)
+
+step_keeps_ends : (m : State) (t : ℕ) (q : Option Request) → Invariant m → MayTurn m t q → KeepsEndsIn m (step m t q).state
+unfolding step
+step_keeps_ends m t q i may =
+    keeps_then m.process_table (act m t q).state.process_table _ (act_keeps m t q i (takes_turn m t q may)) (settle_keeps m (act m t q).state)
+
+-- what is left of an ended process
+
+ended_not_live : (o : Option Process) → ended_in o ≡ true → is_live_in o ≡ false
+ended_not_live o e = grind arith
+
+not_valid : (x : Door) → x.owner_ended ≡ true → is_valid_in (Some x) ≡ false
+not_valid x e = grind (arith, e)
+
+module _ (m : State) (h : Invariant m) (p : ℕ) (e : is_ended m p ≡ true) where
+  coherent : IsCoherent (core m)
+  coherent = h.consistent.coherent
+
+  threads_done : (t : ℕ) → process_of m t ≡ p → state_of m t ≡ is.Done
+  threads_done t f = coherent.processes.ended_done t (ap (is_ended m) f ∙ e)
+
+  no_valid_door : (d : ℕ) → owner_in (door_of m d) ≡ Some p → is_valid m d ≡ false
+  no_valid_door d f = go (door_of m d) refl f
+    where
+      go : (o : Option Door) → door_of m d ≡ o → owner_in o ≡ Some p → is_valid_in o ≡ false
+      go None g k = refl
+      go (Some x) g k =
+          let own : x.owner.0 ≡ p = grind arith in
+          not_valid x
+          (coherent.doors.owner_ended d x g
+          ∙ ap (λ q. not (is_live_in (at_number m.process_table.processes q))) own
+          ∙ ap not (ended_not_live _ e))
+
+  same_owner : (p q : ℕ) (o : Option ℕ) → o ≡ Some p → o ≡ Some q → q ≡ p
+  same_owner p q o f g = cc
+
+  owner : (c : ℕ) (s : _) → stage_of m c ≡ Some s → owner_of_call m c ≡ Some p → owner_in (door_of m (door_in (record_of m c))) ≡ Some p
+  owner c s f g = sym (owner_same m (record_of m c) s f) ∙ g
+
+  not_valid_and_valid : (b : Bool) → b ≡ true → b ≡ false → ⊥
+  not_valid_and_valid b f g = cc
+
+  none_with : (c u : ℕ) → process_of m u ≡ p → (stage_of m c ≡ Some (stage.Given (tid u))) ⊎ (stage_of m c ≡ Some (stage.Entered (tid u))) → ⊥
+  none_with c u f (inl g) = not_at_both (state_of m u) _ _ (coherent.waits.given c u g) (threads_done u f) (λ z. cc)
+  none_with c u f (inr g) =
+      absurd (cc (sym (ap item_in (coherent.servers.outside u (ap is_outside (threads_done u f)))) ∙ coherent.invocations.entered c u g))
+
+  no_call : HasNoCall m p
+  no_call c u f (inl g) =
+      not_valid_and_valid _ (coherent.at_doors.waiting_valid c g) (no_valid_door (door_in (record_of m c)) (owner c _ g f))
+  no_call c u f (inr (inl g)) = none_with c u (same_owner p _ _ (owner c _ g f) (coherent.at_doors.given_owner c u g)) (inl g)
+  no_call c u f (inr (inr g)) = none_with c u (same_owner p _ _ (owner c _ g f) (coherent.at_doors.entered_owner c u g)) (inr g)
+
+  pub has_ended : (own : (c : ℕ) (r : Call) → record_of m c ≡ Some r → is_live r.stage ≡ true → state_of m r.caller.0 ≡ is.Calling c) → HasEnded m p
+  has_ended own =
+      record {
+        no_row = λ fd. h.consistent.no_rows p fd e;
+        threads_done = threads_done;
+        no_valid_door = no_valid_door;
+        no_call = no_call;
+        none_live = none_live;
+      }
+    where
+      none_live : (c : ℕ) (r : Call) → record_of m c ≡ Some r → process_of m r.caller.0 ≡ p → is_live r.stage ≡ false
+      none_live c r f g = go (is_live r.stage) refl
+        where
+          go : (b : Bool) → is_live r.stage ≡ b → b ≡ false
+          go false k = refl
+          go true k = absurd (not_at_both (state_of m r.caller.0) _ _ (own c r f k) (threads_done r.caller.0 g) (λ z. cc))
+
+module _ (m : State) (xs : List Turn) (k : Known m xs) where
+  -- what each turn keeps stays
+  pub stays :
+      (P : State → Type 0) (i : ℕ) →
+      ((a : ℕ) (x : Turn) → i ≤ a → slice_get xs a ≡ Some x → P (state_at m xs a) → P (state_at m xs (a + 1))) → (j : ℕ) → i ≤ j → j ≤ length xs → P (state_at m xs i) → P (state_at m xs j)
+  stays P i one zero l b h = let same : i ≡ zero = omega (arith, l) in subst (λ j. P (state_at m xs j)) same h
+  stays P i one (suc j) l b h = go (split i (suc j) l) (λ f. stays P i one j f (omega (arith, b)) h)
+    where
+      by : TurnAt xs j → i ≤ j → P (state_at m xs j) → P (state_at m xs (suc j))
+      by t f g = subst (λ n. P (state_at m xs n)) (add-one j) (one j t.turn f t.found g)
+
+      go : (i < suc j) ⊎ (i ≡ suc j) → (i ≤ j → P (state_at m xs j)) → P (state_at m xs (suc j))
+      go (inl f) ih = by (turn_at xs j (omega (arith, b))) (omega (arith, f)) (ih (omega (arith, f)))
+      go (inr f) ih = subst (λ n. P (state_at m xs n)) f h
+
+  keeps_at : (i : ℕ) (x : Turn) → slice_get xs i ≡ Some x → KeepsEndsIn (state_at m xs i) (state_at m xs (i + 1))
+  keeps_at i x e =
+      subst (λ n. KeepsEndsIn (state_at m xs i) n) (sym (next m xs k i x e))
+      (step_keeps_ends (state_at m xs i) x.thread x.request (invariant_before m xs k i x e) (k.may i x e))
+
+  pub ends_holds : Ends m xs
+  ends_holds =
+      record {
+        process = λ i p l e. has_ended (state_at m xs i) (k.invariant i l) p e (λ c r. caller_waits m xs k i c r l);
+        process_stays = λ i j p. stays (λ n. is_ended n p ≡ true) i (λ a x l f. (keeps_at a x f).ended p) j;
+        thread_stays = λ i j t. stays (λ n. state_of n t ≡ is.Done) i (λ a x l f. (keeps_at a x f).done t) j;
+      }
