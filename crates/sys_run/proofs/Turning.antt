@@ -14,7 +14,7 @@ IsFit-forget m t r h = tt
 
 MayEnter-forget : (m : State) (t : ℕ) (r : Request) → MayEnter m t r → MayEnter (forget m) t r
 MayEnter-forget m t r h =
-    record { running = h.running; fit = IsFit-forget m t r h.fit; built = h.built; inside = h.inside; few = h.few }
+    record { running = h.running; fit = IsFit-forget m t r h.fit; built = h.built; few = h.few }
 
 MayGoOn-forget : (m : State) (t : ℕ) → MayGoOn m t → MayGoOn (forget m) t
 MayGoOn-forget m t h = record { runnable = is_runnable-forget m t ∙ h.runnable; waits = h.waits; few = h.few }

@@ -1,5 +1,5 @@
 -- What the doors and calls of a state name is declared, and so is what the answers of its events name.
-use Rattle.std.proofs.Common.{◌≡◌, ℕ, ◌+◌, ◌≤◌, ◌==◌, ◌&&◌, not, zero, suc, List, [], ◌∷◌, ◌++◌, Option, Some, None, Bool, true, false, if◌then◌else◌, IsSome, is_none, length, nat_lt, arith, refl, sym, ap, subst, length-append, append-nil, unwrap_or}
+use Rattle.std.proofs.Common.{◌≡◌, ℕ, ◌+◌, ◌≤◌, ◌==◌, not, zero, suc, List, [], ◌∷◌, ◌++◌, Option, Some, None, Bool, true, false, if◌then◌else◌, IsSome, inl, inr, is_none, length, nat_lt, arith, refl, sym, ap, subst, length-append, append-nil, unwrap_or}
 use Rattle.std.specs.Prelude.{All}
 use Rattle.std.specs.Option.{option_map_or}
 use Rattle.std.proofs.lemmas.Bool.{false≢true}
@@ -14,9 +14,10 @@ use Rattle.dk_base.specs.declared.request.Param.TheVariants as param
 use Rattle.dk_base.specs.declared.request.Request.TheVariants as request
 use Rattle.kernel_records.specs.declared.record.CallStage.TheVariants as stage
 use Rattle.kernel_records.specs.declared.record.ThreadState.TheVariants as is
-use Rattle.dk_base.specs.ByNumber.{at_number, with_at_number}
-use Rattle.kernel_records.specs.Words.{at_stage, bind_thread, change_door_in, change_first, collect_call, door_attached, entry_of, has_other_path, has_path, info_in, is_client_call_of, is_given_as, is_last, is_owned_by, is_queued, is_queued_as, is_served_by, is_to_collect_as, is_valid_in, new_descriptors, new_door, objects_passed, set_param, tid, unbind_thread, with_name, with_owner_ended, with_param, with_row, without_arguments_at, without_name}
-use Rattle.written_kernel.specs.Words.{ActResult, State, accept, accept_call, act, await, await_name, begin_call, bound_of, caller_in, client_call, client_process, collect, collect_answer, collect_answer_in, door_at, door_named, door_of, effect, ended_call, enter, exit, fail_begin, find_call, give_one, go_on, has_room, is_door, is_valid, is_waiting_state, leave_process, leave_thread, name_of, new_call, now, object_at, objects_collected, objects_collected_in, process_of, refusal_of, results_answer, root, served_by, settle, state_of, step, table_of, tables_after_pass, tables_with, unless_refused, waiting_among, waiting_threads, walk, with_table_of}
+use Rattle.dk_base.specs.ByNumber.{with_at_number}
+use Rattle.kernel_records.specs.Words.{Leaving, abandoned_at, at_stage, bind_thread, change_door, change_door_in, change_first, close_row, close_table, collect_call, door_attached, end_owner, entry_of, has_other_path, has_path, info_in, interruption, is_client_call_of, is_given_as, is_last, is_queued_as, is_served_by, is_to_collect_as, is_valid_in, left_call, new_descriptors, new_door, objects_passed, process_end, revocation, revoked_door, set_param, thread_end, tid, unbind_thread, with_name, with_owner_ended, with_param, with_row, with_table, without_arguments_at, without_name}
+use Rattle.written_kernel.specs.Words.{ActResult, State, accept, accept_call, act, await, await_name, begin_call, bound_of, caller_in, client_call, client_process, collect, collect_answer, collect_answer_in, door_at, door_named, door_of, effect, enter, exit, fail_begin, find_call, give_one, go_on, has_invalid_door, has_room, is_door, is_live_process, is_valid, is_waiting_state, kill, leave, leave_process, leave_thread, name_of, new_call, now, object_at, objects_collected, objects_collected_in, process_of, refusal_of, results_answer, return, return_parked, return_unbound, revoke, root, served_by, settle, state_of, step, table_of, tables_after_pass, tables_with, unless_refused, waiting_among, waiting_threads, walk, with_table_of}
+use Rattle.written_kernel.proofs.CallLists.{IsOver, left_call-over}
 use Rattle.written_kernel.proofs.Lists.{length-with_at_number, numbered_within, numbered_there}
 use Rattle.written_kernel.proofs.Settling.{settle-all}
 use Rattle.script_lang.specs.Words.{ScriptValue}
@@ -175,28 +176,41 @@ with_param-declared script param.DataMax value d h = record { owner = h.owner; e
 with_param-declared script param.DataMin value d h = record { owner = h.owner; entry = h.entry }
 with_param-declared script param.DescMax value d h = record { owner = h.owner; entry = h.entry }
 
-set_param-known :
-    (script : ScriptValue) (m : State) (d : ℕ) (x : Param) (value : ℕ) → IsKnown script m →
-    AreKnown script (set_param m.doors d x value) m.call_tree.calls m.tables m.names m.bindings
-set_param-known script m d x value h = by_door (door_of m d) refl
+-- another list of as many doors
+redoored-known :
+    (script : ScriptValue) (ds es : List Door) {rs : List Call} {ts : List (List (Option Obj))} {ns : List Name} {bs : List (Option ℕ)} →
+    length ds ≡ length es → All (IsDeclaredDoor script) es → AreKnown script ds rs ts ns bs → AreKnown script es rs ts ns bs
+redoored-known script ds es {rs} {ts} {ns} {bs} same doors h =
+    record {
+      doors = doors;
+      calls = subst (λ (n : ℕ). AreKnownCalls script n rs) same h.calls;
+      rows = subst (λ (n : ℕ). AreKnownRows n ts) same h.rows;
+      names = subst (λ (n : ℕ). AreKnownNames n ns) same h.names;
+      bindings = subst (λ (n : ℕ). AreKnownBindings n bs) same h.bindings;
+    }
+
+-- a door becomes another
+change_door-known :
+    (script : ScriptValue) (m : State) (d : ℕ) (change : Door → Door) → ((y : Door) → IsDeclaredDoor script y → IsDeclaredDoor script (change y)) →
+    IsKnown script m → AreKnown script (change_door m.doors d change) m.call_tree.calls m.tables m.names m.bindings
+change_door-known script m d change keeps h = by_door (door_of m d) refl
   where
     by_door :
         (o : Option Door) → door_of m d ≡ o →
-        AreKnown script (change_door_in m.doors d (with_param x value) o) m.call_tree.calls m.tables m.names m.bindings
+        AreKnown script (change_door_in m.doors d change o) m.call_tree.calls m.tables m.names m.bindings
     by_door None e = h
     by_door (Some y) e =
-        let same : length m.doors ≡ length (with_at_number m.doors d (with_param x value y)) =
-        sym (length-with_at_number m.doors d (with_param x value y))
-        in record {
-          doors =
-              All-with_at_number (IsDeclaredDoor script) m.doors d (with_param x value y)
-              (with_param-declared script x value y (All-at_number (IsDeclaredDoor script) m.doors d y h.doors e))
-              h.doors;
-          calls = subst (λ (n : ℕ). AreKnownCalls script n m.call_tree.calls) same h.calls;
-          rows = subst (λ (n : ℕ). AreKnownRows n m.tables) same h.rows;
-          names = subst (λ (n : ℕ). AreKnownNames n m.names) same h.names;
-          bindings = subst (λ (n : ℕ). AreKnownBindings n m.bindings) same h.bindings;
-        }
+        redoored-known script m.doors (with_at_number m.doors d (change y))
+        (sym (length-with_at_number m.doors d (change y)))
+        (All-with_at_number (IsDeclaredDoor script) m.doors d (change y)
+        (keeps y (All-at_number (IsDeclaredDoor script) m.doors d y h.doors e))
+        h.doors)
+        h
+
+set_param-known :
+    (script : ScriptValue) (m : State) (d : ℕ) (x : Param) (value : ℕ) → IsKnown script m →
+    AreKnown script (set_param m.doors d x value) m.call_tree.calls m.tables m.names m.bindings
+set_param-known script m d x value h = change_door-known script m d (with_param x value) (with_param-declared script x value) h
 
 ended_door : (script : ScriptValue) (p : ℕ) (d : Door) → IsDeclaredDoor script d → IsDeclaredDoor script (with_owner_ended p d)
 ended_door script p d h = by_test (d.owner.0 == p)
@@ -205,55 +219,74 @@ ended_door script p d h = by_test (d.owner.0 == p)
     by_test true = record { owner = h.owner; entry = h.entry }
     by_test false = h
 
-ended_call-known :
-    (script : ScriptValue) (made : ℕ) (ds : List Door) (p : ℕ) (r : Call) → IsKnownCall script made r →
-    IsKnownCall script made (ended_call ds p r)
-ended_call-known script made ds p r h = by_test (is_queued r.stage && is_owned_by p (at_number ds r.door))
-  where
-    by_test : (b : Bool) → IsKnownCall script made (if b then without_arguments_at (stage.Ended EBADF) r else r)
-    by_test true = emptied script made (stage.Ended EBADF) tt r h
-    by_test false = h
-
-leave_process-known : (script : ScriptValue) (m : State) (p : ℕ) → IsKnown script m → IsKnown script (leave_process m p)
-leave_process-known script m p h =
-    record {
-      doors =
-          All-map
-          (IsDeclaredDoor script)
-          (with_owner_ended p)
-          m.doors
-          (All-weaker
-          (IsDeclaredDoor script)
-          (λ d. IsDeclaredDoor script (with_owner_ended p d))
-          (λ d declared. ended_door script p d declared)
-          m.doors
-          h.doors);
-      calls =
-          rw
-          (length-map m.doors (with_owner_ended p))
-          (All-map
-          (IsKnownCall script (length m.doors))
-          (ended_call m.doors p)
-          m.call_tree.calls
-          (All-weaker
-          (IsKnownCall script (length m.doors))
-          (λ r. IsKnownCall script (length m.doors) (ended_call m.doors p r))
-          (λ r known. ended_call-known script (length m.doors) m.doors p r known)
-          m.call_tree.calls
-          h.calls));
-      rows =
-          subst (λ (n : ℕ). AreKnownRows n (leave_process m p).tables) (sym (length-map m.doors (with_owner_ended p)))
-          (closed-known (length m.doors) m.tables p h.rows);
-      names = subst (λ (n : ℕ). AreKnownNames n m.names) (sym (length-map m.doors (with_owner_ended p))) h.names;
-      bindings = subst (λ (n : ℕ). AreKnownBindings n m.bindings) (sym (length-map m.doors (with_owner_ended p))) h.bindings;
-    }
-
--- changes of tables and of the names
+ended_doors : (script : ScriptValue) (p : ℕ) (ds : List Door) → All (IsDeclaredDoor script) ds → All (IsDeclaredDoor script) (end_owner ds p)
+ended_doors script p ds all =
+    All-map
+    (IsDeclaredDoor script)
+    (with_owner_ended p)
+    ds
+    (All-weaker
+    (IsDeclaredDoor script)
+    (λ d. IsDeclaredDoor script (with_owner_ended p d))
+    (λ d declared. ended_door script p d declared)
+    ds
+    all)
 
 tables-known :
     (script : ScriptValue) (m : State) {rs : List Call} (tables : List (List (Option Obj))) → AreKnown script m.doors rs m.tables m.names m.bindings →
     AreKnownRows (length m.doors) tables → AreKnown script m.doors rs tables m.names m.bindings
 tables-known script m tables h here = record { doors = h.doors; calls = h.calls; rows = here; names = h.names; bindings = h.bindings }
+
+-- leaving
+
+-- a call that is over brings nothing back
+over_results : (made : ℕ) (s : CallStage) → IsOver s → AreKnownResults made s
+over_results made s (inl e) = subst (AreKnownResults made) (sym e) tt
+over_results made s (inr (x, e)) = subst (AreKnownResults made) (sym e) tt
+
+abandoned :
+    (script : ScriptValue) (made : ℕ) (s : CallStage) → AreKnownResults made s → (r : Call) → IsKnownCall script made r →
+    IsKnownCall script made (abandoned_at s r)
+abandoned script made s results r h =
+    record { caller = h.caller; door = h.door; objects = All-nil (IsKnownInTransit made); results = results }
+
+left_call-known :
+    (script : ScriptValue) (made : ℕ) (who : Leaving) (r : Call) → IsKnownCall script made r → IsKnownCall script made (left_call who r)
+left_call-known script made who r h =
+    left_call-over (IsKnownCall script made) who r h
+    (λ s over. emptied script made s (over_results made s over) r h)
+    (λ s over. abandoned script made s (over_results made s over) r h)
+
+leave-known : (script : ScriptValue) (m : State) (who : Leaving) → IsKnown script m → IsKnown script (leave m who)
+leave-known script m who h =
+    record {
+      doors = h.doors;
+      calls =
+          All-map
+          (IsKnownCall script (length m.doors))
+          (left_call who)
+          m.call_tree.calls
+          (All-weaker
+          (IsKnownCall script (length m.doors))
+          (λ r. IsKnownCall script (length m.doors) (left_call who r))
+          (λ r known. left_call-known script (length m.doors) who r known)
+          m.call_tree.calls
+          h.calls);
+      rows = h.rows;
+      names = h.names;
+      bindings = h.bindings;
+    }
+
+leave_process-known : (script : ScriptValue) (m : State) (p : ℕ) → IsKnown script m → IsKnown script (leave_process m p)
+leave_process-known script m p h =
+    redoored-known script m.doors (end_owner m.doors p)
+    (sym (length-map m.doors (with_owner_ended p)))
+    (ended_doors script p m.doors h.doors)
+    (tables-known script m (with_table m.tables p (close_table (table_of m p)))
+    (leave-known script m (process_end m.process_table m.doors p) h)
+    (closed-known (length m.doors) m.tables p h.rows))
+
+-- changes of tables and of the names
 
 passes-known :
     (script : ScriptValue) (m : State) {rs : List Call} (p : ℕ) (pass : List Pass) → AreKnown script m.doors rs m.tables m.names m.bindings →
@@ -305,7 +338,47 @@ exit-known script m t p h = record { state = by_test (is_last m.process_table t 
   where
     by_test : (b : Bool) → IsKnown script (if b then leave_process m p else leave_thread m t)
     by_test true = leave_process-known script m p h
+    by_test false = leave-known script m (thread_end t) h
+
+kill-known : (script : ScriptValue) (m : State) (p : ℕ) → IsKnown script m → IsKnownAct script (kill m p)
+kill-known script m p h = record { state = by_test (is_live_process m p); answer = tt }
+  where
+    by_test : (b : Bool) → IsKnown script (if b then leave_process m p else m)
+    by_test true = leave_process-known script m p h
     by_test false = h
+
+revoke-known : (script : ScriptValue) (m : State) (p : ℕ) (fd : Fd) → IsKnown script m → IsKnownAct script (revoke m p fd)
+revoke-known script m p fd h =
+    record {
+      state =
+          change_door-known script n (door_at m p fd) revoked_door
+          (λ y declared. record { owner = declared.owner; entry = declared.entry })
+          (with_row-known script left p fd.0 None (leave-known script m (revocation (door_at m p fd)) h) (none-known (length m.doors)));
+      answer = tt;
+    }
+  where
+    left : State
+    left = leave m (revocation (door_at m p fd))
+
+    n : State
+    n = with_table_of left p (close_row (table_of m p) fd.0)
+
+-- a return that parks its thread, and one that unbinds it
+return-known :
+    (script : ScriptValue) (m : State) (t p : ℕ) (bytes : List ℕ) (pass : List Pass) → IsKnown script m →
+    IsKnownAct script (return m t p bytes pass)
+return-known script m t p bytes pass h = by_test (has_invalid_door m t)
+  where
+    returned : IsKnown script (return_parked m t p bytes pass).state
+    returned =
+        passes-known script m p pass
+        (changed-known script m (is_client_call_of t) _
+        (emptied script (length m.doors) (stage.Returned bytes (objects_passed (table_of m p) pass)) (passed-known (length m.doors) m.tables p pass h.rows))
+        h)
+
+    by_test : (b : Bool) → IsKnownAct script (if b then return_unbound m t p bytes pass else return_parked m t p bytes pass)
+    by_test true = record { state = unbound-known script (return_parked m t p bytes pass).state t returned; answer = tt }
+    by_test false = record { state = returned; answer = tt }
 
 valid_door : (m : State) (d : ℕ) → is_valid m d ≡ true → IsNumberOf (length m.doors) d
 valid_door m d h = by_door (door_of m d) refl h
@@ -437,15 +510,8 @@ effect-known script m t p (request.Call fd bytes pass rsize) h thread process ow
           }));
       answer = tt;
     }
-effect-known script m t p (request.Return bytes pass) h thread process owners made e =
-    record {
-      state =
-          passes-known script m p pass
-          (changed-known script m (is_client_call_of t) _
-          (emptied script (length m.doors) (stage.Returned bytes (objects_passed (table_of m p) pass)) (passed-known (length m.doors) m.tables p pass h.rows))
-          h);
-      answer = tt;
-    }
+effect-known script m t p (request.Return bytes pass) h thread process owners made e = return-known script m t p bytes pass h
+effect-known script m t p (request.Revoke fd) h thread process owners made e = revoke-known script m p fd h
 effect-known script m t p (request.Bind fd) h thread process owners made e =
     record {
       state =
@@ -495,6 +561,9 @@ effect-known script m t p (request.Open path) h thread process owners made e =
       answer = tt;
     }
 effect-known script m t p (request.Await path) h thread process owners made e = await-known script m t path h
+effect-known script m t p (request.Interrupt u) h thread process owners made e =
+    record { state = leave-known script m (interruption u.0) h; answer = tt }
+effect-known script m t p (request.Kill q) h thread process owners made e = kill-known script m q.0 h
 effect-known script m t p request.Exit h thread process owners made e = exit-known script m t p h
 effect-known script m t p _ h thread process owners made e = record { state = h; answer = tt }
 

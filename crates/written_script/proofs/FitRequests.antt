@@ -1,18 +1,14 @@
 -- What a frame's request needs, by the line that it is at.
-use Rattle.std.proofs.Common.{◌≡◌, ℕ, ◌≤◌, List, [], ◌∷◌, Option, Some, None, Bool, true, false, length, arith, refl, subst, map, IsSome}
+use Rattle.std.proofs.Common.{◌≡◌, ℕ, ◌≤◌, List, [], ◌∷◌, Bool, true, false, length, arith, refl, map}
 use Rattle.std.specs.Prelude.{All}
 use Rattle.std.proofs.lemmas.Bool.{ltb-false}
 use Rattle.std.proofs.Math.Nat.{le-max_left}
 use Rattle.std.proofs.lemmas.List.Elements.{All-head, All-weaker}
 use Rattle.capabilities.specs.Words.{capability_of, capability_of_pass}
 use Rattle.capabilities.specs.declared.table.TheConstants.{BUILT}
-use Rattle.written_kernel.specs.Types.{Inv, Request}
-use Rattle.dk_base.specs.declared.request.Request.TheVariants as request
-use Rattle.written_kernel.specs.Words.{IsFit, MayInside, State}
-use Rattle.script_line.specs.declared.line.Kind.TheVariants.{Act}
+use Rattle.written_kernel.specs.Words.{IsFit, State}
 use Rattle.script_lang.specs.Types.{Line, PassArg}
 use Rattle.script_line.specs.declared.line.Line.TheVariants as line
-use Rattle.script_line.specs.Words.{kind_of}
 use Rattle.script_lang.specs.Words.{ScriptValue}
 use Rattle.script_requests.specs.Words.{BodyStep, Frame, IsFitLine, Variables, capability_of_line, capability_of_place, is_later_line, no_variables, pass_of, request_ahead, request_at, request_at_end, request_of}
 use Rattle.script_requests.specs.Steps.BodyStep.{Do, When}
@@ -104,29 +100,3 @@ built_ahead procedure f (Do x ∷ steps) all =
 
 pub request-built : (f : Frame) → IsFrame IsBuiltLine f → capability_of (request_of f) ≤ BUILT
 request-built f h = built_ahead f.procedure f f.steps h.steps
-
--- a thread with an invocation does not exit
-
-pub may_outside : (r : Request) → MayInside None r
-may_outside request.Exit = tt
-may_outside r = tt
-
-inside_at : (v : Inv) (variables : Variables) (x : Line) → kind_of x ≡ Act → IsBuiltLine true x → MayInside (Some v) (request_at variables x)
-inside_at v variables line.Exit act h = cc
-inside_at v variables (line.Repeat times) act h = cc
-inside_at v variables (line.If cond) act h = cc
-inside_at v variables line.End act h = cc
-inside_at v variables x act h = tt
-
-inside_ahead : (v : Inv) (f : Frame) (steps : List BodyStep) → f.procedure ≡ true → AreSteps (IsBuiltLine true) steps → MayInside (Some v) (request_ahead f steps)
-inside_ahead v f [] inside all = rw inside tt
-inside_ahead v f (When cond n ∷ steps) inside all = rw inside tt
-inside_ahead v f (Do x ∷ steps) inside all =
-    let here = All-head (IsStep (IsBuiltLine true)) (Do x) steps all in inside_at v f.variables x here.0 here.1
-
-pub request-inside :
-    (invocation : Option Inv) (f : Frame) → IsFrame IsBuiltLine f → (IsSome invocation → f.procedure ≡ true) →
-    MayInside invocation (request_of f)
-request-inside None f h inside = may_outside (request_of f)
-request-inside (Some v) f h inside =
-    inside_ahead v f f.steps (inside refl) (subst (λ (b : Bool). AreSteps (IsBuiltLine b) f.steps) (inside refl) h.steps)

@@ -6,6 +6,7 @@ pub mod GrownRow
 pub mod BudgetRow
 pub mod RefusedRow
 pub mod LoopsRow
+pub mod InterruptedRow
 pub mod FitRequests
 pub mod DeclaredObjects
 pub mod DeclaredStates

@@ -1,32 +1,30 @@
 -- Each turn of a sound script is one that the kernel takes, and whatever its runs name is declared.
-use Rattle.std.proofs.Common.{◌≡◌, ℕ, ◌+◌, ◌≤◌, ◌<◌, ◌==◌, List, [], ◌∷◌, Option, Some, None, IsSome, Bool, true, false, if◌then◌else◌, ◌||◌, ◌⊎◌, inl, inr, length, map, arith, refl, sym, ap, ◌∙◌, subst, eq-eqb}
+use Rattle.std.proofs.Common.{◌≡◌, ℕ, ◌+◌, ◌≤◌, ◌<◌, List, [], ◌∷◌, Option, Some, None, IsSome, Bool, true, false, if◌then◌else◌, ◌||◌, length, map, arith, refl, ap, ◌∙◌, subst}
 use Rattle.std.specs.Prelude.{All}
 use Rattle.std.proofs.lemmas.Bool.{false≢true}
 use Rattle.std.proofs.lemmas.List.{length-map}
 use Rattle.std.proofs.lemmas.List.Elements.{All-nil, All-head, All-tail, All-push, All-weaker}
 use Rattle.std.proofs.lemmas.Option.{slice_get_within}
-use Rattle.dk_base.specs.declared.answer.Answer.TheVariants as answer
-use Rattle.written_kernel.specs.Types.{Answer, Event, Thread}
+use Rattle.written_kernel.specs.Types.{Thread}
 use Rattle.kernel_records.specs.Words.{new_thread, process_in, state_in}
-use Rattle.written_kernel.specs.Words.{IsEntering, IsRun, MayTurn, State, bound_of, can_go_on, event_of, invocation_of, is_runnable, is_running, opening, process_of, step, thread_of, with_new_thread}
+use Rattle.written_kernel.specs.Words.{IsRun, MayTurn, State, bound_of, can_go_on, event_of, is_runnable, is_running, opening, process_of, step, thread_of, with_new_thread}
 use Rattle.written_kernel.proofs.Lists.{numbered_within, numbered_there}
-use Rattle.written_kernel.proofs.Invocations.{new_invocation-step}
-use Rattle.written_kernel.proofs.Opening.{opened, bound_of-opening, invocation_of-opening, object_at-opening, opening_processes, length-with_new_thread, opening_threads}
+use Rattle.written_kernel.proofs.Opening.{opened, bound_of-opening, object_at-opening, opening_processes, length-with_new_thread, opening_threads}
 use Rattle.written_kernel.proofs.Steps.{events-step, threads-step, processes-step, process_of-step}
 use Rattle.script_lang.specs.Types.{Line}
 use Rattle.script_line.specs.declared.line.Line.TheVariants as line
 use Rattle.script_requests.specs.Types.{Procedure, ScriptThread}
 use Rattle.script_lang.specs.Words.{ScriptValue}
-use Rattle.script_requests.specs.Words.{BodyStep, Frame, IsDeclaredAnswer, IsDeclaredEvent, IsFitLine, IsNumberOf, IsPlayable, IsProcess, IsSound, IsSoundProcedure, IsSoundThread, IsThread, Variables, capability_of_spare, frame_after, frame_after_answer, frame_of, has_later_parts, is_later, is_later_line, is_later_procedure, is_later_thread, request_after, request_ahead, request_at, request_at_end}
+use Rattle.script_requests.specs.Words.{BodyStep, Frame, IsDeclaredAnswer, IsDeclaredEvent, IsFitLine, IsNumberOf, IsPlayable, IsProcess, IsSound, IsSoundProcedure, IsSoundThread, IsThread, Variables, capability_of_spare, frame_of, has_later_parts, is_later, is_later_line, is_later_procedure, is_later_thread, request_after, request_ahead, request_at, request_at_end}
 use Rattle.script_requests.specs.Steps.BodyStep.{Do, When}
 use Rattle.script_requests.proofs.Elements.{All-at_number, All-none}
-use Rattle.script_requests.proofs.SoundFrames.{IsStep, AreSteps, AreLines, IsFrame, frame_of-frame, frame_after_answer-procedure}
+use Rattle.script_requests.proofs.SoundFrames.{IsStep, AreSteps, AreLines, IsFrame, frame_of-frame}
 use Rattle.written_script.specs.DeclaredRuns.{IsDeclared, IsDeclaredDoor}
 use Rattle.written_script.specs.ScriptRuns.{History, limit_of, with_script_threads, opening_of, first_history, request_at_turn, history_after, run, run_from, AreRunnableFrom, IsAllowed, turns_from, turns_of}
 use Rattle.written_script.proofs.DeclaredObjects.{IsKnownName, no_rows-known}
 use Rattle.written_script.proofs.DeclaredStates.{IsKnown, IsKnownCall, MakesDeclared, AsksDeclared, step-known, root-declared, waiting-declared}
-use Rattle.written_script.proofs.FitRequests.{HasThreads, IsFitSomewhere, fit-somewhere, IsBuiltLine, request-fit, request-built, request-inside}
-use Rattle.written_script.proofs.Histories.{frame_of-append, IsOpening-opening_of, events-opening_of, events-run}
+use Rattle.written_script.proofs.FitRequests.{HasThreads, IsFitSomewhere, fit-somewhere, IsBuiltLine, request-fit, request-built}
+use Rattle.written_script.proofs.Histories.{IsOpening-opening_of, events-opening_of, events-run}
 
 -- the lines of a sound script
 
@@ -117,44 +115,6 @@ pub record IsKnownHistory (script : ScriptValue) (h : History) : Type 0 where
   pub owners : (u : ℕ) → IsThread script u → IsProcess script (process_of h.state u)
   pub known : IsKnown script h.state
   pub events : All (IsDeclaredEvent script) h.events
-  -- a thread with an invocation is in a procedure
-  pub inside : (u : ℕ) → IsSome (invocation_of h.state u) → (frame_of script u h.events).procedure ≡ true
-
-frame_after-procedure :
-    (script : ScriptValue) (u : ℕ) (f : Frame) (e : Event) → f.procedure ≡ true → (frame_after script u f e).procedure ≡ true
-frame_after-procedure script u f e h = by_test (e.thread.0 == u)
-  where
-    by_test : (b : Bool) → (if b then frame_after_answer script f e.answer else f).procedure ≡ true
-    by_test true = frame_after_answer-procedure script f e.answer h
-    by_test false = h
-
--- an answer that enters begins a procedure
-pub entering-procedure : (script : ScriptValue) (f : Frame) (a : Answer) → IsEntering a → (frame_after_answer script f a).procedure ≡ true
-entering-procedure script f (answer.Entered call entry cookie bytes fds) h = refl
-entering-procedure script f a h = absurd h
-
-frame_after-entering :
-    (script : ScriptValue) (u : ℕ) (f : Frame) (e : Event) →
-    e.thread.0 ≡ u → IsEntering e.answer → (frame_after script u f e).procedure ≡ true
-frame_after-entering script u f e same h =
-    let test : (e.thread.0 == u) ≡ true = eq-eqb e.thread.0 u same in rw test (entering-procedure script f e.answer h)
-
-inside-history_after : (script : ScriptValue) (h : History) (t : ℕ) → IsKnownHistory script h → (u : ℕ) → IsSome (invocation_of (history_after script h t).state u) → (frame_of script u (history_after script h t).events).procedure ≡ true
-inside-history_after script h t kept u some = rw frame_of-append (by_cause (new_invocation-step h.state t u (request_at_turn script h t) some))
-  where
-    by_cause :
-        IsSome (invocation_of h.state u) ⊎ ((u ≡ t) × IsEntering (step h.state t (request_at_turn script h t)).answer) →
-        (frame_after script u (frame_of script u h.events) (event_of h.state t (request_at_turn script h t))).procedure ≡ true
-    by_cause (inl had) =
-        frame_after-procedure script u (frame_of script u h.events) (event_of h.state t (request_at_turn script h t)) (kept.inside u had)
-    by_cause (inr entered) =
-        frame_after-entering
-        script
-        u
-        (frame_of script u h.events)
-        (event_of h.state t (request_at_turn script h t))
-        (sym entered.0)
-        entered.1
 
 -- the thread of a turn is declared
 pub history_after-thread : (script : ScriptValue) (h : History) (t : ℕ) → IsKnownHistory script h → is_runnable h.state t ≡ true → IsThread script t
@@ -186,7 +146,6 @@ IsKnownHistory-history_after script h t sound kept can =
           (event_of h.state t (request_at_turn script h t))
           kept.events
           (record { thread = thread; root = root-declared script h.state t kept.known thread; answer = after.answer });
-      inside = inside-history_after script h t kept;
     }
 
 -- what the answer of a turn names is declared
@@ -221,7 +180,6 @@ may_turn script h t playable kept can few = by_test (is_running h.state t) refl
               kept.has
               (frame_of-frame (λ procedure. IsFitSomewhere script) script t h.events (fit-lines script playable.sound));
           built = request-built (frame_of script t h.events) built;
-          inside = request-inside (invocation_of h.state t) (frame_of script t h.events) built (kept.inside t);
           few = few;
         }
     by_test false waits = record { runnable = can; waits = waits; few = few }
@@ -316,7 +274,6 @@ IsKnownHistory-first_history script sound =
         bindings = λ t d e. absurd (none_bound (bound_of (opening_of script) t) d (bound_of-opening (IsOpening-opening_of script sound) t) e);
       };
       events = All-nil (IsDeclaredEvent script);
-      inside = λ u some. absurd (false≢true (subst (λ o. IsSome o) (invocation_of-opening (IsOpening-opening_of script sound) u) some));
     }
 
 -- whole runs

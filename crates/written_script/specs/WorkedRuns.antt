@@ -73,3 +73,15 @@ abbrev pub loops_trace : List ℕ
 loops_trace =
     codes
     "1 t t open ENOENT\n2 t t open ENOENT\n3 t t open ENOENT\n4 t t create ok fd 0\n5 t t attach ok\n6 t t open ENOENT\n7 t t open ENOENT\n8 t t open ENOENT\n9 t t create ok fd 1\n10 t t attach EBUSY\n11 t t open ok fd 2\n12 t t exit ok\nend complete 12\n"
+
+-- A client is interrupted while its server waits in a call of its own. That call goes on, and its thread works for the server, which
+-- is told by its test; what the server returns goes nowhere.
+abbrev pub interrupted_script : List ℕ
+interrupted_script =
+    codes
+    "doors script 1\nprocess back\nthread g\ncreate d find 3\nattach $d back\nserve\nend\nproc find\nreturn \"found \" + $arg\nend\nprocess front\nthread f\ncreate d ask 4\nattach $d front\nserve\nend\nproc ask\nopen e back\ncall r $e $arg\ntestcancel\nreturn $r\nend\nprocess cli\nthread c\nawait front\nopen d front\ncall r $d \"q\"\nend\nprocess other\nthread k\ninterrupt c\nend\nschedule g g g f f f c c c f f f k g\n"
+
+abbrev pub interrupted_trace : List ℕ
+interrupted_trace =
+    codes
+    "1 g g create ok fd 0\n2 g g attach ok\n3 g g return wait\n4 f f create ok fd 0\n5 f f attach ok\n6 f f return wait\n7 c c await ok\n8 c c open ok fd 0\n9 c c call wait c1\n10 f c accept enter c1 ask 4 \"q\"\n11 f c open ok fd 1\n12 f c call wait c2\n13 k k interrupt ok\n14 g f accept enter c2 find 3 \"q\"\n15 g f return wait\n16 f f collect ok \"found q\"\n17 f f testcancel ok yes\n18 f f return wait\n19 c c collect EINTR\n20 c c exit ok\n21 k k exit ok\nend complete 21\n"

@@ -1,6 +1,6 @@
 //! Scripts whose traces are known beforehand, computed through the definitions. No function here does anything: each is a law that
 //! the run which the definitions give a script has this text.
-ghost use Rattle.written_script.specs.WorkedRuns.{PlaysAs, echo_script, echo_trace, grown_script, grown_trace, budget_script, budget_trace, refused_script, refused_trace, loops_script, loops_trace};
+ghost use Rattle.written_script.specs.WorkedRuns.{PlaysAs, echo_script, echo_trace, grown_script, grown_trace, budget_script, budget_trace, refused_script, refused_trace, loops_script, loops_trace, interrupted_script, interrupted_trace};
 
 /// An echo door and a client.
 pub fn echo()
@@ -25,4 +25,9 @@ pub fn refused()
 /// A loop in a loop, and tests in tests.
 pub fn loops()
     ensures { PlaysAs loops_script loops_trace }
+{}
+
+/// A client is interrupted while its server waits in a call of its own.
+pub fn interrupted()
+    ensures { PlaysAs interrupted_script interrupted_trace }
 {}

@@ -6,7 +6,7 @@ use std::test::Fail;
 use thread_machine::later::later;
 
 /// Lines of a thread that need no later capability, and lines that do.
-const BUILT_LINES: [&str; 25] = [
+const BUILT_LINES: [&str; 35] = [
     "create d e 0",
     "attach 1 p",
     "open v p",
@@ -32,24 +32,33 @@ const BUILT_LINES: [&str; 25] = [
     "unbind",
     "info query",
     "create d e 0 private local",
-];
-
-/// Lines of a procedure, and a member, that need none either.
-const BUILT_SCRIPTS: [(&str, &str); 3] = [
-    ("call r 1 \"\" desc 1", ""),
-    ("bind 1\nunbind", ""),
-    ("serve", "spare s"),
-];
-
-const LATER_LINES: [&str; 28] = [
     "create d e 0 no-cancel",
+    "create d e 0 private no-cancel",
     "revoke 1",
     "testcancel",
     "interrupt t",
     "kill a",
     "exit",
+    "if ok\nrevoke 1\nend",
+    "repeat 2\nserve\nrevoke 1\nend",
+    "serve\nrevoke 1",
+];
+
+/// Lines of a procedure, and a member, that need none either.
+const BUILT_SCRIPTS: [(&str, &str); 6] = [
+    ("call r 1 \"\" desc 1", ""),
+    ("bind 1\nunbind", ""),
+    ("serve", "spare s"),
+    ("exit", ""),
+    ("if ok\nexit\nend", "spare s"),
+    ("testcancel\nrevoke 1\nkill a\ninterrupt t", ""),
+];
+
+const LATER_LINES: [&str; 23] = [
     "create d e 0 unref",
     "create d e 0 unref-multi",
+    "create d e 0 no-cancel unref",
+    "create d e 0 private unref-multi",
     "pipe r w",
     "write 1 \"\"",
     "read v 1 1",
@@ -62,10 +71,9 @@ const LATER_LINES: [&str; 28] = [
     "associate 1 1 in 1",
     "dissociate 1 1",
     "work v upper \"\"",
-    "if ok\nrevoke 1\nend",
-    "repeat 2\nserve\nrevoke 1\nend",
-    "serve\nrevoke 1",
-    "create d e 0 private no-cancel",
+    "if ok\npipe r w\nend",
+    "repeat 2\nserve\nget 1\nend",
+    "exit\npipe r w",
     "work v digest \"\"",
     "get 1 nowait",
     "alert 1 none 0 0",
@@ -74,9 +82,9 @@ const LATER_LINES: [&str; 28] = [
 
 /// Lines of a thread and of a procedure, and a member, of which one needs a later capability.
 const LATER_SCRIPTS: [(&str, &str, &str); 3] = [
-    ("serve", "exit", ""),
-    ("exit", "serve", "spare s"),
-    ("serve", "if ok\nrevoke 1\nend", ""),
+    ("serve", "pcreate p", ""),
+    ("pipe r w", "exit", "spare s"),
+    ("serve", "if ok\nget 1\nend", ""),
 ];
 
 fn is_later_text(alloc: Global, text: &str) -> Option<bool> {
