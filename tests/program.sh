@@ -286,6 +286,85 @@ many_runs() {
     done
 }
 
+# leaving_runs: of scripts in which callers and servers leave, a hundred runs each, all of them legal.
+leaving_runs() {
+    for name in two_clients_interrupted client_and_server_killed exits_in_procedures private_door_revoked_under_load; do
+        input=tests/run/$name.in
+        i=0
+        while [ $i -lt 100 ]; do
+            i=$((i + 1))
+            run run <"$input"
+            judge_run "$input, run $i" $? "$(statuses_of "tests/run/$name")" "$input"
+        done
+    done
+}
+
+# chain CUT: writes into TO a script in which a client calls t62, whose procedure calls t61, and so on down to t1, and the caller of
+# the call CUT, 1 to 62, is interrupted when t1 has accepted; and its trace. Below the cut each thread returns to its caller, the
+# first of them to nobody; the caller at the cut has EINTR, and returns, as all above it do.
+chain() {
+    awk -v to="$1" -v cut="$2" '
+        function name(i) { return i == 63 ? "c" : "t" i }
+        function line(i, root, text) { print ++events, name(i), root, text >trace }
+        function scheduled(who,    text) { turns = turns " " who }
+        BEGIN {
+            script = to "/chain.in"
+            trace = to "/chain.out"
+            at = 64 - cut
+            print "doors script 1" >script
+            for (i = 1; i <= 62; i++) {
+                print "process p" i "\nthread t" i "\ncreate d f 0\nattach $d d" i "\nserve\nend\nproc f" >script
+                if (i > 1) print "open e d" i - 1 "\ncall r $e \"\"" >script
+                print "return \"\"\nend" >script
+                for (k = 1; k <= 3; k++) scheduled("t" i)
+                line(i, name(i), "create ok fd 0")
+                line(i, name(i), "attach ok")
+                line(i, name(i), "return wait")
+            }
+            print "process pc\nthread c\nopen e d62\ncall r $e \"\"\nend" >script
+            print "process px\nthread x\ninterrupt " name(at) "\nend" >script
+            scheduled("c")
+            scheduled("c")
+            line(63, "c", "open ok fd 0")
+            line(63, "c", "call wait c1")
+            for (i = 62; i >= 1; i--) {
+                scheduled("t" i)
+                line(i, "c", "accept enter c" 63 - i " f 0 \"\"")
+                if (i > 1) {
+                    scheduled("t" i)
+                    scheduled("t" i)
+                    line(i, "c", "open ok fd 1")
+                    line(i, "c", "call wait c" 64 - i)
+                }
+            }
+            scheduled("x")
+            scheduled("x")
+            print ++events, "x x interrupt ok" >trace
+            print ++events, "x x exit ok" >trace
+            for (i = 1; i <= 63; i++) {
+                root = i < at ? name(at - 1) : "c"
+                if (i > 1) line(i, root, "collect " (i == at ? "EINTR" : "ok \"\""))
+                line(i, root, i == 63 ? "exit ok" : "return wait")
+            }
+            print "end complete " events >trace
+            print "schedule" turns >script
+        }'
+}
+
+cut_chains() {
+    cut=0
+    while [ $cut -lt 62 ]; do
+        cut=$((cut + 1))
+        chain "$work" $cut
+        run play <"$work/chain.in"
+        judge "a chain of 62 servers, cut at call $cut" $? 0 "$work/chain.out"
+        with_trace "$work/chain.in" "$work/chain.out" >"$work/to_check"
+        echo "legal $(grep -c '^[0-9]' "$work/chain.out")" >"$work/legal"
+        run check <"$work/to_check"
+        judge "a chain of 62 servers, cut at call $cut, checked" $? 0 "$work/legal"
+    done
+}
+
 # limited KIB WORD..: the program in so much address space, with stacks of 8192 KiB. 125 where the system has no such limits.
 limited() (
     { ulimit -s 8192 && ulimit -v "$1"; } 2>"$work/no_limit" || exit 125
@@ -520,6 +599,8 @@ for program in "$@"; do
     for page in $pages; do page "$page"; done
     runs
     many_runs
+    leaving_runs
+    cut_chains
     refused_starts
     words
     faults
