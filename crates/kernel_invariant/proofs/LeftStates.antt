@@ -415,7 +415,7 @@ module _ (m : State) (q : Option Request) (who : Leaving) (processes : List Proc
               item = grind (arith, ap item_in e, entered_by m who h u r f g);
               there = f;
               entered = g;
-              may_cancel = n;
+              may_cancel = sym (h.coherent.at_doors.no_cancel r.number r f) ∙ n;
               is_left = leaves_by r (who.ends r.caller.0) f g refl l;
             })
 

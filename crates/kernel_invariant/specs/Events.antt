@@ -1,6 +1,6 @@
 -- What every event does: it keeps the invariant; each call's record takes arrows of the table, and the invocation of each
--- thread one of its own; what its answer tells is so; doors are made and kept; a refused entry changes nothing; and only an act
--- of leaving takes a door from a thread that another one left idle.
+-- thread one of its own; what its answer tells is so; doors are made and kept; a refused entry changes nothing; and only an entry
+-- of leaving, or the end of a wait of a thread that is bound to a door that is not valid, leaves a thread idle that is so bound.
 use Rattle.std.specs.Prelude.{ℕ, ◌≡◌, ◌+◌, ◌≤◌, ◌⊎◌, Option, List, Some, None, Bool, false, true}
 use Rattle.written_kernel.specs.Types.{Answer, Call, Door, Errno, Fd, Inv, Item, Pass, Request, ThreadState}
 use Rattle.dk_base.specs.declared.error.Errno.TheVariants.{EMFILE}
@@ -9,7 +9,7 @@ use Rattle.dk_base.specs.declared.request.Request.TheVariants as request
 use Rattle.dk_base.specs.declared.answer.Answer.TheVariants as answer
 use Rattle.kernel_records.specs.declared.record.ThreadState.TheVariants as is
 use Rattle.kernel_records.specs.declared.record.CallStage.TheVariants as stage
-use Rattle.kernel_records.specs.Words.{cancelled_invocation, first_refusal, is_given_as, is_to_collect_as, new_invocation, tid}
+use Rattle.kernel_records.specs.Words.{cancelled_invocation, first_refusal, is_given_as, is_to_collect_as, new_invocation, no_cancel_of, tid}
 use Rattle.capabilities.specs.Capability.{capability_of_attrs}
 use Rattle.capabilities.specs.declared.table.TheConstants.{BUILT}
 use Rattle.written_kernel.specs.Words.{State, act, door_of, find_call, has_invalid_door, has_lost_door, invocation_of, name_of, process_of, refusal_of, return_answer, return_tests, state_of, step, with_event_counted}
@@ -34,7 +34,7 @@ pub record IsCancelled (m : State) (q : Option Request) (n : State) (u : ℕ) (v
   pub item : v.item ≡ item.Call call.number
   pub there : record_of m call.number ≡ Some call
   pub entered : call.stage ≡ stage.Entered (tid u)
-  pub may_cancel : call.no_cancel ≡ false
+  pub may_cancel : no_cancel_of (door_of m call.door) ≡ false
   pub is_left : IsLeft m q n call
 
 -- The invocation of thread u, by an event of thread t: it stays, begins at an accept of its own, has its flag set where its client

@@ -10,8 +10,8 @@ use Rattle.dk_base.specs.declared.request.Request.TheVariants as request
 use Rattle.dk_base.specs.declared.answer.Answer.TheVariants as answer
 use Rattle.kernel_records.specs.declared.record.CallStage.TheVariants as stage
 use Rattle.kernel_records.specs.declared.record.ThreadState.TheVariants as is
-use Rattle.kernel_records.specs.Words.{tid}
-use Rattle.written_kernel.specs.Words.{State, Turn, invocation_of, is_cancelled, state_at, state_of, step}
+use Rattle.kernel_records.specs.Words.{no_cancel_of, tid}
+use Rattle.written_kernel.specs.Words.{State, Turn, door_of, invocation_of, is_cancelled, state_at, state_of, step}
 use Rattle.kernel_invariant.specs.Records.{item_in, item_of, record_of, stage_in}
 use Rattle.kernel_invariant.specs.Core.{abandoned_in, core, notice_in}
 use Rattle.kernel_invariant.specs.Coherent.{IsCoherent}
@@ -87,6 +87,12 @@ module _ (m : State) (xs : List Turn) (k : Known m xs) where
         is_left = w.is_left;
         same = e ∙ w.same;
       }
+
+  -- a call's record has the flag of its door
+  flag_is :
+      (i : ℕ) (x : Turn) (c : ℕ) (r : Call) → slice_get xs i ≡ Some x → record_of (state_at m xs i) c ≡ Some r →
+      r.no_cancel ≡ no_cancel_of (door_of (state_at m xs i) r.door)
+  flag_is i x c r e f = (invariant_before m xs k i x e).consistent.coherent.at_doors.no_cancel c r f
 
   left_now :
       (i u : ℕ) (x : Turn) (v : Inv) → slice_get xs i ≡ Some x → item_of (state_at m xs (i + 1)) u ≡ Some v.item →
@@ -188,7 +194,7 @@ module _ (m : State) (xs : List Turn) (k : Known m xs) where
       (left_flags (state_at m xs w.at) w.turn.thread w.turn.request u w.call
       (invariant_before m xs k w.at w.turn w.found) w.there
       (some_stage _ _ (ap stage_in (sym w.there) ∙ w.entered))
-      w.may_cancel
+      (flag_is w.at w.turn w.call.number w.call w.found w.there ∙ w.may_cancel)
       (subst (λ n. IsLeft (state_at m xs w.at) w.turn.request n w.call) (next m xs k w.at w.turn w.found) w.is_left))
     where
       by : IsFlag (invocation_of (step (state_at m xs w.at) w.turn.thread w.turn.request).state u) →

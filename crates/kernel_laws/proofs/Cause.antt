@@ -1,7 +1,8 @@
 -- What refuses a Call, and what a caller collects, has its cause in every run.
-use Rattle.std.specs.Prelude.{ℕ, ◌≡◌, ◌+◌, ◌<◌, ◌≤◌, ◌↔◌, ◌⊎◌, List, Option, Bool, true, false, Some, None, length, nat_lt, slice_get}
-use Rattle.std.proofs.Common.{refl, sym, ap, subst, ◌∙◌, inl, inr}
+use Rattle.std.specs.Prelude.{ℕ, ◌≡◌, ◌+◌, ◌<◌, ◌≤◌, ◌↔◌, ◌⊎◌, List, Option, Bool, true, false, Some, None, zero, suc, length, nat_lt, slice_get}
+use Rattle.std.proofs.Common.{refl, sym, ap, subst, ◌∙◌, add-one, inl, inr}
 use native.Mathlib.Omega.{arith}
+use Rattle.std.proofs.lemmas.Bool.Decides.{nat_tests}
 use Rattle.std.proofs.lemmas.Option.{slice_get_within}
 use Rattle.written_kernel.specs.Types.{Answer, Call, CallStage, Errno, Fd, Obj, Pass, Request, ThreadState, Tid}
 use Rattle.dk_base.specs.declared.error.Errno.TheVariants.{EMFILE}
@@ -9,28 +10,32 @@ use Rattle.dk_base.specs.declared.request.Request.TheVariants as request
 use Rattle.dk_base.specs.declared.answer.Answer.TheVariants as answer
 use Rattle.kernel_records.specs.declared.record.CallStage.TheVariants as stage
 use Rattle.kernel_records.specs.declared.record.ThreadState.TheVariants as is
-use Rattle.kernel_records.specs.Words.{is_live, new_descriptors, objects_passed, tid}
-use Rattle.written_kernel.specs.Words.{State, Turn, door_named, make_call, new_call, object_at, process_of, state_at, state_of, step, unless_refused}
-use Rattle.kernel_invariant.specs.Records.{record_of, stage_in, stage_of}
-use Rattle.kernel_invariant.specs.Core.{caller_number, has_arguments, is_underway, live_in, underway_in}
+use Rattle.kernel_records.specs.Words.{gone_call_at, is_live, new_descriptors, objects_passed, tid}
+use Rattle.written_kernel.specs.Words.{State, Turn, door_named, is_valid, make_call, new_call, object_at, process_of, state_at, state_of, step, unless_refused}
+use Rattle.written_kernel.proofs.Runs.{state_at_all}
+use Rattle.kernel_invariant.specs.Records.{item_in, record_of, stage_in, stage_of}
+use Rattle.kernel_invariant.specs.Core.{caller_number, has_arguments, is_outside, is_underway, live_in, underway_in}
 use Rattle.kernel_invariant.specs.Arrows.{EndsNow, own_table}
 use Rattle.kernel_invariant.specs.Arrows.EndsBy.{door_invalid as invalid, server_full as full, interrupted as by_caller, server_ended as by_server}
 use Rattle.kernel_laws.specs.Places.{IsCollect, IsRefusedBy, ReturnsCall, answer_at, process_at}
-use Rattle.kernel_laws.specs.Refused.{Fails}
-use Rattle.kernel_laws.specs.Refused.Fails.{refused as by_test}
-use Rattle.kernel_laws.specs.Cause.{Cause, HasCause, IsCall, IsCaused, Leaves, MakesOne, TellsSame, has_room_at}
+use Rattle.kernel_laws.specs.Once.{FailsToEnter}
+use Rattle.kernel_laws.specs.Cause.{AreOfOneRow, Cause, HasCause, IsCall, IsCaused, Leaves, MakesOne, TellsSame, has_room_at}
 use Rattle.kernel_laws.specs.Cause.Cause.{results, caller_full, server_full, door_invalid, interrupted, server_ended}
-use Rattle.kernel_laws.proofs.Refusals.{call_fails, entry_tells, none_of, refusal_at, refusal_of_table, table_of_refusal}
+use Rattle.kernel_laws.proofs.Refusals.{FailsIn, call_fails, entry_tells, none_of, refusal_at, refusal_of_table, table_of_refusal}
+use Rattle.kernel_laws.proofs.Refusals.FailsIn.{by_test}
 use Rattle.kernel_laws.proofs.Changes.{gone_by_rank, gone_rank, gone_stage, over_rank, rank_in, underway_rank}
 use Rattle.kernel_laws.proofs.Changes.Change.{made, given, entered, returned, ended as has_ended, broken_off, left, results_collected, nothing_collected, error_collected}
 use Rattle.kernel_laws.proofs.Done.{doors_interrupted_at, is_leaving_turn, none_ends_at}
-use Rattle.kernel_laws.proofs.Known.{ChangeAt, Known, TurnAt, invariant_before, never_falls, never_less, rises_once, same_turn, stays_or_changes, turn_at}
+use Rattle.kernel_laws.proofs.Validity.{step_interrupts, step_loses, step_loses_over}
+use Rattle.kernel_laws.proofs.Endings.{interrupt_ends_none}
+use Rattle.kernel_laws.proofs.Ends.{keeps_at}
+use Rattle.kernel_laws.proofs.Known.{ChangeAt, Known, TurnAt, invariant_before, never_falls, next, never_less, rises_once, same_turn, stays_or_changes, turn_at}
 use Rattle.kernel_laws.proofs.Story.{story}
 use Rattle.kernel_laws.proofs.Rows.{Breaks, GoesOn, HandsOver, is_ended_call, is_ended_in}
 use Rattle.kernel_laws.proofs.Rows.Breaks.{by_cause, by_interrupt}
 use Rattle.kernel_laws.proofs.Rows.HandsOver.{results as hands_results, nothing as hands_nothing, error as hands_error}
 use Rattle.kernel_laws.proofs.Readers.{AnsweredRowAt, EndedAt, ReturnedAt, ended, number_of, same_record, table_at}
-use Rattle.kernel_laws.proofs.Once.{answered_by, caller_waits, collects, returned_before}
+use Rattle.kernel_laws.proofs.Once.{accept_fails, answered_by, caller_waits, collects, returned_before}
 use Rattle.kernel_laws.proofs.Match.{goes_on, made_by, returns_call, same_objects, same_results}
 
 -- a Call that is not refused answers the number of a call
@@ -134,6 +139,27 @@ some_call a b e = cc
 not_gone : (o : Option Call) → live_in o ≡ true → stage_in o ≡ Some stage.Gone → ⊥
 not_gone o e f = grind arith
 
+entered_underway : (o : Option Call) (t : ℕ) → stage_in o ≡ Some (stage.Entered (tid t)) → underway_in o ≡ true
+entered_underway o t e = grind arith
+
+returned_over : (o : Option Call) (b : List ℕ) (x : List Obj) → stage_in o ≡ Some (stage.Returned b x) → underway_in o ≡ false
+returned_over o b x e = grind arith
+
+ended_over : (o : Option Call) (x : Errno) → stage_in o ≡ Some (stage.Ended x) → underway_in o ≡ false
+ended_over o x e = grind arith
+
+not_gone_waiting : (s : CallStage) → has_arguments s ≡ true → s ≡ stage.Gone → ⊥
+not_gone_waiting s e f = grind arith
+
+gone_caller : (s : CallStage) (r : Call) → (gone_call_at s r).caller ≡ r.caller
+gone_caller stage.Queued r = refl
+gone_caller (stage.Given u) r = refl
+gone_caller (stage.Entered u) r = refl
+gone_caller (stage.Returned bytes objects) r = refl
+gone_caller (stage.Ended x) r = refl
+gone_caller (stage.Answered n) r = refl
+gone_caller stage.Gone r = refl
+
 module _ (m : State) (xs : List Turn) (k : Known m xs) where
   abbrev refusal_in : ℕ → Turn → Fd → List ℕ → List Pass → Option Errno
   refusal_in i x fd bytes pass =
@@ -144,7 +170,7 @@ module _ (m : State) (xs : List Turn) (k : Known m xs) where
       (answer_at m xs i x ≡ answer.Failure e) ↔ (refusal_in i x fd bytes h.pass ≡ Some e)
   call_tells i x fd bytes e h = (λ a. call_fails (state_at m xs i) x.thread _ fd bytes h.pass h.rsize e refl (both.0 a), λ f. both.1 (by_test e f))
     where
-      both : (answer_at m xs i x ≡ answer.Failure e) ↔ Fails (state_at m xs i) x.thread (request.Call fd bytes h.pass h.rsize) e
+      both : (answer_at m xs i x ≡ answer.Failure e) ↔ FailsIn (state_at m xs i) x.thread (request.Call fd bytes h.pass h.rsize) e
       both = entry_tells (state_at m xs i) x.thread x.request (request.Call fd bytes h.pass h.rsize) e h.request
 
   refused :
@@ -194,8 +220,19 @@ module _ (m : State) (xs : List Turn) (k : Known m xs) where
   same_asked : (e : ℕ) (w v : Turn) → slice_get xs e ≡ Some w → slice_get xs e ≡ Some v → w.request ≡ v.request
   same_asked e w v f g = ap (λ (y : Turn). y.request) (same_turn xs e w v f g)
 
-  exact : (c e n : ℕ) (z : Turn) (a b : Answer) → Cause m xs c e n z a → Cause m xs c e n z b → TellsSame a b
-  exact c e n z a b (results r w fds f back room) (results s v fds' g more l) = (same_bytes, ap (λ l. nat_lt r.rsize (length l)) same_bytes ∙ ap (λ (y : Call). nat_lt y.rsize (length more.bytes)) (same_record _ r s f g))
+  -- an Interrupt ends no thread
+  interrupt_ends_none_at :
+      (e : ℕ) (w : Turn) (v : Tid) (u : ℕ) → slice_get xs e ≡ Some w → w.request ≡ Some (request.Interrupt v) →
+      EndsNow (state_at m xs e) (state_at m xs (e + 1)) u → ⊥
+  interrupt_ends_none_at e w v u f q h =
+      interrupt_ends_none (state_at m xs e) (invariant_before m xs k e w f) w.thread u v
+      (subst (λ n. EndsNow (state_at m xs e) n u) (next m xs k e w f ∙ ap (λ p. (step (state_at m xs e) w.thread p).state) q) h)
+
+  exact :
+      (c e n : ℕ) (z : Turn) (a b : Answer) (p : Cause m xs c e n z a) (q : Cause m xs c e n z b) →
+      TellsSame a b × AreOfOneRow m xs c e n z a b p q
+  exact c e n z a b (results r w fds f back room) (results s v fds' g more l) =
+      ((same_bytes, ap (λ l. nat_lt r.rsize (length l)) same_bytes ∙ ap (λ (y : Call). nat_lt y.rsize (length more.bytes)) (same_record _ r s f g)), tt)
     where
       same_bytes : back.bytes ≡ more.bytes
       same_bytes = same_return w.request v.request back.bytes more.bytes back.pass more.pass (same_asked e w v back.turn more.turn) back.is_return.asked more.is_return.asked
@@ -205,35 +242,155 @@ module _ (m : State) (xs : List Turn) (k : Known m xs) where
   exact c e n z a b (results r w fds f back room) (door_invalid r' f' g' v' x' d') = absurd (not_both _ r' w.thread f' g' back.was_entered)
   exact c e n z a b (results r w fds f back room) (interrupted r' w' h' f' u' q' d') = absurd (not_asked (same_asked e w w' back.turn h') back.is_return.asked q')
   exact c e n z a b (results r w fds f back room) (server_ended r' u' f' g' h' d') = absurd (none_ends_at m xs k e w back.turn (ap is_leaving_turn back.is_return.asked) u' h')
-  exact c e n z a b (caller_full r w f back room) (caller_full r' w' f' back' room') = refl
+  exact c e n z a b (caller_full r w f back room) (caller_full r' w' f' back' room') = (refl, tt)
   exact c e n z a b (caller_full r w f back room) (server_full r' w' h' q' f' g' y' d') = absurd (given_not_entered _ r' w.thread w'.thread f' g' back.was_entered)
   exact c e n z a b (caller_full r w f back room) (door_invalid r' f' g' v' x' d') = absurd (not_both _ r' w.thread f' g' back.was_entered)
   exact c e n z a b (caller_full r w f back room) (interrupted r' w' h' f' u' q' d') = absurd (not_asked (same_asked e w w' back.turn h') back.is_return.asked q')
   exact c e n z a b (caller_full r w f back room) (server_ended r' u' f' g' h' d') = absurd (none_ends_at m xs k e w back.turn (ap is_leaving_turn back.is_return.asked) u' h')
   exact c e n z a b (server_full r w h q f g y d) (results r' w' fds' f' back' room') = absurd (given_not_entered _ r w'.thread w.thread f g back'.was_entered)
   exact c e n z a b (server_full r w h q f g y d) (caller_full r' w' f' back' room') = absurd (given_not_entered _ r w'.thread w.thread f g back'.was_entered)
-  exact c e n z a b (server_full r w h q f g y d) (server_full r' w' h' q' f' g' y' d') = refl
+  exact c e n z a b (server_full r w h q f g y d) (server_full r' w' h' q' f' g' y' d') = (refl, tt)
   exact c e n z a b (server_full r w h q f g y d) (door_invalid r' f' g' v' x' d') = absurd (given_not_queued _ r r' w.thread f f' g g')
   exact c e n z a b (server_full r w h q f g y d) (interrupted r' w' h' f' u' q' d') = absurd (none_asked (same_asked e w w' h h') q q')
   exact c e n z a b (server_full r w h q f g y d) (server_ended r' u' f' g' h' d') = absurd (none_ends_at m xs k e w h (ap is_leaving_turn q) u' h')
   exact c e n z a b (door_invalid r f g v x d) (results r' w' fds' f' back' room') = absurd (not_both _ r w'.thread f g back'.was_entered)
   exact c e n z a b (door_invalid r f g v x d) (caller_full r' w' f' back' room') = absurd (not_both _ r w'.thread f g back'.was_entered)
   exact c e n z a b (door_invalid r f g v x d) (server_full r' w' h' q' f' g' y' d') = absurd (given_not_queued _ r' r w'.thread f' f g' g)
-  exact c e n z a b (door_invalid r f g v x d) (door_invalid r' f' g' v' x' d') = refl
+  exact c e n z a b (door_invalid r f g v x d) (door_invalid r' f' g' v' x' d') = (refl, tt)
   exact c e n z a b (door_invalid r f g v x d) (interrupted r' w' h' f' u' q' d') = absurd (still_valid (doors_interrupted_at m xs k e w' r'.caller r.door h' q') v x)
   exact c e n z a b (door_invalid r f g v x d) (server_ended r' u' f' g' h' d') = absurd (queued_not_served _ r r' u' f f' g g')
   exact c e n z a b (interrupted r w h f u q d) (results r' w' fds' f' back' room') = absurd (not_asked (same_asked e w' w back'.turn h) back'.is_return.asked q)
   exact c e n z a b (interrupted r w h f u q d) (caller_full r' w' f' back' room') = absurd (not_asked (same_asked e w' w back'.turn h) back'.is_return.asked q)
   exact c e n z a b (interrupted r w h f u q d) (server_full r' w' h' q' f' g' y' d') = absurd (none_asked (same_asked e w' w h' h) q' q)
   exact c e n z a b (interrupted r w h f u q d) (door_invalid r' f' g' v' x' d') = absurd (still_valid (doors_interrupted_at m xs k e w r.caller r'.door h q) v' x')
-  exact c e n z a b (interrupted r w h f u q d) (interrupted r' w' h' f' u' q' d') = refl
-  exact c e n z a b (interrupted r w h f u q d) (server_ended r' u' f' g' h' d') = refl
+  exact c e n z a b (interrupted r w h f u q d) (interrupted r' w' h' f' u' q' d') = (refl, tt)
+  exact c e n z a b (interrupted r w h f u q d) (server_ended r' u' f' g' h' d') = absurd (interrupt_ends_none_at e w r.caller u' h q h')
   exact c e n z a b (server_ended r u f g h d) (results r' w' fds' f' back' room') = absurd (none_ends_at m xs k e w' back'.turn (ap is_leaving_turn back'.is_return.asked) u h)
   exact c e n z a b (server_ended r u f g h d) (caller_full r' w' f' back' room') = absurd (none_ends_at m xs k e w' back'.turn (ap is_leaving_turn back'.is_return.asked) u h)
   exact c e n z a b (server_ended r u f g h d) (server_full r' w' h' q' f' g' y' d') = absurd (none_ends_at m xs k e w' h' (ap is_leaving_turn q') u h)
   exact c e n z a b (server_ended r u f g h d) (door_invalid r' f' g' v' x' d') = absurd (queued_not_served _ r' r u f' f g' g)
-  exact c e n z a b (server_ended r u f g h d) (interrupted r' w' h' f' u' q' d') = refl
-  exact c e n z a b (server_ended r u f g h d) (server_ended r' u' f' g' h' d') = refl
+  exact c e n z a b (server_ended r u f g h d) (interrupted r' w' h' f' u' q' d') = absurd (interrupt_ends_none_at e w' r'.caller u h' q' h)
+  exact c e n z a b (server_ended r u f g h d) (server_ended r' u' f' g' h' d') = (refl, tt)
+
+  -- where there is a cause the call leaves
+
+  -- where the state changes there is a turn
+  within_where : (e : ℕ) → (state_at m xs (e + 1) ≡ state_at m xs e → ⊥) → e < length xs
+  within_where e h = go (nat_lt e (length xs)) refl
+    where
+      go : (b : Bool) → nat_lt e (length xs) ≡ b → e < length xs
+      go true f = grind (arith, nat_tests)
+      go false f =
+          absurd
+          (h
+          (state_at_all m xs (e + 1) (grind (arith, nat_tests))
+          ∙ sym (state_at_all m xs e (grind (arith, nat_tests)))))
+
+  return_leaves : (c e : ℕ) (w : Turn) → ReturnsCall m xs e w c → Leaves m xs c e
+  return_leaves c e w h =
+      record {
+        within = slice_get_within xs e w h.turn;
+        underway = entered_underway _ w.thread h.was_entered;
+        over = returned_over _ h.bytes h.objects h.is_returned;
+      }
+
+  -- no call is with a thread that is Done
+  none_with :
+      (i c u : ℕ) → i ≤ length xs → state_of (state_at m xs i) u ≡ is.Done →
+      (stage_of (state_at m xs i) c ≡ Some (stage.Given (tid u))) ⊎ (stage_of (state_at m xs i) c ≡ Some (stage.Entered (tid u))) → ⊥
+  none_with i c u l d (inl g) = absurd (cc (sym ((k.invariant i l).consistent.coherent.waits.given c u g) ∙ d))
+  none_with i c u l d (inr g) =
+      absurd
+      (cc
+      (sym (ap item_in ((k.invariant i l).consistent.coherent.servers.outside u (ap is_outside d)))
+      ∙ (k.invariant i l).consistent.coherent.invocations.entered c u g))
+
+  server_over :
+      (c e u : ℕ) (w : Turn) (r : Call) → slice_get xs e ≡ Some w → record_of (state_at m xs e) c ≡ Some r →
+      (r.stage ≡ stage.Given (tid u)) ⊎ (r.stage ≡ stage.Entered (tid u)) → EndsNow (state_at m xs e) (state_at m xs (e + 1)) u →
+      underway_in (record_of (state_at m xs (e + 1)) c) ≡ false
+  server_over c e u w r h f g x = go (stays_or_changes m xs k c e w h)
+    where
+      by : (o p : Option Call) → ChangeAt m xs e w o p → o ≡ Some r → underway_in p ≡ false
+      by o p (made b rsize fd bytes pass s v d y q a) i = absurd (cc i)
+      by o p (given s v d) i = absurd (queued_not_served _ s r u refl i d g)
+      by o p (entered s q d y v a) i = absurd (none_ends_at m xs k e w h (ap is_leaving_turn q) u x)
+      by o p (returned s bytes pass v d y q a) i = refl
+      by o p (has_ended s v d) i = refl
+      by o p (broken_off s v d y q) i = refl
+      by o p (left s v d) i = ap is_underway (gone_stage s.stage s v)
+      by o p (results_collected s bytes objects v d y q a b) i = refl
+      by o p (nothing_collected s bytes objects v d y q a b) i = refl
+      by o p (error_collected s y v d q a b) i = refl
+
+      go :
+          (record_of (state_at m xs (e + 1)) c ≡ record_of (state_at m xs e) c)
+          ⊎ ChangeAt m xs e w (record_of (state_at m xs e) c) (record_of (state_at m xs (e + 1)) c) →
+          underway_in (record_of (state_at m xs (e + 1)) c) ≡ false
+      go (inl same) =
+          absurd (none_with (e + 1) c u (omega (arith, slice_get_within xs e w h)) x.after (still g))
+        where
+          still :
+              (r.stage ≡ stage.Given (tid u)) ⊎ (r.stage ≡ stage.Entered (tid u)) →
+              (stage_of (state_at m xs (e + 1)) c ≡ Some (stage.Given (tid u))) ⊎ (stage_of (state_at m xs (e + 1)) c ≡ Some (stage.Entered (tid u)))
+          still (inl i) = inl (ap stage_in (same ∙ f) ∙ ap (λ (s : CallStage). Some s) i)
+          still (inr i) = inr (ap stage_in (same ∙ f) ∙ ap (λ (s : CallStage). Some s) i)
+      go (inr v) = by _ _ v f
+
+  full_leaves :
+      (c e : ℕ) (r : Call) (w : Turn) → slice_get xs e ≡ Some w → record_of (state_at m xs e) c ≡ Some r → r.stage ≡ stage.Given (tid w.thread) →
+      FailsToEnter m xs e w c → Leaves m xs c e
+  full_leaves c e r w h f g x =
+      record {
+        within = slice_get_within xs e w h;
+        underway = ap underway_in f ∙ ap is_underway g;
+        over = ended_over _ EMFILE x.stage_after;
+      }
+
+  at_once : (c e n : ℕ) (z : Turn) (a : Answer) → Cause m xs c e n z a → Leaves m xs c e
+  at_once c e n z a (results r w fds f back room) = return_leaves c e w back
+  at_once c e n z a (caller_full r w f back room) = return_leaves c e w back
+  at_once c e n z a (server_full r w h q f g y d) = full_leaves c e r w h f g (accept_fails m xs k e c w h y)
+  at_once c e n z a (door_invalid r f g v x d) = by (turn_at xs e within)
+    where
+      within : e < length xs
+      within = within_where e (λ same. still_valid (ap (λ n. is_valid n r.door) same) v x)
+
+      by : TurnAt xs e → Leaves m xs c e
+      by t =
+          record {
+            within = within;
+            underway = ap underway_in f ∙ ap is_underway g;
+            over =
+                ap (λ n. underway_in (record_of n c)) (next m xs k e t.turn t.found)
+                ∙ step_loses_over (state_at m xs e) t.turn.thread t.turn.request c r f g
+                (step_loses (state_at m xs e) t.turn.thread t.turn.request r.door v
+                (ap (λ n. is_valid n r.door) (sym (next m xs k e t.turn t.found)) ∙ x));
+          }
+  at_once c e n z a (interrupted r w h f u q d) =
+      record {
+        within = slice_get_within xs e w h;
+        underway = ap underway_in f ∙ u;
+        over =
+            ap (λ n. underway_in (record_of n c)) (next m xs k e w h ∙ ap (λ p. (step (state_at m xs e) w.thread p).state) q)
+            ∙ step_interrupts (state_at m xs e) w.thread c r f u;
+      }
+  at_once c e n z a (server_ended r u f g h d) = by (turn_at xs e within)
+    where
+      within : e < length xs
+      within = within_where e (λ same. h.before (ap (λ n. state_of n u) (sym same) ∙ h.after))
+
+      with_it : (r.stage ≡ stage.Given (tid u)) ⊎ (r.stage ≡ stage.Entered (tid u)) → is_underway r.stage ≡ true
+      with_it (inl i) = ap is_underway i
+      with_it (inr i) = ap is_underway i
+
+      by : TurnAt xs e → Leaves m xs c e
+      by t =
+          record {
+            within = within;
+            underway = ap underway_in f ∙ with_it g;
+            over = server_over c e u t.turn r t.found f g h;
+          }
 
   -- what is collected
 
@@ -398,10 +555,53 @@ module _ (m : State) (xs : List Turn) (k : Known m xs) where
             never_falls (λ n. rank_in (record_of (state_at m xs n) c)) (length xs) (never_less m xs k c) (i + 1) j (omega (arith, l)) b,
           ))
 
+  -- a call is Gone only where its caller is Done
+
+  gone_by :
+      (i c : ℕ) (x : Turn) (o p : Option Call) (r : Call) → slice_get xs i ≡ Some x → ChangeAt m xs i x o p → p ≡ Some r →
+      r.stage ≡ stage.Gone → state_of (state_at m xs (i + 1)) r.caller.0 ≡ is.Done
+  gone_by i c x o p r e (left s v h) f g =
+      ap (λ (n : ℕ). state_of (state_at m xs (i + 1)) n) (ap (λ (y : Call). y.caller.0) (sym (some_call _ r f)) ∙ ap (λ (y : Tid). y.0) (gone_caller s.stage s)) ∙ h.after
+  gone_by i c x o p r e (made b rsize fd bytes pass s v h w y q) f g =
+      absurd (not_gone_waiting s q (ap (λ (y : Call). y.stage) (some_call _ r f) ∙ g))
+  gone_by i c x o p r e (given s u v) f g = absurd (cc (ap (λ (y : Call). y.stage) (some_call _ r f) ∙ g))
+  gone_by i c x o p r e (entered s v h w y q) f g = absurd (cc (ap (λ (y : Call). y.stage) (some_call _ r f) ∙ g))
+  gone_by i c x o p r e (returned s bytes pass v h w y q) f g = absurd (cc (ap (λ (y : Call). y.stage) (some_call _ r f) ∙ g))
+  gone_by i c x o p r e (has_ended s v h) f g = absurd (cc (ap (λ (y : Call). y.stage) (some_call _ r f) ∙ g))
+  gone_by i c x o p r e (broken_off s u v h w) f g = absurd (cc (ap (λ (y : Call). y.stage) (some_call _ r f) ∙ g))
+  gone_by i c x o p r e (results_collected s bytes objects v h w y q b) f g = absurd (cc (ap (λ (y : Call). y.stage) (some_call _ r f) ∙ g))
+  gone_by i c x o p r e (nothing_collected s bytes objects v h w y q b) f g = absurd (cc (ap (λ (y : Call). y.stage) (some_call _ r f) ∙ g))
+  gone_by i c x o p r e (error_collected s y v h w q b) f g = absurd (cc (ap (λ (y : Call). y.stage) (some_call _ r f) ∙ g))
+
+  gone_only :
+      (i c : ℕ) (r : Call) → i ≤ length xs → record_of (state_at m xs i) c ≡ Some r → r.stage ≡ stage.Gone →
+      state_of (state_at m xs i) r.caller.0 ≡ is.Done
+  gone_only zero c r l = λ e g. absurd (cc (sym (k.no_call c) ∙ e))
+  gone_only (suc i) c r l =
+      subst
+      (λ j. record_of (state_at m xs j) c ≡ Some r → r.stage ≡ stage.Gone → state_of (state_at m xs j) r.caller.0 ≡ is.Done)
+      (add-one i)
+      (go (turn_at xs i (omega (arith, l))) (λ f g. gone_only i c r (omega (arith, l)) f g))
+    where
+      by :
+          (x : Turn) → slice_get xs i ≡ Some x →
+          (record_of (state_at m xs (i + 1)) c ≡ record_of (state_at m xs i) c)
+          ⊎ ChangeAt m xs i x (record_of (state_at m xs i) c) (record_of (state_at m xs (i + 1)) c) →
+          (record_of (state_at m xs i) c ≡ Some r → r.stage ≡ stage.Gone → state_of (state_at m xs i) r.caller.0 ≡ is.Done) →
+          record_of (state_at m xs (i + 1)) c ≡ Some r → r.stage ≡ stage.Gone → state_of (state_at m xs (i + 1)) r.caller.0 ≡ is.Done
+      by x e (inl same) ih f g = (keeps_at m xs k i x e).done r.caller.0 (ih (sym same ∙ f) g)
+      by x e (inr w) ih f g = gone_by i c x _ _ r e w f g
+
+      go :
+          TurnAt xs i →
+          (record_of (state_at m xs i) c ≡ Some r → r.stage ≡ stage.Gone → state_of (state_at m xs i) r.caller.0 ≡ is.Done) →
+          record_of (state_at m xs (i + 1)) c ≡ Some r → r.stage ≡ stage.Gone → state_of (state_at m xs (i + 1)) r.caller.0 ≡ is.Done
+      go t ih f g = by t.turn t.found (stays_or_changes m xs k c i t.turn t.found) ih f g
+
   gone_unanswered :
       (i c : ℕ) (x : Turn) → slice_get xs i ≡ Some x → IsCollect m xs i x c → stage_of (state_at m xs i) c ≡ Some stage.Gone → ⊥
   gone_unanswered i c x e w g = not_gone _ ((invariant_before m xs k i x e).consistent.coherent.waits.live c x.thread w.calling) g
 
   pub cause_holds : HasCause m xs
   cause_holds =
-      record { refused = refused; not_refused = not_refused; told = told; exact = exact; gone = gone; gone_for_ever = gone_for_ever; gone_unanswered = gone_unanswered; left_once = left_once }
+      record { refused = refused; not_refused = not_refused; told = told; exact = exact; at_once = at_once; gone_only = gone_only; gone = gone; gone_for_ever = gone_for_ever; gone_unanswered = gone_unanswered; left_once = left_once }

@@ -95,7 +95,7 @@ module _ (m : State) (xs : List Turn) (k : Known m xs) where
         number = (invariant_after m xs k i x e).consistent.coherent.doors.door_number d door a;
       }
 
-  keeps_door :
+  pub keeps_door :
       (i d : ℕ) (door : Door) → i < length xs → door_of (state_at m xs i) d ≡ Some door →
       IsKept door (door_of (state_at m xs (i + 1)) d)
   keeps_door i d door l e = go (turn_at xs i l)
@@ -103,7 +103,7 @@ module _ (m : State) (xs : List Turn) (k : Known m xs) where
       go : TurnAt xs i → IsKept door (door_of (state_at m xs (i + 1)) d)
       go t = old_door (state_at m xs i) t.turn.thread t.turn.request _ _ door (arrow_at i d t.turn t.found) e
 
-  keeps_ever :
+  pub keeps_ever :
       (i j d : ℕ) (door : Door) → i ≤ j → j ≤ length xs → door_of (state_at m xs i) d ≡ Some door →
       IsKept door (door_of (state_at m xs j) d)
   keeps_ever i zero d door l g e =

@@ -1,35 +1,43 @@
 -- What has ended stays so, and what is left of a process that has ended.
-use Rattle.std.specs.Prelude.{ℕ, ◌≡◌, ◌+◌, ◌<◌, ◌≤◌, ◌==◌, ◌⊎◌, List, Option, Bool, true, false, if◌then◌else◌, Some, None, zero, suc, find, length, not, slice_get}
+use Rattle.std.specs.Prelude.{ℕ, ◌≡◌, ◌+◌, ◌<◌, ◌≤◌, ◌==◌, ◌⊎◌, List, Option, Bool, true, false, if◌then◌else◌, Some, None, zero, suc, find, is_some, length, not, slice_get}
 use Rattle.std.specs.Option.{option_map}
 use Rattle.std.proofs.Common.{refl, sym, ap, subst, ◌∙◌, add-one, inl, inr}
 use native.Mathlib.Omega.{arith}
 use Rattle.std.proofs.lemmas.Bool.Decides.{nat_tests}
-use Rattle.written_kernel.specs.Types.{Call, Door, Item, Name, PathId, Process, Request, Thread, ThreadState}
+use Rattle.written_kernel.specs.Types.{Call, Door, Item, Name, PathId, Pid, Process, Request, Thread, ThreadState}
 use Rattle.dk_base.specs.ByNumber.{at_number}
 use Rattle.dk_base.specs.declared.object.Item.TheVariants as item
 use Rattle.dk_base.specs.declared.request.Request.TheVariants as request
 use Rattle.kernel_records.specs.declared.record.ThreadState.TheVariants as is
 use Rattle.kernel_records.specs.declared.record.CallStage.TheVariants as stage
 use Rattle.kernel_records.specs.Words.{Leaving, ProcessTable, change_thread, end_process, ended_process, ended_thread, idle_thread, interrupted_where, interruption, is_given_as, is_last, is_live, is_live_in, is_served_by, is_valid_in, left_thread, left_thread_of, process_end, revocation, state_in, thread_at, thread_at_state, thread_end, thread_in_invocation, thread_outside, tid, with_ended}
-use Rattle.written_kernel.specs.Words.{MayTurn, State, Turn, accept_call, act, await, await_name, begin_call, door_at, door_of, effect, exit, fail_begin, find_call, give_one, go_on, has_invalid_door, has_room, is_live_process, is_running_state, can_go_on, is_valid, kill, leave, leave_process, leave_thread, name_of, now, process_of, return_parked, return_unbound, served_by, settle, state_at, state_of, step, thread_of}
+use Rattle.written_kernel.specs.Words.{MayEnter, MayTurn, State, Turn, accept_call, act, await, await_name, begin_call, door_at, door_of, effect, exit, fail_begin, find_call, give_one, go_on, has_invalid_door, has_room, is_live_process, is_running_state, can_go_on, is_valid, kill, leave, leave_process, leave_thread, name_of, now, process_of, return_parked, return_unbound, served_by, settle, state_at, state_of, step, thread_of}
 use Rattle.written_kernel.proofs.Entries.{enter_either}
-use Rattle.written_kernel.proofs.Lists.{at_number-map, at_number-renumbered_there}
+use Rattle.written_kernel.proofs.Lists.{at_number-map, at_number-renumbered_there, is_some-at_number}
+use Rattle.written_kernel.proofs.Steps.{process_of-step}
 use Rattle.written_kernel.proofs.Settling.{settle-all}
 use Rattle.written_kernel.proofs.Threads.{processes-change_thread}
 use Rattle.kernel_invariant.specs.Records.{item_in, owner_in, owner_of_call, record_of, stage_in, stage_of}
+use Rattle.kernel_invariant.specs.Arrows.{EndsNow}
 use Rattle.kernel_invariant.specs.Core.{core, door_in, ended_in, is_outside, number_in}
 use Rattle.kernel_invariant.specs.Coherent.{IsCoherent}
 use Rattle.kernel_invariant.specs.Invariant.{Invariant}
-use Rattle.kernel_laws.specs.Ends.{Ends, HasEnded, HasNoCall, is_ended}
+use Rattle.kernel_laws.specs.Ends.{Ends, EndsProcess, HasEnded, HasNoCall, IsLast, ThreadEnds, is_ended}
+use Rattle.kernel_laws.specs.Ends.EndsProcess.{kills, exits as exits_process}
+use Rattle.kernel_laws.specs.Ends.ThreadEnds.{exits, with_process}
+use Rattle.kernel_laws.specs.Places.{process_at}
+use Rattle.kernel_laws.proofs.Endings.{EndsOne, EndsThread, is_last_thread, last_is, leave_done, process_there, step_ends_one, step_ends_thread, step_exits, step_kills}
+use Rattle.kernel_laws.proofs.Endings.EndsOne.{kills as kills_one, exits as exits_last}
+use Rattle.kernel_laws.proofs.Endings.EndsThread.{exits as own_exit, with_process as process_over}
 use Rattle.kernel_laws.proofs.Held.{IsWith, Serves, serves_of}
-use Rattle.kernel_laws.proofs.Known.{Known, TurnAt, invariant_before, next, split, turn_at}
+use Rattle.kernel_laws.proofs.Known.{Known, TurnAt, invariant_after, invariant_before, next, split, turn_at}
 use Rattle.kernel_laws.proofs.Once.{caller_waits, owner_same}
 use Rattle.kernel_laws.proofs.Parked.{loses_idle, picked_idle, state_elsewhere}
 
 -- a thread that is Done stays so, and a process that has ended
-record KeepsEnds (m n : ProcessTable) : Type 0 where
-  done : (u : ℕ) → state_in (thread_at m u) ≡ is.Done → state_in (thread_at n u) ≡ is.Done
-  ended : (p : ℕ) → ended_in (at_number m.processes p) ≡ true → ended_in (at_number n.processes p) ≡ true
+pub record KeepsEnds (m n : ProcessTable) : Type 0 where
+  pub done : (u : ℕ) → state_in (thread_at m u) ≡ is.Done → state_in (thread_at n u) ≡ is.Done
+  pub ended : (p : ℕ) → ended_in (at_number m.processes p) ≡ true → ended_in (at_number n.processes p) ≡ true
 
 same_keeps : (table : ProcessTable) → KeepsEnds table table
 same_keeps table = record { done = λ u d. d; ended = λ p e. e }
@@ -130,7 +138,7 @@ leave_keeps m who h = record { done = λ u d. done u d; ended = λ p e. e }
 
 -- acts
 
-abbrev KeepsEndsIn : State → State → Type 0
+abbrev pub KeepsEndsIn : State → State → Type 0
 KeepsEndsIn m n = KeepsEnds m.process_table n.process_table
 
 leave_process_keeps : (m : State) (p : ℕ) → Invariant m → KeepsEndsIn m (leave_process m p)
@@ -224,6 +232,26 @@ unfolding step
 step_keeps_ends m t q i may =
     keeps_then m.process_table (act m t q).state.process_table _ (act_keeps m t q i (takes_turn m t q may)) (settle_keeps m (act m t q).state)
 
+-- an Exit ends its thread
+step_exits_thread : (m : State) → Invariant m → (t : ℕ) → state_of (step m t (Some request.Exit)).state t ≡ is.Done
+unfolding step
+step_exits_thread m h t =
+    (settle_keeps m (exit m t (process_of m t)).state).done t (go (is_last m.process_table t (process_of m t)))
+  where
+    process : Leaving
+    process = process_end m.process_table m.doors (process_of m t)
+
+    itself : (t == t) ≡ true
+    itself = grind (arith, nat_tests)
+
+    its : (process_of m t == process_of m t) ≡ true
+    its = grind (arith, nat_tests)
+
+    go : (b : Bool) → state_of (if b then leave_process m (process_of m t) else leave_thread m t) t ≡ is.Done
+    go true =
+        (end_keeps (leave m process).process_table (process_of m t)).done t (leave_done m process t h its)
+    go false = leave_done m (thread_end t) t h itself
+
 -- what is left of an ended process
 
 ended_not_live : (o : Option Process) → ended_in o ≡ true → is_live_in o ≡ false
@@ -239,7 +267,7 @@ module _ (m : State) (h : Invariant m) (p : ℕ) (e : is_ended m p ≡ true) whe
   threads_done : (t : ℕ) → process_of m t ≡ p → state_of m t ≡ is.Done
   threads_done t f = coherent.processes.ended_done t (ap (is_ended m) f ∙ e)
 
-  no_valid_door : (d : ℕ) → owner_in (door_of m d) ≡ Some p → is_valid m d ≡ false
+  pub no_valid_door : (d : ℕ) → owner_in (door_of m d) ≡ Some p → is_valid m d ≡ false
   no_valid_door d f = go (door_of m d) refl f
     where
       go : (o : Option Door) → door_of m d ≡ o → owner_in o ≡ Some p → is_valid_in o ≡ false
@@ -278,6 +306,7 @@ module _ (m : State) (h : Invariant m) (p : ℕ) (e : is_ended m p ≡ true) whe
         threads_done = threads_done;
         no_valid_door = no_valid_door;
         no_call = no_call;
+        serves_none = none_with;
         none_live = none_live;
       }
     where
@@ -303,15 +332,78 @@ module _ (m : State) (xs : List Turn) (k : Known m xs) where
       go (inl f) ih = by (turn_at xs j (omega (arith, b))) (omega (arith, f)) (ih (omega (arith, f)))
       go (inr f) ih = subst (λ n. P (state_at m xs n)) f h
 
-  keeps_at : (i : ℕ) (x : Turn) → slice_get xs i ≡ Some x → KeepsEndsIn (state_at m xs i) (state_at m xs (i + 1))
+  pub keeps_at : (i : ℕ) (x : Turn) → slice_get xs i ≡ Some x → KeepsEndsIn (state_at m xs i) (state_at m xs (i + 1))
   keeps_at i x e =
       subst (λ n. KeepsEndsIn (state_at m xs i) n) (sym (next m xs k i x e))
       (step_keeps_ends (state_at m xs i) x.thread x.request (invariant_before m xs k i x e) (k.may i x e))
+
+  -- at which turns threads and processes end
+
+  thread_ends :
+      (i t : ℕ) (x : Turn) → slice_get xs i ≡ Some x → EndsNow (state_at m xs i) (state_at m xs (i + 1)) t → ThreadEnds m xs i x t
+  thread_ends i t x e h =
+      go x.request refl
+      (step_ends_thread (state_at m xs i) (invariant_before m xs k i x e) x.thread t x.request
+      (subst (λ n. EndsNow (state_at m xs i) n t) (next m xs k i x e) h))
+    where
+      go :
+          (q : Option Request) → x.request ≡ q → EndsThread (state_at m xs i) x.thread t (step (state_at m xs i) x.thread x.request).state q →
+          ThreadEnds m xs i x t
+      go q f (own_exit g) = exits f g
+      go q f (process_over g) = with_process (ap (λ n. is_ended n (process_at m xs i t)) (next m xs k i x e) ∙ g)
+
+  process_ends :
+      (i p : ℕ) (x : Turn) → slice_get xs i ≡ Some x → is_ended (state_at m xs i) p ≡ false → is_ended (state_at m xs (i + 1)) p ≡ true →
+      EndsProcess m xs i x p
+  process_ends i p x e b a =
+      go x.request refl
+      (step_ends_one (state_at m xs i) x.thread p b x.request (ap (λ n. is_ended n p) (sym (next m xs k i x e)) ∙ a))
+    where
+      go : (q : Option Request) → x.request ≡ q → EndsOne (state_at m xs i) x.thread p q → EndsProcess m xs i x p
+      go q f (kills_one process g) = kills process f g
+      go q f (exits_last g l) = exits_process f g (last_is (state_at m xs i) (invariant_before m xs k i x e) x.thread p l)
+
+  process_is_there : (i : ℕ) (x : Turn) (process : Pid) → slice_get xs i ≡ Some x → x.request ≡ Some (request.Kill process) →
+      is_some (at_number (state_at m xs i).process_table.processes process.0) ≡ true
+  process_is_there i x process e q = go (subst (MayTurn (state_at m xs i) x.thread) q (k.may i x e))
+    where
+      go : MayEnter (state_at m xs i) x.thread (request.Kill process) → is_some (at_number (state_at m xs i).process_table.processes process.0) ≡ true
+      go h = is_some-at_number (state_at m xs i).process_table.processes process.0 ∙ grind (arith, nat_tests, h.fit)
+
+  ends_process :
+      (i p : ℕ) (x : Turn) → slice_get xs i ≡ Some x → EndsProcess m xs i x p → is_ended (state_at m xs (i + 1)) p ≡ true
+  ends_process i p x e (kills process f g) =
+      subst (λ n. is_ended (state_at m xs (i + 1)) n ≡ true) g
+      (ap (λ n. is_ended n process.0) (next m xs k i x e ∙ ap (λ q. (step (state_at m xs i) x.thread q).state) f)
+      ∙ step_kills (state_at m xs i) x.thread process (process_is_there i x process e f))
+  ends_process i p x e (exits_process f g l) =
+      subst (λ n. is_ended (state_at m xs (i + 1)) n ≡ true) g
+      (ap (λ n. is_ended n (process_at m xs i x.thread)) (next m xs k i x e ∙ ap (λ q. (step (state_at m xs i) x.thread q).state) f)
+      ∙ step_exits (state_at m xs i) x.thread
+      (process_there (state_at m xs i) (invariant_before m xs k i x e) x.thread (takes_turn (state_at m xs i) x.thread x.request (k.may i x e)))
+      (is_last_thread (state_at m xs i) (invariant_before m xs k i x e) x.thread (process_at m xs i x.thread)
+      (subst (IsLast (state_at m xs i) x.thread) (sym g) l)))
+
+  same_process : (i t : ℕ) (x : Turn) → slice_get xs i ≡ Some x → process_of (state_at m xs (i + 1)) t ≡ process_at m xs i t
+  same_process i t x e = ap (λ n. process_of n t) (next m xs k i x e) ∙ process_of-step (state_at m xs i) x.thread t x.request
+
+  ends_thread :
+      (i t : ℕ) (x : Turn) → slice_get xs i ≡ Some x → ThreadEnds m xs i x t → state_of (state_at m xs (i + 1)) t ≡ is.Done
+  ends_thread i t x e (exits f g) =
+      subst (λ n. state_of (state_at m xs (i + 1)) n ≡ is.Done) g
+      (ap (λ n. state_of n x.thread) (next m xs k i x e ∙ ap (λ q. (step (state_at m xs i) x.thread q).state) f)
+      ∙ step_exits_thread (state_at m xs i) (invariant_before m xs k i x e) x.thread)
+  ends_thread i t x e (with_process f) =
+      threads_done (state_at m xs (i + 1)) (invariant_after m xs k i x e) (process_at m xs i t) f t (same_process i t x e)
 
   pub ends_holds : Ends m xs
   ends_holds =
       record {
         process = λ i p l e. has_ended (state_at m xs i) (k.invariant i l) p e (λ c r. caller_waits m xs k i c r l);
         process_stays = λ i j p. stays (λ n. is_ended n p ≡ true) i (λ a x l f. (keeps_at a x f).ended p) j;
+        thread_ends = thread_ends;
+        ends_thread = ends_thread;
+        process_ends = process_ends;
+        ends_process = ends_process;
         thread_stays = λ i j t. stays (λ n. state_of n t ≡ is.Done) i (λ a x l f. (keeps_at a x f).done t) j;
       }

@@ -165,7 +165,7 @@ left_done who n o x e = go (who.ends x.number) refl e
     go true f g = inl f
     go false f g = inr (where_done (who.interrupts x.number) x (deserted_in_done who n o (interrupted_where (who.interrupts x.number) x) g))
 
-leave_ends :
+pub leave_ends :
     (m : State) (who : Leaving) (t : ℕ) → Invariant m → state_of (leave m who) t ≡ is.Done → (state_of m t ≡ is.Done → ⊥) → who.ends t ≡ true
 leave_ends m who t h d b =
     go (thread_of m t) refl

@@ -1,6 +1,7 @@
 mod Passed
 mod Installed
 mod Refusals
+mod Bound
 mod Tables
 mod Changes
 mod Known
@@ -8,6 +9,8 @@ mod Story
 mod Rows
 mod Readers
 mod Done
+mod Validity
+mod ReturnRefusals
 mod Parked
 mod Returns
 mod Once
@@ -16,8 +19,10 @@ mod Cause
 mod NoLoss
 mod Held
 mod Creators
-mod Ends
 mod Left
+mod Endings
+mod Ends
+mod InvalidDoors
 mod Cancels
 mod Runs
 mod EveryRun

@@ -19,7 +19,8 @@ use Rattle.kernel_laws.proofs.Changes.{new_rank, rank_in, returned_rank}
 use Rattle.kernel_laws.proofs.Known.{Known, becomes_once, changes, false_not_true, invariant_before, never_less, next, rises_once}
 use Rattle.kernel_laws.proofs.Story.{story}
 use Rattle.kernel_laws.proofs.Tables.{Installs, accept_installs, call_passes, collect_installs, return_passes}
-use Rattle.kernel_laws.proofs.Returns.{return_hands_over}
+use Rattle.kernel_laws.proofs.ReturnRefusals.{no_return_refusal}
+use Rattle.kernel_laws.proofs.Returns.{return_hands_over, return_tells}
 use Rattle.kernel_laws.proofs.Rows.{GoesOn, Origin, origin, returned_row}
 use Rattle.kernel_laws.proofs.Rows.Origin.{new, older}
 use Rattle.kernel_laws.proofs.Readers.{AnsweredRowAt, EnteredAt, EnteredRowAt, HasObjects, ReturnedAt, ReturnedRowAt, WasMade, accept_of, made, made_here, number_of, table_at}
@@ -230,8 +231,13 @@ module _ (m : State) (xs : List Turn) (k : Known m xs) where
         turn = e;
         bytes = row.bytes;
         pass = row.pass;
-        is_return = record { asked = row.asked; not_refused = row.not_refused };
-        answer = row.answers;
+        is_return =
+            record {
+              asked = row.asked;
+              not_refused =
+                  no_return_refusal (state_at m xs j) (invariant_before m xs k j w e) w.thread (process_at m xs j w.thread) row.bytes row.pass row.not_refused;
+            };
+        answer = return_tells (state_at m xs j) w.thread (answer_at m xs j w) row.answers;
         was_entered = ap stage_in (b ∙ row.before) ∙ ap (λ (s : CallStage). Some s) row.was_entered;
         not_abandoned = ap abandoned_in (b ∙ row.before) ∙ row.not_abandoned;
         objects = objects_passed (table_at m xs j w) row.pass;

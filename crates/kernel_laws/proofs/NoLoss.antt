@@ -26,6 +26,7 @@ use Rattle.kernel_laws.proofs.Known.{ChangeAt, Known, changes, false_not_true, n
 use Rattle.kernel_laws.proofs.Rows.{HandsOver, Origin, answered_row, ended_row, entered_row, is_ended_in, origin, returned_row}
 use Rattle.kernel_laws.proofs.Rows.HandsOver.{results, nothing, error}
 use Rattle.kernel_laws.proofs.Rows.Origin.{new, older}
+use Rattle.kernel_laws.proofs.ReturnRefusals.{not_refused_at}
 use Rattle.kernel_laws.proofs.Tables.{Installs, Releases, call_passes, failed_accept_keeps, failed_collect_keeps, return_passes}
 use Rattle.kernel_laws.proofs.Readers.{AnsweredRowAt, EndedRowAt, EnteredRowAt, HasObjects, ReturnedRowAt, made_here, number_of, table_at}
 use Rattle.kernel_laws.proofs.Once.{HandsBack, accept_fails, accepts, answered_by, collected_results, collects, entered_by}
@@ -220,7 +221,7 @@ module _ (m : State) (xs : List Turn) (k : Known m xs) where
   return_puts i c x h =
       record {
         objects = objects_passed (table_at m xs i x) h.pass;
-        named = (return_passes (state_at m xs i) x.thread x.request h.bytes h.pass h.is_return.asked h.is_return.not_refused).named;
+        named = (return_passes (state_at m xs i) x.thread x.request h.bytes h.pass h.is_return.asked (not_refused_at m xs k i x h.bytes h.pass h.turn h.is_return)).named;
         on_the_way = go (becomes_returned i c x h);
       }
     where
@@ -464,7 +465,7 @@ module _ (m : State) (xs : List Turn) (k : Known m xs) where
   released i x pass e (at_call fd bytes rsize c f g) =
       are_released i x pass e (call_passes (state_at m xs i) x.thread c rsize x.request fd bytes pass f g).releases
   released i x pass e (at_return bytes h) =
-      are_released i x pass e (return_passes (state_at m xs i) x.thread x.request bytes pass h.asked h.not_refused).releases
+      are_released i x pass e (return_passes (state_at m xs i) x.thread x.request bytes pass h.asked (not_refused_at m xs k i x bytes pass e h)).releases
 
   pub no_loss_holds : NoLoss m xs
   no_loss_holds =

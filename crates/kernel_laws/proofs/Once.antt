@@ -19,12 +19,15 @@ use Rattle.kernel_invariant.specs.Events.{Begins, InvocationArrow, IsAcceptedNow
 use Rattle.kernel_invariant.specs.Arrows.{has_own_room, own_table}
 use Rattle.kernel_invariant.specs.Arrows.EndsBy.{door_invalid, server_full, interrupted, server_ended}
 use Rattle.kernel_invariant.specs.Events.InvocationArrow.{stays, begins, cancels, ends, leaves}
-use Rattle.kernel_laws.specs.Places.{BecomesAnswered, BecomesEntered, HasEntered, IsAccept, IsCollect, answer_at, is_answered_in, is_entered_in, is_returned_in, is_returned_stage}
-use Rattle.kernel_laws.specs.Once.{CollectsEntered, Enters, FailsToEnter, InvocationMoves, Once, WaitsAgain, WasEntered}
+use Rattle.kernel_laws.specs.Places.{BecomesAnswered, BecomesEntered, HasEntered, IsAccept, IsCollect, answer_at, is_answered_in, is_entered_in, is_returned_in, is_returned_stage, process_at}
+use Rattle.kernel_laws.specs.Once.{CollectsEntered, Enters, FailsToEnter, InvocationMoves, IsLiveCallOf, Once, WaitsAgain, WasEntered}
+use Rattle.kernel_laws.specs.Once.InvocationMoves.{stays as move_stays, begins as move_begins, cancels as move_cancels, ends as move_ends, leaves as move_leaves}
 use Rattle.kernel_laws.specs.Once.WaitsAgain.{is_idle, is_given, has_failed}
 use Rattle.kernel_laws.proofs.Changes.{answered_rank, entered_rank}
 use Rattle.kernel_laws.proofs.Known.{Known, becomes_once, changes, false_not_true, invariant_after, invariant_before, next}
-use Rattle.kernel_laws.proofs.Returns.{return_answers, return_ends}
+use Rattle.kernel_laws.proofs.Bound.{invalid_decides, none_invalid}
+use Rattle.kernel_laws.proofs.ReturnRefusals.{no_return_refusal}
+use Rattle.kernel_laws.proofs.Returns.{return_ends, return_parks, return_unbinds, wakes}
 use Rattle.kernel_laws.proofs.Story.{story}
 use Rattle.kernel_laws.proofs.Parked.{Parks, failed_accept_parks}
 use Rattle.kernel_laws.proofs.Parked.Parks.{idle, given, unbound}
@@ -68,6 +71,10 @@ at_answered n o e = grind arith
 
 live_not_answered : (o : Option Call) → live_in o ≡ true → is_answered_in o ≡ false
 live_not_answered o e = grind arith
+
+live_call_of : (t : ℕ) (o : Option Call) → live_in o ≡ true → caller_number o ≡ t → IsLiveCallOf o t
+live_call_of t None e f = absurd (cc e)
+live_call_of t (Some r) e f = record { call = r; there = refl; same_caller = ap (λ (n : ℕ). tid n) f; live = e }
 
 live_caller : (t : ℕ) (o : Option Call) → live_in o ≡ true → caller_number o ≡ t → caller_in o ≡ Some t
 live_caller t o e f = grind arith
@@ -163,12 +170,28 @@ module _ (m : State) (xs : List Turn) (k : Known m xs) where
       go : IsAccept m xs i x c → ⊥
       go a = differs n c entry cookie a.entry a.cookie a.bytes a.descriptors (sym f ∙ a.answer)
 
-  pub invocations : (i t : ℕ) (x : Turn) → slice_get xs i ≡ Some x → InvocationMoves m xs i x t
+  abbrev pub MovesAt : ℕ → Turn → ℕ → Option Inv → Option Inv → Type 0
+  MovesAt i x t o p = InvocationArrow (state_at m xs i) x.thread x.request (answer_at m xs i x) (state_at m xs (i + 1)) t o p
+
+  pub invocations :
+      (i t : ℕ) (x : Turn) → slice_get xs i ≡ Some x → MovesAt i x t (invocation_of (state_at m xs i) t) (invocation_of (state_at m xs (i + 1)) t)
   invocations i t x e =
       subst
       (λ n. InvocationArrow (state_at m xs i) x.thread x.request (answer_at m xs i x) n t (invocation_of (state_at m xs i) t) (invocation_of n t))
       (sym (next m xs k i x e))
       ((k.keeps i x e).invocations t)
+
+  moves : (i t : ℕ) (x : Turn) (o p : Option Inv) → slice_get xs i ≡ Some x → MovesAt i x t o p → InvocationMoves m xs i x t o p
+  moves i t x o p e stays = move_stays
+  moves i t x o p e (begins y g h l b) = move_begins y g h l b
+  moves i t x o p e (cancels v w) = move_cancels v w
+  moves i t x o p e (ends v bytes pass g h n a) =
+      move_ends v bytes pass g
+      (record {
+        asked = h;
+        not_refused = no_return_refusal (state_at m xs i) (invariant_before m xs k i x e) x.thread (process_at m xs i x.thread) bytes pass n;
+      })
+  moves i t x o p e (leaves v d) = move_leaves v d
 
   -- what an accept does, where the wait of a thread that was given a call ends
 
@@ -242,12 +265,12 @@ module _ (m : State) (xs : List Turn) (k : Known m xs) where
           }
         where
           again : Parks (state_at m xs i) (state_at m xs (i + 1)) x.thread → WaitsAgain m xs i x c
-          again (idle v b) = is_idle v b
+          again (idle v b) = is_idle (none_invalid (state_at m xs i) x.thread v) b
           again (given v other b) =
-              is_given other v
+              is_given other (none_invalid (state_at m xs i) x.thread v)
               (λ same. ended_not_given EMFILE x.thread _ after (g.waits.given_back c x.thread (b ∙ ap (λ (y : Item). is.Given y) same)))
               b
-          again (unbound v b d) = has_failed v b d
+          again (unbound v b d) = has_failed ((invalid_decides (state_at m xs i) x.thread).0 v) b d
 
           none : {d : ℕ} → IsAccept m xs i x d → ⊥
           none {d} b = entered_not_failed c d b.entry b.cookie b.bytes b.descriptors (sym a ∙ b.answer)
@@ -436,13 +459,16 @@ module _ (m : State) (xs : List Turn) (k : Known m xs) where
         notices_enter_no_call = notices_enter_no_call;
         in_its_invocation = in_its_invocation;
         one_at_once = one_at_once;
-        invocations = invocations;
-        return_answers = return_answers m xs k;
+        invocations = λ i t x e. moves i t x _ _ e (invocations i t x e);
+        return_parks = return_parks m xs k;
+        return_unbinds = return_unbinds m xs k;
+        wakes = wakes m xs k;
         return_ends = return_ends m xs k;
         none_when_done = λ i t l e. (k.invariant i l).consistent.coherent.servers.outside t (ap is_outside e);
         collects = collects;
         only_by_collect = only_by_collect;
         caller_waits = caller_waits;
+        calling_live = λ i t c l e. live_call_of t _ ((k.invariant i l).consistent.coherent.waits.live c t e) ((k.invariant i l).consistent.coherent.waits.caller c t e);
         collects_own = collects_own;
         results_after_entry = results_after_entry;
       }

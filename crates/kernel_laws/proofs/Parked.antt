@@ -60,7 +60,7 @@ pub given_state : (m : State) (i : Item) (u t : ℕ) → (t == u) ≡ false → 
 given_state m (item.Call c) u t e = state_elsewhere m.process_table u t _ e
 given_state m (item.Notice n) u t e = state_elsewhere m.process_table u t _ e
 
-given_bound : (m : State) (i : Item) (u t : ℕ) → bound_of (give_one m i u) t ≡ bound_of m t
+pub given_bound : (m : State) (i : Item) (u t : ℕ) → bound_of (give_one m i u) t ≡ bound_of m t
 given_bound m (item.Call c) u t = refl
 given_bound m (item.Notice n) u t = refl
 
@@ -94,13 +94,13 @@ loses_door m t e = (both (is_idle (state_of m t)) (has_invalid_door m t) e).1
 
 -- failing, of another thread and of this one
 
-bound_elsewhere : (bindings : List (Option ℕ)) (u t : ℕ) → (t == u) ≡ false → bound_at (unbind_thread bindings u) t ≡ bound_at bindings t
+pub bound_elsewhere : (bindings : List (Option ℕ)) (u t : ℕ) → (t == u) ≡ false → bound_at (unbind_thread bindings u) t ≡ bound_at bindings t
 bound_elsewhere bindings u t e =
     ap bound_in
     (at_number-with_at_number bindings u t None
     ∙ ap (λ (b : Bool). if b && is_some (at_number bindings u) then Some None else at_number bindings t) e)
 
-bound_here : (bindings : List (Option ℕ)) (u t : ℕ) → (t == u) ≡ true → bound_at (unbind_thread bindings u) t ≡ None
+pub bound_here : (bindings : List (Option ℕ)) (u t : ℕ) → (t == u) ≡ true → bound_at (unbind_thread bindings u) t ≡ None
 bound_here bindings u t e =
     ap bound_in
     (at_number-with_at_number bindings u t None
@@ -253,11 +253,11 @@ pub data Parks (m n : State) (t : ℕ) : Type 0 where
   unbound : has_invalid_door m t ≡ true → state_of n t ≡ is.FailedReturn → bound_of n t ≡ None → Parks m n t
 
 -- an act after which it is idle, and is bound as before
-record IsParkedNow (m n : State) (t : ℕ) : Type 0 where
-  state : state_of n t ≡ is.Idle (now m)
-  door : has_invalid_door n t ≡ has_invalid_door m t
+pub record IsParkedNow (m n : State) (t : ℕ) : Type 0 where
+  pub state : state_of n t ≡ is.Idle (now m)
+  pub door : has_invalid_door n t ≡ has_invalid_door m t
 
-parks : (m n : State) (t : ℕ) → IsParkedNow m n t → Parks m (with_event_counted (settle m n)) t
+pub parks : (m n : State) (t : ℕ) → IsParkedNow m n t → Parks m (with_event_counted (settle m n)) t
 parks m n t h = go (has_invalid_door m t) refl
   where
     stays : has_invalid_door m t ≡ false → Stays n (settle m n) t (now m) → Parks m (with_event_counted (settle m n)) t

@@ -14,8 +14,6 @@ use Rattle.written_kernel.specs.Words.{State, await_name, calls_waiting, door_na
 use Rattle.kernel_records.specs.Words.{first_refusal, has_refused_size, has_too_many, is_bad_pass, limit_tests, refuses_descriptors_in}
 use Rattle.kernel_laws.specs.Refusals.{CannotPass, HasRefusedSize, HasTooMany, Refusal, RefusesPassed}
 use Rattle.kernel_laws.specs.Refusals.Refusal.{no_door, not_valid, refused_size, takes_none, too_many, too_long, cannot_pass, full_pool}
-use Rattle.kernel_laws.specs.Refused.{Fails}
-use Rattle.kernel_laws.specs.Refused.Fails.{refused as by_test, returned_unbound}
 use Rattle.kernel_laws.proofs.Passed.{pass_decides}
 
 -- a Call, by a thread of process p, of so many bytes and these descriptors, through a descriptor of this object
@@ -32,7 +30,7 @@ some_refusal e f h = cc
 abbrev refuses_passed : ℕ → Option Door → Bool
 refuses_passed descriptors o = nat_lt 0 descriptors && refuses_descriptors_in o
 
-abbrev is_over : ℕ → ℕ → Bool
+abbrev pub is_over : ℕ → ℕ → Bool
 is_over size descriptors = nat_lt DATA_MAX size || nat_lt PASS_MAX descriptors
 
 abbrev is_bad : State → ℕ → List Pass → Bool
@@ -61,7 +59,7 @@ first_of valid size passed many over bad full =
 
 -- what is over a limit, and what is not
 
-over_limit : (size descriptors : ℕ) → is_over size descriptors ≡ true → (DATA_MAX < size) ⊎ (PASS_MAX < descriptors)
+pub over_limit : (size descriptors : ℕ) → is_over size descriptors ≡ true → (DATA_MAX < size) ⊎ (PASS_MAX < descriptors)
 over_limit size descriptors h = go (nat_lt DATA_MAX size) (nat_lt PASS_MAX descriptors) refl refl h
   where
     go :
@@ -81,7 +79,7 @@ within_limits size descriptors h = go (nat_lt DATA_MAX size) (nat_lt PASS_MAX de
     go true b x y z = absurd (cc z)
     go false true x y z = absurd (cc z)
 
-over_is : (size descriptors : ℕ) → (DATA_MAX < size) ⊎ (PASS_MAX < descriptors) → is_over size descriptors ≡ true
+pub over_is : (size descriptors : ℕ) → (DATA_MAX < size) ⊎ (PASS_MAX < descriptors) → is_over size descriptors ≡ true
 over_is size descriptors (inl h) = grind (arith, nat_tests, h)
 over_is size descriptors (inr h) = grind (arith, nat_tests, h)
 
@@ -106,7 +104,7 @@ many_decides : (descriptors : ℕ) (o : Option Door) → Decides (has_too_many d
 many_decides descriptors None = (λ h. absurd (cc h), λ h. absurd h)
 many_decides descriptors (Some d) = Decides-ltb d.desc_max descriptors
 
-false_where_not : (P : Type 0) (b : Bool) → Decides b P → (P → ⊥) → b ≡ false
+pub false_where_not : (P : Type 0) (b : Bool) → Decides b P → (P → ⊥) → b ≡ false
 false_where_not P false decides h = refl
 false_where_not P true decides h = absurd (h (decides.0 refl))
 
@@ -255,7 +253,7 @@ refusal_of_table m p size pass o e (full_pool d h u v w x s n b z) =
     (passed_is_false m d (length pass) w) (many_is_false m d (length pass) x) (within_is size (length pass) s n)
     (false_where_not _ _ (pass_decides m p pass) b) (grind (arith, nat_tests, z))
 
-none_and_some : (o : Option Errno) (e : Errno) → o ≡ None → o ≡ Some e → ⊥
+pub none_and_some : (o : Option Errno) (e : Errno) → o ≡ None → o ≡ Some e → ⊥
 none_and_some o e f g = cc
 
 -- no refusal of the table where no test holds
@@ -314,34 +312,41 @@ effect_is_done m t p request.Exit n e h = cc
 effect_is_done m t p request.TestCancel n e h = cc
 effect_is_done m t p r n e h = grind arith
 
+-- why entry r of thread t answers an error, in the words of the step
+pub data FailsIn (m : State) (t : ℕ) (r : Request) : Errno → Type 0 where
+  by_test : (e : Errno) → refusal_of m t (process_of m t) r ≡ Some e → FailsIn m t r e
+  returned_unbound :
+      (bytes : List ℕ) (pass : List Pass) → r ≡ request.Return bytes pass → refusal_of m t (process_of m t) r ≡ None →
+      has_invalid_door m t ≡ true → FailsIn m t r EINVAL
+
 same_failure : (e f : Errno) → answer.Failure e ≡ answer.Failure f → e ≡ f
 same_failure e f h = cc
 
 -- what fails though it is not refused is a Return
 effect_fails :
     (m : State) (t : ℕ) (r : Request) (e : Errno) → refusal_of m t (process_of m t) r ≡ None →
-    (effect m t (process_of m t) r).answer ≡ answer.Failure e → Fails m t r e
+    (effect m t (process_of m t) r).answer ≡ answer.Failure e → FailsIn m t r e
 effect_fails m t (request.Return bytes pass) e n h =
     go (has_invalid_door m t) refl (sym (return_result m t (process_of m t) bytes pass) ∙ h)
   where
     go :
         (b : Bool) → has_invalid_door m t ≡ b → (if b then answer.Failure EINVAL else answer.Wait) ≡ answer.Failure e →
-        Fails m t (request.Return bytes pass) e
-    go true f g = subst (Fails m t (request.Return bytes pass)) (same_failure EINVAL e g) (returned_unbound bytes pass refl n f)
+        FailsIn m t (request.Return bytes pass) e
+    go true f g = subst (FailsIn m t (request.Return bytes pass)) (same_failure EINVAL e g) (returned_unbound bytes pass refl n f)
     go false f g = absurd (cc g)
 effect_fails m t r e n h = absurd (effect_is_done m t (process_of m t) r refl e h)
 
 unless_fails :
     (m : State) (t : ℕ) (r : Request) (o : Option Errno) (e : Errno) → refusal_of m t (process_of m t) r ≡ o →
-    (unless_refused m o (effect m t (process_of m t) r)).answer ≡ answer.Failure e → Fails m t r e
+    (unless_refused m o (effect m t (process_of m t) r)).answer ≡ answer.Failure e → FailsIn m t r e
 unless_fails m t r None e n h = effect_fails m t r e n h
-unless_fails m t r (Some x) e n h = subst (Fails m t r) (same_failure x e h) (by_test x n)
+unless_fails m t r (Some x) e n h = subst (FailsIn m t r) (same_failure x e h) (by_test x n)
 
-step_fails : (m : State) (t : ℕ) (r : Request) (e : Errno) → (step m t (Some r)).answer ≡ answer.Failure e → Fails m t r e
+step_fails : (m : State) (t : ℕ) (r : Request) (e : Errno) → (step m t (Some r)).answer ≡ answer.Failure e → FailsIn m t r e
 unfolding step
 step_fails m t r e h = unless_fails m t r (refusal_of m t (process_of m t) r) e refl h
 
-fails_step : (m : State) (t : ℕ) (r : Request) (e : Errno) → Fails m t r e → (step m t (Some r)).answer ≡ answer.Failure e
+fails_step : (m : State) (t : ℕ) (r : Request) (e : Errno) → FailsIn m t r e → (step m t (Some r)).answer ≡ answer.Failure e
 unfolding step
 fails_step m t r e (by_test x f) = ap (λ o. (unless_refused m o (effect m t (process_of m t) r)).answer) f
 fails_step m t r e (returned_unbound bytes pass f n v) =
@@ -352,13 +357,13 @@ fails_step m t r e (returned_unbound bytes pass f n v) =
 
 pub entry_tells :
     (m : State) (t : ℕ) (q : Option Request) (r : Request) (e : Errno) → q ≡ Some r →
-    ((step m t q).answer ≡ answer.Failure e) ↔ Fails m t r e
+    ((step m t q).answer ≡ answer.Failure e) ↔ FailsIn m t r e
 entry_tells m t q r e h =
-    subst (λ o. ((step m t o).answer ≡ answer.Failure e) ↔ Fails m t r e) (sym h) (step_fails m t r e, fails_step m t r e)
+    subst (λ o. ((step m t o).answer ≡ answer.Failure e) ↔ FailsIn m t r e) (sym h) (step_fails m t r e, fails_step m t r e)
 
 -- a Call fails only where it is refused
 pub call_fails :
     (m : State) (t : ℕ) (r : Request) (fd : Fd) (bytes : List ℕ) (pass : List Pass) (rsize : ℕ) (e : Errno) →
-    r ≡ request.Call fd bytes pass rsize → Fails m t r e → refusal_of m t (process_of m t) r ≡ Some e
+    r ≡ request.Call fd bytes pass rsize → FailsIn m t r e → refusal_of m t (process_of m t) r ≡ Some e
 call_fails m t r fd bytes pass rsize e h (by_test x f) = f
 call_fails m t r fd bytes pass rsize e h (returned_unbound b x f n v) = absurd (cc (sym h ∙ f))

@@ -20,10 +20,10 @@ use Rattle.kernel_invariant.specs.Records.{record_of}
 use Rattle.kernel_invariant.specs.Arrows.{has_own_room, own_table}
 use Rattle.kernel_invariant.proofs.Calls.{find-as}
 use Rattle.kernel_laws.specs.NoLoss.{is_descriptor, is_release_of}
-use Rattle.kernel_laws.specs.Refused.Fails.{refused}
 use Rattle.kernel_laws.proofs.Installed.{differ, installed_then, named_none, names_new, not_released, others_stay, released_none, released_then, table_elsewhere, table_put_back}
 use Rattle.kernel_laws.proofs.Passed.{names_each}
 use Rattle.kernel_laws.proofs.Refusals.{entry_tells, none_of}
+use Rattle.kernel_laws.proofs.Refusals.FailsIn.{by_test}
 
 -- after an act
 
@@ -226,7 +226,7 @@ releases m n p pass e =
 not_refused :
     (m : State) (t : ℕ) (q : Option Request) (r : Request) (a : Answer) → q ≡ Some r → (step m t q).answer ≡ a →
     ((e : Errno) → a ≡ answer.Failure e → ⊥) → refusal_of m t (process_of m t) r ≡ None
-not_refused m t q r a e f h = none_of _ (λ x g. h x (sym f ∙ (entry_tells m t q r x e).1 (refused x g)))
+not_refused m t q r a e f h = none_of _ (λ x g. h x (sym f ∙ (entry_tells m t q r x e).1 (by_test x g)))
 
 not_held : (xs : List Test) (x : Test) (ys : List Test) → first_refusal (xs ++ x ∷ ys) ≡ None → x.holds ≡ false
 not_held [] x ys e = grind arith

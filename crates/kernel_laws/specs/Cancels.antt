@@ -1,11 +1,12 @@
 -- Cancels: a server that asks is told the flag of its invocation, and the flag is set exactly where the client of its call left
--- while the server was in it.
+-- while the server was in it, and the call's door does not have DOOR_NO_CANCEL.
 use Rattle.std.specs.Prelude.{ℕ, ◌≡◌, ◌+◌, ◌<◌, ◌≤◌, ◌↔◌, List, true, false, Some, length, slice_get}
 use Rattle.written_kernel.specs.Types.{Call}
 use Rattle.dk_base.specs.declared.object.Item.TheVariants as item
 use Rattle.dk_base.specs.declared.request.Request.TheVariants as request
 use Rattle.dk_base.specs.declared.answer.Answer.TheVariants as answer
-use Rattle.written_kernel.specs.Words.{State, Turn, invocation_of, is_cancelled, state_at}
+use Rattle.kernel_records.specs.Words.{no_cancel_of}
+use Rattle.written_kernel.specs.Words.{State, Turn, door_of, invocation_of, is_cancelled, state_at}
 use Rattle.kernel_invariant.specs.Records.{item_of, record_of}
 use Rattle.kernel_invariant.specs.Events.{IsLeft}
 use Rattle.kernel_laws.specs.Places.{HasEntered, answer_at}
@@ -20,7 +21,7 @@ pub record WasLeft (m : State) (xs : List Turn) (i u : ℕ) : Type 0 where
   pub call : Call
   pub there : record_of (state_at m xs at) call.number ≡ Some call
   pub entered : HasEntered (state_at m xs at) u call.number
-  pub may_cancel : call.no_cancel ≡ false
+  pub may_cancel : no_cancel_of (door_of (state_at m xs at) call.door) ≡ false
   pub is_left : IsLeft (state_at m xs at) turn.request (state_at m xs (at + 1)) call
   pub same : item_of (state_at m xs i) u ≡ Some (item.Call call.number)
 

@@ -1,5 +1,6 @@
 -- Cause: a Call is refused exactly where the first of its tests that holds says so; what a caller collects has its cause at the
--- one place where its call left the queue or its server; and the call of a caller that ended is Gone for ever.
+-- one place where its call left the queue or its server, and each cause has its effect there; and a call that is live when its
+-- caller ends is Gone for ever.
 use Rattle.std.specs.Prelude.{ℕ, ◌≡◌, ◌+◌, ◌<◌, ◌≤◌, ◌↔◌, ◌⊎◌, List, Bool, true, false, Some, None, length, nat_lt, slice_get}
 use Rattle.written_kernel.specs.Types.{Answer, Call, Errno, Fd, Obj, Pass}
 use Rattle.dk_base.specs.declared.error.Errno.TheVariants.{EBADF, EINTR, EMFILE}
@@ -70,6 +71,17 @@ pub data Cause (m : State) (xs : List Turn) (c e k : ℕ) (z : Turn) : Answer �
       (r.stage ≡ stage.Given (tid u)) ⊎ (r.stage ≡ stage.Entered (tid u)) → EndsNow (state_at m xs e) (state_at m xs (e + 1)) u →
       (state_of (state_at m xs (e + 1)) r.caller.0 ≡ is.Done → ⊥) → Cause m xs c e k z (answer.Failure EINTR)
 
+-- two causes are of one row
+abbrev pub AreOfOneRow :
+    (m : State) (xs : List Turn) (c e k : ℕ) (z : Turn) (a b : Answer) → Cause m xs c e k z a → Cause m xs c e k z b → Type 0
+AreOfOneRow m xs c e k z a b (Cause.results r w fds f back room) (Cause.results r' w' fds' f' back' room') = Unit {0}
+AreOfOneRow m xs c e k z a b (Cause.caller_full r w f back room) (Cause.caller_full r' w' f' back' room') = Unit {0}
+AreOfOneRow m xs c e k z a b (Cause.server_full r w h q f g y d) (Cause.server_full r' w' h' q' f' g' y' d') = Unit {0}
+AreOfOneRow m xs c e k z a b (Cause.door_invalid r f g v x d) (Cause.door_invalid r' f' g' v' x' d') = Unit {0}
+AreOfOneRow m xs c e k z a b (Cause.interrupted r w h f u q d) (Cause.interrupted r' w' h' f' u' q' d') = Unit {0}
+AreOfOneRow m xs c e k z a b (Cause.server_ended r u f g h d) (Cause.server_ended r' u' f' g' h' d') = Unit {0}
+AreOfOneRow m xs c e k z a b p q = ⊥
+
 -- two answers of collects tell the same, but for the numbers of descriptors
 abbrev pub TellsSame : Answer → Answer → Type 0
 TellsSame (answer.Results bytes fds grown) (answer.Results others fds' grown') = (bytes ≡ others) × (grown ≡ grown')
@@ -91,7 +103,12 @@ pub record HasCause (m : State) (xs : List Turn) : Type 0 where
       (i : ℕ) (x : Turn) (fd : Fd) (bytes : List ℕ) → (asked : IsCall m xs i x fd bytes) →
       ((e : Errno) → IsRefusedBy m xs i x.thread fd bytes asked.pass e → ⊥) → MakesOne m xs i x
   pub told : (k c : ℕ) (z : Turn) → slice_get xs k ≡ Some z → IsCollect m xs k z c → IsCaused m xs c k z
-  pub exact : (c e k : ℕ) (z : Turn) (a b : Answer) → Cause m xs c e k z a → Cause m xs c e k z b → TellsSame a b
+  -- it has one cause
+  pub exact :
+      (c e k : ℕ) (z : Turn) (a b : Answer) (p : Cause m xs c e k z a) (q : Cause m xs c e k z b) →
+      TellsSame a b × AreOfOneRow m xs c e k z a b p q
+  -- where there is a cause the call leaves, whatever is collected of it later
+  pub at_once : (c e k : ℕ) (z : Turn) (a : Answer) → Cause m xs c e k z a → Leaves m xs c e
   -- a call whose caller ended is Gone, or was answered before; one that is live when its caller ends is Gone from then on; and a
   -- call that is Gone is not collected
   pub gone :
@@ -100,6 +117,10 @@ pub record HasCause (m : State) (xs : List Turn) : Type 0 where
   pub gone_for_ever :
       (i j c : ℕ) (r : Call) → i < j → j ≤ length xs → record_of (state_at m xs i) c ≡ Some r → is_live r.stage ≡ true →
       state_of (state_at m xs (i + 1)) r.caller.0 ≡ is.Done → stage_of (state_at m xs j) c ≡ Some stage.Gone
+  -- and it is Gone only where its caller is Done
+  pub gone_only :
+      (i c : ℕ) (r : Call) → i ≤ length xs → record_of (state_at m xs i) c ≡ Some r → r.stage ≡ stage.Gone →
+      state_of (state_at m xs i) r.caller.0 ≡ is.Done
   pub gone_unanswered :
       (i c : ℕ) (x : Turn) → slice_get xs i ≡ Some x → IsCollect m xs i x c → stage_of (state_at m xs i) c ≡ Some stage.Gone → ⊥
   pub left_once : (c e f : ℕ) → Leaves m xs c e → Leaves m xs c f → e ≡ f

@@ -10,6 +10,7 @@ use Rattle.kernel_laws.specs.Refused.{Refused}
 use Rattle.kernel_laws.specs.Held.{Held}
 use Rattle.kernel_laws.specs.Pools.{AreBoundToOwn, NoPoolHasBoth}
 use Rattle.kernel_laws.specs.Ends.{Ends}
+use Rattle.kernel_laws.specs.InvalidDoors.{InvalidDoors}
 use Rattle.kernel_laws.specs.Cancels.{Cancels}
 use Rattle.kernel_laws.specs.EventsShown.{EventsShown}
 
@@ -24,6 +25,7 @@ pub record AllLaws (m : State) (xs : List Turn) : Type 0 where
   pub no_pool_has_both : NoPoolHasBoth m xs
   pub bound_to_own : AreBoundToOwn m xs
   pub ends : Ends m xs
+  pub invalid_doors : InvalidDoors m xs
   pub cancels : Cancels m xs
   pub events_shown : EventsShown m xs
 

@@ -7,6 +7,7 @@ pub mod MadeByCreator
 pub mod Refused
 pub mod Pools
 pub mod Ends
+pub mod InvalidDoors
 pub mod Cancels
 pub mod EventsShown
 pub mod NoLoss

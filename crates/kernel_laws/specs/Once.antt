@@ -1,18 +1,18 @@
 -- Once: each call is entered at most once, and only by the accept of the thread that it was given to, a thread of the
 -- process that made its door; a thread is in one invocation at a time; each call is answered at most once, and only by the
 -- collect of its caller; and what is answered with results was entered before.
-use Rattle.std.specs.Prelude.{ℕ, ◌≡◌, ◌+◌, ◌<◌, ◌≤◌, ◌⊎◌, List, Bool, true, false, Some, None, length, slice_get}
-use Rattle.written_kernel.specs.Types.{Call, Fd, Item, Pass}
-use Rattle.dk_base.specs.declared.error.Errno.TheVariants.{EMFILE}
+use Rattle.std.specs.Prelude.{ℕ, ◌≡◌, ◌+◌, ◌<◌, ◌≤◌, ◌⊎◌, List, Option, Bool, true, false, Some, None, length, slice_get}
+use Rattle.written_kernel.specs.Types.{Call, Fd, Inv, Item, Pass}
+use Rattle.dk_base.specs.declared.error.Errno.TheVariants.{EINVAL, EMFILE}
 use Rattle.dk_base.specs.declared.object.Item.TheVariants as item
 use Rattle.dk_base.specs.declared.answer.Answer.TheVariants as answer
 use Rattle.kernel_records.specs.declared.record.CallStage.TheVariants as stage
 use Rattle.kernel_records.specs.declared.record.ThreadState.TheVariants as is
-use Rattle.kernel_records.specs.Words.{is_live, new_invocation, tid}
-use Rattle.written_kernel.specs.Words.{State, Turn, bound_of, caller_in, has_invalid_door, has_room, invocation_of, now, process_of, return_answer, state_at, state_of}
+use Rattle.kernel_records.specs.Words.{cancelled_invocation, is_live, new_invocation, tid}
+use Rattle.written_kernel.specs.Words.{State, Turn, bound_of, caller_in, has_room, invocation_of, now, process_of, state_at, state_of}
 use Rattle.kernel_invariant.specs.Records.{item_of, owner_of_call, record_of, stage_of}
-use Rattle.kernel_invariant.specs.Events.{InvocationArrow}
-use Rattle.kernel_laws.specs.Places.{BecomesAnswered, BecomesEntered, HasEntered, IsAccept, IsCollect, IsReturn, answer_at}
+use Rattle.kernel_invariant.specs.Events.{Begins, IsCancelled}
+use Rattle.kernel_laws.specs.Places.{BecomesAnswered, BecomesEntered, HasEntered, IsAccept, IsBoundToInvalid, IsBoundToNoInvalid, IsCollect, IsReturn, answer_at}
 
 -- the turn of place i ends the wait of a thread that was given call c: the thread enters c, and nothing else
 pub record Enters (m : State) (xs : List Turn) (i : ℕ) (x : Turn) (c : ℕ) : Type 0 where
@@ -30,13 +30,13 @@ pub record Enters (m : State) (xs : List Turn) (i : ℕ) (x : Turn) (c : ℕ) : 
 -- once. Where it was bound to a door that is not valid, it was unbound instead, and will be told so.
 pub data WaitsAgain (m : State) (xs : List Turn) (i : ℕ) (x : Turn) (c : ℕ) : Type 0 where
   is_idle :
-      has_invalid_door (state_at m xs i) x.thread ≡ false →
-      state_of (state_at m xs (i + 1)) x.thread ≡ is.Idle (now (state_at m xs i)) → WaitsAgain m xs i x c
+      IsBoundToNoInvalid (state_at m xs i) x.thread → state_of (state_at m xs (i + 1)) x.thread ≡ is.Idle (now (state_at m xs i)) →
+      WaitsAgain m xs i x c
   is_given :
-      (other : Item) → has_invalid_door (state_at m xs i) x.thread ≡ false → (other ≡ item.Call c → ⊥) →
+      (other : Item) → IsBoundToNoInvalid (state_at m xs i) x.thread → (other ≡ item.Call c → ⊥) →
       state_of (state_at m xs (i + 1)) x.thread ≡ is.Given other → WaitsAgain m xs i x c
   has_failed :
-      has_invalid_door (state_at m xs i) x.thread ≡ true → state_of (state_at m xs (i + 1)) x.thread ≡ is.FailedReturn →
+      IsBoundToInvalid (state_at m xs i) x.thread → state_of (state_at m xs (i + 1)) x.thread ≡ is.FailedReturn →
       bound_of (state_at m xs (i + 1)) x.thread ≡ None → WaitsAgain m xs i x c
 
 -- The turn of place i ends the wait of a thread that was given call c: its process has too few descriptors free for what comes
@@ -67,12 +67,48 @@ pub record CollectsEntered (m : State) (xs : List Turn) (i : ℕ) (x : Turn) : T
   pub answered : BecomesAnswered m xs call i
   pub was_entered : WasEntered m xs i call
 
--- the invocation of thread t over the turn of place i: it stays as it is, begins at an accept of t that says so, has its flag set
--- where its client leaves, ends at a Return of t that is not refused, or leaves with the end of t
-abbrev pub InvocationMoves : State → List Turn → ℕ → Turn → ℕ → Type 0
-InvocationMoves m xs i x t =
-    InvocationArrow (state_at m xs i) x.thread x.request (answer_at m xs i x) (state_at m xs (i + 1)) t (invocation_of (state_at m xs i) t)
-    (invocation_of (state_at m xs (i + 1)) t)
+-- after the turn of place i its thread is idle since this event, or was given an item at once
+pub data IsParked (m : State) (xs : List Turn) (i : ℕ) (x : Turn) : Type 0 where
+  is_idle : state_of (state_at m xs (i + 1)) x.thread ≡ is.Idle (now (state_at m xs i)) → IsParked m xs i x
+  is_given : (got : Item) → state_of (state_at m xs (i + 1)) x.thread ≡ is.Given got → IsParked m xs i x
+
+-- there is a call, thread t is its caller, and it is neither answered nor Gone
+pub record IsLiveCallOf (o : Option Call) (t : ℕ) : Type 0 where
+  pub call : Call
+  pub there : o ≡ Some call
+  pub same_caller : call.caller ≡ tid t
+  pub live : is_live call.stage ≡ true
+
+-- a Return parks its thread, and answers Wait
+pub record ReturnParks (m : State) (xs : List Turn) (i : ℕ) (x : Turn) : Type 0 where
+  pub answer : answer_at m xs i x ≡ answer.Wait
+  pub parked : IsParked m xs i x
+
+-- or it unbinds its thread, which goes on, and answers EINVAL
+pub record ReturnUnbinds (m : State) (xs : List Turn) (i : ℕ) (x : Turn) : Type 0 where
+  pub answer : answer_at m xs i x ≡ answer.Failure EINVAL
+  pub running : state_of (state_at m xs (i + 1)) x.thread ≡ is.Running
+  pub bound_to_none : bound_of (state_at m xs (i + 1)) x.thread ≡ None
+
+-- the turn of place i answers EINVAL, and its thread goes on
+pub record IsWoken (m : State) (xs : List Turn) (i : ℕ) (x : Turn) : Type 0 where
+  pub answer : answer_at m xs i x ≡ answer.Failure EINVAL
+  pub running : state_of (state_at m xs (i + 1)) x.thread ≡ is.Running
+
+-- The invocation of thread t over the turn of place i: it stays as it is, begins at an accept of t that says so, has its flag set
+-- where its client leaves, ends at a Return of t that is not refused, or leaves with the end of t.
+pub data InvocationMoves (m : State) (xs : List Turn) (i : ℕ) (x : Turn) (t : ℕ) : Option Inv → Option Inv → Type 0 where
+  stays : {v : Option Inv} → InvocationMoves m xs i x t v v
+  begins :
+      (of : Item) → t ≡ x.thread → x.request ≡ None → state_of (state_at m xs i) x.thread ≡ is.Given of → Begins (answer_at m xs i x) of →
+      InvocationMoves m xs i x t None (Some (new_invocation of))
+  cancels :
+      (v : Inv) → IsCancelled (state_at m xs i) x.request (state_at m xs (i + 1)) t v →
+      InvocationMoves m xs i x t (Some v) (Some (cancelled_invocation v))
+  ends :
+      (v : Inv) (bytes : List ℕ) (pass : List Pass) → t ≡ x.thread → IsReturn m xs i x bytes pass →
+      InvocationMoves m xs i x t (Some v) None
+  leaves : (v : Inv) → state_of (state_at m xs (i + 1)) t ≡ is.Done → InvocationMoves m xs i x t (Some v) None
 
 pub record Once (m : State) (xs : List Turn) : Type 0 where
   pub entered_once : (c i j : ℕ) → BecomesEntered m xs c i → BecomesEntered m xs c j → i ≡ j
@@ -96,18 +132,30 @@ pub record Once (m : State) (xs : List Turn) : Type 0 where
   pub one_at_once :
       (i t c d : ℕ) → i ≤ length xs → HasEntered (state_at m xs i) t c → HasEntered (state_at m xs i) t d → c ≡ d
   -- so between two invocations of a thread lies a Return of it, or its end
-  pub invocations : (i t : ℕ) (x : Turn) → slice_get xs i ≡ Some x → InvocationMoves m xs i x t
-  -- a Return that is not refused answers Wait, or EINVAL where its thread is bound to a door that is not valid, and leaves its
-  -- thread without one; and a thread that is Done has none
-  pub return_answers :
+  pub invocations :
+      (i t : ℕ) (x : Turn) → slice_get xs i ≡ Some x →
+      InvocationMoves m xs i x t (invocation_of (state_at m xs i) t) (invocation_of (state_at m xs (i + 1)) t)
+  -- a Return that is not refused parks its thread, or unbinds it from a door that is not valid; a thread that lost its door while it
+  -- was parked is told the same at its next turn
+  pub return_parks :
       (i : ℕ) (x : Turn) (bytes : List ℕ) (pass : List Pass) → slice_get xs i ≡ Some x → IsReturn m xs i x bytes pass →
-      answer_at m xs i x ≡ return_answer (state_at m xs i) x.thread
+      IsBoundToNoInvalid (state_at m xs i) x.thread → ReturnParks m xs i x
+  pub return_unbinds :
+      (i : ℕ) (x : Turn) (bytes : List ℕ) (pass : List Pass) → slice_get xs i ≡ Some x → IsReturn m xs i x bytes pass →
+      IsBoundToInvalid (state_at m xs i) x.thread → ReturnUnbinds m xs i x
+  pub wakes :
+      (i : ℕ) (x : Turn) → slice_get xs i ≡ Some x → x.request ≡ None → state_of (state_at m xs i) x.thread ≡ is.FailedReturn →
+      IsWoken m xs i x
+  -- in either case a Return leaves its thread without an invocation; and a thread that is Done has none
   pub return_ends :
       (i : ℕ) (x : Turn) (bytes : List ℕ) (pass : List Pass) → slice_get xs i ≡ Some x → IsReturn m xs i x bytes pass →
       invocation_of (state_at m xs (i + 1)) x.thread ≡ None
   pub none_when_done : (i t : ℕ) → i ≤ length xs → state_of (state_at m xs i) t ≡ is.Done → invocation_of (state_at m xs i) t ≡ None
   pub collects : (i c : ℕ) (x : Turn) → slice_get xs i ≡ Some x → IsCollect m xs i x c → BecomesAnswered m xs c i
   pub only_by_collect : (i c : ℕ) (x : Turn) → slice_get xs i ≡ Some x → BecomesAnswered m xs c i → IsCollect m xs i x c
+  -- a thread that is Calling c is the caller of c, which is live
+  pub calling_live :
+      (i t c : ℕ) → i ≤ length xs → state_of (state_at m xs i) t ≡ is.Calling c → IsLiveCallOf (record_of (state_at m xs i) c) t
   -- from its Call to its collect a caller waits in this call alone
   pub caller_waits :
       (i c : ℕ) (r : Call) → i ≤ length xs → record_of (state_at m xs i) c ≡ Some r → is_live r.stage ≡ true →

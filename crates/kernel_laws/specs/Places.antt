@@ -2,16 +2,17 @@
 -- collect a call. The states before and after the turn of place i are those at i and at i + 1.
 use Rattle.std.specs.Prelude.{ℕ, ◌≡◌, ◌+◌, ◌<◌, List, Option, Bool, true, false, Some, None, length, map, slice_get}
 use Rattle.written_kernel.specs.Types.{Answer, Call, CallStage, Door, Errno, Fd, Obj, Pass}
+use Rattle.dk_base.specs.declared.error.Errno.TheVariants.{EINVAL}
 use Rattle.dk_base.specs.declared.object.Obj.TheVariants as obj
 use Rattle.dk_base.specs.declared.request.Request.TheVariants as request
 use Rattle.dk_base.specs.declared.answer.Answer.TheVariants as answer
 use Rattle.kernel_records.specs.declared.record.CallStage.TheVariants as stage
 use Rattle.kernel_records.specs.declared.record.ThreadState.TheVariants as is
 use Rattle.kernel_records.specs.Words.{tid}
-use Rattle.written_kernel.specs.Words.{State, Turn, object_at, process_of, refusal_of, return_answer, state_at, state_of, step}
+use Rattle.written_kernel.specs.Words.{State, Turn, bound_of, is_valid, object_at, process_of, state_at, state_of, step}
 use Rattle.kernel_invariant.specs.Records.{record_of, stage_of}
 use Rattle.kernel_invariant.specs.Core.{abandoned_in, has_arguments}
-use Rattle.kernel_laws.specs.Refusals.{Refusal}
+use Rattle.kernel_laws.specs.Refusals.{Refusal, ReturnRefusal}
 
 -- what the turn of place i answers, if it is this turn
 abbrev pub answer_at : State → List Turn → ℕ → Turn → Answer
@@ -127,11 +128,30 @@ pub record IsAccept (m : State) (xs : List Turn) (i : ℕ) (x : Turn) (c : ℕ) 
   pub descriptors : List Fd
   pub answer : answer_at m xs i x ≡ answer.Entered c entry cookie bytes descriptors
 
+-- at place i a Return of thread t, of these bytes and descriptors, is refused with this error
+abbrev pub IsReturnRefusedBy : State → List Turn → ℕ → ℕ → List ℕ → List Pass → Errno → Type 0
+IsReturnRefusedBy m xs i t bytes pass e = ReturnRefusal (state_at m xs i) t (process_at m xs i t) (length bytes) pass e
+
 -- The turn of place i is this Return, and it is not refused. The answer does not tell: a Return with its effects answers EINVAL too,
 -- where its thread is bound to a door that is not valid.
 pub record IsReturn (m : State) (xs : List Turn) (i : ℕ) (x : Turn) (bytes : List ℕ) (pass : List Pass) : Type 0 where
   pub asked : x.request ≡ Some (request.Return bytes pass)
-  pub not_refused : refusal_of (state_at m xs i) x.thread (process_at m xs i x.thread) (request.Return bytes pass) ≡ None
+  pub not_refused : (e : Errno) → IsReturnRefusedBy m xs i x.thread bytes pass e → ⊥
+
+-- thread t is bound to a door that is not valid
+pub record IsBoundToInvalid (m : State) (t : ℕ) : Type 0 where
+  pub door : ℕ
+  pub bound : bound_of m t ≡ Some door
+  pub not_valid : is_valid m door ≡ false
+
+-- thread t is bound to no door, or to a valid one
+abbrev pub IsBoundToNoInvalid : State → ℕ → Type 0
+IsBoundToNoInvalid m t = (d : ℕ) → bound_of m t ≡ Some d → is_valid m d ≡ true
+
+-- what a Return of thread t answers that is not refused
+pub data ReturnAnswers (m : State) (t : ℕ) : Answer → Type 0 where
+  waits : IsBoundToNoInvalid m t → ReturnAnswers m t answer.Wait
+  unbound : IsBoundToInvalid m t → ReturnAnswers m t (answer.Failure EINVAL)
 
 -- the turn of place i is a Return, by the thread that has entered call c, that hands over the results of c
 pub record ReturnsCall (m : State) (xs : List Turn) (i : ℕ) (x : Turn) (c : ℕ) : Type 0 where
@@ -139,8 +159,7 @@ pub record ReturnsCall (m : State) (xs : List Turn) (i : ℕ) (x : Turn) (c : �
   pub bytes : List ℕ
   pub pass : List Pass
   pub is_return : IsReturn m xs i x bytes pass
-  -- Wait, or EINVAL where its thread is bound to a door that is not valid
-  pub answer : answer_at m xs i x ≡ return_answer (state_at m xs i) x.thread
+  pub answer : ReturnAnswers (state_at m xs i) x.thread (answer_at m xs i x)
   pub was_entered : HasEntered (state_at m xs i) x.thread c
   pub not_abandoned : abandoned_in (record_of (state_at m xs i) c) ≡ false
   pub objects : List Obj

@@ -1,10 +1,13 @@
--- What a Call is refused with.
+-- What a Call and a Return are refused with.
 use Rattle.std.specs.Prelude.{ℕ, ◌≡◌, ◌<◌, ◌≤◌, ◌⊎◌, List, length, Option, true, false, Some, None, bit_and, slice_get}
-use Rattle.written_kernel.specs.Types.{Door, Errno, Obj, Pass}
+use Rattle.written_kernel.specs.Types.{Call, Door, Errno, Obj, Pass}
 use Rattle.dk_base.specs.declared.error.Errno.TheVariants.{E2BIG, EAGAIN, EBADF, EINVAL, ENFILE, ENOBUFS, ENOTSUP}
 use Rattle.dk_base.specs.declared.object.Obj.TheVariants as obj
 use Rattle.dk_base.specs.declared.limits.TheConstants.{DATA_MAX, PASS_MAX, QUEUE_MAX}
+use Rattle.kernel_records.specs.declared.record.CallStage.TheVariants as stage
+use Rattle.kernel_records.specs.Words.{tid}
 use Rattle.written_kernel.specs.Words.{State, calls_waiting, door_of, is_valid, object_at, pool_of}
+use Rattle.kernel_invariant.specs.Records.{record_of}
 
 -- The limits of a door, by its record alone: the words of which the step's tests of them are made have no part here.
 
@@ -59,3 +62,19 @@ pub data Refusal (m : State) (p size : ℕ) (pass : List Pass) (o : Option Obj) 
       (RefusesPassed (length pass) (door_of m d) → ⊥) → (HasTooMany (length pass) (door_of m d) → ⊥) → size ≤ DATA_MAX →
       length pass ≤ PASS_MAX → (CannotPass m p pass → ⊥) → QUEUE_MAX ≤ calls_waiting m (pool_of m d) →
       Refusal m p size pass o EAGAIN
+
+-- thread t has a client: it has entered a call that its caller has not left
+pub record HasClient (m : State) (t : ℕ) : Type 0 where
+  pub number : ℕ
+  pub call : Call
+  pub there : record_of m number ≡ Some call
+  pub entered : call.stage ≡ stage.Entered (tid t)
+  pub not_abandoned : call.abandoned ≡ false
+
+-- Why a Return of thread t of process p, of so many bytes and with these descriptors, is refused: a constructor for each test of
+-- door_return(3C), in their order. Without a client no length is too long, since the results go nowhere.
+pub data ReturnRefusal (m : State) (t p size : ℕ) (pass : List Pass) : Errno → Type 0 where
+  too_long : HasClient m t → (DATA_MAX < size) ⊎ (PASS_MAX < length pass) → ReturnRefusal m t p size pass E2BIG
+  cannot_pass :
+      (HasClient m t → (DATA_MAX < size) ⊎ (PASS_MAX < length pass) → ⊥) → CannotPass m p pass →
+      ReturnRefusal m t p size pass EINVAL

@@ -18,7 +18,7 @@ pub record StoreValue : Type 0 where
   -- the calls that are live
   pub calls : CallsValue
   pub events : ℕ
-  -- the event at which a thread parked last
+  -- no thread parked after this event
   pub latest : ℕ
 
 -- there are no notices yet

@@ -46,7 +46,7 @@ pub struct Store {
     doors: Doors,
     calls: Calls,
     events: u64,
-    /// The event at which a thread parked last.
+    /// No thread parked after this event.
     latest: u64,
 }
 

@@ -1,0 +1,341 @@
+-- Which acts end threads and processes.
+use Rattle.std.specs.Prelude.{ℕ, ◌≡◌, ◌==◌, ◌&&◌, ◌⊎◌, Option, Bool, true, false, if◌then◌else◌, Some, None, zero, suc, find, is_some, not, slice_get}
+use Rattle.std.specs.List.{list_any}
+use Rattle.std.specs.Option.{option_map}
+use Rattle.std.proofs.Common.{refl, sym, ap, subst, ◌∙◌, inl, inr}
+use native.Mathlib.Omega.{arith}
+use Rattle.std.proofs.lemmas.Bool.Decides.{nat_tests}
+use Rattle.written_kernel.specs.Types.{Call, Errno, Item, Name, PathId, Pid, Process, Request, Thread, ThreadState, Tid}
+use Rattle.dk_base.specs.ByNumber.{at_number}
+use Rattle.dk_base.specs.declared.object.Item.TheVariants as item
+use Rattle.dk_base.specs.declared.request.Request.TheVariants as request
+use Rattle.kernel_records.specs.declared.record.ThreadState.TheVariants as is
+use Rattle.kernel_records.specs.Words.{Leaving, change_thread, deserted_in, ended_process, ended_thread, idle_thread, interrupted_where, interruption, is_active, is_given_as, is_last, is_live_in, is_served_by, keeps_alive, left_thread_of, process_end, process_in, revocation, state_in, thread_at_state, thread_end, thread_in_invocation, thread_outside}
+use Rattle.written_kernel.specs.Words.{State, accept_call, act, await, await_name, begin_call, door_at, effect, exit, fail_begin, find_call, give_one, go_on, has_invalid_door, has_room, is_live_process, kill, leave, leave_process, leave_thread, name_of, now, process_of, refusal_of, return_parked, return_unbound, settle, state_of, step, thread_of, unless_refused, with_event_counted}
+use Rattle.written_kernel.proofs.Lists.{at_number-map, at_number-suc}
+use Rattle.written_kernel.proofs.Settling.{settle-all}
+use Rattle.written_kernel.proofs.Threads.{at_number-end_process, processes-change_thread, thread_at-end_process}
+use Rattle.kernel_invariant.specs.Arrows.{EndsNow}
+use Rattle.kernel_invariant.specs.Core.{ended_in, number_in}
+use Rattle.kernel_invariant.specs.Invariant.{Invariant}
+use Rattle.kernel_laws.specs.Ends.{IsLast, is_ended}
+use Rattle.kernel_laws.proofs.Done.{effect_none, go_on_none, settle_none}
+use Rattle.kernel_laws.proofs.Left.{leave_ends}
+use Rattle.kernel_laws.proofs.Parked.{IsThread, is_thread}
+use Rattle.kernel_laws.proofs.Passed.{Found, any_found, found_any}
+
+-- the processes after an act
+
+abbrev SameProcesses : State → State → Type 0
+SameProcesses m n = n.process_table.processes ≡ m.process_table.processes
+
+abbrev ends_processes : Request → Bool
+ends_processes (request.Kill process) = true
+ends_processes request.Exit = true
+ends_processes _ = false
+
+changed : (m : State) (t : ℕ) (change : Thread → Thread) → (change_thread m.process_table t change).processes ≡ m.process_table.processes
+changed m t change = processes-change_thread m.process_table t change
+
+await_same : (m : State) (t : ℕ) (path : PathId) → SameProcesses m (await m t path).state
+await_same m t path = go (name_of m path)
+  where
+    go : (o : Option Name) → (await_name m t path o).state.process_table.processes ≡ m.process_table.processes
+    go (Some n) = refl
+    go None = changed m t (thread_at_state (is.Awaiting path))
+
+effect_same : (m : State) (t p : ℕ) (r : Request) → ends_processes r ≡ false → SameProcesses m (effect m t p r).state
+effect_same m t p (request.Call fd bytes pass rsize) e = changed m t _
+effect_same m t p (request.Return bytes pass) e = go (has_invalid_door m t)
+  where
+    go : (b : Bool) → (if b then return_unbound m t p bytes pass else return_parked m t p bytes pass).state.process_table.processes ≡ m.process_table.processes
+    go true = changed m t thread_outside
+    go false = changed m t (idle_thread (now m))
+effect_same m t p (request.Await path) e = await_same m t path
+effect_same m t p (request.Kill process) e = absurd (cc e)
+effect_same m t p request.Exit e = absurd (cc e)
+effect_same m t p _ e = refl
+
+accept_same : (m : State) (t p c : ℕ) (o : Option Call) → SameProcesses m (accept_call m t p c o).state
+accept_same m t p c None = refl
+accept_same m t p c (Some r) = go (has_room m p r.objects)
+  where
+    go : (b : Bool) → (if b then begin_call m t p c r else fail_begin m t c r).state.process_table.processes ≡ m.process_table.processes
+    go true = changed m t (thread_in_invocation (item.Call c))
+    go false = changed m t (idle_thread (now m))
+
+go_on_same : (m : State) (t p : ℕ) (s : ThreadState) → SameProcesses m (go_on m t p s).state
+go_on_same m t p (is.Given (item.Call c)) = accept_same m t p c (find_call m (is_given_as c t))
+go_on_same m t p (is.Given (item.Notice n)) = refl
+go_on_same m t p (is.Calling c) = changed m t (thread_at_state is.Running)
+go_on_same m t p (is.Awaiting path) = changed m t (thread_at_state is.Running)
+go_on_same m t p (is.Working op input) = changed m t (thread_at_state is.Running)
+go_on_same m t p is.FailedReturn = changed m t (thread_at_state is.Running)
+go_on_same m t p _ = refl
+
+give_same : (m : State) (i : Item) (u : ℕ) → SameProcesses m (give_one m i u)
+give_same m (item.Call c) u = changed m u _
+give_same m (item.Notice n) u = changed m u _
+
+pub settle_same : (before m : State) → (settle before m).process_table.processes ≡ m.process_table.processes
+settle_same before m =
+    settle-all (λ n. n.process_table.processes ≡ m.process_table.processes)
+    (λ n t l e. changed n t (thread_at_state is.FailedReturn) ∙ e)
+    (λ n w x p e. give_same n w.item x.thread.0 ∙ e)
+    (λ n t r e. changed n t (thread_at_state is.Running) ∙ e)
+    before m refl
+
+-- a process that ends
+
+abbrev IsEnded : State → ℕ → Type 0
+IsEnded m p = is_ended m p ≡ true
+
+pub process_ended : (m : State) (p : ℕ) → is_some (at_number m.process_table.processes p) ≡ true → IsEnded (leave_process m p) p
+process_ended m p e =
+    ap ended_in (at_number-end_process (leave m (process_end m.process_table m.doors p)).process_table p p)
+    ∙ ap (λ (b : Bool). ended_in (if b then option_map ended_process (at_number m.process_table.processes p) else at_number m.process_table.processes p)) here
+    ∙ go (at_number m.process_table.processes p) e
+  where
+    here : (p == p) ≡ true
+    here = grind (arith, nat_tests)
+
+    go : (o : Option Process) → is_some o ≡ true → ended_in (option_map ended_process o) ≡ true
+    go None f = absurd (cc f)
+    go (Some x) f = refl
+
+other_stays : (m : State) (e p : ℕ) → (p == e) ≡ false → is_ended (leave_process m e) p ≡ is_ended m p
+other_stays m e p f =
+    ap ended_in (at_number-end_process (leave m (process_end m.process_table m.doors e)).process_table e p)
+    ∙ ap (λ (b : Bool). ended_in (if b then option_map ended_process (at_number m.process_table.processes e) else at_number m.process_table.processes p)) f
+
+-- which entry of thread t ends process p
+pub data EndsOne (m : State) (t p : ℕ) : Option Request → Type 0 where
+  kills : (process : Pid) → process.0 ≡ p → EndsOne m t p (Some (request.Kill process))
+  exits : process_of m t ≡ p → is_last m.process_table t p ≡ true → EndsOne m t p (Some request.Exit)
+
+not_both : (b : Bool) → b ≡ true → b ≡ false → ⊥
+not_both b e f = cc
+
+module _ (m : State) (t p : ℕ) (lives : is_ended m p ≡ false) where
+  same_ends : (n : State) → n.process_table.processes ≡ m.process_table.processes → IsEnded n p → ⊥
+  same_ends n e f = not_both (is_ended n p) f (ap (λ ps. ended_in (at_number ps p)) e ∙ lives)
+
+  ends_it : (e : ℕ) → IsEnded (leave_process m e) p → e ≡ p
+  ends_it e f = go (p == e) refl
+    where
+      go : (b : Bool) → (p == e) ≡ b → e ≡ p
+      go true g = grind (arith, nat_tests)
+      go false g = absurd (not_both (is_ended (leave_process m e) p) f (other_stays m e p g ∙ lives))
+
+  effect_ends_one : (r : Request) → IsEnded (effect m t (process_of m t) r).state p → EndsOne m t p (Some r)
+  effect_ends_one (request.Kill process) f = go (is_live_process m process.0) f
+    where
+      go : (b : Bool) → IsEnded (if b then leave_process m process.0 else m) p → EndsOne m t p (Some (request.Kill process))
+      go true g = kills process (ends_it process.0 g)
+      go false g = absurd (same_ends m refl g)
+  effect_ends_one request.Exit f = go (is_last m.process_table t (process_of m t)) refl f
+    where
+      go :
+          (b : Bool) → is_last m.process_table t (process_of m t) ≡ b →
+          IsEnded (if b then leave_process m (process_of m t) else leave_thread m t) p → EndsOne m t p (Some request.Exit)
+      go true l g =
+          let same : process_of m t ≡ p = ends_it (process_of m t) g in
+          exits same (ap (is_last m.process_table t) (sym same) ∙ l)
+      go false l g = absurd (same_ends (leave_thread m t) refl g)
+  effect_ends_one r f = absurd (same_ends (effect m t (process_of m t) r).state (effect_same m t (process_of m t) r refl) f)
+
+  act_ends_one : (q : Option Request) → IsEnded (act m t q).state p → EndsOne m t p q
+  act_ends_one None f = absurd (same_ends (act m t None).state (go_on_same m t (process_of m t) (state_of m t)) f)
+  act_ends_one (Some r) f = go (refusal_of m t (process_of m t) r) f
+    where
+      go : (o : Option Errno) → IsEnded (unless_refused m o (effect m t (process_of m t) r)).state p → EndsOne m t p (Some r)
+      go None g = effect_ends_one r g
+      go (Some e) g = absurd (same_ends m refl g)
+
+  pub step_ends_one : (q : Option Request) → IsEnded (step m t q).state p → EndsOne m t p q
+  unfolding step
+  step_ends_one q f =
+      act_ends_one q (sym (ap (λ ps. ended_in (at_number ps p)) (settle_same m (act m t q).state)) ∙ f)
+
+-- and each of them does
+
+pub step_kills : (m : State) (t : ℕ) (process : Pid) → is_some (at_number m.process_table.processes process.0) ≡ true → IsEnded (step m t (Some (request.Kill process))).state process.0
+unfolding step
+step_kills m t process e =
+    ap (λ ps. ended_in (at_number ps process.0)) (settle_same m (kill m process.0).state)
+    ∙ go (is_live_process m process.0) refl
+  where
+    not_live : (o : Option Process) → is_some o ≡ true → is_live_in o ≡ false → ended_in o ≡ true
+    not_live o f g = grind arith
+
+    go : (b : Bool) → is_live_process m process.0 ≡ b → IsEnded (if b then leave_process m process.0 else m) process.0
+    go true f = process_ended m process.0 e
+    go false f = not_live (at_number m.process_table.processes process.0) e f
+
+pub step_exits :
+    (m : State) (t : ℕ) → is_some (at_number m.process_table.processes (process_of m t)) ≡ true →
+    is_last m.process_table t (process_of m t) ≡ true → IsEnded (step m t (Some request.Exit)).state (process_of m t)
+unfolding step
+step_exits m t e l =
+    ap (λ ps. ended_in (at_number ps (process_of m t))) (settle_same m (exit m t (process_of m t)).state)
+    ∙ ap (λ (b : Bool). is_ended (if b then leave_process m (process_of m t) else leave_thread m t) (process_of m t)) l
+    ∙ process_ended m (process_of m t) e
+
+-- the last thread of a process
+
+inactive : (s : ThreadState) → is_active s ≡ false → (s ≡ is.Done) ⊎ (s ≡ is.Dormant)
+inactive is.Done e = inl refl
+inactive is.Dormant e = inr refl
+inactive s e = absurd (grind arith)
+
+active_not : (s : ThreadState) → is_active s ≡ true → (s ≡ is.Done) ⊎ (s ≡ is.Dormant) → ⊥
+active_not s e (inl f) = cc
+active_not s e (inr f) = cc
+
+module _ (m : State) (h : Invariant m) (t p : ℕ) where
+  number_is : (u : ℕ) (x : Thread) → thread_of m u ≡ Some x → x.number ≡ u
+  number_is u x e = h.consistent.coherent.threads.thread_number u x.number (ap number_in e)
+
+  keeps : (u : ℕ) (x : Thread) → thread_of m u ≡ Some x → process_of m u ≡ p → (u ≡ t → ⊥) → is_active x.state ≡ true → keeps_alive t p x ≡ true
+  keeps u x e f g a = by (x.process.0 == p) (x.number == t) refl refl
+    where
+      of_p : x.process.0 ≡ p
+      of_p = ap process_in (sym e) ∙ f
+
+      by : (b d : Bool) → (x.process.0 == p) ≡ b → (x.number == t) ≡ d → ((b && not d) && is_active x.state) ≡ true
+      by true false i j = a
+      by true true i j =
+          let same : x.number ≡ t = grind (arith, nat_tests) in
+          absurd (g (sym (number_is u x e) ∙ same))
+      by false d i j = absurd (grind (arith, nat_tests, of_p))
+
+  -- a thread that is there stands at its place
+  at_place : (k : ℕ) (x : Thread) → thread_of m (suc k) ≡ Some x → slice_get m.process_table.threads k ≡ Some x
+  at_place k x e = sym (at_number-suc m.process_table.threads k) ∙ e
+
+  pub last_is : is_last m.process_table t p ≡ true → IsLast m t p
+  last_is l u f g = go u (thread_of m u) refl f g
+    where
+      none_keeps : list_any (keeps_alive t p) m.process_table.threads ≡ false
+      none_keeps = not_true (list_any (keeps_alive t p) m.process_table.threads) l
+        where
+          not_true : (b : Bool) → not b ≡ true → b ≡ false
+          not_true b e = grind arith
+
+      go : (v : ℕ) (o : Option Thread) → thread_of m v ≡ o → process_of m v ≡ p → (v ≡ t → ⊥) → (state_of m v ≡ is.Done) ⊎ (state_of m v ≡ is.Dormant)
+      go v None e i j = inl (ap state_in e)
+      go zero (Some x) e i j = absurd (cc e)
+      go (suc k) (Some x) e i j =
+          subst (λ s. (s ≡ is.Done) ⊎ (s ≡ is.Dormant)) (sym (ap state_in e)) (inactive x.state (idle (is_active x.state) refl))
+        where
+          idle : (b : Bool) → is_active x.state ≡ b → b ≡ false
+          idle false a = refl
+          idle true a =
+              absurd
+              (not_both _
+              (any_found (keeps_alive t p) m.process_table.threads k x (at_place k x e) (keeps (suc k) x e i j a))
+              none_keeps)
+
+  pub is_last_thread : IsLast m t p → is_last m.process_table t p ≡ true
+  is_last_thread l = go (list_any (keeps_alive t p) m.process_table.threads) refl
+    where
+      parts : (a b d : Bool) → ((a && not b) && d) ≡ true → (a ≡ true) × ((b ≡ false) × (d ≡ true))
+      parts true false true e = (refl, (refl, refl))
+      parts true false false e = absurd (cc e)
+      parts true true d e = absurd (cc e)
+      parts false b d e = absurd (cc e)
+
+      none : Found (keeps_alive t p) m.process_table.threads → ⊥
+      none f =
+          let it = parts (f.item.process.0 == p) (f.item.number == t) (is_active f.item.state) f.passes in
+          let there : thread_of m (suc f.at) ≡ Some f.item = at_number-suc m.process_table.threads f.at ∙ f.there in
+          let of_p : f.item.process.0 ≡ p = grind (arith, nat_tests, it.0) in
+          active_not f.item.state it.1.1
+          (subst (λ s. (s ≡ is.Done) ⊎ (s ≡ is.Dormant)) (ap state_in there)
+          (l (suc f.at) (ap process_in there ∙ of_p)
+          (λ same. grind (arith, nat_tests, number_is (suc f.at) f.item there, same, it.1.0))))
+
+      go : (b : Bool) → list_any (keeps_alive t p) m.process_table.threads ≡ b → not b ≡ true
+      go false e = refl
+      go true e = absurd (none (found_any (keeps_alive t p) m.process_table.threads e))
+
+-- the process of a thread that is not Done is there
+pub process_there : (m : State) → Invariant m → (t : ℕ) → (state_of m t ≡ is.Done → ⊥) → is_some (at_number m.process_table.processes (process_of m t)) ≡ true
+process_there m h t d = go (is_thread m t d)
+  where
+    go : IsThread m t → is_some (at_number m.process_table.processes (process_of m t)) ≡ true
+    go x = h.consistent.coherent.threads.process_there t x.thread.number (ap number_in x.there)
+
+-- threads
+
+pub leave_done : (m : State) (who : Leaving) (t : ℕ) → Invariant m → who.ends t ≡ true → state_of (leave m who) t ≡ is.Done
+leave_done m who t h e =
+    ap state_in (at_number-map (left_thread_of who (now m) m.call_tree.calls) m.process_table.threads t) ∙ go (thread_of m t) refl
+  where
+    go : (o : Option Thread) → thread_of m t ≡ o → state_in (option_map (left_thread_of who (now m) m.call_tree.calls) o) ≡ is.Done
+    go None f = refl
+    go (Some x) f =
+        ap (λ (b : Bool). (if b then ended_thread x else deserted_in who (now m) (find (is_served_by x.number) m.call_tree.calls) (interrupted_where (who.interrupts x.number) x)).state)
+        (ap who.ends (h.consistent.coherent.threads.thread_number t x.number (ap number_in f)) ∙ e)
+
+-- why thread u ends by an entry of thread t
+pub data EndsThread (m : State) (t u : ℕ) (n : State) : Option Request → Type 0 where
+  exits : t ≡ u → EndsThread m t u n (Some request.Exit)
+  with_process : {q : Option Request} → is_ended n (process_of m u) ≡ true → EndsThread m t u n q
+
+module _ (m : State) (h : Invariant m) (t u : ℕ) (before : state_of m u ≡ is.Done → ⊥) where
+  state_left : (p : ℕ) → state_of (leave_process m p) u ≡ state_of (leave m (process_end m.process_table m.doors p)) u
+  state_left p = ap state_in (thread_at-end_process (leave m (process_end m.process_table m.doors p)).process_table p u)
+
+  process_ends : (p : ℕ) (q : Option Request) → state_of (leave_process m p) u ≡ is.Done → EndsThread m t u (leave_process m p) q
+  process_ends p q d =
+      let its : process_of m u ≡ p = grind (arith, nat_tests, leave_ends m (process_end m.process_table m.doors p) u h (sym (state_left p) ∙ d) before) in
+      with_process (subst (λ j. is_ended (leave_process m p) j ≡ true) (sym its) (process_ended m p (subst (λ j. is_some (at_number m.process_table.processes j) ≡ true) its (process_there m h u before))))
+
+  effect_ends_thread :
+      (r : Request) → state_of (effect m t (process_of m t) r).state u ≡ is.Done → EndsThread m t u (effect m t (process_of m t) r).state (Some r)
+  effect_ends_thread (request.Revoke fd) d = absurd (cc (leave_ends m (revocation (door_at m (process_of m t) fd)) u h d before))
+  effect_ends_thread (request.Interrupt thread) d = absurd (cc (leave_ends m (interruption thread.0) u h d before))
+  effect_ends_thread (request.Kill process) d = go (is_live_process m process.0) d
+    where
+      go :
+          (b : Bool) → state_of (if b then leave_process m process.0 else m) u ≡ is.Done →
+          EndsThread m t u (if b then leave_process m process.0 else m) (Some (request.Kill process))
+      go true e = process_ends process.0 (Some (request.Kill process)) e
+      go false e = absurd (before e)
+  effect_ends_thread request.Exit d = go (is_last m.process_table t (process_of m t)) d
+    where
+      go :
+          (b : Bool) → state_of (if b then leave_process m (process_of m t) else leave_thread m t) u ≡ is.Done →
+          EndsThread m t u (if b then leave_process m (process_of m t) else leave_thread m t) (Some request.Exit)
+      go true e = process_ends (process_of m t) (Some request.Exit) e
+      go false e = exits (grind (arith, nat_tests, leave_ends m (thread_end t) u h e before))
+  effect_ends_thread r d = absurd (before ((effect_none m t (process_of m t) r refl).done u d))
+
+  act_ends_thread : (q : Option Request) → state_of (act m t q).state u ≡ is.Done → EndsThread m t u (act m t q).state q
+  act_ends_thread None d = absurd (before ((go_on_none m t (process_of m t) (state_of m t)).done u d))
+  act_ends_thread (Some r) d = go (refusal_of m t (process_of m t) r) d
+    where
+      go :
+          (o : Option Errno) → state_of (unless_refused m o (effect m t (process_of m t) r)).state u ≡ is.Done →
+          EndsThread m t u (unless_refused m o (effect m t (process_of m t) r)).state (Some r)
+      go None e = effect_ends_thread r e
+      go (Some x) e = absurd (before e)
+
+  settled : (q : Option Request) (n : State) → EndsThread m t u n q → EndsThread m t u (settle m n) q
+  settled q n (exits e) = exits e
+  settled q n (with_process e) = with_process (ap (λ ps. ended_in (at_number ps (process_of m u))) (settle_same m n) ∙ e)
+
+pub step_ends_thread : (m : State) → Invariant m → (t u : ℕ) (q : Option Request) → EndsNow m (step m t q).state u → EndsThread m t u (step m t q).state q
+unfolding step
+step_ends_thread m h t u q e = counted (settled m h t u e.before q (act m t q).state (act_ends_thread m h t u e.before q (settle_none m (act m t q).state u e.after)))
+  where
+    counted : {p : Option Request} {n : State} → EndsThread m t u n p → EndsThread m t u (with_event_counted n) p
+    counted (exits f) = exits f
+    counted (with_process f) = with_process f
+
+-- an Interrupt ends none
+pub interrupt_ends_none : (m : State) → Invariant m → (t u : ℕ) (v : Tid) → EndsNow m (step m t (Some (request.Interrupt v))).state u → ⊥
+unfolding step
+interrupt_ends_none m h t u v e =
+    absurd (cc (leave_ends m (interruption v.0) u h (settle_none m (act m t (Some (request.Interrupt v))).state u e.after) e.before))

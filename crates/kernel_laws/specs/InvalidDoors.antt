@@ -1,0 +1,31 @@
+-- Invalid doors: a door that is not valid stays so; and a door turns so only by a Revoke that is not refused and whose descriptor
+-- names it, or as the process that made it ends, and by each of the two.
+use Rattle.std.specs.Prelude.{ℕ, ◌≡◌, ◌+◌, ◌≤◌, List, true, false, Some, length, slice_get}
+use Rattle.written_kernel.specs.Types.{Door, Fd}
+use Rattle.dk_base.specs.declared.object.Obj.TheVariants as obj
+use Rattle.dk_base.specs.declared.request.Request.TheVariants as request
+use Rattle.dk_base.specs.declared.answer.Answer.TheVariants as answer
+use Rattle.written_kernel.specs.Words.{State, Turn, door_of, is_valid, object_at, state_at}
+use Rattle.kernel_invariant.specs.Records.{owner_in}
+use Rattle.kernel_laws.specs.Places.{answer_at, process_at}
+use Rattle.kernel_laws.specs.Ends.{is_ended}
+
+-- why door d is not valid any more after the turn of place i
+pub data Invalidates (m : State) (xs : List Turn) (i : ℕ) (x : Turn) (d : ℕ) : Type 0 where
+  revoked :
+      (fd : Fd) → x.request ≡ Some (request.Revoke fd) →
+      object_at (state_at m xs i) (process_at m xs i x.thread) fd ≡ Some (obj.Door d) → answer_at m xs i x ≡ answer.Done →
+      Invalidates m xs i x d
+  owner_ends :
+      (p : ℕ) → owner_in (door_of (state_at m xs i) d) ≡ Some p → is_ended (state_at m xs i) p ≡ false →
+      is_ended (state_at m xs (i + 1)) p ≡ true → Invalidates m xs i x d
+
+pub record InvalidDoors (m : State) (xs : List Turn) : Type 0 where
+  pub stays :
+      (i j d : ℕ) (door : Door) → i ≤ j → j ≤ length xs → door_of (state_at m xs i) d ≡ Some door → is_valid (state_at m xs i) d ≡ false →
+      is_valid (state_at m xs j) d ≡ false
+  pub only_by :
+      (i d : ℕ) (x : Turn) → slice_get xs i ≡ Some x → is_valid (state_at m xs i) d ≡ true → is_valid (state_at m xs (i + 1)) d ≡ false →
+      Invalidates m xs i x d
+  pub by_each :
+      (i d : ℕ) (x : Turn) → slice_get xs i ≡ Some x → Invalidates m xs i x d → is_valid (state_at m xs (i + 1)) d ≡ false
