@@ -9,30 +9,41 @@ use Rattle.dk_base.specs.declared.request.Param.TheVariants as param
 use Rattle.kernel_records.specs.declared.record.ThreadState.TheVariants as is
 use Rattle.kernel_records.specs.declared.record.ProcessStage.TheVariants.{Live, Ended}
 use Rattle.dk_base.specs.ByNumber.{at_number, with_at_number}
-use Rattle.kernel_records.specs.Words.{CallTree, ProcessTable, bind_tests, bound_at, bound_in, change_door_in, change_first, first_refusal, has_told_attributes, is_live_in, is_live_stage, is_private_in, lowest_free, new_door, object_named, refused_where, set_param, state_in, table_in, unbind_thread, with_door, with_param, with_table}
+use Rattle.kernel_records.specs.Words.{CallTree, NoticeList, ProcessTable, bind_tests, bound_at, bound_in, change_door_in, change_first, first_refusal, has_notice, has_told_attributes, is_live_in, is_live_stage, is_private_in, lowest_free, new_door, object_named, refused_where, set_param, state_in, table_in, unbind_thread, with_door, with_param, with_table}
 use Rattle.written_kernel.specs.Words.{ActResult, State, await, await_name, bind, binding_tests, bound_of, create, create_tests, door_at, door_of, find_call, name_of, process_of, state_of, thread_of, unbind, with_state, with_table_of}
-use Rattle.kernel_invariant.specs.Records.{has_number, owner_in, record_of}
+use Rattle.kernel_invariant.specs.Records.{has_notice_number, has_number, notice_of, owner_in, record_of}
 use Rattle.kernel_invariant.specs.Core.{core, ended_in, is_ended_stage}
 use Rattle.kernel_invariant.specs.Coherent.{IsCoherent, is_unbuilt}
 use Rattle.kernel_invariant.specs.Invariant.{IsInOrder, IsConsistent}
-use Rattle.kernel_invariant.specs.Arrows.{ByAct}
+use Rattle.kernel_invariant.specs.Arrows.{ByAct, NoticeByAct}
 use Rattle.kernel_invariant.specs.Arrows.ByAct.{stays}
+use Rattle.kernel_invariant.specs.Arrows.NoticeByAct.{stays as notice_stays}
 use Rattle.written_kernel.proofs.Lists.{at_number-with_at_number, length-with_at_number, numbered_past, numbered_there, numbered_within}
-use Rattle.kernel_invariant.proofs.Later.{by_act_later}
+use Rattle.kernel_invariant.proofs.Later.{by_act_later, notice_by_act_later}
 use Rattle.kernel_invariant.proofs.Calls.{IsInOrder-change_first, find-change_first, find-found, length-change_first}
 use Rattle.kernel_invariant.proofs.Cores.{IsThere, Turns, act-core, change_door-core, set_thread_state-turns, upd, with_door-core}
 use Rattle.kernel_invariant.proofs.ThreadMoves.{IsSameButLimits, turn_keeps, door_keeps, is_quiet, limits_keep}
 
+-- an act makes no notice, and each notice keeps its door
+pub record KeepsNotices (list after : NoticeList) : Type 0 where
+  pub none_made : (c : ℕ) → find (has_notice_number c) list.notices ≡ None → find (has_notice_number c) after.notices ≡ None
+  pub had : (d : ℕ) → has_notice after d ≡ has_notice list d
+
+pub same_list : (list : NoticeList) → KeepsNotices list list
+same_list list = record { none_made = λ c e. e; had = λ d. refl }
+
 pub record Does (m : State) (t : ℕ) (q : Option Request) (a : ActResult) : Type 0 where
   pub consistent : IsConsistent a.state
   pub arrows : (c : ℕ) → ByAct m t q a.answer a.state (record_of m c) (record_of a.state c)
+  pub notices : (c : ℕ) → NoticeByAct m t q a.answer a.state (notice_of m c) (notice_of a.state c)
+  pub kept : KeepsNotices m.notice_list a.state.notice_list
 
 -- an act that leaves this state and answers this
 abbrev pub act_result : State → Answer → ActResult
 act_result n a = record { state = n; answer = a }
 
 pub does_nothing : (m : State) (t : ℕ) (q : Option Request) (a : Answer) → IsConsistent m → Does m t q (act_result m a)
-does_nothing m t q a h = record { consistent = h; arrows = λ c. stays }
+does_nothing m t q a h = record { consistent = h; arrows = λ c. stays; notices = λ c. notice_stays; kept = same_list m.notice_list }
 
 -- a thread that is not Done is there
 pub there : (m : State) (t : ℕ) → (state_of m t ≡ is.Done → ⊥) → IsThere m.process_table t
@@ -88,7 +99,8 @@ act_consistent m table tables tree h rows p i e k =
       coherent = k;
       tables = rows.counted ∙ sym (ap length p);
       no_rows = λ q fd f. rows.no_rows q fd (ap (λ xs. ended_in (at_number xs q)) (sym p) ∙ f);
-      unbuilt = record { no_notices = h.unbuilt.no_notices };
+      notices_in_order = h.notices_in_order;
+      notices_counted = h.notices_counted;
     }
 
 -- an act that changes a thread and tables
@@ -103,6 +115,8 @@ does_thread m t q a table tables s serves h rows g k =
           act_consistent m table tables m.call_tree h rows g.processes h.in_order h.counted
           (subst IsCoherent (sym (act-core m table m.call_tree t s serves (core m).call g (λ c. refl))) k);
       arrows = λ c. stays;
+      notices = λ c. notice_stays;
+      kept = same_list m.notice_list;
     }
 
 -- the arrow of one call, where the others stay
@@ -159,6 +173,8 @@ module _ (test : Call → Bool) (change : Call → Call) (same : (r : Call) → 
             arrow_at m t q a (after_act m table tables (changed_tree m.call_tree test change)) r.number (change r) (λ c. record_of m c) _
             (λ c. change-call m r c h f)
             (subst (λ o. ByAct m t q a (after_act m table tables (changed_tree m.call_tree test change)) o (Some (change r))) (sym (find-found test m.call_tree.calls 0 r h.in_order f)) b);
+        notices = λ c. notice_stays;
+        kept = same_list m.notice_list;
       }
 
 -- turns
@@ -189,9 +205,12 @@ names_does m t q names a h =
             coherent = h.coherent;
             tables = h.tables;
             no_rows = h.no_rows;
-            unbuilt = record { no_notices = h.unbuilt.no_notices };
+            notices_in_order = h.notices_in_order;
+            notices_counted = h.notices_counted;
           };
       arrows = λ c. stays;
+      notices = λ c. notice_stays;
+      kept = same_list m.notice_list;
     }
 
 -- bindings
@@ -224,6 +243,7 @@ rebind_keeps m t o h own =
             invocations = h.coherent.invocations;
             notices_given = h.coherent.notices_given;
             notices_entered = h.coherent.notices_entered;
+            notices_at_doors = h.coherent.notices_at_doors;
             servers = h.coherent.servers;
             calls = h.coherent.calls;
             at_doors = h.coherent.at_doors;
@@ -247,7 +267,8 @@ rebind_keeps m t o h own =
           };
       tables = h.tables;
       no_rows = h.no_rows;
-      unbuilt = record { no_notices = h.unbuilt.no_notices };
+      notices_in_order = h.notices_in_order;
+      notices_counted = h.notices_counted;
     }
 
 -- a thread is bound to no door
@@ -258,7 +279,7 @@ rebind_does :
     (m : State) (t : ℕ) (q : Option Request) (o : Option ℕ) (a : Answer) → IsConsistent m →
     ((d : ℕ) → o ≡ Some d → (owner_in (door_of m d) ≡ Some (process_of m t)) × (is_private_in (door_of m d) ≡ true)) →
     Does m t q (act_result (record m { bindings = with_at_number m.bindings t o }) a)
-rebind_does m t q o a h own = record { consistent = rebind_keeps m t o h own; arrows = λ c. stays }
+rebind_does m t q o a h own = record { consistent = rebind_keeps m t o h own; arrows = λ c. stays; notices = λ c. notice_stays; kept = same_list m.notice_list }
 
 -- what an act does, of which its thread is unbound too
 pub unbound_does : (m : State) (t : ℕ) (q : Option Request) (n : State) (a : Answer) → Does m t q (act_result n a) → Does m t q (act_result (record n { bindings = unbind_thread n.bindings t }) a)
@@ -266,6 +287,10 @@ unbound_does m t q n a d =
     record {
       consistent = unbound_keeps n t d.consistent;
       arrows = λ c. by_act_later m t q a n (record n { bindings = unbind_thread n.bindings t }) _ _ (λ e. refl) (record { after = λ u e. e; before = λ u e. e }) (d.arrows c);
+      notices =
+          λ c. notice_by_act_later m t q a n (record n { bindings = unbind_thread n.bindings t }) _ _
+          (record { doors = λ e. refl; falls = λ e. refl }) (record { after = λ u e. e; before = λ u e. e }) (d.notices c);
+      kept = d.kept;
     }
 
 bindable :
@@ -296,7 +321,7 @@ with_table_of_keeps m t table h e =
 pub rows_does :
     (m : State) (t : ℕ) (q : Option Request) (table : List (Option Obj)) (a : Answer) → IsConsistent m → state_of m t ≡ is.Running →
     Does m t q (act_result (with_table_of m (process_of m t) table) a)
-rows_does m t q table a h e = record { consistent = with_table_of_keeps m t table h e; arrows = λ c. stays }
+rows_does m t q table a h e = record { consistent = with_table_of_keeps m t table h e; arrows = λ c. stays; notices = λ c. notice_stays; kept = same_list m.notice_list }
 
 -- doors
 
@@ -310,7 +335,8 @@ doors_consistent m doors h k =
       coherent = k;
       tables = h.tables;
       no_rows = h.no_rows;
-      unbuilt = record { no_notices = h.unbuilt.no_notices };
+      notices_in_order = h.notices_in_order;
+      notices_counted = h.notices_counted;
     }
 
 pub same_but_limits : (x : Param) (value : ℕ) (y : Door) → IsSameButLimits y (with_param x value y)
@@ -325,6 +351,8 @@ set_param_does m t q d x value a h =
     record {
       consistent = doors_consistent m (set_param m.doors d x value) h (go (door_of m d) refl);
       arrows = λ c. stays;
+      notices = λ c. notice_stays;
+      kept = same_list m.notice_list;
     }
   where
     go : (o : Option Door) → door_of m d ≡ o → IsCoherent (core (record m { doors = set_param m.doors d x value }))
@@ -372,7 +400,7 @@ pub create_does :
     (m : State) (t : ℕ) (q : Option Request) (entry cookie : ℕ) (attrs : Attrs) → IsConsistent m → state_of m t ≡ is.Running →
     first_refusal (create_tests m (process_of m t) attrs) ≡ None → Does m t q (create m (process_of m t) entry cookie attrs)
 create_does m t q entry cookie attrs h e f =
-    record { consistent = with_table_of_keeps n t _ made e; arrows = λ c. stays }
+    record { consistent = with_table_of_keeps n t _ made e; arrows = λ c. stays; notices = λ c. notice_stays; kept = same_list m.notice_list }
   where
     d : Door
     d = new_door (length m.doors + 1) (process_of m t) entry cookie attrs

@@ -3,19 +3,21 @@ use Rattle.std.specs.Prelude.{ℕ, ◌≡◌, List, Option, Bool, true, false, i
 use Rattle.std.proofs.Common.{refl, sym, ap, subst, ◌∙◌}
 use native.Mathlib.Omega.{arith}
 use Rattle.std.proofs.lemmas.Bool.Decides.{nat_tests}
-use Rattle.written_kernel.specs.Types.{Answer, Call, CallStage, DoorInfo, Errno, Fd, Item, Name, Pass, PathId, Pid, Request, ThreadState}
+use Rattle.written_kernel.specs.Types.{Answer, Call, CallStage, DoorInfo, Errno, Fd, Item, Name, Notice, Pass, PathId, Pid, Request, ThreadState}
 use Rattle.dk_base.specs.declared.object.Item.TheVariants as item
 use Rattle.dk_base.specs.declared.request.Request.TheVariants as request
 use Rattle.dk_base.specs.declared.answer.Answer.TheVariants as answer
 use Rattle.kernel_records.specs.declared.record.ThreadState.TheVariants as is
 use Rattle.kernel_records.specs.declared.record.CallStage.TheVariants as stage
 use Rattle.dk_base.specs.declared.error.Errno.TheVariants.{EINVAL, EMFILE}
-use Rattle.kernel_records.specs.Words.{is_given_as, is_to_collect_as, objects_passed}
-use Rattle.written_kernel.specs.Words.{ActResult, State, accept, accept_call, act, await, await_name, begin_call, call, collect, collect_answer, collect_answer_in, door_named, effect, enter, fail_begin, find_call, go_on, has_invalid_door, has_room, name_of, new_call, object_at, process_of, refusal_of, refused_act, return, return_parked, return_unbound, state_of, table_of, unless_refused}
+use Rattle.kernel_records.specs.Words.{is_given_as, is_given_notice_as, is_to_collect_as, objects_passed}
+use Rattle.written_kernel.specs.Words.{ActResult, State, accept, accept_call, accept_notice, act, await, await_name, begin_call, call, collect, collect_answer, collect_answer_in, door_named, effect, enter, fail_begin, find_call, find_notice, go_on, has_invalid_door, has_room, name_of, new_call, object_at, process_of, refusal_of, refused_act, return, return_parked, return_unbound, state_of, table_of, unless_refused}
 use Rattle.kernel_invariant.specs.Records.{record_of}
 use Rattle.kernel_invariant.specs.Invariant.{IsConsistent}
 use Rattle.kernel_invariant.specs.Events.{IsMade, IsToldBy}
 use Rattle.kernel_invariant.proofs.Calls.{find-passes, find-push}
+use Rattle.kernel_invariant.proofs.Notices.{notice-passes}
+use Rattle.kernel_invariant.proofs.NoticeActs.{given_notice_is}
 use Rattle.kernel_invariant.proofs.Acts.{act_result}
 use Rattle.kernel_invariant.proofs.CallActs.{given_is}
 
@@ -113,7 +115,15 @@ nothing : (m : State) (t : ℕ) (n : State) → Tells m t None (act_result n ans
 nothing m t n = record { told = tt; there = tt }
 
 accept_tells : (m : State) (t p : ℕ) (i : Item) → state_of m t ≡ is.Given i → Tells m t None (accept m t p i)
-accept_tells m t p (item.Notice n) e = nothing m t _
+accept_tells m t p (item.Notice c) e = go (find_notice m (is_given_notice_as c t)) refl
+  where
+    go : (o : Option Notice) → find_notice m (is_given_notice_as c t) ≡ o → Tells m t None (accept_notice m t c o)
+    go None f = nothing m t _
+    go (Some x) f =
+        record {
+          told = (refl, e ∙ ap (λ (n : ℕ). is.Given (item.Notice n)) (sym (given_notice_is c t x (notice-passes (is_given_notice_as c t) m.notice_list.notices x f)).0));
+          there = tt;
+        }
 accept_tells m t p (item.Call c) e = go (find_call m (is_given_as c t)) refl
   where
     by_room :

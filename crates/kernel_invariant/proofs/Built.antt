@@ -12,6 +12,7 @@ use Rattle.written_kernel.specs.Words.{MayTurn, State, can_go_on, is_running_sta
 use Rattle.kernel_invariant.specs.Coherent.{is_unbuilt}
 use Rattle.kernel_invariant.specs.Invariant.{IsConsistent, Invariant}
 use Rattle.kernel_invariant.specs.Events.{IsBuiltEnd, IsBuiltEntry, IsBuiltTurn, IsMade}
+use Rattle.kernel_invariant.proofs.NoticeActs.{given_notice_found}
 use Rattle.kernel_invariant.proofs.Waits.{given_found}
 
 entry_built : (m : State) (t : ℕ) (r : Request) → capability_of r ≤ BUILT → IsBuiltEntry m t r
@@ -46,6 +47,7 @@ end_built :
     (m : State) (t : ℕ) (s : ThreadState) → IsConsistent m → state_of m t ≡ s → can_go_on m s ≡ true → is_running_state s ≡ false →
     is_unbuilt s ≡ false → IsBuiltEnd m t s
 end_built m t (is.Given (item.Call c)) h e f g u = made_of _ (given_found m t c h e)
+end_built m t (is.Given (item.Notice c)) h e f g u = made_of _ (given_notice_found m t c h e)
 end_built m t (is.Calling c) h e f g u = made_of _ f
 end_built m t (is.Awaiting path) h e f g u = made_of _ f
 end_built m t is.FailedReturn h e f g u = tt

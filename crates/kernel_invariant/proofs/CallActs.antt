@@ -1,12 +1,12 @@
 -- The acts that change a call: door_call, accept, door_return and collect.
 use Rattle.std.specs.Prelude.{ℕ, ◌≡◌, List, [], ◌∷◌, Option, Bool, true, false, not, if◌then◌else◌, Some, None, is_some, length, nat_lt}
-use Rattle.std.proofs.Common.{refl, sym, ap, subst}
+use Rattle.std.proofs.Common.{refl, sym, ap, subst, ◌∙◌}
 use native.Mathlib.Omega.{arith}
 use Rattle.std.proofs.Common.{length-append}
 use Rattle.std.proofs.lemmas.Bool.Decides.{nat_tests}
-use Rattle.written_kernel.specs.Types.{Answer, Call, CallStage, Errno, Fd, Item, Obj, Pass, Request, ThreadState}
-use Rattle.kernel_records.specs.Words.{collect_call, end_invocation, first_refusal, is_client_call_of, is_entered_by, is_given_as, is_given_to, is_to_collect, is_to_collect_as, new_descriptors, objects_passed, open_call, park_thread, return_call, ProcessTable, set_thread_state, tid, without_arguments_at}
-use Rattle.written_kernel.specs.Words.{ActResult, State, accept, accept_call, begin_call, call, call_tests, client_call, collect, collect_answer, collect_answer_in, door_named, fail_begin, find_call, has_invalid_door, has_room, invocation_of, is_valid, make_call, new_call, now, object_at, objects_collected, objects_collected_in, process_of, return, return_answer, return_parked, return_tests, return_unbound, state_of, table_of, tables_after_collect, tables_after_pass, tables_with}
+use Rattle.written_kernel.specs.Types.{Answer, Call, CallStage, Errno, Fd, Item, Notice, Obj, Pass, Request, ThreadState}
+use Rattle.kernel_records.specs.Words.{CallTree, NoticeList, collect_call, end_invocation, end_notice, first_refusal, is_client_call_of, is_entered_by, is_given_as, is_given_to, is_notice_entered_by, is_to_collect, is_to_collect_as, new_descriptors, notice_at, objects_passed, open_call, park_thread, return_call, ProcessTable, set_thread_state, tid, without_arguments_at}
+use Rattle.written_kernel.specs.Words.{ActResult, State, accept, accept_call, begin_call, call, call_tests, client_call, collect, collect_answer, collect_answer_in, door_named, fail_begin, find_call, find_notice, has_invalid_door, has_room, invocation_of, is_valid, make_call, new_call, now, object_at, objects_collected, objects_collected_in, process_of, return, return_answer, return_parked, return_tests, return_unbound, state_of, table_of, tables_after_collect, tables_after_pass, tables_with}
 use Rattle.dk_base.specs.declared.error.Errno.TheVariants.{EBADF, EINVAL, EMFILE}
 use Rattle.dk_base.specs.declared.object.Obj.TheVariants as obj
 use Rattle.dk_base.specs.declared.object.Item.TheVariants as item
@@ -14,17 +14,22 @@ use Rattle.dk_base.specs.declared.request.Request.TheVariants as request
 use Rattle.dk_base.specs.declared.answer.Answer.TheVariants as answer
 use Rattle.kernel_records.specs.declared.record.ThreadState.TheVariants as is
 use Rattle.kernel_records.specs.declared.record.CallStage.TheVariants as stage
+use Rattle.kernel_records.specs.declared.record.NoticeStage.TheVariants as notice
 use Rattle.kernel_invariant.specs.Records.{record_of, item_in}
-use Rattle.kernel_invariant.specs.Core.{core, abandoned_in}
+use Rattle.kernel_invariant.specs.Core.{core, abandoned_in, notice_in}
 use Rattle.kernel_invariant.specs.Coherent.{IsCoherent}
 use Rattle.kernel_invariant.specs.Invariant.{IsConsistent}
 use Rattle.kernel_invariant.specs.Arrows.{ByAct}
 use Rattle.kernel_invariant.specs.Arrows.ByAct.{makes, returns, ends, collects_results, collects_nothing, collects_error, enters}
+use Rattle.kernel_invariant.specs.Arrows.NoticeByAct.{stays as notice_stays, returns as notice_returns}
 use Rattle.kernel_invariant.specs.Arrows.EndsBy.{server_full}
 use Rattle.kernel_invariant.proofs.Calls.{IsInOrder-push, change_first-none, find-found, find-none, find-passes, find-past, find-push}
+use Rattle.kernel_invariant.proofs.Notices.{change_first_notice-none, notice-passes}
+use Rattle.kernel_invariant.proofs.NoticeMoves.{end_notice_keeps}
+use Rattle.kernel_invariant.proofs.NoticeActs.{accept_notice_does, does_notice, entered_notice_is, no_entered, none_entered, notice_found}
 use Rattle.kernel_invariant.proofs.Cores.{Turns, act-core, end_invocation-turns, enter_thread-turns, park_thread-turns, set_thread_state-turns, upd}
 use Rattle.kernel_invariant.proofs.CallMoves.{call_keeps, enter_keeps, fail_keeps, is_after_return, return_keeps, park_keeps, collect_keeps}
-use Rattle.kernel_invariant.proofs.Acts.{AreTables, Does, act_consistent, act_result, after_act, arrow_at, does_call, does_nothing, does_thread, own_tables, same_tables, there, unbound_does}
+use Rattle.kernel_invariant.proofs.Acts.{AreTables, Does, act_consistent, act_result, after_act, arrow_at, does_call, does_nothing, does_thread, own_tables, same_list, same_tables, there, unbound_does}
 
 -- what a test finds is what its number finds
 pub record_found : (m : State) (test : Call → Bool) (r : Call) → IsConsistent m → find_call m test ≡ Some r → record_of m r.number ≡ Some r
@@ -64,6 +69,8 @@ call_does m t rsize fd bytes pass h e f =
           (subst (λ o. ByAct m t q (answer.WaitCall r.number) n o (Some r))
           (sym (find-past m.call_tree.calls 0 r.number h.in_order (grind (arith, h.counted))))
           (makes d rsize fd bytes pass refl (names_door m (object_at m (process_of m t) fd) valid) f refl));
+      notices = λ c. notice_stays;
+      kept = same_list m.notice_list;
     }
   where
     q : Option Request
@@ -127,7 +134,7 @@ fail_does m t r h f g full =
 
 pub accept_does :
     (m : State) (t : ℕ) (i : Item) → IsConsistent m → state_of m t ≡ is.Given i → Does m t None (accept m t (process_of m t) i)
-accept_does m t (item.Notice n) h e = does_nothing m t None _ h
+accept_does m t (item.Notice n) h e = accept_notice_does m t n h e
 accept_does m t (item.Call c) h e = go (find_call m (is_given_as c t)) refl
   where
     p : ℕ
@@ -240,15 +247,25 @@ no_client m t c h e f = go (record_of m c) refl
     go None g = grind (arith, h.coherent.invocations.entered_back c t f)
     go (Some r) g = grind (arith, nat_tests, h.coherent.invocations.entered_back c t f, find-none (is_client_call_of t) m.call_tree.calls c r e g)
 
--- what a Return leaves but for bindings, where its thread turns to a state after it
+-- What a Return leaves but for bindings, where its thread turns to a state after it. It ends the call that the thread has entered and whose
+-- caller has not left, or the notice that the thread has entered, or neither.
 module _ (m : State) (t : ℕ) (bytes : List ℕ) (pass : List Pass) (h : IsConsistent m) (e : state_of m t ≡ is.Running) (free : first_refusal (return_tests m t (process_of m t) bytes pass) ≡ None) where
+  abbrev returned : ProcessTable → CallTree → NoticeList → State
+  returned table tree list =
+      record m { process_table = table; tables = tables_after_pass m (process_of m t) pass; call_tree = tree; notice_list = list }
+
+  abbrev returned_calls : CallTree
+  returned_calls = return_call m.call_tree t bytes (objects_passed (table_of m (process_of m t)) pass)
+
   return_turns :
       (table : ProcessTable) (s : ThreadState) (a : Answer) → is_after_return s ≡ true → a ≡ return_answer m t →
       Turns m.process_table table t s (upd (core m).serves t None) →
-      Does m t (Some (request.Return bytes pass))
-      (act_result (after_act m table (tables_after_pass m (process_of m t) pass) (return_call m.call_tree t bytes (objects_passed (table_of m (process_of m t)) pass))) a)
+      Does m t (Some (request.Return bytes pass)) (act_result (returned table returned_calls (end_notice m.notice_list t)) a)
   return_turns table s a w z turns = go (client_call m t) refl
     where
+      q : Option Request
+      q = Some (request.Return bytes pass)
+
       objects : List Obj
       objects = objects_passed (table_of m (process_of m t)) pass
 
@@ -258,22 +275,41 @@ module _ (m : State) (t : ℕ) (bytes : List ℕ) (pass : List Pass) (h : IsCons
       rows : AreTables m tables
       rows = own_tables m t _ h (λ z. grind arith)
 
-      go :
-          (o : Option Call) → client_call m t ≡ o →
-          Does m t (Some (request.Return bytes pass)) (act_result (after_act m table tables (return_call m.call_tree t bytes objects)) a)
-      go (Some r) f =
+      -- no notice is entered by the thread
+      same_notices : find_notice m (is_notice_entered_by t) ≡ None → m.notice_list ≡ end_notice m.notice_list t
+      same_notices f =
+          sym (ap (λ ns. record m.notice_list { notices = ns })
+          (change_first_notice-none (is_notice_entered_by t) (notice_at notice.Over) m.notice_list.notices f))
+
+      of_client : (r : Call) → client_call m t ≡ Some r → Does m t q (act_result (returned table returned_calls (end_notice m.notice_list t)) a)
+      of_client r f =
           let i : (r.abandoned ≡ false) × (r.stage ≡ stage.Entered (tid t)) = client_is t r (find-passes (is_client_call_of t) m.call_tree.calls r f) in
           let g : record_of m r.number ≡ Some r = record_found m (is_client_call_of t) r h f in
-          does_call (is_client_call_of t) (without_arguments_at (stage.Returned bytes objects)) (λ x. refl)
-          m t _ a _ _ s _ r h rows turns f
-          (return_keeps (core m) t r bytes objects s h.coherent e w g (h.coherent.invocations.entered r.number t (grind arith)) i.0)
-          (returns r bytes pass refl free i.1 i.0 z)
+          let serves : item_in (invocation_of m t) ≡ Some (item.Call r.number) = h.coherent.invocations.entered r.number t (grind arith) in
+          subst (λ (list : NoticeList). Does m t q (act_result (returned table returned_calls list) a))
+          (same_notices (none_entered m t r.number h serves))
+          (does_call (is_client_call_of t) (without_arguments_at (stage.Returned bytes objects)) (λ x. refl)
+          m t q a _ _ s _ r h rows turns f
+          (return_keeps (core m) t r bytes objects s h.coherent e w g serves i.0)
+          (returns r bytes pass refl free i.1 i.0 z))
+
+      of_notice : client_call m t ≡ None → (o : Option Notice) → find_notice m (is_notice_entered_by t) ≡ o → Does m t q (act_result (returned table m.call_tree (end_notice m.notice_list t)) a)
+      of_notice f None g =
+          subst (λ (list : NoticeList). Does m t q (act_result (returned table m.call_tree list) a)) (same_notices g)
+          (does_thread m t q a _ tables s _ h rows turns
+          (park_keeps (core m) t s h.coherent e w (λ c i. no_client m t c h f i) (λ n i. no_entered m t n h g i)))
+      of_notice f (Some x) g =
+          let entered : x.stage ≡ notice.Entered (tid t) = entered_notice_is t x (notice-passes (is_notice_entered_by t) m.notice_list.notices x g) in
+          does_notice (is_notice_entered_by t) notice.Over m t q a table tables s _ x h rows turns g
+          (end_notice_keeps (core m) t x.number s h.coherent e w (ap notice_in (notice_found m (is_notice_entered_by t) x h g) ∙ ap (λ z. Some z) entered))
+          (notice_returns x bytes pass refl free entered)
+
+      go : (o : Option Call) → client_call m t ≡ o → Does m t q (act_result (returned table returned_calls (end_notice m.notice_list t)) a)
+      go (Some r) f = of_client r f
       go None f =
-          subst (λ rs. Does m t (Some (request.Return bytes pass)) (act_result (after_act m table tables (record m.call_tree { calls = rs })) a))
+          subst (λ rs. Does m t q (act_result (returned table (record m.call_tree { calls = rs }) (end_notice m.notice_list t)) a))
           (sym (change_first-none (is_client_call_of t) (without_arguments_at (stage.Returned bytes objects)) m.call_tree.calls f))
-          (does_thread m t _ a _ tables s _ h rows turns
-          (park_keeps (core m) t s h.coherent e w (λ c g. no_client m t c h f g)
-          (λ i g. grind (arith, h.coherent.notices_entered.notice_entered_back i t g, h.unbuilt.no_notices))))
+          (of_notice f (find_notice m (is_notice_entered_by t)) refl)
 
   pub return_does : Does m t (Some (request.Return bytes pass)) (return m t (process_of m t) bytes pass)
   return_does = go (has_invalid_door m t) refl

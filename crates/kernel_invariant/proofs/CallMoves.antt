@@ -46,6 +46,7 @@ call_keeps k t r h p =
           };
       notices_given = notices_turn k.role k.notice t _ h.notices_given (grind arith) refl;
       notices_entered = h.notices_entered;
+      notices_at_doors = h.notices_at_doors;
       servers =
           record {
             outside = λ v e. grind (arith, nat_tests, h.servers.outside v);
@@ -100,6 +101,7 @@ enter_keeps k t r h q g =
       notices_given = notices_turn k.role k.notice t _ h.notices_given (grind arith) refl;
       notices_entered =
           notices_serve k.serves k.notice t _ h.notices_entered (λ n e. grind (arith, h.servers.outside t)) (λ n e. grind arith);
+      notices_at_doors = h.notices_at_doors;
       servers =
           record {
             outside = λ v e. grind (arith, nat_tests, h.servers.outside v);
@@ -150,6 +152,7 @@ fail_keeps k t r x since h q g =
       notices_given = notices_turn k.role k.notice t _ h.notices_given (grind arith) refl;
       notices_entered =
           notices_serve k.serves k.notice t _ h.notices_entered (λ n e. grind (arith, h.servers.outside t)) (λ n e. grind arith);
+      notices_at_doors = h.notices_at_doors;
       servers =
           record {
             outside = λ v e. grind (arith, nat_tests, h.servers.outside v);
@@ -198,6 +201,7 @@ return_keeps k t r bytes objects s h p z q i a =
           };
       notices_given = notices_turn k.role k.notice t _ h.notices_given (grind arith) (grind arith);
       notices_entered = notices_serve k.serves k.notice t _ h.notices_entered (λ n e. grind arith) (λ n e. grind arith);
+      notices_at_doors = h.notices_at_doors;
       servers =
           record {
             outside = λ v e. grind (arith, nat_tests, h.servers.outside v);
@@ -239,6 +243,7 @@ park_keeps k t s h p w q z =
           };
       notices_given = notices_turn k.role k.notice t _ h.notices_given (grind arith) (grind arith);
       notices_entered = notices_serve k.serves k.notice t _ h.notices_entered z (λ n e. grind arith);
+      notices_at_doors = h.notices_at_doors;
       servers =
           record {
             outside = λ v e. grind (arith, nat_tests, h.servers.outside v);
@@ -279,6 +284,7 @@ collect_keeps k t r at h q g z =
           };
       notices_given = notices_turn k.role k.notice t _ h.notices_given (grind arith) refl;
       notices_entered = h.notices_entered;
+      notices_at_doors = h.notices_at_doors;
       servers =
           record {
             outside = λ v e. grind (arith, nat_tests, h.servers.outside v);

@@ -3,13 +3,13 @@ use Rattle.std.specs.Prelude.{ℕ, ◌≡◌, ◌+◌, [], ◌∷◌, ◌++◌, 
 use Rattle.std.proofs.Common.{refl, ap, ◌∙◌}
 use native.Mathlib.Omega.{arith}
 use Rattle.std.proofs.lemmas.Bool.Decides.{nat_tests}
-use Rattle.written_kernel.specs.Types.{Call, Door, Inv, Item, Thread, ThreadState}
+use Rattle.written_kernel.specs.Types.{Call, Door, Inv, Item, NoticeStage, Thread, ThreadState}
 use Rattle.kernel_records.specs.declared.record.ThreadState.TheVariants as is
-use Rattle.kernel_records.specs.Words.{CallTree, ProcessTable, change_door, change_thread, end_invocation, enter_thread, idle_thread, invocation_in, new_invocation, park_thread, process_in, set_thread_state, state_in, thread_at, thread_at_state, thread_in_invocation, thread_outside}
+use Rattle.kernel_records.specs.Words.{CallTree, NoticeList, ProcessTable, change_door, change_thread, end_invocation, enter_thread, idle_thread, invocation_in, new_invocation, park_thread, process_in, set_thread_state, state_in, thread_at, thread_at_state, thread_in_invocation, thread_outside}
 use Rattle.dk_base.specs.ByNumber.{at_number}
 use Rattle.written_kernel.specs.Words.{State}
-use Rattle.kernel_invariant.specs.Records.{has_number}
-use Rattle.kernel_invariant.specs.Core.{Core, core, number_in}
+use Rattle.kernel_invariant.specs.Records.{has_notice_number, has_number}
+use Rattle.kernel_invariant.specs.Core.{Core, core, notice_in, noticed_in, number_in}
 use Rattle.written_kernel.proofs.Invocations.{invocation-enter_thread, invocation-park_thread, invocation-set_thread_state, invocation-without}
 use Rattle.written_kernel.proofs.Doors.{at_number-change_door}
 use Rattle.written_kernel.proofs.Lists.{numbered_push}
@@ -44,6 +44,7 @@ pub record SameCore (k l : Core) : Type 0 where
   pub call : (c : ℕ) → k.call c ≡ l.call c
   pub made : k.made ≡ l.made
   pub notice : (n : ℕ) → k.notice n ≡ l.notice n
+  pub noticed : (n : ℕ) → k.noticed n ≡ l.noticed n
 
 pub same_core : (k l : Core) → SameCore k l → k ≡ l
 same_core k l h = λ i. record {
@@ -57,6 +58,7 @@ same_core k l h = λ i. record {
   call = λ t. h.call t i;
   made = h.made i;
   notice = λ t. h.notice t i;
+  noticed = λ t. h.noticed t i;
 }
 
 -- one thread turns to a state, and then this is what threads serve
@@ -198,6 +200,7 @@ act-core m b tree t s serves call h g =
       call = g;
       made = refl;
       notice = λ u. refl;
+      noticed = λ u. refl;
     })
 
 pub with_door-core :
@@ -215,6 +218,7 @@ with_door-core m d n =
       call = λ u. refl;
       made = refl;
       notice = λ u. refl;
+      noticed = λ u. refl;
     })
 
 pub change_door-core :
@@ -235,4 +239,28 @@ change_door-core m d change x e =
       call = λ u. refl;
       made = refl;
       notice = λ u. refl;
+      noticed = λ u. refl;
+    })
+
+-- an act that changes a thread and the stages of notices
+pub notice-core :
+    (m : State) (b : ProcessTable) (list : NoticeList) (t : ℕ) (s : ThreadState) (serves : ℕ → Option Inv) (notice : ℕ → Option NoticeStage) →
+    Turns m.process_table b t s serves → ((n : ℕ) → notice_in (find (has_notice_number n) list.notices) ≡ notice n) →
+    ((n : ℕ) → noticed_in (find (has_notice_number n) list.notices) ≡ (core m).noticed n) →
+    core (record m { process_table = b; notice_list = list })
+    ≡ record (core m) { role = upd (core m).role t s; serves = serves; notice = notice }
+notice-core m b list t s serves notice h g d =
+    same_core _ _
+    (record {
+      role = h.role;
+      serves = h.invocation;
+      process = h.process;
+      number = h.number;
+      bound = λ u. refl;
+      door = λ u. refl;
+      proc = λ p. ap (λ xs. at_number xs p) h.processes;
+      call = λ c. refl;
+      made = refl;
+      notice = g;
+      noticed = d;
     })

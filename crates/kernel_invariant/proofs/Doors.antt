@@ -3,14 +3,14 @@ use Rattle.std.specs.Prelude.{ℕ, ◌≡◌, ◌+◌, List, Option, Bool, true,
 use Rattle.std.proofs.Common.{refl, sym, subst}
 use native.Mathlib.Omega.{arith}
 use Rattle.std.proofs.lemmas.Bool.Decides.{nat_tests}
-use Rattle.written_kernel.specs.Types.{Attrs, Call, Door, Errno, Item, Name, Param, Pass, PathId, Request, ThreadState}
+use Rattle.written_kernel.specs.Types.{Attrs, Call, Door, Errno, Item, Name, Notice, Param, Pass, PathId, Request, ThreadState}
 use Rattle.dk_base.specs.declared.object.Item.TheVariants as item
 use Rattle.dk_base.specs.declared.request.Param.TheVariants as param
 use Rattle.dk_base.specs.declared.request.Request.TheVariants as request
 use Rattle.kernel_records.specs.declared.record.ThreadState.TheVariants as is
 use Rattle.dk_base.specs.ByNumber.{at_number}
-use Rattle.kernel_records.specs.Words.{is_given_as, new_door, set_param, with_door, with_param}
-use Rattle.written_kernel.specs.Words.{MayTurn, State, accept, accept_call, act, await, await_name, begin_call, door_of, effect, enter, fail_begin, find_call, go_on, has_invalid_door, has_room, name_of, process_of, refusal_of, return, return_parked, return_unbound, state_of, step, unless_refused}
+use Rattle.kernel_records.specs.Words.{is_given_as, is_given_notice_as, new_door, set_param, with_door, with_param}
+use Rattle.written_kernel.specs.Words.{MayTurn, State, accept, accept_call, accept_notice, act, await, await_name, begin_call, door_of, effect, enter, fail_begin, find_call, find_notice, go_on, has_invalid_door, has_room, name_of, process_of, refusal_of, return, return_parked, return_unbound, state_of, step, unless_refused}
 use Rattle.written_kernel.proofs.Doors.{at_number-change_door}
 use Rattle.written_kernel.proofs.Lists.{numbered_push, numbered_past}
 use Rattle.kernel_invariant.specs.Invariant.{IsConsistent, Invariant}
@@ -105,7 +105,11 @@ enter_holds m t r d h e = go (refusal_of m t (process_of m t) r)
     go None = effect_holds m t r d h e
 
 accept_holds : (m : State) (t p : ℕ) (i : Item) (d : ℕ) → Holds m t None (accept m t p i).state d
-accept_holds m t p (item.Notice n) d = stays m t None (door_of m d)
+accept_holds m t p (item.Notice c) d = go (find_notice m (is_given_notice_as c t))
+  where
+    go : (o : Option Notice) → Holds m t None (accept_notice m t c o).state d
+    go None = stays m t None (door_of m d)
+    go (Some x) = stays m t None (door_of m d)
 accept_holds m t p (item.Call c) d = go (find_call m (is_given_as c t))
   where
     by_room : (r : Call) (b : Bool) → Holds m t None (if b then begin_call m t p c r else fail_begin m t c r).state d

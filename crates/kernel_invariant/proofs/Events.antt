@@ -1,4 +1,4 @@
--- Every event keeps the invariant; calls, invocations and doors take the arrows of their tables; and what answers tell is so.
+-- Every event keeps the invariant; calls, invocations, notices and doors take the arrows of their tables; and what answers tell is so.
 use Rattle.std.specs.Prelude.{ℕ, ◌≡◌, Option}
 use Rattle.std.proofs.Common.{refl}
 use Rattle.written_kernel.specs.Types.{Call, Request}
@@ -10,6 +10,7 @@ use Rattle.kernel_invariant.specs.Arrows.{ByGiving}
 use Rattle.kernel_invariant.specs.Arrows.ByGiving.{stays, gives}
 use Rattle.kernel_invariant.specs.Events.{IsMade, IsToldBy, Keeps}
 use Rattle.kernel_invariant.proofs.Steps.{StepDoes, step_does, step_invariant, step_arrows}
+use Rattle.kernel_invariant.proofs.NoticeSteps.{step_noticed, step_notices}
 use Rattle.kernel_invariant.proofs.Serving.{step_serves}
 use Rattle.kernel_invariant.proofs.Doors.{step_holds}
 use Rattle.kernel_invariant.proofs.Answers.{Tells, act_tells, is_there}
@@ -43,6 +44,8 @@ step_keeps m t q h may =
       invariant = step_invariant m t q h may;
       arrows = λ c. step_arrows m t q c h may;
       invocations = λ u. step_serves m t q u h may;
+      notices = λ c. step_notices m t q c h may;
+      noticed = λ d x e f g. step_noticed m t q d x h may e f g;
       doors = λ d. step_holds m t q d h may;
       told = step_tells m t q h;
       called = λ c e. step_called m t q c h may e;

@@ -31,6 +31,7 @@ lose_keeps k t since h p =
       invocations = h.invocations;
       notices_given = notices_turn k.role k.notice t is.FailedReturn h.notices_given (grind arith) refl;
       notices_entered = h.notices_entered;
+      notices_at_doors = h.notices_at_doors;
       servers =
           record {
             outside = λ v e. grind (arith, nat_tests, h.servers.outside v);
@@ -61,6 +62,7 @@ wake_keeps k t h p =
       invocations = h.invocations;
       notices_given = notices_turn k.role k.notice t is.Running h.notices_given (grind arith) refl;
       notices_entered = h.notices_entered;
+      notices_at_doors = h.notices_at_doors;
       servers =
           record {
             outside = λ v e. grind (arith, nat_tests, h.servers.outside v);

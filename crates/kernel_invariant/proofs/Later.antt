@@ -1,11 +1,13 @@
 -- An arrow of an act, seen from a later state in which the same doors are valid and the same threads are done.
 use Rattle.std.specs.Prelude.{ℕ, ◌≡◌, Option}
-use Rattle.std.proofs.Common.{◌∙◌}
-use Rattle.written_kernel.specs.Types.{Answer, Call, Errno, Request}
+use Rattle.std.proofs.Common.{◌∙◌, ap}
+use Rattle.written_kernel.specs.Types.{Answer, Call, Errno, Notice, Request}
 use Rattle.kernel_records.specs.declared.record.ThreadState.TheVariants as is
-use Rattle.written_kernel.specs.Words.{State, is_valid, state_of}
-use Rattle.kernel_invariant.specs.Arrows.{ByAct, EndsBy, EndsNow}
+use Rattle.written_kernel.specs.Words.{State, door_of, falls_to_one, is_valid, state_of}
+use Rattle.kernel_records.specs.Words.{is_valid_in}
+use Rattle.kernel_invariant.specs.Arrows.{ByAct, EndsBy, EndsNow, NoticeByAct}
 use Rattle.kernel_invariant.specs.Arrows.ByAct.{stays, makes, enters, returns, ends, breaks_off, leaves, collects_results, collects_nothing, collects_error}
+use Rattle.kernel_invariant.specs.Arrows.NoticeByAct.{stays as notice_stays, makes as notice_makes, enters as notice_enters, returns as notice_returns, drops as notice_drops, ends as notice_ends}
 use Rattle.kernel_invariant.specs.Arrows.EndsBy.{door_invalid, server_full, interrupted, server_ended}
 
 -- a thread is done in both of two states, or in neither
@@ -37,3 +39,19 @@ by_act_later m t q a n o before after h d (leaves r e f) = leaves r e (ends_now_
 by_act_later m t q a n o before after h d (collects_results r bytes objects e f g k l z) = collects_results r bytes objects e f g k l z
 by_act_later m t q a n o before after h d (collects_nothing r bytes objects e f g k l z) = collects_nothing r bytes objects e f g k l z
 by_act_later m t q a n o before after h d (collects_error r e f g k l z) = collects_error r e f g k l z
+
+-- doors and their references are the same in two states
+pub record AreSameDoors (m n o : State) : Type 0 where
+  pub doors : (d : ℕ) → door_of o d ≡ door_of n d
+  pub falls : (d : ℕ) → falls_to_one m o d ≡ falls_to_one m n d
+
+pub notice_by_act_later :
+    (m : State) (t : ℕ) (q : Option Request) (a : Answer) (n o : State) (before after : Option Notice) →
+    AreSameDoors m n o → AreSameDone n o → NoticeByAct m t q a n before after → NoticeByAct m t q a o before after
+notice_by_act_later m t q a n o before after h d notice_stays = notice_stays
+notice_by_act_later m t q a n o before after h d (notice_makes x y e f g k l) =
+    notice_makes x y (h.doors x.door ∙ e) f (h.falls x.door ∙ g) k l
+notice_by_act_later m t q a n o before after h d (notice_enters x e f g k) = notice_enters x e f g k
+notice_by_act_later m t q a n o before after h d (notice_returns x bytes pass e f g) = notice_returns x bytes pass e f g
+notice_by_act_later m t q a n o before after h d (notice_drops x e f g) = notice_drops x e f (ap is_valid_in (h.doors x.door) ∙ g)
+notice_by_act_later m t q a n o before after h d (notice_ends x u e f) = notice_ends x u e (ends_now_later m n o u d f)

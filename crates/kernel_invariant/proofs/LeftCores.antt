@@ -1,15 +1,16 @@
 -- What becomes of a core where callers are interrupted, threads end, and doors become invalid, all at one event. It keeps what
 -- holds of a core.
-use Rattle.std.specs.Prelude.{ℕ, ◌≡◌, ◌⊎◌, ◌&&◌, [], Option, not, true, false, if◌then◌else◌, Some, None, is_some, option_map}
+use Rattle.std.specs.Prelude.{ℕ, ◌≡◌, ◌⊎◌, ◌&&◌, [], Option, Bool, not, true, false, if◌then◌else◌, Some, None, is_some, option_map}
 use Rattle.std.proofs.Common.{refl, sym, ap, ap₂, subst, ◌∙◌, ⊎_elim}
 use native.Mathlib.Omega.{arith}
 use Rattle.dk_base.specs.declared.object.Item.TheVariants as item
-use Rattle.written_kernel.specs.Types.{Call, CallStage, Inv, Item, ThreadState}
+use Rattle.written_kernel.specs.Types.{Call, CallStage, Inv, Item, NoticeStage, ThreadState}
 use Rattle.kernel_records.specs.declared.record.ThreadState.TheVariants as is
 use Rattle.kernel_records.specs.declared.record.CallStage.TheVariants as stage
+use Rattle.kernel_records.specs.declared.record.NoticeStage.TheVariants as notice
 use Rattle.kernel_records.specs.Words.{Leaving, broken_call_at, cancelled_invocation, gone_call_at, is_left, is_live, is_private_in, is_valid_in, left_call, no_cancel_of, tid}
 use Rattle.kernel_invariant.specs.Core.{Core, abandoned_in, caller_number, door_in, ended_in, has_arguments, is_outside, is_underway, live_in, owner_at, underway_in}
-use Rattle.kernel_invariant.specs.Coherent.{AreAtDoors, AreBindings, AreCalls, AreDoors, AreInvocations, AreNoticesEntered, AreNoticesGiven, AreProcesses, AreServers, AreThreads, AreWaits, IsCoherent, is_unbuilt}
+use Rattle.kernel_invariant.specs.Coherent.{AreAtDoors, AreBindings, AreCalls, AreDoors, AreInvocations, AreNoticesAtDoors, AreNoticesEntered, AreNoticesGiven, AreProcesses, AreServers, AreThreads, AreWaits, IsCoherent, is_unbuilt}
 use Rattle.kernel_invariant.specs.Records.{item_in, owner_in, stage_in}
 
 -- calls
@@ -157,6 +158,37 @@ module _ (who : Leaving) where
       has_arguments (left_call who r).stage ≡ false → ((left_call who r).bytes ≡ []) × ((left_call who r).objects ≡ [])
   left_arguments r g e = arguments_at r.stage r refl g e
 
+-- notices
+
+-- the stage of a notice of door d, after the event
+abbrev pub left_notice_stage : Leaving → ℕ → NoticeStage → NoticeStage
+left_notice_stage who d notice.Waiting = if who.loses d then notice.Dropped else notice.Waiting
+left_notice_stage who d (notice.Given u) = if who.ends u.0 then notice.Over else notice.Given u
+left_notice_stage who d (notice.Entered u) = if who.ends u.0 then notice.Over else notice.Entered u
+left_notice_stage who d s = s
+
+module _ (who : Leaving) (d : ℕ) where
+  notice_was_waiting : (s : NoticeStage) → left_notice_stage who d s ≡ notice.Waiting → (s ≡ notice.Waiting) × (who.loses d ≡ false)
+  notice_was_waiting notice.Waiting e = (refl, grind arith)
+  notice_was_waiting (notice.Given u) e = absurd (grind arith)
+  notice_was_waiting (notice.Entered u) e = absurd (grind arith)
+  notice_was_waiting notice.Over e = absurd (grind arith)
+  notice_was_waiting notice.Dropped e = absurd (grind arith)
+
+  notice_was_given : (s : NoticeStage) (u : ℕ) → left_notice_stage who d s ≡ notice.Given (tid u) → (s ≡ notice.Given (tid u)) × (who.ends u ≡ false)
+  notice_was_given notice.Waiting u e = absurd (grind arith)
+  notice_was_given (notice.Given v) u e = (grind arith, grind arith)
+  notice_was_given (notice.Entered v) u e = absurd (grind arith)
+  notice_was_given notice.Over u e = absurd (grind arith)
+  notice_was_given notice.Dropped u e = absurd (grind arith)
+
+  notice_was_entered : (s : NoticeStage) (u : ℕ) → left_notice_stage who d s ≡ notice.Entered (tid u) → (s ≡ notice.Entered (tid u)) × (who.ends u ≡ false)
+  notice_was_entered notice.Waiting u e = absurd (grind arith)
+  notice_was_entered (notice.Given v) u e = absurd (grind arith)
+  notice_was_entered (notice.Entered v) u e = (grind arith, grind arith)
+  notice_was_entered notice.Over u e = absurd (grind arith)
+  notice_was_entered notice.Dropped u e = absurd (grind arith)
+
 -- threads
 
 -- thread u after the event, by its state and its invocation
@@ -241,6 +273,13 @@ module _ (k : Core) (who : Leaving) (now u : ℕ) (s : ThreadState) (v : Option 
   still_calling (cancels x a b c d f g j) i e l = g ∙ e
   still_calling (stays a b c d) i e f = c ∙ e
 
+  -- a thread that was given a notice and does not end
+  keeps_given_notice : LeftThread k who now u s v → (n : ℕ) → k.role u ≡ is.Given (item.Notice n) → who.ends u ≡ false → s ≡ is.Given (item.Notice n)
+  keeps_given_notice (ends a b c) n e f = absurd (grind arith)
+  keeps_given_notice (parks x a b c d g j) n e f = absurd (grind (arith, given_role k h u x b c))
+  keeps_given_notice (cancels x a b c d f g j) n e l = g ∙ e
+  keeps_given_notice (stays a b c d) n e f = c ∙ e
+
   -- what it serves
   pub record Served (i : Item) : Type 0 where
     pub stays : who.ends u ≡ false
@@ -294,7 +333,8 @@ pub record LeftCore (k : Core) (who : Leaving) (now : ℕ) (l : Core) : Type 0 w
   pub bound : (u : ℕ) → l.bound u ≡ k.bound u
   pub call : (c : ℕ) → l.call c ≡ option_map (left_call who) (k.call c)
   pub made : l.made ≡ k.made
-  pub no_notice : (n : ℕ) → l.notice n ≡ None
+  pub notice : (n : ℕ) → l.notice n ≡ option_map (left_notice_stage who (k.noticed n)) (k.notice n)
+  pub noticed : (n : ℕ) → l.noticed n ≡ k.noticed n
   pub door_there : (d : ℕ) → is_some (l.door d) ≡ is_some (k.door d)
   pub door_owner : (d : ℕ) → owner_in (l.door d) ≡ owner_in (k.door d)
   pub door_no_cancel : (d : ℕ) → no_cancel_of (l.door d) ≡ no_cancel_of (k.door d)
@@ -316,6 +356,12 @@ caller_same who (Some r) = ap (λ t. t.0) (left_fields who r).caller
 door_same : (who : Leaving) (o : Option Call) → door_in (option_map (left_call who) o) ≡ door_in o
 door_same who None = refl
 door_same who (Some r) = (left_fields who r).door
+
+-- a notice at this stage after the event was at that one before it
+record NoticeBefore (k : Core) (who : Leaving) (n : ℕ) (x : NoticeStage) : Type 0 where
+  stage : NoticeStage
+  there : k.notice n ≡ Some stage
+  same : left_notice_stage who (k.noticed n) stage ≡ x
 
 module _ (k : Core) (who : Leaving) (now : ℕ) (l : Core) (h : IsCoherent k) (p : LeftCore k who now l) where
   -- a call that is found has its number
@@ -413,22 +459,82 @@ module _ (k : Core) (who : Leaving) (now : ℕ) (l : Core) (h : IsCoherent k) (p
           let before : underway_in (k.call c) ≡ true = ap underway_in f ∙ ap (λ x. is_underway x.stage) (sym same) ∙ e in
           ap (λ x. x.abandoned) same ∙ sym (ap abandoned_in f) ∙ h.invocations.kept c before
 
+  -- the stage of a notice before the event, by that after it
+  notice_before : (n : ℕ) (x : NoticeStage) → l.notice n ≡ Some x → NoticeBefore k who n x
+  notice_before n x e = go (k.notice n) refl (sym (p.notice n) ∙ e)
+    where
+      go : (o : Option NoticeStage) → k.notice n ≡ o → option_map (left_notice_stage who (k.noticed n)) o ≡ Some x → NoticeBefore k who n x
+      go None f g = absurd (grind arith)
+      go (Some s) f g = record { stage = s; there = f; same = some_is _ _ g }
+
   left_notices_given : AreNoticesGiven l.role l.notice
   left_notices_given =
       record {
-        notice_given = λ n u e. absurd (grind (arith, p.no_notice n));
-        notice_given_back = λ n u e. absurd (grind (arith, still_built k who now u _ _ h (p.thread u)));
+        notice_given =
+            λ n u e.
+            let b : NoticeBefore k who n (notice.Given (tid u)) = notice_before n _ e in
+            let w : (b.stage ≡ notice.Given (tid u)) × (who.ends u ≡ false) = notice_was_given who (k.noticed n) b.stage u b.same in
+            keeps_given_notice k who now u _ _ h (p.thread u) n (h.notices_given.notice_given n u (b.there ∙ ap (λ s. Some s) w.0)) w.1;
+        notice_given_back =
+            λ n u e.
+            let w : Was k who now u (l.role u) (l.serves u) h = was_given_item k who now u _ _ h (p.thread u) (item.Notice n) e in
+            p.notice n
+            ∙ ap (option_map (left_notice_stage who (k.noticed n))) (h.notices_given.notice_given_back n u (w.role ∙ e))
+            ∙ ap (λ (b : Bool). Some (if b then notice.Over else notice.Given (tid u))) w.stays;
       }
 
-  left_notices_entered : ((n : ℕ) → k.notice n ≡ None) → AreNoticesEntered l.serves l.notice
-  left_notices_entered none =
+  left_notices_entered : AreNoticesEntered l.serves l.notice
+  left_notices_entered =
       record {
-        notice_entered = λ n u e. absurd (grind (arith, p.no_notice n));
+        notice_entered =
+            λ n u e.
+            let b : NoticeBefore k who n (notice.Entered (tid u)) = notice_before n _ e in
+            let w : (b.stage ≡ notice.Entered (tid u)) × (who.ends u ≡ false) = notice_was_entered who (k.noticed n) b.stage u b.same in
+            still_serves k who now u _ _ h (p.thread u) (item.Notice n)
+            (h.notices_entered.notice_entered n u (b.there ∙ ap (λ s. Some s) w.0)) w.1;
         notice_entered_back =
             λ n u e.
             let w : Served k who now u (l.role u) (l.serves u) h (item.Notice n) = did_serve k who now u _ _ h (p.thread u) (item.Notice n) e in
-            absurd (grind (arith, h.notices_entered.notice_entered_back n u w.item, none n));
+            p.notice n
+            ∙ ap (option_map (left_notice_stage who (k.noticed n))) (h.notices_entered.notice_entered_back n u w.item)
+            ∙ ap (λ (b : Bool). Some (if b then notice.Over else notice.Entered (tid u))) w.stays;
       }
+
+  notice_owner_same : (n : ℕ) → owner_in (l.door (l.noticed n)) ≡ owner_in (k.door (k.noticed n))
+  notice_owner_same n = p.door_owner (l.noticed n) ∙ ap (λ d. owner_in (k.door d)) (p.noticed n)
+
+  left_notices_at_doors : AreNoticesAtDoors l.notice l.noticed l.door l.process
+  left_notices_at_doors =
+      record {
+        notice_door =
+            λ n e. p.door_there (l.noticed n)
+            ∙ ap (λ d. is_some (k.door d)) (p.noticed n)
+            ∙ h.notices_at_doors.notice_door n (was_there _ (k.notice n) (sym (ap is_some (p.notice n)) ∙ e));
+        notice_valid =
+            λ n e.
+            let b : NoticeBefore k who n notice.Waiting = notice_before n _ e in
+            let w : (b.stage ≡ notice.Waiting) × (who.loses (k.noticed n) ≡ false) = notice_was_waiting who (k.noticed n) b.stage b.same in
+            ap (λ d. is_valid_in (l.door d)) (p.noticed n)
+            ∙ p.door_valid (k.noticed n) (h.notices_at_doors.notice_valid n (b.there ∙ ap (λ s. Some s) w.0)) w.1;
+        notice_given_owner =
+            λ n u e.
+            let b : NoticeBefore k who n (notice.Given (tid u)) = notice_before n _ e in
+            let w : (b.stage ≡ notice.Given (tid u)) × (who.ends u ≡ false) = notice_was_given who (k.noticed n) b.stage u b.same in
+            notice_owner_same n
+            ∙ h.notices_at_doors.notice_given_owner n u (b.there ∙ ap (λ s. Some s) w.0)
+            ∙ ap (λ i. Some i) (sym (p.process u));
+        notice_entered_owner =
+            λ n u e.
+            let b : NoticeBefore k who n (notice.Entered (tid u)) = notice_before n _ e in
+            let w : (b.stage ≡ notice.Entered (tid u)) × (who.ends u ≡ false) = notice_was_entered who (k.noticed n) b.stage u b.same in
+            notice_owner_same n
+            ∙ h.notices_at_doors.notice_entered_owner n u (b.there ∙ ap (λ s. Some s) w.0)
+            ∙ ap (λ i. Some i) (sym (p.process u));
+      }
+    where
+      was_there : {X Y : Type 0} (f : X → Y) (o : Option X) → is_some (option_map f o) ≡ true → is_some o ≡ true
+      was_there f None e = grind arith
+      was_there f (Some x) e = refl
 
   left_servers : AreServers l.role l.serves l.made
   left_servers =
@@ -540,13 +646,14 @@ module _ (k : Core) (who : Leaving) (now : ℕ) (l : Core) (h : IsCoherent k) (p
             ∙ p.proc_there (k.process t) (h.threads.process_there t n (sym (p.number t) ∙ e));
       }
 
-  pub leaving_keeps : ((n : ℕ) → k.notice n ≡ None) → IsCoherent l
-  leaving_keeps none =
+  pub leaving_keeps : IsCoherent l
+  leaving_keeps =
       record {
         waits = left_waits;
         invocations = left_invocations;
         notices_given = left_notices_given;
-        notices_entered = left_notices_entered none;
+        notices_entered = left_notices_entered;
+        notices_at_doors = left_notices_at_doors;
         servers = left_servers;
         calls = left_call_parts;
         at_doors = left_at_doors;

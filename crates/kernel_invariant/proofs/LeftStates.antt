@@ -1,7 +1,8 @@
 -- A state after callers were interrupted, threads ended, and doors became invalid: it is consistent, calls take the arrows of
 -- leaving, and so do the invocations of threads.
-use Rattle.std.specs.Prelude.{ℕ, ◌≡◌, ◌⊎◌, ◌||◌, [], List, Option, Bool, true, false, if◌then◌else◌, Some, None, find, is_some, length, map, option_map}
-use Rattle.std.proofs.Common.{refl, sym, ap, subst, ◌∙◌, inl, inr, ⊎_elim}
+use Rattle.std.specs.Prelude.{ℕ, ◌≡◌, ◌⊎◌, ◌||◌, ◌==◌, [], ◌∷◌, List, Option, Bool, true, false, if◌then◌else◌, Some, None, find, is_some, length, map, option_map}
+use Rattle.std.specs.List.{list_any}
+use Rattle.std.proofs.Common.{refl, sym, ap, ap₂, subst, ◌∙◌, inl, inr, ⊎_elim}
 use native.Mathlib.Omega.{arith}
 use Rattle.std.proofs.lemmas.List.{length-map}
 use Rattle.std.proofs.lemmas.Bool.Decides.{nat_tests}
@@ -9,24 +10,27 @@ use Rattle.dk_base.specs.ByNumber.{at_number}
 use Rattle.dk_base.specs.declared.error.Errno.TheVariants.{EBADF, EINTR}
 use Rattle.dk_base.specs.declared.object.Item.TheVariants as item
 use Rattle.dk_base.specs.declared.request.Request.TheVariants as request
-use Rattle.written_kernel.specs.Types.{Answer, Call, CallStage, Door, Fd, Inv, Obj, Process, Request, Thread, ThreadState}
+use Rattle.written_kernel.specs.Types.{Answer, Call, CallStage, Door, Fd, Inv, Notice, NoticeStage, Obj, Process, Request, Thread, ThreadState}
 use Rattle.kernel_records.specs.declared.record.ThreadState.TheVariants as is
 use Rattle.kernel_records.specs.declared.record.CallStage.TheVariants as stage
-use Rattle.kernel_records.specs.Words.{Leaving, abandoned_at, broken_call_at, cancelled_invocation, without_arguments_at, deserted_at, deserted_in, ended_thread, ended_where, gone_call_at, interrupted_state, interrupted_thread, interrupted_where, invocation_in, is_entered_by, is_given_to, is_left, is_live, is_private_in, is_served_by, is_valid_in, left_call, left_notice, left_thread, left_thread_of, left_threads, no_cancel_of, object_named, process_in, state_in, table_in, tid}
+use Rattle.kernel_records.specs.declared.record.NoticeStage.TheVariants as notice
+use Rattle.kernel_records.specs.Words.{Leaving, abandoned_at, broken_call_at, cancelled_invocation, without_arguments_at, deserted_at, deserted_in, ended_thread, ended_where, gone_call_at, interrupted_state, interrupted_thread, interrupted_where, invocation_in, is_entered_by, is_given_to, is_left, is_live, is_notice_of, is_private_in, is_served_by, is_valid_in, left_call, left_notice, left_notice_at, left_thread, left_thread_of, left_threads, no_cancel_of, notice_at, object_named, process_in, state_in, table_in, tid}
 use Rattle.written_kernel.specs.Words.{State, door_of, invocation_of, is_valid, leave, now, process_of, state_of, thread_of}
-use Rattle.kernel_invariant.specs.Records.{item_in, owner_in, record_of, stage_in}
-use Rattle.kernel_invariant.specs.Core.{abandoned_in, caller_number, core, door_in, ended_in, has_arguments, is_outside, is_underway, live_in, number_in, underway_in}
+use Rattle.kernel_invariant.specs.Records.{item_in, notice_of, owner_in, record_of, stage_in}
+use Rattle.kernel_invariant.specs.Core.{abandoned_in, caller_number, core, door_in, ended_in, has_arguments, is_outside, is_underway, live_in, notice_in, noticed_in, number_in, underway_in}
 use Rattle.kernel_invariant.specs.Coherent.{AreDoors, is_unbuilt}
 use Rattle.kernel_invariant.specs.Invariant.{IsConsistent}
-use Rattle.kernel_invariant.specs.Arrows.{ByAct, EndsNow}
+use Rattle.kernel_invariant.specs.Arrows.{ByAct, EndsNow, NoticeByAct}
 use Rattle.kernel_invariant.specs.Arrows.ByAct.{stays, ends, breaks_off, leaves}
+use Rattle.kernel_invariant.specs.Arrows.NoticeByAct.{stays as notice_stays, drops as notice_drops, ends as notice_ends}
 use Rattle.kernel_invariant.specs.Arrows.EndsBy.{door_invalid, interrupted, server_ended}
 use Rattle.kernel_invariant.specs.Events.{InvocationArrow, IsLeft}
 use Rattle.kernel_invariant.specs.Events.InvocationArrow.{stays as invocation_stays, cancels as invocation_cancels, leaves as invocation_leaves}
 use Rattle.kernel_invariant.specs.Events.IsLeft.{interrupted as is_interrupted, caller_ends}
 use Rattle.written_kernel.proofs.Lists.{at_number-map}
 use Rattle.kernel_invariant.proofs.Calls.{IsInOrder-map, find-found, find-map, find-none, find-passes}
-use Rattle.kernel_invariant.proofs.LeftCores.{LeftCore, LeftThread, ended_now, leaving_keeps, left_fields, still_calling}
+use Rattle.kernel_invariant.proofs.Notices.{AreNoticesInOrder-map, notice-map}
+use Rattle.kernel_invariant.proofs.LeftCores.{LeftCore, LeftThread, ended_now, leaving_keeps, left_fields, left_notice_stage, still_calling}
 use Rattle.kernel_invariant.proofs.LeftCores.LeftThread.{ends as thread_ends, parks as thread_parks, cancels as thread_cancels, stays as thread_stays}
 use Rattle.kernel_invariant.proofs.Acts.{Does, act_result}
 
@@ -202,6 +206,19 @@ left_thread_fields who now o x = go (who.ends x.number)
     go true = record { number = refl; process = refl }
     go false = at_interrupt (who.interrupts x.number)
 
+-- the number and the door of a notice stay
+
+record LeavesNotice (who : Leaving) (s : NoticeStage) (x y : Notice) : Type 0 where
+  number : y.number ≡ x.number
+  door : y.door ≡ x.door
+  stage : y.stage ≡ left_notice_stage who x.door s
+
+left_notice_fields : (who : Leaving) (s : NoticeStage) (x : Notice) → x.stage ≡ s → LeavesNotice who s x (left_notice_at who s x)
+left_notice_fields who notice.Waiting x e = record { number = grind arith; door = grind arith; stage = grind arith }
+left_notice_fields who (notice.Given u) x e = record { number = grind arith; door = grind arith; stage = grind arith }
+left_notice_fields who (notice.Entered u) x e = record { number = grind arith; door = grind arith; stage = grind arith }
+left_notice_fields who s x e = record { number = refl; door = refl; stage = e }
+
 -- the whole
 
 module _ (m : State) (q : Option Request) (who : Leaving) (processes : List Process) (tables : List (List (Option Obj))) (doors : List Door) where
@@ -216,6 +233,22 @@ module _ (m : State) (q : Option Request) (who : Leaving) (processes : List Proc
 
   pub calls_after : (c : ℕ) → record_of after c ≡ option_map (left_call who) (record_of m c)
   calls_after c = find-map (left_call who) left_number m.call_tree.calls c
+
+  -- notices
+
+  left_notice_number : (x : Notice) → (left_notice who x).number ≡ x.number
+  left_notice_number x = (left_notice_fields who x.stage x refl).number
+
+  pub notices_after : (n : ℕ) → notice_of after n ≡ option_map (left_notice who) (notice_of m n)
+  notices_after n = notice-map (left_notice who) left_notice_number m.notice_list.notices n
+
+  stage_after : (o : Option Notice) → notice_in (option_map (left_notice who) o) ≡ option_map (left_notice_stage who (noticed_in o)) (notice_in o)
+  stage_after None = refl
+  stage_after (Some x) = ap (λ s. Some s) (left_notice_fields who x.stage x refl).stage
+
+  door_after : (o : Option Notice) → noticed_in (option_map (left_notice who) o) ≡ noticed_in o
+  door_after None = refl
+  door_after (Some x) = (left_notice_fields who x.stage x refl).door
 
   -- an event of leaving keeps of a thread what it is
   kept_process : (o : Option Thread) → process_in (option_map (left_thread_of who (now m) m.call_tree.calls) o) ≡ process_in o
@@ -252,12 +285,6 @@ module _ (m : State) (q : Option Request) (who : Leaving) (processes : List Proc
             number
             (left_thread_is m who h x (ap (λ j. thread_of m j) number ∙ e)))
 
-    no_notice : (n : ℕ) → (core m).notice n ≡ None
-    no_notice n = grind (arith, nat_tests, h.unbuilt.no_notices)
-
-    none_after : after.notice_list.notices ≡ []
-    none_after = ap (map (left_notice who)) h.unbuilt.no_notices
-
     left_core : LeftCore (core m) who (now m) (core after)
     left_core =
         record {
@@ -267,7 +294,8 @@ module _ (m : State) (q : Option Request) (who : Leaving) (processes : List Proc
           bound = λ u. refl;
           call = calls_after;
           made = refl;
-          no_notice = λ n. grind (arith, nat_tests, none_after);
+          notice = λ n. ap notice_in (notices_after n) ∙ stage_after (notice_of m n);
+          noticed = λ n. ap noticed_in (notices_after n) ∙ door_after (notice_of m n);
           door_there = may.door_there;
           door_owner = may.door_owner;
           door_no_cancel = may.door_no_cancel;
@@ -283,10 +311,11 @@ module _ (m : State) (q : Option Request) (who : Leaving) (processes : List Proc
         record {
           in_order = IsInOrder-map (left_call who) left_number m.call_tree.calls 0 h.in_order;
           counted = length-map m.call_tree.calls (left_call who) ∙ h.counted;
-          coherent = leaving_keeps (core m) who (now m) (core after) h.coherent left_core no_notice;
+          coherent = leaving_keeps (core m) who (now m) (core after) h.coherent left_core;
           tables = may.counted;
           no_rows = may.no_rows;
-          unbuilt = record { no_notices = none_after };
+          notices_in_order = AreNoticesInOrder-map (left_notice who) left_notice_number m.notice_list.notices 0 h.notices_in_order;
+          notices_counted = length-map m.notice_list.notices (left_notice who) ∙ h.notices_counted;
         }
 
     -- calls
@@ -374,16 +403,68 @@ module _ (m : State) (q : Option Request) (who : Leaving) (processes : List Proc
           go true e = gone_arrow r.stage refl e
           go false e = broken_arrow r.stage refl e
 
+    -- notices
+
+    module _ (t : ℕ) (a : Answer) (c : ℕ) (x : Notice) (there : notice_of m c ≡ Some x) where
+      stage_is : (s : NoticeStage) → x.stage ≡ s → (core m).notice c ≡ Some s
+      stage_is s e = ap notice_in there ∙ ap (λ z. Some z) e
+
+      notice_ends_now : (u : ℕ) → who.ends u ≡ true → (state_of m u ≡ is.Done → ⊥) → EndsNow m after u
+      notice_ends_now u e f = record { before = f; after = ended_now (core m) who (now m) u _ _ h.coherent (thread_after u) e }
+
+      was_given_notice : (u : ℕ) → x.stage ≡ notice.Given (tid u) → state_of m u ≡ is.Done → ⊥
+      was_given_notice u e f =
+          let given : state_of m u ≡ is.Given (item.Notice c) = h.coherent.notices_given.notice_given c u (stage_is _ e) in
+          grind arith
+
+      had_entered_notice : (u : ℕ) → x.stage ≡ notice.Entered (tid u) → state_of m u ≡ is.Done → ⊥
+      had_entered_notice u e f =
+          let entered : item_in (invocation_of m u) ≡ Some (item.Notice c) = h.coherent.notices_entered.notice_entered c u (stage_is _ e) in
+          let none : invocation_of m u ≡ None = h.coherent.servers.outside u (ap is_outside f) in
+          grind arith
+
+      notice_arrow : (s : NoticeStage) → x.stage ≡ s → NoticeByAct m t q a after (Some x) (Some (left_notice_at who s x))
+      notice_arrow notice.Waiting e = go (who.loses x.door) refl
+        where
+          go : (b : Bool) → who.loses x.door ≡ b → NoticeByAct m t q a after (Some x) (Some (if b then notice_at notice.Dropped x else x))
+          go true g =
+              let valid : is_valid m x.door ≡ true =
+              ap (λ o. is_valid m (noticed_in o)) (sym there) ∙ h.coherent.notices_at_doors.notice_valid c (stage_is _ e)
+              in
+              notice_drops x e valid (may.door_lost x.door g)
+          go false g = notice_stays
+      notice_arrow (notice.Given u) e = go (who.ends u.0) refl
+        where
+          go : (b : Bool) → who.ends u.0 ≡ b → NoticeByAct m t q a after (Some x) (Some (if b then notice_at notice.Over x else x))
+          go true g = notice_ends x u.0 (inl e) (notice_ends_now u.0 g (was_given_notice u.0 e))
+          go false g = notice_stays
+      notice_arrow (notice.Entered u) e = go (who.ends u.0) refl
+        where
+          go : (b : Bool) → who.ends u.0 ≡ b → NoticeByAct m t q a after (Some x) (Some (if b then notice_at notice.Over x else x))
+          go true g = notice_ends x u.0 (inr e) (notice_ends_now u.0 g (had_entered_notice u.0 e))
+          go false g = notice_stays
+      notice_arrow s e = notice_stays
+
     pub leaving_does : (t : ℕ) (a : Answer) → Does m t q (act_result after a)
     leaving_does t a =
         record {
           consistent = left_consistent;
           arrows = λ c. subst (λ o. ByAct m t q a after (record_of m c) o) (sym (calls_after c)) (go c (record_of m c) refl);
+          notices = λ c. subst (λ o. NoticeByAct m t q a after (notice_of m c) o) (sym (notices_after c)) (at_notice c (notice_of m c) refl);
+          kept = record { none_made = λ c e. notices_after c ∙ ap (option_map (left_notice who)) e; had = λ d. had d m.notice_list.notices };
         }
       where
         go : (c : ℕ) (o : Option Call) → record_of m c ≡ o → ByAct m t q a after o (option_map (left_call who) o)
         go c None e = stays
         go c (Some r) e = left_arrow t a c r e
+
+        had : (d : ℕ) (xs : List Notice) → list_any (is_notice_of d) (map (left_notice who) xs) ≡ list_any (is_notice_of d) xs
+        had d [] = refl
+        had d (x ∷ xs) = ap₂ (λ (e : ℕ) (b : Bool). (e == d) || b) (left_notice_fields who x.stage x refl).door (had d xs)
+
+        at_notice : (c : ℕ) (o : Option Notice) → notice_of m c ≡ o → NoticeByAct m t q a after o (option_map (left_notice who) o)
+        at_notice c None e = notice_stays
+        at_notice c (Some x) e = notice_arrow t a c x e x.stage refl
 
     -- invocations
 

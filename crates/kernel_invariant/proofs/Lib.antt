@@ -1,10 +1,13 @@
 pub mod Calls
+pub mod Notices
 pub mod Cores
 pub mod Parts
 pub mod CallMoves
+pub mod NoticeMoves
 pub mod ThreadMoves
 pub mod Later
 pub mod Acts
+pub mod NoticeActs
 pub mod CallActs
 pub mod LeftCores
 pub mod LeftStates
@@ -13,6 +16,7 @@ pub mod Failing
 pub mod Picks
 pub mod Settling
 pub mod Steps
+pub mod NoticeSteps
 pub mod Serving
 pub mod Doors
 pub mod Answers

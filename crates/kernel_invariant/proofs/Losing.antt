@@ -4,13 +4,13 @@ use Rattle.std.specs.Prelude.{ℕ, ◌≡◌, ◌+◌, ◌&&◌, List, Option, B
 use Rattle.std.proofs.Common.{refl, ap, ap₂, ◌∙◌}
 use native.Mathlib.Omega.{arith}
 use Rattle.std.proofs.lemmas.Bool.Decides.{nat_tests}
-use Rattle.written_kernel.specs.Types.{Attrs, Call, Door, Errno, Item, Name, Param, Pass, PathId, Request, Thread, ThreadState}
+use Rattle.written_kernel.specs.Types.{Attrs, Call, Door, Errno, Item, Name, Notice, Param, Pass, PathId, Request, Thread, ThreadState}
 use Rattle.dk_base.specs.ByNumber.{at_number, with_at_number}
 use Rattle.dk_base.specs.declared.object.Item.TheVariants as item
 use Rattle.dk_base.specs.declared.request.Request.TheVariants as request
 use Rattle.kernel_records.specs.declared.record.ThreadState.TheVariants as is
-use Rattle.kernel_records.specs.Words.{bound_in, change_thread, idle_thread, is_given_as, is_idle, is_valid_in, new_door, set_param, state_in, thread_at, thread_at_state, thread_in_invocation, thread_outside, with_door, with_param}
-use Rattle.written_kernel.specs.Words.{MayTurn, State, accept, accept_call, act, await, await_name, begin_call, bound_of, door_of, effect, enter, fail_begin, find_call, go_on, has_invalid_door, has_lost_door, has_room, is_bound_to_invalid, is_valid, name_of, now, process_of, refusal_of, return, return_parked, return_unbound, state_of, unless_refused}
+use Rattle.kernel_records.specs.Words.{bound_in, change_thread, idle_thread, is_given_as, is_given_notice_as, is_idle, is_valid_in, new_door, set_param, state_in, thread_at, thread_at_state, thread_in_invocation, thread_outside, with_door, with_param}
+use Rattle.written_kernel.specs.Words.{MayTurn, State, accept, accept_call, accept_notice, act, await, await_name, begin_call, bound_of, door_of, effect, enter, fail_begin, find_call, find_notice, go_on, has_invalid_door, has_lost_door, has_room, is_bound_to_invalid, is_valid, name_of, now, process_of, refusal_of, return, return_parked, return_unbound, state_of, unless_refused}
 use Rattle.written_kernel.proofs.Doors.{at_number-change_door}
 use Rattle.written_kernel.proofs.Lists.{at_number-with_at_number, numbered_push}
 use Rattle.written_kernel.proofs.Threads.{thread_at-change_thread}
@@ -132,7 +132,11 @@ enter_spares m t p r l = go (refusal_of m t p r)
 -- the ends of waits
 
 accept_spares : (m : State) (t p : ℕ) (i : Item) → SparesOthers m t (accept m t p i).state
-accept_spares m t p (item.Notice n) = spares_all m t
+accept_spares m t p (item.Notice c) = go (find_notice m (is_given_notice_as c t))
+  where
+    go : (o : Option Notice) → SparesOthers m t (accept_notice m t c o).state
+    go None = spares_all m t
+    go (Some x) = record { state = spared_state m t (thread_in_invocation (item.Notice c)); bound = λ u f. refl; valid = λ d e. e }
 accept_spares m t p (item.Call c) = go (find_call m (is_given_as c t))
   where
     by_room : (r : Call) (b : Bool) → SparesOthers m t (if b then begin_call m t p c r else fail_begin m t c r).state
@@ -221,7 +225,11 @@ enter_own m t p r l e f = go (refusal_of m t p r)
 
 accept_own :
     (m : State) (t p : ℕ) (i : Item) → has_lost_door m t ≡ false → has_invalid_door m t ≡ false → has_lost_door (accept m t p i).state t ≡ false
-accept_own m t p (item.Notice n) l f = l
+accept_own m t p (item.Notice c) l f = go (find_notice m (is_given_notice_as c t))
+  where
+    go : (o : Option Notice) → has_lost_door (accept_notice m t c o).state t ≡ false
+    go None = l
+    go (Some x) = not_idle (accept_notice m t c (Some x)).state t (own_turned m t (thread_in_invocation (item.Notice c)) (λ y. refl))
 accept_own m t p (item.Call c) l f = go (find_call m (is_given_as c t))
   where
     by_room : (r : Call) (b : Bool) → has_lost_door (if b then begin_call m t p c r else fail_begin m t c r).state t ≡ false

@@ -13,7 +13,7 @@ use Rattle.written_kernel.proofs.Lists.{numbered_there}
 use Rattle.written_kernel.proofs.Opening.{bound_of-opening, invocation_of-opening, length-tables_opening, object_at-opening, opened, state_of-opening, waiting_items-opening}
 use Rattle.kernel_invariant.specs.Core.{Core, core, number_in, ended_in}
 use Rattle.kernel_invariant.specs.Coherent.{IsCoherent}
-use Rattle.kernel_invariant.specs.Invariant.{IsInOrder, Invariant}
+use Rattle.kernel_invariant.specs.Invariant.{AreNoticesInOrder, IsInOrder, Invariant}
 
 abbrev may_open : ThreadState → Bool
 may_open is.Dormant = true
@@ -46,6 +46,13 @@ coherent_of k calls doors notices states outside numbers unbound living there =
       notices_given = record { notice_given = λ n v e. grind (arith, notices n); notice_given_back = λ n v e. grind (arith, states v) };
       notices_entered =
           record { notice_entered = λ n v e. grind (arith, notices n); notice_entered_back = λ n v e. grind (arith, outside v) };
+      notices_at_doors =
+          record {
+            notice_door = λ n e. grind (arith, notices n);
+            notice_valid = λ n e. grind (arith, notices n);
+            notice_given_owner = λ n v e. grind (arith, notices n);
+            notice_entered_owner = λ n v e. grind (arith, notices n);
+          };
       servers =
           record {
             outside = λ v e. grind (arith, outside v);
@@ -123,7 +130,8 @@ module _ (m : State) (o : IsOpening m) where
                   coherent_of (core m) no_call_at_first no_door no_notice states (invocation_of-opening o) numbers (bound_of-opening o) living there;
               tables = length-tables_opening o;
               no_rows = λ p fd e. object_at-opening o p fd;
-              unbuilt = record { no_notices = ap (λ (list : NoticeList). list.notices) (opened o).notice_list };
+              notices_in_order = subst (λ (list : NoticeList). AreNoticesInOrder 0 list.notices) (sym (opened o).notice_list) tt;
+              notices_counted = subst (λ (list : NoticeList). length list.notices ≡ list.made) (sym (opened o).notice_list) refl;
             };
         idle_valid = λ t d since e f. grind (arith, states t);
         given_out =

@@ -7,6 +7,7 @@ use Rattle.written_kernel.specs.Types.{Errno, Parked, Request, Waiting}
 use Rattle.kernel_records.specs.declared.pool.Pool.TheVariants.{Common}
 use Rattle.kernel_records.specs.Words.{has_common_door, pid}
 use Rattle.written_kernel.specs.Words.{State, effect, give_each, give_to, has_lost_door, needs_spare, pick, pool_of, process_of, refusal_of, settle, start_each, start_one, start_spares, step, unless_refused, waiting_items, with_event_counted}
+use Rattle.written_kernel.proofs.Notices.{make_notices-same}
 use Rattle.written_kernel.proofs.Settling.{settle-none}
 use Rattle.kernel_invariant.specs.Invariant.{Invariant}
 use Rattle.kernel_invariant.proofs.Settling.{no_lost_door}
@@ -36,7 +37,7 @@ settles_nothing :
     (m : State) → ((u : ℕ) → has_lost_door m u ≡ false) → All (λ w. pick m (pool_of m w.door) ≡ None) (waiting_items m) →
     settle m m ≡ m
 settles_nothing m lost h =
-    settle-none m m lost
+    settle-none m m lost (make_notices-same m)
     ∙ ap (start_spares m m) (gives_nothing m (waiting_items m) h)
     ∙ starts_nothing m (length m.process_table.processes)
 

@@ -4,23 +4,25 @@ use Rattle.std.specs.Prelude.{ℕ, ◌≡◌, ◌&&◌, List, Option, Bool, true
 use Rattle.std.proofs.Common.{refl, sym, ap, subst, ◌∙◌}
 use native.Mathlib.Omega.{arith}
 use Rattle.std.proofs.lemmas.Bool.Decides.{nat_tests}
-use Rattle.written_kernel.specs.Types.{Answer, Call, Errno, Inv, Item, Name, Pass, PathId, Request, ThreadState}
+use Rattle.written_kernel.specs.Types.{Answer, Call, Errno, Inv, Item, Name, Notice, Pass, PathId, Request, ThreadState}
 use Rattle.dk_base.specs.declared.error.Errno.TheVariants.{EINVAL}
 use Rattle.dk_base.specs.declared.object.Item.TheVariants as item
 use Rattle.dk_base.specs.declared.request.Request.TheVariants as request
 use Rattle.dk_base.specs.declared.answer.Answer.TheVariants as answer
 use Rattle.kernel_records.specs.declared.record.ThreadState.TheVariants as is
-use Rattle.kernel_records.specs.Words.{first_refusal, invocation_in, is_given_as, new_invocation, thread_at, thread_outside, enter_thread}
-use Rattle.written_kernel.specs.Words.{ActResult, MayTurn, State, accept, accept_call, act, await, await_name, begin_call, effect, enter, fail_begin, find_call, go_on, has_invalid_door, has_room, invocation_of, name_of, now, process_of, refusal_of, return, return_answer, return_parked, return_tests, return_unbound, settle, state_of, step, unless_refused, with_event_counted}
+use Rattle.kernel_records.specs.Words.{first_refusal, invocation_in, is_given_as, is_given_notice_as, new_invocation, thread_at, thread_outside, enter_thread}
+use Rattle.written_kernel.specs.Words.{ActResult, MayTurn, State, accept, accept_call, accept_notice, act, await, await_name, begin_call, effect, enter, fail_begin, find_call, find_notice, go_on, has_invalid_door, has_room, invocation_of, name_of, now, process_of, refusal_of, return, return_answer, return_parked, return_tests, return_unbound, settle, state_of, step, unless_refused, with_event_counted}
 use Rattle.written_kernel.proofs.Invocations.{invocation-enter_thread, invocation-park_thread, invocation-set_thread_state, invocation-without}
 use Rattle.kernel_invariant.specs.Core.{is_outside}
 use Rattle.kernel_invariant.specs.Invariant.{IsConsistent, Invariant}
-use Rattle.kernel_invariant.specs.Events.{InvocationArrow, IsCancelled, IsLeft}
+use Rattle.kernel_invariant.specs.Events.{Begins, InvocationArrow, IsCancelled, IsLeft}
 use Rattle.kernel_invariant.specs.Events.InvocationArrow.{stays, begins, cancels, ends, leaves}
 use Rattle.kernel_invariant.specs.Events.IsLeft.{interrupted, caller_ends}
 use Rattle.kernel_invariant.proofs.Acts.{there}
 use Rattle.kernel_invariant.proofs.Calls.{find-passes}
 use Rattle.kernel_invariant.proofs.CallActs.{given_is}
+use Rattle.kernel_invariant.proofs.Notices.{notice-passes}
+use Rattle.kernel_invariant.proofs.NoticeActs.{given_notice_is}
 use Rattle.kernel_invariant.proofs.Leaving.{exit_leaves, interrupt_leaves, kill_leaves, revoke_leaves}
 use Rattle.kernel_invariant.proofs.Later.{AreSameDone, ends_now_later}
 use Rattle.kernel_invariant.proofs.Steps.{StepDoes, step_does, running_is, same_done}
@@ -102,43 +104,57 @@ enter_serves m t r u h e = go (refusal_of m t (process_of m t) r) refl
     go (Some x) f = stays
     go None f = effect_serves m t r u h e f
 
--- the accept of a call begins an invocation
+-- the accept of a call or of a notice begins an invocation
 
-pub serves_after_accept :
-    (m : State) (t c u : ℕ) → state_of m t ≡ is.Given (item.Call c) →
-    invocation_in (thread_at (enter_thread m.process_table t (item.Call c)) u)
-    ≡ (if u == t then Some (new_invocation (item.Call c)) else invocation_of m u)
-serves_after_accept m t c u e =
-    invocation-enter_thread m.process_table t u (item.Call c)
-    ∙ ap (λ (b : Bool). if (u == t) && b then Some (new_invocation (item.Call c)) else invocation_of m u) (there m t (λ z. grind arith))
+serves_after_accept :
+    (m : State) (t u : ℕ) (i : Item) → state_of m t ≡ is.Given i →
+    invocation_in (thread_at (enter_thread m.process_table t i) u)
+    ≡ (if u == t then Some (new_invocation i) else invocation_of m u)
+serves_after_accept m t u i e =
+    invocation-enter_thread m.process_table t u i
+    ∙ ap (λ (b : Bool). if (u == t) && b then Some (new_invocation i) else invocation_of m u) (there m t (λ z. grind arith))
     ∙ grind arith
 
+-- a thread that was given an item has no invocation before it, and that of the item after it
+begun_serves :
+    (m : State) (t u : ℕ) (i : Item) (a : ActResult) → IsConsistent m → state_of m t ≡ is.Given i → Begins a.answer i →
+    ((v : ℕ) → invocation_of a.state v ≡ (if v == t then Some (new_invocation i) else invocation_of m v)) → Serves m t None a u
+begun_serves m t u i a h e b after = go (u == t) refl
+  where
+    go : (c : Bool) → (u == t) ≡ c → Serves m t None a u
+    go true g =
+        let same : u ≡ t = grind (arith, nat_tests) in
+        let now : invocation_of a.state u ≡ Some (new_invocation i) =
+        after u ∙ ap (λ (c : Bool). if c then Some (new_invocation i) else invocation_of m u) g
+        in
+        let free : invocation_of m u ≡ None = ap (λ (v : ℕ). invocation_of m v) same ∙ h.coherent.servers.outside t (ap is_outside e) in
+        subst (λ o. InvocationArrow m t None a.answer a.state u o (invocation_of a.state u)) (sym free)
+        (subst (λ o. InvocationArrow m t None a.answer a.state u None o) (sym now) (begins i same refl e b))
+    go false g = kept m t None a u (after u ∙ ap (λ (c : Bool). if c then Some (new_invocation i) else invocation_of m u) g)
+
 accept_serves : (m : State) (t p : ℕ) (i : Item) (u : ℕ) → IsConsistent m → state_of m t ≡ is.Given i → Serves m t None (accept m t p i) u
-accept_serves m t p (item.Notice n) u h e = stays
+accept_serves m t p (item.Notice c) u h e = go (find_notice m (is_given_notice_as c t)) refl
+  where
+    go : (o : Option Notice) → find_notice m (is_given_notice_as c t) ≡ o → Serves m t None (accept_notice m t c o) u
+    go None f = stays
+    go (Some x) f =
+        begun_serves m t u (item.Notice c) (accept_notice m t c (Some x)) h e
+        (ap (λ (n : ℕ). item.Notice n) (sym (given_notice_is c t x (notice-passes (is_given_notice_as c t) m.notice_list.notices x f)).0))
+        (λ v. serves_after_accept m t v (item.Notice c) e)
 accept_serves m t p (item.Call c) u h e = go (find_call m (is_given_as c t)) refl
   where
     -- a thread that was given a call has no invocation
     free : u ≡ t → invocation_of m u ≡ None
     free same = ap (λ (v : ℕ). invocation_of m v) same ∙ h.coherent.servers.outside t (ap is_outside e)
 
-    begun : (r : Call) → r.number ≡ c → (b : Bool) → (u == t) ≡ b → Serves m t None (begin_call m t p c r) u
-    begun r n true g =
-        let same : u ≡ t = grind (arith, nat_tests) in
-        let after : invocation_of (begin_call m t p c r).state u ≡ Some (new_invocation (item.Call c)) =
-        serves_after_accept m t c u e ∙ ap (λ (b : Bool). if b then Some (new_invocation (item.Call c)) else invocation_of m u) g in
-        subst (λ o. InvocationArrow m t None (begin_call m t p c r).answer (begin_call m t p c r).state u o (invocation_of (begin_call m t p c r).state u)) (sym (free same))
-        (subst (λ o. InvocationArrow m t None (begin_call m t p c r).answer (begin_call m t p c r).state u None o) (sym after)
-        (begins (item.Call c) same refl e (ap (λ (x : ℕ). item.Call x) (sym n))))
-    begun r n false g =
-        kept m t None (begin_call m t p c r) u
-        (serves_after_accept m t c u e ∙ ap (λ (b : Bool). if b then Some (new_invocation (item.Call c)) else invocation_of m u) g)
-
     -- where the accept fails it has none as before
     failed : (r : Call) → Serves m t None (fail_begin m t c r) u
     failed r = kept m t None (fail_begin m t c r) u (invocation-park_thread m.process_table t (now m) u ∙ grind (arith, nat_tests, free))
 
     by_room : (r : Call) → r.number ≡ c → (b : Bool) → Serves m t None (if b then begin_call m t p c r else fail_begin m t c r) u
-    by_room r n true = begun r n (u == t) refl
+    by_room r n true =
+        begun_serves m t u (item.Call c) (begin_call m t p c r) h e (ap (λ (x : ℕ). item.Call x) (sym n))
+        (λ v. serves_after_accept m t v (item.Call c) e)
     by_room r n false = failed r
 
     go : (o : Option Call) → find_call m (is_given_as c t) ≡ o → Serves m t None (accept_call m t p c o) u

@@ -75,7 +75,8 @@ counted_keeps m h =
       coherent = h.coherent;
       tables = h.tables;
       no_rows = h.no_rows;
-      unbuilt = record { no_notices = h.unbuilt.no_notices };
+      notices_in_order = h.notices_in_order;
+      notices_counted = h.notices_counted;
     }
 
 -- what an act and the kernel after it do

@@ -39,6 +39,7 @@ turn_keeps k t s h p q u =
       invocations = h.invocations;
       notices_given = notices_turn k.role k.notice t s h.notices_given (grind arith) (grind arith);
       notices_entered = h.notices_entered;
+      notices_at_doors = h.notices_at_doors;
       servers =
           record {
             outside = λ v e. grind (arith, nat_tests, h.servers.outside v);
@@ -69,6 +70,7 @@ start_keeps k t h p =
       invocations = h.invocations;
       notices_given = notices_turn k.role k.notice t is.Running h.notices_given (grind arith) refl;
       notices_entered = h.notices_entered;
+      notices_at_doors = h.notices_at_doors;
       servers =
           record {
             outside = λ v e. grind (arith, nat_tests, h.servers.outside v);
@@ -93,6 +95,13 @@ door_keeps k d h p q =
       invocations = h.invocations;
       notices_given = h.notices_given;
       notices_entered = h.notices_entered;
+      notices_at_doors =
+          record {
+            notice_door = λ n e. grind (arith, nat_tests, h.notices_at_doors.notice_door n);
+            notice_valid = λ n e. grind (arith, nat_tests, h.notices_at_doors.notice_valid n);
+            notice_given_owner = λ n u e. grind (arith, nat_tests, h.notices_at_doors.notice_given_owner n u);
+            notice_entered_owner = λ n u e. grind (arith, nat_tests, h.notices_at_doors.notice_entered_owner n u);
+          };
       servers = h.servers;
       calls = h.calls;
       at_doors =
@@ -147,6 +156,13 @@ limits_keep k d x y h there s =
       invocations = h.invocations;
       notices_given = h.notices_given;
       notices_entered = h.notices_entered;
+      notices_at_doors =
+          record {
+            notice_door = λ n e. reads is_some refl (k.noticed n) ∙ h.notices_at_doors.notice_door n e;
+            notice_valid = λ n e. reads is_valid_in valid (k.noticed n) ∙ h.notices_at_doors.notice_valid n e;
+            notice_given_owner = λ n u e. reads owner_in owner (k.noticed n) ∙ h.notices_at_doors.notice_given_owner n u e;
+            notice_entered_owner = λ n u e. reads owner_in owner (k.noticed n) ∙ h.notices_at_doors.notice_entered_owner n u e;
+          };
       servers = h.servers;
       calls = h.calls;
       at_doors =
@@ -223,6 +239,7 @@ give_keeps k r u h p =
           };
       notices_given = notices_turn k.role k.notice u _ h.notices_given (grind (arith, p.idle)) refl;
       notices_entered = h.notices_entered;
+      notices_at_doors = h.notices_at_doors;
       servers =
           record {
             outside = λ v e. grind (arith, nat_tests, h.servers.outside v);

@@ -1,7 +1,7 @@
--- The arrows of calls: from the state before an event to the state after it each call's record stays as it is or takes
--- arrows of this table. An arrow keeps each field of the record that it doesn't name, and says what the event answers.
+-- The arrows of calls and of notices: from the state before an event to the state after it each record stays as it is or takes
+-- arrows of these tables. An arrow keeps each field of the record that it doesn't name, and says what the event answers.
 use Rattle.std.specs.Prelude.{ℕ, ◌≡◌, ◌⊎◌, List, Option, Bool, true, false, Some, None, length, nat_lt}
-use Rattle.written_kernel.specs.Types.{Answer, Call, Errno, Fd, Obj, Pass, Request}
+use Rattle.written_kernel.specs.Types.{Answer, Call, Door, Errno, Fd, Notice, Obj, Pass, Request}
 use Rattle.dk_base.specs.declared.error.Errno.TheVariants.{EBADF, EINTR, EMFILE}
 use Rattle.dk_base.specs.declared.object.Obj.TheVariants as obj
 use Rattle.dk_base.specs.declared.object.Item.TheVariants as item
@@ -9,8 +9,9 @@ use Rattle.dk_base.specs.declared.request.Request.TheVariants as request
 use Rattle.dk_base.specs.declared.answer.Answer.TheVariants as answer
 use Rattle.kernel_records.specs.declared.record.ThreadState.TheVariants as is
 use Rattle.kernel_records.specs.declared.record.CallStage.TheVariants as stage
-use Rattle.kernel_records.specs.Words.{abandoned_at, at_stage, cookie_of, entry_of, first_refusal, gone_call_at, is_live, new_descriptors, objects_passed, tid, without_arguments_at}
-use Rattle.written_kernel.specs.Words.{State, call_tests, door_of, has_room, is_valid, new_call, now, object_at, process_of, return_answer, return_tests, state_of, table_of}
+use Rattle.kernel_records.specs.declared.record.NoticeStage.TheVariants as notice
+use Rattle.kernel_records.specs.Words.{abandoned_at, at_stage, cookie_of, entry_of, first_refusal, gone_call_at, is_live, new_descriptors, notice_at, objects_passed, tid, without_arguments_at}
+use Rattle.written_kernel.specs.Words.{State, call_tests, door_of, falls_to_one, has_room, is_valid, may_have_notice, new_call, now, object_at, process_of, return_answer, return_tests, state_of, table_of}
 use Rattle.kernel_invariant.specs.Core.{has_arguments}
 
 -- the table of a thread's process
@@ -97,6 +98,42 @@ pub data ByAct (m : State) (t : ℕ) (q : Option Request) (a : Answer) (n : Stat
 pub data ByGiving : Option Call → Option Call → Type 0 where
   stays : {o : Option Call} → ByGiving o o
   gives : (r : Call) (u : ℕ) → r.stage ≡ stage.Queued → ByGiving (Some r) (Some (at_stage (stage.Given (tid u)) r))
+
+-- Notices. By the act of thread t and the rule that makes them, from state m to state n.
+pub data NoticeByAct (m : State) (t : ℕ) (q : Option Request) (a : Answer) (n : State) : Option Notice → Option Notice → Type 0 where
+  stays : {o : Option Notice} → NoticeByAct m t q a n o o
+  -- new to Waiting, where the references of a door fall to one
+  makes :
+      (x : Notice) (d : Door) → door_of n x.door ≡ Some d → may_have_notice m x.door d ≡ true → falls_to_one m n x.door ≡ true → x.stage ≡ notice.Waiting → x.made ≡ now m →
+      NoticeByAct m t q a n None (Some x)
+  -- Given to Entered, at the accept of the thread that it was given to
+  enters :
+      (x : Notice) → q ≡ None → state_of m t ≡ is.Given (item.Notice x.number) → x.stage ≡ notice.Given (tid t) →
+      a ≡ answer.EnteredNotice x.number (entry_of (door_of m x.door)) (cookie_of (door_of m x.door)) →
+      NoticeByAct m t q a n (Some x) (Some (notice_at (notice.Entered (tid t)) x))
+  -- Entered to Over, at a Return of the thread that entered it, that is not refused
+  returns :
+      (x : Notice) (bytes : List ℕ) (pass : List Pass) → q ≡ Some (request.Return bytes pass) →
+      first_refusal (return_tests m t (process_of m t) bytes pass) ≡ None → x.stage ≡ notice.Entered (tid t) →
+      NoticeByAct m t q a n (Some x) (Some (notice_at notice.Over x))
+  -- Waiting to Dropped, where its door becomes invalid
+  drops :
+      (x : Notice) → x.stage ≡ notice.Waiting → is_valid m x.door ≡ true → is_valid n x.door ≡ false →
+      NoticeByAct m t q a n (Some x) (Some (notice_at notice.Dropped x))
+  -- to Over, where the thread ends that it was given to or that has entered it
+  ends :
+      (x : Notice) (u : ℕ) → (x.stage ≡ notice.Given (tid u)) ⊎ (x.stage ≡ notice.Entered (tid u)) → EndsNow m n u →
+      NoticeByAct m t q a n (Some x) (Some (notice_at notice.Over x))
+
+-- by the giving that follows
+pub data NoticeByGiving : Option Notice → Option Notice → Type 0 where
+  stays : {o : Option Notice} → NoticeByGiving o o
+  gives : (x : Notice) (u : ℕ) → x.stage ≡ notice.Waiting → NoticeByGiving (Some x) (Some (notice_at (notice.Given (tid u)) x))
+
+pub record NoticeArrow (m : State) (t : ℕ) (q : Option Request) (a : Answer) (n : State) (before after : Option Notice) : Type 0 where
+  pub between : Option Notice
+  pub act : NoticeByAct m t q a n before between
+  pub giving : NoticeByGiving between after
 
 -- one event may take two: a new call is Queued and then Given
 pub record Arrow (m : State) (t : ℕ) (q : Option Request) (a : Answer) (n : State) (before after : Option Call) : Type 0 where

@@ -39,6 +39,15 @@ pub record AreNoticesEntered (serves : ℕ → Option Inv) (notices : ℕ → Op
   pub notice_entered : (n u : ℕ) → notices n ≡ Some (notice.Entered (tid u)) → item_in (serves u) ≡ Some (item.Notice n)
   pub notice_entered_back : (n u : ℕ) → item_in (serves u) ≡ Some (item.Notice n) → notices n ≡ Some (notice.Entered (tid u))
 
+-- the doors of notices
+pub record AreNoticesAtDoors (notices : ℕ → Option NoticeStage) (noticed : ℕ → ℕ) (door : ℕ → Option Door) (process : ℕ → ℕ) : Type 0 where
+  pub notice_door : (n : ℕ) → is_some (notices n) ≡ true → is_some (door (noticed n)) ≡ true
+  -- doors of waiting notices are valid
+  pub notice_valid : (n : ℕ) → notices n ≡ Some notice.Waiting → is_valid_in (door (noticed n)) ≡ true
+  -- a notice is given to, and entered by, a thread of the process that made its door
+  pub notice_given_owner : (n u : ℕ) → notices n ≡ Some (notice.Given (tid u)) → owner_in (door (noticed n)) ≡ Some (process u)
+  pub notice_entered_owner : (n u : ℕ) → notices n ≡ Some (notice.Entered (tid u)) → owner_in (door (noticed n)) ≡ Some (process u)
+
 -- threads, with what they serve
 pub record AreServers (role : ℕ → ThreadState) (serves : ℕ → Option Inv) (made : ℕ) : Type 0 where
   -- threads that are Dormant, Idle, Given, FailedReturn or Done have no invocation
@@ -91,7 +100,6 @@ pub record AreThreads (process : ℕ → ℕ) (number : ℕ → Option ℕ) (pro
 
 -- what no built kind of event makes of a thread: it goes as the capabilities come
 abbrev pub is_unbuilt : ThreadState → Bool
-is_unbuilt (is.Given (item.Notice n)) = true
 is_unbuilt (is.Getting port max nget one interrupted) = true
 is_unbuilt (is.Working op input) = true
 is_unbuilt _ = false
@@ -102,6 +110,7 @@ pub record IsCoherent (k : Core) : Type 0 where
   pub invocations : AreInvocations k.serves k.call
   pub notices_given : AreNoticesGiven k.role k.notice
   pub notices_entered : AreNoticesEntered k.serves k.notice
+  pub notices_at_doors : AreNoticesAtDoors k.notice k.noticed k.door k.process
   pub servers : AreServers k.role k.serves k.made
   pub calls : AreCalls k.call k.made
   pub at_doors : AreAtDoors k.call k.door k.process

@@ -7,7 +7,7 @@ use Rattle.kernel_records.specs.declared.record.CallStage.TheVariants as stage
 use Rattle.dk_base.specs.ByNumber.{at_number}
 use Rattle.kernel_records.specs.Words.{is_live}
 use Rattle.written_kernel.specs.Words.{State, bound_of, door_of, invocation_of, process_of, state_of, thread_of}
-use Rattle.kernel_invariant.specs.Records.{record_of, owner_in}
+use Rattle.kernel_invariant.specs.Records.{notice_of, owner_in, record_of}
 
 pub record Core : Type 0 where
   -- of a thread: its state, its invocation, its process, the number in its record, and the door that it is bound to
@@ -22,6 +22,8 @@ pub record Core : Type 0 where
   -- how many calls were made
   pub made : ℕ
   pub notice : ℕ → Option NoticeStage
+  -- the door of a notice, 0 for none
+  pub noticed : ℕ → ℕ
 
 abbrev pub number_in : Option Thread → Option ℕ
 number_in None = None
@@ -30,6 +32,10 @@ number_in (Some x) = Some x.number
 abbrev pub notice_in : Option Notice → Option NoticeStage
 notice_in None = None
 notice_in (Some n) = Some n.stage
+
+abbrev pub noticed_in : Option Notice → ℕ
+noticed_in None = 0
+noticed_in (Some n) = n.door
 
 abbrev pub core : State → Core
 core m =
@@ -43,7 +49,8 @@ core m =
       proc = λ p. at_number m.process_table.processes p;
       call = λ c. record_of m c;
       made = m.call_tree.made;
-      notice = λ n. notice_in (at_number m.notice_list.notices n);
+      notice = λ n. notice_in (notice_of m n);
+      noticed = λ n. noticed_in (notice_of m n);
     }
 
 -- of a call's record, if there is one

@@ -1,21 +1,22 @@
--- What every event does: it keeps the invariant; each call's record takes arrows of the table, and the invocation of each
--- thread one of its own; what its answer tells is so; doors are made and kept; a refused entry changes nothing; and only an entry
--- of leaving, or the end of a wait of a thread that is bound to a door that is not valid, leaves a thread idle that is so bound.
+-- What every event does: it keeps the invariant; the record of each call and of each notice takes arrows of its table, and the
+-- invocation of each thread one of its own; a door that is due has just one notice more; what its answer tells is so; doors are
+-- made and kept; a refused entry changes nothing; and only an entry of leaving, or the end of a wait of a thread that is bound to
+-- a door that is not valid, leaves a thread idle that is so bound.
 use Rattle.std.specs.Prelude.{ℕ, ◌≡◌, ◌+◌, ◌≤◌, ◌⊎◌, Option, List, Some, None, Bool, false, true}
-use Rattle.written_kernel.specs.Types.{Answer, Call, Door, Errno, Fd, Inv, Item, Pass, Request, ThreadState}
+use Rattle.written_kernel.specs.Types.{Answer, Call, Door, Errno, Fd, Inv, Item, Notice, Pass, Request, ThreadState}
 use Rattle.dk_base.specs.declared.error.Errno.TheVariants.{EMFILE}
 use Rattle.dk_base.specs.declared.object.Item.TheVariants as item
 use Rattle.dk_base.specs.declared.request.Request.TheVariants as request
 use Rattle.dk_base.specs.declared.answer.Answer.TheVariants as answer
 use Rattle.kernel_records.specs.declared.record.ThreadState.TheVariants as is
 use Rattle.kernel_records.specs.declared.record.CallStage.TheVariants as stage
-use Rattle.kernel_records.specs.Words.{cancelled_invocation, first_refusal, is_given_as, is_to_collect_as, new_invocation, no_cancel_of, tid}
+use Rattle.kernel_records.specs.Words.{cancelled_invocation, first_refusal, is_given_as, is_given_notice_as, is_to_collect_as, new_invocation, no_cancel_of, tid}
 use Rattle.capabilities.specs.Capability.{capability_of_attrs}
 use Rattle.capabilities.specs.declared.table.TheConstants.{BUILT}
-use Rattle.written_kernel.specs.Words.{State, act, door_of, find_call, has_invalid_door, has_lost_door, invocation_of, name_of, process_of, refusal_of, return_answer, return_tests, state_of, step, with_event_counted}
-use Rattle.kernel_invariant.specs.Records.{record_of, stage_of}
+use Rattle.written_kernel.specs.Words.{State, act, door_of, falls_to_one, find_call, find_notice, has_invalid_door, has_lost_door, invocation_of, may_have_notice, name_of, process_of, refusal_of, return_answer, return_tests, state_of, step, with_event_counted}
+use Rattle.kernel_invariant.specs.Records.{notice_of, record_of, stage_of}
 use Rattle.kernel_invariant.specs.Invariant.{Invariant}
-use Rattle.kernel_invariant.specs.Arrows.{Arrow, EndsNow}
+use Rattle.kernel_invariant.specs.Arrows.{Arrow, EndsNow, NoticeArrow}
 
 -- the answer says that an invocation of this item begins
 abbrev pub Begins : Answer → Item → Type 0
@@ -133,6 +134,7 @@ IsBuiltEntry m t r = ⊥
 -- the ends of waits that are built, each with what the thread waits for
 abbrev pub IsBuiltEnd : State → ℕ → ThreadState → Type 0
 IsBuiltEnd m t (is.Given (item.Call c)) = IsMade (find_call m (is_given_as c t))
+IsBuiltEnd m t (is.Given (item.Notice c)) = IsMade (find_notice m (is_given_notice_as c t))
 IsBuiltEnd m t (is.Calling c) = IsMade (find_call m (is_to_collect_as c))
 IsBuiltEnd m t (is.Awaiting path) = IsMade (name_of m path)
 IsBuiltEnd m t is.FailedReturn = Unit {0}
@@ -156,12 +158,27 @@ abbrev pub may_lose_door : State → ℕ → Option Request → Bool
 may_lose_door m t (Some r) = is_leaving r
 may_lose_door m t None = has_invalid_door m t
 
+-- an event made a notice of a door, and just one
+pub record IsNoticed (m n : State) (d : ℕ) : Type 0 where
+  pub number : ℕ
+  pub notice : Notice
+  pub none_before : notice_of m number ≡ None
+  pub there : notice_of n number ≡ Some notice
+  pub door : notice.door ≡ d
+  pub only : (c : ℕ) (x : Notice) → notice_of m c ≡ None → notice_of n c ≡ Some x → x.door ≡ d → c ≡ number
+
 pub record Keeps (m : State) (t : ℕ) (q : Option Request) : Type 0 where
   pub invariant : Invariant (step m t q).state
   pub arrows :
       (c : ℕ) → Arrow m t q (step m t q).answer (step m t q).state (record_of m c) (record_of (step m t q).state c)
   pub invocations :
       (u : ℕ) → InvocationArrow m t q (step m t q).answer (step m t q).state u (invocation_of m u) (invocation_of (step m t q).state u)
+  pub notices :
+      (c : ℕ) → NoticeArrow m t q (step m t q).answer (step m t q).state (notice_of m c) (notice_of (step m t q).state c)
+  -- a door that is due has just one notice more
+  pub noticed :
+      (d : ℕ) (x : Door) → door_of (step m t q).state d ≡ Some x → may_have_notice m d x ≡ true →
+      falls_to_one m (step m t q).state d ≡ true → IsNoticed m (step m t q).state d
   pub doors : (d : ℕ) → DoorArrow m t q (door_of m d) (door_of (step m t q).state d)
   pub told : IsToldBy m t q (step m t q).answer
   -- accept, collect and a new call do so

@@ -1,6 +1,6 @@
 -- The invariant of every run: what holds of each state between two events.
 use Rattle.std.specs.Prelude.{ℕ, ◌≡◌, ◌+◌, List, [], ◌∷◌, true, Some, None, length, All}
-use Rattle.written_kernel.specs.Types.{Call, Fd}
+use Rattle.written_kernel.specs.Types.{Call, Fd, Notice}
 use Rattle.kernel_records.specs.declared.record.ThreadState.TheVariants as is
 use Rattle.kernel_records.specs.Words.{is_valid_in}
 use Rattle.written_kernel.specs.Words.{State, object_at, pick, pool_of, waiting_items}
@@ -12,9 +12,10 @@ abbrev pub IsInOrder : ℕ → List Call → Type 0
 IsInOrder n [] = Unit {0}
 IsInOrder n (r ∷ rs) = (r.number ≡ n + 1) × IsInOrder (n + 1) rs
 
--- what no built kind of event makes: these go as the capabilities come
-pub record HasNothingUnbuilt (m : State) : Type 0 where
-  pub no_notices : m.notice_list.notices ≡ []
+-- the same of notices
+abbrev pub AreNoticesInOrder : ℕ → List Notice → Type 0
+AreNoticesInOrder n [] = Unit {0}
+AreNoticesInOrder n (x ∷ xs) = (x.number ≡ n + 1) × AreNoticesInOrder (n + 1) xs
 
 -- what holds at each time: also between an act and what the kernel does after it
 pub record IsConsistent (m : State) : Type 0 where
@@ -25,7 +26,9 @@ pub record IsConsistent (m : State) : Type 0 where
   -- each process has a table, and an ended one has no row
   pub tables : length m.tables ≡ length m.process_table.processes
   pub no_rows : (p : ℕ) (fd : Fd) → ended_in ((core m).proc p) ≡ true → object_at m p fd ≡ None
-  pub unbuilt : HasNothingUnbuilt m
+  -- so do notices
+  pub notices_in_order : AreNoticesInOrder 0 m.notice_list.notices
+  pub notices_counted : length m.notice_list.notices ≡ m.notice_list.made
 
 pub record Invariant (m : State) : Type 0 where
   pub consistent : IsConsistent m

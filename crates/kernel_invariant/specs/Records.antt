@@ -1,6 +1,6 @@
 -- What a state has of a call and of an invocation, answered or not.
 use Rattle.std.specs.Prelude.{ℕ, Option, Bool, ◌==◌, Some, None, find}
-use Rattle.written_kernel.specs.Types.{Call, CallStage, Door, Inv, Item}
+use Rattle.written_kernel.specs.Types.{Call, CallStage, Door, Inv, Item, Notice}
 use Rattle.written_kernel.specs.Words.{State, door_of, invocation_of}
 
 abbrev pub has_number : ℕ → Call → Bool
@@ -16,6 +16,14 @@ stage_in (Some r) = Some r.stage
 
 abbrev pub stage_of : State → ℕ → Option CallStage
 stage_of m c = stage_in (record_of m c)
+
+-- the record of a notice, past or not
+
+abbrev pub has_notice_number : ℕ → Notice → Bool
+has_notice_number n x = x.number == n
+
+abbrev pub notice_of : State → ℕ → Option Notice
+notice_of m n = find (has_notice_number n) m.notice_list.notices
 
 abbrev pub owner_in : Option Door → Option ℕ
 owner_in None = None

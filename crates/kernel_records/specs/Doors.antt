@@ -9,7 +9,7 @@ use Rattle.dk_base.specs.declared.number.Pid.{Pid}
 use Rattle.dk_base.specs.declared.request.Param.{Param}
 use Rattle.dk_base.specs.declared.request.Param.TheVariants as param
 use Rattle.dk_base.specs.declared.set.Attrs.{Attrs}
-use Rattle.dk_base.specs.declared.set.TheConstants.Attrs.{PRIVATE, LOCAL, REVOKED, IS_UNREF, REFUSE_DESC, NO_CANCEL}
+use Rattle.dk_base.specs.declared.set.TheConstants.Attrs.{UNREF, UNREF_MULTI, PRIVATE, LOCAL, REVOKED, IS_UNREF, REFUSE_DESC, NO_CANCEL}
 use Rattle.dk_base.specs.ByNumber.{at_number, with_at_number}
 use Rattle.kernel_records.specs.declared.record.Door.{Door}
 use Rattle.kernel_records.specs.Numbers.{pid}
@@ -25,6 +25,13 @@ is_private a = has_attributes a PRIVATE
 
 abbrev pub has_no_cancel : Attrs → Bool
 has_no_cancel a = has_attributes a NO_CANCEL
+
+abbrev pub has_unref_multi : Attrs → Bool
+has_unref_multi a = has_attributes a UNREF_MULTI
+
+-- a notice is to be made where the last reference but one goes
+abbrev pub takes_notices : Attrs → Bool
+takes_notices a = has_attributes a UNREF || has_unref_multi a
 
 abbrev pub refuses_descriptors : Attrs → Bool
 refuses_descriptors a = has_attributes a REFUSE_DESC
@@ -241,3 +248,11 @@ number_of_door d = d.number
 
 abbrev pub valid_doors_of : ℕ → List Door → List ℕ
 valid_doors_of p doors = map number_of_door (filter (is_valid_of p) doors)
+
+-- the doors of which notices can be made, in order
+
+abbrev pub is_notice_door : Door → Bool
+is_notice_door d = takes_notices d.attrs
+
+abbrev pub notice_doors : List Door → List ℕ
+notice_doors doors = map number_of_door (filter is_notice_door doors)

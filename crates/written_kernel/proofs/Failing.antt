@@ -1,14 +1,15 @@
 -- What becomes of each thread, and of the rest of a state, where idle threads that lost their doors fail.
 use Rattle.std.proofs.Common.{◌≡◌, ◌≤◌, ℕ, zero, suc, ◌==◌, ◌&&◌, Bool, true, false, not, if◌then◌else◌, nat_le, List, Option, None, Some, is_some, option_map, length, map, refl, sym, true≢false, ap, ap₂, ◌∙◌, arith}
 use Rattle.std.proofs.lemmas.Bool.Decides.{nat_tests}
-use Rattle.written_kernel.specs.Types.{Thread}
+use Rattle.written_kernel.specs.Types.{Door, Thread}
 use Rattle.kernel_records.specs.declared.record.ThreadState.TheVariants as is
-use Rattle.kernel_records.specs.Words.{bound_at, bound_in, invocation_in, is_idle, is_valid_in, parked_at, parked_in, parked_thread, pool_of_thread, process_in, state_in, thread_at_state, unbind_thread}
+use Rattle.kernel_records.specs.Words.{NoticeList, ProcessTable, bound_at, bound_in, invocation_in, is_idle, is_valid_in, parked_at, parked_in, parked_thread, pool_of_thread, process_in, state_in, thread_at_state, unbind_thread}
 use Rattle.dk_base.specs.ByNumber.{at_number}
-use Rattle.written_kernel.specs.State.{State, bound_of, has_invalid_door, invocation_of, is_bound_to_invalid, process_of, state_of, thread_of}
-use Rattle.written_kernel.specs.Settle.{fail_each, fail_one, fail_return, fail_returns, has_lost_door, settle}
+use Rattle.written_kernel.specs.Notices.{is_due, make_each, make_notices, make_one}
+use Rattle.written_kernel.specs.State.{State, bound_of, door_of, has_invalid_door, invocation_of, is_bound_to_invalid, process_of, state_of, thread_of}
+use Rattle.written_kernel.specs.Settle.{fail_each, fail_one, fail_return, fail_returns, give_and_start, has_lost_door, settle}
 use Rattle.written_kernel.proofs.Lists.{at_number-with_at_number, length-with_at_number, numbered_within, same_length}
-use Rattle.written_kernel.proofs.Settling.{KeptByFailing, fail_returns-all, fail_returns-alone, settle-none}
+use Rattle.written_kernel.proofs.Settling.{KeptByFailing, fail_returns-all, fail_returns-alone, fail_returns-none, make_notices-alone, with_notice_of, with_threads}
 use Rattle.written_kernel.proofs.Threads.{map-change_thread, processes-change_thread, thread_at-change_thread}
 
 -- whether a thread has lost its door
@@ -315,9 +316,73 @@ has_lost_door-fail_returns m u = go (has_lost_door m u) refl
     go false e =
         has_lost_door-same (fail_returns m) m u (thread_of-not_failed m u e) (bound_of-not_failed m u e) (doors-fail_returns m) ∙ e
 
+pub fail_returns-fail_returns : (m : State) → fail_returns (fail_returns m) ≡ fail_returns m
+fail_returns-fail_returns m = fail_returns-none (fail_returns m) (has_lost_door-fail_returns m)
+
+-- failing reads no notices, and making reads no threads
+
+fail_each-with_notices :
+    (m : State) (list : NoticeList) (n : ℕ) →
+    fail_each (record m { notice_list = list }) n ≡ record (fail_each m n) { notice_list = list }
+fail_each-with_notices m list zero = refl
+fail_each-with_notices m list (suc n) =
+    ap (λ k. fail_one k (suc n)) (fail_each-with_notices m list n)
+    ∙ go (fail_each m n) (has_lost_door (fail_each m n) (suc n))
+  where
+    go :
+        (k : State) (b : Bool) →
+        (if b then fail_return (record k { notice_list = list }) (suc n) else record k { notice_list = list })
+        ≡ record (if b then fail_return k (suc n) else k) { notice_list = list }
+    go k true = refl
+    go k false = refl
+
+pub fail_returns-with_notices :
+    (m : State) (list : NoticeList) → fail_returns (record m { notice_list = list }) ≡ record (fail_returns m) { notice_list = list }
+fail_returns-with_notices m list = fail_each-with_notices m list (length m.process_table.threads)
+
+make_each-with_threads :
+    (before m : State) (table : ProcessTable) (bindings : List (Option ℕ)) (n : ℕ) →
+    make_each before (with_threads m table bindings) n ≡ with_threads (make_each before m n) table bindings
+make_each-with_threads before m table bindings zero = refl
+make_each-with_threads before m table bindings (suc n) =
+    ap (λ k. make_one before k (suc n)) (make_each-with_threads before m table bindings n)
+    ∙ go (make_each before m n)
+  where
+    due :
+        (k : State) (o : Option Door) →
+        is_due before (with_threads k table bindings) (suc n) o ≡ is_due before k (suc n) o
+    due k None = refl
+    due k (Some x) = refl
+
+    chosen :
+        (k : State) (b : Bool) →
+        (if b then with_notice_of (with_threads k table bindings) (suc n) else with_threads k table bindings)
+        ≡ with_threads (if b then with_notice_of k (suc n) else k) table bindings
+    chosen k true = refl
+    chosen k false = refl
+
+    go :
+        (k : State) →
+        make_one before (with_threads k table bindings) (suc n) ≡ with_threads (make_one before k (suc n)) table bindings
+    go k =
+        ap (λ c. if c then with_notice_of (with_threads k table bindings) (suc n) else with_threads k table bindings)
+        (due k (door_of k (suc n)))
+        ∙ chosen k (is_due before k (suc n) (door_of k (suc n)))
+
+pub make_notices-fail_returns : (before m : State) → make_notices before (fail_returns m) ≡ fail_returns (make_notices before m)
+make_notices-fail_returns before m =
+    ap (make_notices before) (fail_returns-alone m)
+    ∙ make_each-with_threads before m (fail_returns m).process_table (fail_returns m).bindings (length m.doors)
+    ∙ ap (λ k. with_threads k (fail_returns m).process_table (fail_returns m).bindings) (make_notices-alone before m)
+    ∙ ap {A = State} {B = State} (λ k. record k { notice_list = (make_notices before m).notice_list }) (sym (fail_returns-alone m))
+    ∙ sym (fail_returns-with_notices m (make_notices before m).notice_list)
+    ∙ ap fail_returns (sym (make_notices-alone before m))
+
 -- so it comes to the same to fail them first
 pub settle-fail_returns : (before m : State) → settle before (fail_returns m) ≡ settle before m
-settle-fail_returns before m = settle-none before (fail_returns m) (has_lost_door-fail_returns m)
+settle-fail_returns before m =
+    ap (λ k. give_and_start before (fail_returns k)) (make_notices-fail_returns before m)
+    ∙ ap (give_and_start before) (fail_returns-fail_returns (make_notices before m))
 
 -- who is parked: those that keep their doors
 

@@ -1,17 +1,22 @@
--- A kernel may forget the calls that were answered or whose callers ended: what a step gives is the same.
-use Rattle.std.proofs.Common.{◌≡◌, ℕ, zero, suc, Bool, true, false, if◌then◌else◌, List, [], ◌∷◌, Option, None, Some, is_some, ◌++◌, flat_map, length, map, filter, unwrap_or, refl, sym, subst, ap, ap₂, ◌∙◌}
+-- A kernel may forget the calls that were answered or whose callers ended, and the notices that are past of doors that may have more
+-- of them: what a step gives is the same.
+use Rattle.std.proofs.Common.{◌≡◌, ℕ, zero, suc, Bool, true, false, if◌then◌else◌, List, [], ◌∷◌, Option, None, Some, is_some, ◌++◌, flat_map, length, map, filter, unwrap_or, not, nat_lt, ◌==◌, ◌&&◌, ◌||◌, refl, sym, subst, true≢false, ap, ap₂, ◌∙◌}
 use Rattle.std.specs.Option.{option_map_or}
-use Rattle.written_kernel.specs.Types.{Answer, Call, Errno, Fd, Item, Name, Obj, Parked, Pass, PathId, Pool, Request, Stepped, Thread, ThreadState, Waiting}
+use Rattle.written_kernel.specs.Types.{Answer, Call, Door, Errno, Fd, Item, Name, Notice, Obj, Parked, Pass, PathId, Pool, Request, Stepped, Thread, ThreadState, Waiting}
+use Rattle.dk_base.specs.ByNumber.{at_number}
 use Rattle.dk_base.specs.declared.answer.Answer.TheVariants as answer
 use Rattle.dk_base.specs.declared.object.Item.TheVariants as item
 use Rattle.dk_base.specs.declared.object.Obj.TheVariants as obj
 use Rattle.dk_base.specs.declared.request.Request.TheVariants as request
 use Rattle.kernel_records.specs.declared.record.ThreadState.TheVariants as is
-use Rattle.kernel_records.specs.Words.{CallTree, Leaving, ProcessTable, close_row, close_table, collect_call, end_owner, end_process, first_refusal, give_call, interruption, is_client_call_of, is_given_as, is_last, is_queued_call, is_queued_in, is_served_by, is_to_collect_as, info_in, is_waiting_notice, left_thread, left_thread_of, left_threads, live_calls, objects_of, objects_passed, pid, process_end, revocation, revoke_door, set_thread_state, thread_end, waiting_call, waiting_notice, with_notices, with_table}
+use Rattle.kernel_records.specs.Words.{CallTree, Leaving, NoticeList, ProcessTable, collect_call, end_process, first_refusal, give_call, give_notice, has_many, has_notice, has_unref_multi, interruption, is_client_call_of, is_given_as, is_given_notice_as, is_last, is_queued_call, is_queued_in, is_served_by, is_to_collect_as, info_in, is_valid_door, is_waiting_notice, kept_notices, left_calls, left_notices, left_thread, left_thread_of, left_threads, live_calls, objects_of, objects_passed, pid, process_end, revocation, set_thread_state, takes_notices, thread_end, waiting_call, waiting_notice, with_notices}
 use Rattle.written_kernel.specs.Step.{step}
-use Rattle.written_kernel.specs.Words.{ActResult, IsStep, StandsFor, State, Step, accept, accept_call, act, await, await_name, begin_call, bound_of, call, calls_waiting, caller_in, caller_of, can_go_on, client_call, client_process, collect, collect_answer_in, credentials, door_at, door_named, door_of, effect, enter, tests_of, exit, fail_begin, fail_each, fail_one, fail_return, fail_returns, find_call, forget, give, give_and_start, give_each, give_one, give_to, go_on, has_invalid_door, has_lost_door, has_room, holdings, information_of, interrupt, invocation_of, is_live_process, is_runnable, is_running, kill, leave, leave_process, leave_thread, name_of, named_object, needs_spare, new_call, now, no_act, object_at, objects_collected_in, pick, pool_of, process_of, refs, refusal_of, return, return_parked, return_unbound, revoke, root, served_by, settle, start_each, start_one, start_spares, state_of, step_after, table_of, tables_after_collect, unless_refused, waiting_items, walk, with_event_counted, woken_among, woken_threads}
+use Rattle.written_kernel.specs.Words.{ActResult, IsStep, StandsFor, State, Step, accept, accept_call, accept_notice, act, await, await_name, begin_call, begin_notice, bound_of, call, calls_waiting, caller_in, caller_of, can_go_on, client_call, client_process, collect, collect_answer_in, create, credentials, door_at, door_named, door_of, effect, enter, tests_of, exit, fail_begin, fail_each, fail_one, fail_return, fail_returns, falls_to_one, find_call, find_notice, forget, give, give_and_start, give_each, give_one, give_to, go_on, has_invalid_door, has_lost_door, has_room, holdings, information_of, interrupt, invocation_of, is_due, is_live_process, is_runnable, is_running, kill, leave, leave_process, leave_thread, make_each, make_notices, make_one, may_have_notice, name_of, named_object, needs_spare, new_call, now, no_act, object_at, objects_collected_in, pick, pool_of, process_of, reference_count, refs, refusal_of, return, return_parked, return_unbound, revoke, root, served_by, set_parameter, settle, start_each, start_one, start_spares, state_of, step_after, table_of, tables_after_collect, unless_refused, waiting_items, walk, with_event_counted, woken_among, woken_threads}
 use Rattle.written_kernel.proofs.CallLists.{HaveSameLive, IsOfLiveCalls, client_is_live, collect_call-live, count_by-live, enter_call-live, fail_call-live, filter-live, find-live, give_call-live, given_as_is_live, left_calls-live, live_calls-live, objects-live, open_call-live, queued_call_is_live, queued_in_is_live, ready_as_is_live, return_call-live, served_is_live}
-use Rattle.written_kernel.proofs.Lists.{map-same}
+use Rattle.written_kernel.proofs.Lists.{Extends, map-same}
+use Rattle.written_kernel.proofs.NoticeLists.{HaveSameKept, IsOfPresentNotices, KeepsMany, end_notice-kept, enter_notice-kept, filter-kept, find-kept, give_notice-kept, given_notice_is_present, has_notice-kept, keeps_many_same, kept_notices-kept, kept_notices-later, left_notices-kept, make_notice-kept, present_is_kept, waiting_is_present}
+use Rattle.written_kernel.proofs.Settling.{with_notice_of}
+use Rattle.written_kernel.proofs.Steps.{DoorIdentity, IsSameDoor, act-keeps, create-keeps, door-extends, door_identity, leave_process-keeps, revoke-keeps, set_param-keeps}
 
 -- The readers of calls. What reads none is the same by its form.
 
@@ -27,11 +32,15 @@ served_by-forget m t = find_call-forget m (is_served_by t) (served_is_live t)
 pub calls_waiting-forget : (m : State) (pool : Pool) → calls_waiting (forget m) pool ≡ calls_waiting m pool
 calls_waiting-forget m pool = count_by-live (is_queued_in m.doors pool) (queued_in_is_live m.doors pool) m.call_tree.calls
 
+pub find_notice-forget : (m : State) (test : Notice → Bool) → IsOfPresentNotices test → find_notice (forget m) test ≡ find_notice m test
+find_notice-forget m test only = find-kept m.doors test (present_is_kept m.doors test only) m.notice_list.notices
+
 pub waiting_items-forget : (m : State) → waiting_items (forget m) ≡ waiting_items m
 waiting_items-forget m =
-    ap
-    (λ xs. with_notices (map waiting_call xs) (map waiting_notice (filter is_waiting_notice m.notice_list.notices)))
+    ap₂
+    (λ xs ns. with_notices (map waiting_call xs) (map waiting_notice ns))
     (filter-live is_queued_call queued_call_is_live m.call_tree.calls)
+    (filter-kept m.doors is_waiting_notice (present_is_kept m.doors is_waiting_notice waiting_is_present) m.notice_list.notices)
 
 -- a call that is forgotten held no object
 
@@ -92,11 +101,16 @@ root-forget m t = walk-forget m.call_tree.made m t
 abbrev pub AreAlike : State → State → Type 0
 AreAlike m n = forget m ≡ forget n
 
-alike_calls : (n : State) (tree : CallTree) → HaveSameLive tree n.call_tree → AreAlike (record n { call_tree = tree }) n
-alike_calls n tree e = ap (λ calls. record n { call_tree = calls }) e
+alike_lists :
+    (n : State) (tree : CallTree) (list : NoticeList) → HaveSameLive tree n.call_tree → HaveSameKept n.doors list n.notice_list →
+    AreAlike (record n { call_tree = tree; notice_list = list }) n
+alike_lists n tree list e f =
+    ap₂ {A = CallTree} {B = NoticeList} {C = State} (λ calls notices. record n { call_tree = calls; notice_list = notices }) e f
 
 pub forget-forget : (m : State) → AreAlike (forget m) m
-forget-forget m = alike_calls m (live_calls m.call_tree) (live_calls-live m.call_tree)
+forget-forget m =
+    alike_lists m (live_calls m.call_tree) (kept_notices m.doors m.notice_list) (live_calls-live m.call_tree)
+    (kept_notices-kept m.doors m.notice_list)
 
 -- acts
 
@@ -104,15 +118,51 @@ pub record SameAct (a b : ActResult) : Type 0 where
   pub state : AreAlike a.state b.state
   pub answer : a.answer ≡ b.answer
 
--- an act that differs from another in its calls, of which the same are live
+-- an act that differs from another in its calls, of which the same are live, and in its notices, of which the same are kept
 same_act :
-    (b : ActResult) {tree : CallTree} {a : Answer} → HaveSameLive tree b.state.call_tree → a ≡ b.answer →
-    SameAct (record { state = record b.state { call_tree = tree }; answer = a }) b
-same_act b {tree} e f = record { state = alike_calls b.state tree e; answer = f }
+    (b : ActResult) {tree : CallTree} {list : NoticeList} {a : Answer} → HaveSameLive tree b.state.call_tree →
+    HaveSameKept b.state.doors list b.state.notice_list → a ≡ b.answer →
+    SameAct (record { state = record b.state { call_tree = tree; notice_list = list }; answer = a }) b
+same_act b {tree} {list} e g f = record { state = alike_lists b.state tree list e g; answer = f }
 
--- an act that does not touch calls
+-- an act that touches neither calls nor notices
 kept_act : (b : ActResult) → SameAct (record { state = forget b.state; answer = b.answer }) b
 kept_act b = record { state = forget-forget b.state; answer = refl }
+
+-- nor one that changes doors, all of which can have as many notices as before
+kept_doors_act :
+    (b : ActResult) (doors : List Door) → KeepsMany doors b.state.doors →
+    SameAct
+    (record {
+      state = record b.state { call_tree = live_calls b.state.call_tree; notice_list = kept_notices doors b.state.notice_list };
+      answer = b.answer;
+    })
+    b
+kept_doors_act b doors h =
+    record {
+      state =
+          alike_lists b.state (live_calls b.state.call_tree) (kept_notices doors b.state.notice_list) (live_calls-live b.state.call_tree)
+          (kept_notices-later doors b.state.notice_list b.state.doors h);
+      answer = refl;
+    }
+
+-- what a door was made as says how many notices it can have
+pub keeps_many-extends :
+    (doors later : List Door) → Extends (map door_identity doors) (map door_identity later) → KeepsMany doors later
+keeps_many-extends doors later h d e = go (at_number doors d) refl e
+  where
+    go : (o : Option Door) → at_number doors d ≡ o → has_many o ≡ true → has_many (at_number later d) ≡ true
+    go None f e = absurd (true≢false (sym e))
+    go (Some x) f e =
+        let y : IsSameDoor x (at_number later d) = door-extends doors later d x h f in
+        ap has_many y.there ∙ ap (λ (i : DoorIdentity). has_unref_multi i.attrs) y.identity ∙ e
+
+pub keeps_many-act : (m : State) (t : ℕ) (r : Option Request) → KeepsMany m.doors (act m t r).state.doors
+keeps_many-act m t r = keeps_many-extends m.doors (act m t r).state.doors (act-keeps m t r).doors
+
+-- what is kept of the notices of a state
+same_notices : (m : State) → HaveSameKept m.doors (forget m).notice_list m.notice_list
+same_notices m = kept_notices-kept m.doors m.notice_list
 
 await-forget : (m : State) (t : ℕ) (path : PathId) → SameAct (await (forget m) t path) (await m t path)
 await-forget m t path = go (name_of m path)
@@ -140,29 +190,55 @@ left_threads-forget m who n table =
     (left_thread_of-forget m who n)
     table.threads)
 
-pub leave-forget : (m : State) (who : Leaving) → AreAlike (leave (forget m) who) (leave m who)
-leave-forget m who =
-    ap₂ (λ table calls. record (leave m who) { process_table = table; call_tree = calls })
+-- with the doors as they are after that
+leaving-forget :
+    (m : State) (who : Leaving) (later : State) → KeepsMany m.doors later.doors → (tables : ProcessTable → ProcessTable) →
+    AreAlike
+    (record later {
+      process_table = tables (left_threads who (now m) (forget m).call_tree.calls m.process_table);
+      call_tree = left_calls who (live_calls m.call_tree);
+      notice_list = left_notices who (kept_notices m.doors m.notice_list);
+    })
+    (record later {
+      process_table = tables (left_threads who (now m) m.call_tree.calls m.process_table);
+      call_tree = left_calls who m.call_tree;
+      notice_list = left_notices who m.notice_list;
+    })
+leaving-forget m who later h tables =
+    ap₂ {A = ProcessTable} {B = CallTree} {C = State}
+    (λ table calls.
+    record later {
+      process_table = tables table;
+      call_tree = calls;
+      notice_list = kept_notices later.doors (left_notices who (kept_notices m.doors m.notice_list));
+    })
     (left_threads-forget m who (now m) m.process_table)
     (left_calls-live m.call_tree who)
+    ∙ ap {A = NoticeList} {B = State}
+    (λ notices.
+    record later {
+      process_table = tables (left_threads who (now m) m.call_tree.calls m.process_table);
+      call_tree = live_calls (left_calls who m.call_tree);
+      notice_list = notices;
+    })
+    (left_notices-kept m.doors m.notice_list who later.doors h)
+
+pub leave-forget : (m : State) (who : Leaving) → AreAlike (leave (forget m) who) (leave m who)
+leave-forget m who = leaving-forget m who m (keeps_many_same m.doors) (λ table. table)
 
 pub leave_process-forget : (m : State) (p : ℕ) → AreAlike (leave_process (forget m) p) (leave_process m p)
 leave_process-forget m p =
-    ap {A = State} {B = State}
-    (λ n.
-    record n {
-      process_table = end_process n.process_table p;
-      tables = with_table n.tables p (close_table (table_of n p));
-      doors = end_owner n.doors p;
-    })
-    (leave-forget m (process_end m.process_table m.doors p))
+    leaving-forget m (process_end m.process_table m.doors p) (leave_process m p)
+    (keeps_many-extends m.doors (leave_process m p).doors (leave_process-keeps m p).doors)
+    (λ table. end_process table p)
 
 revoke-forget : (m : State) (p : ℕ) (fd : Fd) → SameAct (revoke (forget m) p fd) (revoke m p fd)
 revoke-forget m p fd =
     record {
       state =
-          ap {A = State} {B = State} (λ n. record n { tables = with_table n.tables p (close_row (table_of n p) fd.0); doors = revoke_door n.doors (door_at m p fd) })
-          (leave-forget m (revocation (door_at m p fd)));
+          leaving-forget m (revocation (door_at m p fd)) (revoke m p fd).state
+          (keeps_many-extends m.doors (revoke m p fd).state.doors (revoke-keeps m p fd).doors)
+          (λ table. table);
       answer = refl;
     }
 
@@ -197,9 +273,11 @@ return-forget m t p bytes pass = go (has_invalid_door m t)
         (if b then return_unbound (forget m) t p bytes pass else return_parked (forget m) t p bytes pass)
         (if b then return_unbound m t p bytes pass else return_parked m t p bytes pass)
     go true =
-        same_act (return_unbound m t p bytes pass) (return_call-live m.call_tree t bytes (objects_passed (table_of m p) pass)) refl
+        same_act (return_unbound m t p bytes pass) (return_call-live m.call_tree t bytes (objects_passed (table_of m p) pass))
+        (end_notice-kept m.doors m.notice_list t) refl
     go false =
-        same_act (return_parked m t p bytes pass) (return_call-live m.call_tree t bytes (objects_passed (table_of m p) pass)) refl
+        same_act (return_parked m t p bytes pass) (return_call-live m.call_tree t bytes (objects_passed (table_of m p) pass))
+        (end_notice-kept m.doors m.notice_list t) refl
 
 information_of-forget : (m : State) (p d : ℕ) → SameAct (information_of (forget m) p d) (information_of m p d)
 information_of-forget m p d =
@@ -229,13 +307,22 @@ accept-forget m t p (item.Call c) =
         SameAct
         (if b then begin_call (forget m) t p c r else fail_begin (forget m) t c r)
         (if b then begin_call m t p c r else fail_begin m t c r)
-    begins r true = same_act (begin_call m t p c r) (enter_call-live m.call_tree c t) refl
-    begins r false = same_act (fail_begin m t c r) (fail_call-live m.call_tree c t) refl
+    begins r true = same_act (begin_call m t p c r) (enter_call-live m.call_tree c t) (same_notices m) refl
+    begins r false = same_act (fail_begin m t c r) (fail_call-live m.call_tree c t) (same_notices m) refl
 
     go : (o : Option Call) → SameAct (accept_call (forget m) t p c o) (accept_call m t p c o)
     go None = kept_act (no_act m)
     go (Some r) = begins r (has_room m p r.objects)
-accept-forget m t p (item.Notice n) = kept_act (no_act m)
+accept-forget m t p (item.Notice c) =
+    subst
+    (λ o. SameAct (accept_notice (forget m) t c o) (accept m t p (item.Notice c)))
+    (sym (find_notice-forget m (is_given_notice_as c t) (given_notice_is_present c t)))
+    (go (find_notice m (is_given_notice_as c t)))
+  where
+    go : (o : Option Notice) → SameAct (accept_notice (forget m) t c o) (accept_notice m t c o)
+    go None = kept_act (no_act m)
+    go (Some n) =
+        same_act (begin_notice m t c n) (live_calls-live m.call_tree) (enter_notice-kept m.doors m.notice_list c t) refl
 
 -- a collect, with the call that is collected
 abbrev collected : State → ℕ → ℕ → ℕ → Option Call → ActResult
@@ -255,7 +342,7 @@ collect-forget m t p c =
     subst
     (λ o. SameAct (collected (forget m) t p c o) (collect m t p c))
     (sym (find_call-forget m (is_to_collect_as c) (ready_as_is_live c)))
-    (same_act (collect m t p c) (collect_call-live m.call_tree c (now m)) refl)
+    (same_act (collect m t p c) (collect_call-live m.call_tree c (now m)) (same_notices m) refl)
 
 -- entries: one that reads or changes calls has a line in these, the others are the same by their form
 
@@ -270,10 +357,17 @@ pub refusal_of-forget : (m : State) (t p : ℕ) (r : Request) → refusal_of (fo
 refusal_of-forget m t p r = ap first_refusal (tests_of-forget m t p r)
 
 pub effect-forget : (m : State) (t p : ℕ) (r : Request) → SameAct (effect (forget m) t p r) (effect m t p r)
+effect-forget m t p (request.Create entry cookie attrs) =
+    kept_doors_act (create m p entry cookie attrs) m.doors
+    (keeps_many-extends m.doors (create m p entry cookie attrs).state.doors (create-keeps m p entry cookie attrs).doors)
+effect-forget m t p (request.SetParam fd x value) =
+    kept_doors_act (set_parameter m p fd x value) m.doors
+    (keeps_many-extends m.doors (set_parameter m p fd x value).state.doors (set_param-keeps m (door_at m p fd) x value).doors)
 effect-forget m t p (request.Call fd bytes pass rsize) =
     same_act
     (call m t p fd bytes pass rsize)
     (open_call-live m.call_tree (new_call m t (door_named (object_at m p fd)) bytes (objects_passed (table_of m p) pass) rsize))
+    (same_notices m)
     refl
 effect-forget m t p (request.Return bytes pass) = return-forget m t p bytes pass
 effect-forget m t p (request.Revoke fd) = revoke-forget m p fd
@@ -317,8 +411,13 @@ respects f h m n e = sym (h m) ∙ ap (λ s. forget (f s)) e ∙ h n
 
 give_one-forget : (i : Item) (u : ℕ) → Absorbs (λ m. give_one m i u)
 give_one-forget (item.Call c) u m =
-    alike_calls (give_one m (item.Call c) u) (give_call (live_calls m.call_tree) c u) (give_call-live m.call_tree c u)
-give_one-forget (item.Notice n) u m = forget-forget (give_one m (item.Notice n) u)
+    alike_lists (give_one m (item.Call c) u) (give_call (live_calls m.call_tree) c u) (forget m).notice_list
+    (give_call-live m.call_tree c u)
+    (same_notices m)
+give_one-forget (item.Notice c) u m =
+    alike_lists (give_one m (item.Notice c) u) (live_calls m.call_tree) (give_notice (forget m).notice_list c u)
+    (live_calls-live m.call_tree)
+    (give_notice-kept m.doors m.notice_list c u)
 
 give_to-forget : (w : Waiting) (o : Option Parked) → Absorbs (λ m. give_to m w o)
 give_to-forget w None m = forget-forget m
@@ -337,7 +436,59 @@ give_each-forget (w ∷ ws) m =
 give-forget : Absorbs give
 give-forget m = ap (λ ws. forget (give_each (forget m) ws)) (waiting_items-forget m) ∙ give_each-forget (waiting_items m) m
 
--- failing and starting read no calls
+-- the same doors are due
+
+pub reference_count-forget : (m : State) (d : ℕ) → reference_count (forget m) d ≡ reference_count m d
+reference_count-forget m d = ap length (refs-forget m (obj.Door d))
+
+pub falls_to_one-forget : (before m : State) (d : ℕ) → falls_to_one (forget before) (forget m) d ≡ falls_to_one before m d
+falls_to_one-forget before m d =
+    ap₂ (λ b a. nat_lt 1 b && (a == 1)) (reference_count-forget before d) (reference_count-forget m d)
+
+pub may_have_notice-forget :
+    (m : State) (d : ℕ) (x : Door) → door_of m d ≡ Some x → may_have_notice (forget m) d x ≡ may_have_notice m d x
+may_have_notice-forget m d x e =
+    ap (λ b. takes_notices x.attrs && is_valid_door x && b) (go (has_unref_multi x.attrs) refl)
+  where
+    go :
+        (b : Bool) → has_unref_multi x.attrs ≡ b →
+        (b || not (has_notice (forget m).notice_list d)) ≡ (b || not (has_notice m.notice_list d))
+    go true f = refl
+    go false f = ap not (has_notice-kept m.doors m.notice_list d (ap has_many e ∙ f))
+
+pub is_due-forget :
+    (before m : State) (d : ℕ) → is_due (forget before) (forget m) d (door_of m d) ≡ is_due before m d (door_of m d)
+is_due-forget before m d = go (door_of m d) refl
+  where
+    go : (o : Option Door) → door_of m d ≡ o → is_due (forget before) (forget m) d o ≡ is_due before m d o
+    go None e = refl
+    go (Some x) e = ap₂ (λ b c. b && c) (may_have_notice-forget m d x e) (falls_to_one-forget before m d)
+
+-- and what is made is kept
+
+pub with_notice_of-forget : (m : State) (d : ℕ) → with_notice_of (forget m) d ≡ forget (with_notice_of m d)
+with_notice_of-forget m d =
+    ap {A = NoticeList} {B = State} (λ list. record (forget m) { notice_list = list })
+    (sym (make_notice-kept m.doors m.notice_list (now m) d))
+
+pub make_one-forget : (before m : State) (d : ℕ) → make_one (forget before) (forget m) d ≡ forget (make_one before m d)
+make_one-forget before m d =
+    ap (λ b. if b then with_notice_of (forget m) d else forget m) (is_due-forget before m d)
+    ∙ go (is_due before m d (door_of m d))
+  where
+    go : (b : Bool) → (if b then with_notice_of (forget m) d else forget m) ≡ forget (if b then with_notice_of m d else m)
+    go true = with_notice_of-forget m d
+    go false = refl
+
+pub make_each-forget : (before m : State) (n : ℕ) → make_each (forget before) (forget m) n ≡ forget (make_each before m n)
+make_each-forget before m zero = refl
+make_each-forget before m (suc n) =
+    ap (λ k. make_one (forget before) k (suc n)) (make_each-forget before m n) ∙ make_one-forget before (make_each before m n) (suc n)
+
+pub make_notices-forget : (before m : State) → make_notices (forget before) (forget m) ≡ forget (make_notices before m)
+make_notices-forget before m = make_each-forget before m (length m.doors)
+
+-- failing and starting read no calls and no notices
 
 pub has_lost_door-forget : (m : State) (t : ℕ) → has_lost_door (forget m) t ≡ has_lost_door m t
 has_lost_door-forget m t = refl
@@ -383,8 +534,14 @@ give_and_start-forget before a b e =
 
 pub settle-forget : (before a b : State) → AreAlike a b → AreAlike (settle (forget before) a) (settle before b)
 settle-forget before a b e =
-    give_and_start-forget before (fail_returns a) (fail_returns b)
-    (sym (fail_returns-forget a) ∙ ap fail_returns e ∙ fail_returns-forget b)
+    give_and_start-forget before (fail_returns (make_notices (forget before) a)) (fail_returns (make_notices before b))
+    (sym (fail_returns-forget (make_notices (forget before) a)) ∙ ap fail_returns made ∙ fail_returns-forget (make_notices before b))
+  where
+    made : AreAlike (make_notices (forget before) a) (make_notices before b)
+    made =
+        sym (make_notices-forget (forget before) a)
+        ∙ ap₂ make_notices (forget-forget before) e
+        ∙ make_notices-forget before b
 
 -- steps
 

@@ -1,5 +1,5 @@
 -- Once a kernel has settled, nothing waits in a pool that has an idle thread.
-use Rattle.std.proofs.Common.{◌≡◌, ◌≤◌, ℕ, zero, suc, ◌==◌, ◌&&◌, Bool, true, false, if◌then◌else◌, nat_le, List, [], ◌∷◌, Option, None, Some, option_map, slice_get, length, map, filter, count_by, refl, sym, subst, eq-or-lt_of_le, true≢false, ap, ◌∙◌, ◌⊎◌, inl, inr, ⊎_elim, arith}
+use Rattle.std.proofs.Common.{◌≡◌, ◌≤◌, ℕ, zero, suc, ◌==◌, ◌&&◌, Bool, true, false, if◌then◌else◌, nat_le, List, [], ◌∷◌, Option, None, Some, option_map, slice_get, length, filter, count_by, refl, sym, subst, eq-or-lt_of_le, true≢false, ap, ◌∙◌, ◌⊎◌, inl, inr, ⊎_elim, arith}
 use Rattle.std.specs.List.{All}
 use Rattle.std.proofs.lemmas.Bool.Decides.{nat_tests}
 use Rattle.std.proofs.lemmas.List.Sums.{length-filter}
@@ -9,15 +9,16 @@ use Rattle.dk_base.specs.declared.object.Item.TheVariants as item
 use Rattle.kernel_records.specs.declared.pool.Pool.TheVariants.{Common, Private}
 use Rattle.kernel_records.specs.declared.record.ThreadState.TheVariants as is
 use Rattle.kernel_records.specs.declared.record.CallStage.TheVariants as stage
-use Rattle.kernel_records.specs.declared.record.NoticeStage.TheVariants as notice
 use Rattle.dk_base.specs.ByNumber.{at_number}
-use Rattle.kernel_records.specs.Words.{CallTree, NoticeList, ProcessTable, at_stage, better_parked, change_first, give_notice, give_notice_in, give_thread, is_live, is_live_call, is_pool, is_queued, is_queued_as, is_queued_in, is_waiting_notice, later_parked, parked_at, parked_thread, pick_among, pick_parked, thread_at, tid, thread_at_state, waiting_call}
-use Rattle.written_kernel.specs.State.{State, calls_waiting, pick, pool_of, waiting_items}
-use Rattle.written_kernel.specs.Settle.{fail_returns, give, give_each, give_one, give_to, settle, start_spares}
-use Rattle.written_kernel.proofs.Settling.{fail_returns-alone, pick-start_spares, start_spares-alone}
+use Rattle.kernel_records.specs.Words.{CallTree, ProcessTable, at_stage, better_parked, change_first, give_thread, is_live, is_live_call, is_pool, is_queued, is_queued_as, is_queued_in, is_waiting_notice, later_parked, parked_at, parked_thread, pick_among, pick_parked, thread_at, tid, thread_at_state, waiting_call}
+use Rattle.written_kernel.specs.State.{State, calls_waiting, pick, pool_of, waiting_items, now}
+use Rattle.written_kernel.specs.Notices.{make_notices}
+use Rattle.written_kernel.specs.Settle.{fail_returns, give, give_and_start, give_each, give_one, give_to, settle, start_spares}
+use Rattle.written_kernel.proofs.Settling.{KeptByMaking, fail_returns-alone, make_notices-all, pick-start_spares, start_spares-alone}
+use Rattle.written_kernel.proofs.NoticeLists.{AreAscending, ascending-give_notice, ascending-make_notice, notice_gone, notice_stays}
 use Rattle.written_kernel.proofs.Threads.{map-change_thread, thread_at-change_thread}
-use Rattle.written_kernel.proofs.Lists.{at_number-suc, numbered_within, same_length, at_number-renumbered_there, map-with_at_number}
-use Rattle.written_kernel.proofs.Places.{IsInOrder, at_its_number, in_renumbered, order_same, place_of}
+use Rattle.written_kernel.proofs.Lists.{at_number-suc, numbered_within, same_length}
+use Rattle.written_kernel.proofs.Places.{place_of}
 pub use Rattle.written_kernel.proofs.Places.{IsIn}
 use Rattle.written_kernel.proofs.Waits.{IsWaiting, Passes, from_filter, from_waits, in_waits-notice}
 pub use Rattle.written_kernel.proofs.Waits.{in_waits}
@@ -32,9 +33,6 @@ pub record HasQueued (rs : List Call) (c : ℕ) (r : Call) : Type 0 where
 abbrev pub IsApart : List Call → Type 0
 IsApart [] = Unit {0}
 IsApart (q ∷ qs) = ((r : Call) → is_live_call q ≡ true → HasQueued qs q.number r → ⊥) × IsApart qs
-
-abbrev pub notice_number : Notice → ℕ
-notice_number n = n.number
 
 -- the calls after a queued one was given to a thread
 
@@ -102,59 +100,6 @@ still_apart (y ∷ ys) c u a = go (is_queued_as c y) refl (still_apart ys c u a.
           a.0 r l (record { is_in = queued_stays ys c u r h.queued h.is_in; queued = h.queued; number = h.number }),
       ih,
     )
-
--- the notices after one of them was given to a thread
-
-abbrev given_notice : ℕ → Notice → Notice
-given_notice u n = record n { stage = notice.Given (tid u) }
-
-give_notice-numbers :
-    (list : NoticeList) (n u : ℕ) → map notice_number (give_notice list n u).notices ≡ map notice_number list.notices
-give_notice-numbers list n u = go (at_number list.notices n) refl
-  where
-    go :
-        (o : Option Notice) → at_number list.notices n ≡ o →
-        map notice_number (give_notice_in list n u o).notices ≡ map notice_number list.notices
-    go None e = refl
-    go (Some x) e =
-        map-with_at_number notice_number list.notices n (given_notice u x)
-        (λ y f. let same : x ≡ y = cc in ap notice_number same)
-
-pub notices_in_order :
-    (list : NoticeList) (n u : ℕ) → IsInOrder notice_number list.notices → IsInOrder notice_number (give_notice list n u).notices
-notices_in_order list n u h =
-    order_same notice_number list.notices (give_notice list n u).notices (give_notice-numbers list n u) h
-
-given_not_waiting : (u : ℕ) (n x : Notice) → n ≡ given_notice u x → is_waiting_notice n ≡ true → ⊥
-given_not_waiting u n x e q = true≢false (sym q ∙ ap is_waiting_notice e)
-
-notice_stays :
-    (list : NoticeList) (c u : ℕ) (n : Notice) → is_waiting_notice n ≡ true → IsIn n (give_notice list c u).notices →
-    IsIn n list.notices
-notice_stays list c u n q h = go (at_number list.notices c) h
-  where
-    go : (o : Option Notice) → IsIn n (give_notice_in list c u o).notices → IsIn n list.notices
-    go None k = k
-    go (Some x) k =
-        ⊎_elim (λ e. absurd (given_not_waiting u n x e q)) (λ l. l) (in_renumbered list.notices c (given_notice u x) n k)
-
-notice_gone :
-    (list : NoticeList) (c u : ℕ) (n : Notice) → IsInOrder notice_number list.notices → is_waiting_notice n ≡ true → n.number ≡ c →
-    IsIn n (give_notice list c u).notices → ⊥
-notice_gone list c u n o q e h = go (at_number list.notices c) refl there
-  where
-    there : at_number (give_notice list c u).notices c ≡ Some n
-    there =
-        ap (at_number (give_notice list c u).notices) (sym e)
-        ∙ at_its_number notice_number (give_notice list c u).notices n (notices_in_order list c u o) h
-
-    go : (o : Option Notice) → at_number list.notices c ≡ o → at_number (give_notice_in list c u o).notices c ≡ Some n → ⊥
-    go None f k = cc
-    go (Some x) f k =
-        let same : Some (given_notice u x) ≡ Some n =
-        grind (arith, nat_tests, at_number-renumbered_there list.notices c c (given_notice u x) x f) in
-        let it : given_notice u x ≡ n = cc in
-        given_not_waiting u n x (sym it) q
 
 -- idle threads get fewer
 
@@ -257,7 +202,7 @@ waiting_notice_stays :
     (m : State) (i : Item) (u : ℕ) (n : Notice) → is_waiting_notice n ≡ true → IsIn n (give_one m i u).notice_list.notices →
     IsIn n m.notice_list.notices
 waiting_notice_stays m (item.Call c) u n q h = h
-waiting_notice_stays m (item.Notice k) u n q h = notice_stays m.notice_list k u n q h
+waiting_notice_stays m (item.Notice k) u n q h = notice_stays m.notice_list.notices k u n q h
 
 item_stays : (m : State) (i : Item) (u : ℕ) (v : Waiting) → IsIn v (waiting_items (give_one m i u)) → IsIn v (waiting_items m)
 item_stays m i u v h = go (from_waits (give_one m i u) v h)
@@ -273,13 +218,13 @@ item_stays m i u v h = go (from_waits (give_one m i u) v h)
 module _ (Asked : Item → Type 0) where
   record IsDistinct (m : State) : Type 0 where
     calls : IsApart m.call_tree.calls
-    notices : (n : ℕ) → Asked (item.Notice n) → IsInOrder notice_number m.notice_list.notices
+    notices : (n : ℕ) → Asked (item.Notice n) → AreAscending m.notice_list
 
   given_distinct : (m : State) (i : Item) (u : ℕ) → IsDistinct m → IsDistinct (give_one m i u)
   given_distinct m (item.Call c) u h =
       record { calls = still_apart m.call_tree.calls c u h.calls; notices = h.notices }
   given_distinct m (item.Notice n) u h =
-      record { calls = h.calls; notices = λ k a. notices_in_order m.notice_list n u (h.notices k a) }
+      record { calls = h.calls; notices = λ k a. ascending-give_notice m.notice_list n u (h.notices k a) }
 
   -- what was given waits no more
   item_gone :
@@ -291,7 +236,7 @@ module _ (Asked : Item → Type 0) where
           none_queued m.call_tree.calls r.number u r h.calls k.queued refl
           (subst (λ (w : Waiting). IsIn r (give_one m w.item u).call_tree.calls) k.same k.is_in)
       go (inr (n, k)) =
-          notice_gone m.notice_list n.number u n
+          notice_gone 0 m.notice_list.made m.notice_list.notices n.number u n
           (h.notices n.number (subst (λ (w : Waiting). Asked w.item) k.same a))
           k.waiting refl
           (subst (λ (w : Waiting). IsIn n (give_one m w.item u).notice_list.notices) k.same k.is_in)
@@ -368,8 +313,17 @@ failed_distinct Asked m h =
     record {
       calls = subst (λ (tree : CallTree). IsApart tree.calls) (sym (failed_same m).0) h.calls;
       notices =
-          λ n a. subst (λ (list : NoticeList). IsInOrder notice_number list.notices) (sym (failed_same m).1) (h.notices n a);
+          λ n a. subst AreAscending (sym (failed_same m).1) (h.notices n a);
     }
+
+-- and a notice that is made has a number of its own
+made_distinct :
+    (Asked : Item → Type 0) (before m : State) → IsDistinct Asked m → IsDistinct Asked (make_notices before m)
+made_distinct Asked before m h = make_notices-all (IsDistinct Asked) before one m h
+  where
+    one : KeptByMaking (IsDistinct Asked) before
+    one n d due k =
+        record { calls = k.calls; notices = λ c a. ascending-make_notice n.notice_list (now n) d (k.notices c a) }
 
 -- spares that start leave what waits, and what each pool has
 started_items : (before ungiven given : State) → waiting_items (start_spares before ungiven given) ≡ waiting_items given
@@ -379,14 +333,22 @@ started_pool :
     (before ungiven given : State) (d : ℕ) → pool_of (start_spares before ungiven given) d ≡ pool_of given d
 started_pool before ungiven given d = ap (λ n. pool_of n d) (start_spares-alone before ungiven given)
 
+given_and_started_out :
+    (Asked : Item → Type 0) (before m : State) → IsDistinct Asked m → (v : Waiting) → Asked v.item →
+    IsIn v (waiting_items (give_and_start before m)) →
+    pick (give_and_start before m) (pool_of (give_and_start before m) v.door) ≡ None
+given_and_started_out Asked before m h v a k =
+    pick-start_spares before m (give m) (pool_of (give_and_start before m) v.door)
+    ∙ ap (pick (give m)) (started_pool before m (give m) v.door)
+    ∙ given_out Asked m h v a (subst (IsIn v) (started_items before m (give m)) k)
+
 settled_out :
     (Asked : Item → Type 0) (before m : State) → IsDistinct Asked m → (v : Waiting) → Asked v.item →
     IsIn v (waiting_items (settle before m)) → pick (settle before m) (pool_of (settle before m) v.door) ≡ None
 settled_out Asked before m h v a k =
-    pick-start_spares before (fail_returns m) (give (fail_returns m)) (pool_of (settle before m) v.door)
-    ∙ ap (pick (give (fail_returns m))) (started_pool before (fail_returns m) (give (fail_returns m)) v.door)
-    ∙ given_out Asked (fail_returns m) (failed_distinct Asked m h) v a
-    (subst (IsIn v) (started_items before (fail_returns m) (give (fail_returns m))) k)
+    given_and_started_out Asked before (fail_returns (make_notices before m))
+    (failed_distinct Asked (make_notices before m) (made_distinct Asked before m h))
+    v a k
 
 pub no_idle_for :
     (before m : State) → IsApart m.call_tree.calls → (r : Call) → is_queued r.stage ≡ true →
@@ -395,9 +357,9 @@ no_idle_for before m a r q h =
     settled_out IsCall before m (record { calls = a; notices = λ n none. absurd none }) (waiting_call r) tt
     (in_waits (settle before m) r q h)
 
--- where the notices have the numbers of their places, that holds of all that waits
+-- where the numbers of notices ascend, that holds of all that waits
 pub no_idle_for-item :
-    (before m : State) → IsApart m.call_tree.calls → IsInOrder notice_number m.notice_list.notices → (v : Waiting) →
+    (before m : State) → IsApart m.call_tree.calls → AreAscending m.notice_list → (v : Waiting) →
     IsIn v (waiting_items (settle before m)) → pick (settle before m) (pool_of (settle before m) v.door) ≡ None
 no_idle_for-item before m a o v h = settled_out (λ i. Unit {0}) before m (record { calls = a; notices = λ n u. o }) v tt h
 
@@ -406,7 +368,7 @@ All-from_in P [] h = All-nil P
 All-from_in P (x ∷ xs) h = All-cons P x xs (h x (inl refl)) (All-from_in P xs (λ y k. h y (inr k)))
 
 pub all_given_out :
-    (before m : State) → IsApart m.call_tree.calls → IsInOrder notice_number m.notice_list.notices →
+    (before m : State) → IsApart m.call_tree.calls → AreAscending m.notice_list →
     All (λ w. pick (settle before m) (pool_of (settle before m) w.door) ≡ None) (waiting_items (settle before m))
 all_given_out before m a o =
     All-from_in (λ w. pick (settle before m) (pool_of (settle before m) w.door) ≡ None) (waiting_items (settle before m))

@@ -1,15 +1,15 @@
 -- A thread gets an invocation only at an accept of its own that answers Entered.
 use Rattle.std.proofs.Common.{◌≡◌, ℕ, ◌==◌, ◌&&◌, Bool, true, false, if◌then◌else◌, List, Option, None, Some, IsSome, is_some, option_map, refl, sym, ap, ◌∙◌, ◌⊎◌, inl, inr, arith}
 use Rattle.std.proofs.lemmas.Bool.Decides.{nat_tests}
-use Rattle.written_kernel.specs.Types.{Call, Inv, Item, Name, Pass, PathId, Request, Thread, ThreadState}
+use Rattle.written_kernel.specs.Types.{Call, Inv, Item, Name, Notice, Pass, PathId, Request, Thread, ThreadState}
 use Rattle.dk_base.specs.declared.object.Item.TheVariants as item
 use Rattle.dk_base.specs.declared.request.Request.TheVariants as request
 use Rattle.kernel_records.specs.declared.record.ThreadState.TheVariants as is
-use Rattle.kernel_records.specs.Words.{Leaving, ProcessTable, cancelled_invocation, end_thread, ended_thread, enter_thread, interruption, left_thread_of, process_end, revocation, thread_end, thread_outside, thread_in_invocation, invocation_in, is_given_as, is_last, new_invocation, park_thread, idle_thread, thread_at, set_thread_state, thread_at_state, change_thread}
-use Rattle.written_kernel.specs.State.{State, find_call, has_invalid_door, invocation_of, is_live_process, name_of, process_of, state_of, thread_of, with_state, now}
+use Rattle.kernel_records.specs.Words.{Leaving, ProcessTable, cancelled_invocation, end_thread, ended_thread, enter_thread, interruption, left_thread_of, process_end, revocation, thread_end, thread_outside, thread_in_invocation, invocation_in, is_given_as, is_given_notice_as, is_last, new_invocation, park_thread, idle_thread, thread_at, set_thread_state, thread_at_state, change_thread}
+use Rattle.written_kernel.specs.State.{State, find_call, find_notice, has_invalid_door, invocation_of, is_live_process, name_of, process_of, state_of, thread_of, with_state, now}
 use Rattle.written_kernel.specs.Answers.{IsEntering}
 use Rattle.written_kernel.specs.Descriptors.{await, await_name}
-use Rattle.written_kernel.specs.Doors.{accept, accept_call, begin_call, fail_begin, has_room, return, return_parked, return_unbound}
+use Rattle.written_kernel.specs.Doors.{accept, accept_call, accept_notice, begin_call, begin_notice, fail_begin, has_room, return, return_parked, return_unbound}
 use Rattle.written_kernel.specs.Information.{door_at}
 use Rattle.written_kernel.specs.Leaving.{exit, kill, leave, leave_process, leave_thread}
 use Rattle.written_kernel.specs.Settle.{give_one, settle}
@@ -207,11 +207,30 @@ accept_call-one m t p c u (Some r) h = go (has_room m p r.objects) h
     go true k = begin_call-one m t p c u r k
     go false k = inl ((without-none m.process_table t (idle_thread (now m)) (λ x. refl)).had u k)
 
+begin_notice-one :
+    (m : State) (t c u : ℕ) (n : Notice) → IsSome (invocation_of (begin_notice m t c n).state u) →
+    IsSome (invocation_of m u) ⊎ ((u ≡ t) × IsEntering (begin_notice m t c n).answer)
+begin_notice-one m t c u n h =
+    go (u == t) refl (sym (ap is_some (invocation-enter_thread m.process_table t u (item.Notice c))) ∙ h)
+  where
+    go :
+        (b : Bool) → (u == t) ≡ b →
+        IsSome (if b && is_some (thread_of m t) then Some (new_invocation (item.Notice c)) else invocation_of m u) →
+        IsSome (invocation_of m u) ⊎ ((u ≡ t) × IsEntering (begin_notice m t c n).answer)
+    go false e k = inl k
+    go true e k = inr (grind (arith, nat_tests), tt)
+
+accept_notice-one :
+    (m : State) (t c u : ℕ) (o : Option Notice) → IsSome (invocation_of (accept_notice m t c o).state u) →
+    IsSome (invocation_of m u) ⊎ ((u ≡ t) × IsEntering (accept_notice m t c o).answer)
+accept_notice-one m t c u None h = inl h
+accept_notice-one m t c u (Some n) h = begin_notice-one m t c u n h
+
 accept-one :
     (m : State) (t p : ℕ) (i : Item) (u : ℕ) → IsSome (invocation_of (accept m t p i).state u) →
     IsSome (invocation_of m u) ⊎ ((u ≡ t) × IsEntering (accept m t p i).answer)
 accept-one m t p (item.Call c) u h = accept_call-one m t p c u (find_call m (is_given_as c t)) h
-accept-one m t p (item.Notice n) u h = inl h
+accept-one m t p (item.Notice c) u h = accept_notice-one m t c u (find_notice m (is_given_notice_as c t)) h
 
 go_on-one :
     (m : State) (t p : ℕ) (s : ThreadState) (u : ℕ) → IsSome (invocation_of (go_on m t p s).state u) →
@@ -232,11 +251,12 @@ invocation_of-give_one m (item.Notice k) n u = invocation-set_thread_state m.pro
 -- what is given enters nothing yet, and a thread that fails or starts has what it had
 pub invocation_of-settle : (before m : State) (u : ℕ) → invocation_of (settle before m) u ≡ invocation_of m u
 invocation_of-settle before m u =
-    settle-all (λ n. invocation_of n u ≡ invocation_of m u)
+    settle-all (λ n. invocation_of n u ≡ invocation_of m u) before
+    (λ n d due e. e)
     (λ n t l e. invocation-set_thread_state n.process_table t u is.FailedReturn ∙ e)
     (λ n w x p e. invocation_of-give_one n w.item x.thread.0 u ∙ e)
     (λ n t d e. invocation_of-with_state n t u is.Running ∙ e)
-    before m
+    m
     refl
 
 -- steps

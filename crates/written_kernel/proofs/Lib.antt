@@ -1,9 +1,11 @@
 pub mod Lists
 pub mod CallLists
+pub mod NoticeLists
 pub mod Threads
 pub mod Doors
 pub mod Entries
 pub mod Settling
+pub mod Notices
 pub mod Failing
 pub mod Forget
 pub mod Invocations

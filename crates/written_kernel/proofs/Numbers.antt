@@ -4,17 +4,18 @@ use Rattle.std.proofs.Common.{◌≡◌, ℕ, ◌+◌, Bool, true, false, if◌t
 use Rattle.std.specs.List.{All}
 use Rattle.std.proofs.lemmas.List.{length-map}
 use Rattle.std.proofs.lemmas.List.Elements.{All-nil}
-use Rattle.written_kernel.specs.Types.{Attrs, Call, Door, Fd, Item, Name, Param, Pass, PathId, Pool, Process, Request, Thread, ThreadState}
+use Rattle.written_kernel.specs.Types.{Attrs, Call, Door, Fd, Item, Name, Notice, Param, Pass, PathId, Pool, Process, Request, Thread, ThreadState}
 use Rattle.dk_base.specs.declared.error.Errno.TheVariants.{EMFILE}
 use Rattle.dk_base.specs.declared.object.Item.TheVariants as item
 use Rattle.dk_base.specs.declared.request.Param.TheVariants as param
 use Rattle.dk_base.specs.declared.request.Request.TheVariants as request
 use Rattle.kernel_records.specs.declared.record.ThreadState.TheVariants as is
 use Rattle.kernel_records.specs.declared.record.CallStage.TheVariants as stage
-use Rattle.kernel_records.specs.Words.{CallTree, Leaving, NoticeList, at_stage, change_first, end_owner, give_notice, interruption, is_client_call_of, is_given_as, is_last, is_queued_as, is_queued_in, is_to_collect_as, left_call, left_notice, new_door, objects_passed, open_call, process_end, return_call, revocation, revoke_door, revoked_door, set_param, thread_end, tid, with_door, with_param, without_arguments_at}
-use Rattle.written_kernel.specs.State.{State, calls_waiting, find_call, has_invalid_door, is_live_process, name_of, now, object_at, pick, pool_of, process_of, state_of, table_of, waiting_items}
+use Rattle.kernel_records.specs.declared.record.NoticeStage.TheVariants as notice
+use Rattle.kernel_records.specs.Words.{CallTree, Leaving, NoticeList, at_stage, change_first, change_first_notice, end_notice, end_owner, interruption, is_client_call_of, is_given_as, is_given_notice_as, is_last, is_notice_entered_by, is_queued_as, is_queued_in, is_to_collect_as, is_waiting_notice_as, left_call, left_notice, new_door, new_notice, notice_at, objects_passed, open_call, process_end, return_call, revocation, revoke_door, revoked_door, set_param, thread_end, tid, with_door, with_param, without_arguments_at}
+use Rattle.written_kernel.specs.State.{State, calls_waiting, find_call, find_notice, has_invalid_door, is_live_process, name_of, now, object_at, pick, pool_of, process_of, state_of, table_of, waiting_items}
 use Rattle.written_kernel.specs.Descriptors.{await_name, door_named}
-use Rattle.written_kernel.specs.Doors.{accept, accept_call, begin_call, fail_begin, has_room, new_call, return, return_parked, return_unbound}
+use Rattle.written_kernel.specs.Doors.{accept, accept_call, accept_notice, begin_call, fail_begin, has_room, new_call, return, return_parked, return_unbound}
 use Rattle.written_kernel.specs.Information.{door_at}
 use Rattle.written_kernel.specs.Leaving.{exit, kill, leave, leave_process, leave_thread, revoke}
 use Rattle.written_kernel.specs.Settle.{give_one, settle}
@@ -28,10 +29,11 @@ use Rattle.written_kernel.proofs.Doors.{map-change_door, map-end_owner}
 use Rattle.written_kernel.proofs.CallLists.{left_call-number}
 use Rattle.written_kernel.proofs.Leaving.{map-left_notices}
 use Rattle.written_kernel.proofs.Entries.{enter_either}
-use Rattle.written_kernel.proofs.Settling.{settle-all}
+use Rattle.written_kernel.proofs.Settling.{settle-all, with_notice_of}
 use Rattle.written_kernel.proofs.Opening.{IsOpened, opened, waiting_items-opening}
 use Rattle.written_kernel.proofs.Steps.{ThreadIdentity, thread_identity, ProcessIdentity, process_identity, step-keeps}
-use Rattle.written_kernel.proofs.Giving.{IsApart, IsApart-from_unique, HasUniqueNumbers-from_places, all_given_out, notices_in_order, no_pool_has_both, notice_number}
+use Rattle.written_kernel.proofs.Giving.{IsApart, IsApart-from_unique, HasUniqueNumbers-from_places, all_given_out, no_pool_has_both}
+use Rattle.written_kernel.proofs.NoticeLists.{ascending-from_places, map-change_first_notice, notice_number}
 
 abbrev pub call_number : Call → ℕ
 call_number r = r.number
@@ -44,6 +46,7 @@ pub record AreListed (tree : CallTree) (door_list : List Door) (list : NoticeLis
   pub calls_made : tree.made ≡ length tree.calls
   pub calls : IsInOrder call_number tree.calls
   pub doors : IsInOrder door_number door_list
+  pub notices_made : list.made ≡ length list.notices
   pub notices : IsInOrder notice_number list.notices
 
 -- so an act that touches none of these leaves it as it is
@@ -63,6 +66,7 @@ one_call_moves m test change same l =
       calls_made = l.calls_made ∙ sym (same_length call_number (change_first test change m.call_tree.calls) m.call_tree.calls kept);
       calls = order_same call_number m.call_tree.calls (change_first test change m.call_tree.calls) kept l.calls;
       doors = l.doors;
+      notices_made = l.notices_made;
       notices = l.notices;
     }
 
@@ -73,6 +77,7 @@ one_call_more m r e l =
       calls_made = next ∙ sym (length-append m.call_tree.calls (r ∷ []));
       calls = order_push call_number m.call_tree.calls r next l.calls;
       doors = l.doors;
+      notices_made = l.notices_made;
       notices = l.notices;
     }
   where
@@ -87,6 +92,7 @@ one_door_more m p entry cookie attrs l =
       calls_made = l.calls_made;
       calls = l.calls;
       doors = order_push door_number m.doors (new_door (length m.doors + 1) p entry cookie attrs) refl l.doors;
+      notices_made = l.notices_made;
       notices = l.notices;
     }
 
@@ -105,12 +111,38 @@ one_door_changes m d x value l =
           order_same door_number m.doors (set_param m.doors d x value)
           (map-change_door door_number m.doors d (with_param x value) (with_param-number x value))
           l.doors;
+      notices_made = l.notices_made;
       notices = l.notices;
     }
 
-one_notice_given : (m : State) (n u : ℕ) → IsListed m → AreListed m.call_tree m.doors (give_notice m.notice_list n u)
-one_notice_given m n u l =
-    record { calls_made = l.calls_made; calls = l.calls; doors = l.doors; notices = notices_in_order m.notice_list n u l.notices }
+-- one notice takes an arrow
+one_notice_moves :
+    {tree : CallTree} {doors : List Door} (list : NoticeList) (test : Notice → Bool) (change : Notice → Notice) →
+    ((n : Notice) → notice_number (change n) ≡ notice_number n) → AreListed tree doors list →
+    AreListed tree doors (record list { notices = change_first_notice test change list.notices })
+one_notice_moves list test change same l =
+    let kept : map notice_number (change_first_notice test change list.notices) ≡ map notice_number list.notices =
+    map-change_first_notice notice_number test change same list.notices in
+    record {
+      calls_made = l.calls_made;
+      calls = l.calls;
+      doors = l.doors;
+      notices_made = l.notices_made ∙ sym (same_length notice_number (change_first_notice test change list.notices) list.notices kept);
+      notices = order_same notice_number list.notices (change_first_notice test change list.notices) kept l.notices;
+    }
+
+one_notice_more : (m : State) (d : ℕ) → IsListed m → IsListed (with_notice_of m d)
+one_notice_more m d l =
+    record {
+      calls_made = l.calls_made;
+      calls = l.calls;
+      doors = l.doors;
+      notices_made = next ∙ sym (length-append m.notice_list.notices (new_notice (m.notice_list.made + 1) (now m) d ∷ []));
+      notices = order_push notice_number m.notice_list.notices (new_notice (m.notice_list.made + 1) (now m) d) next l.notices;
+    }
+  where
+    next : m.notice_list.made + 1 ≡ length m.notice_list.notices + 1
+    next = ap (λ n. n + 1) l.notices_made
 
 -- calls, threads and notices that leave
 leave-listed : (m : State) (who : Leaving) → IsListed m → IsListed (leave m who)
@@ -122,6 +154,7 @@ leave-listed m who l =
           (map-map_same call_number (left_call who) (left_call-number who) m.call_tree.calls)
           l.calls;
       doors = l.doors;
+      notices_made = l.notices_made ∙ sym (length-map m.notice_list.notices (left_notice who));
       notices =
           order_same notice_number m.notice_list.notices (map (left_notice who) m.notice_list.notices)
           (map-left_notices notice_number (λ s n. refl) who m.notice_list.notices)
@@ -137,6 +170,7 @@ doors_change m doors same l =
       calls_made = l.calls_made;
       calls = l.calls;
       doors = order_same door_number m.doors doors same l.doors;
+      notices_made = l.notices_made;
       notices = l.notices;
     }
 
@@ -180,9 +214,12 @@ return-listed m t p bytes pass l = go (has_invalid_door m t)
     moved =
         one_call_moves m (is_client_call_of t) (without_arguments_at (stage.Returned bytes (objects_passed (table_of m p) pass))) (λ r. refl) l
 
+    ended : AreListed (return_call m.call_tree t bytes (objects_passed (table_of m p) pass)) m.doors (end_notice m.notice_list t)
+    ended = one_notice_moves m.notice_list (is_notice_entered_by t) (notice_at notice.Over) (λ n. refl) moved
+
     go : (b : Bool) → IsListed (if b then return_unbound m t p bytes pass else return_parked m t p bytes pass).state
-    go true = moved
-    go false = moved
+    go true = ended
+    go false = ended
 
 accept-listed : (m : State) (t p : ℕ) (i : Item) → IsListed m → IsListed (accept m t p i).state
 accept-listed m t p (item.Call c) l = go (find_call m (is_given_as c t))
@@ -194,7 +231,11 @@ accept-listed m t p (item.Call c) l = go (find_call m (is_given_as c t))
     go : (o : Option Call) → IsListed (accept_call m t p c o).state
     go None = l
     go (Some r) = begins r (has_room m p r.objects)
-accept-listed m t p (item.Notice n) l = l
+accept-listed m t p (item.Notice c) l = go (find_notice m (is_given_notice_as c t))
+  where
+    go : (o : Option Notice) → IsListed (accept_notice m t c o).state
+    go None = l
+    go (Some n) = one_notice_moves m.notice_list (is_given_notice_as c t) (notice_at (notice.Entered (tid t))) (λ k. refl) l
 
 effect-listed : (m : State) (t p : ℕ) (r : Request) → IsListed m → IsListed (effect m t p r).state
 effect-listed m t p (request.Create entry cookie attrs) l = one_door_more m p entry cookie attrs l
@@ -227,11 +268,15 @@ act-listed m t None l = go_on-listed m t (process_of m t) (state_of m t) l
 give_one-listed : (m : State) (i : Item) (u : ℕ) → IsListed m → IsListed (give_one m i u)
 give_one-listed m (item.Call c) u l =
     one_call_moves m (is_queued_as c) (at_stage (stage.Given (tid u))) (λ r. refl) l
-give_one-listed m (item.Notice n) u l = one_notice_given m n u l
+give_one-listed m (item.Notice n) u l =
+    one_notice_moves m.notice_list (is_waiting_notice_as n) (notice_at (notice.Given (tid u))) (λ k. refl) l
 
 pub settle-listed : (before m : State) → IsListed m → IsListed (settle before m)
 settle-listed before m l =
-    settle-all IsListed (λ n t lost h. h) (λ n w x p h. give_one-listed n w.item x.thread.0 h) (λ n t d h. h) before m l
+    settle-all IsListed before (λ n d due h. one_notice_more n d h) (λ n t lost h. h)
+    (λ n w x p h. give_one-listed n w.item x.thread.0 h)
+    (λ n t d h. h)
+    m l
 
 -- steps and runs
 
@@ -250,6 +295,7 @@ opening-listed o =
       calls_made = subst (λ (tree : CallTree). tree.made ≡ length tree.calls) (sym h.call_tree) refl;
       calls = subst (λ (tree : CallTree). IsInOrder call_number tree.calls) (sym h.call_tree) (order_none call_number);
       doors = subst (IsInOrder door_number) (sym h.doors) (order_none door_number);
+      notices_made = subst (λ (list : NoticeList). list.made ≡ length list.notices) (sym h.notice_list) refl;
       notices = subst (λ (list : NoticeList). IsInOrder notice_number list.notices) (sym h.notice_list) (order_none notice_number);
     }
 
@@ -271,7 +317,9 @@ no_pool_has_both-step m t r l pool = no_pool_has_both m (act m t r).state (liste
 pub all_given_out-step : (m : State) (t : ℕ) (r : Option Request) → IsListed m → IsAllGivenOut (step m t r).state
 unfolding step
 all_given_out-step m t r l =
-    let a : IsListed (act m t r).state = act-listed m t r l in all_given_out m (act m t r).state (listed_apart (act m t r).state a) a.notices
+    let a : IsListed (act m t r).state = act-listed m t r l in
+    all_given_out m (act m t r).state (listed_apart (act m t r).state a)
+    (ascending-from_places (act m t r).state.notice_list a.notices_made a.notices)
 
 -- what holds after each step holds after a list of turns
 after_each :

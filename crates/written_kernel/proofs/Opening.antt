@@ -7,7 +7,7 @@ use Rattle.dk_base.specs.declared.limits.TheConstants.{THREADS_MAX}
 use Rattle.written_kernel.specs.Types.{Fd, Obj, Process, Thread}
 use Rattle.kernel_records.specs.declared.record.ProcessStage.TheVariants.{Live}
 use Rattle.kernel_records.specs.declared.record.ThreadState.TheVariants as is
-use Rattle.kernel_records.specs.Words.{bound_at, bound_in, empty_table, invocation_in, items_in_order, live_calls, new_process, new_thread, object_in, object_named, objects_of, opening_state, state_in, table_in}
+use Rattle.kernel_records.specs.Words.{CallTree, NoticeList, bound_at, bound_in, empty_table, invocation_in, items_in_order, kept_notices, live_calls, new_process, new_thread, object_in, object_named, objects_of, opening_state, state_in, table_in}
 use Rattle.written_kernel.specs.State.{State, bound_of, invocation_of, object_at, state_of, thread_of, waiting_items}
 use Rattle.written_kernel.specs.Walks.{walk, root}
 use Rattle.written_kernel.specs.References.{holdings, named_object, objects_in_call}
@@ -242,8 +242,10 @@ root-opening {m} h t = ap (λ tree. walk tree.made m t) (opened h).call_tree
 
 pub forget-opening : {m : State} → IsOpening m → forget m ≡ m
 forget-opening {m} h =
-    ap (λ tree. record m { call_tree = live_calls tree }) (opened h).call_tree
-    ∙ sym (ap (λ tree. record m { call_tree = tree }) (opened h).call_tree)
+    ap₂ {A = CallTree} {B = NoticeList} {C = State} (λ tree list. record m { call_tree = live_calls tree; notice_list = kept_notices m.doors list })
+    (opened h).call_tree
+    (opened h).notice_list
+    ∙ sym (ap₂ {A = CallTree} {B = NoticeList} {C = State} (λ tree list. record m { call_tree = tree; notice_list = list }) (opened h).call_tree (opened h).notice_list)
 
 pub waiting_items-opening : {m : State} → IsOpening m → waiting_items m ≡ []
 waiting_items-opening {m} h =

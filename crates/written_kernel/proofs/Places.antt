@@ -1,10 +1,10 @@
 -- Lists whose items have the numbers of their places, and changes that no number shows.
-use Rattle.std.proofs.Common.{◌≡◌, ◌≤◌, ℕ, zero, suc, ◌+◌, ◌-◌, ◌==◌, Bool, true, false, if◌then◌else◌, List, [], ◌∷◌, ◌++◌, Option, None, Some, option_map, length, map, slice_get, slice_set, refl, sym, ap, ◌∙◌, ◌⊎◌, inl, inr, ⊎_elim, arith}
+use Rattle.std.proofs.Common.{◌≡◌, ◌≤◌, ℕ, suc, ◌+◌, ◌==◌, Bool, true, false, if◌then◌else◌, List, [], ◌∷◌, ◌++◌, Option, None, Some, option_map, length, map, slice_get, refl, sym, ap, ◌∙◌, ◌⊎◌, inl, inr, ⊎_elim, arith}
 use Rattle.std.proofs.lemmas.Bool.Decides.{nat_tests}
-use Rattle.dk_base.specs.ByNumber.{at_number, with_at_number}
+use Rattle.dk_base.specs.ByNumber.{at_number}
 use Rattle.kernel_records.specs.Words.{change_first}
 use Rattle.written_kernel.specs.Types.{Call}
-use Rattle.written_kernel.proofs.Lists.{at_number-suc, numbered_push, numbered_within, same_numbered}
+use Rattle.written_kernel.proofs.Lists.{numbered_push, numbered_within, same_numbered}
 
 -- x is an item of the list
 abbrev pub IsIn : {X : Type 0} → X → List X → Type 0
@@ -46,28 +46,10 @@ place_of x [] h = absurd h
 place_of x (y ∷ ys) (inl e) = (0, ap Some (sym e))
 place_of x (y ∷ ys) (inr h) = let p : (i : ℕ) × (slice_get ys i ≡ Some x) = place_of x ys h in (suc p.0, p.1)
 
--- an item is what its number finds
-pub at_its_number : {X : Type 0} (f : X → ℕ) (xs : List X) (x : X) → IsInOrder f xs → IsIn x xs → at_number xs (f x) ≡ Some x
-at_its_number f xs x h i =
-    let p : (k : ℕ) × (slice_get xs k ≡ Some x) = place_of x xs i in
-    let e : at_number xs (suc p.0) ≡ Some x = at_number-suc xs p.0 ∙ p.1 in
-    ap (at_number xs) (h (suc p.0) x e) ∙ e
-
--- what stands in a list after an item was replaced
-
-in_set : {X : Type 0} (xs : List X) (i : ℕ) (x y : X) → IsIn y (slice_set xs i x) → (y ≡ x) ⊎ IsIn y xs
-in_set [] i x y h = absurd h
-in_set (z ∷ zs) zero x y (inl e) = inl e
-in_set (z ∷ zs) zero x y (inr k) = inr (inr k)
-in_set (z ∷ zs) (suc i) x y (inl e) = inr (inl e)
-in_set (z ∷ zs) (suc i) x y (inr k) = ⊎_elim inl (λ l. inr (inr l)) (in_set zs i x y k)
-
-pub in_renumbered : {X : Type 0} (xs : List X) (n : ℕ) (x y : X) → IsIn y (with_at_number xs n x) → (y ≡ x) ⊎ IsIn y xs
-in_renumbered xs n x y h = go (n == 0) h
-  where
-    go : (b : Bool) → IsIn y (if b then xs else slice_set xs (n - 1) x) → (y ≡ x) ⊎ IsIn y xs
-    go true k = inr k
-    go false k = in_set xs (n - 1) x y k
+pub in_append : {X : Type 0} (xs ys : List X) (x : X) → IsIn x (xs ++ ys) → IsIn x xs ⊎ IsIn x ys
+in_append [] ys x h = inr h
+in_append (z ∷ zs) ys x (inl e) = inl (inl e)
+in_append (z ∷ zs) ys x (inr k) = ⊎_elim (λ i. inl (inr i)) inr (in_append zs ys x k)
 
 -- a reader that does not see the change of a call
 pub map-change_first :

@@ -1,4 +1,4 @@
--- Settling by its parts: threads that lost their door fail, items are given, spares start.
+-- Settling by its parts: notices are made, threads that lost their door fail, items are given, spares start.
 use Rattle.std.proofs.Common.{◌≡◌, ℕ, zero, suc, ◌+◌, ◌==◌, ◌&&◌, Bool, true, false, if◌then◌else◌, List, [], ◌∷◌, Option, None, Some, option_map, position, slice_get, length, refl, sym, ap, ap₂, ◌∙◌, arith}
 use Rattle.std.proofs.lemmas.Bool.Decides.{nat_tests}
 use Rattle.std.proofs.lemmas.List.Quantifiers.{position-Some}
@@ -7,8 +7,9 @@ use Rattle.dk_base.specs.ByNumber.{at_number}
 use Rattle.dk_base.specs.declared.object.Item.TheVariants as item
 use Rattle.written_kernel.specs.Types.{Item, Parked, Pool, Thread, ThreadState, Waiting}
 use Rattle.kernel_records.specs.declared.record.ThreadState.TheVariants as is
-use Rattle.kernel_records.specs.Words.{ProcessTable, better_parked, bound_at, is_dormant, is_spare_of, new_thread, parked_at, parked_in, parked_thread, pick_among, pool_of_thread, set_thread_state, start_thread_at, state_in, thread_at, thread_at_state}
-use Rattle.written_kernel.specs.State.{State, pick, pool_of, state_of, waiting_items, with_state}
+use Rattle.kernel_records.specs.Words.{ProcessTable, better_parked, bound_at, is_dormant, is_spare_of, make_notice, new_thread, parked_at, parked_in, parked_thread, pick_among, pool_of_thread, set_thread_state, start_thread_at, state_in, thread_at, thread_at_state}
+use Rattle.written_kernel.specs.Notices.{is_due, make_each, make_notices}
+use Rattle.written_kernel.specs.State.{State, door_of, now, pick, pool_of, state_of, waiting_items, with_state}
 use Rattle.written_kernel.specs.Settle.{fail_each, fail_one, fail_return, fail_returns, give, give_and_start, give_each, give_one, give_to, has_lost_door, needs_spare, settle, start_each, start_one, start_spares}
 use Rattle.written_kernel.proofs.Lists.{at_number-suc, same_length}
 use Rattle.written_kernel.proofs.Threads.{map-change_thread, thread_at-change_thread}
@@ -41,8 +42,16 @@ spare_is_dormant table p i e =
     second true c e = e
     second false c e = cc
 
+-- a state with one notice more
+abbrev pub with_notice_of : State → ℕ → State
+with_notice_of m d = record m { notice_list = make_notice m.notice_list (now m) d }
+
 -- what each change of a part keeps, the part keeps
 module _ (P : State → Type 0) where
+  -- from the state before the event
+  abbrev pub KeptByMaking : State → Type 0
+  KeptByMaking before = (m : State) (d : ℕ) → is_due before m d (door_of m d) ≡ true → P m → P (with_notice_of m d)
+
   abbrev pub KeptByFailing : Type 0
   KeptByFailing = (m : State) (t : ℕ) → has_lost_door m t ≡ true → P m → P (fail_return m t)
 
@@ -51,6 +60,21 @@ module _ (P : State → Type 0) where
 
   abbrev pub KeptByStarting : Type 0
   KeptByStarting = (m : State) (t : ℕ) → state_of m t ≡ is.Dormant → P m → P (with_state m t is.Running)
+
+  make_each-all : (before : State) → KeptByMaking before → (m : State) (n : ℕ) → P m → P (make_each before m n)
+  make_each-all before one m zero h = h
+  make_each-all before one m (suc n) h =
+      go (make_each before m n) (is_due before (make_each before m n) (suc n) (door_of (make_each before m n) (suc n))) refl
+      (make_each-all before one m n h)
+    where
+      go :
+          (k : State) (b : Bool) → is_due before k (suc n) (door_of k (suc n)) ≡ b → P k →
+          P (if b then with_notice_of k (suc n) else k)
+      go k true e h = one k (suc n) e h
+      go k false e h = h
+
+  pub make_notices-all : (before : State) → KeptByMaking before → (m : State) → P m → P (make_notices before m)
+  make_notices-all before one m h = make_each-all before one m (length m.doors) h
 
   fail_each-all : KeptByFailing → (m : State) (n : ℕ) → P m → P (fail_each m n)
   fail_each-all one m zero h = h
@@ -100,14 +124,23 @@ module _ (P : State → Type 0) where
   pub give_and_start-all : KeptByGiving → KeptByStarting → (before m : State) → P m → P (give_and_start before m)
   give_and_start-all gives starts before m h = start_spares-all starts before m (give m) (give-all gives m h)
 
-  pub settle-all : KeptByFailing → KeptByGiving → KeptByStarting → (before m : State) → P m → P (settle before m)
-  settle-all fails gives starts before m h =
-      give_and_start-all gives starts before (fail_returns m) (fail_returns-all fails m h)
+  pub settle-all :
+      (before : State) → KeptByMaking before → KeptByFailing → KeptByGiving → KeptByStarting → (m : State) → P m → P (settle before m)
+  settle-all before makes fails gives starts m h =
+      give_and_start-all gives starts before (fail_returns (make_notices before m))
+      (fail_returns-all fails (make_notices before m) (make_notices-all before makes m h))
 
 -- what no part changes
 
 abbrev pub with_threads : State → ProcessTable → List (Option ℕ) → State
 with_threads m table bindings = record m { process_table = table; bindings = bindings }
+
+-- making changes notices alone
+pub make_notices-alone : (before m : State) → make_notices before m ≡ record m { notice_list = (make_notices before m).notice_list }
+make_notices-alone before m = make_notices-all (λ n. n ≡ record m { notice_list = n.notice_list }) before one m refl
+  where
+    one : KeptByMaking (λ n. n ≡ record m { notice_list = n.notice_list }) before
+    one n d due e = ap {A = State} {B = State} (λ k. record k { notice_list = (with_notice_of n d).notice_list }) e
 
 -- failing changes threads and bindings alone
 pub fail_returns-alone : (m : State) → fail_returns m ≡ with_threads m (fail_returns m).process_table (fail_returns m).bindings
@@ -132,10 +165,13 @@ with_settled m n =
     record m { process_table = n.process_table; bindings = n.bindings; call_tree = n.call_tree; notice_list = n.notice_list }
 
 pub settle-alone : (before m : State) → settle before m ≡ with_settled m (settle before m)
-settle-alone before m = settle-all (λ n. n ≡ with_settled m n) fails gives starts before m refl
+settle-alone before m = settle-all (λ n. n ≡ with_settled m n) before makes fails gives starts m refl
   where
     changed : (n o : State) → n ≡ with_settled m n → o ≡ with_settled n o → o ≡ with_settled m o
     changed n o e f = f ∙ ap (λ k. with_settled k o) e
+
+    makes : KeptByMaking (λ n. n ≡ with_settled m n) before
+    makes n d due e = changed n (with_notice_of n d) e refl
 
     fails : KeptByFailing (λ n. n ≡ with_settled m n)
     fails n t l e = changed n (fail_return n t) e refl
@@ -172,8 +208,18 @@ fail_each-none m (suc n) h =
 pub fail_returns-none : (m : State) → ((t : ℕ) → has_lost_door m t ≡ false) → fail_returns m ≡ m
 fail_returns-none m h = fail_each-none m (length m.process_table.threads) h
 
-pub settle-none : (before m : State) → ((t : ℕ) → has_lost_door m t ≡ false) → settle before m ≡ give_and_start before m
-settle-none before m h = ap (give_and_start before) (fail_returns-none m h)
+pub has_lost_door-make_notices : (before m : State) (t : ℕ) → has_lost_door (make_notices before m) t ≡ has_lost_door m t
+has_lost_door-make_notices before m t = ap (λ k. has_lost_door k t) (make_notices-alone before m)
+
+pub settle-not_failed :
+    (before m : State) → ((t : ℕ) → has_lost_door m t ≡ false) → settle before m ≡ give_and_start before (make_notices before m)
+settle-not_failed before m h =
+    ap (give_and_start before) (fail_returns-none (make_notices before m) (λ t. has_lost_door-make_notices before m t ∙ h t))
+
+-- and where no notice is made either
+pub settle-none :
+    (before m : State) → ((t : ℕ) → has_lost_door m t ≡ false) → make_notices before m ≡ m → settle before m ≡ give_and_start before m
+settle-none before m h e = settle-not_failed before m h ∙ ap (give_and_start before) e
 
 -- a pool has the same pick after spares have started
 

@@ -2,21 +2,21 @@
 use Rattle.std.proofs.Common.{◌≡◌, ℕ, ◌+◌, Bool, true, false, if◌then◌else◌, List, [], ◌∷◌, ◌++◌, Option, None, Some, option_map, length, map, unwrap_or, refl, sym, ap, ◌∙◌, length-set}
 use Rattle.std.proofs.lemmas.List.{length-map, map-append}
 use Rattle.dk_base.specs.ByNumber.{at_number}
-use Rattle.written_kernel.specs.Types.{Attrs, Call, Door, Fd, Item, Name, Obj, Param, Pass, PathId, Pid, Process, Request, Thread, ThreadState}
+use Rattle.written_kernel.specs.Types.{Attrs, Call, Door, Fd, Item, Name, Notice, Obj, Param, Pass, PathId, Pid, Process, Request, Thread, ThreadState}
 use Rattle.dk_base.specs.declared.object.Item.TheVariants as item
 use Rattle.dk_base.specs.declared.request.Param.TheVariants as param
 use Rattle.dk_base.specs.declared.request.Request.TheVariants as request
 use Rattle.kernel_records.specs.declared.record.ThreadState.TheVariants as is
-use Rattle.kernel_records.specs.Words.{CallTree, Leaving, NoticeList, ProcessTable, close_row, close_table, end_owner, end_process, ended_process, free_place, free_row, insert_row, insert_rows, interruption, is_given_as, is_last, is_to_collect_as, process_end, process_in, release_row, release_rows, revocation, revoke_door, revoked_door, set_param, thread_at_state, thread_end, thread_outside, with_door, with_ended, with_param, with_row, with_table, change_thread}
-use Rattle.written_kernel.specs.State.{State, door_of, find_call, has_invalid_door, is_live_process, name_of, now, process_of, state_of, table_of, thread_of, with_state, with_table_of}
+use Rattle.kernel_records.specs.Words.{CallTree, Leaving, NoticeList, ProcessTable, close_row, close_table, end_owner, end_process, ended_process, free_place, free_row, insert_row, insert_rows, interruption, is_given_as, is_given_notice_as, is_last, is_to_collect_as, process_end, process_in, release_row, release_rows, revocation, revoke_door, revoked_door, set_param, thread_at_state, thread_end, thread_outside, with_door, with_ended, with_param, with_row, with_table, change_thread}
+use Rattle.written_kernel.specs.State.{State, door_of, find_call, find_notice, has_invalid_door, is_live_process, name_of, now, process_of, state_of, table_of, thread_of, with_state, with_table_of}
 use Rattle.written_kernel.specs.Descriptors.{await, await_name, insert_object}
-use Rattle.written_kernel.specs.Doors.{accept, accept_call, begin_call, create, fail_begin, has_room, objects_collected_in, return, return_parked, return_unbound, tables_after_collect, tables_after_pass, tables_with}
+use Rattle.written_kernel.specs.Doors.{accept, accept_call, accept_notice, begin_call, create, fail_begin, has_room, objects_collected_in, return, return_parked, return_unbound, tables_after_collect, tables_after_pass, tables_with}
 use Rattle.written_kernel.specs.Leaving.{exit, kill, leave, leave_process, leave_thread, revoke}
 use Rattle.written_kernel.specs.Information.{door_at}
 use Rattle.written_kernel.specs.Settle.{fail_return, give_one, settle}
 use Rattle.written_kernel.specs.Step.{act, effect, enter, go_on, step}
 use Rattle.written_kernel.proofs.Entries.{enter_either}
-use Rattle.written_kernel.proofs.Settling.{settle-all}
+use Rattle.written_kernel.proofs.Settling.{settle-all, with_notice_of}
 use Rattle.written_kernel.proofs.Lists.{length-with_at_number, same_length, same_numbered, at_number-map, at_number-extends, map-with_at_number, Extends, Extends-same, Extends-then}
 use Rattle.written_kernel.proofs.Threads.{map-change_thread, map-left_threads, processes-change_thread, threads-end_process}
 use Rattle.written_kernel.proofs.Doors.{map-change_door, map-end_owner}
@@ -93,10 +93,11 @@ thread-keeps m t change tree list same =
 
 -- the same with tables, each as long as before
 message-keeps :
-    (m : State) (t : ℕ) (change : Thread → Thread) (tables : List (List (Option Obj))) (tree : CallTree) →
+    (m : State) (t : ℕ) (change : Thread → Thread) (tables : List (List (Option Obj))) (tree : CallTree) (list : NoticeList) →
     ((x : Thread) → thread_identity (change x) ≡ thread_identity x) → map length tables ≡ map length m.tables →
-    Keeps m (record m { process_table = change_thread m.process_table t change; tables = tables; call_tree = tree })
-message-keeps m t change tables tree same long =
+    Keeps m
+    (record m { process_table = change_thread m.process_table t change; tables = tables; call_tree = tree; notice_list = list })
+message-keeps m t change tables tree list same long =
     record {
       processes = ap (map process_identity) (processes-change_thread m.process_table t change);
       threads = map-change_thread thread_identity m.process_table t change same;
@@ -183,7 +184,7 @@ door_identity-with_param param.DataMin value d = refl
 door_identity-with_param param.DescMax value d = refl
 
 -- a parameter is none of what a door was made as
-set_param-keeps :
+pub set_param-keeps :
     (m : State) (d : ℕ) (x : Param) (value : ℕ) → Keeps m (record m { doors = set_param m.doors d x value })
 set_param-keeps m d x value =
     record {
@@ -199,7 +200,7 @@ set_param-keeps m d x value =
 
 -- acts
 
-create-keeps : (m : State) (p entry cookie : ℕ) (attrs : Attrs) → Keeps m (create m p entry cookie attrs).state
+pub create-keeps : (m : State) (p entry cookie : ℕ) (attrs : Attrs) → Keeps m (create m p entry cookie attrs).state
 create-keeps m p entry cookie attrs =
     keeps_then
     (with_door-keeps m p entry cookie attrs)
@@ -263,7 +264,7 @@ process_ended-keeps m p =
       events = refl;
     }
 
-leave_process-keeps : (m : State) (p : ℕ) → Keeps m (leave_process m p)
+pub leave_process-keeps : (m : State) (p : ℕ) → Keeps m (leave_process m p)
 leave_process-keeps m p =
     keeps_then
     (leave-keeps m (process_end m.process_table m.doors p))
@@ -297,7 +298,7 @@ revoked-keeps m p place d =
       events = refl;
     }
 
-revoke-keeps : (m : State) (p : ℕ) (fd : Fd) → Keeps m (revoke m p fd).state
+pub revoke-keeps : (m : State) (p : ℕ) (fd : Fd) → Keeps m (revoke m p fd).state
 revoke-keeps m p fd =
     keeps_then
     (leave-keeps m (revocation (door_at m p fd)))
@@ -309,14 +310,15 @@ return-keeps m t p bytes pass = go (has_invalid_door m t)
     go : (b : Bool) → Keeps m (if b then return_unbound m t p bytes pass else return_parked m t p bytes pass).state
     go true =
         keeps_then
-        (message-keeps m t thread_outside (tables_after_pass m p pass) (return_unbound m t p bytes pass).state.call_tree (λ x. refl)
+        (message-keeps m t thread_outside (tables_after_pass m p pass) (return_unbound m t p bytes pass).state.call_tree
+        (return_unbound m t p bytes pass).state.notice_list (λ x. refl)
         (after_pass-long m p pass))
         (bindings-keeps _ _ (length-with_at_number m.bindings t None))
-    go false = message-keeps m t _ _ _ (λ x. refl) (after_pass-long m p pass)
+    go false = message-keeps m t _ _ _ _ (λ x. refl) (after_pass-long m p pass)
 
 effect-keeps : (m : State) (t p : ℕ) (r : Request) → Keeps m (effect m t p r).state
 effect-keeps m t p (request.Create entry cookie attrs) = create-keeps m p entry cookie attrs
-effect-keeps m t p (request.Call fd bytes pass rsize) = message-keeps m t _ _ _ (λ x. refl) (after_pass-long m p pass)
+effect-keeps m t p (request.Call fd bytes pass rsize) = message-keeps m t _ _ _ m.notice_list (λ x. refl) (after_pass-long m p pass)
 effect-keeps m t p (request.Return bytes pass) = return-keeps m t p bytes pass
 effect-keeps m t p (request.Revoke fd) = revoke-keeps m p fd
 effect-keeps m t p (request.Bind fd) = bindings-keeps m _ (length-with_at_number m.bindings t (Some (door_at m p fd)))
@@ -340,18 +342,22 @@ accept-keeps : (m : State) (t p : ℕ) (i : Item) → Keeps m (accept m t p i).s
 accept-keeps m t p (item.Call c) = go (find_call m (is_given_as c t))
   where
     begins : (r : Call) (b : Bool) → Keeps m (if b then begin_call m t p c r else fail_begin m t c r).state
-    begins r true = message-keeps m t _ _ _ (λ x. refl) (with-long m p r.objects)
+    begins r true = message-keeps m t _ _ _ m.notice_list (λ x. refl) (with-long m p r.objects)
     begins r false = thread-keeps m t _ _ m.notice_list (λ x. refl)
 
     go : (o : Option Call) → Keeps m (accept_call m t p c o).state
     go None = keeps_same m
     go (Some r) = begins r (has_room m p r.objects)
-accept-keeps m t p (item.Notice n) = keeps_same m
+accept-keeps m t p (item.Notice c) = go (find_notice m (is_given_notice_as c t))
+  where
+    go : (o : Option Notice) → Keeps m (accept_notice m t c o).state
+    go None = keeps_same m
+    go (Some n) = thread-keeps m t _ m.call_tree _ (λ x. refl)
 
 go_on-keeps : (m : State) (t p : ℕ) (s : ThreadState) → Keeps m (go_on m t p s).state
 go_on-keeps m t p (is.Given i) = accept-keeps m t p i
 go_on-keeps m t p (is.Calling c) =
-    message-keeps m t _ _ _ (λ x. refl) (after_collect-long m p (objects_collected_in (find_call m (is_to_collect_as c))))
+    message-keeps m t _ _ _ m.notice_list (λ x. refl) (after_collect-long m p (objects_collected_in (find_call m (is_to_collect_as c))))
 go_on-keeps m t p (is.Awaiting path) = with_state-keeps m t is.Running
 go_on-keeps m t p (is.Working op input) = with_state-keeps m t is.Running
 go_on-keeps m t p is.FailedReturn = with_state-keeps m t is.Running
@@ -373,13 +379,18 @@ give_one-keeps : (m : State) (i : Item) (u : ℕ) → Keeps m (give_one m i u)
 give_one-keeps m (item.Call c) u = thread-keeps m u _ _ m.notice_list (λ x. refl)
 give_one-keeps m (item.Notice n) u = thread-keeps m u _ m.call_tree _ (λ x. refl)
 
+with_notice_of-keeps : (m : State) (d : ℕ) → Keeps m (with_notice_of m d)
+with_notice_of-keeps m d =
+    record { processes = refl; threads = refl; bindings = refl; tables = refl; doors = doors_same m.doors; events = refl }
+
 pub settle-keeps : (before m : State) → Keeps m (settle before m)
 settle-keeps before m =
-    settle-all (Keeps m)
+    settle-all (Keeps m) before
+    (λ n d e h. keeps_then h (with_notice_of-keeps n d))
     (λ n t l h. keeps_then h (fail_return-keeps n t))
     (λ n w x p h. keeps_then h (give_one-keeps n w.item x.thread.0))
     (λ n t d h. keeps_then h (with_state-keeps n t is.Running))
-    before m
+    m
     (keeps_same m)
 
 -- steps

@@ -2,7 +2,7 @@
 -- return begin. An act's record update names the parts of the state that it changes. `p` is the process of the thread
 -- `t`.
 use Rattle.std.specs.Prelude.{ℕ, ◌+◌, ◌++◌, ◌&&◌, ◌||◌, List, ◌∷◌, [], Option, Bool, false, Some, None, if◌then◌else◌, is_none, is_some, length, nat_le, nat_lt}
-use Rattle.written_kernel.specs.Types.{Answer, Attrs, Call, CallStage, Fd, Item, Obj, Pass}
+use Rattle.written_kernel.specs.Types.{Answer, Attrs, Call, CallStage, Fd, Item, Notice, Obj, Pass}
 use Rattle.dk_base.specs.declared.error.Errno.TheVariants.{E2BIG, EAGAIN, EINVAL, EMFILE}
 use Rattle.dk_base.specs.declared.object.Obj.TheVariants as obj
 use Rattle.dk_base.specs.declared.object.Item.TheVariants as item
@@ -10,8 +10,8 @@ use Rattle.dk_base.specs.declared.answer.Answer.TheVariants as answer
 use Rattle.kernel_records.specs.declared.record.ThreadState.TheVariants as is
 use Rattle.kernel_records.specs.declared.record.CallStage.TheVariants as stage
 use Rattle.dk_base.specs.declared.limits.TheConstants.{DATA_MAX, PASS_MAX, QUEUE_MAX}
-use Rattle.kernel_records.specs.Words.{Test, collect_call, cookie_of, end_invocation, enter_call, enter_thread, entry_of, fail_call, free_rows, has_told_attributes, insert_rows, is_bad_pass, is_given_as, is_to_collect_as, limit_tests, lowest_free, new_descriptors, no_cancel_of, objects_passed, open_call, park_thread, refused_where, release_rows, return_call, set_thread_state, tid, unbind_thread, with_door, with_table}
-use Rattle.written_kernel.specs.State.{State, calls_waiting, client_call, door_of, find_call, has_invalid_door, now, object_at, pool_of, table_of}
+use Rattle.kernel_records.specs.Words.{Test, collect_call, cookie_of, end_invocation, end_notice, enter_call, enter_notice, enter_thread, entry_of, fail_call, free_rows, has_told_attributes, insert_rows, is_bad_pass, is_given_as, is_given_notice_as, is_to_collect_as, limit_tests, lowest_free, new_descriptors, no_cancel_of, objects_passed, open_call, park_thread, refused_where, release_rows, return_call, set_thread_state, tid, unbind_thread, with_door, with_table}
+use Rattle.written_kernel.specs.State.{State, calls_waiting, client_call, door_of, find_call, find_notice, has_invalid_door, now, object_at, pool_of, table_of}
 use Rattle.written_kernel.specs.Acts.{ActResult, no_act}
 use Rattle.written_kernel.specs.Descriptors.{door_named, insert_object}
 
@@ -85,8 +85,9 @@ call m t p fd bytes pass rsize =
     make_call m t p pass (new_call m t (door_named (object_at m p fd)) bytes (objects_passed (table_of m p) pass) rsize)
 
 -- door_return: E2BIG with a client, EINVAL; the client's call is Returned with the results, the invocation ends, and the
--- thread is parked. Results without a client are dropped. In either case descriptors with release are closed. A thread that is
--- bound to an invalid door does all this too, but is not parked: it is unbound, goes on, and is told EINVAL.
+-- thread is parked. Results without a client are dropped, and a notice that the thread has entered is over. In either case
+-- descriptors with release are closed. A thread that is bound to an invalid door does all this too, but is not parked: it is
+-- unbound, goes on, and is told EINVAL.
 
 abbrev pub return_tests : State → ℕ → ℕ → List ℕ → List Pass → List Test
 return_tests m t p bytes pass =
@@ -104,6 +105,7 @@ return_parked m t p bytes pass =
             process_table = park_thread m.process_table t (now m);
             tables = tables_after_pass m p pass;
             call_tree = return_call m.call_tree t bytes (objects_passed (table_of m p) pass);
+            notice_list = end_notice m.notice_list t;
           };
       answer = answer.Wait;
     }
@@ -117,6 +119,7 @@ return_unbound m t p bytes pass =
             bindings = unbind_thread m.bindings t;
             tables = tables_after_pass m p pass;
             call_tree = return_call m.call_tree t bytes (objects_passed (table_of m p) pass);
+            notice_list = end_notice m.notice_list t;
           };
       answer = answer.Failure EINVAL;
     }
@@ -152,9 +155,25 @@ abbrev pub accept_call : State → ℕ → ℕ → ℕ → Option Call → ActRe
 accept_call m t p c None = no_act m
 accept_call m t p c (Some r) = if has_room m p r.objects then begin_call m t p c r else fail_begin m t c r
 
+-- the same of a thread that was given a notice, which brings no bytes and no descriptors
+abbrev pub begin_notice : State → ℕ → ℕ → Notice → ActResult
+begin_notice m t c n =
+    record {
+      state =
+          record m {
+            process_table = enter_thread m.process_table t (item.Notice c);
+            notice_list = enter_notice m.notice_list c t;
+          };
+      answer = answer.EnteredNotice n.number (entry_of (door_of m n.door)) (cookie_of (door_of m n.door));
+    }
+
+abbrev pub accept_notice : State → ℕ → ℕ → Option Notice → ActResult
+accept_notice m t c None = no_act m
+accept_notice m t c (Some n) = begin_notice m t c n
+
 abbrev pub accept : State → ℕ → ℕ → Item → ActResult
 accept m t p (item.Call c) = accept_call m t p c (find_call m (is_given_as c t))
-accept m t p (item.Notice n) = no_act m
+accept m t p (item.Notice c) = accept_notice m t c (find_notice m (is_given_notice_as c t))
 
 -- the end of the wait of a caller: the results, with descriptors for their objects, or the error that its call ended with
 

@@ -1,12 +1,13 @@
--- What a kernel keeps of a written state: it forgets the calls that were answered, or whose callers ended.
+-- What a kernel keeps of a written state: it forgets the calls that were answered, or whose callers ended, and the notices that are past
+-- of doors that may have more of them.
 use Rattle.std.specs.Prelude.{◌≡◌}
 use Rattle.written_kernel.specs.Types.{Stepped}
-use Rattle.kernel_records.specs.Words.{live_calls}
+use Rattle.kernel_records.specs.Words.{kept_notices, live_calls}
 use Rattle.written_kernel.specs.State.{State}
 use Rattle.written_kernel.specs.Step.{Step}
 
 abbrev pub forget : State → State
-forget m = record m { call_tree = live_calls m.call_tree }
+forget m = record m { call_tree = live_calls m.call_tree; notice_list = kept_notices m.doors m.notice_list }
 
 -- what is kept stands for a written state
 abbrev pub StandsFor : State → State → Type 0

@@ -10,6 +10,7 @@ pub mod Descriptors
 pub mod Information
 pub mod Binding
 pub mod Leaving
+pub mod Notices
 pub mod Settle
 pub mod Step
 pub mod Kept

@@ -2,7 +2,7 @@
 -- has reads as nothing.
 use Rattle.std.specs.Prelude.{ℕ, ◌+◌, List, Option, Bool, false, not, Some, None, find}
 use Rattle.dk_base.specs.ByNumber.{at_number}
-use Rattle.written_kernel.specs.Types.{Call, Door, Fd, Inv, Name, Obj, Parked, PathId, Pool, Thread, ThreadState, Waiting}
+use Rattle.written_kernel.specs.Types.{Call, Door, Fd, Inv, Name, Notice, Obj, Parked, PathId, Pool, Thread, ThreadState, Waiting}
 use Rattle.kernel_records.specs.Words.{CallTree, NoticeList, ProcessTable, bound_at, invocation_in, is_client_call_of, is_live_in, name_in, object_named, pick_parked, pool_in, process_in, queue_length, state_in, table_in, thread_at, set_thread_state, is_valid_in, items_in_order, with_table}
 
 -- Processes, threads and doors are numbered from 1 by their places; a process's table and a thread's binding stand at the same
@@ -102,6 +102,11 @@ find_call m test = find test m.call_tree.calls
 -- the call that a thread has entered, where its caller has not left
 abbrev pub client_call : State → ℕ → Option Call
 client_call m t = find_call m (is_client_call_of t)
+
+-- notices
+
+abbrev pub find_notice : State → (Notice → Bool) → Option Notice
+find_notice m test = find test m.notice_list.notices
 
 abbrev pub waiting_items : State → List Waiting
 waiting_items m = items_in_order m.call_tree.calls m.notice_list.notices

@@ -1,0 +1,223 @@
+-- The atomic changes of the core that concern a notice: it is made, is given, is entered, and is over. Each keeps what holds of a core.
+use Rattle.std.specs.Prelude.{ℕ, ◌≡◌, true, Some, None}
+use native.Mathlib.Omega.{arith}
+use Rattle.std.proofs.lemmas.Bool.Decides.{nat_tests}
+use Rattle.dk_base.specs.declared.object.Item.TheVariants as item
+use Rattle.written_kernel.specs.Types.{NoticeStage, ThreadState}
+use Rattle.kernel_records.specs.declared.record.ThreadState.TheVariants as is
+use Rattle.kernel_records.specs.declared.record.NoticeStage.TheVariants as notice
+use Rattle.kernel_records.specs.Words.{is_valid_in, new_invocation, tid}
+use Rattle.kernel_invariant.specs.Core.{Core}
+use Rattle.kernel_invariant.specs.Coherent.{IsCoherent}
+use Rattle.kernel_invariant.specs.Records.{owner_in}
+use Rattle.kernel_invariant.proofs.Cores.{set_role, set_serves, upd}
+use Rattle.kernel_invariant.proofs.CallMoves.{is_after_return}
+use Rattle.kernel_invariant.proofs.Parts.{processes_turn}
+
+abbrev pub set_notice : Core → ℕ → NoticeStage → Core
+set_notice k n s = record k { notice = upd k.notice n (Some s) }
+
+-- a new notice of a valid door waits
+abbrev pub made_notice_core : Core → ℕ → ℕ → Core
+made_notice_core k n d = record (set_notice k n notice.Waiting) { noticed = upd k.noticed n d }
+
+pub make_notice_keeps :
+    (k : Core) (n d : ℕ) → IsCoherent k → k.notice n ≡ None → is_valid_in (k.door d) ≡ true → IsCoherent (made_notice_core k n d)
+make_notice_keeps k n d h p v =
+    record {
+      waits = h.waits;
+      invocations = h.invocations;
+      notices_given =
+          record {
+            notice_given = λ c u e. grind (arith, nat_tests, h.notices_given.notice_given c u);
+            notice_given_back = λ c u e. grind (arith, nat_tests, h.notices_given.notice_given_back c u);
+          };
+      notices_entered =
+          record {
+            notice_entered = λ c u e. grind (arith, nat_tests, h.notices_entered.notice_entered c u);
+            notice_entered_back = λ c u e. grind (arith, nat_tests, h.notices_entered.notice_entered_back c u);
+          };
+      notices_at_doors =
+          record {
+            notice_door = λ c e. grind (arith, nat_tests, h.notices_at_doors.notice_door c);
+            notice_valid = λ c e. grind (arith, nat_tests, h.notices_at_doors.notice_valid c);
+            notice_given_owner = λ c u e. grind (arith, nat_tests, h.notices_at_doors.notice_given_owner c u);
+            notice_entered_owner = λ c u e. grind (arith, nat_tests, h.notices_at_doors.notice_entered_owner c u);
+          };
+      servers = h.servers;
+      calls = h.calls;
+      at_doors = h.at_doors;
+      doors = h.doors;
+      bindings = h.bindings;
+      processes = h.processes;
+      threads = h.threads;
+      has_built_state = h.has_built_state;
+    }
+
+-- a waiting notice is given to an idle thread of the process that made its door
+abbrev pub given_notice_core : Core → ℕ → ℕ → Core
+given_notice_core k n u = set_role (set_notice k n (notice.Given (tid u))) u (is.Given (item.Notice n))
+
+pub record GivesNotice (k : Core) (n u : ℕ) : Type 0 where
+  pub since : ℕ
+  pub idle : k.role u ≡ is.Idle since
+  pub waiting : k.notice n ≡ Some notice.Waiting
+  pub owner : owner_in (k.door (k.noticed n)) ≡ Some (k.process u)
+
+pub give_notice_keeps : (k : Core) (n u : ℕ) → IsCoherent k → GivesNotice k n u → IsCoherent (given_notice_core k n u)
+give_notice_keeps k n u h p =
+    record {
+      waits =
+          record {
+            given = λ c v e. grind (arith, nat_tests, h.waits.given c v);
+            given_back = λ c v e. grind (arith, nat_tests, h.waits.given_back c v);
+            caller = λ c v e. grind (arith, nat_tests, h.waits.caller c v);
+            live = λ c v e. grind (arith, nat_tests, h.waits.live c v);
+            calling = λ c e. grind (arith, nat_tests, h.waits.calling c);
+          };
+      invocations = h.invocations;
+      notices_given =
+          record {
+            notice_given = λ c v e. grind (arith, nat_tests, h.notices_given.notice_given c v);
+            notice_given_back = λ c v e. grind (arith, nat_tests, h.notices_given.notice_given_back c v);
+          };
+      notices_entered =
+          record {
+            notice_entered = λ c v e. grind (arith, nat_tests, h.notices_entered.notice_entered c v);
+            notice_entered_back = λ c v e. grind (arith, nat_tests, h.notices_entered.notice_entered_back c v);
+          };
+      notices_at_doors =
+          record {
+            notice_door = λ c e. grind (arith, nat_tests, h.notices_at_doors.notice_door c);
+            notice_valid = λ c e. grind (arith, nat_tests, h.notices_at_doors.notice_valid c);
+            notice_given_owner = λ c v e. grind (arith, nat_tests, h.notices_at_doors.notice_given_owner c v);
+            notice_entered_owner = λ c v e. grind (arith, nat_tests, h.notices_at_doors.notice_entered_owner c v);
+          };
+      servers =
+          record {
+            outside = λ v e. grind (arith, nat_tests, h.servers.outside v);
+            below = λ c d v e f. grind (arith, nat_tests, h.servers.below c d v);
+            served_made = h.servers.served_made;
+          };
+      calls = h.calls;
+      at_doors = h.at_doors;
+      doors = h.doors;
+      bindings = h.bindings;
+      processes = processes_turn k.role k.process k.proc u _ h.processes (grind (arith, p.idle));
+      threads = h.threads;
+      has_built_state = λ v. grind (arith, nat_tests, h.has_built_state v);
+    }
+
+-- a thread enters the notice that it was given
+abbrev pub entered_notice_core : Core → ℕ → ℕ → Core
+entered_notice_core k t n =
+    set_role (set_serves (set_notice k n (notice.Entered (tid t))) t (Some (new_invocation (item.Notice n)))) t is.Running
+
+pub enter_notice_keeps :
+    (k : Core) (t n : ℕ) → IsCoherent k → k.role t ≡ is.Given (item.Notice n) → IsCoherent (entered_notice_core k t n)
+enter_notice_keeps k t n h g =
+    record {
+      waits =
+          record {
+            given = λ c v e. grind (arith, nat_tests, h.waits.given c v);
+            given_back = λ c v e. grind (arith, nat_tests, h.waits.given_back c v);
+            caller = λ c v e. grind (arith, nat_tests, h.waits.caller c v);
+            live = λ c v e. grind (arith, nat_tests, h.waits.live c v);
+            calling = λ c e. grind (arith, nat_tests, h.waits.calling c);
+          };
+      invocations =
+          record {
+            entered = λ c v e. grind (arith, nat_tests, h.invocations.entered c v, h.servers.outside t);
+            entered_back = λ c v e f. grind (arith, nat_tests, h.invocations.entered_back c v);
+            kept = h.invocations.kept;
+          };
+      notices_given =
+          record {
+            notice_given = λ c v e. grind (arith, nat_tests, h.notices_given.notice_given c v);
+            notice_given_back =
+                λ c v e. grind (arith, nat_tests, h.notices_given.notice_given_back c v, h.notices_given.notice_given_back n t);
+          };
+      notices_entered =
+          record {
+            notice_entered = λ c v e. grind (arith, nat_tests, h.notices_entered.notice_entered c v, h.servers.outside t);
+            notice_entered_back =
+                λ c v e. grind (arith, nat_tests, h.notices_entered.notice_entered_back c v, h.notices_given.notice_given_back n t);
+          };
+      notices_at_doors =
+          record {
+            notice_door = λ c e. grind (arith, nat_tests, h.notices_at_doors.notice_door c, h.notices_given.notice_given_back n t);
+            notice_valid = λ c e. grind (arith, nat_tests, h.notices_at_doors.notice_valid c);
+            notice_given_owner = λ c v e. grind (arith, nat_tests, h.notices_at_doors.notice_given_owner c v);
+            notice_entered_owner =
+                λ c v e. grind (arith, nat_tests, h.notices_at_doors.notice_entered_owner c v, h.notices_at_doors.notice_given_owner c v, h.notices_given.notice_given_back n t);
+          };
+      servers =
+          record {
+            outside = λ v e. grind (arith, nat_tests, h.servers.outside v);
+            below = λ c d v e f. grind (arith, nat_tests, h.servers.below c d v);
+            served_made = λ c v e. grind (arith, nat_tests, h.servers.served_made c v);
+          };
+      calls = h.calls;
+      at_doors = h.at_doors;
+      doors = h.doors;
+      bindings = h.bindings;
+      processes = processes_turn k.role k.process k.proc t _ h.processes (grind arith);
+      threads = h.threads;
+      has_built_state = λ v. grind (arith, nat_tests, h.has_built_state v);
+    }
+
+-- a thread returns from the notice that it has entered
+abbrev pub over_notice_core : Core → ℕ → ℕ → ThreadState → Core
+over_notice_core k t n s = set_role (set_serves (set_notice k n notice.Over) t None) t s
+
+pub end_notice_keeps :
+    (k : Core) (t n : ℕ) (s : ThreadState) → IsCoherent k → k.role t ≡ is.Running → is_after_return s ≡ true →
+    k.notice n ≡ Some (notice.Entered (tid t)) → IsCoherent (over_notice_core k t n s)
+end_notice_keeps k t n s h p w i =
+    record {
+      waits =
+          record {
+            given = λ c v e. grind (arith, nat_tests, h.waits.given c v);
+            given_back = λ c v e. grind (arith, nat_tests, h.waits.given_back c v);
+            caller = λ c v e. grind (arith, nat_tests, h.waits.caller c v);
+            live = λ c v e. grind (arith, nat_tests, h.waits.live c v);
+            calling = λ c e. grind (arith, nat_tests, h.waits.calling c);
+          };
+      invocations =
+          record {
+            entered = λ c v e. grind (arith, nat_tests, h.invocations.entered c v, h.notices_entered.notice_entered n t);
+            entered_back = λ c v e f. grind (arith, nat_tests, h.invocations.entered_back c v);
+            kept = h.invocations.kept;
+          };
+      notices_given =
+          record {
+            notice_given = λ c v e. grind (arith, nat_tests, h.notices_given.notice_given c v);
+            notice_given_back = λ c v e. grind (arith, nat_tests, h.notices_given.notice_given_back c v);
+          };
+      notices_entered =
+          record {
+            notice_entered =
+                λ c v e. grind (arith, nat_tests, h.notices_entered.notice_entered c v, h.notices_entered.notice_entered n t);
+            notice_entered_back = λ c v e. grind (arith, nat_tests, h.notices_entered.notice_entered_back c v);
+          };
+      notices_at_doors =
+          record {
+            notice_door = λ c e. grind (arith, nat_tests, h.notices_at_doors.notice_door c);
+            notice_valid = λ c e. grind (arith, nat_tests, h.notices_at_doors.notice_valid c);
+            notice_given_owner = λ c v e. grind (arith, nat_tests, h.notices_at_doors.notice_given_owner c v);
+            notice_entered_owner = λ c v e. grind (arith, nat_tests, h.notices_at_doors.notice_entered_owner c v);
+          };
+      servers =
+          record {
+            outside = λ v e. grind (arith, nat_tests, h.servers.outside v);
+            below = λ c d v e f. grind (arith, nat_tests, h.servers.below c d v);
+            served_made = λ c v e. grind (arith, nat_tests, h.servers.served_made c v);
+          };
+      calls = h.calls;
+      at_doors = h.at_doors;
+      doors = h.doors;
+      bindings = h.bindings;
+      processes = processes_turn k.role k.process k.proc t _ h.processes (grind arith);
+      threads = h.threads;
+      has_built_state = λ v. grind (arith, nat_tests, h.has_built_state v);
+    }
