@@ -1,6 +1,6 @@
 //! Sets of attributes (door_create(3C), door_info(3C)).
 ghost use Rattle.std.specs.Prelude.{◌≡◌};
-ghost use Rattle.kernel_records.specs.Words.{attributes_where, first_desc_max, has_attributes, has_told_attributes, is_private, refuses_descriptors};
+ghost use Rattle.kernel_records.specs.Words.{attributes_where, first_desc_max, has_attributes, has_told_attributes, has_unref_multi, is_private, refuses_descriptors, takes_notices};
 
 use dk_base::set::Attrs;
 
@@ -14,6 +14,19 @@ pub fn is_private(attrs: Attrs) -> bool
     ensures { result ≡ is_private attrs }
 {
     has_attributes(attrs, Attrs::PRIVATE)
+}
+
+pub fn has_unref_multi(attrs: Attrs) -> bool
+    ensures { result ≡ has_unref_multi attrs }
+{
+    has_attributes(attrs, Attrs::UNREF_MULTI)
+}
+
+/// Unreferenced notices of a door that has these can be made.
+pub fn takes_notices(attrs: Attrs) -> bool
+    ensures { result ≡ takes_notices attrs }
+{
+    has_attributes(attrs, Attrs::UNREF) || has_unref_multi(attrs)
 }
 
 pub fn refuses_descriptors(attrs: Attrs) -> bool

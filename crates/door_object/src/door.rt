@@ -1,8 +1,8 @@
 //! One door: whether it is valid, whose it is, who serves it, and who may revoke it.
 ghost use Rattle.std.specs.Prelude.{◌≡◌, Some};
-ghost use Rattle.kernel_records.specs.Words.{bind_tests, first_refusal, is_common_of, is_owned_by, is_valid_door, is_valid_in, is_valid_of, pool_in, pool_of_door, revoke_tests, revoked_door, with_owner_ended};
+ghost use Rattle.kernel_records.specs.Words.{bind_tests, first_refusal, has_many, is_common_of, is_owned_by, is_valid_door, is_valid_in, is_valid_of, may_take_notice_in, pool_in, pool_of_door, revoke_tests, revoked_door, with_owner_ended};
 
-use crate::attributes::is_private;
+use crate::attributes::{has_unref_multi, is_private, takes_notices};
 use dk_base::error::Errno;
 use dk_base::number::Pid;
 use kernel_records::pool::Pool;
@@ -60,6 +60,30 @@ pub fn is_common_of(door: &Door, p: Pid) -> bool
     ensures { result ≡ is_common_of p.0 door.now }
 {
     is_owned_by(door, p) && !is_private(door.attrs)
+}
+
+/// A door of which any number of notices can be made.
+pub fn has_many(door: Option<Door>) -> bool
+    ensures { result ≡ has_many door }
+{
+    match door {
+        Some(door) => has_unref_multi(door.attrs),
+        None => false,
+    }
+}
+
+/// Whether a notice of a door can be made, where it had one or not.
+pub fn may_take_notice(door: Option<Door>, had: bool) -> bool
+    ensures { result ≡ may_take_notice_in had door }
+{
+    match door {
+        Some(door) => {
+            takes_notices(door.attrs)
+                && is_valid_door(&door)
+                && (has_unref_multi(door.attrs) || !had)
+        }
+        None => false,
+    }
 }
 
 /// door_bind(3C): EBADF, EINVAL.

@@ -3,12 +3,12 @@ ghost use Rattle.std.specs.Prelude.{◌≡◌, ◌+◌, ◌<◌, ◌≤◌, [], 
 ghost use Rattle.dk_base.specs.declared.error.Errno.TheVariants.{EINVAL};
 ghost use Rattle.dk_base.specs.declared.limits.TheConstants.{EVENTS_MAX};
 ghost use Rattle.dk_base.specs.ByNumber.{at_number};
-ghost use Rattle.kernel_records.specs.Words.{bind_tests, end_owner, first_refusal, has_common_door, has_told_attributes, info_in, is_valid_in, limit_tests, new_door, param_in, pool_in, refused_where, revoke_door, revoke_tests, set_param, set_param_tests, unless_refused_with, valid_doors_of, with_door};
+ghost use Rattle.kernel_records.specs.Words.{bind_tests, end_owner, first_refusal, has_common_door, has_many, has_told_attributes, info_in, is_valid_in, limit_tests, may_take_notice_in, new_door, notice_doors, param_in, pool_in, refused_where, revoke_door, revoke_tests, set_param, set_param_tests, unless_refused_with, valid_doors_of, with_door};
 
-use crate::attributes::{first_desc_max, has_told_attributes};
+use crate::attributes::{first_desc_max, has_told_attributes, takes_notices};
 use crate::door::{
-    bind_refusal, end_owner, is_common_of, is_valid_in, is_valid_of, mark_revoked, pool_in,
-    revoke_refusal,
+    bind_refusal, end_owner, has_many, is_common_of, is_valid_in, is_valid_of, mark_revoked,
+    may_take_notice, pool_in, revoke_refusal,
 };
 use crate::info::info_in;
 use crate::limits::limit_refusal;
@@ -29,16 +29,21 @@ use std::marker::Model;
 #[derive(Drop)]
 pub struct Doors {
     doors: Vec<Door>,
+    /// The numbers of those of which notices can be made.
+    with_notices: Vec<u32>,
 }
 
 impl Model for Doors {
-    ghost use Rattle.std.specs.Prelude.{◌-◌, vec_len, vec_capacity};
+    ghost use Rattle.std.specs.Prelude.{◌≡◌, ◌-◌, min, vec_len, vec_capacity};
     ghost use Rattle.dk_base.specs.Spare.{RoomValue};
     ghost use Rattle.kernel_records.specs.declared.record.Door.{Door};
+    ghost use Rattle.kernel_records.specs.Words.{notice_doors};
 
     ghost Value = { RoomValue Door };
 
-    ghost view = { λ s. record { items = s.doors.items; spare = vec_capacity s.doors - vec_len s.doors } };
+    ghost view = { λ s. record { items = s.doors.items; spare = min (vec_capacity s.doors - vec_len s.doors) (vec_capacity s.with_notices - vec_len s.with_notices) } };
+
+    ghost invariant = { λ s. s.with_notices.items ≡ notice_doors s.doors.items };
 }
 
 fn door_at(doors: &[Door], d: u32) -> Option<Door>
@@ -129,6 +134,7 @@ impl Doors {
     {
         Doors {
             doors: Vec::new(alloc),
+            with_notices: Vec::new(alloc),
         }
     }
 
@@ -147,6 +153,9 @@ impl Doors {
         ensures err { OnErr result (self.new ≡ self.old) }
         ensures cause { OnErr result (self.old.spare ≡ 0) }
     {
+        if self.with_notices.reserve(1).is_err() {
+            return Err(NoMemory);
+        }
         match self.doors.reserve(1) {
             Ok(()) => Ok(()),
             Err(_) => Err(NoMemory),
@@ -183,9 +192,11 @@ impl Doors {
             return Err(error);
         }
         let number = self.doors.len() as u32 + 1;
-        let _ = self
-            .doors
-            .push(new_door(number, owner, entry, cookie, attrs));
+        self.doors
+            .push_reserved(new_door(number, owner, entry, cookie, attrs));
+        if takes_notices(attrs) {
+            self.with_notices.push_reserved(number);
+        }
         Ok(number)
     }
 
@@ -201,6 +212,28 @@ impl Doors {
         ensures { result ≡ is_valid_in (at_number self.now.items d) }
     {
         is_valid_in(self.door(d))
+    }
+
+    /// The numbers of the doors of which notices can be made, in order.
+    pub fn notice_doors(&self) -> &[u32]
+        ensures { result.now ≡ notice_doors self.now.items }
+    {
+        self.with_notices.as_slice()
+    }
+
+    /// Whether any number of notices of a door can be made.
+    pub fn takes_many(&self, d: u32) -> bool
+        ensures { result ≡ has_many (at_number self.now.items d) }
+    {
+        has_many(self.door(d))
+    }
+
+    /// Whether a notice of a door can be made, where it had one or not: of one that is there and valid, has DOOR_UNREF or
+    /// DOOR_UNREF_MULTI, and had none or has the latter.
+    pub fn may_take_notice(&self, d: u32, had: bool) -> bool
+        ensures { result ≡ may_take_notice_in had (at_number self.now.items d) }
+    {
+        may_take_notice(self.door(d), had)
     }
 
     /// The pool that serves a door, that of process 0 for no door.

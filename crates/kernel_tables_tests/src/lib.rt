@@ -1,5 +1,5 @@
 //! Tests of the tables of the kernel: descriptors, and those that are passed, names, processes and threads, doors, server pools,
-//! calls.
+//! calls, notices.
 #![tactic(auto)]
 
 #[cfg(test)]
@@ -10,6 +10,8 @@ mod descriptors;
 mod doors;
 #[cfg(test)]
 mod names;
+#[cfg(test)]
+mod notices;
 #[cfg(test)]
 mod passing;
 #[cfg(test)]

@@ -54,6 +54,19 @@ fn queued(pools: &mut Pools, pool: Pool, item: Item) -> Option<Result<(), Errno>
     ))
 }
 
+/// Whether an item waits in a pool that is there, where room for two is taken.
+fn is_queued_with_room(pools: &mut Pools, pool: Pool, item: Item) -> bool {
+    if !pools.has(pool) || pools.room_for_items(pool, 2).is_err() {
+        return false;
+    }
+    let waiting = Waiting {
+        item,
+        made: 1,
+        door: 1,
+    };
+    pools.enqueue(pool, waiting).is_ok()
+}
+
 fn is_queued(pools: &mut Pools, pool: Pool, item: Item) -> bool {
     matches!(queued(pools, pool, item), Some(Ok(())))
 }
@@ -98,7 +111,11 @@ fn are_calls_withdrawn(pools: &mut Pools) -> bool {
 #[test]
 fn at_most_32_calls_wait_in_a_pool(rt: HostRuntime) -> Result<(), Fail> {
     let mut pools = Pools::new(rt.alloc())?;
-    assert!(rt; are_calls_counted(&mut pools) && are_calls_withdrawn(&mut pools));
+    assert!(rt;
+        are_calls_counted(&mut pools)
+            && is_queued_with_room(&mut pools, SERVED, Item::Notice(2))
+            && are_calls_withdrawn(&mut pools)
+    );
     Ok(())
 }
 

@@ -150,6 +150,19 @@ impl ServerPool {
         }
     }
 
+    /// Room for so many more items. Want of memory changes nothing.
+    pub fn room_for_items(&mut self, n: usize) -> Result<(), NoMemory>
+        ensures same { self.new ≡ with_room self.new.thread_room self.new.item_room self.old }
+        ensures threads { self.old.thread_room ≤ self.new.thread_room }
+        ensures items { self.old.item_room ≤ self.new.item_room }
+        ensures ok { OnOk result (n ≤ self.new.item_room) }
+    {
+        match self.waiting.reserve(n) {
+            Ok(()) => Ok(()),
+            Err(_) => Err(NoMemory),
+        }
+    }
+
     /// Whether a thread would park after all the others.
     pub fn is_later(&self, x: Parked) -> bool
         ensures { IsTrue result ↔ AllParkedBefore self.now.parked x }

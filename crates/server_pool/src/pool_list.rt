@@ -48,6 +48,23 @@ pub fn room_for_threads_at(pools: &mut [ServerPool], number: u32, n: usize) -> R
     }
 }
 
+/// Room for so many more items of a pool, if it is there.
+#[tactic(auto, using(crate::proofs::Places::numbered_here))]
+pub fn room_for_items_at(pools: &mut [ServerPool], number: u32, n: usize) -> Result<(), NoMemory>
+    ensures same { pools.new ≡ change_at_number pools.old number (with_room (pool_or_empty (at_number pools.new number)).thread_room (pool_or_empty (at_number pools.new number)).item_room) }
+    ensures threads { (pool_or_empty (at_number pools.old number)).thread_room ≤ (pool_or_empty (at_number pools.new number)).thread_room }
+    ensures items { (pool_or_empty (at_number pools.old number)).item_room ≤ (pool_or_empty (at_number pools.new number)).item_room }
+    ensures ok { OnOk result (is_some (at_number pools.old number) ≡ true → n ≤ (pool_or_empty (at_number pools.new number)).item_room) }
+{
+    match place_of(pools, number) {
+        Some(place) => {
+            let pool = &mut pools[place];
+            pool.room_for_items(n)
+        }
+        None => Ok(()),
+    }
+}
+
 /// A thread parks in a pool after all the others. It takes no memory.
 #[tactic(auto, using(crate::proofs::Places::numbered_here))]
 pub fn park_at(pools: &mut [ServerPool], number: u32, x: Parked)

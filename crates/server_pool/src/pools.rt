@@ -12,7 +12,8 @@ use crate::facts::Match;
 use crate::numbered::numbered_item;
 use crate::pool::ServerPool;
 use crate::pool_list::{
-    enqueue_at, match_at, park_at, room_at, room_for_threads_at, unpark_at, withdraw_at,
+    enqueue_at, match_at, park_at, room_at, room_for_items_at, room_for_threads_at, unpark_at,
+    withdraw_at,
 };
 use crate::spares::{Spares, add_spare_at, take_back_at, take_spare_at, withdraw_spare_at};
 use dk_base::error::{Errno, NoMemory};
@@ -120,6 +121,20 @@ impl Pools {
         match pool {
             Pool::Common(p) => room_for_threads_at(&mut self.common, p.0, n),
             Pool::Private(d) => room_for_threads_at(&mut self.private, d, n),
+        }
+    }
+
+    /// Room for so many more items in a pool, if it is there. Want of memory changes nothing but the room, which is never less
+    /// than it was.
+    pub fn room_for_items(&mut self, pool: Pool, n: usize) -> Result<(), NoMemory>
+        ensures same { self.new ≡ change_pool self.old pool (with_room (thread_room_in self.new pool) (item_room_in self.new pool)) }
+        ensures threads { thread_room_in self.old pool ≤ thread_room_in self.new pool }
+        ensures items { item_room_in self.old pool ≤ item_room_in self.new pool }
+        ensures ok { OnOk result (is_some (pool_at self.old pool) ≡ true → n ≤ item_room_in self.new pool) }
+    {
+        match pool {
+            Pool::Common(p) => room_for_items_at(&mut self.common, p.0, n),
+            Pool::Private(d) => room_for_items_at(&mut self.private, d, n),
         }
     }
 

@@ -1,0 +1,120 @@
+//! Unreferenced notices: one through its stages, at a door that has at most one and at a door that may have more, and what is left
+//! of notices where threads end and doors are lost.
+
+use dk_base::number::{Pid, Tid};
+use dk_base::set::Attrs;
+use door_object::doors::Doors;
+use kernel_records::record::NoticeStage;
+use unref_notice::notices::Notices;
+
+/// The door that has at most one notice.
+const ONE: u32 = 1;
+
+/// A door that may have more.
+const MANY: u32 = 2;
+
+/// Whether another door is made.
+fn is_door_made(doors: &mut Doors, attrs: Attrs) -> bool {
+    doors.reserve().is_ok() && doors.count() < 3 && doors.create(Pid(1), 7, 9, attrs).is_ok()
+}
+
+/// Whether a notice of a door is made under this number.
+fn is_made(notices: &mut Notices, d: u32, number: u32) -> bool {
+    notices.reserve(1).is_ok() && notices.make(d, 5) == number
+}
+
+/// Whether a notice is given to a thread, which enters it.
+fn is_entered(notices: &mut Notices, n: u32, t: Tid) -> bool {
+    notices.give(n, t);
+    notices.given(n, t).is_some()
+        && matches!(notices.enter(n, t), Some(notice) if notice.number == n)
+        && notices.given(n, t).is_none()
+        && notices.enter(n, t).is_none()
+}
+
+/// Where the notice at a place stands, if it has this number.
+fn stage_at(notices: &Notices, place: usize, number: u32) -> Option<NoticeStage> {
+    if place >= notices.len() {
+        return None;
+    }
+    let notice = notices.at(place);
+    if notice.number == number {
+        Some(notice.stage)
+    } else {
+        None
+    }
+}
+
+/// The notice that a thread has entered is over, where those that are past were forgotten before.
+fn ends(notices: &mut Notices, doors: &Doors, t: Tid) {
+    notices.leave(doors, |_| false, |_| false);
+    notices.end(t, doors);
+}
+
+/// What is over of a door that has at most one notice stays, so that it has no other; of another door it is forgotten.
+fn are_ended(notices: &mut Notices, doors: &Doors) -> bool {
+    if !(is_made(notices, ONE, 1) && is_made(notices, MANY, 2) && is_made(notices, MANY, 3)) {
+        return false;
+    }
+    if !(is_entered(notices, 1, Tid(4)) && is_entered(notices, 2, Tid(6))) {
+        return false;
+    }
+    ends(notices, doors, Tid(4));
+    ends(notices, doors, Tid(6));
+    ends(notices, doors, Tid(6));
+    notices.len() == 2
+        && matches!(stage_at(notices, 0, 1), Some(NoticeStage::Over))
+        && matches!(stage_at(notices, 1, 3), Some(NoticeStage::Waiting))
+        && notices.has(ONE)
+}
+
+/// Two doors, the first with DOOR_UNREF, the second with DOOR_UNREF_MULTI.
+fn are_doors_made(doors: &mut Doors) -> bool {
+    is_door_made(doors, Attrs::UNREF)
+        && is_door_made(doors, Attrs::UNREF_MULTI)
+        && doors.notice_doors() == [ONE, MANY].as_slice()
+}
+
+/// Whether a notice of a door can be made, where it had one and where it had none.
+fn may_take(doors: &Doors, d: u32) -> (bool, bool) {
+    (
+        doors.may_take_notice(d, true),
+        doors.may_take_notice(d, false),
+    )
+}
+
+#[test]
+fn a_notice_ends_with_its_invocation(rt: HostRuntime) {
+    let alloc = rt.alloc();
+    let mut doors = Doors::new(alloc);
+    assert!(rt; are_doors_made(&mut doors) && doors.takes_many(MANY) && !doors.takes_many(ONE));
+    assert!(rt; may_take(&doors, ONE) == (false, true) && may_take(&doors, MANY) == (true, true));
+    let mut notices = Notices::new(alloc);
+    assert!(rt; are_ended(&mut notices, &doors));
+    assert!(rt; doors.revoke(MANY, Pid(1)).is_ok() && may_take(&doors, MANY) == (false, false));
+}
+
+/// Of four notices, the first waits at a door that is lost, threads that end were given the second and have entered the third, and
+/// the fourth waits.
+fn are_left(notices: &mut Notices, doors: &Doors) -> bool {
+    if !(is_made(notices, ONE, 1) && is_made(notices, MANY, 2) && is_made(notices, MANY, 3)) {
+        return false;
+    }
+    if !(is_made(notices, MANY, 4) && is_entered(notices, 3, Tid(7))) {
+        return false;
+    }
+    notices.give(2, Tid(6));
+    notices.leave(doors, |t| t == 6 || t == 7, |d| d == ONE);
+    notices.len() == 2
+        && matches!(stage_at(notices, 0, 1), Some(NoticeStage::Dropped))
+        && matches!(stage_at(notices, 1, 4), Some(NoticeStage::Waiting))
+}
+
+#[test]
+fn notices_are_left_by_their_stages(rt: HostRuntime) {
+    let alloc = rt.alloc();
+    let mut doors = Doors::new(alloc);
+    assert!(rt; are_doors_made(&mut doors));
+    let mut notices = Notices::new(alloc);
+    assert!(rt; are_left(&mut notices, &doors));
+}

@@ -1,0 +1,13 @@
+use Rattle.std.proofs.Common.{ap, sym, ◌∙◌}
+use Rattle.kernel_records.specs.declared.record.NoticeStage.TheVariants as stage
+use Rattle.kernel_records.specs.Words.{is_waiting_notice_as, notice_at, tid}
+use Rattle.unref_notice.proofs.Places.{changed_there, changed_nowhere}
+use Rattle.unref_notice.proofs.change.give_waiting.Goals as goal
+
+pub returns-in-Some-clause-changed : goal.returns-in-Some-clause-changed
+returns-in-Some-clause-changed c =
+    changed_there (is_waiting_notice_as c.args.n) (notice_at (stage.Given (tid c.args.t.0))) c.args.notices.now.items c.in-Some.place c.index_mut-notice.result.now c.move_on.new.notice (cc) (c.move_on.ensures ∙ ap (notice_at (stage.Given (tid c.args.t.0))) c.index_mut-notice.ensures.value)
+
+pub returns-in_default-clause-changed : goal.returns-in_default-clause-changed
+returns-in_default-clause-changed c =
+    sym (changed_nowhere (is_waiting_notice_as c.args.n) (notice_at (stage.Given (tid c.args.t.0))) c.args.notices.now.items (cc))

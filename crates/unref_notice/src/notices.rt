@@ -1,0 +1,171 @@
+//! The notices of a kernel, in the order in which they were made.
+ghost use Rattle.std.specs.Prelude.{◌≡◌, ◌+◌, ◌<◌, ◌≤◌, ℕ, Bool, [], OnOk, find, get_or, length};
+ghost use Rattle.kernel_records.specs.declared.record.Notice.{Notice};
+ghost use Rattle.kernel_records.specs.Words.{Leaving, end_notice, enter_notice, give_notice, has_notice, is_given_notice_as, kept_notices, left_notices, make_notice};
+ghost use Rattle.unref_notice.specs.declared.notices.TheConstants.{NOTICES_MAX};
+ghost use Rattle.unref_notice.specs.Words.{AnswersAs};
+
+use crate::change::{end_at, enter_given, give_waiting, place_entered, place_given};
+use crate::leave::{keep, leave_all};
+use crate::stage::is_of_door;
+use dk_base::error::NoMemory;
+use dk_base::number::Tid;
+use door_object::doors::Doors;
+use kernel_records::record::{Notice, NoticeStage};
+use std::alloc::Global;
+use std::collections::VecDeque;
+use std::marker::Model;
+
+/// The greatest number of a notice.
+pub const NOTICES_MAX: u32 = u32::MAX;
+
+/// Unreferenced notices, in the order in which they were made, and how many were made in all. Clauses see both (`list`), and
+/// how many more take no memory (`spare`).
+#[derive(Drop)]
+pub struct Notices {
+    made: u32,
+    notices: VecDeque<Notice>,
+}
+
+impl Model for Notices {
+    ghost use Rattle.std.specs.Prelude.{◌-◌};
+    ghost use Rattle.std.specs.VecDeque.{deque_len, deque_capacity};
+    ghost use Rattle.unref_notice.specs.Words.{NoticesValue};
+
+    ghost Value = { NoticesValue };
+
+    ghost view = { λ s. record { list = record { made = s.made; notices = s.notices.items }; spare = deque_capacity s.notices - deque_len s.notices } };
+}
+
+impl Notices {
+    /// No notice was made, and there is no room.
+    pub fn new(alloc: Global) -> Self
+        ensures { result ≡ record { list = record { made = 0; notices = [] }; spare = 0 } }
+    {
+        Notices {
+            made: 0,
+            notices: VecDeque::from_vec(Vec::new(alloc)),
+        }
+    }
+
+    /// Room for so many more notices. Want of memory leaves the notices as they were. It is also answered where so many more
+    /// could not be numbered, to which no kernel comes.
+    pub fn reserve(&mut self, n: usize) -> Result<(), NoMemory>
+        ensures list { self.new.list ≡ self.old.list }
+        ensures kept { self.old.spare ≤ self.new.spare }
+        ensures room { OnOk result (n ≤ self.new.spare) }
+        ensures numbers { OnOk result (self.new.list.made + n ≤ NOTICES_MAX) }
+    {
+        if n > (NOTICES_MAX - self.made) as usize {
+            return Err(NoMemory);
+        }
+        match self.notices.reserve(n) {
+            Ok(()) => Ok(()),
+            Err(_) => Err(NoMemory),
+        }
+    }
+
+    /// How many notices there are.
+    pub fn len(&self) -> usize
+        ensures { result ≡ length self.now.list.notices }
+    {
+        self.notices.len()
+    }
+
+    /// The notice at a place, in the order in which they were made.
+    pub fn at(&self, place: usize) -> Notice
+        requires { place < length self.now.list.notices }
+        ensures { (d : Notice) → result ≡ get_or self.now.list.notices place d }
+    {
+        self.notices[place]
+    }
+
+    /// Whether a door ever had a notice, of a door that has at most one; of another whether it has one that is not past.
+    pub fn has(&self, d: u32) -> bool
+        ensures { result ≡ has_notice self.now.list d }
+    {
+        self.notices.iter().any(|notice| is_of_door(notice, d))
+    }
+
+    /// The notice that a thread was given under this number.
+    pub fn given(&self, n: u32, t: Tid) -> Option<Notice>
+        ensures { result ≡ find (is_given_notice_as n t.0) self.now.list.notices }
+    {
+        let Some(place) = place_given(&self.notices, n, t) else {
+            return None;
+        };
+        Some(self.notices[place])
+    }
+
+    /// Another notice of a door is made at this event, after the others, and its number is answered. It takes no memory.
+    pub fn make(&mut self, d: u32, now: u64) -> u32
+        requires room { 0 < self.old.spare }
+        requires numbers { self.old.list.made < NOTICES_MAX }
+        ensures list { self.new.list ≡ make_notice self.old.list now d }
+        ensures number { result ≡ self.old.list.made + 1 }
+        ensures spare { self.old.spare ≤ self.new.spare + 1 }
+    {
+        self.made += 1;
+        self.notices.push_back_reserved(Notice {
+            number: self.made,
+            made: now,
+            door: d,
+            stage: NoticeStage::Waiting,
+        });
+        self.made
+    }
+
+    /// A waiting notice is given to a thread. Where no notice of the number waits, nothing changes.
+    pub fn give(&mut self, n: u32, t: Tid)
+        ensures list { self.new.list ≡ give_notice self.old.list n t.0 }
+        ensures spare { self.new.spare ≡ self.old.spare }
+    {
+        give_waiting(&mut self.notices, n, t);
+    }
+
+    /// A thread enters the notice that it was given. The record as it was is handed out. Where the thread was not given the notice,
+    /// nothing changes.
+    pub fn enter(&mut self, n: u32, t: Tid) -> Option<Notice>
+        ensures before { result ≡ find (is_given_notice_as n t.0) self.old.list.notices }
+        ensures list { self.new.list ≡ enter_notice self.old.list n t.0 }
+        ensures spare { self.new.spare ≡ self.old.spare }
+    {
+        enter_given(&mut self.notices, n, t)
+    }
+
+    /// The notice that a thread has entered is over, and is forgotten where its door may have others. Where the thread has entered
+    /// none, nothing changes.
+    pub fn end(&mut self, t: Tid, doors: &Doors)
+        requires kept { kept_notices doors.now.items self.old.list ≡ self.old.list }
+        ensures list { self.new.list ≡ kept_notices doors.now.items (end_notice self.old.list t.0) }
+        ensures spare { self.old.spare ≤ self.new.spare }
+    {
+        let Some(place) = place_entered(&self.notices, t) else {
+            return;
+        };
+        let door = self.notices[place].door;
+        if doors.takes_many(door) {
+            let _ = self.notices.remove(place);
+        } else {
+            end_at(&mut self.notices, place);
+        }
+    }
+
+    /// What becomes of the notices where threads end and doors are lost, of which the tests tell by number: of threads, and of doors.
+    /// Those that are past then are forgotten, but for those of doors that have at most one.
+    pub fn leave<E: Fn(u32) -> bool, L: Fn(u32) -> bool>(
+        &mut self,
+        doors: &Doors,
+        ends: E,
+        loses: L,
+    )
+        requires ends { E.IsAlwaysCallable ends }
+        requires loses { L.IsAlwaysCallable loses }
+        ensures list { (who : Leaving) → AnswersAs (E.post ends) who.ends → AnswersAs (L.post loses) who.loses → self.new.list ≡ kept_notices doors.now.items (left_notices who self.old.list) }
+        ensures kept { kept_notices doors.now.items self.new.list ≡ self.new.list }
+        ensures spare { self.old.spare ≤ self.new.spare }
+    {
+        leave_all(self.notices.make_contiguous(), ends, loses);
+        keep(&mut self.notices, doors);
+    }
+}
