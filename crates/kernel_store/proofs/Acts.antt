@@ -5,11 +5,12 @@ use Rattle.dk_base.specs.declared.error.Errno.TheVariants.{EBADF}
 use Rattle.dk_base.specs.declared.object.Item.TheVariants as item
 use Rattle.kernel_records.specs.declared.pool.Pool.TheVariants.{Common, Private}
 use Rattle.kernel_records.specs.declared.record.ThreadState.TheVariants as is
-use Rattle.kernel_records.specs.Words.{bound_at, change_first, end_thread, enter_call, enter_thread, is_dormant, is_done, is_idle, park_thread, process_in, set_thread_state, state_in, thread_at, tid}
-use Rattle.written_kernel.specs.Types.{Call, Pool, Thread, ThreadState}
+use Rattle.kernel_records.specs.Words.{bound_at, change_first, change_first_notice, end_thread, enter_call, enter_notice, enter_thread, is_dormant, is_done, is_idle, park_thread, process_in, set_thread_state, state_in, thread_at, tid}
+use Rattle.written_kernel.specs.Types.{Call, Notice, Pool, Thread, ThreadState}
 use Rattle.written_kernel.specs.Words.{bound_of, is_running, is_running_state, state_of}
 use Rattle.server_pool.specs.Words.{AllParkedBefore, PoolValue, PoolsValue, change_pool, park_in, pool_at, stack_in, thread_room_in}
 use Rattle.pool_agreement.specs.Words.{Agrees, IsGivenOut, IsGivenOutBut, own_pool, pool_by}
+use Rattle.pool_agreement.proofs.Noticing.{agrees_enter_notice}
 use Rattle.pool_agreement.proofs.Queues.{agrees_enter as agrees_enter_call}
 use Rattle.pool_agreement.proofs.Readers.{queue-change_other, stack-change_other}
 use Rattle.pool_agreement.proofs.Stacks.{agrees_bind, agrees_ended, agrees_enter, agrees_park, agrees_turn, own_pool_there, park_above}
@@ -56,6 +57,18 @@ none_changed test change (r ∷ rs) e = go (test r) e (λ f. none_changed test c
     go true f same = cc
     go false f same = ap (λ xs. r ∷ xs) (same f)
 
+-- and no notice
+pub no_notice_changed :
+    (test : Notice → Bool) (change : Notice → Notice) (ns : List Notice) → find test ns ≡ None → change_first_notice test change ns ≡ ns
+no_notice_changed test change [] e = refl
+no_notice_changed test change (n ∷ ns) e = go (test n) e (λ f. no_notice_changed test change ns f)
+  where
+    go :
+        (b : Bool) → (if b then Some n else find test ns) ≡ None → (find test ns ≡ None → change_first_notice test change ns ≡ ns) →
+        (if b then change n ∷ ns else n ∷ change_first_notice test change ns) ≡ n ∷ ns
+    go true f same = cc
+    go false f same = ap (λ xs. n ∷ xs) (same f)
+
 -- what holds of a result that is Ok
 pub holds_ok : {X E P : Type 0} (r : Result X E) → is_ok r ≡ true → OnOk r P → P
 holds_ok (Ok x) e p = p
@@ -77,25 +90,31 @@ module _ {s now : StoreValue} (h : IsAgreed s) (same : s ≡ now) where
 
   pub turned :
       (t : ℕ) (x : ThreadState) → is_idle (state_of (stored_state now) t) ≡ false → is_dormant (state_of (stored_state now) t) ≡ false →
-      is_idle x ≡ false → is_dormant x ≡ false → Agrees s.latest (set_thread_state s.processes t x) s.doors.items s.calls.tree s.pools
+      is_idle x ≡ false → is_dormant x ≡ false → Agrees s.latest (set_thread_state s.processes t x) s.doors.items s.calls.tree s.notices.list s.pools
   turned t x idle dormant not_idle not_dormant =
       agrees_turn h t x (ap is_idle (state_is t) ∙ idle) (ap is_dormant (state_is t) ∙ dormant) not_idle not_dormant
 
-  pub ended : (t : ℕ) → is_running (stored_state now) t ≡ true → Agrees s.latest (end_thread s.processes t) s.doors.items s.calls.tree s.pools
+  pub ended : (t : ℕ) → is_running (stored_state now) t ≡ true → Agrees s.latest (end_thread s.processes t) s.doors.items s.calls.tree s.notices.list s.pools
   ended t e =
       agrees_ended h t (ap is_idle (state_is t) ∙ running_not_idle (state_of (stored_state now) t) e)
       (ap is_dormant (state_is t) ∙ running_not_dormant (state_of (stored_state now) t) e)
 
   pub bound :
       (t : ℕ) (b : Option ℕ) → is_running (stored_state now) t ≡ true →
-      Agrees s.latest s.processes s.doors.items s.calls.tree (record s.pools { bindings = with_at_number s.pools.bindings t b })
+      Agrees s.latest s.processes s.doors.items s.calls.tree s.notices.list (record s.pools { bindings = with_at_number s.pools.bindings t b })
   bound t b e = agrees_bind h t b (ap is_idle (state_is t) ∙ running_not_idle (state_of (stored_state now) t) e)
 
   pub entered :
       (c t : ℕ) → state_of (stored_state now) t ≡ is.Given (item.Call c) →
-      Agrees s.latest (enter_thread s.processes t (item.Call c)) s.doors.items (enter_call s.calls.tree c t) s.pools
+      Agrees s.latest (enter_thread s.processes t (item.Call c)) s.doors.items (enter_call s.calls.tree c t) s.notices.list s.pools
   entered c t e =
       agrees_enter (agrees_enter_call h c t) t (item.Call c) (ap is_idle (state_is t ∙ e)) (ap is_dormant (state_is t ∙ e))
+
+  pub entered_notice :
+      (k t : ℕ) → state_of (stored_state now) t ≡ is.Given (item.Notice k) →
+      Agrees s.latest (enter_thread s.processes t (item.Notice k)) s.doors.items s.calls.tree (enter_notice s.notices.list k t) s.pools
+  entered_notice k t e =
+      agrees_enter (agrees_enter_notice h k t) t (item.Notice k) (ap is_idle (state_is t ∙ e)) (ap is_dormant (state_is t ∙ e))
 
   -- a thread parks
 
@@ -124,7 +143,7 @@ module _ {s now : StoreValue} (h : IsAgreed s) (same : s ≡ now) where
 
     pub parked :
         is_idle (state_of (stored_state now) t) ≡ false → is_dormant (state_of (stored_state now) t) ≡ false → now.latest ≤ now.events →
-        Agrees (s.events + 1) (park_thread s.processes t (s.events + 1)) s.doors.items s.calls.tree
+        Agrees (s.events + 1) (park_thread s.processes t (s.events + 1)) s.doors.items s.calls.tree s.notices.list
         (change_pool s.pools pool (park_in (record { thread = tid t; pool = pool; since = s.events + 1 })))
     parked idle dormant first =
         let early : s.latest ≤ s.events = subst (λ (v : StoreValue). v.latest ≤ v.events) (sym same) first in

@@ -1,13 +1,13 @@
 -- Pools that hold the same threads, items and spares, and pools that hold no more: what that keeps.
-use Rattle.std.proofs.Common.{◌≡◌, inl, inr, ℕ, ◌+◌, ◌==◌, Bool, true, false, if◌then◌else◌, List, [], ◌∷◌, ◌++◌, Some, length, refl, sym, ap, ◌∙◌, subst, subst₂, arith}
+use Rattle.std.proofs.Common.{◌≡◌, inl, inr, ℕ, ◌+◌, ◌≤◌, ◌==◌, Bool, true, false, if◌then◌else◌, List, [], ◌∷◌, ◌++◌, Some, length, refl, sym, ap, ◌∙◌, subst, subst₂, le_refl, arith}
 use Rattle.std.proofs.lemmas.Bool.Decides.{nat_tests}
 use Rattle.dk_base.specs.ByNumber.{at_number}
 use Rattle.kernel_records.specs.declared.pool.Pool.TheVariants.{Common, Private}
-use Rattle.kernel_records.specs.Words.{CallTree, ProcessTable}
+use Rattle.kernel_records.specs.Words.{CallTree, NoticeList, ProcessTable}
 use Rattle.written_kernel.specs.Types.{Door, Pool}
 use Rattle.written_kernel.proofs.Lists.{numbered_past, numbered_push}
-use Rattle.server_pool.specs.Words.{PoolValue, PoolsValue, change_pool, empty_pool, pool_at, pool_or_empty, queue_in, spares_of, stack_in, with_room}
-use Rattle.pool_agreement.specs.Words.{Agrees, IsGivenOut, IsGivenOutIn, IsStackOf}
+use Rattle.server_pool.specs.Words.{PoolValue, PoolsValue, change_pool, empty_pool, item_room_in, pool_at, pool_or_empty, queue_in, spares_of, stack_in, with_room}
+use Rattle.pool_agreement.specs.Words.{Agrees, IsGivenOut, IsGivenOutIn, IsQueueOf, IsStackOf}
 use Rattle.pool_agreement.proofs.Leaving.{read_kept}
 use Rattle.pool_agreement.proofs.Readers.{bindings-change_pool, common-change_pool, private-change_pool, spares-change_pool}
 pub use Rattle.kernel_store.specs.Leaving.{HoldsSame}
@@ -38,14 +38,18 @@ same_in_room v u w doors threads items pool e f =
         }
 
 pub agrees_same :
-    {n : ℕ} {table : ProcessTable} {doors : List Door} {tree : CallTree} {v w : PoolsValue} →
-    Agrees n table doors tree v → HoldsSame v w → Agrees n table doors tree w
-agrees_same {n} {table} {doors} {tree} {v} {w} h same =
+    {n : ℕ} {table : ProcessTable} {doors : List Door} {tree : CallTree} {list : NoticeList} {v w : PoolsValue} →
+    Agrees n table doors tree list v → HoldsSame v w → Agrees n table doors tree list w
+agrees_same {n} {table} {doors} {tree} {list} {v} {w} h same =
     record {
       stacks = λ q. subst₂ (λ b s. IsStackOf table b n q s) (sym same.bindings) (sym (same.stacks q)) (h.stacks q);
-      queues = λ q. same.queues q ∙ h.queues q;
+      queues = λ q. subst (IsQueueOf doors tree.calls list.notices q) (sym (same.queues q)) (h.queues q);
       spares = λ p. same.spares p ∙ h.spares p;
       calls = h.calls;
+      call_dates = h.call_dates;
+      notices = h.notices;
+      notice_dates = h.notice_dates;
+      kept = h.kept;
       common = same.common ∙ h.common;
       spare_lists = same.spare_lists ∙ h.spare_lists;
       private = same.private ∙ h.private;
@@ -84,6 +88,14 @@ given_out_door v w common private = given_out_made v w same
     same : (pool : Pool) → pool_or_empty (pool_at w pool) ≡ pool_or_empty (pool_at v pool)
     same (Common p) = ap (λ xs. pool_or_empty (at_number xs p.0)) common
     same (Private d) = ap (λ xs. pool_or_empty (at_number xs d)) private ∙ made_empty v.private d
+
+pub items_door :
+    (v w : PoolsValue) → w.common ≡ v.common → w.private ≡ v.private ++ empty_pool ∷ [] → (pool : Pool) → item_room_in v pool ≤ item_room_in w pool
+items_door v w common private pool = subst (λ n. item_room_in v pool ≤ n) (sym (same pool)) (le_refl (item_room_in v pool))
+  where
+    same : (q : Pool) → item_room_in w q ≡ item_room_in v q
+    same (Common p) = ap (λ xs. (pool_or_empty (at_number xs p.0)).item_room) common
+    same (Private d) = ap (λ xs. (pool_or_empty (at_number xs d)).item_room) private ∙ ap (λ (x : PoolValue). x.item_room) (made_empty v.private d)
 
 pub given_out_process :
     (v w : PoolsValue) → w.private ≡ v.private → w.common ≡ v.common ++ empty_pool ∷ [] → IsGivenOut v → IsGivenOut w

@@ -3,7 +3,7 @@ use Rattle.std.proofs.Common.{◌≡◌, ℕ, zero, suc, ◌+◌, ◌≤◌, ◌
 use Rattle.std.specs.List.{AllByRecursion}
 use Rattle.dk_base.specs.ByNumber.{at_number, with_at_number}
 use Rattle.kernel_records.specs.declared.record.ThreadState.TheVariants as is
-use Rattle.kernel_records.specs.Words.{CallTree, ProcessTable, bound_at, cancelled_thread, change_thread, change_thread_in, end_thread, ended_thread, idle_thread, interrupted_state, interrupted_where, is_dormant, is_idle, is_pool, is_spare_of, park_thread, parked_in, pool_of_thread, process_in, thread_at, tid}
+use Rattle.kernel_records.specs.Words.{CallTree, NoticeList, ProcessTable, bound_at, cancelled_thread, change_thread, change_thread_in, end_thread, ended_thread, idle_thread, interrupted_state, interrupted_where, is_dormant, is_idle, is_pool, is_spare_of, park_thread, parked_in, pool_of_thread, process_in, thread_at, tid}
 use Rattle.written_kernel.specs.Types.{Door, Parked, Pool, Thread, ThreadState}
 use Rattle.written_kernel.proofs.Lists.{at_number-suc, with_at_number-suc}
 use Rattle.server_pool.specs.Words.{AllParkedBefore, ParkedBefore, PoolValue, PoolsValue, change_pool, is_another_thread, park_in, pool_at, pool_or_empty, stack_in, thread_room_in, unpark_in, without_thread}
@@ -60,11 +60,11 @@ pub own_pool_interrupted :
     own_pool_in (change_thread table t (interrupted_where b)) bindings t ≡ own_pool_in table bindings t
 own_pool_interrupted table bindings t b = own_pool_changed table bindings t (interrupted_where b) (interrupted_process b)
 
-module _ {n : ℕ} {table : ProcessTable} {doors : List Door} {tree : CallTree} {v : PoolsValue} (h : Agrees n table doors tree v) (t : ℕ) where
-  pub agrees_cancelled : Agrees n (change_thread table t cancelled_thread) doors tree v
+module _ {n : ℕ} {table : ProcessTable} {doors : List Door} {tree : CallTree} {list : NoticeList} {v : PoolsValue} (h : Agrees n table doors tree list v) (t : ℕ) where
+  pub agrees_cancelled : Agrees n (change_thread table t cancelled_thread) doors tree list v
   agrees_cancelled = agrees_alike h t cancelled_thread (λ x b. refl) (λ x p. refl)
 
-  pub agrees_interrupted : (b : Bool) → Agrees n (change_thread table t (interrupted_where b)) doors tree v
+  pub agrees_interrupted : (b : Bool) → Agrees n (change_thread table t (interrupted_where b)) doors tree list v
   agrees_interrupted b = agrees_alike h t (interrupted_where b) (parked b) (spare b)
     where
       at_state : (pool : Pool) (s : ThreadState) → parked_in t pool (interrupted_state s) ≡ parked_in t pool s
@@ -87,12 +87,12 @@ module _ {n : ℕ} {table : ProcessTable} {doors : List Door} {tree : CallTree} 
 
   -- a thread that was taken out of its pool is as one that ended, until it parks
   pub parked_again :
-      (w : PoolsValue) (pool : Pool) → Agrees n (end_thread table t) doors tree w → is_some (thread_at table t) ≡ true →
+      (w : PoolsValue) (pool : Pool) → Agrees n (end_thread table t) doors tree list w → is_some (thread_at table t) ≡ true →
       pool ≡ own_pool_in table v.bindings t → w.bindings ≡ v.bindings → is_some (pool_at w pool) ≡ true →
       AllParkedBefore (stack_in w pool) (record { thread = tid t; pool = pool; since = n }) →
-      Agrees n (park_thread table t n) doors tree (change_pool w pool (park_in (record { thread = tid t; pool = pool; since = n })))
+      Agrees n (park_thread table t n) doors tree list (change_pool w pool (park_in (record { thread = tid t; pool = pool; since = n })))
   parked_again w pool taken there own bindings pool_there above =
-      subst (λ (x : ProcessTable). Agrees n x doors tree (change_pool w pool (park_in (record { thread = tid t; pool = pool; since = n }))))
+      subst (λ (x : ProcessTable). Agrees n x doors tree list (change_pool w pool (park_in (record { thread = tid t; pool = pool; since = n }))))
       (change_twice table t ended_thread (idle_thread n))
       (agrees_park_after taken t pool (there_changed table t ended_thread there)
       (state_changed table t ended_thread is_idle refl (λ x. refl)) (state_changed table t ended_thread is_dormant refl (λ x. refl))

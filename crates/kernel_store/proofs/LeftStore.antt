@@ -1,6 +1,6 @@
 -- The whole of leaving: what its parts need of a store.
 use Rattle.std.proofs.Common.{◌≡◌, ℕ, ◌+◌, ◌<◌, ◌≤◌, true, List, Some, is_some, length, sym, ap, ◌∙◌, subst, arith}
-use Rattle.kernel_records.specs.Words.{CallTree, ProcessTable, bound_at, parked_at, process_in, thread_at}
+use Rattle.kernel_records.specs.Words.{CallTree, NoticeList, ProcessTable, bound_at, parked_at, process_in, thread_at}
 use Rattle.written_kernel.specs.Types.{Door, Parked, Thread}
 use Rattle.server_pool.specs.Words.{PoolsValue, pool_at, stack_in, thread_room_in}
 use Rattle.pool_agreement.specs.Words.{Agrees, IsListed, pool_by}
@@ -11,9 +11,9 @@ use Rattle.kernel_store.specs.Stored.{ArePlaced, HasRoomToLeave, IsAgreed, Store
 
 -- no thread parked later than the latest
 pub parked_early :
-    {n : ℕ} {table : ProcessTable} {doors : List Door} {tree : CallTree} {v : PoolsValue} → Agrees n table doors tree v →
+    {n : ℕ} {table : ProcessTable} {doors : List Door} {tree : CallTree} {list : NoticeList} {v : PoolsValue} → Agrees n table doors tree list v →
     (t : ℕ) (x : Parked) → parked_at table v.bindings t ≡ Some x → x.since ≤ n
-parked_early {n} {table} {doors} {tree} {v} h t x e =
+parked_early {n} {table} {doors} {tree} {list} {v} h t x e =
     let s = h.stacks x.pool in
     let k : IsListed (stack_in v x.pool) x = s.all t x e (is_pool-self x.pool) in
     (s.parked k.place x k.there).since

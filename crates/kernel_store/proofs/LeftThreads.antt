@@ -6,7 +6,7 @@ use Rattle.dk_base.specs.ByNumber.{at_number}
 use Rattle.kernel_records.specs.declared.leaving.Leaver.{Leaver}
 use Rattle.kernel_records.specs.declared.leaving.Leaver.TheVariants.{Interrupted, Ended, EndedProcess, Revoked}
 use Rattle.kernel_records.specs.declared.record.CallStage.TheVariants as stage
-use Rattle.kernel_records.specs.Words.{CallTree, Leaving, ProcessTable, bound_at, cancelled_thread, change_thread, deserted_at, deserted_in, ended_thread, interrupted_where, is_left, is_owned_by, is_served_by, leaving_of, left_thread_of, left_threads, parked_at, parked_thread, process_in, thread_at, tid}
+use Rattle.kernel_records.specs.Words.{CallTree, Leaving, NoticeList, ProcessTable, bound_at, cancelled_thread, change_thread, deserted_at, deserted_in, ended_thread, interrupted_where, is_left, is_owned_by, is_served_by, leaving_of, left_thread_of, left_threads, parked_at, parked_thread, process_in, thread_at, tid}
 use Rattle.written_kernel.specs.Types.{Call, CallStage, Door, Parked, Pool, Thread}
 use Rattle.written_kernel.proofs.Lists.{at_number-map, at_number-suc, numbered_past, numbered_there}
 use Rattle.written_kernel.proofs.Places.{place_of}
@@ -172,10 +172,10 @@ module _
       subst (λ p. 0 < thread_room_in w p) (sym (same_own_pool t)) (omega arith)
 
   pub next_later :
-      (t : ℕ) → t ≡ i + 1 → (doors : List Door) (tree : CallTree) → Agrees now after doors tree w →
+      (t : ℕ) → t ≡ i + 1 → (doors : List Door) (tree : CallTree) (list : NoticeList) → Agrees now after doors tree list w →
       ((u : ℕ) (x : Parked) → parked_at before v.bindings u ≡ Some x → x.since < now) → (pool q : Pool) →
       AllParkedBefore (stack_in w pool) (record { thread = tid t; pool = q; since = now })
-  next_later t next doors tree agreed earlier pool q =
+  next_later t next doors tree list agreed earlier pool q =
       all_in (λ x. ParkedBefore x y) (stack_in w pool)
       (λ x m. let p : (k : ℕ) × (slice_get (stack_in w pool) k ≡ Some x) = place_of x (stack_in w pool) m in below x ((agreed.stacks pool).parked p.0 x p.1))
     where

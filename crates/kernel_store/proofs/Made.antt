@@ -1,23 +1,24 @@
 -- Calls that are made, which wait in the pool of their door.
-use Rattle.std.proofs.Common.{◌≡◌, inl, inr, refl, Some, ℕ, ◌<◌, ◌&&◌, Bool, true, false, if◌then◌else◌, nat_le, List, is_some, Result, Err, Ok, OnOk, ap, ◌∙◌, subst, arith, None, Option}
+use Rattle.std.proofs.Common.{◌≡◌, inl, inr, refl, Some, ℕ, ◌+◌, ◌<◌, ◌≤◌, ◌&&◌, Bool, true, false, if◌then◌else◌, nat_le, List, is_some, Result, Err, Ok, OnOk, ap, ◌∙◌, sym, subst, arith, None, Option}
 use Rattle.std.proofs.lemmas.Bool.Decides.{nat_tests}
 use Rattle.dk_base.specs.ByNumber.{at_number}
 use Rattle.dk_base.specs.declared.limits.TheConstants.{QUEUE_MAX}
 use Rattle.dk_base.specs.declared.error.Errno.{Errno}
 use Rattle.dk_base.specs.declared.error.Errno.TheVariants.{EAGAIN}
-use Rattle.kernel_records.specs.Words.{CallTree, is_pool, is_valid_in, pool_in, ProcessTable}
+use Rattle.kernel_records.specs.Words.{CallTree, NoticeList, is_pool, is_valid_in, pool_in, ProcessTable}
 use Rattle.written_kernel.specs.Types.{Door, Pool, Waiting}
 use Rattle.server_pool.specs.Words.{PoolValue, PoolsValue, change_pool, count_calls, is_call_too_many, is_waiting_call, pool_at}
 use Rattle.pool_agreement.specs.Words.{Agrees, HasPlaces, IsGivenOutIn}
 use Rattle.pool_agreement.proofs.Queues.{door_pool_there}
 use Rattle.pool_agreement.proofs.Readers.{queue-change_other, stack-change_other}
+use Rattle.kernel_store.specs.Stored.{StoreValue}
 
 -- the pool of a valid door
 pub served_there :
-    {n : ℕ} {table : ProcessTable} {doors : List Door} {tree : CallTree} {v : PoolsValue} → Agrees n table doors tree v →
-    HasPlaces table v.bindings doors tree.calls → (d : ℕ) → is_valid_in (at_number doors d) ≡ true →
+    {n : ℕ} {table : ProcessTable} {doors : List Door} {tree : CallTree} {list : NoticeList} {v : PoolsValue} → Agrees n table doors tree list v →
+    HasPlaces table v.bindings doors tree.calls list.notices → (d : ℕ) → is_valid_in (at_number doors d) ≡ true →
     is_some (pool_at v (pool_in (at_number doors d))) ≡ true
-served_there {n} {table} {doors} {tree} {v} h places d e = go (at_number doors d) refl e
+served_there {n} {table} {doors} {tree} {list} {v} h places d e = go (at_number doors d) refl e
   where
     go : (o : Option Door) → at_number doors d ≡ o → is_valid_in o ≡ true → is_some (pool_at v (pool_in (at_number doors d))) ≡ true
     go None f k = grind arith
@@ -40,3 +41,11 @@ pub given_out_elsewhere :
     IsGivenOutIn (change_pool v pool change) q
 given_out_elsewhere v pool q change e (inl s) = inl (stack-change_other v pool q change e ∙ s)
 given_out_elsewhere v pool q change e (inr s) = inr (queue-change_other v pool q change e ∙ s)
+
+-- a call that is made at this event is later than all that waits
+pub made_later :
+    {s now : StoreValue} → s ≡ now → (made : ℕ) → made ≡ now.events + 1 → now.latest ≤ now.events → s.latest < made
+made_later {s} {now} same made e first =
+    let l : s.latest ≤ s.events = subst (λ (v : StoreValue). v.latest ≤ v.events) (sym same) first in
+    let k : made ≡ s.events + 1 = e ∙ ap (λ (v : StoreValue). v.events + 1) (sym same) in
+    omega arith

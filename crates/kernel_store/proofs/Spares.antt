@@ -2,10 +2,10 @@
 use Rattle.std.proofs.Common.{◌≡◌, ℕ, zero, suc, ◌+◌, ◌==◌, ◌||◌, Bool, true, false, List, [], ◌∷◌, Option, None, Some, option_map, is_none, length, refl, sym, subst, ap, ap₂, ◌∙◌, add-one}
 use Rattle.dk_base.specs.ByNumber.{at_number}
 use Rattle.kernel_records.specs.declared.record.ThreadState.TheVariants as is
-use Rattle.kernel_records.specs.Words.{CallTree, ProcessTable, is_done, is_dormant, is_idle, set_thread_state, start_spare, state_in, thread_at}
+use Rattle.kernel_records.specs.Words.{CallTree, NoticeList, ProcessTable, is_done, is_dormant, is_idle, set_thread_state, start_spare, state_in, thread_at}
 use Rattle.written_kernel.specs.Types.{Door, Pid, ThreadState}
-use Rattle.written_kernel.specs.Words.{State, give, has_first_common_door, has_given_last, has_lost_door, needs_spare, settle, start_each, start_one, start_spares}
-use Rattle.written_kernel.proofs.Settling.{settle-none}
+use Rattle.written_kernel.specs.Words.{State, fail_returns, give, give_and_start, has_first_common_door, has_given_last, has_lost_door, needs_spare, start_each, start_one, start_spares}
+use Rattle.written_kernel.proofs.Settling.{fail_returns-none}
 use Rattle.server_pool.specs.Words.{PoolsValue, change_spares, lowest_spare, spares_of, spares_or_none, without_lowest}
 use Rattle.server_pool.proofs.Changed.{changed_here}
 use Rattle.pool_agreement.specs.Words.{Agrees, IsGivenOut, is_this}
@@ -51,10 +51,10 @@ module _ (s : StoreValue) (h : IsAgreed s) (p t : ℕ) (its_lowest : Some t ≡ 
     started : table ≡ start_spare s.processes p
     started = turned ∙ sym (start_spare_is h p t spares.0 spares.1)
 
-    pub agrees_started : Agrees s.latest table s.doors.items s.calls.tree pools
+    pub agrees_started : Agrees s.latest table s.doors.items s.calls.tree s.notices.list pools
     agrees_started =
-        subst (λ v. Agrees s.latest table s.doors.items s.calls.tree v) (sym left)
-        (subst (λ x. Agrees s.latest x s.doors.items s.calls.tree (change_spares s.pools p without_lowest)) (sym started)
+        subst (λ v. Agrees s.latest table s.doors.items s.calls.tree s.notices.list v) (sym left)
+        (subst (λ x. Agrees s.latest x s.doors.items s.calls.tree s.notices.list (change_spares s.pools p without_lowest)) (sym started)
         (agrees_start h p t spares.0 spares.1))
 
     pub state_started : stored_state (record s { processes = table; pools = pools }) ≡ start_one (stored_state s) p true
@@ -72,14 +72,18 @@ no_lowest [] e = refl
 no_lowest (t ∷ rest) e = cc
 
 agrees_without :
-    {n : ℕ} {table : ProcessTable} {doors : List Door} {tree : CallTree} {v : PoolsValue} → Agrees n table doors tree v → (p : ℕ) →
-    spares_of v p ≡ [] → Agrees n table doors tree (change_spares v p without_lowest)
-agrees_without {n} {table} {doors} {tree} {v} h p e =
+    {n : ℕ} {table : ProcessTable} {doors : List Door} {tree : CallTree} {list : NoticeList} {v : PoolsValue} → Agrees n table doors tree list v → (p : ℕ) →
+    spares_of v p ≡ [] → Agrees n table doors tree list (change_spares v p without_lowest)
+agrees_without {n} {table} {doors} {tree} {list} {v} h p e =
     record {
       stacks = h.stacks;
       queues = h.queues;
       spares = λ q. spares q (p == q) refl ∙ h.spares q;
       calls = h.calls;
+      call_dates = h.call_dates;
+      notices = h.notices;
+      notice_dates = h.notice_dates;
+      kept = h.kept;
       common = h.common;
       spare_lists = length-change_at_number v.spares p without_lowest ∙ h.spare_lists;
       private = h.private;
@@ -97,8 +101,8 @@ module _
   no_spares : spares_of s.pools p ≡ []
   no_spares = no_lowest (spares_of s.pools p) none
 
-  pub agrees_unstarted : Agrees s.latest s.processes s.doors.items s.calls.tree pools
-  agrees_unstarted = subst (λ v. Agrees s.latest s.processes s.doors.items s.calls.tree v) (sym left) (agrees_without h p no_spares)
+  pub agrees_unstarted : Agrees s.latest s.processes s.doors.items s.calls.tree s.notices.list pools
+  agrees_unstarted = subst (λ v. Agrees s.latest s.processes s.doors.items s.calls.tree s.notices.list v) (sym left) (agrees_without h p no_spares)
 
   pub state_unstarted : stored_state (record s { pools = pools }) ≡ start_one (stored_state s) p true
   state_unstarted =
@@ -175,10 +179,10 @@ pub settles :
     ((before ungiven : State) → AreNeeded first last before ungiven (stored_state given) →
     stored_state after ≡ start_spares before ungiven (stored_state given)) →
     (before : State) → ((p : ℕ) → has_first_common_door before (give (stored_state s)) p ≡ is_this p first) →
-    stored_state after ≡ settle before (stored_state s)
+    stored_state after ≡ give_and_start before (fail_returns (stored_state s))
 settles s given after first last none_lost is_given its_last starts before its_first =
     starts before (stored_state s)
     (subst (AreNeeded first last before (stored_state s)) (sym is_given)
     (needs before (stored_state s) (give (stored_state s)) first last its_first its_last))
     ∙ ap (start_spares before (stored_state s)) is_given
-    ∙ sym (settle-none before (stored_state s) none_lost)
+    ∙ ap (give_and_start before) (sym (fail_returns-none (stored_state s) none_lost))

@@ -2,7 +2,7 @@
 use Rattle.std.proofs.Common.{◌≡◌, ℕ, zero, suc, ◌+◌, ◌-◌, ◌<◌, ◌==◌, Bool, true, false, if◌then◌else◌, List, [], ◌∷◌, ◌++◌, Option, Some, None, option_map, is_some, length, length-append, take, refl, sym, ap, ◌∙◌, subst, arith}
 use Rattle.std.proofs.lemmas.Bool.Decides.{nat_tests}
 use Rattle.dk_base.specs.ByNumber.{at_number}
-use Rattle.kernel_records.specs.Words.{CallTree, ProcessTable, is_live_in, is_spare_of, thread_at}
+use Rattle.kernel_records.specs.Words.{CallTree, NoticeList, ProcessTable, is_live_in, is_spare_of, thread_at}
 use Rattle.written_kernel.specs.Types.{Door, Process, Thread}
 use Rattle.server_pool.specs.Words.{AllBelow, PoolsValue, change_at_number, change_spares, spares_of, spares_or_none, with_spare, without_highest}
 use Rattle.server_pool.proofs.Changed.{changed_elsewhere, changed_here}
@@ -34,7 +34,7 @@ all_below table t p (suc n) l =
     all_append t (spares_among table p n) (spare_at table p (suc n)) (all_below table t p n (omega arith)) (one_below t p (suc n) (thread_at table (suc n)) l)
 
 pub spares_below :
-    {n : ℕ} {table : ProcessTable} {doors : List Door} {tree : CallTree} {v : PoolsValue} → Agrees n table doors tree v → (p t : ℕ) →
+    {n : ℕ} {table : ProcessTable} {doors : List Door} {tree : CallTree} {list : NoticeList} {v : PoolsValue} → Agrees n table doors tree list v → (p t : ℕ) →
     length table.threads < t → AllBelow t (spares_of v p)
 spares_below {n} {table} h p t l = subst (AllBelow t) (sym (h.spares p)) (all_below table t p (length table.threads) l)
 

@@ -1,13 +1,15 @@
 -- What a store holds, by the values of its parts, and the written state that this is.
-use Rattle.std.specs.Prelude.{ℕ, ◌≡◌, ◌<◌, ◌≤◌, List, [], Option, is_some, length, true}
+use Rattle.std.specs.Prelude.{ℕ, ◌≡◌, ◌+◌, ◌<◌, ◌≤◌, Bool, List, None, Option, Some, count_by, false, is_some, length, true}
 use Rattle.dk_base.specs.Words.{RoomValue}
 use Rattle.written_kernel.specs.Types.{Door, Obj, Pool}
-use Rattle.kernel_records.specs.Words.{ProcessTable, thread_at}
-use Rattle.written_kernel.specs.Words.{State, give_each}
+use Rattle.kernel_records.specs.Words.{ProcessTable, is_pool, thread_at}
+use Rattle.written_kernel.specs.Words.{State, may_have_notice, pool_of}
 use Rattle.name_space.specs.Words.{HasRoomForName, NameTable}
-use Rattle.server_pool.specs.Words.{PoolsValue, item_room_in, pool_at, queue_in, thread_room_in}
+use Rattle.server_pool.specs.Words.{PoolsValue, item_room_in, pool_at, thread_room_in}
 use Rattle.call_tree.specs.Words.{CallsValue, HasRoomForCall}
-use Rattle.pool_agreement.specs.Words.{Agrees, HasPlaces, IsGivenOutBut, own_pool}
+use Rattle.unref_notice.specs.Words.{NoticesValue}
+use Rattle.unref_notice.specs.declared.notices.TheConstants.{NOTICES_MAX}
+use Rattle.pool_agreement.specs.Words.{Agrees, HasPlaces, own_pool}
 
 pub record StoreValue : Type 0 where
   pub processes : ProcessTable
@@ -17,11 +19,12 @@ pub record StoreValue : Type 0 where
   pub doors : RoomValue Door
   -- the calls that are live
   pub calls : CallsValue
+  -- the notices but for those that are past and that no rule asks for again
+  pub notices : NoticesValue
   pub events : ℕ
-  -- no thread parked after this event
+  -- no thread parked, and no call or notice was made, after this event
   pub latest : ℕ
 
--- there are no notices yet
 abbrev pub stored_state : StoreValue → State
 stored_state store =
     record {
@@ -31,17 +34,17 @@ stored_state store =
       names = store.names.names;
       doors = store.doors.items;
       call_tree = store.calls.tree;
-      notice_list = record { made = 0; notices = [] };
+      notice_list = store.notices.list;
       events = store.events;
     }
 
--- the pools hold what the threads, doors and calls say
+-- the pools hold what the threads, doors, calls and notices say
 abbrev pub IsAgreed : StoreValue → Type 0
-IsAgreed store = Agrees store.latest store.processes store.doors.items store.calls.tree store.pools
+IsAgreed store = Agrees store.latest store.processes store.doors.items store.calls.tree store.notices.list store.pools
 
--- processes, doors and calls are where threads, bindings and calls say
+-- processes, doors and calls are where threads, bindings, calls and notices say
 abbrev pub ArePlaced : State → Type 0
-ArePlaced m = HasPlaces m.process_table m.bindings m.doors m.call_tree.calls
+ArePlaced m = HasPlaces m.process_table m.bindings m.doors m.call_tree.calls m.notice_list.notices
 
 -- another name, door and call take no memory, nor do another thread and another call in this pool
 pub record HasRoom (store : StoreValue) (touched : Pool) : Type 0 where
@@ -58,11 +61,28 @@ HasRoomToLeave store =
     (t : ℕ) → is_some (thread_at store.processes t) ≡ true → is_some (pool_at store.pools (own_pool (stored_state store) t)) ≡ true →
     length store.processes.threads ≤ thread_room_in store.pools (own_pool (stored_state store) t)
 
--- A giving in this pool: what is given out of it by the written kernel is the same before and after, and one item less waits
--- there; all other pools stay.
-pub record GivesOn (pool : Pool) (before after : StoreValue) : Type 0 where
-  pub given :
-      give_each (stored_state before) (queue_in before.pools pool) ≡ give_each (stored_state after) (queue_in after.pools pool)
-  pub fewer : length (queue_in after.pools pool) < length (queue_in before.pools pool)
-  pub others : IsGivenOutBut pool before.pools → IsGivenOutBut pool after.pools
-  pub latest : after.latest ≡ before.latest
+-- Notices that an event may make, each of one of these doors: they can be numbered, and their records and their places in the queues
+-- that are there take no memory.
+
+-- how many of these doors a pool serves
+abbrev pub count_served : State → Pool → List ℕ → ℕ
+count_served m pool ds = count_by (λ d. is_pool pool (pool_of m d)) ds
+
+pub record CanMake (store : StoreValue) (ds : List ℕ) : Type 0 where
+  pub records : length ds ≤ store.notices.spare
+  pub numbers : store.notices.list.made + length ds ≤ NOTICES_MAX
+  pub items :
+      (pool : Pool) → is_some (pool_at store.pools pool) ≡ true → count_served (stored_state store) pool ds ≤ item_room_in store.pools pool
+
+-- before the act of the event, which may take the place of one item
+pub record HasRoomForNotices (store : StoreValue) (ds : List ℕ) : Type 0 where
+  pub records : length ds ≤ store.notices.spare
+  pub numbers : store.notices.list.made + length ds ≤ NOTICES_MAX
+  pub items :
+      (pool : Pool) → is_some (pool_at store.pools pool) ≡ true → 0 < count_served (stored_state store) pool ds →
+      count_served (stored_state store) pool ds < item_room_in store.pools pool
+
+-- another notice can be made of the door of a number, if it is there
+abbrev pub may_have_notice_in : State → ℕ → Option Door → Bool
+may_have_notice_in m d None = false
+may_have_notice_in m d (Some x) = may_have_notice m d x

@@ -1,10 +1,10 @@
-//! What becomes of pools, threads and calls where callers are interrupted, threads end and doors are lost, part by part.
+//! What becomes of pools, threads, calls and notices where callers are interrupted, threads end and doors are lost, part by part.
 ghost use Rattle.std.specs.Prelude.{◌≡◌, ℕ, ◌+◌, ◌<◌, ◌≤◌, ◌&&◌, List, OnOk, Some, true, find, is_some, length};
 ghost use Rattle.dk_base.specs.ByNumber.{at_number};
-ghost use Rattle.kernel_records.specs.Words.{CallTree, ProcessTable, bound_at, change_thread, deserted_in, end_thread, interrupted_where, is_owned_by, is_queued, is_served_by, leaving_of, left_calls, left_thread_of, left_threads, live_calls, parked_at, park_thread, process_in, thread_at};
+ghost use Rattle.kernel_records.specs.Words.{CallTree, NoticeList, ProcessTable, bound_at, change_thread, deserted_in, end_thread, interrupted_where, is_owned_by, is_queued, is_served_by, kept_notices, leaving_of, left_calls, left_notices, left_thread_of, left_threads, live_calls, parked_at, park_thread, process_in, thread_at};
 ghost use Rattle.written_kernel.specs.Types.{Door, Parked, Pool, Thread};
-ghost use Rattle.server_pool.specs.Words.{AllParkedBefore, pool_at, stack_in, thread_room_in};
-ghost use Rattle.pool_agreement.specs.Words.{Agrees, AgreesSomehow, leaves_queue};
+ghost use Rattle.server_pool.specs.Words.{AllParkedBefore, item_room_in, pool_at, stack_in, thread_room_in};
+ghost use Rattle.pool_agreement.specs.Words.{Agrees, AgreesSomehow, leaves_queue, notice_leaves_queue};
 ghost use Rattle.kernel_store.specs.Leaving.{HasNoLessRoom, HoldsSame, deserted_as, fated, own_pool_in};
 
 use call_tree::calls::Calls;
@@ -14,10 +14,11 @@ use dk_base::object::Item;
 use door_object::doors::Doors;
 use kernel_records::leaving::Leaver;
 use kernel_records::pool::Pool;
-use kernel_records::record::{Call, CallStage, ThreadState};
+use kernel_records::record::{Call, CallStage, Notice, NoticeStage, ThreadState};
 use proc_table::procs::Procs;
 use server_pool::pools::Pools;
 use std::alloc::Global;
+use unref_notice::notices::Notices;
 
 // who leaves
 
@@ -89,14 +90,46 @@ pub fn withdraw_calls(
     doors: &Doors,
     calls: &Calls,
 )
-    ensures agreed { (n : ℕ) → Agrees n processes.now doors.now.items calls.now.tree pools.old → Agrees n processes.now doors.now.items (live_calls (left_calls (leaving_of processes.now doors.now.items who) calls.now.tree)) pools.new }
+    ensures agreed { (n : ℕ) (list : NoticeList) → Agrees n processes.now doors.now.items calls.now.tree list pools.old → Agrees n processes.now doors.now.items (live_calls (left_calls (leaving_of processes.now doors.now.items who) calls.now.tree)) list pools.new }
     ensures bindings { pools.new.bindings ≡ pools.old.bindings }
     ensures room { (pool : Pool) → thread_room_in pools.new pool ≡ thread_room_in pools.old pool }
+    ensures items { (pool : Pool) → item_room_in pools.old pool ≤ item_room_in pools.new pool }
 {
     for call in calls.list() {
         if is_withdrawn(call, who, processes, doors) {
             let pool = doors.pool_of(call.door);
             let _ = pools.withdraw(pool, Item::Call(call.number));
+        }
+    }
+}
+
+// waiting notices
+
+/// Whether a notice waits and does so no longer.
+fn is_notice_withdrawn(notice: Notice, who: Leaver, doors: &Doors) -> bool
+    ensures { (table : ProcessTable) → result ≡ notice_leaves_queue (leaving_of table doors.now.items who) notice }
+{
+    matches!(notice.stage, NoticeStage::Waiting) && loses(who, doors, notice.door)
+}
+
+/// The notices that wait no longer leave their pools. The notices themselves stay as they are.
+pub fn withdraw_notices(
+    pools: &mut Pools,
+    who: Leaver,
+    processes: &Procs,
+    doors: &Doors,
+    notices: &Notices,
+)
+    ensures agreed { (n : ℕ) (tree : CallTree) → Agrees n processes.now doors.now.items tree notices.now.list pools.old → Agrees n processes.now doors.now.items tree (kept_notices doors.now.items (left_notices (leaving_of processes.now doors.now.items who) notices.now.list)) pools.new }
+    ensures bindings { pools.new.bindings ≡ pools.old.bindings }
+    ensures room { (pool : Pool) → thread_room_in pools.new pool ≡ thread_room_in pools.old pool }
+    ensures items { (pool : Pool) → item_room_in pools.old pool ≤ item_room_in pools.new pool }
+{
+    for place in 0..notices.len() {
+        let notice = notices.at(place);
+        if is_notice_withdrawn(notice, who, doors) {
+            let pool = doors.pool_of(notice.door);
+            let _ = pools.withdraw(pool, Item::Notice(notice.number));
         }
     }
 }
@@ -163,8 +196,9 @@ pub fn own_pool(processes: &Procs, pools: &Pools, t: Tid) -> Pool
 
 /// A thread leaves its pool where it is parked, and the spares of its process where it is one. Its own record stays as it is.
 fn take_out(pools: &mut Pools, processes: &Procs, t: Tid)
-    ensures agreed { (n : ℕ) (doors : List Door) (tree : CallTree) → Agrees n processes.now doors tree pools.old → Agrees n (end_thread processes.now t.0) doors tree pools.new }
+    ensures agreed { (n : ℕ) (doors : List Door) (tree : CallTree) (list : NoticeList) → Agrees n processes.now doors tree list pools.old → Agrees n (end_thread processes.now t.0) doors tree list pools.new }
     ensures bindings { pools.new.bindings ≡ pools.old.bindings }
+    ensures items { (pool : Pool) → item_room_in pools.new pool ≡ item_room_in pools.old pool }
     ensures room { (pool : Pool) → thread_room_in pools.old pool ≤ thread_room_in pools.new pool }
     ensures above { (pool : Pool) (x : Parked) → AllParkedBefore (stack_in pools.old pool) x → AllParkedBefore (stack_in pools.new pool) x }
 {
@@ -181,8 +215,9 @@ fn take_out(pools: &mut Pools, processes: &Procs, t: Tid)
 /// A thread ends.
 fn end_thread(processes: &mut Procs, pools: &mut Pools, t: Tid)
     ensures thread { processes.new ≡ end_thread processes.old t.0 }
-    ensures agreed { (n : ℕ) (doors : List Door) (tree : CallTree) → Agrees n processes.old doors tree pools.old → Agrees n processes.new doors tree pools.new }
+    ensures agreed { (n : ℕ) (doors : List Door) (tree : CallTree) (list : NoticeList) → Agrees n processes.old doors tree list pools.old → Agrees n processes.new doors tree list pools.new }
     ensures bindings { pools.new.bindings ≡ pools.old.bindings }
+    ensures items { (pool : Pool) → item_room_in pools.new pool ≡ item_room_in pools.old pool }
     ensures room { (pool : Pool) → thread_room_in pools.old pool ≤ thread_room_in pools.new pool }
 {
     take_out(pools, processes, t);
@@ -195,8 +230,9 @@ fn park_again(processes: &mut Procs, pools: &mut Pools, t: Tid, since: u64)
     requires room { 0 < thread_room_in pools.old (own_pool_in processes.old pools.old.bindings t.0) }
     requires later { AllParkedBefore (stack_in pools.old (own_pool_in processes.old pools.old.bindings t.0)) (record { thread = t; pool = own_pool_in processes.old pools.old.bindings t.0; since = since }) }
     ensures thread { processes.new ≡ park_thread processes.old t.0 since }
-    ensures agreed { (doors : List Door) (tree : CallTree) → Agrees since processes.old doors tree pools.old → Agrees since processes.new doors tree pools.new }
+    ensures agreed { (doors : List Door) (tree : CallTree) (list : NoticeList) → Agrees since processes.old doors tree list pools.old → Agrees since processes.new doors tree list pools.new }
     ensures bindings { pools.new.bindings ≡ pools.old.bindings }
+    ensures items { (pool : Pool) → item_room_in pools.new pool ≡ item_room_in pools.old pool }
     ensures room_left { (pool : Pool) → thread_room_in pools.old pool ≤ thread_room_in pools.new pool + 1 }
 {
     let pool = own_pool(processes, pools, t);
@@ -211,8 +247,9 @@ fn desert(processes: &mut Procs, pools: &mut Pools, t: Tid, desertion: Desertion
     requires room { 0 < thread_room_in pools.old (own_pool_in processes.old pools.old.bindings t.0) }
     requires later { AllParkedBefore (stack_in pools.old (own_pool_in processes.old pools.old.bindings t.0)) (record { thread = t; pool = own_pool_in processes.old pools.old.bindings t.0; since = now }) }
     ensures thread { processes.new ≡ change_thread processes.old t.0 (deserted_as now desertion) }
-    ensures agreed { (doors : List Door) (tree : CallTree) → Agrees now processes.old doors tree pools.old → Agrees now processes.new doors tree pools.new }
+    ensures agreed { (doors : List Door) (tree : CallTree) (list : NoticeList) → Agrees now processes.old doors tree list pools.old → Agrees now processes.new doors tree list pools.new }
     ensures bindings { pools.new.bindings ≡ pools.old.bindings }
+    ensures items { (pool : Pool) → item_room_in pools.new pool ≡ item_room_in pools.old pool }
     ensures room_left { (pool : Pool) → thread_room_in pools.old pool ≤ thread_room_in pools.new pool + 1 }
 {
     match desertion {
@@ -237,8 +274,9 @@ fn leave_thread(processes: &mut Procs, pools: &mut Pools, t: Tid, fate: Fate, no
     requires room { 0 < thread_room_in pools.old (own_pool_in processes.old pools.old.bindings t.0) }
     requires later { AllParkedBefore (stack_in pools.old (own_pool_in processes.old pools.old.bindings t.0)) (record { thread = t; pool = own_pool_in processes.old pools.old.bindings t.0; since = now }) }
     ensures thread { processes.new ≡ change_thread processes.old t.0 (fated now fate) }
-    ensures agreed { (doors : List Door) (tree : CallTree) → Agrees now processes.old doors tree pools.old → Agrees now processes.new doors tree pools.new }
+    ensures agreed { (doors : List Door) (tree : CallTree) (list : NoticeList) → Agrees now processes.old doors tree list pools.old → Agrees now processes.new doors tree list pools.new }
     ensures bindings { pools.new.bindings ≡ pools.old.bindings }
+    ensures items { (pool : Pool) → item_room_in pools.new pool ≡ item_room_in pools.old pool }
     ensures room_left { (pool : Pool) → thread_room_in pools.old pool ≤ thread_room_in pools.new pool + 1 }
 {
     if fate.ends {
@@ -256,8 +294,9 @@ pub fn leave_threads(processes: &mut Procs, pools: &mut Pools, who: Leaver, call
     requires earlier { (t : ℕ) (x : Parked) → parked_at processes.old pools.old.bindings t ≡ Some x → x.since < now }
     requires room { (t : ℕ) → is_some (thread_at processes.old t) ≡ true → length processes.old.threads ≤ thread_room_in pools.old (own_pool_in processes.old pools.old.bindings t) }
     ensures threads { (doors : List Door) → processes.new ≡ left_threads (leaving_of processes.old doors who) now calls.now.tree.calls processes.old }
-    ensures agreed { (doors : List Door) (tree : CallTree) → Agrees now processes.old doors tree pools.old → Agrees now processes.new doors tree pools.new }
+    ensures agreed { (doors : List Door) (tree : CallTree) (list : NoticeList) → Agrees now processes.old doors tree list pools.old → Agrees now processes.new doors tree list pools.new }
     ensures bindings { pools.new.bindings ≡ pools.old.bindings }
+    ensures items { (pool : Pool) → item_room_in pools.new pool ≡ item_room_in pools.old pool }
 {
     for i in 0..processes.thread_count() {
         let t = Tid(i + 1);
@@ -276,6 +315,18 @@ pub fn leave_calls(alloc: Global, calls: &mut Calls, who: Leaver, processes: &Pr
         alloc,
         |t| ends(who, processes, Tid(t)),
         |t| interrupts(who, Tid(t)),
+        |d| loses(who, doors, d),
+    );
+}
+
+/// What becomes of the notices, after the threads. Those that are past and that no rule asks for again are forgotten.
+pub fn leave_notices(notices: &mut Notices, who: Leaver, processes: &Procs, doors: &Doors)
+    ensures list { notices.new.list ≡ kept_notices doors.now.items (left_notices (leaving_of processes.now doors.now.items who) notices.old.list) }
+    ensures room { notices.old.spare ≤ notices.new.spare }
+{
+    notices.leave(
+        doors,
+        |t| ends(who, processes, Tid(t)),
         |d| loses(who, doors, d),
     );
 }

@@ -1,9 +1,10 @@
 //! What the kernel holds, by subject, over the crates of each: its changes are by meaning, and each leaves what server pools hold
-//! in agreement with threads, doors and calls.
+//! in agreement with threads, doors, calls and notices.
 #![tactic(auto)]
 
 mod leaving;
+mod notices;
 mod numbered;
-mod settling;
+mod starting;
 pub mod store;
 pub mod tables;

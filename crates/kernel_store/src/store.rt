@@ -1,22 +1,24 @@
 //! What the kernel holds, by subject.
-ghost use Rattle.std.specs.Prelude.{◌≡◌, ℕ, ◌+◌, ◌<◌, ◌≤◌, ◌++◌, ◌&&◌, ◌||◌, not, [], length, None, Some, true, false, find, is_none, is_some, slice_get, IfOk, IfNone, OnOk, OnErr, OnSome};
-ghost use Rattle.std.specs.Option.{option_map};
+ghost use Rattle.std.specs.Prelude.{◌≡◌, ℕ, ◌+◌, ◌<◌, ◌≤◌, ◌++◌, ◌∷◌, Bool, List, [], filter, length, None, true, false, find, is_none, is_some, IfOk, IfNone, OnOk, OnErr, OnSome};
 ghost use Rattle.dk_base.specs.declared.limits.TheConstants.{PROCESSES_MAX, THREADS_MAX, EVENTS_MAX};
 ghost use Rattle.dk_base.specs.declared.object.Item.TheVariants as item;
 ghost use Rattle.dk_base.specs.declared.limits.TheConstants.{QUEUE_MAX};
-ghost use Rattle.kernel_records.specs.declared.pool.Pool.TheVariants.{Common};
 ghost use Rattle.kernel_records.specs.declared.record.ThreadState.TheVariants as is;
 ghost use Rattle.name_space.specs.Words.{HasRoomForName};
 ghost use Rattle.written_kernel.specs.Types.{Pool, Thread};
-ghost use Rattle.kernel_records.specs.Words.{bind_thread, close_row, close_table, collect_call, descriptor, door_attached, end_invocation, end_owner, end_process, enter_call, enter_thread, fail_call, first_refusal, free_place, has_told_attributes, insert_row, is_bad_pass, is_done, is_dormant, is_given_as, is_idle, is_pool, is_queued, is_to_collect_as, leaving_of, live_calls, lowest_free, new_descriptors, objects_passed, open_call, park_thread, pid, return_call, revoke_door, revoke_tests, set_param, set_param_tests, thread_at, unbind_thread, with_door, with_name, with_table, without_name};
-ghost use Rattle.written_kernel.specs.Words.{State, bound_of, calls_waiting, door_of, fail_one, fail_returns, forget, give, has_first_common_door, has_given_last, has_invalid_door, has_lost_door, has_room, is_live_process, is_running, is_valid, leave, name_of, needs_spare, no_process, now, object_at, pick, pool_of, settle, start_one, start_spares, state_of, table_of, tables_after_pass, tables_with, with_event_counted, with_new_process, with_new_thread, with_state, with_table_of};
-ghost use Rattle.server_pool.specs.Words.{pick_of, stack_in};
-ghost use Rattle.pool_agreement.specs.Words.{IsGivenOut, IsGivenOutBut, IsGivenOutIn, is_this, own_pool};
-ghost use Rattle.kernel_store.specs.Stored.{ArePlaced, GivesOn, HasRoom, HasRoomToLeave, IsAgreed, stored_state};
-ghost use Rattle.kernel_store.specs.GivingAll.{give_call_to_pick, if_queued, is_flagged};
+ghost use Rattle.kernel_records.specs.Words.{bind_thread, close_row, close_table, collect_call, descriptor, door_attached, end_invocation, end_notice, end_owner, end_process, enter_call, enter_notice, enter_thread, fail_call, first_refusal, free_place, has_told_attributes, insert_row, is_bad_pass, is_done, is_dormant, is_given_as, is_given_notice_as, is_idle, is_queued, is_to_collect_as, kept_notices, leaving_of, live_calls, lowest_free, make_notice, new_descriptors, notice_doors, objects_passed, open_call, park_thread, return_call, revoke_door, revoke_tests, set_param, set_param_tests, thread_at, unbind_thread, with_door, with_name, with_table, without_name};
+ghost use Rattle.written_kernel.specs.Words.{bound_of, calls_waiting, door_of, forget, has_invalid_door, has_lost_door, has_room, is_live_process, is_running, is_valid, leave, name_of, no_process, now, object_at, pool_of, state_of, table_of, tables_after_pass, tables_with, with_event_counted, with_new_process, with_new_thread, with_state, with_table_of};
+ghost use Rattle.server_pool.specs.Words.{item_room_in};
+ghost use Rattle.pool_agreement.specs.Words.{IsGivenOut, IsGivenOutBut, own_pool};
+ghost use Rattle.kernel_store.specs.Stored.{ArePlaced, CanMake, HasRoom, HasRoomForNotices, HasRoomToLeave, IsAgreed, may_have_notice_in, stored_state};
 
-use crate::leaving::{leave_calls, leave_threads, make_room, own_pool, withdraw_calls};
-use crate::settling::{is_flagged_without, queued_at};
+mod settling;
+
+use crate::leaving::{
+    leave_calls, leave_notices, leave_threads, make_room, own_pool, withdraw_calls,
+    withdraw_notices,
+};
+use crate::notices::room_for_notices;
 use crate::tables::Tables;
 use call_tree::calls::Calls;
 use dk_base::error::{Errno, NoMemory};
@@ -28,15 +30,16 @@ use dk_base::set::Attrs;
 use door_object::doors::Doors;
 use kernel_records::leaving::Leaver;
 use kernel_records::pool::{Pool, Waiting};
-use kernel_records::record::{Call, Door, ThreadState};
+use kernel_records::record::{Call, Door, Notice, ThreadState};
 use name_space::names::Names;
 use proc_table::procs::Procs;
 use server_pool::pools::Pools;
 use std::alloc::Global;
 use std::marker::Model;
+use unref_notice::notices::Notices;
 
-/// What the kernel holds. It keeps the calls that are live, and there are no notices yet. At every moment the pools hold the
-/// threads and the calls that the records of threads, doors and calls have there.
+/// What the kernel holds. It keeps the calls that are live, and the notices that are not past or that a rule asks for again. At
+/// every moment the pools hold the threads, the calls and the notices that the records have there.
 #[derive(Drop)]
 pub struct Store {
     processes: Procs,
@@ -45,8 +48,9 @@ pub struct Store {
     names: Names,
     doors: Doors,
     calls: Calls,
+    notices: Notices,
     events: u64,
-    /// No thread parked after this event.
+    /// No thread parked, and no call or notice was made, after this event.
     latest: u64,
 }
 
@@ -56,9 +60,9 @@ impl Model for Store {
 
     ghost Value = { StoreValue };
 
-    ghost view = { λ s. record { processes = s.processes; pools = s.pools; tables = s.tables; names = s.names; doors = s.doors; calls = s.calls; events = s.events; latest = s.latest } };
+    ghost view = { λ s. record { processes = s.processes; pools = s.pools; tables = s.tables; names = s.names; doors = s.doors; calls = s.calls; notices = s.notices; events = s.events; latest = s.latest } };
 
-    ghost invariant = { λ s. Agrees s.latest s.processes s.doors.items s.calls.tree s.pools };
+    ghost invariant = { λ s. Agrees s.latest s.processes s.doors.items s.calls.tree s.notices.list s.pools };
 }
 
 impl Store {
@@ -74,6 +78,7 @@ impl Store {
             names: Names::new(alloc),
             doors: Doors::new(alloc),
             calls: Calls::new(alloc),
+            notices: Notices::new(alloc),
             events: 0,
             latest: 0,
         })
@@ -109,6 +114,14 @@ impl Store {
         ensures { result.now ≡ self.now.calls }
     {
         &self.calls
+    }
+
+    /// Its caller also learns here that the pools hold what the records say.
+    pub fn notices(&self) -> &Notices
+        ensures notices { result.now ≡ self.now.notices }
+        ensures agreed { IsAgreed self.now }
+    {
+        &self.notices
     }
 
     /// How many events there were.
@@ -208,6 +221,13 @@ impl Store {
         self.doors.door(d)
     }
 
+    /// Whether a door is there of which another notice can be made.
+    pub fn may_have_notice(&self, d: u32) -> bool
+        ensures { result ≡ may_have_notice_in (stored_state self.now) d (door_of (stored_state self.now) d) }
+    {
+        self.doors.may_take_notice(d, self.notices.has(d))
+    }
+
     /// The pool that serves a door.
     pub fn pool_of(&self, d: u32) -> Pool
         ensures { result ≡ pool_of (stored_state self.now) d }
@@ -222,6 +242,8 @@ impl Store {
         ensures state { stored_state self.new ≡ stored_state self.old }
         ensures given_out { IsGivenOut self.old.pools → IsGivenOut self.new.pools }
         ensures latest { self.new.latest ≡ self.old.latest }
+        ensures notice_room { self.old.notices.spare ≤ self.new.notices.spare }
+        ensures items { (pool : Pool) → item_room_in self.old.pools pool ≤ item_room_in self.new.pools pool }
         ensures room { OnOk result (HasRoom self.new touched) }
     {
         self.names.reserve()?;
@@ -229,6 +251,24 @@ impl Store {
         self.calls.reserve()?;
         self.pools.reserve_door()?;
         self.pools.room(touched)
+    }
+
+    /// Takes the memory for a notice of each of these doors, beside a call of the same event: they are among those of which notices
+    /// can be made, in order. It changes nothing else.
+    pub fn reserve_notices(&mut self, ds: &[u32]) -> Result<(), NoMemory>
+        requires placed { ArePlaced (stored_state self.old) }
+        requires listed { (is_listed : ℕ → Bool) × (ds.now ≡ filter is_listed (notice_doors (stored_state self.old).doors)) }
+        ensures state { stored_state self.new ≡ stored_state self.old }
+        ensures given_out { IsGivenOut self.old.pools → IsGivenOut self.new.pools }
+        ensures latest { self.new.latest ≡ self.old.latest }
+        ensures notice_room { self.old.notices.spare ≤ self.new.notices.spare }
+        ensures items { (pool : Pool) → item_room_in self.old.pools pool ≤ item_room_in self.new.pools pool }
+        ensures room { OnOk result (HasRoomForNotices self.new ds.now) }
+        ensures kept { (touched : Pool) → HasRoom self.old touched → HasRoom self.new touched }
+        ensures kept_to_leave { HasRoomToLeave self.old → HasRoomToLeave self.new }
+    {
+        self.notices.reserve(ds.len())?;
+        room_for_notices(&mut self.pools, &self.doors, ds)
     }
 
     // before the first event
@@ -281,6 +321,7 @@ impl Store {
         ensures fd { result ≡ descriptor (free_place (table_of (stored_state self.old) p.0)) }
         ensures pools { self.new.pools ≡ self.old.pools }
         ensures latest { self.new.latest ≡ self.old.latest }
+        ensures notice_room { self.old.notices.spare ≤ self.new.notices.spare }
     {
         self.tables.insert(p, object)
     }
@@ -291,6 +332,7 @@ impl Store {
         ensures state { stored_state self.new ≡ with_table_of (stored_state self.old) p.0 (close_row (table_of (stored_state self.old) p.0) fd.0) }
         ensures pools { self.new.pools ≡ self.old.pools }
         ensures latest { self.new.latest ≡ self.old.latest }
+        ensures notice_room { self.old.notices.spare ≤ self.new.notices.spare }
     {
         self.tables.close(p, fd)
     }
@@ -302,6 +344,7 @@ impl Store {
         ensures items { into.new.items ≡ into.old.items ++ objects_passed (table_of (stored_state self.old) p.0) pass.now }
         ensures pools { self.new.pools ≡ self.old.pools }
         ensures latest { self.new.latest ≡ self.old.latest }
+        ensures notice_room { self.old.notices.spare ≤ self.new.notices.spare }
         ensures room { (touched : Pool) → HasRoom self.old touched → HasRoom self.new touched }
     {
         self.tables.take_out(p, pass, into)
@@ -316,6 +359,7 @@ impl Store {
         ensures fds { result ≡ new_descriptors (table_of (stored_state self.old) p.0) objects.now }
         ensures pools { self.new.pools ≡ self.old.pools }
         ensures latest { self.new.latest ≡ self.old.latest }
+        ensures notice_room { self.old.notices.spare ≤ self.new.notices.spare }
     {
         self.tables.install(p, objects, fds)
     }
@@ -327,6 +371,7 @@ impl Store {
         ensures state { stored_state self.new ≡ record (stored_state self.old) { names = with_name (stored_state self.old).names path door } }
         ensures pools { self.new.pools ≡ self.old.pools }
         ensures latest { self.new.latest ≡ self.old.latest }
+        ensures notice_room { self.old.notices.spare ≤ self.new.notices.spare }
     {
         let _ = self.names.attach(path, door);
     }
@@ -336,6 +381,7 @@ impl Store {
         ensures state { stored_state self.new ≡ record (stored_state self.old) { names = without_name (stored_state self.old).names path } }
         ensures pools { self.new.pools ≡ self.old.pools }
         ensures latest { self.new.latest ≡ self.old.latest }
+        ensures notice_room { self.old.notices.spare ≤ self.new.notices.spare }
     {
         let _ = self.names.detach(path);
     }
@@ -353,6 +399,8 @@ impl Store {
         ensures number { result ≡ length (stored_state self.old).doors + 1 }
         ensures given_out { IsGivenOut self.old.pools → IsGivenOut self.new.pools }
         ensures latest { self.new.latest ≡ self.old.latest }
+        ensures notice_room { self.old.notices.spare ≤ self.new.notices.spare }
+        ensures items { (pool : Pool) → item_room_in self.old.pools pool ≤ item_room_in self.new.pools pool }
     {
         let Ok(number) = self.doors.create(owner, entry, cookie, attrs) else {
             return 0;
@@ -367,6 +415,7 @@ impl Store {
         ensures state { stored_state self.new ≡ record (stored_state self.old) { doors = set_param (stored_state self.old).doors d param value } }
         ensures pools { self.new.pools ≡ self.old.pools }
         ensures latest { self.new.latest ≡ self.old.latest }
+        ensures notice_room { self.old.notices.spare ≤ self.new.notices.spare }
     {
         let _ = self.doors.setparam(d, p, param, value);
     }
@@ -384,6 +433,7 @@ impl Store {
         ensures state { stored_state self.new ≡ with_state (stored_state self.old) t.0 state }
         ensures pools { self.new.pools ≡ self.old.pools }
         ensures latest { self.new.latest ≡ self.old.latest }
+        ensures notice_room { self.old.notices.spare ≤ self.new.notices.spare }
     {
         self.processes.turn(t, state)
     }
@@ -394,6 +444,8 @@ impl Store {
         ensures state { stored_state self.new ≡ record (stored_state self.old) { bindings = bind_thread (stored_state self.old).bindings t.0 d } }
         ensures given_out { IsGivenOut self.old.pools → IsGivenOut self.new.pools }
         ensures latest { self.new.latest ≡ self.old.latest }
+        ensures notice_room { self.old.notices.spare ≤ self.new.notices.spare }
+        ensures items { (pool : Pool) → item_room_in self.old.pools pool ≤ item_room_in self.new.pools pool }
     {
         self.pools.bind(t, d);
     }
@@ -405,6 +457,8 @@ impl Store {
         ensures state { stored_state self.new ≡ record (stored_state self.old) { bindings = unbind_thread (stored_state self.old).bindings t.0 } }
         ensures given_out { IsGivenOut self.old.pools → IsGivenOut self.new.pools }
         ensures latest { self.new.latest ≡ self.old.latest }
+        ensures notice_room { self.old.notices.spare ≤ self.new.notices.spare }
+        ensures items { (pool : Pool) → item_room_in self.old.pools pool ≤ item_room_in self.new.pools pool }
     {
         let _ = self.pools.unbind(t);
     }
@@ -421,6 +475,8 @@ impl Store {
         ensures state { stored_state self.new ≡ record (stored_state self.old) { process_table = park_thread (stored_state self.old).process_table t.0 (now (stored_state self.old)) } }
         ensures given_out { IsGivenOut self.old.pools → IsGivenOutBut (own_pool (stored_state self.old) t.0) self.new.pools }
         ensures latest { self.new.latest ≡ now (stored_state self.old) }
+        ensures notice_room { self.old.notices.spare ≤ self.new.notices.spare }
+        ensures items { (pool : Pool) → item_room_in self.old.pools pool ≤ item_room_in self.new.pools pool }
     {
         let pool = self.own_pool(t);
         self.latest = self.events + 1;
@@ -433,6 +489,8 @@ impl Store {
     /// A call waits in the pool of its door, which has room for it. It takes no memory.
     pub fn open_call(&mut self, call: Call)
         requires number { call.number ≡ (stored_state self.old).call_tree.made + 1 }
+        requires made { call.made ≡ now (stored_state self.old) }
+        requires first { self.old.latest ≤ self.old.events }
         requires queued { is_queued call.stage ≡ true }
         requires placed { ArePlaced (stored_state self.old) }
         requires door { is_valid (stored_state self.old) call.door ≡ true }
@@ -440,7 +498,9 @@ impl Store {
         requires few { calls_waiting (stored_state self.old) (pool_of (stored_state self.old) call.door) < QUEUE_MAX }
         ensures state { stored_state self.new ≡ record (stored_state self.old) { call_tree = open_call (stored_state self.old).call_tree call } }
         ensures given_out { IsGivenOut self.old.pools → IsGivenOutBut (pool_of (stored_state self.old) call.door) self.new.pools }
-        ensures latest { self.new.latest ≡ self.old.latest }
+        ensures latest { self.new.latest ≡ now (stored_state self.old) }
+        ensures notice_room { self.old.notices.spare ≤ self.new.notices.spare }
+        ensures items { (pool : Pool) → item_room_in self.old.pools pool ≤ item_room_in self.new.pools pool + 1 }
     {
         let pool = self.doors.pool_of(call.door);
         let waiting = Waiting {
@@ -448,6 +508,7 @@ impl Store {
             made: call.made,
             door: call.door,
         };
+        self.latest = call.made;
         let _ = self.pools.enqueue(pool, waiting);
         self.calls.open(call);
     }
@@ -460,6 +521,7 @@ impl Store {
         ensures before { result ≡ find (is_given_as c t.0) (stored_state self.old).call_tree.calls }
         ensures pools { self.new.pools ≡ self.old.pools }
         ensures latest { self.new.latest ≡ self.old.latest }
+        ensures notice_room { self.old.notices.spare ≤ self.new.notices.spare }
     {
         let Some(call) = self.calls.enter(alloc, c, t) else {
             return None;
@@ -481,6 +543,8 @@ impl Store {
         ensures before { result ≡ find (is_given_as c t.0) (stored_state self.old).call_tree.calls }
         ensures given_out { IsGivenOut self.old.pools → IsGivenOutBut (own_pool (stored_state self.old) t.0) self.new.pools }
         ensures latest { self.new.latest ≤ now (stored_state self.old) }
+        ensures notice_room { self.old.notices.spare ≤ self.new.notices.spare }
+        ensures items { (pool : Pool) → item_room_in self.old.pools pool ≤ item_room_in self.new.pools pool }
     {
         if self.calls.given(c, t).is_none() {
             return None;
@@ -489,32 +553,39 @@ impl Store {
         self.calls.fail(alloc, c, t)
     }
 
-    /// A thread that runs returns to its client, if it has one, and is parked (door_return(3C)).
+    /// A thread that runs returns to its client, if it has one, or its notice is over, and it is parked (door_return(3C)).
     pub fn return_call(&mut self, alloc: Global, t: Tid, bytes: Bytes, objects: ObjList)
         requires running { is_running (stored_state self.old) t.0 ≡ true }
         requires few { self.old.events < EVENTS_MAX }
         requires first { self.old.latest ≤ self.old.events }
         requires placed { ArePlaced (stored_state self.old) }
         requires room { HasRoom self.old (own_pool (stored_state self.old) t.0) }
-        ensures state { stored_state self.new ≡ record (stored_state self.old) { process_table = park_thread (stored_state self.old).process_table t.0 (now (stored_state self.old)); call_tree = return_call (stored_state self.old).call_tree t.0 bytes objects } }
+        ensures state { stored_state self.new ≡ record (stored_state self.old) { process_table = park_thread (stored_state self.old).process_table t.0 (now (stored_state self.old)); call_tree = return_call (stored_state self.old).call_tree t.0 bytes objects; notice_list = kept_notices (stored_state self.old).doors (end_notice (stored_state self.old).notice_list t.0) } }
         ensures given_out { IsGivenOut self.old.pools → IsGivenOutBut (own_pool (stored_state self.old) t.0) self.new.pools }
         ensures latest { self.new.latest ≡ now (stored_state self.old) }
+        ensures notice_room { self.old.notices.spare ≤ self.new.notices.spare }
+        ensures items { (pool : Pool) → item_room_in self.old.pools pool ≤ item_room_in self.new.pools pool }
     {
         self.park(t);
         self.calls.give_back(alloc, t, bytes, objects);
+        self.notices.end(t, &self.doors);
     }
 
-    /// A thread that runs and is bound returns to its client, if it has one, and is bound to no door; it is not parked.
+    /// A thread that runs and is bound returns to its client, if it has one, or its notice is over, and it is bound to no door; it
+    /// is not parked.
     pub fn return_unbound(&mut self, alloc: Global, t: Tid, bytes: Bytes, objects: ObjList)
         requires running { is_running (stored_state self.old) t.0 ≡ true }
         requires bound { is_some (bound_of (stored_state self.old) t.0) ≡ true }
-        ensures state { stored_state self.new ≡ record (stored_state self.old) { process_table = end_invocation (stored_state self.old).process_table t.0; bindings = unbind_thread (stored_state self.old).bindings t.0; call_tree = return_call (stored_state self.old).call_tree t.0 bytes objects } }
+        ensures state { stored_state self.new ≡ record (stored_state self.old) { process_table = end_invocation (stored_state self.old).process_table t.0; bindings = unbind_thread (stored_state self.old).bindings t.0; call_tree = return_call (stored_state self.old).call_tree t.0 bytes objects; notice_list = kept_notices (stored_state self.old).doors (end_notice (stored_state self.old).notice_list t.0) } }
         ensures given_out { IsGivenOut self.old.pools → IsGivenOut self.new.pools }
         ensures latest { self.new.latest ≡ self.old.latest }
+        ensures notice_room { self.old.notices.spare ≤ self.new.notices.spare }
+        ensures items { (pool : Pool) → item_room_in self.old.pools pool ≤ item_room_in self.new.pools pool }
     {
         self.processes.end_invocation(t);
         let _ = self.pools.unbind(t);
         self.calls.give_back(alloc, t, bytes, objects);
+        self.notices.end(t, &self.doors);
     }
 
     /// A caller collects its call, which is handed out and forgotten.
@@ -523,8 +594,50 @@ impl Store {
         ensures before { result ≡ find (is_to_collect_as c) (stored_state self.old).call_tree.calls }
         ensures pools { self.new.pools ≡ self.old.pools }
         ensures latest { self.new.latest ≡ self.old.latest }
+        ensures notice_room { self.old.notices.spare ≤ self.new.notices.spare }
     {
         self.calls.collect(c)
+    }
+
+    // notices
+
+    /// A notice of a valid door is made at this event, and waits in its pool, after what waits there. It takes no memory.
+    pub fn make_notice(&mut self, d: u32)
+        requires valid { is_valid (stored_state self.old) d ≡ true }
+        requires placed { ArePlaced (stored_state self.old) }
+        requires few { self.old.events < EVENTS_MAX }
+        requires first { self.old.latest ≤ now (stored_state self.old) }
+        requires room { (ds : List ℕ) × CanMake self.old (d ∷ ds) }
+        ensures state { stored_state self.new ≡ record (stored_state self.old) { notice_list = make_notice (stored_state self.old).notice_list (now (stored_state self.old)) d } }
+        ensures latest { self.new.latest ≡ now (stored_state self.old) }
+        ensures left { (ds : List ℕ) → CanMake self.old (d ∷ ds) → CanMake self.new ds }
+    {
+        let pool = self.doors.pool_of(d);
+        self.latest = self.events + 1;
+        let number = self.notices.make(d, self.latest);
+        let waiting = Waiting {
+            item: Item::Notice(number),
+            made: self.latest,
+            door: d,
+        };
+        let _ = self.pools.enqueue(pool, waiting);
+    }
+
+    /// The thread that was given a notice enters it. The record as it was is handed out, if there is one.
+    pub fn enter_notice(&mut self, n: u32, t: Tid) -> Option<Notice>
+        requires { state_of (stored_state self.old) t.0 ≡ is.Given (item.Notice n) }
+        ensures entered { OnSome result (stored_state self.new ≡ record (stored_state self.old) { process_table = enter_thread (stored_state self.old).process_table t.0 (item.Notice n); notice_list = enter_notice (stored_state self.old).notice_list n t.0 }) }
+        ensures none { IfNone result (stored_state self.new ≡ stored_state self.old) }
+        ensures before { result ≡ find (is_given_notice_as n t.0) (stored_state self.old).notice_list.notices }
+        ensures pools { self.new.pools ≡ self.old.pools }
+        ensures latest { self.new.latest ≡ self.old.latest }
+        ensures notice_room { self.old.notices.spare ≤ self.new.notices.spare }
+    {
+        let Some(notice) = self.notices.enter(n, t) else {
+            return None;
+        };
+        self.processes.enter(t, Item::Notice(n));
+        Some(notice)
     }
 
     // ends
@@ -534,14 +647,17 @@ impl Store {
         ensures state { stored_state self.new ≡ stored_state self.old }
         ensures given_out { IsGivenOut self.old.pools → IsGivenOut self.new.pools }
         ensures latest { self.new.latest ≡ self.old.latest }
+        ensures notice_room { self.old.notices.spare ≤ self.new.notices.spare }
+        ensures items { (pool : Pool) → item_room_in self.old.pools pool ≤ item_room_in self.new.pools pool }
         ensures room { OnOk result (HasRoomToLeave self.new) }
         ensures kept { (touched : Pool) → HasRoom self.old touched → HasRoom self.new touched }
+        ensures kept_for_notices { (ds : List ℕ) → HasRoomForNotices self.old ds → HasRoomForNotices self.new ds }
     {
         make_room(&mut self.pools, &self.processes)
     }
 
-    /// Callers are interrupted, threads end and doors are lost, of which it is told: the calls that wait leave their pools, threads
-    /// end or are parked again, or learn that their callers have left, and calls end. It takes no memory.
+    /// Callers are interrupted, threads end and doors are lost, of which it is told: the calls and notices that wait no longer leave
+    /// their pools, threads end or are parked again, or learn that their callers have left, and calls and notices end. It takes no memory.
     pub fn leave(&mut self, alloc: Global, who: Leaver)
         requires few { self.old.events < EVENTS_MAX }
         requires first { self.old.latest ≤ self.old.events }
@@ -549,6 +665,8 @@ impl Store {
         requires room { HasRoomToLeave self.old }
         ensures state { stored_state self.new ≡ forget (leave (stored_state self.old) (leaving_of (stored_state self.old).process_table (stored_state self.old).doors who)) }
         ensures latest { self.new.latest ≤ now (stored_state self.old) }
+        ensures notice_room { self.old.notices.spare ≤ self.new.notices.spare }
+        ensures items { (pool : Pool) → item_room_in self.old.pools pool ≤ item_room_in self.new.pools pool }
     {
         self.latest = self.events + 1;
         withdraw_calls(
@@ -558,6 +676,13 @@ impl Store {
             &self.doors,
             &self.calls,
         );
+        withdraw_notices(
+            &mut self.pools,
+            who,
+            &self.processes,
+            &self.doors,
+            &self.notices,
+        );
         leave_threads(
             &mut self.processes,
             &mut self.pools,
@@ -566,12 +691,15 @@ impl Store {
             self.latest,
         );
         leave_calls(alloc, &mut self.calls, who, &self.processes, &self.doors);
+        leave_notices(&mut self.notices, who, &self.processes, &self.doors);
     }
 
     /// A process that has no thread left has ended: its descriptors are closed, and its doors are invalid.
     pub fn end_process(&mut self, p: Pid)
         ensures state { stored_state self.new ≡ record (stored_state self.old) { process_table = end_process (stored_state self.old).process_table p.0; tables = with_table (stored_state self.old).tables p.0 (close_table (table_of (stored_state self.old) p.0)); doors = end_owner (stored_state self.old).doors p.0 } }
         ensures latest { self.new.latest ≡ self.old.latest }
+        ensures notice_room { self.old.notices.spare ≤ self.new.notices.spare }
+        ensures items { (pool : Pool) → item_room_in self.old.pools pool ≤ item_room_in self.new.pools pool }
     {
         self.processes.end_process(p);
         self.tables.close_all(p);
@@ -583,6 +711,8 @@ impl Store {
         requires { first_refusal (revoke_tests p.0 (door_of (stored_state self.old) d)) ≡ None }
         ensures state { stored_state self.new ≡ record (stored_state self.old) { doors = revoke_door (stored_state self.old).doors d } }
         ensures latest { self.new.latest ≡ self.old.latest }
+        ensures notice_room { self.old.notices.spare ≤ self.new.notices.spare }
+        ensures items { (pool : Pool) → item_room_in self.old.pools pool ≤ item_room_in self.new.pools pool }
     {
         let _ = self.doors.revoke(d, p);
     }
@@ -593,229 +723,8 @@ impl Store {
         ensures state { stored_state self.new ≡ with_event_counted (stored_state self.old) }
         ensures pools { self.new.pools ≡ self.old.pools }
         ensures latest { self.new.latest ≡ self.old.latest }
+        ensures notice_room { self.old.notices.spare ≤ self.new.notices.spare }
     {
         self.events += 1;
-    }
-
-    // what follows an act
-
-    /// The pick of a pool gets the oldest item there, where there are both. Says whether.
-    fn give_next(&mut self, pool: Pool) -> bool
-        ensures given { result ≡ true → GivesOn pool self.old self.new }
-        ensures none { result ≡ false → (self.new ≡ self.old) × IsGivenOutIn self.old.pools pool }
-    {
-        let Some(next) = self.pools.match_next(pool) else {
-            return false;
-        };
-        self.processes.give(next.thread, next.item);
-        if let Item::Call(c) = next.item {
-            self.calls.give(c, next.thread);
-        }
-        true
-    }
-
-    /// A process starts its lowest spare, if it has one.
-    fn start_spare(&mut self, p: Pid)
-        ensures state { stored_state self.new ≡ start_one (stored_state self.old) p.0 true }
-        ensures given_out { IsGivenOut self.old.pools → IsGivenOut self.new.pools }
-        ensures picks { (pool : Pool) → pick (stored_state self.new) pool ≡ pick (stored_state self.old) pool }
-        ensures agreed { IsAgreed self.new }
-        ensures latest { self.new.latest ≡ self.old.latest }
-    {
-        if let Some(t) = self.pools.take_spare(p) {
-            self.processes.turn(t, ThreadState::Running);
-        }
-    }
-
-    /// Whether an idle thread is parked in a pool. Its caller also learns here that the pools hold what the records say.
-    fn has_idle(&self, pool: Pool) -> bool
-        ensures idle { result ≡ is_some (pick_of (stack_in self.now.pools pool)) }
-        ensures agreed { IsAgreed self.now }
-    {
-        self.pools.pick(pool).is_some()
-    }
-
-    /// Gives what waits in a pool to the threads parked there, as long as it has both. The process whose common pool this is, where
-    /// a giving took its last idle thread. No other pool has both.
-    fn give_out(&mut self, pool: Pool) -> Option<Pid>
-        requires { IsGivenOutBut pool self.old.pools }
-        ensures state { stored_state self.new ≡ give (stored_state self.old) }
-        ensures last { (p : ℕ) → has_given_last (stored_state self.old) (give (stored_state self.old)) p ≡ is_this p (option_map (λ p. p.0) result) }
-        ensures given_out { IsGivenOut self.new.pools }
-        ensures latest { self.new.latest ≡ self.old.latest }
-    {
-        let had = self.has_idle(pool);
-        while self.give_next(pool) {}
-        let has = self.has_idle(pool);
-        last_given(pool, had, has)
-    }
-
-    /// Starts a spare of each process that needs one, of these two.
-    fn start_spares(&mut self, first: Option<Pid>, last: Option<Pid>)
-        ensures state { (before ungiven : State) → ((p : ℕ) → needs_spare before ungiven (stored_state self.old) p ≡ (is_this p (option_map (λ p. p.0) first) || is_this p (option_map (λ p. p.0) last))) → stored_state self.new ≡ start_spares before ungiven (stored_state self.old) }
-        ensures given_out { IsGivenOut self.old.pools → IsGivenOut self.new.pools }
-        ensures latest { self.new.latest ≡ self.old.latest }
-    {
-        if first.is_none() && last.is_none() {
-            return;
-        }
-        for i in 0..self.processes.process_count() {
-            if is_either(first, last, i + 1) {
-                self.start_spare(Pid(i + 1));
-            }
-        }
-    }
-
-    /// What follows an act that touched this pool: what waits is given to idle threads, and spares start. `first` is the process
-    /// whose first common door the act made.
-    pub fn settle(&mut self, touched: Pool, first: Option<Pid>)
-        requires given_out { IsGivenOutBut touched self.old.pools }
-        requires none_lost { (u : ℕ) → has_lost_door (stored_state self.old) u ≡ false }
-        ensures state { (before : State) → ((p : ℕ) → has_first_common_door before (give (stored_state self.old)) p ≡ is_this p (option_map (λ p. p.0) first)) → stored_state self.new ≡ settle before (stored_state self.old) }
-        ensures given_out { IsGivenOut self.new.pools }
-        ensures latest { self.new.latest ≡ self.old.latest }
-    {
-        let last = self.give_out(touched);
-        self.start_spares(first, last);
-    }
-
-    // what follows an act that can touch many pools
-
-    /// Whether a thread is idle and bound to a door that is not valid.
-    pub fn has_lost_door(&self, t: Tid) -> bool
-        ensures { result ≡ has_lost_door (stored_state self.now) t.0 }
-    {
-        matches!(self.processes.state(t), ThreadState::Idle { .. }) && self.has_invalid_door(t)
-    }
-
-    /// A thread that is idle and has lost its door is unbound, and wakes with EINVAL.
-    fn fail_one(&mut self, t: Tid)
-        ensures state { stored_state self.new ≡ fail_one (stored_state self.old) t.0 }
-        ensures latest { self.new.latest ≡ self.old.latest }
-    {
-        if !self.has_lost_door(t) {
-            return;
-        }
-        let pool = self.own_pool(t);
-        self.pools.unpark(t, pool);
-        let _ = self.pools.unbind(t);
-        self.processes.fail(t);
-    }
-
-    /// All threads that are idle and have lost their doors are unbound, and wake with EINVAL.
-    fn fail_all(&mut self)
-        ensures state { stored_state self.new ≡ fail_returns (stored_state self.old) }
-        ensures latest { self.new.latest ≡ self.old.latest }
-    {
-        for i in 0..self.processes.thread_count() {
-            self.fail_one(Tid(i + 1));
-        }
-    }
-
-    /// The call at a place of the list, where it waits, is given to the pick of its pool, where there is one.
-    fn give_at(&mut self, place: usize)
-        ensures state { stored_state self.new ≡ give_call_to_pick (stored_state self.old) (if_queued (slice_get (stored_state self.old).call_tree.calls place)) }
-        ensures latest { self.new.latest ≡ self.old.latest }
-    {
-        let Some(call) = queued_at(self.calls.list(), place) else {
-            return;
-        };
-        let number = call.number;
-        let pool = self.doors.pool_of(call.door);
-        let Some(pick) = self.pools.pick(pool) else {
-            return;
-        };
-        self.pools.withdraw(pool, Item::Call(number));
-        self.pools.unpark(pick.thread, pool);
-        self.processes.give(pick.thread, Item::Call(number));
-        self.calls.give(number, pick.thread);
-    }
-
-    /// What waits in any pool is given to idle threads there, the oldest first, as long as there are both.
-    fn give_all(&mut self)
-        ensures state { stored_state self.new ≡ give (stored_state self.old) }
-        ensures latest { self.new.latest ≡ self.old.latest }
-    {
-        for i in 0..self.calls.list().len() {
-            self.give_at(i);
-        }
-    }
-
-    /// A flag for each process, whether a thread is idle in its common pool. It takes no memory.
-    fn note_idle(&self, mut had: Room<bool>) -> Room<bool>
-        requires empty { had.items ≡ [] }
-        requires room { length self.now.processes.processes ≤ had.spare }
-        ensures flags { (p : ℕ) → is_flagged result.items p ≡ is_some (pick (stored_state self.now) (Common (pid p))) }
-        ensures agreed { IsAgreed self.now }
-    {
-        for i in 0..self.processes.process_count() {
-            had.push(self.has_idle(Pool::Common(Pid(i + 1))));
-        }
-        had
-    }
-
-    /// Whether the common pool of a process had an idle thread and has none now.
-    fn has_none_left(&self, had: &[bool], p: Pid) -> bool
-        ensures { result ≡ (is_flagged had.now p.0 && is_none (pick (stored_state self.now) (Common (pid p.0)))) }
-    {
-        let idle = self.has_idle(Pool::Common(p));
-        is_flagged_without(had, p.0, idle)
-    }
-
-    /// Starts a spare of each process whose common pool had an idle thread before the giving and has none after it.
-    fn start_all(&mut self, had: &[bool])
-        ensures state { (before ungiven : State) → ((p : ℕ) → has_first_common_door before (stored_state self.old) p ≡ false) → ((p : ℕ) → is_flagged had.now p ≡ is_some (pick ungiven (Common (pid p)))) → stored_state self.new ≡ start_spares before ungiven (stored_state self.old) }
-        ensures agreed { IsAgreed self.new }
-        ensures latest { self.new.latest ≡ self.old.latest }
-    {
-        for i in 0..self.processes.process_count() {
-            let p = Pid(i + 1);
-            if self.has_none_left(had, p) {
-                self.start_spare(p);
-            }
-        }
-    }
-
-    /// What follows an act after which any pool may have both a waiting call and an idle thread, and idle threads may have lost
-    /// their doors: these wake with EINVAL, what waits is given, the oldest first, and spares start. The act makes no process's
-    /// first common door. `had` has room for a flag of each process.
-    pub fn settle_all(&mut self, had: Room<bool>)
-        requires empty { had.items ≡ [] }
-        requires room { length self.old.processes.processes ≤ had.spare }
-        ensures state { (before : State) → ((p : ℕ) → has_first_common_door before (give (fail_returns (stored_state self.old))) p ≡ false) → stored_state self.new ≡ settle before (stored_state self.old) }
-        ensures given_out { IsGivenOut self.new.pools }
-        ensures latest { self.new.latest ≡ self.old.latest }
-    {
-        self.fail_all();
-        let had = self.note_idle(had);
-        self.give_all();
-        self.start_all(had.slice());
-    }
-}
-
-/// Whether a process is this one.
-fn is_this(process: Option<Pid>, p: u32) -> bool
-    ensures { result ≡ is_this p (option_map (λ p. p.0) process) }
-{
-    match process {
-        Some(process) => process.0 == p,
-        None => false,
-    }
-}
-
-/// Whether a process is one of these two.
-fn is_either(first: Option<Pid>, last: Option<Pid>, p: u32) -> bool
-    ensures { result ≡ (is_this p (option_map (λ p. p.0) first) || is_this p (option_map (λ p. p.0) last)) }
-{
-    is_this(first, p) || is_this(last, p)
-}
-
-/// The process whose common pool had an idle thread and has none.
-fn last_given(pool: Pool, had: bool, has: bool) -> Option<Pid>
-    ensures { (p : ℕ) → is_this p (option_map (λ p. p.0) result) ≡ (is_pool pool (Common (pid p)) && (had && not has)) }
-{
-    match pool {
-        Pool::Common(p) if had && !has => Some(p),
-        _ => None,
     }
 }

@@ -6,16 +6,19 @@ use Rattle.dk_base.specs.ByNumber.{at_number}
 use Rattle.dk_base.specs.declared.object.Item.TheVariants as item
 use Rattle.dk_base.specs.declared.error.Errno.TheVariants.{EBADF, EINTR}
 use Rattle.kernel_records.specs.declared.record.CallStage.TheVariants as stage
-use Rattle.kernel_records.specs.Words.{CallTree, Leaving, ProcessTable, abandoned_at, broken_call_at, end_owner, end_process, ended_process, ended_where, gone_call_at, is_live_call, is_pool, is_queued, is_queued_in, left_call, left_calls, live_calls, pool_in, pool_of_door, revoke_door, revoked_door, waiting_call, with_ended, with_owner_ended, without_arguments_at}
-use Rattle.written_kernel.specs.Types.{Call, CallStage, Door, Errno, Pool, Process, Waiting}
+use Rattle.kernel_records.specs.Words.{CallTree, Leaving, NoticeList, ProcessTable, abandoned_at, broken_call_at, end_owner, end_process, ended_process, ended_where, gone_call_at, has_many, is_kept_notice, is_live_call, is_past_stage, is_pool, is_queued, is_queued_in, kept_notices, left_call, left_calls, live_calls, pool_in, revoke_door, revoked_door, waiting_call, with_ended, with_owner_ended, without_arguments_at}
+use Rattle.written_kernel.specs.Types.{Call, CallStage, Door, Errno, Notice, Pool, Process, Waiting}
 use Rattle.written_kernel.proofs.Doors.{at_number-change_door, map-change_door}
 use Rattle.written_kernel.proofs.Lists.{at_number-map, length-with_at_number, same_length}
 use Rattle.server_pool.specs.Words.{PoolValue, PoolsValue, change_pool, empty_pool, is_waiting_otherwise, pool_at, pool_or_empty, queue_in, spares_or_none, stack_in, withdraw_in, without_item}
 use Rattle.server_pool.proofs.Changed.{pool_changed, pool_kept}
-use Rattle.pool_agreement.specs.Words.{Agrees, AreInOrder, leaves_queue, spare_at, spares_among, waiting_in}
-use Rattle.pool_agreement.proofs.Queued.{order_filter, waiting_doors, waiting_live}
-use Rattle.pool_agreement.proofs.Queues.{stack_same}
+use Rattle.pool_agreement.specs.Words.{Agrees, AreDated, AreInOrder, IsQueueOf, date_of_call, leaves_queue, spare_at, spares_among, waiting_in}
+use Rattle.pool_agreement.proofs.Dated.{dated_filter}
+use Rattle.pool_agreement.proofs.Noticed.{kept_doors}
+use Rattle.pool_agreement.proofs.Queued.{order_filter, waiting_live}
+use Rattle.pool_agreement.proofs.Queues.{ServesAlike, queue_doors, stack_same}
 use Rattle.pool_agreement.proofs.Readers.{bindings-change_pool, common-change_pool, is_pool-sym, private-change_pool, same_number, spares-change_pool}
+use Rattle.pool_agreement.proofs.Waits.{call_withdrawn, queue_kept}
 
 -- a field of the pools, read after one of them changed, which may not be there
 module _
@@ -166,6 +169,16 @@ order_first who (suc n) (r ∷ rs) low made h =
     subst (λ k. (low < k) × (k ≤ made) × AreInOrder k made (left_first who n rs)) (sym (left_number who r))
     (h.0, h.1, order_first who n rs r.number made h.2)
 
+dates_first : (who : Leaving) (i : ℕ) (rs : List Call) → map date_of_call (left_first who i rs) ≡ map date_of_call rs
+dates_first who zero rs = refl
+dates_first who (suc i) [] = refl
+dates_first who (suc i) (r ∷ rs) = ap₂ (λ k ks. k ∷ ks) (left_reads who date_of_call (λ s x. refl) (λ s x. refl) r) (dates_first who i rs)
+
+dates_next :
+    (who : Leaving) (n i : ℕ) (rs : List Call) → AreDated 0 n (map date_of_call (left_first who i rs)) →
+    AreDated 0 n (map date_of_call (left_first who (suc i) rs))
+dates_next who n i rs = subst (AreDated 0 n) (dates_first who i rs ∙ sym (dates_first who (suc i) rs))
+
 -- the numbers of a list are above those before it
 number_above : (rs : List Call) (low made i : ℕ) (r : Call) → AreInOrder low made rs → slice_get rs i ≡ Some r → low < r.number
 number_above [] low made i r h e = cc
@@ -299,24 +312,30 @@ module _ (who : Leaving) (doors : List Door) (pool : Pool) where
 abbrev pub tree_left : Leaving → ℕ → CallTree → CallTree
 tree_left who i tree = record tree { calls = left_first who i tree.calls }
 
-module _ {n : ℕ} {table : ProcessTable} {doors : List Door} {v : PoolsValue} (tree : CallTree) (who : Leaving) (i : ℕ) where
-  pub next_is : Agrees n table doors (tree_left who (suc i) tree) v → Agrees n table doors (tree_left who (i + 1) tree) v
-  next_is h = subst (λ k. Agrees n table doors (tree_left who k tree) v) (sym (add-one i)) h
+module _
+    {n : ℕ} {table : ProcessTable} {doors : List Door} {list : NoticeList} {v : PoolsValue} (tree : CallTree) (who : Leaving) (i : ℕ) where
+  pub next_is : Agrees n table doors (tree_left who (suc i) tree) list v → Agrees n table doors (tree_left who (i + 1) tree) list v
+  next_is h = subst (λ k. Agrees n table doors (tree_left who k tree) list v) (sym (add-one i)) h
 
   pub agrees_withdrawn :
       (r : Call) → AreInOrder 0 tree.made tree.calls → slice_get tree.calls i ≡ Some r → (is_queued r.stage && leaves_queue who r) ≡ true →
-      Agrees n table doors (tree_left who i tree) v →
-      Agrees n table doors (tree_left who (suc i) tree) (change_pool v (pool_in (at_number doors r.door)) (withdraw_in (item.Call r.number)))
+      Agrees n table doors (tree_left who i tree) list v →
+      Agrees n table doors (tree_left who (suc i) tree) list (change_pool v (pool_in (at_number doors r.door)) (withdraw_in (item.Call r.number)))
   agrees_withdrawn r order at leaves h =
       record {
         stacks =
             λ q. stack_same table n q v.bindings w.bindings (stack_in v q) (stack_in w q) (bindings-change_pool v pool change)
             (read_kept (λ (x : PoolValue). x.parked) change (λ x. refl) v pool q) (h.stacks q);
         queues =
-            λ q. read_change (λ (x : PoolValue). x.waiting) (without_item (item.Call r.number)) change (λ x. refl) refl v pool q
-            ∙ queue q (is_pool pool q) refl (both (is_queued r.stage) (leaves_queue who r) leaves);
+            λ q. subst (IsQueueOf doors (left_first who (suc i) tree.calls) list.notices q)
+            (sym (read_change (λ (x : PoolValue). x.waiting) (without_item (item.Call r.number)) change (λ x. refl) refl v pool q))
+            (queue q (is_pool pool q) refl (both (is_queued r.stage) (leaves_queue who r) leaves));
         spares = λ p. ap (λ xs. spares_or_none (at_number xs p)) (spares-change_pool v pool change) ∙ h.spares p;
         calls = order_first who (suc i) tree.calls 0 tree.made order;
+        call_dates = dates_next who n i tree.calls h.call_dates;
+        notices = h.notices;
+        notice_dates = h.notice_dates;
+        kept = h.kept;
         common = common-change_pool v pool change ∙ h.common;
         spare_lists = ap length (spares-change_pool v pool change) ∙ h.spare_lists;
         private = private-change_pool v pool change ∙ h.private;
@@ -337,27 +356,33 @@ module _ {n : ℕ} {table : ProcessTable} {doors : List Door} {v : PoolsValue} (
 
       queue :
           (q : Pool) (b : Bool) → is_pool pool q ≡ b → (is_queued r.stage ≡ true) × (leaves_queue who r ≡ true) →
-          (if b then without_item (item.Call r.number) (queue_in v q) else queue_in v q) ≡ waiting_in doors (left_first who (suc i) tree.calls) q
+          IsQueueOf doors (left_first who (suc i) tree.calls) list.notices q
+          (if b then without_item (item.Call r.number) (queue_in v q) else queue_in v q)
       queue q true e k =
-          ap (without_item (item.Call r.number)) (h.queues q)
-          ∙ queue_withdrawn who doors q i tree.calls 0 tree.made r order at (ap₂ (λ a b. a && b) k.0 (is_pool-sym q pool ∙ e)) k.1
+          call_withdrawn (h.queues q) r.number (left_first who (suc i) tree.calls)
+          (queue_withdrawn who doors q i tree.calls 0 tree.made r order at (ap₂ (λ a b. a && b) k.0 (is_pool-sym q pool ∙ e)) k.1)
       queue q false e k =
-          h.queues q
-          ∙ sym (queue_stays who doors q i tree.calls r at
-          (ap₂ (λ a b. (a && b) && leaves_queue who r) k.0 (is_pool-sym q pool ∙ e)))
+          queue_kept doors (left_first who (suc i) tree.calls) list.notices
+          (queue_stays who doors q i tree.calls r at (ap₂ (λ a b. (a && b) && leaves_queue who r) k.0 (is_pool-sym q pool ∙ e))) refl
+          (h.queues q)
 
   pub agrees_stays :
       (r : Call) → AreInOrder 0 tree.made tree.calls → slice_get tree.calls i ≡ Some r → (is_queued r.stage && leaves_queue who r) ≡ false →
-      Agrees n table doors (tree_left who i tree) v → Agrees n table doors (tree_left who (suc i) tree) v
+      Agrees n table doors (tree_left who i tree) list v → Agrees n table doors (tree_left who (suc i) tree) list v
   agrees_stays r order at stays h =
       record {
         stacks = h.stacks;
         queues =
-            λ q. h.queues q
-            ∙ sym (queue_stays who doors q i tree.calls r at
-            (neither (is_queued r.stage) (is_pool q (pool_in (at_number doors r.door))) (leaves_queue who r) stays));
+            λ q. queue_kept doors (left_first who (suc i) tree.calls) list.notices
+            (queue_stays who doors q i tree.calls r at
+            (neither (is_queued r.stage) (is_pool q (pool_in (at_number doors r.door))) (leaves_queue who r) stays)) refl
+            (h.queues q);
         spares = h.spares;
         calls = order_first who (suc i) tree.calls 0 tree.made order;
+        call_dates = dates_next who n i tree.calls h.call_dates;
+        notices = h.notices;
+        notice_dates = h.notice_dates;
+        kept = h.kept;
         common = h.common;
         spare_lists = h.spare_lists;
         private = h.private;
@@ -370,16 +395,22 @@ module _ {n : ℕ} {table : ProcessTable} {doors : List Door} {v : PoolsValue} (
 
   -- after all of them those that are live are kept
   pub agrees_left :
-      length tree.calls ≤ i → Agrees n table doors (tree_left who i tree) v → Agrees n table doors (live_calls (left_calls who tree)) v
+      length tree.calls ≤ i → Agrees n table doors (tree_left who i tree) list v → Agrees n table doors (live_calls (left_calls who tree)) list v
   agrees_left l h =
       record {
         stacks = h.stacks;
         queues =
-            λ q. h.queues q ∙ ap (λ rs. waiting_in doors rs q) all
-            ∙ sym (waiting_live doors (map (left_call who) tree.calls) q);
+            λ q. queue_kept doors (filter is_live_call (map (left_call who) tree.calls)) list.notices
+            (waiting_live doors (map (left_call who) tree.calls) q ∙ ap (λ rs. waiting_in doors rs q) (sym all)) refl (h.queues q);
         spares = h.spares;
         calls =
             order_filter is_live_call (map (left_call who) tree.calls) 0 tree.made (subst (AreInOrder 0 tree.made) all h.calls);
+        call_dates =
+            dated_filter date_of_call is_live_call (map (left_call who) tree.calls) 0 n
+            (subst (λ rs. AreDated 0 n (map date_of_call rs)) all h.call_dates);
+        notices = h.notices;
+        notice_dates = h.notice_dates;
+        kept = h.kept;
         common = h.common;
         spare_lists = h.spare_lists;
         private = h.private;
@@ -390,28 +421,56 @@ module _ {n : ℕ} {table : ProcessTable} {doors : List Door} {v : PoolsValue} (
 
 -- doors that are invalid serve what they served
 
-pool_in-ended : (doors : List Door) (p k : ℕ) → pool_in (at_number (end_owner doors p) k) ≡ pool_in (at_number doors k)
-pool_in-ended doors p k = ap pool_in (at_number-map (with_owner_ended p) doors k) ∙ go (at_number doors k)
+module _ {Y : Type 0} (read : Option Door → Y) where
+  read_ended :
+      ((d : Door) → read (Some (record d { owner_ended = true })) ≡ read (Some d)) → (doors : List Door) (p k : ℕ) →
+      read (at_number (end_owner doors p) k) ≡ read (at_number doors k)
+  read_ended same doors p k = ap read (at_number-map (with_owner_ended p) doors k) ∙ go (at_number doors k)
+    where
+      kept : (d : Door) (b : Bool) → read (Some (if b then record d { owner_ended = true } else d)) ≡ read (Some d)
+      kept d true = same d
+      kept d false = refl
+
+      go : (o : Option Door) → read (option_map (with_owner_ended p) o) ≡ read o
+      go None = refl
+      go (Some d) = kept d (d.owner.0 == p)
+
+  read_revoked :
+      ((d : Door) → read (Some (revoked_door d)) ≡ read (Some d)) → (doors : List Door) (d k : ℕ) →
+      read (at_number (revoke_door doors d) k) ≡ read (at_number doors k)
+  read_revoked same doors d k = ap read (at_number-change_door doors d k revoked_door) ∙ go (k == d) refl
+    where
+      kept : (o : Option Door) → read (option_map revoked_door o) ≡ read o
+      kept None = refl
+      kept (Some x) = same x
+
+      go : (b : Bool) → (k == d) ≡ b → read (if b then option_map revoked_door (at_number doors d) else at_number doors k) ≡ read (at_number doors k)
+      go true e = kept (at_number doors d) ∙ ap (λ j. read (at_number doors j)) (sym (same_number k d e))
+      go false e = refl
+
+ended_serves : (doors : List Door) (p k : ℕ) → ServesAlike (end_owner doors p) doors k
+ended_serves doors p k =
+    record { same_pool = read_ended pool_in (λ d. refl) doors p k; same_many = read_ended has_many (λ d. refl) doors p k }
+
+revoked_serves : (doors : List Door) (d k : ℕ) → ServesAlike (revoke_door doors d) doors k
+revoked_serves doors d k =
+    record { same_pool = read_revoked pool_in (λ x. refl) doors d k; same_many = read_revoked has_many (λ x. refl) doors d k }
+
+-- so they keep the same notices
+
+kept_notices-alike :
+    (others doors : List Door) (list : NoticeList) → ((k : ℕ) → ServesAlike others doors k) → kept_notices others list ≡ kept_notices doors list
+kept_notices-alike others doors list same = ap (λ ns. record list { notices = ns }) (go list.notices)
   where
-    kept : (d : Door) (b : Bool) → pool_of_door (if b then record d { owner_ended = true } else d) ≡ pool_of_door d
-    kept d true = refl
-    kept d false = refl
+    go : (ns : List Notice) → filter (is_kept_notice others) ns ≡ filter (is_kept_notice doors) ns
+    go [] = refl
+    go (x ∷ xs) = ap₂ (λ b ys. if not (is_past_stage x.stage && b) then x ∷ ys else ys) (same x.door).same_many (go xs)
 
-    go : (o : Option Door) → pool_in (option_map (with_owner_ended p) o) ≡ pool_in o
-    go None = refl
-    go (Some d) = kept d (d.owner.0 == p)
+pub kept_notices-ended : (doors : List Door) (p : ℕ) (list : NoticeList) → kept_notices (end_owner doors p) list ≡ kept_notices doors list
+kept_notices-ended doors p list = kept_notices-alike (end_owner doors p) doors list (ended_serves doors p)
 
-pool_in-revoked : (doors : List Door) (d k : ℕ) → pool_in (at_number (revoke_door doors d) k) ≡ pool_in (at_number doors k)
-pool_in-revoked doors d k = ap pool_in (at_number-change_door doors d k revoked_door) ∙ go (k == d) refl
-  where
-    kept : (o : Option Door) → pool_in (option_map revoked_door o) ≡ pool_in o
-    kept None = refl
-    kept (Some x) = refl
-
-    go :
-        (b : Bool) → (k == d) ≡ b → pool_in (if b then option_map revoked_door (at_number doors d) else at_number doors k) ≡ pool_in (at_number doors k)
-    go true e = kept (at_number doors d) ∙ ap (λ j. pool_in (at_number doors j)) (sym (same_number k d e))
-    go false e = refl
+pub kept_notices-revoked : (doors : List Door) (d : ℕ) (list : NoticeList) → kept_notices (revoke_door doors d) list ≡ kept_notices doors list
+kept_notices-revoked doors d list = kept_notices-alike (revoke_door doors d) doors list (revoked_serves doors d)
 
 processes-end_process : (table : ProcessTable) (p : ℕ) → length (end_process table p).processes ≡ length table.processes
 processes-end_process table p = go (at_number table.processes p)
@@ -427,22 +486,26 @@ threads-end_process table p = go (at_number table.processes p)
     go None = refl
     go (Some x) = refl
 
-module _ {n : ℕ} {table : ProcessTable} {doors : List Door} {tree : CallTree} {v : PoolsValue} (h : Agrees n table doors tree v) where
-  -- other records of processes and doors, of as many, with the same threads and the same pools of doors
+module _ {n : ℕ} {table : ProcessTable} {doors : List Door} {tree : CallTree} {list : NoticeList} {v : PoolsValue} (h : Agrees n table doors tree list v) where
+  -- other records of processes and doors, of as many, with the same threads and with doors that serve alike
   with_others :
       (after : ProcessTable) (others : List Door) → after.threads ≡ table.threads → length after.processes ≡ length table.processes →
-      length others ≡ length doors → ((k : ℕ) → pool_in (at_number others k) ≡ pool_in (at_number doors k)) → Agrees n after others tree v
+      length others ≡ length doors → ((k : ℕ) → ServesAlike others doors k) → Agrees n after others tree list v
   with_others after others threads processes lengths same =
-      subst (λ (t : ProcessTable). Agrees n t others tree v) (ap (λ ts. record after { threads = ts }) (sym threads))
+      subst (λ (t : ProcessTable). Agrees n t others tree list v) (ap (λ ts. record after { threads = ts }) (sym threads))
       (record {
         stacks = λ q. let s = h.stacks q in record {
           parked = λ i x e. let k = s.parked i x e in record { parked = k.parked; same_pool = k.same_pool; since = k.since };
           all = s.all;
           in_order = s.in_order;
         };
-        queues = λ q. h.queues q ∙ sym (waiting_doors doors others tree.calls q (λ i r e k. same r.door));
+        queues = λ q. queue_doors h others (λ i r e k. (same r.door).same_pool) (λ i x e. same x.door) q;
         spares = λ p. h.spares p ∙ spares p (length table.threads);
         calls = h.calls;
+        call_dates = h.call_dates;
+        notices = h.notices;
+        notice_dates = h.notice_dates;
+        kept = kept_doors doors others list.notices (λ i x e. (same x.door).same_many) h.kept;
         common = h.common ∙ sym processes;
         spare_lists = h.spare_lists ∙ sym processes;
         private = h.private ∙ sym lengths;
@@ -456,16 +519,16 @@ module _ {n : ℕ} {table : ProcessTable} {doors : List Door} {tree : CallTree} 
       spares p (suc k) = ap (λ us. us ++ spare_at table p (suc k)) (spares p k)
 
   -- a process ends that has no thread left
-  pub agrees_end : (p : ℕ) → Agrees n (end_process table p) (end_owner doors p) tree v
+  pub agrees_end : (p : ℕ) → Agrees n (end_process table p) (end_owner doors p) tree list v
   agrees_end p =
       with_others (end_process table p) (end_owner doors p) (threads-end_process table p) (processes-end_process table p)
-      (length-map doors (with_owner_ended p)) (pool_in-ended doors p)
+      (length-map doors (with_owner_ended p)) (ended_serves doors p)
 
   -- a door is revoked
-  pub agrees_revoke : (d : ℕ) → Agrees n table (revoke_door doors d) tree v
+  pub agrees_revoke : (d : ℕ) → Agrees n table (revoke_door doors d) tree list v
   agrees_revoke d =
       with_others table (revoke_door doors d) refl refl
-      (same_length nothing (revoke_door doors d) doors (map-change_door nothing doors d revoked_door (λ y. refl))) (pool_in-revoked doors d)
+      (same_length nothing (revoke_door doors d) doors (map-change_door nothing doors d revoked_door (λ y. refl))) (revoked_serves doors d)
     where
       nothing : Door → ℕ
       nothing y = 0

@@ -10,3 +10,12 @@ pub mod Leaving
 pub mod Unparking
 pub mod GivingAll
 pub mod Settling
+pub mod Dated
+pub mod Noticed
+pub mod Waits
+pub mod Noticing
+pub mod LeavingNotices
+pub mod Merged
+pub mod Swaps
+pub mod GivingFirst
+pub mod GivingOut

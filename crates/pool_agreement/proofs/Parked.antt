@@ -149,7 +149,7 @@ parked_number table bindings t y e = go (thread_at table t) e
     go None f = grind arith
     go (Some x) f = parked_in_number t (pool_of_thread x (bound_at bindings t)) x.state y f
 
-parked_within :
+pub parked_within :
     (table : ProcessTable) (bindings : List (Option ℕ)) (t : ℕ) (y : Parked) → parked_at table bindings t ≡ Some y →
     (1 ≤ t) × (t ≤ length table.threads)
 parked_within table bindings t y e = go (thread_at table t) refl e

@@ -42,6 +42,18 @@ from_stacked table bindings latest pool stack h =
       in_order = h.in_order;
     }
 
+-- with a later event after which none parked
+pub stack_later :
+    (table : ProcessTable) (bindings : List (Option ℕ)) (n k : ℕ) (pool : Pool) (stack : List Parked) → n ≤ k →
+    IsStackOf table bindings n pool stack → IsStackOf table bindings k pool stack
+stack_later table bindings n k pool stack l h =
+    record {
+      parked =
+          λ i x e. let p = h.parked i x e in record { parked = p.parked; same_pool = p.same_pool; since = omega (arith, p.since) };
+      all = h.all;
+      in_order = h.in_order;
+    }
+
 -- what the records say of parked threads, where it differs for one thread at most
 pub record IsParkedAlikeBut (t : ℕ) (table : ProcessTable) (bindings : List (Option ℕ)) (after : ProcessTable) (bound : List (Option ℕ)) : Type 0 where
   pub others : (u : ℕ) → (u == t) ≡ false → parked_at after bound u ≡ parked_at table bindings u
@@ -170,7 +182,7 @@ in_filter {X} p (y ∷ ys) x h = go (p y) refl (in_filter p ys x) h
     go true e ih (inr k) = let r : IsIn x ys × (p x ≡ true) = ih k in (inr r.0, r.1)
     go false e ih k = let r : IsIn x ys × (p x ≡ true) = ih k in (inr r.0, r.1)
 
-to_filter : {X : Type 0} (p : X → Bool) (xs : List X) (x : X) → IsIn x xs → p x ≡ true → IsIn x (filter p xs)
+pub to_filter : {X : Type 0} (p : X → Bool) (xs : List X) (x : X) → IsIn x xs → p x ≡ true → IsIn x (filter p xs)
 to_filter p [] x h e = absurd h
 to_filter p (y ∷ ys) x h e = go (p y) refl h (λ k. to_filter p ys x k e)
   where

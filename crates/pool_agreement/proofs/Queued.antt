@@ -1,16 +1,14 @@
 -- The list of calls: which of them wait in a pool, and that their numbers go up.
-use Rattle.std.proofs.Common.{◌≡◌, ℕ, zero, suc, ◌+◌, ◌<◌, ◌≤◌, ◌&&◌, Bool, true, false, cond, if◌then◌else◌, List, [], ◌∷◌, ◌++◌, Some, length, map, filter, slice_get, refl, sym, subst, ap, ap₂, ◌∙◌, append-nil, arith}
+use Rattle.std.proofs.Common.{◌≡◌, ℕ, zero, suc, ◌+◌, ◌<◌, ◌≤◌, ◌&&◌, Bool, true, false, if◌then◌else◌, List, [], ◌∷◌, ◌++◌, Some, map, filter, slice_get, refl, sym, subst, ap, ap₂, ◌∙◌, append-nil, arith}
 use Rattle.std.proofs.lemmas.Bool.Decides.{nat_tests}
 use Rattle.std.proofs.lemmas.List.{map-append}
 use Rattle.std.proofs.lemmas.List.Elements.{filter-append}
-use Rattle.std.proofs.lemmas.List.Sums.{sum_by-cons}
 use Rattle.dk_base.specs.ByNumber.{at_number}
 use Rattle.kernel_records.specs.declared.record.CallStage.TheVariants as stage
 use Rattle.kernel_records.specs.Words.{at_stage, change_first, is_live_call, is_pool, is_queued, is_queued_as, is_queued_in, pool_in, tid, waiting_call}
 use Rattle.written_kernel.specs.Types.{Call, Door, Pool, Waiting}
 use Rattle.written_kernel.proofs.CallLists.{filter-live, queued_in_is_live}
 use Rattle.written_kernel.proofs.Giving.{same_pool}
-use Rattle.server_pool.specs.Words.{count_calls, is_waiting_call}
 use Rattle.pool_agreement.specs.Words.{AreInOrder, waiting_in}
 use Rattle.pool_agreement.proofs.Readers.{is_pool-sym}
 
@@ -30,11 +28,6 @@ is_pool-other a b c e f =
     ap (is_pool c) (sym (same_pool a b e)) ∙ is_pool-sym c a ∙ f
 
 -- what waits in a pool
-
-pub counted_calls : (rs : List Call) → count_calls (map waiting_call rs) ≡ length rs
-counted_calls [] = refl
-counted_calls (r ∷ rs) =
-    omega (arith, counted_calls rs, sum_by-cons (λ w. cond (is_waiting_call w) 1 0) (waiting_call r) (map waiting_call rs))
 
 pub waiting_push :
     (doors : List Door) (calls : List Call) (r : Call) (pool : Pool) → is_queued r.stage ≡ true →
@@ -246,7 +239,7 @@ oldest doors calls pool w ws e = go (filter (is_queued_in doors pool) calls) ref
     go [] f k = cc
     go (r ∷ rs) f k = record { call = r; others = rs; first = f; same = cc; rest = cc }
 
-first_passes : (test : Call → Bool) (rs : List Call) (r : Call) (others : List Call) → filter test rs ≡ r ∷ others → test r ≡ true
+pub first_passes : {X : Type 0} (test : X → Bool) (rs : List X) (r : X) (others : List X) → filter test rs ≡ r ∷ others → test r ≡ true
 first_passes test [] r others e = cc
 first_passes test (x ∷ xs) r others e = go (test x) refl (first_passes test xs r others) e
   where

@@ -1,6 +1,7 @@
--- What waits in the pools is what the calls say: where calls are opened, given, entered, returned and collected, and where doors
--- are made and changed.
-use Rattle.std.proofs.Common.{◌≡◌, ℕ, ◌+◌, ◌≤◌, ◌&&◌, ◌==◌, Bool, true, false, not, nat_le, if◌then◌else◌, List, [], ◌∷◌, ◌++◌, Option, Some, None, option_map, is_some, length, map, filter, drop, slice_get, refl, sym, subst, subst₂, ap, ap₂, ◌∙◌, length-append, arith}
+-- What waits in the pools is what the calls and notices say: where calls are opened, given, entered, returned and collected, and where
+-- doors are made and changed.
+use Rattle.std.proofs.Common.{◌≡◌, ◌⊎◌, inl, inr, ℕ, ◌+◌, ◌<◌, ◌≤◌, ◌&&◌, ◌==◌, Bool, true, false, not, nat_le, if◌then◌else◌, List, [], ◌∷◌, ◌++◌, Option, Some, None, option_map, is_some, length, map, filter, drop, slice_get, refl, sym, subst, subst₂, ap, ap₂, ◌∙◌, length-append, arith}
+use Rattle.std.proofs.lemmas.List.{length-map, map-append}
 use Rattle.std.proofs.lemmas.List.Sums.{length-filter}
 use Rattle.dk_base.specs.ByNumber.{at_number}
 use Rattle.dk_base.specs.declared.error.Errno.TheVariants.{EMFILE}
@@ -9,21 +10,26 @@ use Rattle.dk_base.specs.declared.request.Param.TheVariants as param
 use Rattle.kernel_records.specs.declared.pool.Pool.TheVariants.{Common, Private}
 use Rattle.kernel_records.specs.declared.record.CallStage.TheVariants as stage
 use Rattle.kernel_records.specs.declared.record.ThreadState.TheVariants as is
-use Rattle.kernel_records.specs.Words.{CallTree, ProcessTable, at_stage, change_first, collect_call, enter_call, fail_call, give_call, give_thread, is_client_call_of, is_given_as, is_given_to, is_entered_by, is_live_call, is_pool, is_private, is_queued, is_queued_as, is_queued_in, is_to_collect, is_to_collect_as, live_calls, open_call, pool_in, is_valid_door, queue_length, return_call, set_param, thread_at_state, tid, waiting_call, with_param, without_arguments_at}
-use Rattle.written_kernel.specs.Types.{Call, CallStage, Door, Obj, Param, Parked, Pool, Thread, Waiting}
+use Rattle.kernel_records.specs.Words.{CallTree, NoticeList, ProcessTable, at_stage, change_first, collect_call, enter_call, fail_call, give_call, give_thread, has_many, has_unref_multi, is_client_call_of, is_entered_by, is_given_as, is_given_to, is_live_call, is_pool, is_private, is_queued, is_queued_as, is_queued_in, is_to_collect, is_to_collect_as, is_valid_door, live_calls, open_call, pool_in, queue_length, return_call, set_param, thread_at_state, tid, waiting_call, with_param, without_arguments_at}
+use Rattle.written_kernel.specs.Types.{Call, CallStage, Door, Item, Notice, Obj, Param, Parked, Pool, Thread, Waiting}
 use Rattle.written_kernel.proofs.Doors.{at_number-change_door, map-change_door}
 use Rattle.written_kernel.proofs.Giving.{same_pool}
 use Rattle.written_kernel.proofs.Lists.{is_some-at_number, numbered_front, numbered_past, numbered_push, numbered_there, numbered_within, same_length}
+use Rattle.written_kernel.proofs.Places.{map-change_first}
 use Rattle.written_kernel.proofs.Threads.{processes-change_thread}
-use Rattle.server_pool.specs.Words.{PoolValue, PoolsValue, change_pool, count_calls, empty_pool, enqueue_in, match_in, pick_of, pool_at, pool_or_empty, queue_in, spares_or_none, stack_in}
-use Rattle.pool_agreement.specs.Words.{Agrees, AreInOrder, HasPlaces, IsStackOf, spares_among, waiting_in}
-use Rattle.pool_agreement.proofs.Queued.{IsOldest, both_true, counted_calls, filter-changed, filter-given, filter-given_elsewhere, oldest, oldest_served, order_changed, order_filter, order_push, waiting_doors, waiting_live, waiting_push}
+use Rattle.server_pool.specs.Words.{PoolValue, PoolsValue, change_pool, count_calls, empty_pool, enqueue_in, is_waiting_call, match_in, pick_of, pool_at, pool_or_empty, queue_in, spares_or_none, stack_in}
+use Rattle.pool_agreement.specs.Words.{Agrees, AreDated, AreInOrder, HasPlaces, IsQueueOf, IsStackOf, date_of_call, date_of_notice, spares_among, waiting_in}
+use Rattle.pool_agreement.proofs.Dated.{dated_filter, dated_later, dated_push}
+use Rattle.pool_agreement.proofs.Noticed.{kept_doors, notices_waiting_doors}
+use Rattle.pool_agreement.proofs.Queued.{both_true, filter-changed, given_calls, order_changed, order_filter, order_push, waiting_doors, waiting_live}
 use Rattle.pool_agreement.proofs.Readers.{bindings-change_pool, common-change_pool, is_pool-sym, pool-change_other, pool-change_same, pool_there-queue, private-change_pool, same_number, spares-change_pool, there_is}
+use Rattle.pool_agreement.proofs.Parking.{stack_later}
 use Rattle.pool_agreement.proofs.Stacks.{length-change_thread, spares_given, stack_given}
+use Rattle.pool_agreement.proofs.Waits.{call_left, call_left_elsewhere, call_pushed, first_served, queue_kept}
 
 -- a field of the pools, read after a pool that is there changed
 module _ {Y : Type 0} (read : PoolValue → Y) (next : Y → Y) (change : PoolValue → PoolValue) (reads : (x : PoolValue) → read (change x) ≡ next (read x)) where
-  read_changed :
+  pub read_changed :
       (v : PoolsValue) (pool other : Pool) → is_some (pool_at v pool) ≡ true →
       read (pool_or_empty (pool_at (change_pool v pool change) other))
       ≡ (if is_pool pool other then next (read (pool_or_empty (pool_at v other))) else read (pool_or_empty (pool_at v other)))
@@ -39,7 +45,7 @@ module _ {Y : Type 0} (read : PoolValue → Y) (next : Y → Y) (change : PoolVa
           ∙ ap (λ q. next (read (pool_or_empty (pool_at v q)))) (same_pool pool other e)
       go false e = ap (λ o. read (pool_or_empty o)) (pool-change_other v pool other change e)
 
-same_both : {Y : Type 0} (b : Bool) (y : Y) → (if b then y else y) ≡ y
+pub same_both : {Y : Type 0} (b : Bool) (y : Y) → (if b then y else y) ≡ y
 same_both true y = refl
 same_both false y = refl
 
@@ -73,41 +79,63 @@ client_not_queued t r e = entered_stage t r.stage (both_true (not r.abandoned) (
 
 -- doors that changed in their parameters alone
 
-param_pool : (x : Param) (value : ℕ) (o : Option Door) → pool_in (option_map (with_param x value) o) ≡ pool_in o
-param_pool x value None = refl
-param_pool param.DataMax value (Some d) = refl
-param_pool param.DataMin value (Some d) = refl
-param_pool param.DescMax value (Some d) = refl
+-- a door number reads as the same pool, which as many notices may wait for
+pub record ServesAlike (others doors : List Door) (k : ℕ) : Type 0 where
+  pub same_pool : pool_in (at_number others k) ≡ pool_in (at_number doors k)
+  pub same_many : has_many (at_number others k) ≡ has_many (at_number doors k)
 
-param_pool_at :
-    (doors : List Door) (d : ℕ) (x : Param) (value k : ℕ) →
-    pool_in (at_number (set_param doors d x value) k) ≡ pool_in (at_number doors k)
-param_pool_at doors d x value k =
-    ap pool_in (at_number-change_door doors d k (with_param x value)) ∙ go (k == d) refl
+-- what is read of none of its parameters
+param_reads :
+    {Y : Type 0} (read : Option Door → Y) → ((f : Door → Door) (d : Door) → (f d).attrs ≡ d.attrs → (f d).number ≡ d.number → (f d).owner ≡ d.owner → read (Some (f d)) ≡ read (Some d)) →
+    (doors : List Door) (d : ℕ) (x : Param) (value k : ℕ) → read (at_number (set_param doors d x value) k) ≡ read (at_number doors k)
+param_reads read same doors d x value k = ap read (at_number-change_door doors d k (with_param x value)) ∙ go (k == d) refl
   where
+    kept : (x : Param) (o : Option Door) → read (option_map (with_param x value) o) ≡ read o
+    kept x None = refl
+    kept param.DataMax (Some d) = same (with_param param.DataMax value) d refl refl refl
+    kept param.DataMin (Some d) = same (with_param param.DataMin value) d refl refl refl
+    kept param.DescMax (Some d) = same (with_param param.DescMax value) d refl refl refl
+
     go :
         (b : Bool) → (k == d) ≡ b →
-        pool_in (if b then option_map (with_param x value) (at_number doors d) else at_number doors k) ≡ pool_in (at_number doors k)
-    go true e = param_pool x value (at_number doors d) ∙ ap (λ j. pool_in (at_number doors j)) (sym (same_number k d e))
+        read (if b then option_map (with_param x value) (at_number doors d) else at_number doors k) ≡ read (at_number doors k)
+    go true e = kept x (at_number doors d) ∙ ap (λ j. read (at_number doors j)) (sym (same_number k d e))
     go false e = refl
 
--- what waits is a call, at a door that the pool serves
-pub record IsNextCall (doors : List Door) (pool : Pool) (w : Waiting) : Type 0 where
+param_serves : (doors : List Door) (d : ℕ) (x : Param) (value k : ℕ) → ServesAlike (set_param doors d x value) doors k
+param_serves doors d x value k =
+    record {
+      same_pool = param_reads pool_in pool doors d x value k;
+      same_many = param_reads has_many (λ f y a b c. ap has_unref_multi a) doors d x value k;
+    }
+  where
+    pool : (f : Door → Door) (y : Door) → (f y).attrs ≡ y.attrs → (f y).number ≡ y.number → (f y).owner ≡ y.owner → pool_in (Some (f y)) ≡ pool_in (Some y)
+    pool f y a b c =
+        ap (λ z. if is_private z then Private (f y).number else Common (f y).owner) a
+        ∙ ap₂ (λ k p. if is_private y.attrs then Private k else Common p) b c
+
+-- what waits is a call or a notice, at a door that the pool serves
+pub record IsNextItem (doors : List Door) (pool : Pool) (w : Waiting) : Type 0 where
   pub number : ℕ
-  pub is_call : w.item ≡ item.Call number
+  pub is_either : (w.item ≡ item.Call number) ⊎ (w.item ≡ item.Notice number)
   pub served : is_pool pool (pool_in (at_number doors w.door)) ≡ true
 
-module _ {n : ℕ} {table : ProcessTable} {doors : List Door} {tree : CallTree} {v : PoolsValue} (h : Agrees n table doors tree v) where
+either_item : (i : Item) → (k : ℕ) × ((i ≡ item.Call k) ⊎ (i ≡ item.Notice k))
+either_item (item.Call k) = (k, inl refl)
+either_item (item.Notice k) = (k, inr refl)
+
+module _ {n : ℕ} {table : ProcessTable} {doors : List Door} {tree : CallTree} {list : NoticeList} {v : PoolsValue} (h : Agrees n table doors tree list v) where
   -- as many calls wait in a pool as the pool counts
   pub queue_length_agrees : (pool : Pool) → queue_length doors tree.calls pool ≡ count_calls (queue_in v pool)
   queue_length_agrees pool =
       sym (length-filter (is_queued_in doors pool) tree.calls)
-      ∙ sym (counted_calls (filter (is_queued_in doors pool) tree.calls))
-      ∙ ap count_calls (sym (h.queues pool))
+      ∙ sym (length-map (filter (is_queued_in doors pool) tree.calls) waiting_call)
+      ∙ ap length (sym (h.queues pool).calls_wait)
+      ∙ length-filter is_waiting_call (queue_in v pool)
 
   -- the pool of a valid door is there
   pub door_pool_there :
-      HasPlaces table v.bindings doors tree.calls → (d : ℕ) (x : Door) → at_number doors d ≡ Some x → is_valid_door x ≡ true →
+      HasPlaces table v.bindings doors tree.calls list.notices → (d : ℕ) (x : Door) → at_number doors d ≡ Some x → is_valid_door x ≡ true →
       is_some (pool_at v (pool_in (at_number doors d))) ≡ true
   door_pool_there places d x e valid = ap (λ o. is_some (pool_at v (pool_in o))) e ∙ go (is_private x.attrs)
     where
@@ -124,23 +152,31 @@ module _ {n : ℕ} {table : ProcessTable} {doors : List Door} {tree : CallTree} 
 
   -- a call waits, behind the others of its pool
   pub agrees_open :
-      (r : Call) (pool : Pool) → r.number ≡ tree.made + 1 → is_queued r.stage ≡ true → pool ≡ pool_in (at_number doors r.door) →
+      (r : Call) (pool : Pool) → r.number ≡ tree.made + 1 → n < r.made → is_queued r.stage ≡ true → pool ≡ pool_in (at_number doors r.door) →
       is_some (pool_at v pool) ≡ true →
-      Agrees n table doors (open_call tree r) (change_pool v pool (enqueue_in (waiting_call r)))
-  agrees_open r pool number queued served there =
+      Agrees r.made table doors (open_call tree r) list (change_pool v pool (enqueue_in (waiting_call r)))
+  agrees_open r pool number later queued served there =
       record {
         stacks =
             λ q.
-            stack_same table n q v.bindings w.bindings (stack_in v q) (stack_in w q) (bindings-change_pool v pool enter)
+            stack_same table r.made q v.bindings w.bindings (stack_in v q) (stack_in w q) (bindings-change_pool v pool enter)
             (read_changed (λ (x : PoolValue). x.parked) (λ xs. xs) enter (λ x. refl) v pool q there ∙ same_both (is_pool pool q) (stack_in v q))
-            (h.stacks q);
+            (stack_later table v.bindings n r.made q (stack_in v q) (omega arith) (h.stacks q));
         queues =
             λ q.
-            read_changed (λ (x : PoolValue). x.waiting) (λ (ws : List Waiting). ws ++ waiting_call r ∷ []) enter (λ x. refl) v pool q there
-            ∙ ap₂ (λ (b : Bool) (ws : List Waiting). if b then ws ++ waiting_call r ∷ [] else ws) (is_pool-sym pool q ∙ ap (is_pool q) served) (h.queues q)
-            ∙ sym (waiting_push doors tree.calls r q queued);
+            subst (IsQueueOf doors (tree.calls ++ r ∷ []) list.notices q)
+            (sym
+            (read_changed (λ (x : PoolValue). x.waiting) (λ (ws : List Waiting). ws ++ waiting_call r ∷ []) enter (λ x. refl) v pool q there))
+            (call_pushed (h.queues q) r n h.call_dates h.notice_dates later queued (is_pool pool q)
+            (sym (is_pool-sym pool q ∙ ap (is_pool q) served)));
         spares = λ p. ap (λ xs. spares_or_none (at_number xs p)) (spares-change_pool v pool enter) ∙ h.spares p;
         calls = order_push tree.calls 0 tree.made r (omega arith) number h.calls;
+        call_dates =
+            subst (AreDated 0 r.made) (sym (map-append date_of_call tree.calls (r ∷ [])))
+            (dated_push (map date_of_call tree.calls) 0 n r.made (omega arith) (omega arith) h.call_dates);
+        notices = h.notices;
+        notice_dates = dated_later (map date_of_notice list.notices) 0 n r.made (omega arith) h.notice_dates;
+        kept = h.kept;
         common = common-change_pool v pool enter ∙ h.common;
         spare_lists = ap length (spares-change_pool v pool enter) ∙ h.spare_lists;
         private = private-change_pool v pool enter ∙ h.private;
@@ -154,14 +190,18 @@ module _ {n : ℕ} {table : ProcessTable} {doors : List Door} {tree : CallTree} 
 
   -- other calls, of which the same wait
   with_calls :
-      (calls : List Call) → AreInOrder 0 tree.made calls → ((pool : Pool) → waiting_in doors calls pool ≡ waiting_in doors tree.calls pool) →
-      Agrees n table doors (record tree { calls = calls }) v
-  with_calls calls order same =
+      (calls : List Call) → AreInOrder 0 tree.made calls → AreDated 0 n (map date_of_call calls) → ((pool : Pool) → waiting_in doors calls pool ≡ waiting_in doors tree.calls pool) →
+      Agrees n table doors (record tree { calls = calls }) list v
+  with_calls calls order dates same =
       record {
         stacks = h.stacks;
-        queues = λ pool. h.queues pool ∙ sym (same pool);
+        queues = λ pool. queue_kept doors calls list.notices (same pool) refl (h.queues pool);
         spares = h.spares;
         calls = order;
+        call_dates = dates;
+        notices = h.notices;
+        notice_dates = h.notice_dates;
+        kept = h.kept;
         common = h.common;
         spare_lists = h.spare_lists;
         private = h.private;
@@ -170,9 +210,10 @@ module _ {n : ℕ} {table : ProcessTable} {doors : List Door} {tree : CallTree} 
   pub agrees_stage :
       (test : Call → Bool) (change : Call → Call) → ((r : Call) → test r ≡ true → is_queued r.stage ≡ false) →
       ((r : Call) → is_queued (change r).stage ≡ false) → ((r : Call) → (change r).number ≡ r.number) →
-      Agrees n table doors (record tree { calls = change_first test change tree.calls }) v
-  agrees_stage test change before after same =
+      ((r : Call) → (change r).made ≡ r.made) → Agrees n table doors (record tree { calls = change_first test change tree.calls }) list v
+  agrees_stage test change before after same same_date =
       with_calls (change_first test change tree.calls) (order_changed test change same tree.calls 0 tree.made h.calls)
+      (subst (AreDated 0 n) (sym (map-change_first date_of_call test change same_date tree.calls)) h.call_dates)
       (λ pool.
       ap (map waiting_call)
       (filter-changed test change doors pool
@@ -180,26 +221,28 @@ module _ {n : ℕ} {table : ProcessTable} {doors : List Door} {tree : CallTree} 
 
   -- a thread enters the call that it was given, has no room for its descriptors, or returns it
 
-  pub agrees_enter : (c t : ℕ) → Agrees n table doors (enter_call tree c t) v
+  pub agrees_enter : (c t : ℕ) → Agrees n table doors (enter_call tree c t) list v
   agrees_enter c t =
-      agrees_stage (is_given_as c t) (without_arguments_at (stage.Entered (tid t))) (given_not_queued c t) (λ r. refl) (λ r. refl)
+      agrees_stage (is_given_as c t) (without_arguments_at (stage.Entered (tid t))) (given_not_queued c t) (λ r. refl) (λ r. refl) (λ r. refl)
 
-  pub agrees_fail : (c t : ℕ) → Agrees n table doors (fail_call tree c t) v
+  pub agrees_fail : (c t : ℕ) → Agrees n table doors (fail_call tree c t) list v
   agrees_fail c t =
-      agrees_stage (is_given_as c t) (without_arguments_at (stage.Ended EMFILE)) (given_not_queued c t) (λ r. refl) (λ r. refl)
+      agrees_stage (is_given_as c t) (without_arguments_at (stage.Ended EMFILE)) (given_not_queued c t) (λ r. refl) (λ r. refl) (λ r. refl)
 
   pub agrees_return :
       (t : ℕ) (bytes : List ℕ) (objects : List Obj) →
-      Agrees n table doors (return_call tree t bytes objects) v
+      Agrees n table doors (return_call tree t bytes objects) list v
   agrees_return t bytes objects =
-      agrees_stage (is_client_call_of t) (without_arguments_at (stage.Returned bytes objects)) (client_not_queued t) (λ r. refl) (λ r. refl)
+      agrees_stage (is_client_call_of t) (without_arguments_at (stage.Returned bytes objects)) (client_not_queued t) (λ r. refl) (λ r. refl) (λ r. refl)
 
   -- an answer is collected, and calls that are over leave the list
-  pub agrees_collect : (c at : ℕ) → Agrees n table doors (live_calls (collect_call tree c at)) v
+  pub agrees_collect : (c at : ℕ) → Agrees n table doors (live_calls (collect_call tree c at)) list v
   agrees_collect c at =
       with_calls (filter is_live_call (change_first collected answered tree.calls))
       (order_filter is_live_call (change_first collected answered tree.calls) 0 tree.made
       (order_changed collected answered (λ r. refl) tree.calls 0 tree.made h.calls))
+      (dated_filter date_of_call is_live_call (change_first collected answered tree.calls) 0 n
+      (subst (AreDated 0 n) (sym (map-change_first date_of_call collected answered (λ r. refl) tree.calls)) h.call_dates))
       (λ pool.
       waiting_live doors (change_first collected answered tree.calls) pool
       ∙ ap (map waiting_call) (filter-changed collected answered doors pool (λ r e. not_waiting r pool e) (λ r. refl) tree.calls))
@@ -213,37 +256,52 @@ module _ {n : ℕ} {table : ProcessTable} {doors : List Door} {tree : CallTree} 
       not_waiting : (r : Call) (pool : Pool) → is_to_collect_as c r ≡ true → is_queued_in doors pool r ≡ false
       not_waiting r pool e = ap (λ b. b && is_pool pool (pool_in (at_number doors r.door))) (collected_not_queued c r e)
 
-  -- doors of which the pools of queued calls are the same
+  -- doors that serve what waits alike
+
+  pub queue_doors :
+      (others : List Door) →
+      ((i : ℕ) (r : Call) → slice_get tree.calls i ≡ Some r → is_queued r.stage ≡ true → pool_in (at_number others r.door) ≡ pool_in (at_number doors r.door)) →
+      ((i : ℕ) (x : Notice) → slice_get list.notices i ≡ Some x → ServesAlike others doors x.door) → (pool : Pool) →
+      IsQueueOf others tree.calls list.notices pool (queue_in v pool)
+  queue_doors others same alike pool =
+      queue_kept others tree.calls list.notices (waiting_doors doors others tree.calls pool same)
+      (notices_waiting_doors doors others list.notices pool (λ i x e. (alike i x e).same_pool)) (h.queues pool)
+
   with_doors :
       (others : List Door) → length others ≡ length doors →
       ((i : ℕ) (r : Call) → slice_get tree.calls i ≡ Some r → is_queued r.stage ≡ true → pool_in (at_number others r.door) ≡ pool_in (at_number doors r.door)) →
-      Agrees n table others tree v
-  with_doors others lengths same =
+      ((i : ℕ) (x : Notice) → slice_get list.notices i ≡ Some x → ServesAlike others doors x.door) → Agrees n table others tree list v
+  with_doors others lengths same alike =
       record {
         stacks = h.stacks;
-        queues = λ pool. h.queues pool ∙ sym (waiting_doors doors others tree.calls pool same);
+        queues = λ pool. queue_doors others same alike pool;
         spares = h.spares;
         calls = h.calls;
+        call_dates = h.call_dates;
+        notices = h.notices;
+        notice_dates = h.notice_dates;
+        kept = kept_doors doors others list.notices (λ i x e. (alike i x e).same_many) h.kept;
         common = h.common;
         spare_lists = h.spare_lists;
         private = h.private ∙ sym lengths;
       }
 
   -- a parameter of a door changes
-  pub agrees_param : (d : ℕ) (x : Param) (value : ℕ) → Agrees n table (set_param doors d x value) tree v
+  pub agrees_param : (d : ℕ) (x : Param) (value : ℕ) → Agrees n table (set_param doors d x value) tree list v
   agrees_param d x value =
       with_doors (set_param doors d x value)
       (same_length nothing (set_param doors d x value) doors (map-change_door nothing doors d (with_param x value) (λ y. refl)))
-      (λ i r e q. param_pool_at doors d x value r.door)
+      (λ i r e q. (param_serves doors d x value r.door).same_pool)
+      (λ i y e. param_serves doors d x value y.door)
     where
       nothing : Door → ℕ
       nothing y = 0
 
   -- a door is made, with an empty pool
   pub agrees_door :
-      (d : Door) (w : PoolsValue) → HasPlaces table v.bindings doors tree.calls → w.bindings ≡ v.bindings → w.common ≡ v.common →
+      (d : Door) (w : PoolsValue) → HasPlaces table v.bindings doors tree.calls list.notices → w.bindings ≡ v.bindings → w.common ≡ v.common →
       w.spares ≡ v.spares → w.private ≡ v.private ++ empty_pool ∷ [] →
-      Agrees n table (doors ++ d ∷ []) tree w
+      Agrees n table (doors ++ d ∷ []) tree list w
   agrees_door d w places bindings common spares private =
       record {
         stacks =
@@ -251,10 +309,16 @@ module _ {n : ℕ} {table : ProcessTable} {doors : List Door} {tree : CallTree} 
             stack_same table n q v.bindings w.bindings (stack_in v q) (stack_in w q) bindings (ap (λ (x : PoolValue). x.parked) (pool q)) (h.stacks q);
         queues =
             λ q.
-            ap (λ (x : PoolValue). x.waiting) (pool q) ∙ h.queues q
-            ∙ sym (waiting_doors doors (doors ++ d ∷ []) tree.calls q (λ i r e queued. there r (places.queued_door i r e queued)));
+            subst (IsQueueOf (doors ++ d ∷ []) tree.calls list.notices q) (sym (ap (λ (x : PoolValue). x.waiting) (pool q)))
+            (queue_doors (doors ++ d ∷ [])
+            (λ i r e queued. (there r.door (places.queued_door i r e queued)).same_pool)
+            (λ i x e. there x.door (places.notice_door i x e)) q);
         spares = λ p. ap (λ xs. spares_or_none (at_number xs p)) spares ∙ h.spares p;
         calls = h.calls;
+        call_dates = h.call_dates;
+        notices = h.notices;
+        notice_dates = h.notice_dates;
+        kept = kept_doors doors (doors ++ d ∷ []) list.notices (λ i x e. (there x.door (places.notice_door i x e)).same_many) h.kept;
         common = ap length common ∙ h.common;
         spare_lists = ap length spares ∙ h.spare_lists;
         private =
@@ -276,66 +340,56 @@ module _ {n : ℕ} {table : ProcessTable} {doors : List Door} {tree : CallTree} 
       pool (Common p) = ap (λ xs. pool_or_empty (at_number xs p.0)) common
       pool (Private k) = ap (λ xs. pool_or_empty (at_number xs k)) private ∙ numbered k
 
-      there : (r : Call) → is_some (at_number doors r.door) ≡ true → pool_in (at_number (doors ++ d ∷ []) r.door) ≡ pool_in (at_number doors r.door)
-      there r e =
-          let x : (x : Door) × (at_number doors r.door ≡ Some x) = there_is (at_number doors r.door) e in
-          ap pool_in (numbered_front doors (d ∷ []) r.door x.0 x.1 ∙ sym x.1)
+      there : (k : ℕ) → is_some (at_number doors k) ≡ true → ServesAlike (doors ++ d ∷ []) doors k
+      there k e =
+          let x : (x : Door) × (at_number doors k ≡ Some x) = there_is (at_number doors k) e in
+          let same : at_number (doors ++ d ∷ []) k ≡ at_number doors k = numbered_front doors (d ∷ []) k x.0 x.1 ∙ sym x.1 in
+          record { same_pool = ap pool_in same; same_many = ap has_many same }
 
-  -- the oldest call of a pool
+  -- the oldest item of a pool
 
-  pub next_is_call : (pool : Pool) (w : Waiting) (ws : List Waiting) → queue_in v pool ≡ w ∷ ws → IsNextCall doors pool w
-  next_is_call pool w ws e =
-      record {
-        number = first.call.number;
-        is_call = ap (λ (x : Waiting). x.item) (sym first.same);
-        served = oldest_served doors tree.calls pool w ws first;
-      }
-    where
-      first : IsOldest doors tree.calls pool w ws
-      first = oldest doors tree.calls pool w ws (sym (h.queues pool) ∙ e)
+  pub next_is_item : (pool : Pool) (w : Waiting) (ws : List Waiting) → queue_in v pool ≡ w ∷ ws → IsNextItem doors pool w
+  next_is_item pool w ws e =
+      let k : (k : ℕ) × ((w.item ≡ item.Call k) ⊎ (w.item ≡ item.Notice k)) = either_item w.item in
+      record { number = k.0; is_either = k.1; served = first_served (h.queues pool) w ws e }
 
   -- it leaves the queue of its pool, and every other queue stays
-  queue_given :
-      (pool : Pool) (w : Waiting) (ws : List Waiting) (c t : ℕ) → queue_in v pool ≡ w ∷ ws → w.item ≡ item.Call c →
-      (other : Pool) →
-      queue_in (change_pool v pool match_in) other ≡ waiting_in doors (give_call tree c t).calls other
-  queue_given pool w ws c t e is_call other =
-      read_changed (λ (x : PoolValue). x.waiting) (λ (xs : List Waiting). drop 1 xs) match_in (λ x. refl) v pool other (pool_there-queue v pool w ws e)
-      ∙ go (is_pool pool other) refl
+  pub queues_matched :
+      (calls : List Call) (notices : List Notice) (pool : Pool) (w : Waiting) (ws : List Waiting) → queue_in v pool ≡ w ∷ ws →
+      IsQueueOf doors calls notices pool ws →
+      ((other : Pool) → is_pool pool other ≡ false → IsQueueOf doors calls notices other (queue_in v other)) → (other : Pool) →
+      IsQueueOf doors calls notices other (queue_in (change_pool v pool match_in) other)
+  queues_matched calls notices pool w ws e here others other =
+      subst (IsQueueOf doors calls notices other)
+      (sym
+      (read_changed (λ (x : PoolValue). x.waiting) (λ (xs : List Waiting). drop 1 xs) match_in (λ x. refl) v pool other
+      (pool_there-queue v pool w ws e)))
+      (go (is_pool pool other) refl)
     where
-      first : IsOldest doors tree.calls pool w ws
-      first = oldest doors tree.calls pool w ws (sym (h.queues pool) ∙ e)
+      own : IsQueueOf doors calls notices pool (drop 1 (queue_in v pool))
+      own = subst (IsQueueOf doors calls notices pool) (sym (ap (drop 1) e)) here
 
-      number : first.call.number ≡ c
-      number = let same : item.Call first.call.number ≡ item.Call c = ap (λ (x : Waiting). x.item) first.same ∙ is_call in cc
-
-      here : drop 1 (queue_in v pool) ≡ waiting_in doors (give_call tree c t).calls pool
-      here =
-          ap (drop 1) e
-          ∙ sym first.rest
-          ∙ ap (map waiting_call) (sym (filter-given doors pool c t tree.calls 0 tree.made first.call first.others h.calls first.first number))
-
-      go :
-          (b : Bool) → is_pool pool other ≡ b →
-          (if b then drop 1 (queue_in v other) else queue_in v other) ≡ waiting_in doors (give_call tree c t).calls other
-      go true f = subst (λ q. drop 1 (queue_in v q) ≡ waiting_in doors (give_call tree c t).calls q) (same_pool pool other f) here
-      go false f =
-          h.queues other
-          ∙ ap (map waiting_call)
-          (sym (filter-given_elsewhere doors pool other c t tree.calls 0 tree.made first.call first.others h.calls first.first number f))
+      go : (b : Bool) → is_pool pool other ≡ b → IsQueueOf doors calls notices other (if b then drop 1 (queue_in v other) else queue_in v other)
+      go true f = subst (λ q. IsQueueOf doors calls notices q (drop 1 (queue_in v q))) (same_pool pool other f) own
+      go false f = others other f
 
   -- the thread on top is given it
   pub agrees_give :
       (pool : Pool) (x : Parked) (w : Waiting) (ws : List Waiting) (c : ℕ) → pick_of (stack_in v pool) ≡ Some x →
       queue_in v pool ≡ w ∷ ws → w.item ≡ item.Call c →
-      Agrees n (give_thread table x.thread.0 (item.Call c)) doors (give_call tree c x.thread.0) (change_pool v pool match_in)
+      Agrees n (give_thread table x.thread.0 (item.Call c)) doors (give_call tree c x.thread.0) list (change_pool v pool match_in)
   agrees_give pool x w ws c picked e is_call =
       record {
         stacks =
             λ q.
             stack_same after n q v.bindings rest.bindings (stack_in rest q) (stack_in rest q) (bindings-change_pool v pool match_in) refl
             (stack_given h pool x picked (item.Call c) q);
-        queues = queue_given pool w ws c x.thread.0 e is_call;
+        queues =
+            queues_matched (given_calls c x.thread.0 tree.calls) list.notices pool w ws e
+            (call_left (h.queues pool) w ws e c is_call x.thread.0 tree.made h.calls)
+            (λ other f.
+            queue_kept doors (given_calls c x.thread.0 tree.calls) list.notices
+            (call_left_elsewhere (h.queues pool) w ws e c is_call x.thread.0 tree.made other h.calls f) refl (h.queues other));
         spares =
             λ p.
             ap (λ xs. spares_or_none (at_number xs p)) (spares-change_pool v pool match_in)
@@ -344,6 +398,12 @@ module _ {n : ℕ} {table : ProcessTable} {doors : List Door} {tree : CallTree} 
             ∙ ap (spares_among after p) (sym (length-change_thread table x.thread.0 turn));
         calls =
             order_changed (is_queued_as c) (at_stage (stage.Given (tid x.thread.0))) (λ r. refl) tree.calls 0 tree.made h.calls;
+        call_dates =
+            subst (AreDated 0 n)
+            (sym (map-change_first date_of_call (is_queued_as c) (at_stage (stage.Given (tid x.thread.0))) (λ r. refl) tree.calls)) h.call_dates;
+        notices = h.notices;
+        notice_dates = h.notice_dates;
+        kept = h.kept;
         common = common-change_pool v pool match_in ∙ h.common ∙ processes;
         spare_lists = ap length (spares-change_pool v pool match_in) ∙ h.spare_lists ∙ processes;
         private = private-change_pool v pool match_in ∙ h.private;

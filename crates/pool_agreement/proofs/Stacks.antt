@@ -1,5 +1,5 @@
 -- What pools hold agrees with the records, from one state to the next: changes of threads and of the doors that they are bound to.
-use Rattle.std.proofs.Common.{◌≡◌, ℕ, ◌<◌, ◌≤◌, ◌==◌, ◌&&◌, Bool, true, false, if◌then◌else◌, List, Option, Some, None, option_map, is_some, length, refl, sym, ap, ◌∙◌, subst, le_refl, arith}
+use Rattle.std.proofs.Common.{◌≡◌, ℕ, ◌<◌, ◌≤◌, ◌==◌, ◌&&◌, Bool, true, false, if◌then◌else◌, List, Option, Some, None, option_map, is_some, length, map, refl, sym, ap, ◌∙◌, subst, le_refl, arith}
 use Rattle.std.proofs.lemmas.Bool.Decides.{nat_tests}
 use Rattle.dk_base.specs.ByNumber.{at_number, with_at_number}
 use Rattle.dk_base.specs.declared.object.Item.{Item}
@@ -8,22 +8,23 @@ use Rattle.kernel_records.specs.declared.pool.Pool.{Pool}
 use Rattle.kernel_records.specs.declared.record.Thread.{Thread}
 use Rattle.kernel_records.specs.declared.record.ThreadState.{ThreadState}
 use Rattle.kernel_records.specs.declared.record.ThreadState.TheVariants as is
-use Rattle.kernel_records.specs.Words.{CallTree, ProcessTable, bound_at, bound_in, change_thread, change_thread_in, end_thread, enter_thread, ended_thread, give_thread, idle_thread, is_dormant, is_idle, is_pool, is_private_in, park_thread, parked_at, parked_in, parked_thread, pick_parked, pool_of_thread, process_in, set_thread_state, state_in, thread_at, thread_at_state, thread_in_invocation, tid}
+use Rattle.kernel_records.specs.Words.{CallTree, NoticeList, ProcessTable, bound_at, bound_in, change_thread, change_thread_in, end_thread, ended_thread, enter_thread, give_thread, idle_thread, is_dormant, is_idle, is_pool, is_private_in, park_thread, parked_at, parked_in, parked_thread, pick_parked, pool_of_thread, process_in, set_thread_state, state_in, thread_at, thread_at_state, thread_in_invocation, tid}
 use Rattle.written_kernel.specs.Types.{Door}
 use Rattle.written_kernel.proofs.Giving.{same_pool}
 use Rattle.written_kernel.proofs.Lists.{at_number-with_at_number, is_some-at_number, length-with_at_number}
 use Rattle.written_kernel.proofs.Threads.{processes-change_thread, thread_at-change_thread}
 use Rattle.server_pool.specs.Words.{AllParkedBefore, PoolsValue, PoolValue, change_pool, match_in, park_in, pick_of, pool_at, pool_or_empty, queue_in, spares_or_none, stack_in}
-use Rattle.pool_agreement.specs.Words.{Agrees, HasPlaces, IsParkedIn, IsStackOf, pool_by, spare_at, spare_in, spares_among}
+use Rattle.pool_agreement.specs.Words.{Agrees, HasPlaces, IsParkedIn, IsQueueOf, IsStackOf, date_of_call, date_of_notice, pool_by, spare_at, spare_in, spares_among}
+use Rattle.pool_agreement.proofs.Dated.{dated_later}
 use Rattle.pool_agreement.proofs.Parked.{pick_of_stack, pick_parked_in}
-use Rattle.pool_agreement.proofs.Parking.{IsParkedAlikeBut, all_before, nowhere, stack_kept, stack_popped, stack_pushed}
+use Rattle.pool_agreement.proofs.Parking.{IsParkedAlikeBut, all_before, nowhere, stack_kept, stack_later, stack_popped, stack_pushed}
 use Rattle.pool_agreement.proofs.Readers.{bindings-change_pool, common-change_pool, is_pool-self, is_pool-sym, private-change_pool, queue-change_other, queue-change_same, same_number, spares-change_pool, stack-change_other, stack-change_same}
 use Rattle.pool_agreement.proofs.Spares.{not_spare, spares_same}
 
 -- the pick
 
 pub pick_agrees :
-    {n : ℕ} {table : ProcessTable} {doors : List Door} {tree : CallTree} {v : PoolsValue} → Agrees n table doors tree v → (pool : Pool) →
+    {n : ℕ} {table : ProcessTable} {doors : List Door} {tree : CallTree} {list : NoticeList} {v : PoolsValue} → Agrees n table doors tree list v → (pool : Pool) →
     pick_parked table v.bindings pool ≡ pick_of (stack_in v pool)
 pick_agrees {n} {table} {doors} {tree} {v} h pool = pick_of_stack table v.bindings n pool (stack_in v pool) (h.stacks pool)
 
@@ -95,7 +96,7 @@ changed_spares table t p change before later =
 -- a thread parks
 
 module _
-    {n : ℕ} {table : ProcessTable} {doors : List Door} {tree : CallTree} {v : PoolsValue} (h : Agrees n table doors tree v) where
+    {n : ℕ} {table : ProcessTable} {doors : List Door} {tree : CallTree} {list : NoticeList} {v : PoolsValue} (h : Agrees n table doors tree list v) where
   pub park_above : (t k : ℕ) (pool q : Pool) → n < k → AllParkedBefore (stack_in v pool) (record { thread = tid t; pool = q; since = k })
   park_above t k pool q l =
       all_before t table v.bindings table v.bindings n k pool (stack_in v pool) (record { others = λ u e. refl }) (h.stacks pool)
@@ -105,7 +106,7 @@ module _
   there_too xs ys i e f = is_some-at_number xs i ∙ grind (arith, nat_tests, is_some-at_number ys i)
 
   pub own_pool_there :
-      HasPlaces table v.bindings doors tree.calls → (t : ℕ) (x : Thread) → thread_at table t ≡ Some x →
+      HasPlaces table v.bindings doors tree.calls list.notices → (t : ℕ) (x : Thread) → thread_at table t ≡ Some x →
       is_some (pool_at v (pool_by x.process.0 (bound_at v.bindings t))) ≡ true
   own_pool_there places t x e = go (bound_at v.bindings t) refl
     where
@@ -118,18 +119,22 @@ module _
       go (Some d) f = there_too v.private doors d h.private (private_there (at_number doors d) (places.bound_private t d f))
 
   pub agrees_park :
-      HasPlaces table v.bindings doors tree.calls → (t k : ℕ) (x : Thread) (pool : Pool) → thread_at table t ≡ Some x →
+      HasPlaces table v.bindings doors tree.calls list.notices → (t k : ℕ) (x : Thread) (pool : Pool) → thread_at table t ≡ Some x →
       is_idle x.state ≡ false → is_dormant x.state ≡ false → n < k → pool ≡ pool_by (process_in (thread_at table t)) (bound_at v.bindings t) →
-      Agrees k (park_thread table t k) doors tree (change_pool v pool (park_in (record { thread = tid t; pool = pool; since = k })))
+      Agrees k (park_thread table t k) doors tree list (change_pool v pool (park_in (record { thread = tid t; pool = pool; since = k })))
   agrees_park places t k x pool e idle dormant l own =
       record {
         stacks = λ q. subst (λ b. IsStackOf after b k q (stack_in w q)) (sym (bindings-change_pool v pool (park_in y))) (stack q (is_pool pool q) refl);
-        queues = λ q. queue q (is_pool pool q) refl ∙ h.queues q;
+        queues = λ q. subst (IsQueueOf doors tree.calls list.notices q) (sym (queue q (is_pool pool q) refl)) (h.queues q);
         spares =
             λ p. ap (λ us. spares_or_none (at_number us p)) (spares-change_pool v pool (park_in y))
             ∙ h.spares p
             ∙ sym (changed_spares table t p (idle_thread k) (ap (λ o. is_dormant (state_in o)) e ∙ dormant) (λ z. refl));
         calls = h.calls;
+        call_dates = dated_later (map date_of_call tree.calls) 0 n k (omega arith) h.call_dates;
+        notices = h.notices;
+        notice_dates = dated_later (map date_of_notice list.notices) 0 n k (omega arith) h.notice_dates;
+        kept = h.kept;
         common = common-change_pool v pool (park_in y) ∙ h.common ∙ ap length (sym (processes-change_thread table t (idle_thread k)));
         spare_lists = ap length (spares-change_pool v pool (park_in y)) ∙ h.spare_lists ∙ ap length (sym (processes-change_thread table t (idle_thread k)));
         private = private-change_pool v pool (park_in y) ∙ h.private;
@@ -197,7 +202,7 @@ module _
   pub agrees_change :
       (t : ℕ) (change : Thread → Thread) → is_idle (state_in (thread_at table t)) ≡ false →
       is_dormant (state_in (thread_at table t)) ≡ false → ((x : Thread) → is_idle (change x).state ≡ false) →
-      ((x : Thread) → is_dormant (change x).state ≡ false) → Agrees n (change_thread table t change) doors tree v
+      ((x : Thread) → is_dormant (change x).state ≡ false) → Agrees n (change_thread table t change) doors tree list v
   agrees_change t change idle dormant never_idle never_dormant =
       record {
         stacks =
@@ -208,6 +213,10 @@ module _
         queues = h.queues;
         spares = λ p. h.spares p ∙ sym (changed_spares table t p change dormant never_dormant);
         calls = h.calls;
+        call_dates = h.call_dates;
+        notices = h.notices;
+        notice_dates = h.notice_dates;
+        kept = h.kept;
         common = h.common ∙ ap length (sym (processes-change_thread table t change));
         spare_lists = h.spare_lists ∙ ap length (sym (processes-change_thread table t change));
         private = h.private;
@@ -218,23 +227,23 @@ module _
 
   pub agrees_turn :
       (t : ℕ) (s : ThreadState) → is_idle (state_in (thread_at table t)) ≡ false → is_dormant (state_in (thread_at table t)) ≡ false →
-      is_idle s ≡ false → is_dormant s ≡ false → Agrees n (set_thread_state table t s) doors tree v
+      is_idle s ≡ false → is_dormant s ≡ false → Agrees n (set_thread_state table t s) doors tree list v
   agrees_turn t s idle dormant not_idle not_dormant = agrees_change t (thread_at_state s) idle dormant (λ x. not_idle) (λ x. not_dormant)
 
   pub agrees_enter :
       (t : ℕ) (i : Item) → is_idle (state_in (thread_at table t)) ≡ false → is_dormant (state_in (thread_at table t)) ≡ false →
-      Agrees n (enter_thread table t i) doors tree v
+      Agrees n (enter_thread table t i) doors tree list v
   agrees_enter t i idle dormant = agrees_change t (thread_in_invocation i) idle dormant (λ x. refl) (λ x. refl)
 
   pub agrees_ended :
       (t : ℕ) → is_idle (state_in (thread_at table t)) ≡ false → is_dormant (state_in (thread_at table t)) ≡ false →
-      Agrees n (end_thread table t) doors tree v
+      Agrees n (end_thread table t) doors tree list v
   agrees_ended t idle dormant = agrees_change t ended_thread idle dormant (λ x. refl) (λ x. refl)
 
   -- such a thread is bound to another door, or to none
   pub agrees_bind :
       (t : ℕ) (b : Option ℕ) → is_idle (state_in (thread_at table t)) ≡ false →
-      Agrees n table doors tree (record v { bindings = with_at_number v.bindings t b })
+      Agrees n table doors tree list (record v { bindings = with_at_number v.bindings t b })
   agrees_bind t b idle =
       record {
         stacks =
@@ -244,6 +253,10 @@ module _
         queues = h.queues;
         spares = h.spares;
         calls = h.calls;
+        call_dates = h.call_dates;
+        notices = h.notices;
+        notice_dates = h.notice_dates;
+        kept = h.kept;
         common = h.common;
         spare_lists = h.spare_lists;
         private = h.private;
@@ -266,22 +279,19 @@ module _
           go None = refl
           go (Some x) = ap (λ c. parked_in u (pool_of_thread x c) x.state) same
 
-  -- no thread parked since
+  -- no thread parked, and no call or notice was made since
 
-  pub agrees_later : (k : ℕ) → n ≤ k → Agrees k table doors tree v
+  pub agrees_later : (k : ℕ) → n ≤ k → Agrees k table doors tree list v
   agrees_later k l =
       record {
-        stacks =
-            λ q.
-            let s = h.stacks q in
-            record {
-              parked = λ i x e. let p = s.parked i x e in record { parked = p.parked; same_pool = p.same_pool; since = omega (arith, p.since) };
-              all = s.all;
-              in_order = s.in_order;
-            };
+        stacks = λ q. stack_later table v.bindings n k q (stack_in v q) l (h.stacks q);
         queues = h.queues;
         spares = h.spares;
         calls = h.calls;
+        call_dates = dated_later (map date_of_call tree.calls) 0 n k l h.call_dates;
+        notices = h.notices;
+        notice_dates = dated_later (map date_of_notice list.notices) 0 n k l h.notice_dates;
+        kept = h.kept;
         common = h.common;
         spare_lists = h.spare_lists;
         private = h.private;
@@ -313,7 +323,7 @@ idle_not_dormant is.Dormant e = cc
 idle_not_dormant _ e = refl
 
 module _
-    {n : ℕ} {table : ProcessTable} {doors : List Door} {tree : CallTree} {v : PoolsValue} (h : Agrees n table doors tree v) (pool : Pool)
+    {n : ℕ} {table : ProcessTable} {doors : List Door} {tree : CallTree} {list : NoticeList} {v : PoolsValue} (h : Agrees n table doors tree list v) (pool : Pool)
     (x : Parked) (picked : pick_of (stack_in v pool) ≡ Some x) where
   its_record : IsParkedIn table v.bindings n pool x
   its_record = pick_parked_in table v.bindings n pool (stack_in v pool) x (h.stacks pool) picked

@@ -8,12 +8,12 @@ use Rattle.kernel_records.specs.declared.pool.Pool.TheVariants.{Common, Private}
 use Rattle.kernel_records.specs.declared.record.Process.{Process}
 use Rattle.kernel_records.specs.declared.record.ThreadState.{ThreadState}
 use Rattle.kernel_records.specs.declared.record.ThreadState.TheVariants as is
-use Rattle.kernel_records.specs.Words.{CallTree, ProcessTable, is_dormant, is_idle, new_thread, opening_state, parked_at, parked_thread, set_thread_state, start_spare, state_in, thread_at, thread_at_state}
+use Rattle.kernel_records.specs.Words.{CallTree, NoticeList, ProcessTable, is_dormant, is_idle, new_thread, opening_state, parked_at, parked_thread, set_thread_state, start_spare, state_in, thread_at, thread_at_state}
 use Rattle.written_kernel.specs.Types.{Door}
 use Rattle.written_kernel.proofs.Lists.{at_number-suc, is_some-at_number, numbered_past, numbered_push}
 use Rattle.written_kernel.proofs.Threads.{processes-change_thread}
 use Rattle.server_pool.specs.Words.{PoolValue, PoolsValue, change_spares, empty_pool, no_pools, pool_at, pool_or_empty, spares_of, spares_or_none, stack_in, with_spare, without_lowest}
-use Rattle.pool_agreement.specs.Words.{Agrees, IsStackOf, spare_at, spare_in, spares_among}
+use Rattle.pool_agreement.specs.Words.{Agrees, IsQueueOf, IsStackOf, spare_at, spare_in, spares_among}
 use Rattle.pool_agreement.proofs.Parking.{nowhere, stack_kept}
 use Rattle.pool_agreement.proofs.Readers.{length-change_at_number, same_number, spares-change_other, spares-change_same}
 use Rattle.pool_agreement.proofs.Spares.{IsLowest, lowest_of, not_spare, not_spare_in, spare_dormant, spare_of_one, spares_left, spares_same, start_first, start_none}
@@ -33,7 +33,7 @@ dormant_not_idle is.Dormant e = refl
 dormant_not_idle _ e = cc
 
 module _
-    {n : ℕ} {table : ProcessTable} {doors : List Door} {tree : CallTree} {v : PoolsValue} (h : Agrees n table doors tree v) (p : ℕ) where
+    {n : ℕ} {table : ProcessTable} {doors : List Door} {tree : CallTree} {list : NoticeList} {v : PoolsValue} (h : Agrees n table doors tree list v) (p : ℕ) where
   pub no_spare : spares_of v p ≡ [] → start_spare table p ≡ table
   no_spare e = start_none table p (sym (h.spares p) ∙ e)
 
@@ -56,7 +56,7 @@ module _
     gone : (q : ℕ) → spare_at after q t ≡ []
     gone q = not_spare after q t (state_changed table t (thread_at_state is.Running) is_dormant refl (λ x. refl))
 
-    started : Agrees n after doors tree (change_spares v p without_lowest)
+    started : Agrees n after doors tree list (change_spares v p without_lowest)
     started =
         record {
           stacks =
@@ -68,6 +68,10 @@ module _
           queues = h.queues;
           spares = λ q. spares q (p == q) refl ∙ ap (spares_among after q) (sym (length-change_thread table t (thread_at_state is.Running)));
           calls = h.calls;
+          call_dates = h.call_dates;
+          notices = h.notices;
+          notice_dates = h.notice_dates;
+          kept = h.kept;
           common = h.common ∙ ap length (sym (processes-change_thread table t (thread_at_state is.Running)));
           spare_lists =
               length-change_at_number v.spares p without_lowest ∙ h.spare_lists
@@ -89,8 +93,8 @@ module _
             (spares-change_same v p without_lowest (spare_list_there v p t rest e)
             ∙ ap (drop 1) (h.spares p ∙ spares_left table after p (length table.threads) t lowest (gone p) (others p) (length table.threads) lowest.high))
 
-    pub agrees_start : Agrees n (start_spare table p) doors tree (change_spares v p without_lowest)
-    agrees_start = subst (λ table. Agrees n table doors tree (change_spares v p without_lowest)) (sym start_spare_is) started
+    pub agrees_start : Agrees n (start_spare table p) doors tree list (change_spares v p without_lowest)
+    agrees_start = subst (λ table. Agrees n table doors tree list (change_spares v p without_lowest)) (sym start_spare_is) started
 
 -- a process is made, with no thread and no spare
 
@@ -105,10 +109,10 @@ read_push read xs x k same = ap read (numbered_push xs x k) ∙ go (k == length 
     go false e = refl
 
 module _
-    {n : ℕ} {table : ProcessTable} {doors : List Door} {tree : CallTree} {v : PoolsValue} (h : Agrees n table doors tree v) where
+    {n : ℕ} {table : ProcessTable} {doors : List Door} {tree : CallTree} {list : NoticeList} {v : PoolsValue} (h : Agrees n table doors tree list v) where
   pub agrees_process :
       (x : Process) (w : PoolsValue) → w.bindings ≡ v.bindings → w.private ≡ v.private → w.common ≡ v.common ++ empty_pool ∷ [] →
-      w.spares ≡ v.spares ++ [] ∷ [] → Agrees n (record table { processes = table.processes ++ x ∷ [] }) doors tree w
+      w.spares ≡ v.spares ++ [] ∷ [] → Agrees n (record table { processes = table.processes ++ x ∷ [] }) doors tree list w
   agrees_process x w bindings private common spares =
       record {
         stacks =
@@ -116,13 +120,18 @@ module _
             (subst (IsStackOf after v.bindings n q) (sym (ap (λ (p : PoolValue). p.parked) (pools q)))
             (stack_kept 0 table v.bindings after v.bindings n n q (stack_in v q) (record { others = λ u e. refl }) (h.stacks q) (le_refl n)
             (nowhere table v.bindings 0 q refl) (nowhere after v.bindings 0 q refl)));
-        queues = λ q. ap (λ (p : PoolValue). p.waiting) (pools q) ∙ h.queues q;
+        queues =
+            λ q. subst (IsQueueOf doors tree.calls list.notices q) (sym (ap (λ (p : PoolValue). p.waiting) (pools q))) (h.queues q);
         spares =
             λ p. ap (λ us. spares_or_none (at_number us p)) spares
             ∙ read_push spares_or_none v.spares [] p refl
             ∙ h.spares p
             ∙ sym (spares_same table after p (length table.threads) (λ u l. refl));
         calls = h.calls;
+        call_dates = h.call_dates;
+        notices = h.notices;
+        notice_dates = h.notice_dates;
+        kept = h.kept;
         common = ap length common ∙ one_more v.common empty_pool table.processes x h.common;
         spare_lists = ap length spares ∙ one_more v.spares [] table.processes x h.spare_lists;
         private = ap length private ∙ h.private;
@@ -181,7 +190,7 @@ module _
 
   pub agrees_thread :
       (p : ℕ) →
-      Agrees n (record table { threads = table.threads ++ new_thread (length table.threads + 1) p false ∷ [] }) doors tree v
+      Agrees n (record table { threads = table.threads ++ new_thread (length table.threads + 1) p false ∷ [] }) doors tree list v
   agrees_thread p =
       record {
         stacks = stacks_after p false;
@@ -193,6 +202,10 @@ module _
             (sym (not_spare_in q (length table.threads + 1) (Some (new_thread (length table.threads + 1) p false)) refl))
             ∙ sym (spares_after p false q);
         calls = h.calls;
+        call_dates = h.call_dates;
+        notices = h.notices;
+        notice_dates = h.notice_dates;
+        kept = h.kept;
         common = h.common;
         spare_lists = h.spare_lists;
         private = h.private;
@@ -200,7 +213,7 @@ module _
 
   pub agrees_spare :
       (p : ℕ) → is_some (at_number table.processes p) ≡ true →
-      Agrees n (record table { threads = table.threads ++ new_thread (length table.threads + 1) p true ∷ [] }) doors tree
+      Agrees n (record table { threads = table.threads ++ new_thread (length table.threads + 1) p true ∷ [] }) doors tree list
       (change_spares v p (with_spare (length table.threads + 1)))
   agrees_spare p process =
       record {
@@ -208,6 +221,10 @@ module _
         queues = h.queues;
         spares = λ q. spares q (p == q) refl ∙ sym (spares_after p true q);
         calls = h.calls;
+        call_dates = h.call_dates;
+        notices = h.notices;
+        notice_dates = h.notice_dates;
+        kept = h.kept;
         common = h.common;
         spare_lists = length-change_at_number v.spares p (with_spare k) ∙ h.spare_lists;
         private = h.private;
@@ -234,17 +251,23 @@ module _
           ∙ ap (λ r. spares_among table r (length table.threads) ++ k ∷ []) (same_number p q e)
           ∙ ap (λ b. spares_among table q (length table.threads) ++ (if b && true then k ∷ [] else [])) (sym e)
 
--- no process, no door and no call
+-- no process, no door, no call and no notice
 
-pub agrees_none : Agrees 0 (record { processes = []; threads = [] }) [] (record { made = 0; calls = [] }) no_pools
+pub agrees_none : Agrees 0 (record { processes = []; threads = [] }) [] (record { made = 0; calls = [] }) (record { made = 0; notices = [] }) no_pools
 agrees_none =
     record {
       stacks =
           λ q. subst (IsStackOf none none_bound 0 q) (sym (ap (λ (p : PoolValue). p.parked) (no_pool q)))
           (record { parked = λ i x e. cc; all = λ t x e f. absurd (nobody t x e); in_order = tt });
-      queues = λ q. ap (λ (p : PoolValue). p.waiting) (no_pool q);
+      queues =
+          λ q. subst (IsQueueOf [] [] [] q) (sym (ap (λ (p : PoolValue). p.waiting) (no_pool q)))
+          (record { calls_wait = refl; notices_wait = refl; in_order = tt });
       spares = λ p. ap spares_or_none (nothing p);
       calls = tt;
+      call_dates = tt;
+      notices = tt;
+      notice_dates = tt;
+      kept = tt;
       common = refl;
       spare_lists = refl;
       private = refl;

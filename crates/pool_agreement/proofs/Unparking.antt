@@ -5,13 +5,13 @@ use Rattle.std.proofs.lemmas.Bool.Decides.{nat_tests}
 use Rattle.std.proofs.lemmas.List.Elements.{filter-append}
 use Rattle.dk_base.specs.ByNumber.{at_number, with_at_number}
 use Rattle.kernel_records.specs.declared.record.ThreadState.TheVariants as is
-use Rattle.kernel_records.specs.Words.{CallTree, ProcessTable, bound_at, change_thread, change_thread_in, end_thread, ended_thread, idle_thread, is_dormant, is_idle, is_pool, is_spare_of, park_thread, parked_at, parked_in, parked_thread, pool_of_thread, process_in, state_in, thread_at, tid}
+use Rattle.kernel_records.specs.Words.{CallTree, NoticeList, ProcessTable, bound_at, change_thread, change_thread_in, end_thread, ended_thread, idle_thread, is_dormant, is_idle, is_pool, is_spare_of, park_thread, parked_at, parked_in, parked_thread, pool_of_thread, process_in, state_in, thread_at, tid}
 use Rattle.written_kernel.specs.Types.{Door, Parked, Pool, Thread, ThreadState}
 use Rattle.written_kernel.proofs.Giving.{same_pool}
 use Rattle.written_kernel.proofs.Lists.{at_number-renumbered_there, with_at_number-suc}
 use Rattle.written_kernel.proofs.Threads.{processes-change_thread}
 use Rattle.server_pool.specs.Words.{AllParkedBefore, PoolValue, PoolsValue, change_at_number, change_item, change_pool, change_spares, is_another_spare, park_in, pool_at, spares_of, spares_or_none, stack_in, unpark_in, without_spare, without_thread}
-use Rattle.pool_agreement.specs.Words.{Agrees, IsStackOf, pool_by, spare_at, spare_in, spares_among}
+use Rattle.pool_agreement.specs.Words.{Agrees, IsQueueOf, IsStackOf, pool_by, spare_at, spare_in, spares_among}
 use Rattle.pool_agreement.proofs.Leaving.{read_change, read_kept}
 use Rattle.pool_agreement.proofs.Parking.{IsParkedAlikeBut, nowhere, stack_kept, stack_pushed_after, stack_without}
 use Rattle.pool_agreement.proofs.Queues.{stack_same}
@@ -21,10 +21,10 @@ use Rattle.pool_agreement.proofs.Stacks.{changed_alike, changed_spares, length-c
 
 -- a change that leaves a thread as parked, and a spare as it was: of its invocation, say
 
-module _ {n : ℕ} {table : ProcessTable} {doors : List Door} {tree : CallTree} {v : PoolsValue} (h : Agrees n table doors tree v) where
+module _ {n : ℕ} {table : ProcessTable} {doors : List Door} {tree : CallTree} {list : NoticeList} {v : PoolsValue} (h : Agrees n table doors tree list v) where
   pub agrees_alike :
       (t : ℕ) (change : Thread → Thread) → ((x : Thread) (b : Option ℕ) → parked_in t (pool_of_thread (change x) b) (change x).state ≡ parked_in t (pool_of_thread x b) x.state) →
-      ((x : Thread) (p : ℕ) → is_spare_of p (change x) ≡ is_spare_of p x) → Agrees n (change_thread table t change) doors tree v
+      ((x : Thread) (p : ℕ) → is_spare_of p (change x) ≡ is_spare_of p x) → Agrees n (change_thread table t change) doors tree list v
   agrees_alike t change parked spare =
       record {
         stacks =
@@ -41,6 +41,10 @@ module _ {n : ℕ} {table : ProcessTable} {doors : List Door} {tree : CallTree} 
             ∙ sym (spares_same table after p (length table.threads) (λ u l. spares_at p u (u == t) refl))
             ∙ ap (spares_among after p) (sym (length-change_thread table t change));
         calls = h.calls;
+        call_dates = h.call_dates;
+        notices = h.notices;
+        notice_dates = h.notice_dates;
+        kept = h.kept;
         common = h.common ∙ ap length (sym (processes-change_thread table t change));
         spare_lists = h.spare_lists ∙ ap length (sym (processes-change_thread table t change));
         private = h.private;
@@ -85,47 +89,55 @@ dormant_not_idle is.Dormant e = refl
 dormant_not_idle (is.Idle since) e = cc
 dormant_not_idle _ e = refl
 
+-- where a thread is parked, it is in its own pool
+pub parked_in_own :
+    (table : ProcessTable) (bindings : List (Option ℕ)) (t : ℕ) (x : Parked) → parked_at table bindings t ≡ Some x →
+    x.pool ≡ pool_by (process_in (thread_at table t)) (bound_at bindings t)
+parked_in_own table bindings t x e = go (thread_at table t) e
+  where
+    by_pool : (y : Thread) (b : Option ℕ) → pool_of_thread y b ≡ pool_by y.process.0 b
+    by_pool y None = refl
+    by_pool y (Some d) = refl
+
+    at_state : (pool : Pool) (s : ThreadState) → parked_in t pool s ≡ Some x → x.pool ≡ pool
+    at_state pool (is.Idle since) f = let same : record { thread = tid t; pool = pool; since = since } ≡ x = cc in ap (λ (y : Parked). y.pool) (sym same)
+    at_state pool _ f = cc
+
+    go : (o : Option Thread) → parked_thread bindings t o ≡ Some x → x.pool ≡ pool_by (process_in o) (bound_at bindings t)
+    go None f = cc
+    go (Some y) f = at_state (pool_of_thread y (bound_at bindings t)) y.state f ∙ by_pool y (bound_at bindings t)
+
 none_without : (t : ℕ) → without_thread t [] ≡ []
 none_without t = refl
 
-module _ {n : ℕ} {table : ProcessTable} {doors : List Door} {tree : CallTree} {v : PoolsValue} (h : Agrees n table doors tree v) (t : ℕ) where
+module _ {n : ℕ} {table : ProcessTable} {doors : List Door} {tree : CallTree} {list : NoticeList} {v : PoolsValue} (h : Agrees n table doors tree list v) (t : ℕ) where
   abbrev after : ProcessTable
   after = end_thread table t
 
   gone : parked_at after v.bindings t ≡ None
   gone = not_parked after v.bindings t (state_changed table t ended_thread is_idle refl (λ x. refl))
 
-  -- where it is parked, it is in its own pool
-  its_pool : (x : Parked) → parked_at table v.bindings t ≡ Some x → x.pool ≡ pool_by (process_in (thread_at table t)) (bound_at v.bindings t)
-  its_pool x e = go (thread_at table t) e
-    where
-      by_pool : (y : Thread) (b : Option ℕ) → pool_of_thread y b ≡ pool_by y.process.0 b
-      by_pool y None = refl
-      by_pool y (Some d) = refl
-
-      at_state : (pool : Pool) (s : ThreadState) → parked_in t pool s ≡ Some x → x.pool ≡ pool
-      at_state pool (is.Idle since) f = let same : record { thread = tid t; pool = pool; since = since } ≡ x = cc in ap (λ (y : Parked). y.pool) (sym same)
-      at_state pool _ f = cc
-
-      go : (o : Option Thread) → parked_thread v.bindings t o ≡ Some x → x.pool ≡ pool_by (process_in o) (bound_at v.bindings t)
-      go None f = cc
-      go (Some y) f = at_state (pool_of_thread y (bound_at v.bindings t)) y.state f ∙ by_pool y (bound_at v.bindings t)
-
   pub agrees_unparked :
       (pool : Pool) → pool ≡ pool_by (process_in (thread_at table t)) (bound_at v.bindings t) → is_idle (state_in (thread_at table t)) ≡ true →
-      Agrees n (end_thread table t) doors tree (change_pool v pool (unpark_in t))
+      Agrees n (end_thread table t) doors tree list (change_pool v pool (unpark_in t))
   agrees_unparked pool own idle =
       record {
         stacks =
             λ q. stack_same after n q v.bindings w.bindings (stack_at q (is_pool pool q)) (stack_in w q) (bindings-change_pool v pool (unpark_in t))
             (read_change (λ (x : PoolValue). x.parked) (without_thread t) (unpark_in t) (λ x. refl) refl v pool q)
             (stack q (is_pool pool q) refl);
-        queues = λ q. read_kept (λ (x : PoolValue). x.waiting) (unpark_in t) (λ x. refl) v pool q ∙ h.queues q;
+        queues =
+            λ q. subst (IsQueueOf doors tree.calls list.notices q)
+            (sym (read_kept (λ (x : PoolValue). x.waiting) (unpark_in t) (λ x. refl) v pool q)) (h.queues q);
         spares =
             λ p. ap (λ us. spares_or_none (at_number us p)) (spares-change_pool v pool (unpark_in t))
             ∙ h.spares p
             ∙ sym (changed_spares table t p ended_thread (idle_not_dormant (state_in (thread_at table t)) idle) (λ x. refl));
         calls = h.calls;
+        call_dates = h.call_dates;
+        notices = h.notices;
+        notice_dates = h.notice_dates;
+        kept = h.kept;
         common = common-change_pool v pool (unpark_in t) ∙ h.common ∙ ap length (sym (processes-change_thread table t ended_thread));
         spare_lists =
             ap length (spares-change_pool v pool (unpark_in t)) ∙ h.spare_lists
@@ -146,7 +158,7 @@ module _ {n : ℕ} {table : ProcessTable} {doors : List Door} {tree : CallTree} 
       stack q true e = stack_without t table v.bindings after v.bindings n q alike (stack_in v q) gone (h.stacks q)
       stack q false e =
           stack_kept t table v.bindings after v.bindings n n q (stack_in v q) alike (h.stacks q) (le_refl n)
-          (record { other_pool = λ x k. ap (is_pool q) (its_pool x k ∙ sym own) ∙ is_pool-sym q pool ∙ e })
+          (record { other_pool = λ x k. ap (is_pool q) (parked_in_own table v.bindings t x k ∙ sym own) ∙ is_pool-sym q pool ∙ e })
           (nowhere after v.bindings t q gone)
 
   -- a spare thread leaves those of its process
@@ -207,7 +219,7 @@ module _ {n : ℕ} {table : ProcessTable} {doors : List Door} {tree : CallTree} 
 
   pub agrees_not_spare :
       (p : ℕ) → p ≡ process_in (thread_at table t) → is_dormant (state_in (thread_at table t)) ≡ true →
-      Agrees n (end_thread table t) doors tree (change_spares v p (without_spare t))
+      Agrees n (end_thread table t) doors tree list (change_spares v p (without_spare t))
   agrees_not_spare p own dormant =
       record {
         stacks =
@@ -218,6 +230,10 @@ module _ {n : ℕ} {table : ProcessTable} {doors : List Door} {tree : CallTree} 
         queues = h.queues;
         spares = λ q. spares q (p == q) refl ∙ ap (spares_among after q) (sym (length-change_thread table t ended_thread));
         calls = h.calls;
+        call_dates = h.call_dates;
+        notices = h.notices;
+        notice_dates = h.notice_dates;
+        kept = h.kept;
         common = h.common ∙ ap length (sym (processes-change_thread table t ended_thread));
         spare_lists =
             length-change_at_number v.spares p (without_spare t) ∙ h.spare_lists
@@ -237,22 +253,28 @@ module _ {n : ℕ} {table : ProcessTable} {doors : List Door} {tree : CallTree} 
 
 -- a thread parks that is no spare and in no pool, after all that are in its pool
 
-module _ {n : ℕ} {table : ProcessTable} {doors : List Door} {tree : CallTree} {v : PoolsValue} (h : Agrees n table doors tree v) where
+module _ {n : ℕ} {table : ProcessTable} {doors : List Door} {tree : CallTree} {list : NoticeList} {v : PoolsValue} (h : Agrees n table doors tree list v) where
   pub agrees_park_after :
       (t : ℕ) (pool : Pool) → is_some (thread_at table t) ≡ true → is_idle (state_in (thread_at table t)) ≡ false →
       is_dormant (state_in (thread_at table t)) ≡ false → pool ≡ pool_by (process_in (thread_at table t)) (bound_at v.bindings t) →
       is_some (pool_at v pool) ≡ true → AllParkedBefore (stack_in v pool) (record { thread = tid t; pool = pool; since = n }) →
-      Agrees n (park_thread table t n) doors tree (change_pool v pool (park_in (record { thread = tid t; pool = pool; since = n })))
+      Agrees n (park_thread table t n) doors tree list (change_pool v pool (park_in (record { thread = tid t; pool = pool; since = n })))
   agrees_park_after t pool is_there idle dormant own there above =
       record {
         stacks =
             λ q. subst (λ b. IsStackOf after b n q (stack_in w q)) (sym (bindings-change_pool v pool (park_in y))) (stack q (is_pool pool q) refl);
-        queues = λ q. read_kept (λ (x : PoolValue). x.waiting) (park_in y) (λ x. refl) v pool q ∙ h.queues q;
+        queues =
+            λ q. subst (IsQueueOf doors tree.calls list.notices q)
+            (sym (read_kept (λ (x : PoolValue). x.waiting) (park_in y) (λ x. refl) v pool q)) (h.queues q);
         spares =
             λ p. ap (λ us. spares_or_none (at_number us p)) (spares-change_pool v pool (park_in y))
             ∙ h.spares p
             ∙ sym (changed_spares table t p (idle_thread n) dormant (λ z. refl));
         calls = h.calls;
+        call_dates = h.call_dates;
+        notices = h.notices;
+        notice_dates = h.notice_dates;
+        kept = h.kept;
         common = common-change_pool v pool (park_in y) ∙ h.common ∙ ap length (sym (processes-change_thread table t (idle_thread n)));
         spare_lists = ap length (spares-change_pool v pool (park_in y)) ∙ h.spare_lists ∙ ap length (sym (processes-change_thread table t (idle_thread n)));
         private = private-change_pool v pool (park_in y) ∙ h.private;

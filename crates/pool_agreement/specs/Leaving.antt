@@ -1,7 +1,7 @@
--- Which waiting calls leave their pool, where callers are interrupted, threads end, and doors become invalid.
-use Rattle.std.specs.Prelude.{ℕ, Bool, ◌||◌, List}
-use Rattle.kernel_records.specs.Words.{CallTree, Leaving, ProcessTable}
-use Rattle.written_kernel.specs.Types.{Call, Door}
+-- Which waiting calls and notices leave their pool, where callers are interrupted, threads end, and doors become invalid.
+use Rattle.std.specs.Prelude.{ℕ, Bool, ◌&&◌, ◌||◌, List}
+use Rattle.kernel_records.specs.Words.{CallTree, Leaving, NoticeList, ProcessTable, is_waiting_stage}
+use Rattle.written_kernel.specs.Types.{Call, Door, Notice}
 use Rattle.server_pool.specs.Words.{PoolsValue}
 use Rattle.pool_agreement.specs.Agreement.{Agrees}
 
@@ -9,8 +9,13 @@ use Rattle.pool_agreement.specs.Agreement.{Agrees}
 abbrev pub leaves_queue : Leaving → Call → Bool
 leaves_queue who r = who.ends r.caller.0 || (who.interrupts r.caller.0 || who.loses r.door)
 
--- the pools hold what these threads say, with some doors and calls
+-- a notice that waits does so no longer where its door becomes invalid
+abbrev pub notice_leaves_queue : Leaving → Notice → Bool
+notice_leaves_queue who n = is_waiting_stage n.stage && who.loses n.door
+
+-- the pools hold what these threads say, with some doors, calls and notices
 pub record AgreesSomehow (latest : ℕ) (table : ProcessTable) (pools : PoolsValue) : Type 0 where
   pub doors : List Door
   pub tree : CallTree
-  pub agrees : Agrees latest table doors tree pools
+  pub list : NoticeList
+  pub agrees : Agrees latest table doors tree list pools

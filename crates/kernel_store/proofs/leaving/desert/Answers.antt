@@ -10,4 +10,4 @@ returns-in-Stays-clause-thread c =
     ∙ ap (λ d. change_thread c.args.processes.now c.args.t.0 (deserted_as c.args.now d)) (sym c.in-Stays.is)
 
 pub returns-in-IsCancelled-clause-agreed : goal.returns-in-IsCancelled-clause-agreed
-returns-in-IsCancelled-clause-agreed c = λ doors tree h. rw c.cancel.ensures (agrees_cancelled h c.args.t.0)
+returns-in-IsCancelled-clause-agreed c = λ doors tree list h. rw c.cancel.ensures (agrees_cancelled h c.args.t.0)

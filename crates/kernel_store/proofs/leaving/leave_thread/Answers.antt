@@ -20,7 +20,7 @@ desert-requires-clause-later c =
     (rw (own_pool_interrupted c.args.processes.now c.args.pools.now.bindings c.args.t.0 c.args.fate.interrupted) c.requires.later)
 
 pub returns-then-fate-clause-agreed : goal.returns-then-fate-clause-agreed
-returns-then-fate-clause-agreed c = λ doors tree h. c.end_thread.ensures.agreed c.args.now doors tree h
+returns-then-fate-clause-agreed c = λ doors tree list h. c.end_thread.ensures.agreed c.args.now doors tree list h
 
 pub returns-clause-thread : goal.returns-clause-thread
 returns-clause-thread c =
@@ -35,5 +35,5 @@ returns-clause-thread c =
     (sym c.if-fate.false)
 
 pub returns-clause-agreed : goal.returns-clause-agreed
-returns-clause-agreed c = λ doors tree h.
-    c.desert.ensures.agreed doors tree (rw c.interrupt_where.ensures (agrees_interrupted h c.args.t.0 c.args.fate.interrupted))
+returns-clause-agreed c = λ doors tree list h.
+    c.desert.ensures.agreed doors tree list (rw c.interrupt_where.ensures (agrees_interrupted h c.args.t.0 c.args.fate.interrupted))

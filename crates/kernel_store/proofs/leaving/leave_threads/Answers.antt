@@ -19,8 +19,8 @@ pub leave_thread-requires-clause-later : goal.leave_thread-requires-clause-later
 leave_thread-requires-clause-later c =
     let own = own_pool_in c.loop-i.processes c.loop-i.pools.bindings (c.loop-i.i + 1) in
     next_later c.args.pools.now c.loop-i.pools (c.loop-i.invariant.0 c.requires.agreed.doors) c.loop-i.invariant.2 (c.loop-i.i + 1) refl
-    c.requires.agreed.doors c.requires.agreed.tree
-    (c.loop-i.invariant.1 c.requires.agreed.doors c.requires.agreed.tree c.requires.agreed.agrees) c.requires.earlier own own
+    c.requires.agreed.doors c.requires.agreed.tree c.requires.agreed.list
+    (c.loop-i.invariant.1 c.requires.agreed.doors c.requires.agreed.tree c.requires.agreed.list c.requires.agreed.agrees) c.requires.earlier own own
 
 pub loop-i-preserved : goal.loop-i-preserved
 loop-i-preserved c = (
@@ -30,12 +30,13 @@ loop-i-preserved c = (
       (fate_now doors c.args.who (c.loop-i.invariant.0 doors) (fated c.args.now c.fate_of-fate.result) (c.loop-i.i + 1)
       (c.fate_of-fate.ensures doors c.args.now))
       (c.requires.numbered (c.loop-i.i + 1)),
-  λ doors tree h. c.leave_thread.ensures.agreed doors tree (c.loop-i.invariant.1 doors tree h),
+  λ doors tree list h. c.leave_thread.ensures.agreed doors tree list (c.loop-i.invariant.1 doors tree list h),
   c.leave_thread.ensures.bindings ∙ c.loop-i.invariant.2,
   λ pool.
       let a : thread_room_in c.args.pools.now pool ≤ thread_room_in c.loop-i.pools pool + c.loop-i.i = c.loop-i.invariant.3 pool in
       let b : thread_room_in c.loop-i.pools pool ≤ thread_room_in c.leave_thread.new.pools pool + 1 = c.leave_thread.ensures.room_left pool in
       omega arith,
+  λ pool. c.leave_thread.ensures.items pool ∙ c.loop-i.invariant.4 pool,
 )
 
 pub returns-clause-threads : goal.returns-clause-threads

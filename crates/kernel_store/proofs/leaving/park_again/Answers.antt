@@ -12,7 +12,7 @@ park-requires-clause-later c =
     (c.take_out.ensures.above own (record { thread = c.args.t; pool = own; since = c.args.since }) c.requires.later)
 
 pub returns-clause-agreed : goal.returns-clause-agreed
-returns-clause-agreed c = λ doors tree h.
+returns-clause-agreed c = λ doors tree list h.
     let own = own_pool_in c.args.processes.now c.args.pools.now.bindings c.args.t.0 in
     let before : 0 < thread_room_in c.args.pools.now own = c.requires.room in
     let kept : thread_room_in c.args.pools.now own ≤ thread_room_in c.take_out.new.pools own = c.take_out.ensures.room own in
@@ -20,7 +20,7 @@ returns-clause-agreed c = λ doors tree h.
     rw c.park-2.ensures
     (rw c.park.ensures
     (rw c.own_pool-pool.ensures
-    (parked_again h c.args.t.0 c.take_out.new.pools own (c.take_out.ensures.agreed c.args.since doors tree h) c.requires.there refl
+    (parked_again h c.args.t.0 c.take_out.new.pools own (c.take_out.ensures.agreed c.args.since doors tree list h) c.requires.there refl
     c.take_out.ensures.bindings there
     (c.take_out.ensures.above own (record { thread = c.args.t; pool = own; since = c.args.since }) c.requires.later))))
 

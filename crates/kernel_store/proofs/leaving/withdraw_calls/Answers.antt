@@ -1,13 +1,14 @@
-use Rattle.std.proofs.Common.{◌≡◌, ◌≤◌, ◌+◌, List, Some, length, slice_get, refl, sym, ap, ◌∙◌, subst}
+use Rattle.std.proofs.Common.{◌≡◌, ◌≤◌, ◌+◌, List, Some, length, slice_get, refl, sym, ap, ◌∙◌, le_trans, subst}
 use Rattle.std.proofs.lemmas.Option.{slice_get_read}
 use Rattle.dk_base.specs.ByNumber.{at_number}
 use Rattle.dk_base.specs.declared.object.Item.TheVariants as item
 use Rattle.kernel_records.specs.Words.{leaving_of, pool_in}
 use Rattle.written_kernel.specs.Types.{Call}
-use Rattle.server_pool.specs.Words.{PoolValue, PoolsValue, change_pool, thread_room_in, withdraw_in}
+use Rattle.server_pool.specs.Words.{PoolValue, PoolsValue, change_pool, item_room_in, thread_room_in, withdraw_in}
 use Rattle.pool_agreement.specs.Words.{Agrees}
 use Rattle.pool_agreement.proofs.Leaving.{agrees_left, agrees_stays, agrees_withdrawn, next_is, read_kept, tree_left}
 use Rattle.pool_agreement.proofs.Readers.{bindings-change_pool}
+use Rattle.kernel_store.proofs.ItemRoom.{room_withdrawn}
 use Rattle.kernel_store.proofs.leaving.withdraw_calls.Goals as goal
 use Rattle.kernel_store.proofs.leaving.withdraw_calls.Goals.{then-is_withdrawn, else-is_withdrawn}
 
@@ -28,24 +29,26 @@ loop-call-preserved c =
           let pool = pool_in (at_number doors r.door) in
           let is : c.if-is_withdrawn.pools ≡ change_pool v pool (withdraw_in (item.Call r.number)) =
           w.pools-is ∙ w.withdraw.ensures.pool ∙ ap (λ p. change_pool v p (withdraw_in (item.Call r.number))) w.pool_of-pool.ensures in (
-            λ n h. subst (Agrees n table doors (tree_left who (i + 1) tree)) (sym is)
-                (next_is tree who i (agrees_withdrawn tree who i r h.calls at (sym c.is_withdrawn.ensures ∙ w.if-is_withdrawn.true) (c.loop-call.invariant.0 n h))),
+            λ n list h. subst (Agrees n table doors (tree_left who (i + 1) tree) list) (sym is)
+                (next_is tree who i (agrees_withdrawn tree who i r h.calls at (sym c.is_withdrawn.ensures ∙ w.if-is_withdrawn.true) (c.loop-call.invariant.0 n list h))),
             ap (λ (x : PoolsValue). x.bindings) is ∙ bindings-change_pool v pool (withdraw_in (item.Call r.number)) ∙ c.loop-call.invariant.1,
             λ q. ap (λ (x : PoolsValue). thread_room_in x q) is
                 ∙ read_kept (λ (x : PoolValue). x.thread_room) (withdraw_in (item.Call r.number)) (λ x. refl) v pool q
                 ∙ c.loop-call.invariant.2 q,
+            λ q. le_trans (c.loop-call.invariant.3 q) (subst (λ (x : PoolsValue). item_room_in v q ≤ item_room_in x q) (sym is) (room_withdrawn v pool (item.Call r.number) q)),
           )
       | else-is_withdrawn w ↦ (
-        λ n h. subst (Agrees n table doors (tree_left who (i + 1) tree)) (sym w.pools-is)
-            (next_is tree who i (agrees_stays tree who i r h.calls at (sym c.is_withdrawn.ensures ∙ w.if-is_withdrawn.false) (c.loop-call.invariant.0 n h))),
+        λ n list h. subst (Agrees n table doors (tree_left who (i + 1) tree) list) (sym w.pools-is)
+            (next_is tree who i (agrees_stays tree who i r h.calls at (sym c.is_withdrawn.ensures ∙ w.if-is_withdrawn.false) (c.loop-call.invariant.0 n list h))),
         ap (λ (x : PoolsValue). x.bindings) w.pools-is ∙ c.loop-call.invariant.1,
         λ q. ap (λ (x : PoolsValue). thread_room_in x q) w.pools-is ∙ c.loop-call.invariant.2 q,
+        λ q. subst (λ (x : PoolsValue). item_room_in c.args.pools.now q ≤ item_room_in x q) (sym w.pools-is) (c.loop-call.invariant.3 q),
       )
     ]
 
 pub returns-clause-agreed : goal.returns-clause-agreed
-returns-clause-agreed c = λ n h.
+returns-clause-agreed c = λ n list h.
     let tree = c.args.calls.now.tree in
     let done : length tree.calls ≤ c.loop-call.call-index =
     subst (λ (xs : List Call). length xs ≤ c.loop-call.call-index) c.list-call-items.ensures.calls c.loop-call-test.false in
-    agrees_left tree (leaving_of c.args.processes.now c.args.doors.now.items c.args.who) c.loop-call.call-index done (c.loop-call.invariant.0 n h)
+    agrees_left tree (leaving_of c.args.processes.now c.args.doors.now.items c.args.who) c.loop-call.call-index done (c.loop-call.invariant.0 n list h)

@@ -1,6 +1,7 @@
 use Rattle.std.proofs.Common.{ap, sym, subst, ◌∙◌}
 use Rattle.pool_agreement.specs.Words.{IsGivenOutIn}
-use Rattle.kernel_store.proofs.Giving.{agrees_given, gives_on, matched_is_call, matched_is_idle, nothing_to_give}
+use Rattle.kernel_store.specs.Stored.{IsAgreed}
+use Rattle.kernel_store.proofs.Giving.{agrees_given, agrees_given_notice, gives_on, gives_on_notice, matched_is_idle, nothing_to_give}
 use Rattle.kernel_store.specs.contracts.store.Store.{the_view}
 use Rattle.kernel_store.proofs.store.Store.give_next.Goals as goal
 
@@ -9,6 +10,7 @@ returns-in_default-clause-none c e = (
   ap (λ pools. record (the_view c.self.inside) { pools = pools }) c.in_default.ensures.none ∙ c.self.view_is,
   subst (λ s. IsGivenOutIn s.pools c.args.pool) c.self.view_is
       (nothing_to_give (the_view c.self.inside) c.args.pool (sym c.in_default.ensures.result)),
+  subst IsAgreed c.self.view_is c.self.invariant,
 )
 
 pub give-requires : goal.give-requires
@@ -19,10 +21,10 @@ invariant_of-self-in-Call c =
     agrees_given (the_view c.self.inside) c.self.invariant c.args.pool c.in-Some.next (sym c.in-Some.ensures.result) c.in-Call.c
     c.in-Call.is _ _ c.give-in-Call.new.self c.give.ensures c.in-Some.ensures.some c.give-in-Call.ensures
 
-pub invariant_of-self-in_default-item : goal.invariant_of-self-in_default-item
-invariant_of-self-in_default-item c =
-    absurd
-    (matched_is_call (the_view c.self.inside) c.self.invariant c.args.pool c.in-Some.next (sym c.in-Some.ensures.result) c.in_default-item.not-Call)
+pub invariant_of-self-in-Notice : goal.invariant_of-self-in-Notice
+invariant_of-self-in-Notice c =
+    agrees_given_notice (the_view c.self.inside) c.self.invariant c.args.pool c.in-Some.next (sym c.in-Some.ensures.result) c.in-Notice.n
+    c.in-Notice.is _ _ c.give-in-Notice.new.self c.give.ensures c.in-Some.ensures.some c.give-in-Notice.ensures.list
 
 pub returns-in-Call-clause-given : goal.returns-in-Call-clause-given
 returns-in-Call-clause-given c e =
@@ -30,7 +32,8 @@ returns-in-Call-clause-given c e =
     (gives_on (the_view c.self.inside) c.self.invariant c.args.pool c.in-Some.next (sym c.in-Some.ensures.result) c.in-Call.c
     c.in-Call.is _ _ c.give-in-Call.new.self c.give.ensures c.in-Some.ensures.some c.give-in-Call.ensures)
 
-pub returns-in_default-item-clause-given : goal.returns-in_default-item-clause-given
-returns-in_default-item-clause-given c e =
-    absurd
-    (matched_is_call (the_view c.self.inside) c.self.invariant c.args.pool c.in-Some.next (sym c.in-Some.ensures.result) c.in_default-item.not-Call)
+pub returns-in-Notice-clause-given : goal.returns-in-Notice-clause-given
+returns-in-Notice-clause-given c e =
+    rw (← c.self.view_is)
+    (gives_on_notice (the_view c.self.inside) c.self.invariant c.args.pool c.in-Some.next (sym c.in-Some.ensures.result) c.in-Notice.n
+    c.in-Notice.is _ _ c.give-in-Notice.new.self c.give.ensures c.in-Some.ensures.some c.give-in-Notice.ensures.list)

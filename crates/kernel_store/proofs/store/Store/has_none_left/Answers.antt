@@ -1,5 +1,5 @@
 use Rattle.std.proofs.Common.{◌∙◌}
-use Rattle.kernel_store.specs.GivingAll.{is_flagged}
+use Rattle.kernel_store.specs.Flags.{is_flagged}
 use Rattle.kernel_store.proofs.GivingAll.{has_none}
 use Rattle.kernel_store.proofs.store.Store.has_none_left.Goals as goal
 

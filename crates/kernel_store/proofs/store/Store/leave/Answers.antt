@@ -1,6 +1,7 @@
-use Rattle.std.proofs.Common.{◌≡◌, ◌+◌, ◌<◌, ◌≤◌, sym, ap, ◌∙◌, subst, arith}
-use Rattle.kernel_records.specs.Words.{ProcessTable, leaving_of, left_calls, live_calls, parked_at}
+use Rattle.std.proofs.Common.{◌≡◌, ◌+◌, ◌<◌, ◌≤◌, sym, ap, ◌∙◌, subst, subst₂, arith}
+use Rattle.kernel_records.specs.Words.{ProcessTable, kept_notices, leaving_of, left_calls, left_notices, live_calls, parked_at}
 use Rattle.written_kernel.specs.Words.{forget, leave}
+use Rattle.server_pool.specs.Words.{item_room_in}
 use Rattle.pool_agreement.specs.Words.{Agrees}
 use Rattle.pool_agreement.proofs.Stacks.{agrees_later}
 use Rattle.kernel_store.specs.Leaving.{own_pool_in}
@@ -12,11 +13,17 @@ use Rattle.kernel_store.proofs.store.Store.leave.Goals as goal
 pub leave_threads-requires-clause-agreed : goal.leave_threads-requires-clause-agreed
 leave_threads-requires-clause-agreed c =
     let s = c.self.inside in
+    let doors = s.doors.items in
+    let who = leaving_of s.processes doors c.args.who in
+    let tree = live_calls (left_calls who s.calls.tree) in
     let l : s.latest < s.events + 1 = early c.self.invariant c.self.view_is c.requires.first in
     record {
-      doors = s.doors.items;
-      tree = live_calls (left_calls (leaving_of s.processes s.doors.items c.args.who) s.calls.tree);
-      agrees = agrees_later (c.withdraw_calls.ensures.agreed s.latest c.self.invariant) (s.events + 1) (omega arith);
+      doors = doors;
+      tree = tree;
+      list = kept_notices doors (left_notices who s.notices.list);
+      agrees =
+          agrees_later (c.withdraw_notices.ensures.agreed s.latest tree (c.withdraw_calls.ensures.agreed s.latest s.notices.list c.self.invariant))
+          (s.events + 1) (omega arith);
     }
 
 pub leave_threads-requires-clause-earlier : goal.leave_threads-requires-clause-earlier
@@ -24,42 +31,60 @@ leave_threads-requires-clause-earlier c = λ t x e.
     let s = c.self.inside in
     let l : s.latest < s.events + 1 = early c.self.invariant c.self.view_is c.requires.first in
     let since : x.since ≤ s.latest =
-    parked_early c.self.invariant t x (ap (λ bs. parked_at s.processes bs t) (sym c.withdraw_calls.ensures.bindings) ∙ e) in
+    parked_early c.self.invariant t x
+    (ap (λ bs. parked_at s.processes bs t) (sym (c.withdraw_notices.ensures.bindings ∙ c.withdraw_calls.ensures.bindings)) ∙ e) in
     omega arith
 
 pub leave_threads-requires-clause-room : goal.leave_threads-requires-clause-room
 leave_threads-requires-clause-room c = λ t there.
     let s = c.self.inside in
-    rw c.withdraw_calls.ensures.bindings
+    rw c.withdraw_notices.ensures.bindings
+    (rw c.withdraw_calls.ensures.bindings
+    (rw (c.withdraw_notices.ensures.room (own_pool_in s.processes s.pools.bindings t))
     (rw (c.withdraw_calls.ensures.room (own_pool_in s.processes s.pools.bindings t))
-    (room_to_leave c.self.invariant c.self.view_is c.requires.placed c.requires.room t there))
+    (room_to_leave c.self.invariant c.self.view_is c.requires.placed c.requires.room t there))))
 
 pub invariant_of-self : goal.invariant_of-self
 invariant_of-self c =
     let s = c.self.inside in
     let doors = s.doors.items in
     let who = leaving_of s.processes doors c.args.who in
+    let tree = live_calls (left_calls who s.calls.tree) in
+    let list = kept_notices doors (left_notices who s.notices.list) in
     let l : s.latest < s.events + 1 = early c.self.invariant c.self.view_is c.requires.first in
-    let calls : c.leave_calls.new.calls.tree ≡ live_calls (left_calls who s.calls.tree) =
-    c.leave_calls.ensures
-    ∙ ap (λ w. live_calls (left_calls w s.calls.tree))
-    (ap (λ (t : ProcessTable). leaving_of t doors c.args.who) (c.leave_threads.ensures.threads doors)
-    ∙ leaving_after s.processes doors c.args.who who (s.events + 1) s.calls.tree.calls) in
-    subst (λ tree. Agrees (s.events + 1) c.leave_threads.new.processes doors tree c.leave_threads.new.pools) (sym calls)
-    (c.leave_threads.ensures.agreed doors (live_calls (left_calls who s.calls.tree))
-    (agrees_later (c.withdraw_calls.ensures.agreed s.latest c.self.invariant) (s.events + 1) (omega arith)))
+    let after : leaving_of c.leave_threads.new.processes doors c.args.who ≡ who =
+    ap (λ (t : ProcessTable). leaving_of t doors c.args.who) (c.leave_threads.ensures.threads doors)
+    ∙ leaving_after s.processes doors c.args.who who (s.events + 1) s.calls.tree.calls in
+    let calls : c.leave_calls.new.calls.tree ≡ tree = c.leave_calls.ensures ∙ ap (λ w. live_calls (left_calls w s.calls.tree)) after in
+    let notices : c.leave_notices.new.notices.list ≡ list =
+    c.leave_notices.ensures.list ∙ ap (λ w. kept_notices doors (left_notices w s.notices.list)) after in
+    subst₂ (λ tree list. Agrees (s.events + 1) c.leave_threads.new.processes doors tree list c.leave_threads.new.pools) (sym calls) (sym notices)
+    (c.leave_threads.ensures.agreed doors tree list
+    (agrees_later (c.withdraw_notices.ensures.agreed s.latest tree (c.withdraw_calls.ensures.agreed s.latest s.notices.list c.self.invariant))
+    (s.events + 1) (omega arith)))
 
 pub returns-clause-state : goal.returns-clause-state
 returns-clause-state c =
     let s = c.self.inside in
     let doors = s.doors.items in
     let who = leaving_of s.processes doors c.args.who in
+    let after : leaving_of c.leave_threads.new.processes doors c.args.who ≡ who =
+    ap (λ (t : ProcessTable). leaving_of t doors c.args.who) (c.leave_threads.ensures.threads doors)
+    ∙ leaving_after s.processes doors c.args.who who (s.events + 1) s.calls.tree.calls in
     let calls : c.leave_calls.new.calls.tree ≡ live_calls (left_calls who s.calls.tree) =
-    c.leave_calls.ensures
-    ∙ ap (λ w. live_calls (left_calls w s.calls.tree))
-    (ap (λ (t : ProcessTable). leaving_of t doors c.args.who) (c.leave_threads.ensures.threads doors)
-    ∙ leaving_after s.processes doors c.args.who who (s.events + 1) s.calls.tree.calls) in
+    c.leave_calls.ensures ∙ ap (λ w. live_calls (left_calls w s.calls.tree)) after in
+    let notices : c.leave_notices.new.notices.list ≡ kept_notices doors (left_notices who s.notices.list) =
+    c.leave_notices.ensures.list ∙ ap (λ w. kept_notices doors (left_notices w s.notices.list)) after in
     rw (c.leave_threads.ensures.threads doors)
-    (rw (c.leave_threads.ensures.bindings ∙ c.withdraw_calls.ensures.bindings)
+    (rw (c.leave_threads.ensures.bindings ∙ c.withdraw_notices.ensures.bindings ∙ c.withdraw_calls.ensures.bindings)
     (rw calls
-    (ap (λ (v : StoreValue). forget (leave (stored_state v) (leaving_of v.processes v.doors.items c.args.who))) c.self.view_is)))
+    (rw notices
+    (ap (λ (v : StoreValue). forget (leave (stored_state v) (leaving_of v.processes v.doors.items c.args.who))) c.self.view_is))))
+
+pub returns-clause-items : goal.returns-clause-items
+returns-clause-items c = λ pool.
+    let s = c.self.inside in
+    let a : item_room_in s.pools pool ≤ item_room_in c.withdraw_calls.new.pools pool = c.withdraw_calls.ensures.items pool in
+    let b : item_room_in c.withdraw_calls.new.pools pool ≤ item_room_in c.withdraw_notices.new.pools pool = c.withdraw_notices.ensures.items pool in
+    let e : item_room_in c.leave_threads.new.pools pool ≡ item_room_in c.withdraw_notices.new.pools pool = c.leave_threads.ensures.items pool in
+    subst (λ (v : StoreValue). item_room_in v.pools pool ≤ item_room_in c.leave_threads.new.pools pool) c.self.view_is (omega arith)

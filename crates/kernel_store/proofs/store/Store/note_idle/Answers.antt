@@ -13,8 +13,11 @@ loop-i-preserved c =
     noted_more c.args.self.now c.args.had c.loop-i.had c.push.new.self c.loop-i.i c.has_idle.result c.loop-i.invariant c.has_idle.ensures.agreed
     c.has_idle.ensures.idle c.push.ensures.items c.push.ensures.spare
 
-pub returns-clause-flags : goal.returns-clause-flags
-returns-clause-flags c p =
-    noted_all c.args.self.now c.args.had c.loop-i.had c.loop-i.i c.loop-i.invariant (subst IsAgreed c.self.view_is c.self.invariant)
-    (le_antisymm c.loop-i.auto.i-end c.loop-i-test.false
-    ∙ c.process_count-i-end.ensures.count ∙ ap (λ (s : StoreValue). length s.processes.processes) c.self.view_is) p
+pub returns : goal.returns
+returns c =
+    record {
+      flags =
+          noted_all c.args.self.now c.args.had c.loop-i.had c.loop-i.i c.loop-i.invariant (subst IsAgreed c.self.view_is c.self.invariant)
+          (le_antisymm c.loop-i.auto.i-end c.loop-i-test.false
+          ∙ c.process_count-i-end.ensures.count ∙ ap (λ (s : StoreValue). length s.processes.processes) c.self.view_is);
+    }

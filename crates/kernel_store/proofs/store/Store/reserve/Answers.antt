@@ -25,7 +25,7 @@ invariant_of-self-2 c =
     same_in_room c.self.inside.pools c.reserve_door.new.self c.room.new.self c.reserve_door.new.self.door_room
     (thread_room_in c.room.new.self c.args.touched) (item_room_in c.room.new.self c.args.touched) c.args.touched
     c.reserve_door.ensures.same c.room.ensures.same in
-    subst₂ (λ doors tree. Agrees c.self.inside.latest c.self.inside.processes doors tree c.room.new.self) (sym c.reserve-2.ensures.items)
+    subst₂ (λ doors tree. Agrees c.self.inside.latest c.self.inside.processes doors tree c.self.inside.notices.list c.room.new.self) (sym c.reserve-2.ensures.items)
     (sym c.reserve-3.ensures.tree) (agrees_same c.self.invariant same)
 
 pub returns-clause-given_out : goal.returns-clause-given_out

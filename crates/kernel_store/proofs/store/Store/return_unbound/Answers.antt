@@ -1,5 +1,6 @@
 use Rattle.std.proofs.Common.{None, is_ok, refl, ap, ◌∙◌}
 use Rattle.kernel_records.specs.Words.{thread_outside, unbind_thread}
+use Rattle.pool_agreement.proofs.Noticing.{agrees_end_notice, list_is_kept}
 use Rattle.pool_agreement.proofs.Queues.{agrees_return}
 use Rattle.pool_agreement.proofs.Unparking.{agrees_alike}
 use Rattle.kernel_store.proofs.Acts.{bound, given_out_bound, holds_ok, leaves_door}
@@ -10,9 +11,15 @@ invariant_of-self c =
     rw c.end_invocation.ensures
     (rw c.give_back.ensures
     (rw (holds_ok c.unbind.result (ap is_ok c.unbind.ensures.result ∙ leaves_door c.self.view_is c.args.t.0 c.requires.bound) c.unbind.ensures.ok)
+    (rw c.end.ensures.list
+    (agrees_end_notice
     (agrees_return
     (agrees_alike (bound c.self.invariant c.self.view_is c.args.t.0 None c.requires.running) c.args.t.0 thread_outside (λ x b. refl) (λ x p. refl))
-    c.args.t.0 c.args.bytes c.args.objects)))
+    c.args.t.0 c.args.bytes c.args.objects)
+    c.args.t.0))))
+
+pub end-requires : goal.end-requires
+end-requires c = record { kept = list_is_kept c.self.invariant }
 
 pub returns-clause-given_out : goal.returns-clause-given_out
 returns-clause-given_out c given =

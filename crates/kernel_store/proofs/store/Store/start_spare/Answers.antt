@@ -53,13 +53,3 @@ returns-in-Some-clause-picks c pool =
     (agrees_started (the_view c.self.inside) c.self.invariant c.args.p.0 c.in-Some.t.0 c.in-Some.ensures.result c.turn.new.self
     c.take_spare.new.self c.turn.ensures c.take_spare.ensures.left)
     c.args.p.0 c.take_spare.ensures.left pool
-
-pub returns-in-Some-clause-agreed : goal.returns-in-Some-clause-agreed
-returns-in-Some-clause-agreed c =
-    agrees_started (the_view c.self.inside) c.self.invariant c.args.p.0 c.in-Some.t.0 c.in-Some.ensures.result c.turn.new.self
-    c.take_spare.new.self c.turn.ensures c.take_spare.ensures.left
-
-pub returns-in_default-clause-agreed : goal.returns-in_default-clause-agreed
-returns-in_default-clause-agreed c =
-    agrees_unstarted (the_view c.self.inside) c.self.invariant c.args.p.0 c.in_default.ensures.result c.take_spare.new.self
-    c.take_spare.ensures.left

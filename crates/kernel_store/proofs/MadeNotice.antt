@@ -1,0 +1,76 @@
+-- A notice that is made, and the room that it leaves for others.
+use Rattle.std.proofs.Common.{◌≡◌, ℕ, ◌+◌, ◌<◌, ◌≤◌, Bool, true, false, if◌then◌else◌, List, ◌∷◌, Option, Some, None, option_map, count_by, is_some, length, refl, sym, ap, ◌∙◌, subst, arith}
+use Rattle.dk_base.specs.ByNumber.{at_number}
+use Rattle.dk_base.specs.Words.{RoomValue}
+use Rattle.kernel_records.specs.Words.{is_pool, pool_in}
+use Rattle.written_kernel.specs.Types.{Door, Pool, Waiting}
+use Rattle.written_kernel.specs.Words.{pool_of}
+use Rattle.server_pool.specs.Words.{PoolValue, PoolsValue, change_pool, enqueue_in, item_room_in, pool_at}
+use Rattle.server_pool.proofs.Changed.{pool_changed, pool_kept}
+use Rattle.unref_notice.specs.declared.notices.TheConstants.{NOTICES_MAX}
+use Rattle.pool_agreement.proofs.Readers.{is_pool-self, is_pool-sym}
+use Rattle.kernel_store.specs.Stored.{CanMake, StoreValue, count_served, stored_state}
+use Rattle.kernel_store.proofs.ItemRoom.{count_cons, room_elsewhere, room_enqueued}
+
+module _ {s now : StoreValue} (same : s ≡ now) (d : ℕ) (room : (ds : List ℕ) × CanMake now (d ∷ ds)) where
+  can : CanMake s (d ∷ room.0)
+  can = subst (λ v. CanMake v (d ∷ room.0)) (sym same) room.1
+
+  pub record_room : 0 < s.notices.spare
+  record_room = let l : length (d ∷ room.0) ≤ s.notices.spare = can.records in omega arith
+
+  pub number_left : s.notices.list.made < NOTICES_MAX
+  number_left = let l : s.notices.list.made + length (d ∷ room.0) ≤ NOTICES_MAX = can.numbers in omega arith
+
+  pub place_left : (pool : Pool) → pool ≡ pool_of (stored_state s) d → is_some (pool_at s.pools pool) ≡ true → 0 < item_room_in s.pools pool
+  place_left pool own there =
+      let l : count_served (stored_state s) pool (d ∷ room.0) ≤ item_room_in s.pools pool = can.items pool there in
+      one (is_pool pool (pool_of (stored_state s) d)) (ap (is_pool pool) (sym own) ∙ is_pool-self pool)
+      (subst (λ k. k ≤ item_room_in s.pools pool) (count_cons (λ k. is_pool pool (pool_of (stored_state s) k)) d room.0) l)
+    where
+      one :
+          (b : Bool) → b ≡ true → (if b then 1 else 0) + count_served (stored_state s) pool room.0 ≤ item_room_in s.pools pool →
+          0 < item_room_in s.pools pool
+      one true e l = omega arith
+      one false e l = cc
+
+there_changed :
+    (v : PoolsValue) (pool q : Pool) (change : PoolValue → PoolValue) → is_some (pool_at (change_pool v pool change) q) ≡ is_some (pool_at v q)
+there_changed v pool q change = go (is_pool pool q) refl
+  where
+    kept : (o : Option PoolValue) → is_some (option_map change o) ≡ is_some o
+    kept None = refl
+    kept (Some x) = refl
+
+    go : (b : Bool) → is_pool pool q ≡ b → is_some (pool_at (change_pool v pool change) q) ≡ is_some (pool_at v q)
+    go true e = ap is_some (pool_changed v pool q change e) ∙ kept (pool_at v q)
+    go false e = ap is_some (pool_kept v pool q change e)
+
+-- the notices of the other doors can still be made
+pub can_make_others :
+    (s after : StoreValue) (d : ℕ) (ds : List ℕ) (pool : Pool) (w : Waiting) → pool ≡ pool_of (stored_state s) d →
+    after.pools ≡ change_pool s.pools pool (enqueue_in w) → after.doors ≡ s.doors → s.notices.spare ≤ after.notices.spare + 1 →
+    after.notices.list.made ≡ s.notices.list.made + 1 → CanMake s (d ∷ ds) → CanMake after ds
+can_make_others s after d ds pool w own pools doors spare made make =
+    record {
+      records = let l : length (d ∷ ds) ≤ s.notices.spare = make.records in omega arith;
+      numbers = let l : s.notices.list.made + length (d ∷ ds) ≤ NOTICES_MAX = make.numbers in omega arith;
+      items =
+          λ q there.
+          let before : is_some (pool_at s.pools q) ≡ true =
+          sym (there_changed s.pools pool q (enqueue_in w)) ∙ ap (λ v. is_some (pool_at v q)) (sym pools) ∙ there in
+          subst (λ (x : RoomValue Door). count_by (λ k. is_pool q (pool_in (at_number x.items k))) ds ≤ item_room_in after.pools q) (sym doors)
+          (subst (λ v. count_served (stored_state s) q ds ≤ item_room_in v q) (sym pools)
+          (left q (is_pool q (pool_of (stored_state s) d)) refl
+          (subst (λ k. k ≤ item_room_in s.pools q) (count_cons (λ k. is_pool q (pool_of (stored_state s) k)) d ds) (make.items q before))));
+    }
+  where
+    left :
+        (q : Pool) (b : Bool) → is_pool q (pool_of (stored_state s) d) ≡ b →
+        (if b then 1 else 0) + count_served (stored_state s) q ds ≤ item_room_in s.pools q →
+        count_served (stored_state s) q ds ≤ item_room_in (change_pool s.pools pool (enqueue_in w)) q
+    left q true e l =
+        let k : item_room_in s.pools q ≤ item_room_in (change_pool s.pools pool (enqueue_in w)) q + 1 = room_enqueued s.pools pool w q in omega arith
+    left q false e l =
+        let k : item_room_in (change_pool s.pools pool (enqueue_in w)) q ≡ item_room_in s.pools q =
+        room_elsewhere s.pools pool q (enqueue_in w) (ap (λ p. is_pool p q) own ∙ is_pool-sym (pool_of (stored_state s) d) q ∙ e) in omega arith

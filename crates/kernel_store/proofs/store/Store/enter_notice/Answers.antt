@@ -1,0 +1,23 @@
+use Rattle.std.proofs.Common.{◌≡◌, ap, sym, ◌∙◌}
+use Rattle.kernel_records.specs.declared.record.NoticeStage.TheVariants as stage
+use Rattle.kernel_records.specs.Words.{is_given_notice_as, notice_at}
+use Rattle.pool_agreement.proofs.Noticing.{agrees_enter_notice}
+use Rattle.kernel_store.specs.Stored.{stored_state}
+use Rattle.kernel_store.proofs.Acts.{entered_notice, no_notice_changed}
+use Rattle.kernel_store.proofs.store.Store.enter_notice.Goals as goal
+
+pub invariant_of-self : goal.invariant_of-self
+invariant_of-self c = rw c.enter.ensures.list (agrees_enter_notice c.self.invariant c.args.n c.args.t.0)
+
+pub returns-in_default-clause-none : goal.returns-in_default-clause-none
+returns-in_default-clause-none c =
+    let notices = c.self.inside.notices in
+    let kept : c.enter.new.self.list ≡ notices.list =
+    c.enter.ensures.list
+    ∙ ap (λ ns. record notices.list { notices = ns })
+    (no_notice_changed (is_given_notice_as c.args.n c.args.t.0) (notice_at (stage.Entered c.args.t)) notices.list.notices (sym c.in_default.ensures.before)) in
+    rw kept (ap stored_state c.self.view_is)
+
+pub invariant_of-self-2 : goal.invariant_of-self-2
+invariant_of-self-2 c =
+    rw c.enter-2.ensures (rw c.enter.ensures.list (entered_notice c.self.invariant c.self.view_is c.args.n c.args.t.0 c.requires))

@@ -1,0 +1,16 @@
+use Rattle.std.proofs.Common.{◌≡◌, None, is_ok, ap, ◌∙◌}
+use Rattle.kernel_records.specs.Words.{first_refusal, set_param_tests, unless_refused_with}
+use Rattle.written_kernel.specs.Words.{door_of}
+use Rattle.pool_agreement.proofs.Queues.{agrees_param}
+use Rattle.kernel_store.specs.contracts.store.Store.{the_view}
+use Rattle.kernel_store.specs.Stored.{StoreValue, stored_state}
+use Rattle.kernel_store.proofs.Acts.{holds_ok}
+use Rattle.kernel_store.proofs.store.Store.set_param.Goals as goal
+
+pub invariant_of-self : goal.invariant_of-self
+invariant_of-self c =
+    let allowed : first_refusal (set_param_tests c.args.p.0 (door_of (stored_state (the_view c.self.inside)) c.args.d) c.args.param c.args.value) ≡ None =
+    ap (λ (s : StoreValue). first_refusal (set_param_tests c.args.p.0 (door_of (stored_state s) c.args.d) c.args.param c.args.value)) c.self.view_is
+    ∙ c.requires in
+    rw (holds_ok c.setparam.result (ap is_ok (c.setparam.ensures.result ∙ ap unless_refused_with allowed)) c.setparam.ensures.ok)
+    (agrees_param c.self.invariant c.args.d c.args.param c.args.value)
