@@ -3,7 +3,7 @@ use Rattle.std.proofs.Common.{◌≡◌, ℕ, suc, ◌+◌, ◌≤◌, ◌&&◌,
 use Rattle.std.specs.List.{cons_option}
 use Rattle.std.proofs.lemmas.Bool.{ltb-false, or_parts}
 use Rattle.std.proofs.lemmas.List.{length-map}
-use Rattle.written_kernel.specs.Types.{Attrs, Call, CallStage, Door, Errno, Fd, Item, Name, Obj, Parked, Pass, PathId, Request, Thread, ThreadState, Waiting, Param}
+use Rattle.written_kernel.specs.Types.{Attrs, Call, CallStage, Door, Errno, Fd, Item, Name, Notice, Obj, Parked, Pass, PathId, Request, Thread, ThreadState, Waiting, Param}
 use Rattle.dk_base.specs.declared.error.Errno.TheVariants.{EBADF, E2BIG, EMFILE, ENFILE, ENOBUFS, ENOTSUP}
 use Rattle.dk_base.specs.declared.object.Item.TheVariants as item
 use Rattle.dk_base.specs.declared.request.Request.TheVariants as request
@@ -11,12 +11,12 @@ use Rattle.dk_base.specs.declared.answer.Answer.TheVariants as answer
 use Rattle.kernel_records.specs.declared.record.ThreadState.TheVariants as is
 use Rattle.kernel_records.specs.declared.record.CallStage.TheVariants as stage
 use Rattle.dk_base.specs.ByNumber.{at_number}
-use Rattle.kernel_records.specs.Words.{CallTree, ProcessTable, at_stage, change_first, change_thread, change_thread_in, first_refusal, idle_thread, insert_row, interruption, is_client_call_of, is_given_as, is_last, is_live_call, is_queued_as, is_to_collect_as, left_call, new_descriptors, object_passed, objects_passed, process_end, return_call, revocation, revoked_door, thread_at, thread_at_state, thread_end, thread_in_invocation, thread_outside, tid, unbind_thread, with_owner_ended, without_arguments_at, Leaving, Test, change_door, change_door_in, refused_where, with_param, has_refused_size, has_too_many, is_valid_in, refuses_descriptors_in}
-use Rattle.written_kernel.specs.Words.{ActResult, StandsFor, State, accept, accept_call, act, attach, await, await_name, begin_call, call, call_tests, client_call, collect, collect_answer, collect_answer_in, create, door_named, effect, enter, exit, fail_begin, find_call, fail_return, give_one, go_on, has_invalid_door, has_lost_door, has_room, is_live_process, kill, leave, leave_process, leave_thread, name_of, new_call, no_act, now, object_at, objects_collected_in, open_path, pass_tests, pick, pool_of, process_of, refusal_of, refused_act, return, return_parked, return_tests, return_unbound, revoke, settle, state_of, table_of, tables_after_collect, tables_after_pass, tables_with, unless_refused, with_state, close, dup, detach, set_parameter, door_at, door_of, pool_tests}
+use Rattle.kernel_records.specs.Words.{CallTree, NoticeList, ProcessTable, at_stage, change_first, change_thread, change_thread_in, end_notice, enter_notice, first_refusal, idle_thread, insert_row, interruption, is_client_call_of, is_given_as, is_given_notice_as, is_last, is_live_call, is_queued_as, is_to_collect_as, left_call, new_descriptors, object_passed, objects_passed, process_end, return_call, revocation, revoked_door, thread_at, thread_at_state, thread_end, thread_in_invocation, thread_outside, tid, unbind_thread, with_owner_ended, without_arguments_at, Leaving, Test, change_door, change_door_in, refused_where, with_param, has_refused_size, has_too_many, is_valid_in, refuses_descriptors_in}
+use Rattle.written_kernel.specs.Words.{ActResult, StandsFor, State, accept, accept_call, accept_notice, act, attach, await, await_name, begin_call, call, call_tests, client_call, collect, collect_answer, collect_answer_in, create, door_named, effect, enter, exit, fail_begin, find_call, find_notice, fail_return, give_one, go_on, has_invalid_door, has_lost_door, has_room, is_due, is_live_process, kill, leave, leave_process, leave_thread, name_of, new_call, no_act, now, object_at, objects_collected_in, open_path, pass_tests, pick, pool_of, process_of, refusal_of, refused_act, return, return_parked, return_tests, return_unbound, revoke, settle, state_of, table_of, tables_after_collect, tables_after_pass, tables_with, unless_refused, with_state, close, dup, detach, set_parameter, door_at, door_of, pool_tests}
 use Rattle.written_kernel.proofs.Lists.{length-with_at_number}
 use Rattle.written_kernel.proofs.CallLists.{IsOver, left_call-over}
 use Rattle.written_kernel.proofs.Leaving.{calls-leave, threads-leave, threads_of-leave_process}
-use Rattle.written_kernel.proofs.Settling.{settle-all}
+use Rattle.written_kernel.proofs.Settling.{settle-all, with_notice_of}
 use Rattle.kernel_core.specs.Within.{IsSmallStage, IsSmallCall, AreSmall, IsSmall}
 
 pub record Grows (k : ℕ) (m n : State) : Type 0 where
@@ -323,6 +323,11 @@ bound_otherwise-grows : (k : ℕ) (m n : State) (bindings : List (Option ℕ)) �
 bound_otherwise-grows k m n bindings g =
     record { threads = g.threads; calls = g.calls; doors = g.doors; calls_made = g.calls_made; events = g.events; small = g.small }
 
+-- nor does it count what notices there are
+noticed_otherwise-grows : (k : ℕ) (m n : State) (list : NoticeList) → Grows k m n → Grows k m (record n { notice_list = list })
+noticed_otherwise-grows k m n list g =
+    record { threads = g.threads; calls = g.calls; doors = g.doors; calls_made = g.calls_made; events = g.events; small = g.small }
+
 return-tidy :
     (m : State) (t p : ℕ) (bytes : List ℕ) (pass : List Pass) → first_refusal (return_tests m t p bytes pass) ≡ None →
     IsTidy m (return m t p bytes pass)
@@ -331,10 +336,18 @@ return-tidy m t p bytes pass e = go (has_invalid_door m t)
     go : (b : Bool) → IsTidy m (if b then return_unbound m t p bytes pass else return_parked m t p bytes pass)
     go true =
         record {
-          grows = bound_otherwise-grows 1 m _ (unbind_thread m.bindings t) (returned-grows m t p bytes pass thread_outside e);
+          grows =
+              noticed_otherwise-grows 1 m _ (end_notice m.notice_list t)
+              (bound_otherwise-grows 1 m _ (unbind_thread m.bindings t) (returned-grows m t p bytes pass thread_outside e));
           small = λ h. tt;
         }
-    go false = record { grows = returned-grows m t p bytes pass (idle_thread (now m)) e; small = λ h. tt }
+    go false =
+        record {
+          grows =
+              noticed_otherwise-grows 1 m _ (end_notice m.notice_list t)
+              (returned-grows m t p bytes pass (idle_thread (now m)) e);
+          small = λ h. tt;
+        }
 
 -- each object gets one descriptor
 length-new_descriptors : (table : List (Option Obj)) (objects : List Obj) → length (new_descriptors table objects) ≡ length objects
@@ -369,7 +382,17 @@ accept-tidy m t p (item.Call c) = go (find_call m (is_given_as c t)) refl
     go : (o : Option Call) → find_call m (is_given_as c t) ≡ o → IsTidy m (accept_call m t p c o)
     go None e = no_act-tidy m
     go (Some r) e = begins r (has_room m p r.objects) (find-small (is_given_as c t) m.call_tree.calls r e)
-accept-tidy m t p (item.Notice n) = no_act-tidy m
+accept-tidy m t p (item.Notice n) = go (find_notice m (is_given_notice_as n t))
+  where
+    go : (o : Option Notice) → IsTidy m (accept_notice m t n o)
+    go None = no_act-tidy m
+    go (Some x) =
+        record {
+          grows =
+              noticed_otherwise-grows 1 m _ (enter_notice m.notice_list n t)
+              (thread-grows 1 m t (thread_in_invocation (item.Notice n)));
+          small = λ h. tt;
+        }
 
 collect_answer-small : (m : State) (p c : ℕ) → AreSmall m.call_tree.calls → IsSmall (collect_answer_in m p (find_call m (is_to_collect_as c)))
 collect_answer-small m p c h = go (find_call m (is_to_collect_as c)) refl
@@ -551,8 +574,11 @@ give_one-grows m (item.Notice n) u =
     }
 
 pub settle-grows : (before m : State) → Grows 0 m (settle before m)
-settle-grows before m = settle-all (Grows 0 m) fails gives starts before m (grows_same 0 m)
+settle-grows before m = settle-all (Grows 0 m) before makes fails gives starts m (grows_same 0 m)
   where
+    makes : (n : State) (d : ℕ) → is_due before n d (door_of n d) ≡ true → Grows 0 m n → Grows 0 m (with_notice_of n d)
+    makes n d e g = noticed_otherwise-grows 0 m n (with_notice_of n d).notice_list g
+
     fails : (n : State) (t : ℕ) → has_lost_door n t ≡ true → Grows 0 m n → Grows 0 m (fail_return n t)
     fails n t e g = grows_then 0 0 0 m n (fail_return n t) (omega arith) g (bound-grows n t)
 

@@ -1,6 +1,6 @@
 -- A kernel's events keep that what it keeps comes from a written state, and a refused entry changes nothing else.
-use Rattle.std.proofs.Common.{◌≡◌, ℕ, ◌+◌, ◌<◌, ◌≤◌, zero, suc, Bool, true, false, cond, not, List, [], ◌∷◌, Option, Some, None, Result, Ok, Err, IfOk, OnOk, OnErr, filter, find, slice_get, length, refl, subst, sym, ap, ◌∙◌, arith, All, is_some}
-use Rattle.written_kernel.specs.Types.{Call, Door, Errno, NoMemory, Process, Request, Stepped, Thread, Tid}
+use Rattle.std.proofs.Common.{◌≡◌, ℕ, ◌+◌, ◌<◌, zero, suc, Bool, true, false, cond, not, List, [], ◌∷◌, Option, Some, None, Result, Ok, Err, IfOk, OnOk, OnErr, filter, find, slice_get, length, refl, subst, sym, ap, ◌∙◌, arith, All, is_some}
+use Rattle.written_kernel.specs.Types.{Call, Door, Errno, NoMemory, Notice, Process, Request, Stepped, Thread, Tid}
 use Rattle.dk_base.specs.declared.answer.Answer.TheVariants.{Failure}
 use Rattle.dk_base.specs.declared.limits.TheConstants.{THREADS_MAX}
 use Rattle.written_kernel.specs.Words.{IsOpening, IsStep, MayTurn, StandsFor, State, act, effect, forget, has_lost_door, opening, pick, pool_of, process_of, refusal_of, step, unless_refused, waiting_items, with_event_counted, with_new_thread, is_live_process, door_of, thread_of}
@@ -8,23 +8,25 @@ use Rattle.written_kernel.specs.Opening.IsOpening.{processes, thread}
 use Rattle.written_kernel.proofs.Forget.{IsStep-stands_for, act-forget, is_runnable-forget, refusal_of-forget, waiting_items-forget}
 use Rattle.dk_base.specs.ByNumber.{at_number}
 use Rattle.std.proofs.lemmas.Bool.Decides.{nat_tests}
-use Rattle.kernel_records.specs.Words.{is_live_call, is_live_in, is_live_stage, is_owned_by, is_valid_door, process_in}
+use Rattle.kernel_records.specs.Words.{is_kept_notice, is_live_call, is_live_in, is_live_stage, is_owned_by, is_valid_door, process_in}
 use Rattle.written_kernel.proofs.Lists.{numbered_there}
 use Rattle.written_kernel.proofs.Opening.{IsDeclaredIn, forget-opening, opened, opening_threads}
 use Rattle.written_kernel.proofs.Steps.{events-step}
-use Rattle.kernel_invariant.specs.Core.{number_in}
+use Rattle.kernel_invariant.specs.Core.{notice_in, noticed_in, number_in}
 use Rattle.kernel_invariant.specs.Events.{Keeps, may_lose_door}
-use Rattle.kernel_invariant.specs.Invariant.{IsConsistent, IsInOrder}
-use Rattle.kernel_invariant.specs.Records.{has_number, owner_in}
+use Rattle.kernel_invariant.specs.Invariant.{AreNoticesInOrder, IsConsistent, IsInOrder}
+use Rattle.kernel_invariant.specs.Records.{has_notice_number, has_number, notice_of, owner_in}
 use Rattle.kernel_store.specs.Words.{ArePlaced}
-use Rattle.kernel_invariant.proofs.Calls.{find-before}
 use Rattle.kernel_invariant.proofs.Events.{step_keeps}
 use Rattle.kernel_invariant.proofs.Openings.{opening_keeps}
 use Rattle.kernel_invariant.proofs.Refusals.{refused_gives}
 use Rattle.kernel_invariant.proofs.Settling.{no_lost_door}
+use Rattle.kernel_invariant.proofs.Steps.{act_does}
 use Rattle.kernel_core.specs.declared.runnable.Runnable.{Runnable}
 use Rattle.kernel_core.specs.Kept.{IsKept}
+use Rattle.kernel_core.specs.Watched.{IsReadyForNotices}
 use Rattle.kernel_core.specs.Within.{IsWithin}
+use Rattle.kernel_core.proofs.Watching.{act_keeps_doors, kept_keeps_doors}
 use Rattle.kernel_core.specs.Woken.{IsCurrent, runnables}
 
 -- a turn of what is kept is a turn of what it stands for
@@ -208,7 +210,21 @@ found_in_order (x ∷ rs) n (suc i) r h e =
     later (x ∷ rs) n zero r h e = grind (arith, nat_tests, h.0)
     later (x ∷ rs) n (suc i) r h e = let more = later rs (n + 1) i r h.1 e in omega (arith, more)
 
--- processes, doors and calls are where threads, bindings and calls say
+-- a notice of such a list too
+noticed_in_order :
+    (ns : List Notice) (low i : ℕ) (n : Notice) → AreNoticesInOrder low ns → slice_get ns i ≡ Some n →
+    find (has_notice_number n.number) ns ≡ Some n
+noticed_in_order [] low i n h e = grind arith
+noticed_in_order (x ∷ ns) low zero n h e = grind (arith, nat_tests)
+noticed_in_order (x ∷ ns) low (suc i) n h e =
+    grind (arith, nat_tests, noticed_in_order ns (low + 1) i n h.1, later ns (low + 1) i n h.1, h.0)
+  where
+    later : (ns : List Notice) (low i : ℕ) (n : Notice) → AreNoticesInOrder low ns → slice_get ns i ≡ Some n → low < n.number
+    later [] low i n h e = grind arith
+    later (x ∷ ns) low zero n h e = grind (arith, nat_tests, h.0)
+    later (x ∷ ns) low (suc i) n h e = let more = later ns (low + 1) i n h.1 e in omega (arith, more)
+
+-- processes and doors are where threads, bindings, calls and notices say
 
 module _ (m : State) (h : IsConsistent m) where
   thread_is : (t : ℕ) (x : Thread) → thread_of m t ≡ Some x → number_in (thread_of m t) ≡ Some x.number
@@ -231,6 +247,12 @@ module _ (m : State) (h : IsConsistent m) where
   queued_is : (i : ℕ) (r : Call) → slice_get m.call_tree.calls i ≡ Some r → is_some (door_of m r.door) ≡ true
   queued_is i r e = h.coherent.at_doors.door_there r.number r (found_in_order m.call_tree.calls 0 i r h.in_order e)
 
+  noticed_is : (i : ℕ) (n : Notice) → slice_get m.notice_list.notices i ≡ Some n → is_some (door_of m n.door) ≡ true
+  noticed_is i n e =
+      let found : notice_of m n.number ≡ Some n = noticed_in_order m.notice_list.notices 0 i n h.notices_in_order e in
+      ap (λ o. is_some (door_of m (noticed_in o))) (sym found)
+      ∙ h.coherent.notices_at_doors.notice_door n.number (ap (λ o. is_some (notice_in o)) found)
+
   places : ArePlaced m
   places =
       record {
@@ -241,31 +263,50 @@ module _ (m : State) (h : IsConsistent m) where
         bound_private = λ t d e. h.coherent.bindings.bound_private t d e;
         bound_own = λ t d e. own_is (process_of m t) d (h.coherent.bindings.bound_own t d e);
         queued_door = λ i r e q. queued_is i r e;
+        notice_door = noticed_is;
       }
 
--- a call that is kept is one of those that it is kept of
-kept_call : (rs : List Call) (i : ℕ) (r : Call) → slice_get (filter is_live_call rs) i ≡ Some r → (k : ℕ) × (slice_get rs k ≡ Some r)
-kept_call [] i r e = grind arith
-kept_call (x ∷ rs) i r e = go (is_live_call x) refl (λ j f. kept_call rs j r f) i e
+-- what is kept of a list is in the list
+kept_of :
+    {X : Type 0} (p : X → Bool) (rs : List X) (i : ℕ) (r : X) → slice_get (filter p rs) i ≡ Some r → (k : ℕ) × (slice_get rs k ≡ Some r)
+kept_of p [] i r e = grind arith
+kept_of p (x ∷ rs) i r e = go (p x) (λ j f. kept_of p rs j r f) i e
   where
     go :
-        (b : Bool) → is_live_call x ≡ b → ((j : ℕ) → slice_get (filter is_live_call rs) j ≡ Some r → (k : ℕ) × (slice_get rs k ≡ Some r)) →
-        (i : ℕ) → slice_get (cond b (x ∷ filter is_live_call rs) (filter is_live_call rs)) i ≡ Some r → (k : ℕ) × (slice_get (x ∷ rs) k ≡ Some r)
-    go true l ih zero f = (0, f)
-    go true l ih (suc j) f = let more = ih j f in (suc more.0, more.1)
-    go false l ih j f = let more = ih j f in (suc more.0, more.1)
+        (b : Bool) → ((j : ℕ) → slice_get (filter p rs) j ≡ Some r → (k : ℕ) × (slice_get rs k ≡ Some r)) →
+        (i : ℕ) → slice_get (cond b (x ∷ filter p rs) (filter p rs)) i ≡ Some r → (k : ℕ) × (slice_get (x ∷ rs) k ≡ Some r)
+    go true ih zero f = (0, f)
+    go true ih (suc j) f = let more = ih j f in (suc more.0, more.1)
+    go false ih j f = let more = ih j f in (suc more.0, more.1)
+
+placed-forget : (n : State) → ArePlaced n → ArePlaced (forget n)
+placed-forget n h =
+    record {
+      thread_number = h.thread_number;
+      process_there = h.process_there;
+      owner_there = h.owner_there;
+      door_number = h.door_number;
+      bound_private = h.bound_private;
+      bound_own = h.bound_own;
+      queued_door = λ i r e q. let at = kept_of is_live_call n.call_tree.calls i r e in h.queued_door at.0 r at.1 q;
+      notice_door = λ i x e. let at = kept_of (is_kept_notice n.doors) n.notice_list.notices i x e in h.notice_door at.0 x at.1;
+    }
 
 pub placed : (kept m : State) → kept ≡ m → IsKept kept → ArePlaced m
-placed kept m same k = subst ArePlaced (sym k.stands ∙ same) (forgotten k.written (places k.written k.invariant.consistent))
-  where
-    forgotten : (n : State) → ArePlaced n → ArePlaced (forget n)
-    forgotten n h =
-        record {
-          thread_number = h.thread_number;
-          process_there = h.process_there;
-          owner_there = h.owner_there;
-          door_number = h.door_number;
-          bound_private = h.bound_private;
-          bound_own = h.bound_own;
-          queued_door = λ i r e q. let at = kept_call n.call_tree.calls i r e in h.queued_door at.0 r at.1 q;
-        }
+placed kept m same k = subst ArePlaced (sym k.stands ∙ same) (placed-forget k.written (places k.written k.invariant.consistent))
+
+-- what the notices after the act of a turn stand on
+pub noticing :
+    (kept m : State) (t : ℕ) (q : Option Request) → kept ≡ m → IsKept kept → MayTurn m t q →
+    IsReadyForNotices kept (forget (act kept t q).state)
+noticing kept m t q same k may =
+    let w = may_stands k.written t q (subst (λ n. MayTurn n t q) k.stands (subst (λ n. MayTurn n t q) (sym same) may)) in
+    let alike : forget (act kept t q).state ≡ forget (act k.written t q).state =
+    ap (λ n. forget (act n t q).state) k.stands ∙ (act-forget k.written t q).state in
+    let n = (act k.written t q).state in
+    record {
+      doors =
+          kept_keeps_doors k.written n kept (forget (act kept t q).state) k.stands alike
+          (act_keeps_doors k.written t q k.invariant (step_keeps k.written t q k.invariant w));
+      placed = subst ArePlaced (sym alike) (placed-forget n (places n (act_does k.written t q k.invariant.consistent w).consistent));
+    }

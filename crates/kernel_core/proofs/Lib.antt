@@ -7,3 +7,7 @@ pub mod Kept
 pub mod Tests
 pub mod Counted
 pub mod Collected
+pub mod Due
+pub mod Watching
+pub mod Making
+pub mod Acted

@@ -1,8 +1,8 @@
 -- What a step keeps within.
 use Rattle.std.proofs.Common.{◌≡◌, ℕ, ◌<◌, ◌&&◌, true, false, true≢false, not, length, List, [], ◌∷◌, Option, None, refl, Result, Ok, Err, IfOk, OnErr, subst, sym, ap, ◌∙◌, arith}
-use Rattle.written_kernel.specs.Types.{Item, NoMemory, Request, Stepped, Tid}
-use Rattle.dk_base.specs.Words.{RoomValue}
+use Rattle.written_kernel.specs.Types.{Item, NoMemory, Request, Stepped}
 use Rattle.kernel_core.specs.declared.event.Parts.{Parts}
+use Rattle.kernel_core.specs.declared.event.Taken.{Taken}
 use Rattle.kernel_store.specs.Words.{StoreValue}
 use Rattle.kernel_store.specs.Words.{stored_state}
 use Rattle.kernel_core.specs.Woken.{HasListRoom, IsCurrent, IsReady, IsReadyToSettle}
@@ -15,14 +15,14 @@ use Rattle.written_kernel.proofs.Failing.{doors-fail_returns}
 use Rattle.pool_agreement.specs.Words.{first_common_of, is_this}
 use Rattle.pool_agreement.proofs.Settling.{first_common, no_first_common}
 use Rattle.written_kernel.specs.Words.{IsStep, StandsFor, State, act, enter, fail_returns, forget, give, give_one, go_on, has_first_common_door, no_process, process_of, settle, state_of, step, with_event_counted, with_new_process, with_processes, woken_threads}
-use Rattle.kernel_core.specs.Kept.{HasLiveCalls}
+use Rattle.kernel_core.specs.Kept.{HasNothingPast}
 use Rattle.kernel_core.specs.Numbers.{HasNumbersLeft}
 use Rattle.kernel_core.specs.Within.{IsWithin, IsSmall}
 use Rattle.written_kernel.proofs.Lists.{same_length}
 use Rattle.written_kernel.proofs.Settling.{give-all}
 use Rattle.written_kernel.proofs.Steps.{act-keeps, process_identity}
 use Rattle.written_kernel.proofs.Forget.{IsStep-stands_for, forget-forget, settle-forget, woken_threads-forget}
-use Rattle.kernel_core.proofs.Live.{live_state, settle_live}
+use Rattle.kernel_core.proofs.Live.{live_state, settle_past}
 use Rattle.kernel_core.proofs.Grows.{Grows, act-tidy, filter-small, grows_kept, settle-grows}
 
 pub step-within : (m : State) (t : ℕ) (r : Option Request) → IsWithin m → m.events < 1000000 → IsWithin (forget (step m t r).state)
@@ -84,7 +84,7 @@ woken_alike m x y e = sym (woken_threads-forget m x) ∙ ap (woken_threads (forg
 
 -- an act and what follows it are a step
 pub stepped :
-    (m n new : State) (t : ℕ) (r : Option Request) (s : Stepped) → HasLiveCalls m → StandsFor n (act m t r).state →
+    (m n new : State) (t : ℕ) (r : Option Request) (s : Stepped) → HasNothingPast m → StandsFor n (act m t r).state →
     s.answer ≡ (act m t r).answer → new ≡ forget (with_event_counted (settle m n)) →
     s.woken ≡ woken_threads m (with_event_counted (settle m n)) → IsStep (step m t r) new s
 unfolding step
@@ -106,16 +106,16 @@ stepped m n new t r s h e answer state woken_is =
 
 -- what settles is kept whole
 pub settled_kept :
-    (before m n : State) → HasLiveCalls m → n ≡ with_event_counted (settle before m) →
+    (before m n : State) → HasNothingPast m → n ≡ with_event_counted (settle before m) →
     n ≡ forget (with_event_counted (settle before m))
-settled_kept before m n h e = e ∙ ap with_event_counted (sym (live_state (settle before m) (settle_live before m h)))
+settled_kept before m n h e = e ∙ ap with_event_counted (sym (live_state (settle before m) (settle_past before m h)))
 
 -- what was taken before an event suffices after its act and what follows it
 pub ready_after :
-    (p : Parts) (s : StoreValue) (woken : RoomValue Tid) → IsReady p woken →
+    (p : Parts) (s : StoreValue) (taken : Taken) → IsReady p taken →
     length s.processes.threads ≡ length p.store.processes.threads → IsCurrent p.runnable (stored_state p.store) →
-    IsReadyToSettle (record { store = s; runnable = p.runnable }) woken
-ready_after p s woken h g k =
+    IsReadyToSettle (record { store = s; runnable = p.runnable }) taken.woken
+ready_after p s taken h g k =
     record {
       woken = h.woken;
       woken_room = omega (arith, h.woken_room, g);
@@ -130,6 +130,10 @@ pub processes_after :
 processes_after m n t r h =
     ap (λ (k : State). length k.process_table.processes) h
     ∙ same_length process_identity (act m t r).state.process_table.processes m.process_table.processes (act-keeps m t r).processes
+
+-- and as many events
+pub events_after : (m n : State) (t : ℕ) (r : Option Request) → StandsFor n (act m t r).state → n.events ≡ m.events
+events_after m n t r h = (grows_kept 1 m (act m t r).state n (act-tidy m t r).grows h).events
 
 -- as many threads and events as before, until this event is counted
 pub record IsSettled (m s : State) : Type 0 where
@@ -181,19 +185,14 @@ none_first_left : (m : State) (t : ℕ) (r : Request) → is_leaving r ≡ true 
 none_first_left m t (request.Create entry cookie attrs) l = absurd (true≢false (sym l))
 none_first_left m t r l = refl
 
-first_given : (before m : State) (p : ℕ) → has_first_common_door before (give (fail_returns m)) p ≡ has_first_common_door before (give m) p
-first_given before m p =
-    ap (λ doors. not (has_common_door before.doors p) && has_common_door doors p) (doors-given m ∙ sym (doors-give m))
+-- nor does the making of notices
+pub first_made :
+    (before k n : State) → k.doors ≡ n.doors → (p : ℕ) →
+    has_first_common_door before (give (fail_returns k)) p ≡ has_first_common_door before (give n) p
+first_made before k n e p =
+    ap (λ doors. not (has_common_door before.doors p) && has_common_door doors p) (doors-given k ∙ e ∙ sym (doors-give n))
 
-pub no_first_left :
+pub none_first_entered :
     (m n : State) (t : ℕ) (r : Request) → is_leaving r ≡ true → StandsFor n (enter m t (process_of m t) r).state →
-    (p : ℕ) → has_first_common_door m (give (fail_returns n)) p ≡ false
-no_first_left m n t r l h p =
-    first_given m n p
-    ∙ first_entered m n t r (first_common_of m t r) h refl p
-    ∙ ap (is_this p) (none_first_left m t r l)
-
-pub no_first_gone_on :
-    (m n : State) (t : ℕ) → StandsFor n (go_on m t (process_of m t) (state_of m t)).state →
-    (p : ℕ) → has_first_common_door m (give (fail_returns n)) p ≡ false
-no_first_gone_on m n t h p = first_given m n p ∙ first_gone_on m n t h p
+    (p : ℕ) → has_first_common_door m (give n) p ≡ false
+none_first_entered m n t r l h p = first_entered m n t r (first_common_of m t r) h refl p ∙ ap (is_this p) (none_first_left m t r l)

@@ -2,6 +2,7 @@
 use Rattle.std.specs.Prelude.{◌≡◌}
 use Rattle.written_kernel.specs.Words.{IsOpening, StandsFor, State}
 use Rattle.call_tree.specs.Words.{AreLive}
+use Rattle.pool_agreement.specs.Words.{AreKept}
 use Rattle.kernel_invariant.specs.Invariant.{Invariant}
 
 pub record IsKept (kept : State) : Type 0 where
@@ -10,6 +11,7 @@ pub record IsKept (kept : State) : Type 0 where
   pub invariant : Invariant written
   pub opening : kept.events ≡ 0 → IsOpening kept
 
--- the calls are live
-abbrev pub HasLiveCalls : State → Type 0
-HasLiveCalls m = AreLive m.call_tree.calls
+-- the calls are live, and no notice is past that no rule asks for again
+pub record HasNothingPast (m : State) : Type 0 where
+  pub calls : AreLive m.call_tree.calls
+  pub notices : AreKept m.doors m.notice_list.notices

@@ -1,5 +1,6 @@
 pub mod Kept
 pub mod Numbers
+pub mod Watched
 pub mod Within
 pub mod Woken
 pub mod Handed

@@ -1,10 +1,13 @@
 -- Which threads can take a turn.
-use Rattle.std.specs.Prelude.{ℕ, ◌≡◌, ◌≤◌, ◌+◌, length, ◌++◌, List, [], ◌∷◌, Bool, Option, zero, suc}
+use Rattle.std.specs.Prelude.{ℕ, ◌≡◌, ◌≤◌, ◌+◌, length, ◌++◌, List, [], ◌∷◌, Bool, zero, suc}
 use Rattle.dk_base.specs.declared.number.Tid.{Tid}
 use Rattle.dk_base.specs.Words.{RoomValue}
 use Rattle.kernel_core.specs.declared.event.Parts.{Parts}
+use Rattle.kernel_core.specs.declared.event.Taken.{Taken}
 use Rattle.kernel_core.specs.declared.runnable.Runnable.{Runnable}
 use Rattle.written_kernel.specs.Words.{State, is_runnable}
+use Rattle.kernel_store.specs.Words.{HasRoomForNotices, IsAgreed, stored_state}
+use Rattle.kernel_core.specs.Watched.{watched}
 
 -- of each of the threads 1 to n whether it can take a turn
 abbrev pub runnables : State → ℕ → List Bool
@@ -22,9 +25,14 @@ pub record IsCurrent (r : Runnable) (m : State) : Type 0 where
   pub room : HasListRoom r (length m.process_table.threads)
 
 -- what was taken before an event suffices for what follows it
-pub record IsReady (parts : Parts) (list : RoomValue Tid) : Type 0 where
-  pub woken : list.items ≡ []
-  pub woken_room : length parts.store.processes.threads ≤ list.spare
+pub record IsReady (parts : Parts) (taken : Taken) : Type 0 where
+  pub woken : taken.woken.items ≡ []
+  pub woken_room : length parts.store.processes.threads ≤ taken.woken.spare
+  pub none : taken.had.items ≡ []
+  pub flags : length parts.store.processes.processes ≤ taken.had.spare
+  pub watched : taken.watched.items ≡ watched (stored_state parts.store)
+  pub notices : HasRoomForNotices parts.store taken.watched.items
+  pub agreed : IsAgreed parts.store
 
 -- the same once its act is done
 pub record IsReadyToSettle (parts : Parts) (list : RoomValue Tid) : Type 0 where
@@ -32,8 +40,3 @@ pub record IsReadyToSettle (parts : Parts) (list : RoomValue Tid) : Type 0 where
   pub woken_room : length parts.store.processes.threads ≤ list.spare
   pub listed : length parts.runnable.list.items ≡ length parts.store.processes.threads
   pub room : HasListRoom parts.runnable (length parts.store.processes.threads)
-
--- there is room for a flag of each process
-pub record HasFlags (parts : Parts) (list : RoomValue Bool) : Type 0 where
-  pub none : list.items ≡ []
-  pub room : length parts.store.processes.processes ≤ list.spare

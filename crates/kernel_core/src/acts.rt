@@ -1,12 +1,15 @@
 //! The act of a turn: an entry, unless it is refused, or the end of a wait.
-ghost use Rattle.std.specs.Prelude.{◌≡◌, ◌≤◌, [], None, false, length, true};
+ghost use Rattle.std.specs.Prelude.{◌≡◌, ◌+◌, ◌≤◌, ℕ, List, [], None, false, length, true};
 ghost use Rattle.kernel_records.specs.Words.{is_done, is_dormant, is_idle};
+ghost use Rattle.dk_base.specs.declared.request.Request.TheVariants as asks;
+ghost use Rattle.written_kernel.specs.Types.{Pass, Pool};
 ghost use Rattle.written_kernel.specs.Words.{StandsFor, effect, end_work, enter, go_on, is_running, now, process_of, refusal_of, state_of};
 ghost use Rattle.kernel_core.specs.Handed.{count_passed, objects_at_end};
-ghost use Rattle.kernel_core.specs.Kept.{HasLiveCalls};
+ghost use Rattle.kernel_core.specs.Kept.{HasNothingPast};
 ghost use Rattle.kernel_core.specs.Numbers.{HasNumbersLeft};
 ghost use Rattle.pool_agreement.specs.Words.{IsGivenOut, IsGivenOutBut, own_pool, pool_of_request};
 ghost use Rattle.kernel_invariant.specs.Events.{is_leaving};
+ghost use Rattle.server_pool.specs.Words.{item_room_in};
 ghost use Rattle.kernel_store.specs.Words.{ArePlaced, HasRoom, HasRoomToLeave, stored_state};
 
 use crate::binding::{bind, bind_refusal, bound_refusal, information_of_bound, unbind};
@@ -75,16 +78,9 @@ pub fn count_passed(request: &Request) -> usize
     }
 }
 
-/// What an entry of a thread that runs does where it is not refused, and no caller, thread or door leaves. What is passed goes
-/// into `objects`.
-fn staying_effect(
-    store: &mut Store,
-    alloc: Global,
-    t: Tid,
-    p: Pid,
-    request: Request,
-    objects: Room<Obj>,
-) -> Answer
+/// What an entry of a thread that runs does where it is not refused, no caller, thread or door leaves, and no invocation ends. What
+/// is passed goes into `objects`.
+fn plain_effect(store: &mut Store, t: Tid, p: Pid, request: Request, objects: Room<Obj>) -> Answer
     requires numbers { HasNumbersLeft (stored_state store.old) }
     requires room { HasRoom store.old (pool_of_request (stored_state store.old) t.0 request) }
     requires placed { ArePlaced (stored_state store.old) }
@@ -93,12 +89,15 @@ fn staying_effect(
     requires own { p.0 ≡ process_of (stored_state store.old) t.0 }
     requires allowed { refusal_of (stored_state store.old) t.0 p.0 request ≡ None }
     requires stays { is_leaving request ≡ false }
+    requires serves { (bytes : List ℕ) (pass : List Pass) → request ≡ asks.Return bytes pass → ⊥ }
     requires empty { objects.items ≡ [] }
     requires spare { count_passed request ≤ objects.spare }
     ensures state { stored_state store.new ≡ (effect (stored_state store.old) t.0 p.0 request).state }
     ensures answer { result ≡ (effect (stored_state store.old) t.0 p.0 request).answer }
     ensures given_out { IsGivenOut store.old.pools → IsGivenOutBut (pool_of_request (stored_state store.old) t.0 request) store.new.pools }
     ensures latest { store.new.latest ≤ now (stored_state store.old) }
+    ensures notice_room { store.old.notices.spare ≤ store.new.notices.spare }
+    ensures items { (pool : Pool) → item_room_in store.old.pools pool ≤ item_room_in store.new.pools pool + 1 }
 {
     match request {
         Request::Create {
@@ -112,9 +111,6 @@ fn staying_effect(
             pass,
             rsize,
         } => call(store, t, p, door, bytes, &pass, rsize, objects),
-        Request::Return { bytes, pass } => {
-            return_from(store, alloc, t, p, bytes, &pass, objects)
-        }
         Request::Bind { fd } => bind(store, t, p, fd),
         Request::Unbind => unbind(store, t),
         Request::Info { fd } => information(store, p, fd),
@@ -133,11 +129,47 @@ fn staying_effect(
     }
 }
 
+/// What an entry of a thread that runs does where it is not refused, and no caller, thread or door leaves. What is passed goes
+/// into `objects`.
+fn staying_effect(
+    store: &mut Store,
+    alloc: Global,
+    t: Tid,
+    p: Pid,
+    request: Request,
+    objects: Room<Obj>,
+) -> Answer
+    requires numbers { HasNumbersLeft (stored_state store.old) }
+    requires none_past { HasNothingPast (stored_state store.old) }
+    requires room { HasRoom store.old (pool_of_request (stored_state store.old) t.0 request) }
+    requires placed { ArePlaced (stored_state store.old) }
+    requires first { store.old.latest ≤ store.old.events }
+    requires running { is_running (stored_state store.old) t.0 ≡ true }
+    requires own { p.0 ≡ process_of (stored_state store.old) t.0 }
+    requires allowed { refusal_of (stored_state store.old) t.0 p.0 request ≡ None }
+    requires stays { is_leaving request ≡ false }
+    requires empty { objects.items ≡ [] }
+    requires spare { count_passed request ≤ objects.spare }
+    ensures state { StandsFor (stored_state store.new) (effect (stored_state store.old) t.0 p.0 request).state }
+    ensures answer { result ≡ (effect (stored_state store.old) t.0 p.0 request).answer }
+    ensures given_out { IsGivenOut store.old.pools → IsGivenOutBut (pool_of_request (stored_state store.old) t.0 request) store.new.pools }
+    ensures latest { store.new.latest ≤ now (stored_state store.old) }
+    ensures notice_room { store.old.notices.spare ≤ store.new.notices.spare }
+    ensures items { (pool : Pool) → item_room_in store.old.pools pool ≤ item_room_in store.new.pools pool + 1 }
+{
+    match request {
+        Request::Return { bytes, pass } => {
+            return_from(store, alloc, t, p, bytes, &pass, objects)
+        }
+        request => plain_effect(store, t, p, request, objects),
+    }
+}
+
 /// What an entry does by which callers, threads or doors leave, where it is not refused.
 fn leaving_effect(store: &mut Store, alloc: Global, t: Tid, p: Pid, request: Request) -> Answer
     requires leaves { is_leaving request ≡ true }
     requires numbers { HasNumbersLeft (stored_state store.old) }
-    requires live { HasLiveCalls (stored_state store.old) }
+    requires none_past { HasNothingPast (stored_state store.old) }
     requires room { HasRoomToLeave store.old }
     requires placed { ArePlaced (stored_state store.old) }
     requires first { store.old.latest ≤ store.old.events }
@@ -145,6 +177,8 @@ fn leaving_effect(store: &mut Store, alloc: Global, t: Tid, p: Pid, request: Req
     ensures state { StandsFor (stored_state store.new) (effect (stored_state store.old) t.0 p.0 request).state }
     ensures answer { result ≡ (effect (stored_state store.old) t.0 p.0 request).answer }
     ensures latest { store.new.latest ≤ now (stored_state store.old) }
+    ensures notice_room { store.old.notices.spare ≤ store.new.notices.spare }
+    ensures items { (pool : Pool) → item_room_in store.old.pools pool ≤ item_room_in store.new.pools pool + 1 }
 {
     match request {
         Request::Revoke { fd } => revoke(store, alloc, p, fd),
@@ -169,7 +203,7 @@ fn effect(
     requires leaving_room { is_leaving request ≡ true → HasRoomToLeave store.old }
     requires placed { ArePlaced (stored_state store.old) }
     requires first { store.old.latest ≤ store.old.events }
-    requires live { HasLiveCalls (stored_state store.old) }
+    requires none_past { HasNothingPast (stored_state store.old) }
     requires running { is_running (stored_state store.old) t.0 ≡ true }
     requires own { p.0 ≡ process_of (stored_state store.old) t.0 }
     requires allowed { refusal_of (stored_state store.old) t.0 p.0 request ≡ None }
@@ -179,6 +213,8 @@ fn effect(
     ensures answer { result ≡ (effect (stored_state store.old) t.0 p.0 request).answer }
     ensures given_out { is_leaving request ≡ false → IsGivenOut store.old.pools → IsGivenOutBut (pool_of_request (stored_state store.old) t.0 request) store.new.pools }
     ensures latest { store.new.latest ≤ now (stored_state store.old) }
+    ensures notice_room { store.old.notices.spare ≤ store.new.notices.spare }
+    ensures items { (pool : Pool) → item_room_in store.old.pools pool ≤ item_room_in store.new.pools pool + 1 }
 {
     if is_leaving(&request) {
         leaving_effect(store, alloc, t, p, request)
@@ -209,7 +245,7 @@ pub fn enter(
     requires room { HasRoom store.old (pool_of_request (stored_state store.old) t.0 request) }
     requires placed { ArePlaced (stored_state store.old) }
     requires first { store.old.latest ≤ store.old.events }
-    requires live { HasLiveCalls (stored_state store.old) }
+    requires none_past { HasNothingPast (stored_state store.old) }
     requires leaving_room { is_leaving request ≡ true → HasRoomToLeave store.old }
     requires running { is_running (stored_state store.old) t.0 ≡ true }
     requires empty { objects.items ≡ [] }
@@ -218,6 +254,8 @@ pub fn enter(
     ensures answer { result ≡ (enter (stored_state store.old) t.0 (process_of (stored_state store.old) t.0) request).answer }
     ensures given_out { is_leaving request ≡ false → IsGivenOut store.old.pools → IsGivenOutBut (pool_of_request (stored_state store.old) t.0 request) store.new.pools }
     ensures latest { store.new.latest ≤ now (stored_state store.old) }
+    ensures notice_room { store.old.notices.spare ≤ store.new.notices.spare }
+    ensures items { (pool : Pool) → item_room_in store.old.pools pool ≤ item_room_in store.new.pools pool + 1 }
 {
     let p = store.processes().process_of(t);
     match refusal_of(store, t, p, &request) {
@@ -235,6 +273,7 @@ fn end_work(store: &mut Store, alloc: Global, t: Tid) -> Answer
     ensures answer { result ≡ (end_work (stored_state store.old) t.0).answer }
     ensures pools { store.new.pools ≡ store.old.pools }
     ensures latest { store.new.latest ≡ store.old.latest }
+    ensures notice_room { store.old.notices.spare ≤ store.new.notices.spare }
 {
     store.turn(t, ThreadState::Running);
     Answer::Data {
@@ -248,13 +287,15 @@ pub fn go_on(store: &mut Store, alloc: Global, t: Tid, fds: Room<Fd>) -> Answer
     requires room { HasRoom store.old (own_pool (stored_state store.old) t.0) }
     requires placed { ArePlaced (stored_state store.old) }
     requires first { store.old.latest ≤ store.old.events }
-    requires live { HasLiveCalls (stored_state store.old) }
+    requires none_past { HasNothingPast (stored_state store.old) }
     requires empty { fds.items ≡ [] }
     requires spare { length (objects_at_end (stored_state store.old) t.0 (state_of (stored_state store.old) t.0)) ≤ fds.spare }
     ensures state { StandsFor (stored_state store.new) (go_on (stored_state store.old) t.0 (process_of (stored_state store.old) t.0) (state_of (stored_state store.old) t.0)).state }
     ensures answer { result ≡ (go_on (stored_state store.old) t.0 (process_of (stored_state store.old) t.0) (state_of (stored_state store.old) t.0)).answer }
     ensures given_out { IsGivenOut store.old.pools → IsGivenOutBut (own_pool (stored_state store.old) t.0) store.new.pools }
     ensures latest { store.new.latest ≤ now (stored_state store.old) }
+    ensures notice_room { store.old.notices.spare ≤ store.new.notices.spare }
+    ensures items { (pool : Pool) → item_room_in store.old.pools pool ≤ item_room_in store.new.pools pool + 1 }
 {
     let p = store.processes().process_of(t);
     match store.processes().state(t) {

@@ -1,8 +1,10 @@
 //! The acts of bindings.
-ghost use Rattle.std.specs.Prelude.{◌≡◌, None, true};
+ghost use Rattle.std.specs.Prelude.{◌≡◌, ◌+◌, ◌≤◌, None, true};
 ghost use Rattle.kernel_records.specs.Words.{first_refusal};
+ghost use Rattle.written_kernel.specs.Types.{Pool};
 ghost use Rattle.written_kernel.specs.Words.{bind, binding_tests, bound_tests, information_of_bound, is_running, unbind};
 ghost use Rattle.pool_agreement.specs.Words.{IsGivenOut};
+ghost use Rattle.server_pool.specs.Words.{item_room_in};
 ghost use Rattle.kernel_store.specs.Words.{stored_state};
 
 use crate::descriptors::door_named;
@@ -26,6 +28,8 @@ pub fn bind(store: &mut Store, t: Tid, p: Pid, fd: Fd) -> Answer
     ensures answer { result ≡ (bind (stored_state store.old) t.0 p.0 fd).answer }
     ensures given_out { IsGivenOut store.old.pools → IsGivenOut store.new.pools }
     ensures latest { store.new.latest ≡ store.old.latest }
+    ensures notice_room { store.old.notices.spare ≤ store.new.notices.spare }
+    ensures items { (pool : Pool) → item_room_in store.old.pools pool ≤ item_room_in store.new.pools pool + 1 }
 {
     let door = door_named(store, p, fd);
     store.bind(t, door);
@@ -50,6 +54,8 @@ pub fn unbind(store: &mut Store, t: Tid) -> Answer
     ensures answer { result ≡ (unbind (stored_state store.old) t.0).answer }
     ensures given_out { IsGivenOut store.old.pools → IsGivenOut store.new.pools }
     ensures latest { store.new.latest ≡ store.old.latest }
+    ensures notice_room { store.old.notices.spare ≤ store.new.notices.spare }
+    ensures items { (pool : Pool) → item_room_in store.old.pools pool ≤ item_room_in store.new.pools pool + 1 }
 {
     store.unbind(t);
     Answer::Done

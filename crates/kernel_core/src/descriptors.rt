@@ -1,6 +1,6 @@
 //! The acts of descriptors and names. What needs a free or an open descriptor, or a free path, has the condition that it is
 //! not refused.
-ghost use Rattle.std.specs.Prelude.{◌≡◌, None, false, is_none, true};
+ghost use Rattle.std.specs.Prelude.{◌≡◌, ◌≤◌, None, false, is_none, true};
 ghost use Rattle.kernel_records.specs.Words.{first_refusal, is_done, is_dormant, is_idle, lowest_free};
 ghost use Rattle.written_kernel.specs.Words.{attach, attach_tests, await, close, close_tests, detach, detach_tests, door_named, dup, dup_tests, end_await, insert_object, is_running, object_at, open_path, open_tests, state_of, table_of};
 ghost use Rattle.name_space.specs.Words.{HasRoomForName};
@@ -30,6 +30,7 @@ pub fn add_row(store: &mut Store, p: Pid, object: Obj) -> Answer
     ensures answer { result ≡ (insert_object (stored_state store.old) p.0 object).answer }
     ensures pools { store.new.pools ≡ store.old.pools }
     ensures latest { store.new.latest ≡ store.old.latest }
+    ensures notice_room { store.old.notices.spare ≤ store.new.notices.spare }
 {
     let fd = store.insert(p, object);
     Answer::NewFd { fd }
@@ -52,6 +53,7 @@ pub fn close(store: &mut Store, p: Pid, fd: Fd) -> Answer
     ensures answer { result ≡ (close (stored_state store.old) p.0 fd).answer }
     ensures pools { store.new.pools ≡ store.old.pools }
     ensures latest { store.new.latest ≡ store.old.latest }
+    ensures notice_room { store.old.notices.spare ≤ store.new.notices.spare }
 {
     store.close(p, fd);
     Answer::Done
@@ -77,6 +79,7 @@ pub fn dup(store: &mut Store, p: Pid, fd: Fd) -> Answer
     ensures answer { result ≡ (dup (stored_state store.old) p.0 fd).answer }
     ensures pools { store.new.pools ≡ store.old.pools }
     ensures latest { store.new.latest ≡ store.old.latest }
+    ensures notice_room { store.old.notices.spare ≤ store.new.notices.spare }
 {
     match store.object_at(p, fd) {
         Some(object) => add_row(store, p, object),
@@ -104,6 +107,7 @@ pub fn attach(store: &mut Store, p: Pid, fd: Fd, path: PathId) -> Answer
     ensures answer { result ≡ (attach (stored_state store.old) p.0 fd path).answer }
     ensures pools { store.new.pools ≡ store.old.pools }
     ensures latest { store.new.latest ≡ store.old.latest }
+    ensures notice_room { store.old.notices.spare ≤ store.new.notices.spare }
 {
     let door = door_named(store, p, fd);
     store.attach(path, door);
@@ -126,6 +130,7 @@ pub fn detach(store: &mut Store, path: PathId) -> Answer
     ensures answer { result ≡ (detach (stored_state store.old) path).answer }
     ensures pools { store.new.pools ≡ store.old.pools }
     ensures latest { store.new.latest ≡ store.old.latest }
+    ensures notice_room { store.old.notices.spare ≤ store.new.notices.spare }
 {
     store.detach(path);
     Answer::Done
@@ -151,6 +156,7 @@ pub fn open_path(store: &mut Store, p: Pid, path: PathId) -> Answer
     ensures answer { result ≡ (open_path (stored_state store.old) p.0 path).answer }
     ensures pools { store.new.pools ≡ store.old.pools }
     ensures latest { store.new.latest ≡ store.old.latest }
+    ensures notice_room { store.old.notices.spare ≤ store.new.notices.spare }
 {
     let door = store.door_attached(path);
     add_row(store, p, Obj::Door(door))
@@ -164,6 +170,7 @@ pub fn await_path(store: &mut Store, t: Tid, path: PathId) -> Answer
     ensures answer { result ≡ (await (stored_state store.old) t.0 path).answer }
     ensures pools { store.new.pools ≡ store.old.pools }
     ensures latest { store.new.latest ≡ store.old.latest }
+    ensures notice_room { store.old.notices.spare ≤ store.new.notices.spare }
 {
     if store.has_name(path) {
         return Answer::Done;
@@ -181,6 +188,7 @@ pub fn found(store: &mut Store, t: Tid) -> Answer
     ensures answer { result ≡ (end_await (stored_state store.old) t.0).answer }
     ensures pools { store.new.pools ≡ store.old.pools }
     ensures latest { store.new.latest ≡ store.old.latest }
+    ensures notice_room { store.old.notices.spare ≤ store.new.notices.spare }
 {
     store.turn(t, ThreadState::Running);
     Answer::Done

@@ -1,13 +1,14 @@
 //! The acts of doors, of calls of them, and of their invocations.
-ghost use Rattle.std.specs.Prelude.{◌≡◌, ◌++◌, ◌<◌, ◌≤◌, [], None, false, length, true};
+ghost use Rattle.std.specs.Prelude.{◌≡◌, ◌+◌, ◌++◌, ◌<◌, ◌≤◌, [], None, false, length, true};
 ghost use Rattle.dk_base.specs.declared.object.Item.TheVariants as item;
 ghost use Rattle.kernel_records.specs.declared.record.ThreadState.TheVariants as is;
-ghost use Rattle.kernel_records.specs.Words.{cookie_of, entry_of, first_refusal, is_done, is_dormant, is_given_as, is_idle, limit_tests, no_cancel_of};
-ghost use Rattle.written_kernel.specs.Types.{Call};
-ghost use Rattle.written_kernel.specs.Words.{StandsFor, accept, accept_call, call, call_tests, collect, collect_answer_in, create, create_tests, door_named, door_of, find_call, has_room, is_running, new_call, now, object_at, objects_collected_in, pass_tests, pool_of, pool_tests, results_answer, return, return_tests, state_of, tables_after_collect};
+ghost use Rattle.kernel_records.specs.Words.{cookie_of, entry_of, first_refusal, is_done, is_dormant, is_given_as, is_given_notice_as, is_idle, limit_tests, no_cancel_of};
+ghost use Rattle.written_kernel.specs.Types.{Call, Pool};
+ghost use Rattle.written_kernel.specs.Words.{StandsFor, accept, accept_call, accept_notice, call, call_tests, collect, collect_answer_in, create, create_tests, door_named, door_of, find_call, find_notice, has_room, is_running, new_call, now, object_at, objects_collected_in, pass_tests, pool_of, pool_tests, results_answer, return, return_tests, state_of, tables_after_collect};
 ghost use Rattle.kernel_core.specs.Handed.{objects_at_end, objects_given, objects_to_collect, objects_with};
-ghost use Rattle.kernel_core.specs.Kept.{HasLiveCalls};
+ghost use Rattle.kernel_core.specs.Kept.{HasNothingPast};
 ghost use Rattle.kernel_core.specs.Numbers.{HasNumbersLeft};
+ghost use Rattle.server_pool.specs.Words.{item_room_in};
 ghost use Rattle.pool_agreement.specs.Words.{IsGivenOut, IsGivenOutBut, own_pool};
 ghost use Rattle.kernel_store.specs.Words.{ArePlaced, HasRoom, stored_state};
 
@@ -48,6 +49,8 @@ pub fn create(store: &mut Store, p: Pid, entry: u32, cookie: u64, attrs: Attrs) 
     ensures answer { result ≡ (create (stored_state store.old) p.0 entry cookie attrs).answer }
     ensures given_out { IsGivenOut store.old.pools → IsGivenOut store.new.pools }
     ensures latest { store.new.latest ≡ store.old.latest }
+    ensures notice_room { store.old.notices.spare ≤ store.new.notices.spare }
+    ensures items { (pool : Pool) → item_room_in store.old.pools pool ≤ item_room_in store.new.pools pool + 1 }
 {
     let number = store.add_door(p, entry, cookie, attrs);
     add_row(store, p, Obj::Door(number))
@@ -136,6 +139,7 @@ pub fn call(
     requires numbers { HasNumbersLeft (stored_state store.old) }
     requires room { HasRoom store.old (pool_of (stored_state store.old) (door_named (object_at (stored_state store.old) p.0 fd))) }
     requires placed { ArePlaced (stored_state store.old) }
+    requires first { store.old.latest ≤ store.old.events }
     requires running { is_running (stored_state store.old) t.0 ≡ true }
     requires allowed { first_refusal (call_tests (stored_state store.old) p.0 fd bytes pass.now) ≡ None }
     requires empty { objects.items ≡ [] }
@@ -143,7 +147,9 @@ pub fn call(
     ensures state { stored_state store.new ≡ (call (stored_state store.old) t.0 p.0 fd bytes pass.now rsize).state }
     ensures answer { result ≡ (call (stored_state store.old) t.0 p.0 fd bytes pass.now rsize).answer }
     ensures given_out { IsGivenOut store.old.pools → IsGivenOutBut (pool_of (stored_state store.old) (door_named (object_at (stored_state store.old) p.0 fd))) store.new.pools }
-    ensures latest { store.new.latest ≡ store.old.latest }
+    ensures latest { store.new.latest ≡ now (stored_state store.old) }
+    ensures notice_room { store.old.notices.spare ≤ store.new.notices.spare }
+    ensures items { (pool : Pool) → item_room_in store.old.pools pool ≤ item_room_in store.new.pools pool + 1 }
 {
     let door = door_named(store, p, fd);
     store.take_out(p, pass, &mut objects);
@@ -173,8 +179,8 @@ pub fn return_refusal(
     None
 }
 
-/// door_return(3C): the results and what is passed go to the client, or are dropped where there is none, and the thread, which
-/// runs, is parked.
+/// door_return(3C): the results and what is passed go to the client, or are dropped where there is none; the notice that the thread
+/// serves, if it serves one, is over; and the thread, which runs, is parked.
 pub fn return_from(
     store: &mut Store,
     alloc: Global,
@@ -188,13 +194,16 @@ pub fn return_from(
     requires room { HasRoom store.old (own_pool (stored_state store.old) t.0) }
     requires placed { ArePlaced (stored_state store.old) }
     requires first { store.old.latest ≤ store.old.events }
+    requires none_past { HasNothingPast (stored_state store.old) }
     requires running { is_running (stored_state store.old) t.0 ≡ true }
     requires empty { objects.items ≡ [] }
     requires spare { length pass.now ≤ objects.spare }
-    ensures state { stored_state store.new ≡ (return (stored_state store.old) t.0 p.0 bytes pass.now).state }
+    ensures state { StandsFor (stored_state store.new) (return (stored_state store.old) t.0 p.0 bytes pass.now).state }
     ensures answer { result ≡ (return (stored_state store.old) t.0 p.0 bytes pass.now).answer }
     ensures given_out { IsGivenOut store.old.pools → IsGivenOutBut (own_pool (stored_state store.old) t.0) store.new.pools }
     ensures latest { store.new.latest ≤ now (stored_state store.old) }
+    ensures notice_room { store.old.notices.spare ≤ store.new.notices.spare }
+    ensures items { (pool : Pool) → item_room_in store.old.pools pool ≤ item_room_in store.new.pools pool + 1 }
 {
     store.take_out(p, pass, &mut objects);
     let objects = objects.into_list();
@@ -262,6 +271,7 @@ fn begin_call(store: &mut Store, alloc: Global, t: Tid, p: Pid, c: u32, fds: Roo
     ensures answer { result ≡ (accept_call (stored_state store.old) t.0 p.0 c (find_call (stored_state store.old) (is_given_as c t.0))).answer }
     ensures pools { store.new.pools ≡ store.old.pools }
     ensures latest { store.new.latest ≡ store.old.latest }
+    ensures notice_room { store.old.notices.spare ≤ store.new.notices.spare }
 {
     let Some(call) = store.enter_call(alloc, c, t) else {
         return Answer::Done;
@@ -294,6 +304,8 @@ fn fail_begin(store: &mut Store, alloc: Global, t: Tid, p: Pid, c: u32) -> Answe
     ensures answer { result ≡ (accept_call (stored_state store.old) t.0 p.0 c (find_call (stored_state store.old) (is_given_as c t.0))).answer }
     ensures given_out { IsGivenOut store.old.pools → IsGivenOutBut (own_pool (stored_state store.old) t.0) store.new.pools }
     ensures latest { store.new.latest ≤ now (stored_state store.old) }
+    ensures notice_room { store.old.notices.spare ≤ store.new.notices.spare }
+    ensures items { (pool : Pool) → item_room_in store.old.pools pool ≤ item_room_in store.new.pools pool + 1 }
 {
     let Some(call) = store.fail_call(alloc, c, t) else {
         return Answer::Done;
@@ -315,11 +327,34 @@ fn accept_call(store: &mut Store, alloc: Global, t: Tid, p: Pid, c: u32, fds: Ro
     ensures answer { result ≡ (accept_call (stored_state store.old) t.0 p.0 c (find_call (stored_state store.old) (is_given_as c t.0))).answer }
     ensures given_out { IsGivenOut store.old.pools → IsGivenOutBut (own_pool (stored_state store.old) t.0) store.new.pools }
     ensures latest { store.new.latest ≤ now (stored_state store.old) }
+    ensures notice_room { store.old.notices.spare ≤ store.new.notices.spare }
+    ensures items { (pool : Pool) → item_room_in store.old.pools pool ≤ item_room_in store.new.pools pool + 1 }
 {
     if has_room_given(store, t, p, c) {
         begin_call(store, alloc, t, p, c, fds)
     } else {
         fail_begin(store, alloc, t, p, c)
+    }
+}
+
+/// The end of the wait of a thread that was given a notice: its invocation begins, with the number of the notice and without
+/// arguments.
+fn accept_notice(store: &mut Store, t: Tid, n: u32) -> Answer
+    requires { state_of (stored_state store.old) t.0 ≡ is.Given (item.Notice n) }
+    ensures state { stored_state store.new ≡ (accept_notice (stored_state store.old) t.0 n (find_notice (stored_state store.old) (is_given_notice_as n t.0))).state }
+    ensures answer { result ≡ (accept_notice (stored_state store.old) t.0 n (find_notice (stored_state store.old) (is_given_notice_as n t.0))).answer }
+    ensures pools { store.new.pools ≡ store.old.pools }
+    ensures latest { store.new.latest ≡ store.old.latest }
+    ensures notice_room { store.old.notices.spare ≤ store.new.notices.spare }
+{
+    let Some(notice) = store.enter_notice(n, t) else {
+        return Answer::Done;
+    };
+    let (entry, cookie) = entry_point(store, notice.door);
+    Answer::EnteredNotice {
+        notice: notice.number,
+        entry,
+        cookie,
     }
 }
 
@@ -336,10 +371,12 @@ pub fn accept(store: &mut Store, alloc: Global, t: Tid, p: Pid, item: Item, fds:
     ensures answer { result ≡ (accept (stored_state store.old) t.0 p.0 item).answer }
     ensures given_out { IsGivenOut store.old.pools → IsGivenOutBut (own_pool (stored_state store.old) t.0) store.new.pools }
     ensures latest { store.new.latest ≤ now (stored_state store.old) }
+    ensures notice_room { store.old.notices.spare ≤ store.new.notices.spare }
+    ensures items { (pool : Pool) → item_room_in store.old.pools pool ≤ item_room_in store.new.pools pool + 1 }
 {
     match item {
         Item::Call(c) => accept_call(store, alloc, t, p, c, fds),
-        Item::Notice(_) => Answer::Done,
+        Item::Notice(n) => accept_notice(store, t, n),
     }
 }
 
@@ -358,6 +395,7 @@ fn hand_results(
     ensures answer { (r : Call) → r.rsize ≡ rsize → result ≡ results_answer (stored_state store.old) p.0 r bytes objects.now }
     ensures pools { store.new.pools ≡ store.old.pools }
     ensures latest { store.new.latest ≡ store.old.latest }
+    ensures notice_room { store.old.notices.spare ≤ store.new.notices.spare }
 {
     if !store.has_room(p, objects) {
         return Answer::Failure(Errno::EMFILE);
@@ -377,6 +415,7 @@ fn outcome(store: &mut Store, p: Pid, call: Option<Call>, fds: Room<Fd>) -> Answ
     ensures answer { result ≡ collect_answer_in (stored_state store.old) p.0 call }
     ensures pools { store.new.pools ≡ store.old.pools }
     ensures latest { store.new.latest ≡ store.old.latest }
+    ensures notice_room { store.old.notices.spare ≤ store.new.notices.spare }
 {
     let Some(Call { rsize, stage, .. }) = call else {
         return Answer::Done;
@@ -392,7 +431,7 @@ fn outcome(store: &mut Store, p: Pid, call: Option<Call>, fds: Room<Fd>) -> Answ
 
 /// The end of the wait of a caller: the results, or the error that its call ended with. The call is forgotten.
 pub fn collect(store: &mut Store, t: Tid, p: Pid, c: u32, fds: Room<Fd>) -> Answer
-    requires live { HasLiveCalls (stored_state store.old) }
+    requires none_past { HasNothingPast (stored_state store.old) }
     requires not_done { is_done (state_of (stored_state store.old) t.0) ≡ false }
     requires not_idle { is_idle (state_of (stored_state store.old) t.0) ≡ false }
     requires not_dormant { is_dormant (state_of (stored_state store.old) t.0) ≡ false }
@@ -402,6 +441,7 @@ pub fn collect(store: &mut Store, t: Tid, p: Pid, c: u32, fds: Room<Fd>) -> Answ
     ensures answer { result ≡ (collect (stored_state store.old) t.0 p.0 c).answer }
     ensures pools { store.new.pools ≡ store.old.pools }
     ensures latest { store.new.latest ≡ store.old.latest }
+    ensures notice_room { store.old.notices.spare ≤ store.new.notices.spare }
 {
     let call = store.collect_call(c);
     store.turn(t, ThreadState::Running);

@@ -2,17 +2,19 @@
 ghost use Rattle.std.specs.Prelude.{◌≡◌, ℕ, ◌+◌, ◌<◌, ◌≤◌, false, length, true, Some, None, IfOk, OnOk, OnErr};
 ghost use Rattle.std.specs.Option.{option_map};
 ghost use Rattle.dk_base.specs.declared.limits.TheConstants.{EVENTS_MAX, THREADS_MAX};
-ghost use Rattle.written_kernel.specs.Words.{IsStep, State, act, has_invalid_door, has_lost_door, is_live_process, is_running, step, with_event_counted, with_new_thread, woken_threads};
-ghost use Rattle.kernel_core.specs.Kept.{HasLiveCalls};
+ghost use Rattle.written_kernel.specs.Words.{IsStep, State, act, forget, has_invalid_door, has_lost_door, is_live_process, is_running, step, with_event_counted, with_new_thread, woken_threads};
+ghost use Rattle.kernel_core.specs.Kept.{HasNothingPast};
 ghost use Rattle.kernel_core.specs.Numbers.{HasNumbersLeft};
 ghost use Rattle.kernel_invariant.specs.Events.{is_leaving};
 ghost use Rattle.pool_agreement.specs.Words.{IsGivenOut, first_common_of, makes_first_common, pool_of_request};
 ghost use Rattle.kernel_store.specs.Words.{ArePlaced, HasRoom, stored_state};
-ghost use Rattle.kernel_core.specs.Woken.{HasFlags, IsCurrent, IsReady, IsReadyToSettle};
+ghost use Rattle.kernel_core.specs.Watched.{IsReadyForNotices};
+ghost use Rattle.kernel_core.specs.Woken.{IsCurrent, IsReady, IsReadyToSettle};
 
 use crate::acts::{count_passed, enter, go_on, is_leaving};
 use crate::descriptors::door_named;
 use crate::doors::{count_at_end, create_refusal};
+use crate::notices::{settle_leaving, settle_staying, watched_doors};
 use crate::runnable::Runnable;
 use dk_base::answer::Answer;
 use dk_base::error::NoMemory;
@@ -70,6 +72,15 @@ fn first_common(store: &Store, t: Tid, request: &Request) -> Option<Pid>
     }
 }
 
+/// The memory of one event: for the threads that it wakes, for the doors of which it may make notices, and for a flag of each
+/// process.
+#[derive(Drop)]
+struct Taken {
+    woken: Room<Tid>,
+    watched: Room<u32>,
+    had: Room<bool>,
+}
+
 impl Parts {
     /// Another thread of a process.
     pub fn add_thread(&mut self, process: Pid, spare: bool) -> Result<Tid, NoMemory>
@@ -91,23 +102,26 @@ impl Parts {
 
     /// Takes the memory that an event can need which touches this pool, which changes nothing else. One that hands over objects
     /// needs room for them besides.
-    fn reserve(&mut self, alloc: Global, touched: Pool) -> Result<Room<Tid>, NoMemory>
+    fn reserve(&mut self, alloc: Global, touched: Pool) -> Result<Taken, NoMemory>
+        requires { ArePlaced (stored_state self.old.store) }
         ensures state { stored_state self.new.store ≡ stored_state self.old.store }
         ensures runnable { self.new.runnable ≡ self.old.runnable }
         ensures given_out { IsGivenOut self.old.store.pools → IsGivenOut self.new.store.pools }
         ensures latest { self.new.store.latest ≡ self.old.store.latest }
         ensures room { OnOk result (HasRoom self.new.store touched) }
-        ensures ready { IfOk result (λ woken. IsReady self.new woken) }
+        ensures ready { IfOk result (λ taken. IsReady self.new taken) }
     {
         self.store.reserve(touched)?;
-        Room::with_room(alloc, self.store.processes().thread_count() as usize)
-    }
-
-    /// Room for a flag of each process.
-    fn reserve_flags(&self, alloc: Global) -> Result<Room<bool>, NoMemory>
-        ensures { IfOk result (λ had. HasFlags self.now had) }
-    {
-        Room::with_room(alloc, self.store.processes().process_count() as usize)
+        let watched = watched_doors(&self.store, alloc)?;
+        self.store.reserve_notices(watched.slice())?;
+        self.store.notices();
+        let woken = Room::with_room(alloc, self.store.processes().thread_count() as usize)?;
+        let had = Room::with_room(alloc, self.store.processes().process_count() as usize)?;
+        Ok(Taken {
+            woken,
+            watched,
+            had,
+        })
     }
 
     /// The event is counted once all that follows its act is done, and who can take a turn is listed anew.
@@ -139,9 +153,10 @@ impl Parts {
     ) -> Result<Stepped, NoMemory>
         requires running { is_running (stored_state self.old.store) t.0 ≡ true }
         requires numbers { HasNumbersLeft (stored_state self.old.store) }
-        requires live { HasLiveCalls (stored_state self.old.store) }
+        requires none_past { HasNothingPast (stored_state self.old.store) }
         requires current { IsCurrent self.old.runnable (stored_state self.old.store) }
         requires placed { ArePlaced (stored_state self.old.store) }
+        requires noticing { IsReadyForNotices (stored_state self.old.store) (forget (act (stored_state self.old.store) t.0 (Some request)).state) }
         requires stays { is_leaving request ≡ false }
         requires none_lost { (u : ℕ) → has_lost_door (act (stored_state self.old.store) t.0 (Some request)).state u ≡ false }
         requires given_out { IsGivenOut self.old.store.pools }
@@ -153,11 +168,16 @@ impl Parts {
         ensures parked { self.new.store.latest ≤ self.new.store.events }
     {
         let touched = pool_of_request(&self.store, t, &request);
-        let woken = self.reserve(alloc, touched)?;
+        let taken = self.reserve(alloc, touched)?;
         let objects = Room::with_room(alloc, count_passed(&request))?;
         let first = first_common(&self.store, t, &request);
         let answer = enter(&mut self.store, alloc, t, request, objects);
-        self.store.settle(touched, first);
+        let Taken {
+            woken,
+            watched,
+            had,
+        } = taken;
+        settle_staying(&mut self.store, watched.slice(), had, touched, first);
         Ok(self.end_event(woken, answer))
     }
 
@@ -171,9 +191,10 @@ impl Parts {
     ) -> Result<Stepped, NoMemory>
         requires running { is_running (stored_state self.old.store) t.0 ≡ true }
         requires numbers { HasNumbersLeft (stored_state self.old.store) }
-        requires live { HasLiveCalls (stored_state self.old.store) }
+        requires none_past { HasNothingPast (stored_state self.old.store) }
         requires current { IsCurrent self.old.runnable (stored_state self.old.store) }
         requires placed { ArePlaced (stored_state self.old.store) }
+        requires noticing { IsReadyForNotices (stored_state self.old.store) (forget (act (stored_state self.old.store) t.0 (Some request)).state) }
         requires leaves { is_leaving request ≡ true }
         requires given_out { IsGivenOut self.old.store.pools }
         requires parked { self.old.store.latest ≤ self.old.store.events }
@@ -184,12 +205,16 @@ impl Parts {
         ensures parked { self.new.store.latest ≤ self.new.store.events }
     {
         let touched = pool_of_request(&self.store, t, &request);
-        let woken = self.reserve(alloc, touched)?;
-        let had = self.reserve_flags(alloc)?;
+        let taken = self.reserve(alloc, touched)?;
         let objects = Room::with_room(alloc, count_passed(&request))?;
         self.store.reserve_leaving()?;
         let answer = enter(&mut self.store, alloc, t, request, objects);
-        self.store.settle_all(had);
+        let Taken {
+            woken,
+            watched,
+            had,
+        } = taken;
+        settle_leaving(&mut self.store, watched.slice(), had);
         Ok(self.end_event(woken, answer))
     }
 
@@ -197,9 +222,10 @@ impl Parts {
     pub fn enter(&mut self, alloc: Global, t: Tid, request: Request) -> Result<Stepped, NoMemory>
         requires running { is_running (stored_state self.old.store) t.0 ≡ true }
         requires numbers { HasNumbersLeft (stored_state self.old.store) }
-        requires live { HasLiveCalls (stored_state self.old.store) }
+        requires none_past { HasNothingPast (stored_state self.old.store) }
         requires current { IsCurrent self.old.runnable (stored_state self.old.store) }
         requires placed { ArePlaced (stored_state self.old.store) }
+        requires noticing { IsReadyForNotices (stored_state self.old.store) (forget (act (stored_state self.old.store) t.0 (Some request)).state) }
         requires none_lost { is_leaving request ≡ false → (u : ℕ) → has_lost_door (act (stored_state self.old.store) t.0 (Some request)).state u ≡ false }
         requires given_out { IsGivenOut self.old.store.pools }
         requires parked { self.old.store.latest ≤ self.old.store.events }
@@ -220,9 +246,10 @@ impl Parts {
     #[tactic(auto, unfolding(written_kernel::specs::Step::step))]
     fn go_on_served(&mut self, alloc: Global, t: Tid) -> Result<Stepped, NoMemory>
         requires numbers { HasNumbersLeft (stored_state self.old.store) }
-        requires live { HasLiveCalls (stored_state self.old.store) }
+        requires none_past { HasNothingPast (stored_state self.old.store) }
         requires current { IsCurrent self.old.runnable (stored_state self.old.store) }
         requires placed { ArePlaced (stored_state self.old.store) }
+        requires noticing { IsReadyForNotices (stored_state self.old.store) (forget (act (stored_state self.old.store) t.0 None).state) }
         requires none_lost { (u : ℕ) → has_lost_door (act (stored_state self.old.store) t.0 None).state u ≡ false }
         requires given_out { IsGivenOut self.old.store.pools }
         requires parked { self.old.store.latest ≤ self.old.store.events }
@@ -233,10 +260,15 @@ impl Parts {
         ensures parked { self.new.store.latest ≤ self.new.store.events }
     {
         let touched = self.store.own_pool(t);
-        let woken = self.reserve(alloc, touched)?;
+        let taken = self.reserve(alloc, touched)?;
         let fds = Room::with_room(alloc, count_at_end(&self.store, t))?;
         let answer = go_on(&mut self.store, alloc, t, fds);
-        self.store.settle(touched, None);
+        let Taken {
+            woken,
+            watched,
+            had,
+        } = taken;
+        settle_staying(&mut self.store, watched.slice(), had, touched, None);
         Ok(self.end_event(woken, answer))
     }
 
@@ -244,9 +276,10 @@ impl Parts {
     #[tactic(auto, unfolding(written_kernel::specs::Step::step))]
     fn go_on_unserved(&mut self, alloc: Global, t: Tid) -> Result<Stepped, NoMemory>
         requires numbers { HasNumbersLeft (stored_state self.old.store) }
-        requires live { HasLiveCalls (stored_state self.old.store) }
+        requires none_past { HasNothingPast (stored_state self.old.store) }
         requires current { IsCurrent self.old.runnable (stored_state self.old.store) }
         requires placed { ArePlaced (stored_state self.old.store) }
+        requires noticing { IsReadyForNotices (stored_state self.old.store) (forget (act (stored_state self.old.store) t.0 None).state) }
         requires given_out { IsGivenOut self.old.store.pools }
         requires parked { self.old.store.latest ≤ self.old.store.events }
         ensures step { IfOk result (λ s. IsStep (step (stored_state self.old.store) t.0 None) (stored_state self.new.store) s) }
@@ -256,20 +289,25 @@ impl Parts {
         ensures parked { self.new.store.latest ≤ self.new.store.events }
     {
         let touched = self.store.own_pool(t);
-        let woken = self.reserve(alloc, touched)?;
-        let had = self.reserve_flags(alloc)?;
+        let taken = self.reserve(alloc, touched)?;
         let fds = Room::with_room(alloc, count_at_end(&self.store, t))?;
         let answer = go_on(&mut self.store, alloc, t, fds);
-        self.store.settle_all(had);
+        let Taken {
+            woken,
+            watched,
+            had,
+        } = taken;
+        settle_leaving(&mut self.store, watched.slice(), had);
         Ok(self.end_event(woken, answer))
     }
 
     /// The event of the end of a wait.
     pub fn go_on(&mut self, alloc: Global, t: Tid) -> Result<Stepped, NoMemory>
         requires numbers { HasNumbersLeft (stored_state self.old.store) }
-        requires live { HasLiveCalls (stored_state self.old.store) }
+        requires none_past { HasNothingPast (stored_state self.old.store) }
         requires current { IsCurrent self.old.runnable (stored_state self.old.store) }
         requires placed { ArePlaced (stored_state self.old.store) }
+        requires noticing { IsReadyForNotices (stored_state self.old.store) (forget (act (stored_state self.old.store) t.0 None).state) }
         requires none_lost { has_invalid_door (stored_state self.old.store) t.0 ≡ false → (u : ℕ) → has_lost_door (act (stored_state self.old.store) t.0 None).state u ≡ false }
         requires given_out { IsGivenOut self.old.store.pools }
         requires parked { self.old.store.latest ≤ self.old.store.events }

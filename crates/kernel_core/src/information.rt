@@ -1,6 +1,6 @@
 //! The acts that tell of a door and of a client, and that change a door's parameters. What changes something has the condition
 //! that it is not refused.
-ghost use Rattle.std.specs.Prelude.{◌≡◌, None};
+ghost use Rattle.std.specs.Prelude.{◌≡◌, ◌≤◌, None};
 ghost use Rattle.kernel_records.specs.Words.{first_refusal};
 ghost use Rattle.written_kernel.specs.Words.{credentials, credentials_tests, door_tests, information, information_of, parameter, set_parameter, set_parameter_tests};
 ghost use Rattle.kernel_store.specs.Words.{stored_state};
@@ -70,6 +70,7 @@ pub fn set_parameter(store: &mut Store, p: Pid, fd: Fd, param: Param, value: u64
     ensures answer { result ≡ (set_parameter (stored_state store.old) p.0 fd param value).answer }
     ensures pools { store.new.pools ≡ store.old.pools }
     ensures latest { store.new.latest ≡ store.old.latest }
+    ensures notice_room { store.old.notices.spare ≤ store.new.notices.spare }
 {
     let door = door_named(store, p, fd);
     store.set_param(door, p, param, value);

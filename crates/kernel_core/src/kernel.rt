@@ -27,7 +27,8 @@ use kernel_store::store::Store;
 use std::alloc::Global;
 use std::marker::Model;
 
-/// A kernel. Clauses see the written state that it keeps, in which the calls that were answered or left are forgotten.
+/// A kernel. Clauses see the written state that it keeps, in which the calls that were answered or left, and
+/// the notices that no rule asks for again, are forgotten.
 #[derive(Drop)]
 pub struct Kernel {
     alloc: Global,

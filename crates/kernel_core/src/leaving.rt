@@ -1,11 +1,14 @@
-//! The acts of leaving, and how a server learns that its client has left. What becomes of calls and threads stands in the store.
-ghost use Rattle.std.specs.Prelude.{◌≡◌, ◌<◌, ◌≤◌, None, length, true};
+//! The acts of leaving, and how a server learns that its client has left. What becomes of calls, notices and threads
+//! stands in the store.
+ghost use Rattle.std.specs.Prelude.{◌≡◌, ◌+◌, ◌<◌, ◌≤◌, None, length, true};
 ghost use Rattle.dk_base.specs.declared.limits.TheConstants.{EVENTS_MAX};
 ghost use Rattle.kernel_records.specs.declared.record.ThreadState.TheVariants as is;
 ghost use Rattle.kernel_records.specs.Words.{first_refusal};
+ghost use Rattle.written_kernel.specs.Types.{Pool};
 ghost use Rattle.written_kernel.specs.Words.{StandsFor, exit, interrupt, kill, leave_process, now, revoke, revoking_tests, state_of, test_cancel, wake};
-ghost use Rattle.kernel_core.specs.Kept.{HasLiveCalls};
+ghost use Rattle.kernel_core.specs.Kept.{HasNothingPast};
 ghost use Rattle.kernel_core.specs.Numbers.{HasNumbersLeft};
+ghost use Rattle.server_pool.specs.Words.{item_room_in};
 ghost use Rattle.kernel_store.specs.Words.{ArePlaced, HasRoomToLeave, stored_state};
 
 use crate::descriptors::door_named;
@@ -26,6 +29,8 @@ pub fn interrupt(store: &mut Store, alloc: Global, thread: Tid) -> Answer
     ensures state { StandsFor (stored_state store.new) (interrupt (stored_state store.old) thread.0).state }
     ensures answer { result ≡ (interrupt (stored_state store.old) thread.0).answer }
     ensures latest { store.new.latest ≤ now (stored_state store.old) }
+    ensures notice_room { store.old.notices.spare ≤ store.new.notices.spare }
+    ensures items { (pool : Pool) → item_room_in store.old.pools pool ≤ item_room_in store.new.pools pool + 1 }
 {
     store.leave(alloc, Leaver::Interrupted { thread });
     Answer::Done
@@ -39,6 +44,8 @@ fn leave_process(store: &mut Store, alloc: Global, p: Pid)
     requires first { store.old.latest ≤ store.old.events }
     ensures state { StandsFor (stored_state store.new) (leave_process (stored_state store.old) p.0) }
     ensures latest { store.new.latest ≤ now (stored_state store.old) }
+    ensures notice_room { store.old.notices.spare ≤ store.new.notices.spare }
+    ensures items { (pool : Pool) → item_room_in store.old.pools pool ≤ item_room_in store.new.pools pool + 1 }
 {
     store.leave(alloc, Leaver::EndedProcess { process: p });
     store.end_process(p);
@@ -53,6 +60,8 @@ pub fn exit(store: &mut Store, alloc: Global, t: Tid, p: Pid) -> Answer
     ensures state { StandsFor (stored_state store.new) (exit (stored_state store.old) t.0 p.0).state }
     ensures answer { result ≡ (exit (stored_state store.old) t.0 p.0).answer }
     ensures latest { store.new.latest ≤ now (stored_state store.old) }
+    ensures notice_room { store.old.notices.spare ≤ store.new.notices.spare }
+    ensures items { (pool : Pool) → item_room_in store.old.pools pool ≤ item_room_in store.new.pools pool + 1 }
 {
     if store.processes().is_last(t, p) {
         leave_process(store, alloc, p);
@@ -65,13 +74,15 @@ pub fn exit(store: &mut Store, alloc: Global, t: Tid, p: Pid) -> Answer
 /// A process ends, whoever asks. One that has ended stays so.
 pub fn kill(store: &mut Store, alloc: Global, p: Pid) -> Answer
     requires numbers { HasNumbersLeft (stored_state store.old) }
-    requires live { HasLiveCalls (stored_state store.old) }
+    requires none_past { HasNothingPast (stored_state store.old) }
     requires room { HasRoomToLeave store.old }
     requires placed { ArePlaced (stored_state store.old) }
     requires first { store.old.latest ≤ store.old.events }
     ensures state { StandsFor (stored_state store.new) (kill (stored_state store.old) p.0).state }
     ensures answer { result ≡ (kill (stored_state store.old) p.0).answer }
     ensures latest { store.new.latest ≤ now (stored_state store.old) }
+    ensures notice_room { store.old.notices.spare ≤ store.new.notices.spare }
+    ensures items { (pool : Pool) → item_room_in store.old.pools pool ≤ item_room_in store.new.pools pool + 1 }
 {
     if !store.processes().is_live(p) {
         return Answer::Done;
@@ -97,6 +108,8 @@ pub fn revoke(store: &mut Store, alloc: Global, p: Pid, fd: Fd) -> Answer
     ensures state { StandsFor (stored_state store.new) (revoke (stored_state store.old) p.0 fd).state }
     ensures answer { result ≡ (revoke (stored_state store.old) p.0 fd).answer }
     ensures latest { store.new.latest ≤ now (stored_state store.old) }
+    ensures notice_room { store.old.notices.spare ≤ store.new.notices.spare }
+    ensures items { (pool : Pool) → item_room_in store.old.pools pool ≤ item_room_in store.new.pools pool + 1 }
 {
     let door = door_named(store, p, fd);
     store.leave(alloc, Leaver::Revoked { door });
@@ -123,6 +136,7 @@ pub fn wake(store: &mut Store, t: Tid) -> Answer
     ensures answer { result ≡ (wake (stored_state store.old) t.0).answer }
     ensures pools { store.new.pools ≡ store.old.pools }
     ensures latest { store.new.latest ≡ store.old.latest }
+    ensures notice_room { store.old.notices.spare ≤ store.new.notices.spare }
 {
     store.turn(t, ThreadState::Running);
     Answer::Failure(Errno::EINVAL)

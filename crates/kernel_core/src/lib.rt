@@ -10,6 +10,7 @@ mod event;
 mod information;
 pub mod kernel;
 mod leaving;
+mod notices;
 mod numbered;
 mod references;
 mod runnable;

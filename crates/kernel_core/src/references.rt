@@ -1,4 +1,5 @@
-//! How many references a door has. What asks for it asks only whether one is left, so more than two are not told apart.
+//! How many references a door has. What asks for it asks whether one is left, or more than one, so more
+//! than two are not told apart.
 ghost use Rattle.std.specs.Prelude.{◌≡◌, ◌+◌, ◌≤◌, flat_map, length, min};
 ghost use Rattle.dk_base.specs.declared.object.Obj.TheVariants.{Door};
 ghost use Rattle.kernel_records.specs.Words.{count_object, is_object, objects_of};

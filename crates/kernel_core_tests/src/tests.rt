@@ -229,6 +229,42 @@ const FULL_CLIENT: [Row; 15] = [
     (CLIENT, Turn::GoesOn, Gives::Grown(b"hi", &[]), &[]),
 ];
 
+/// The client closes the last descriptor but the server's own, whose path is taken away: the server is told, idle as it is. Then it
+/// copies its descriptor and closes the copy, and is told once it has returned.
+const NOTICED: [Row; 11] = [
+    (
+        SERVER,
+        Turn::Enters(Entry::CreateNoticed),
+        Gives::NewFd(0),
+        &[],
+    ),
+    (SERVER, Turn::Enters(Entry::Attach), Gives::Done, &[]),
+    (
+        SERVER,
+        Turn::Enters(Entry::Return(b"", &[])),
+        Gives::Wait,
+        &[],
+    ),
+    (CLIENT, Turn::Enters(Entry::Open), Gives::NewFd(0), &[]),
+    (CLIENT, Turn::Enters(Entry::Detach), Gives::Done, &[]),
+    (
+        CLIENT,
+        Turn::Enters(Entry::Close(0)),
+        Gives::Done,
+        &[SERVER],
+    ),
+    (SERVER, Turn::GoesOn, Gives::EnteredNotice(1), &[]),
+    (SERVER, Turn::Enters(Entry::Dup), Gives::NewFd(1), &[]),
+    (SERVER, Turn::Enters(Entry::Close(1)), Gives::Done, &[]),
+    (
+        SERVER,
+        Turn::Enters(Entry::Return(b"", &[])),
+        Gives::Wait,
+        &[],
+    ),
+    (SERVER, Turn::GoesOn, Gives::EnteredNotice(2), &[]),
+];
+
 #[test]
 fn echo(rt: HostRuntime) -> Result<(), Fail> {
     let alloc = rt.alloc();
@@ -255,6 +291,15 @@ fn full_tables_take_no_descriptors(rt: HostRuntime) -> Result<(), Fail> {
     assert!(rt; right == FULL_SERVER.len(), "server, turn {right}");
     let right = right_turns_of_new(alloc, &limits, &FULL_CLIENT);
     assert!(rt; right == FULL_CLIENT.len(), "client, turn {right}");
+    Ok(())
+}
+
+#[test]
+fn a_server_is_told_of_a_last_reference(rt: HostRuntime) -> Result<(), Fail> {
+    let alloc = rt.alloc();
+    let limits = IdList::from_slice(alloc, &[2, 2])?;
+    let right = right_turns_of_new(alloc, &limits, &NOTICED);
+    assert!(rt; right == NOTICED.len(), "turn {right}");
     Ok(())
 }
 

@@ -20,7 +20,12 @@ use std::alloc::Global;
 #[derive(Clone, Copy)]
 pub enum Entry {
     Create,
+    /// A door that has a notice each time that one reference is left.
+    CreateNoticed,
+    Close(u32),
+    Dup,
     Attach,
+    Detach,
     Await,
     Open,
     Info(u32),
@@ -46,6 +51,7 @@ pub enum Gives {
     Unique(u64),
     Entered(u32, &'static [u8], &'static [Fd]),
     EnterFailed(u32),
+    EnteredNotice(u32),
     Grown(&'static [u8], &'static [Fd]),
     Failure(Errno),
 }
@@ -72,6 +78,9 @@ fn is_answer(answer: &Answer, gives: Gives) -> bool {
         Gives::EnterFailed(number) => {
             matches!(answer, Answer::EnterFailed { call } if *call == number)
         }
+        Gives::EnteredNotice(number) => {
+            matches!(answer, Answer::EnteredNotice { notice, entry: 7, cookie: 9 } if *notice == number)
+        }
         Gives::Grown(text, numbers) => {
             matches!(answer, Answer::Results { bytes, fds, grown: true } if bytes.slice() == text && fds.slice() == numbers)
         }
@@ -94,10 +103,18 @@ fn request(alloc: Global, entry: Entry) -> Result<Request, NoMemory>
             cookie: 9,
             attrs: Attrs(0),
         }),
+        Entry::CreateNoticed => Ok(Request::Create {
+            entry: 7,
+            cookie: 9,
+            attrs: Attrs::UNREF_MULTI,
+        }),
+        Entry::Close(fd) => Ok(Request::Close { fd: Fd(fd) }),
+        Entry::Dup => Ok(Request::Dup { fd: Fd(0) }),
         Entry::Attach => Ok(Request::Attach {
             fd: Fd(0),
             path: PathId(0),
         }),
+        Entry::Detach => Ok(Request::Detach { path: PathId(0) }),
         Entry::Await => Ok(Request::Await { path: PathId(0) }),
         Entry::Open => Ok(Request::Open { path: PathId(0) }),
         Entry::Info(fd) => Ok(Request::Info { fd: Fd(fd) }),

@@ -1,4 +1,4 @@
-use Rattle.std.proofs.Common.{◌≡◌, ◌<◌, true, ap, sym, subst, ◌∙◌}
+use Rattle.std.proofs.Common.{◌<◌, ap, sym, subst, ◌∙◌}
 use Rattle.dk_base.specs.declared.limits.TheConstants.{QUEUE_MAX}
 use Rattle.written_kernel.specs.Types.{Call}
 use Rattle.written_kernel.specs.Words.{State, calls_waiting, is_valid, pool_of}

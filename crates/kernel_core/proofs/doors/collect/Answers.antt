@@ -1,7 +1,9 @@
 use Rattle.std.proofs.Common.{ap, ◌∙◌}
-use Rattle.kernel_records.specs.Words.{is_done, is_dormant, is_idle}
-use Rattle.written_kernel.specs.Words.{State, collect_answer_in, state_of}
+use Rattle.kernel_records.specs.declared.record.ThreadState.TheVariants as is
+use Rattle.kernel_records.specs.Words.{collect_call, is_done, is_dormant, is_idle, live_calls, set_thread_state}
+use Rattle.written_kernel.specs.Words.{State, collect_answer_in, now, objects_collected_in, state_of, tables_after_collect, with_state}
 use Rattle.kernel_store.specs.Words.{stored_state}
+use Rattle.kernel_core.proofs.Live.{collect_stands}
 use Rattle.kernel_core.proofs.Collected.{told_alike}
 use Rattle.kernel_core.proofs.doors.collect.Goals as goal
 
@@ -16,6 +18,24 @@ turn-requires-clause-not_idle c =
 pub turn-requires-clause-not_dormant : goal.turn-requires-clause-not_dormant
 turn-requires-clause-not_dormant c =
     ap (λ (k : State). is_dormant (state_of k c.args.t.0)) (c.collect_call-call.ensures.after 0) ∙ c.requires.not_dormant
+
+pub returns-clause-state : goal.returns-clause-state
+returns-clause-state c =
+    let m = stored_state c.args.store.now in
+    let t = c.args.t.0 in
+    collect_stands m (stored_state c.outcome.new.store) t c.args.p.0 c.args.c c.requires.none_past
+    (c.outcome.ensures.state
+    ∙ ap
+    (λ (k : State). record k { tables = tables_after_collect k c.args.p.0 (objects_collected_in c.collect_call-call.result) })
+    (c.turn.ensures.state ∙ ap (λ (k : State). with_state k t is.Running) (c.collect_call-call.ensures.after (now m)))
+    ∙ ap
+    (λ o.
+    record m {
+      process_table = set_thread_state m.process_table t is.Running;
+      tables = tables_after_collect m c.args.p.0 (objects_collected_in o);
+      call_tree = live_calls (collect_call m.call_tree c.args.c (now m));
+    })
+    c.collect_call-call.ensures.before)
 
 pub returns-clause-answer : goal.returns-clause-answer
 returns-clause-answer c =

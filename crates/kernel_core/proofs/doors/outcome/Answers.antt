@@ -1,4 +1,4 @@
-use Rattle.std.proofs.Common.{◌≡◌, [], refl, ap, sym, ◌∙◌}
+use Rattle.std.proofs.Common.{◌≡◌, [], refl, ap, sym, ◌∙◌, arith}
 use Rattle.written_kernel.specs.Words.{collect_answer_in, objects_collected, objects_collected_in, tables_after_collect}
 use Rattle.kernel_store.specs.Words.{stored_state}
 use Rattle.kernel_core.proofs.Collected.{nothing_collected, nothing_told}
@@ -26,4 +26,5 @@ returns c =
       answer = sym (ap (collect_answer_in m c.args.p.0) c.in-Some.is ∙ told.1);
       pools = refl;
       latest = refl;
+      notice_room = omega arith;
     }

@@ -19,4 +19,4 @@ returns-then-not-is_live-clause-state c =
     let m = stored_state c.args.store.now in
     let ended : is_live_process m c.args.p.0 ≡ false =
     ap (λ (table : ProcessTable). is_live_in (at_number table.processes c.args.p.0)) (sym c.processes.ensures) ∙ sym c.is_live.ensures ∙ c.if-not-is_live.true in
-    subst (λ (b : Bool). StandsFor m (if b then leave_process m c.args.p.0 else m)) (sym ended) (sym (live_state m c.requires.live))
+    subst (λ (b : Bool). StandsFor m (if b then leave_process m c.args.p.0 else m)) (sym ended) (sym (live_state m c.requires.none_past))

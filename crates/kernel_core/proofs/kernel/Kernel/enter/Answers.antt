@@ -1,6 +1,6 @@
 use Rattle.std.proofs.Common.{refl, ◌∙◌, Some}
 use Rattle.kernel_store.specs.Words.{stored_state}
-use Rattle.kernel_core.proofs.Kept.{kept_result, none_lost, placed, refused_result, refused_stands}
+use Rattle.kernel_core.proofs.Kept.{kept_result, none_lost, noticing, placed, refused_result, refused_stands}
 use Rattle.kernel_core.proofs.Live.{stands_live}
 use Rattle.kernel_core.proofs.Steps.{step_stands, step_within, step_small}
 use Rattle.kernel_core.proofs.kernel.Kernel.enter.Goals as goal
@@ -16,8 +16,8 @@ invariant_of-self c =
       c.enter.ensures.parked,
     )
 
-pub enter-requires-clause-live : goal.enter-requires-clause-live
-enter-requires-clause-live c =
+pub enter-requires-clause-none_past : goal.enter-requires-clause-none_past
+enter-requires-clause-none_past c =
     stands_live (stored_state c.self.inside.parts.store) c.self.invariant.0.written c.self.invariant.0.stands
 
 pub returns-clause-step : goal.returns-clause-step
@@ -43,3 +43,7 @@ pub enter-requires-clause-none_lost : goal.enter-requires-clause-none_lost
 enter-requires-clause-none_lost c =
     λ stays.
     none_lost (stored_state c.self.inside.parts.store) c.args.self.now c.args.t.0 (Some c.args.request) c.self.view_is c.self.invariant.0 (record { running = c.requires.running; fit = c.requires.fit; built = c.requires.built; few = c.requires.few }) stays
+
+pub enter-requires-clause-noticing : goal.enter-requires-clause-noticing
+enter-requires-clause-noticing c =
+    noticing (stored_state c.self.inside.parts.store) c.args.self.now c.args.t.0 (Some c.args.request) c.self.view_is c.self.invariant.0 (record { running = c.requires.running; fit = c.requires.fit; built = c.requires.built; few = c.requires.few })

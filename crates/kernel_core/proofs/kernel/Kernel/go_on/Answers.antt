@@ -1,6 +1,6 @@
 use Rattle.std.proofs.Common.{refl, None}
 use Rattle.kernel_store.specs.Words.{stored_state}
-use Rattle.kernel_core.proofs.Kept.{kept_result, none_lost, placed}
+use Rattle.kernel_core.proofs.Kept.{kept_result, none_lost, noticing, placed}
 use Rattle.kernel_core.proofs.Live.{stands_live}
 use Rattle.kernel_core.proofs.Steps.{step_stands, step_within, step_small}
 use Rattle.kernel_core.proofs.kernel.Kernel.go_on.Goals as goal
@@ -16,8 +16,8 @@ invariant_of-self c =
       c.go_on.ensures.parked,
     )
 
-pub go_on-requires-clause-live : goal.go_on-requires-clause-live
-go_on-requires-clause-live c =
+pub go_on-requires-clause-none_past : goal.go_on-requires-clause-none_past
+go_on-requires-clause-none_past c =
     stands_live (stored_state c.self.inside.parts.store) c.self.invariant.0.written c.self.invariant.0.stands
 
 pub returns-clause-step : goal.returns-clause-step
@@ -35,3 +35,7 @@ pub go_on-requires-clause-none_lost : goal.go_on-requires-clause-none_lost
 go_on-requires-clause-none_lost c =
     λ stays.
     none_lost (stored_state c.self.inside.parts.store) c.args.self.now c.args.t.0 None c.self.view_is c.self.invariant.0 c.requires stays
+
+pub go_on-requires-clause-noticing : goal.go_on-requires-clause-noticing
+go_on-requires-clause-noticing c =
+    noticing (stored_state c.self.inside.parts.store) c.args.self.now c.args.t.0 None c.self.view_is c.self.invariant.0 c.requires
