@@ -3,8 +3,7 @@ use Rattle.std.specs.Prelude.{ℕ, ◌≡◌, ◌+◌, ◌≤◌, ◌⊎◌, Lis
 use Rattle.std.proofs.Common.{refl, sym, ap, subst, ◌∙◌, add-one, inl, inr}
 use native.Mathlib.Omega.{arith}
 use Rattle.std.proofs.lemmas.Option.{slice_get_within}
-use Rattle.written_kernel.specs.Types.{Call, CallStage, Inv, Item, Notice}
-use Rattle.dk_base.specs.ByNumber.{at_number}
+use Rattle.written_kernel.specs.Types.{Call, CallStage, Inv, Item}
 use Rattle.dk_base.specs.declared.object.Item.TheVariants as item
 use Rattle.dk_base.specs.declared.request.Request.TheVariants as request
 use Rattle.dk_base.specs.declared.answer.Answer.TheVariants as answer
@@ -12,7 +11,7 @@ use Rattle.kernel_records.specs.declared.record.CallStage.TheVariants as stage
 use Rattle.kernel_records.specs.declared.record.ThreadState.TheVariants as is
 use Rattle.kernel_records.specs.Words.{no_cancel_of, tid}
 use Rattle.written_kernel.specs.Words.{State, Turn, door_of, invocation_of, is_cancelled, state_at, state_of, step}
-use Rattle.kernel_invariant.specs.Records.{item_in, item_of, record_of, stage_in}
+use Rattle.kernel_invariant.specs.Records.{item_in, item_of, notice_of, record_of, stage_in}
 use Rattle.kernel_invariant.specs.Core.{abandoned_in, core, notice_in}
 use Rattle.kernel_invariant.specs.Coherent.{IsCoherent}
 use Rattle.kernel_invariant.specs.Invariant.{Invariant}
@@ -34,16 +33,13 @@ told_now m t = refl
 
 -- a state without calls and notices has no invocation
 no_flag :
-    (m : State) → Invariant m → ((c : ℕ) → record_of m c ≡ None) → (u : ℕ) (o : Option Inv) → invocation_of m u ≡ o →
-    is_cancelled o ≡ true → ⊥
-no_flag m h none u None e f = absurd (cc f)
-no_flag m h none u (Some v) e f = by v.item refl
+    (m : State) → Invariant m → ((c : ℕ) → record_of m c ≡ None) → ((c : ℕ) → notice_of m c ≡ None) → (u : ℕ) (o : Option Inv) →
+    invocation_of m u ≡ o → is_cancelled o ≡ true → ⊥
+no_flag m h none no_notice u None e f = absurd (cc f)
+no_flag m h none no_notice u (Some v) e f = by v.item refl
   where
     coherent : IsCoherent (core m)
     coherent = h.consistent.coherent
-
-    no_notice : (n : ℕ) → notice_in (at_number m.notice_list.notices n) ≡ None
-    no_notice n = ap (λ (ns : List Notice). notice_in (at_number ns n)) h.consistent.unbuilt.no_notices ∙ grind arith
 
     by : (i : Item) → v.item ≡ i → ⊥
     by (item.Call c) g =
@@ -52,7 +48,7 @@ no_flag m h none u (Some v) e f = by v.item refl
         (sym (ap stage_in (none c))
         ∙ coherent.invocations.entered_back c u (ap item_in e ∙ ap (λ (i : Item). Some i) g) (ap abandoned_in (none c))))
     by (item.Notice n) g =
-        absurd (cc (sym (no_notice n) ∙ coherent.notices_entered.notice_entered_back n u (ap item_in e ∙ ap (λ (i : Item). Some i) g)))
+        absurd (cc (sym (ap notice_in (no_notice n)) ∙ coherent.notices_entered.notice_entered_back n u (ap item_in e ∙ ap (λ (i : Item). Some i) g)))
 
 at_entered : (u : ℕ) (o : Option Call) → stage_in o ≡ Some (stage.Entered (tid u)) → is_entered_in o ≡ true
 at_entered u o e = grind arith
@@ -124,7 +120,7 @@ module _ (m : State) (xs : List Turn) (k : Known m xs) where
 
   only_where_left :
       (i u : ℕ) → i ≤ length xs → is_cancelled (invocation_of (state_at m xs i) u) ≡ true → WasLeft m xs i u
-  only_where_left zero u l f = absurd (no_flag m (k.invariant zero l) k.no_call u (invocation_of m u) refl f)
+  only_where_left zero u l f = absurd (no_flag m (k.invariant zero l) k.no_call k.no_notice u (invocation_of m u) refl f)
   only_where_left (suc i) u l f =
       subst (λ j. is_cancelled (invocation_of (state_at m xs j) u) ≡ true → WasLeft m xs j u) (add-one i)
       (go (turn_at xs i (omega (arith, l))) (only_where_left i u (omega (arith, l))))

@@ -4,13 +4,13 @@ use Rattle.std.specs.Option.{option_map}
 use Rattle.std.proofs.Common.{refl, sym, ap, subst, ◌∙◌}
 use native.Mathlib.Omega.{arith}
 use Rattle.std.proofs.lemmas.Bool.Decides.{nat_tests}
-use Rattle.written_kernel.specs.Types.{Call, Item, Name, PathId, Request, Thread, ThreadState, Tid}
+use Rattle.written_kernel.specs.Types.{Call, Item, Name, Notice, PathId, Request, Thread, ThreadState, Tid}
 use Rattle.dk_base.specs.ByNumber.{at_number}
 use Rattle.dk_base.specs.declared.object.Item.TheVariants as item
 use Rattle.dk_base.specs.declared.request.Request.TheVariants as request
 use Rattle.kernel_records.specs.declared.record.ThreadState.TheVariants as is
-use Rattle.kernel_records.specs.Words.{ProcessTable, change_thread, idle_thread, is_given_as, is_valid_in, state_in, thread_at, thread_at_state, thread_in_invocation, thread_outside}
-use Rattle.written_kernel.specs.Words.{State, Turn, accept_call, act, await, await_name, begin_call, effect, fail_begin, find_call, give_one, go_on, has_invalid_door, has_room, is_valid, name_of, now, process_of, return_parked, return_unbound, settle, state_at, state_of, step}
+use Rattle.kernel_records.specs.Words.{ProcessTable, change_thread, idle_thread, is_given_as, is_given_notice_as, is_valid_in, state_in, thread_at, thread_at_state, thread_in_invocation, thread_outside}
+use Rattle.written_kernel.specs.Words.{State, Turn, accept_call, accept_notice, act, await, await_name, begin_call, effect, fail_begin, find_call, find_notice, give_one, go_on, has_invalid_door, has_room, is_valid, name_of, now, process_of, return_parked, return_unbound, settle, state_at, state_of, step}
 use Rattle.written_kernel.proofs.Entries.{enter_either}
 use Rattle.written_kernel.proofs.Settling.{doors-settle, settle-all}
 use Rattle.written_kernel.proofs.Threads.{thread_at-change_thread}
@@ -86,9 +86,13 @@ accept_none m t p c (Some r) = go (has_room m p r.objects)
     go true = change_none m.process_table t (thread_in_invocation (item.Call c)) (λ x d. absurd (cc d))
     go false = change_none m.process_table t (idle_thread (now m)) (λ x d. absurd (cc d))
 
+notice_none : (m : State) (t c : ℕ) (o : Option Notice) → EndsNoneIn m (accept_notice m t c o).state
+notice_none m t c None = same_none m.process_table
+notice_none m t c (Some n) = change_none m.process_table t (thread_in_invocation (item.Notice c)) (λ x d. absurd (cc d))
+
 pub go_on_none : (m : State) (t p : ℕ) (s : ThreadState) → EndsNoneIn m (go_on m t p s).state
 go_on_none m t p (is.Given (item.Call c)) = accept_none m t p c (find_call m (is_given_as c t))
-go_on_none m t p (is.Given (item.Notice n)) = same_none m.process_table
+go_on_none m t p (is.Given (item.Notice n)) = notice_none m t n (find_notice m (is_given_notice_as n t))
 go_on_none m t p (is.Calling c) = turn_none m.process_table t is.Running (λ d. cc)
 go_on_none m t p (is.Awaiting path) = turn_none m.process_table t is.Running (λ d. cc)
 go_on_none m t p (is.Working op input) = turn_none m.process_table t is.Running (λ d. cc)
@@ -108,11 +112,11 @@ give_none m (item.Notice n) u = turn_none m.process_table u _ (λ d. cc)
 
 pub settle_none : (before m : State) (u : ℕ) → state_of (settle before m) u ≡ is.Done → state_of m u ≡ is.Done
 settle_none before m u =
-    settle-all (λ n. state_of n u ≡ is.Done → state_of m u ≡ is.Done)
+    settle-all (λ n. state_of n u ≡ is.Done → state_of m u ≡ is.Done) before (λ n d l e. e)
     (λ n t l e d. e ((turn_none n.process_table t is.FailedReturn (λ f. cc)).done u d))
     (λ n w x p e d. e ((give_none n w.item x.thread.0).done u d))
     (λ n t r e d. e ((turn_none n.process_table t is.Running (λ f. cc)).done u d))
-    before m
+    m
     (λ d. d)
 
 pub none_ends : (m : State) (t : ℕ) (q : Option Request) (u : ℕ) → is_leaving_turn q ≡ false → EndsNow m (step m t q).state u → ⊥

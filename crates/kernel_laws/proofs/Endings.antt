@@ -5,13 +5,13 @@ use Rattle.std.specs.Option.{option_map}
 use Rattle.std.proofs.Common.{refl, sym, ap, subst, ◌∙◌, inl, inr}
 use native.Mathlib.Omega.{arith}
 use Rattle.std.proofs.lemmas.Bool.Decides.{nat_tests}
-use Rattle.written_kernel.specs.Types.{Call, Errno, Item, Name, PathId, Pid, Process, Request, Thread, ThreadState, Tid}
+use Rattle.written_kernel.specs.Types.{Call, Errno, Item, Name, Notice, PathId, Pid, Process, Request, Thread, ThreadState, Tid}
 use Rattle.dk_base.specs.ByNumber.{at_number}
 use Rattle.dk_base.specs.declared.object.Item.TheVariants as item
 use Rattle.dk_base.specs.declared.request.Request.TheVariants as request
 use Rattle.kernel_records.specs.declared.record.ThreadState.TheVariants as is
-use Rattle.kernel_records.specs.Words.{Leaving, change_thread, deserted_in, ended_process, ended_thread, idle_thread, interrupted_where, interruption, is_active, is_given_as, is_last, is_live_in, is_served_by, keeps_alive, left_thread_of, process_end, process_in, revocation, state_in, thread_at_state, thread_end, thread_in_invocation, thread_outside}
-use Rattle.written_kernel.specs.Words.{State, accept_call, act, await, await_name, begin_call, door_at, effect, exit, fail_begin, find_call, give_one, go_on, has_invalid_door, has_room, is_live_process, kill, leave, leave_process, leave_thread, name_of, now, process_of, refusal_of, return_parked, return_unbound, settle, state_of, step, thread_of, unless_refused, with_event_counted}
+use Rattle.kernel_records.specs.Words.{Leaving, change_thread, deserted_in, ended_process, ended_thread, idle_thread, interrupted_where, interruption, is_active, is_given_as, is_given_notice_as, is_last, is_live_in, is_served_by, keeps_alive, left_thread_of, process_end, process_in, revocation, state_in, thread_at_state, thread_end, thread_in_invocation, thread_outside}
+use Rattle.written_kernel.specs.Words.{State, accept_call, accept_notice, act, await, await_name, begin_call, door_at, effect, exit, fail_begin, find_call, find_notice, give_one, go_on, has_invalid_door, has_room, is_live_process, kill, leave, leave_process, leave_thread, name_of, now, process_of, refusal_of, return_parked, return_unbound, settle, state_of, step, thread_of, unless_refused, with_event_counted}
 use Rattle.written_kernel.proofs.Lists.{at_number-map, at_number-suc}
 use Rattle.written_kernel.proofs.Settling.{settle-all}
 use Rattle.written_kernel.proofs.Threads.{at_number-end_process, processes-change_thread, thread_at-end_process}
@@ -64,9 +64,13 @@ accept_same m t p c (Some r) = go (has_room m p r.objects)
     go true = changed m t (thread_in_invocation (item.Call c))
     go false = changed m t (idle_thread (now m))
 
+notice_same : (m : State) (t c : ℕ) (o : Option Notice) → SameProcesses m (accept_notice m t c o).state
+notice_same m t c None = refl
+notice_same m t c (Some n) = changed m t (thread_in_invocation (item.Notice c))
+
 go_on_same : (m : State) (t p : ℕ) (s : ThreadState) → SameProcesses m (go_on m t p s).state
 go_on_same m t p (is.Given (item.Call c)) = accept_same m t p c (find_call m (is_given_as c t))
-go_on_same m t p (is.Given (item.Notice n)) = refl
+go_on_same m t p (is.Given (item.Notice n)) = notice_same m t n (find_notice m (is_given_notice_as n t))
 go_on_same m t p (is.Calling c) = changed m t (thread_at_state is.Running)
 go_on_same m t p (is.Awaiting path) = changed m t (thread_at_state is.Running)
 go_on_same m t p (is.Working op input) = changed m t (thread_at_state is.Running)
@@ -79,11 +83,11 @@ give_same m (item.Notice n) u = changed m u _
 
 pub settle_same : (before m : State) → (settle before m).process_table.processes ≡ m.process_table.processes
 settle_same before m =
-    settle-all (λ n. n.process_table.processes ≡ m.process_table.processes)
+    settle-all (λ n. n.process_table.processes ≡ m.process_table.processes) before (λ n d l e. e)
     (λ n t l e. changed n t (thread_at_state is.FailedReturn) ∙ e)
     (λ n w x p e. give_same n w.item x.thread.0 ∙ e)
     (λ n t r e. changed n t (thread_at_state is.Running) ∙ e)
-    before m refl
+    m refl
 
 -- a process that ends
 

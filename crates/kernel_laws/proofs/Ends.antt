@@ -4,28 +4,28 @@ use Rattle.std.specs.Option.{option_map}
 use Rattle.std.proofs.Common.{refl, sym, ap, subst, ◌∙◌, add-one, inl, inr}
 use native.Mathlib.Omega.{arith}
 use Rattle.std.proofs.lemmas.Bool.Decides.{nat_tests}
-use Rattle.written_kernel.specs.Types.{Call, Door, Item, Name, PathId, Pid, Process, Request, Thread, ThreadState}
+use Rattle.written_kernel.specs.Types.{Call, Door, Item, Name, Notice, NoticeStage, PathId, Pid, Process, Request, Thread, ThreadState}
 use Rattle.dk_base.specs.ByNumber.{at_number}
 use Rattle.dk_base.specs.declared.object.Item.TheVariants as item
 use Rattle.dk_base.specs.declared.request.Request.TheVariants as request
 use Rattle.kernel_records.specs.declared.record.ThreadState.TheVariants as is
 use Rattle.kernel_records.specs.declared.record.CallStage.TheVariants as stage
-use Rattle.kernel_records.specs.Words.{Leaving, ProcessTable, change_thread, end_process, ended_process, ended_thread, idle_thread, interrupted_where, interruption, is_given_as, is_last, is_live, is_live_in, is_served_by, is_valid_in, left_thread, left_thread_of, process_end, revocation, state_in, thread_at, thread_at_state, thread_end, thread_in_invocation, thread_outside, tid, with_ended}
-use Rattle.written_kernel.specs.Words.{MayEnter, MayTurn, State, Turn, accept_call, act, await, await_name, begin_call, door_at, door_of, effect, exit, fail_begin, find_call, give_one, go_on, has_invalid_door, has_room, is_live_process, is_running_state, can_go_on, is_valid, kill, leave, leave_process, leave_thread, name_of, now, process_of, return_parked, return_unbound, served_by, settle, state_at, state_of, step, thread_of}
+use Rattle.kernel_records.specs.Words.{Leaving, ProcessTable, change_thread, end_process, ended_process, ended_thread, idle_thread, interrupted_where, interruption, is_given_as, is_given_notice_as, is_last, is_live, is_live_in, is_served_by, is_valid_in, left_thread, left_thread_of, process_end, revocation, state_in, thread_at, thread_at_state, thread_end, thread_in_invocation, thread_outside, tid, with_ended}
+use Rattle.written_kernel.specs.Words.{MayEnter, MayTurn, State, Turn, accept_call, accept_notice, act, await, await_name, begin_call, door_at, door_of, effect, exit, fail_begin, find_call, find_notice, give_one, go_on, has_invalid_door, has_room, is_live_process, is_running_state, can_go_on, is_valid, kill, leave, leave_process, leave_thread, name_of, now, process_of, return_parked, return_unbound, served_by, settle, state_at, state_of, step, thread_of}
 use Rattle.written_kernel.proofs.Entries.{enter_either}
 use Rattle.written_kernel.proofs.Lists.{at_number-map, at_number-renumbered_there, is_some-at_number}
 use Rattle.written_kernel.proofs.Steps.{process_of-step}
 use Rattle.written_kernel.proofs.Settling.{settle-all}
 use Rattle.written_kernel.proofs.Threads.{processes-change_thread}
-use Rattle.kernel_invariant.specs.Records.{item_in, owner_in, owner_of_call, record_of, stage_in, stage_of}
+use Rattle.kernel_invariant.specs.Records.{item_in, notice_of, owner_in, owner_of_call, record_of, stage_in, stage_of}
 use Rattle.kernel_invariant.specs.Arrows.{EndsNow}
-use Rattle.kernel_invariant.specs.Core.{core, door_in, ended_in, is_outside, number_in}
+use Rattle.kernel_invariant.specs.Core.{core, door_in, ended_in, is_outside, notice_in, noticed_in, number_in}
 use Rattle.kernel_invariant.specs.Coherent.{IsCoherent}
 use Rattle.kernel_invariant.specs.Invariant.{Invariant}
-use Rattle.kernel_laws.specs.Ends.{Ends, EndsProcess, HasEnded, HasNoCall, IsLast, ThreadEnds, is_ended}
+use Rattle.kernel_laws.specs.Ends.{Ends, EndsProcess, HasEnded, HasNoCall, HasNoNotice, IsLast, ServesNoNotice, ThreadEnds, is_ended}
 use Rattle.kernel_laws.specs.Ends.EndsProcess.{kills, exits as exits_process}
 use Rattle.kernel_laws.specs.Ends.ThreadEnds.{exits, with_process}
-use Rattle.kernel_laws.specs.Places.{process_at}
+use Rattle.kernel_laws.specs.Places.{notice_stage_of, notice_door, owner_of_notice, process_at}
 use Rattle.kernel_laws.proofs.Endings.{EndsOne, EndsThread, is_last_thread, last_is, leave_done, process_there, step_ends_one, step_ends_thread, step_exits, step_kills}
 use Rattle.kernel_laws.proofs.Endings.EndsOne.{kills as kills_one, exits as exits_last}
 use Rattle.kernel_laws.proofs.Endings.EndsThread.{exits as own_exit, with_process as process_over}
@@ -190,9 +190,13 @@ accept_keeps m t p c (Some r) h = go (has_room m p r.objects)
     go true = change_keeps m.process_table t (thread_in_invocation (item.Call c)) h
     go false = change_keeps m.process_table t (idle_thread (now m)) h
 
+notice_keeps : (m : State) (t c : ℕ) (o : Option Notice) → (state_of m t ≡ is.Done → ⊥) → KeepsEndsIn m (accept_notice m t c o).state
+notice_keeps m t c None h = same_keeps m.process_table
+notice_keeps m t c (Some n) h = change_keeps m.process_table t (thread_in_invocation (item.Notice c)) h
+
 go_on_keeps : (m : State) (t p : ℕ) (s : ThreadState) → (state_of m t ≡ is.Done → ⊥) → KeepsEndsIn m (go_on m t p s).state
 go_on_keeps m t p (is.Given (item.Call c)) h = accept_keeps m t p c (find_call m (is_given_as c t)) h
-go_on_keeps m t p (is.Given (item.Notice n)) h = same_keeps m.process_table
+go_on_keeps m t p (is.Given (item.Notice n)) h = notice_keeps m t n (find_notice m (is_given_notice_as n t)) h
 go_on_keeps m t p (is.Calling c) h = change_keeps m.process_table t _ h
 go_on_keeps m t p (is.Awaiting path) h = change_keeps m.process_table t _ h
 go_on_keeps m t p (is.Working op input) h = change_keeps m.process_table t _ h
@@ -217,14 +221,14 @@ give_keeps m (item.Notice n) u h = change_keeps m.process_table u _ h
 
 settle_keeps : (before m : State) → KeepsEndsIn m (settle before m)
 settle_keeps before m =
-    settle-all (λ n. KeepsEndsIn m n)
+    settle-all (λ n. KeepsEndsIn m n) before (λ n d l e. e)
     (λ n t l e. keeps_then m.process_table n.process_table _ e
     (change_keeps n.process_table t (thread_at_state is.FailedReturn) (λ d. not_at_both (state_of n t) _ _ (loses_idle n t l).1 d (λ z. cc))))
     (λ n w x p e. keeps_then m.process_table n.process_table _ e
     (give_keeps n w.item x.thread.0 (λ d. not_at_both (state_of n x.thread.0) _ _ (picked_idle n _ x p) d (λ z. cc))))
     (λ n t r e. keeps_then m.process_table n.process_table _ e
     (change_keeps n.process_table t (thread_at_state is.Running) (λ d. not_at_both (state_of n t) _ _ r d (λ z. cc))))
-    before m
+    m
     (same_keeps m.process_table)
 
 step_keeps_ends : (m : State) (t : ℕ) (q : Option Request) → Invariant m → MayTurn m t q → KeepsEndsIn m (step m t q).state
@@ -299,6 +303,31 @@ module _ (m : State) (h : Invariant m) (p : ℕ) (e : is_ended m p ≡ true) whe
   no_call c u f (inr (inl g)) = none_with c u (same_owner p _ _ (owner c _ g f) (coherent.at_doors.given_owner c u g)) (inl g)
   no_call c u f (inr (inr g)) = none_with c u (same_owner p _ _ (owner c _ g f) (coherent.at_doors.entered_owner c u g)) (inr g)
 
+  -- the same of notices
+
+  notice_owner :
+      (c : ℕ) (s : NoticeStage) → notice_stage_of m c ≡ Some s → owner_of_notice m c ≡ Some p →
+      owner_in (door_of m (noticed_in (notice_of m c))) ≡ Some p
+  notice_owner c s e f = go (notice_of m c) e f
+    where
+      go : (o : Option Notice) → notice_in o ≡ Some s → owner_in (notice_door m o) ≡ Some p → owner_in (door_of m (noticed_in o)) ≡ Some p
+      go None g h = absurd (cc g)
+      go (Some x) g h = h
+
+  serves_no_notice : ServesNoNotice m p
+  serves_no_notice c u f (inl g) =
+      not_at_both (state_of m u) _ _ (coherent.notices_given.notice_given c u g) (threads_done u f) (λ z. cc)
+  serves_no_notice c u f (inr g) =
+      absurd (cc (sym (ap item_in (coherent.servers.outside u (ap is_outside (threads_done u f)))) ∙ coherent.notices_entered.notice_entered c u g))
+
+  no_notice : HasNoNotice m p
+  no_notice c u f (inl g) =
+      not_valid_and_valid _ (coherent.notices_at_doors.notice_valid c g) (no_valid_door (noticed_in (notice_of m c)) (notice_owner c _ g f))
+  no_notice c u f (inr (inl g)) =
+      serves_no_notice c u (same_owner p _ _ (notice_owner c _ g f) (coherent.notices_at_doors.notice_given_owner c u g)) (inl g)
+  no_notice c u f (inr (inr g)) =
+      serves_no_notice c u (same_owner p _ _ (notice_owner c _ g f) (coherent.notices_at_doors.notice_entered_owner c u g)) (inr g)
+
   pub has_ended : (own : (c : ℕ) (r : Call) → record_of m c ≡ Some r → is_live r.stage ≡ true → state_of m r.caller.0 ≡ is.Calling c) → HasEnded m p
   has_ended own =
       record {
@@ -307,6 +336,8 @@ module _ (m : State) (h : Invariant m) (p : ℕ) (e : is_ended m p ≡ true) whe
         no_valid_door = no_valid_door;
         no_call = no_call;
         serves_none = none_with;
+        no_notice = no_notice;
+        serves_no_notice = serves_no_notice;
         none_live = none_live;
       }
     where
@@ -321,7 +352,8 @@ module _ (m : State) (xs : List Turn) (k : Known m xs) where
   -- what each turn keeps stays
   pub stays :
       (P : State → Type 0) (i : ℕ) →
-      ((a : ℕ) (x : Turn) → i ≤ a → slice_get xs a ≡ Some x → P (state_at m xs a) → P (state_at m xs (a + 1))) → (j : ℕ) → i ≤ j → j ≤ length xs → P (state_at m xs i) → P (state_at m xs j)
+      ((a : ℕ) (x : Turn) → i ≤ a → slice_get xs a ≡ Some x → P (state_at m xs a) → P (state_at m xs (a + 1))) → (j : ℕ) →
+      i ≤ j → j ≤ length xs → P (state_at m xs i) → P (state_at m xs j)
   stays P i one zero l b h = let same : i ≡ zero = omega (arith, l) in subst (λ j. P (state_at m xs j)) same h
   stays P i one (suc j) l b h = go (split i (suc j) l) (λ f. stays P i one j f (omega (arith, b)) h)
     where

@@ -30,6 +30,7 @@ use Rattle.kernel_laws.proofs.Creators.{made_by_creator}
 use Rattle.kernel_laws.proofs.Ends.{ends_holds}
 use Rattle.kernel_laws.proofs.InvalidDoors.{invalid_doors_hold}
 use Rattle.kernel_laws.proofs.Cancels.{cancels_holds}
+use Rattle.kernel_laws.proofs.Notices.{notices_hold}
 
 by_first_test : (m : State) (xs : List Turn) → Known m xs → FailsByFirstTest m xs
 by_first_test m xs k i x r e f q = (λ a. both.0 (tells.0 a), λ h. tells.1 (both.1 h))
@@ -113,6 +114,7 @@ all_hold m xs k =
       ends = ends_holds m xs k;
       invalid_doors = invalid_doors_hold m xs k;
       cancels = cancels_holds m xs k;
+      notices = notices_hold m xs k;
       events_shown = events_shown m xs k;
     }
 

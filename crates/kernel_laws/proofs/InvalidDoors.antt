@@ -4,16 +4,18 @@ use Rattle.std.proofs.Common.{refl, sym, ap, subst, ◌∙◌}
 use native.Mathlib.Omega.{arith}
 use Rattle.std.proofs.lemmas.Bool.Decides.{nat_tests}
 use Rattle.std.proofs.lemmas.Option.{slice_get_within}
-use Rattle.written_kernel.specs.Types.{Door, Errno, Fd, Obj, Process, Request}
+use Rattle.written_kernel.specs.Types.{Call, CallStage, Door, Errno, Fd, Notice, NoticeStage, Obj, Process, Request}
 use Rattle.dk_base.specs.ByNumber.{at_number}
 use Rattle.dk_base.specs.declared.object.Obj.TheVariants as obj
 use Rattle.dk_base.specs.declared.request.Request.TheVariants as request
 use Rattle.dk_base.specs.declared.answer.Answer.TheVariants as answer
+use Rattle.kernel_records.specs.declared.record.CallStage.TheVariants as stage
+use Rattle.kernel_records.specs.declared.record.NoticeStage.TheVariants as notice
 use Rattle.kernel_records.specs.Words.{is_live_in, is_owned_by, is_valid_in}
 use Rattle.written_kernel.specs.Words.{State, Turn, act, door_at, door_named, door_of, is_valid, object_at, process_of, refusal_of, revoke, state_at, step, unless_refused}
-use Rattle.kernel_invariant.specs.Core.{ended_in}
+use Rattle.kernel_invariant.specs.Core.{door_in, ended_in, notice_in, noticed_in}
 use Rattle.kernel_invariant.specs.Invariant.{Invariant}
-use Rattle.kernel_invariant.specs.Records.{owner_in}
+use Rattle.kernel_invariant.specs.Records.{notice_of, owner_in, record_of, stage_in}
 use Rattle.kernel_laws.specs.Ends.{is_ended}
 use Rattle.kernel_laws.specs.InvalidDoors.{InvalidDoors, Invalidates}
 use Rattle.kernel_laws.specs.InvalidDoors.Invalidates.{revoked, owner_ends}
@@ -147,5 +149,19 @@ module _ (m : State) (xs : List Turn) (k : Known m xs) where
   by_each i d x e (owner_ends p f b a) =
       no_valid_door (state_at m xs (i + 1)) (invariant_after m xs k i x e) p a d (owner_kept i d p x e f)
 
+  call_waits :
+      (i c : ℕ) (r : Call) → i ≤ length xs → record_of (state_at m xs i) c ≡ Some r → r.stage ≡ stage.Queued →
+      is_valid (state_at m xs i) r.door ≡ true
+  call_waits i c r l e f =
+      subst (λ o. is_valid (state_at m xs i) (door_in o) ≡ true) e
+      ((k.invariant i l).consistent.coherent.at_doors.waiting_valid c (ap stage_in e ∙ ap (λ (s : CallStage). Some s) f))
+
+  notice_waits :
+      (i c : ℕ) (x : Notice) → i ≤ length xs → notice_of (state_at m xs i) c ≡ Some x → x.stage ≡ notice.Waiting →
+      is_valid (state_at m xs i) x.door ≡ true
+  notice_waits i c x l e f =
+      subst (λ o. is_valid (state_at m xs i) (noticed_in o) ≡ true) e
+      ((k.invariant i l).consistent.coherent.notices_at_doors.notice_valid c (ap notice_in e ∙ ap (λ (s : NoticeStage). Some s) f))
+
   pub invalid_doors_hold : InvalidDoors m xs
-  invalid_doors_hold = record { stays = invalid_stays; only_by = only_by; by_each = by_each }
+  invalid_doors_hold = record { stays = invalid_stays; only_by = only_by; by_each = by_each; call_waits = call_waits; notice_waits = notice_waits }

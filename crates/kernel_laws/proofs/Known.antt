@@ -6,7 +6,7 @@ use Rattle.std.proofs.lemmas.Option.{slice_get_within}
 use Rattle.written_kernel.specs.Types.{Call}
 use Rattle.written_kernel.specs.Words.{MayTurn, State, Turn, door_of, state_after_turn, state_at}
 use Rattle.written_kernel.proofs.Runs.{state_at_more}
-use Rattle.kernel_invariant.specs.Records.{record_of}
+use Rattle.kernel_invariant.specs.Records.{notice_of, record_of}
 use Rattle.kernel_invariant.specs.Invariant.{Invariant}
 use Rattle.kernel_invariant.specs.Events.{Keeps}
 use Rattle.kernel_laws.specs.Places.{Becomes, answer_at}
@@ -32,6 +32,7 @@ false_not_true e = grind arith
 
 pub record Known (m : State) (xs : List Turn) : Type 0 where
   pub no_call : (c : ℕ) → record_of m c ≡ None
+  pub no_notice : (c : ℕ) → notice_of m c ≡ None
   pub no_event : m.events ≡ 0
   pub no_door : (d : ℕ) → door_of m d ≡ None
   pub invariant : (i : ℕ) → i ≤ length xs → Invariant (state_at m xs i)

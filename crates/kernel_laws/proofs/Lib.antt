@@ -5,6 +5,9 @@ mod Bound
 mod Tables
 mod Changes
 mod Known
+mod NoticeChanges
+mod NoticePlaces
+mod NoticeNumbers
 mod Story
 mod Rows
 mod Readers
@@ -24,6 +27,14 @@ mod Endings
 mod Ends
 mod InvalidDoors
 mod Cancels
+mod NoticeEvents
+mod NoticesMade
+mod NoticesEntered
+mod NoticeFates
+mod NoticeReasons
+mod NoticeThreads
+mod Notices
 mod Runs
 mod EveryRun
 mod Example
+mod NoticeExample

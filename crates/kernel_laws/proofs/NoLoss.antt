@@ -5,14 +5,16 @@ use native.Mathlib.Omega.{arith}
 use Rattle.std.proofs.lemmas.Option.{slice_get_within}
 use Rattle.written_kernel.specs.Types.{Answer, Call, CallStage, Door, Errno, Fd, Obj, Pass, Request}
 use Rattle.dk_base.specs.declared.error.Errno.TheVariants.{EMFILE}
+use Rattle.dk_base.specs.declared.object.Item.TheVariants as item
 use Rattle.dk_base.specs.declared.request.Request.TheVariants as request
 use Rattle.dk_base.specs.declared.answer.Answer.TheVariants as answer
 use Rattle.kernel_records.specs.declared.record.CallStage.TheVariants as stage
 use Rattle.kernel_records.specs.declared.record.ThreadState.TheVariants as is
 use Rattle.kernel_records.specs.Words.{cookie_of, entry_of, gone_call_at, new_descriptors, objects_passed, tid}
-use Rattle.written_kernel.specs.Words.{State, Turn, door_of, object_at, objects_in_call, objects_in_transit, state_at, step}
+use Rattle.written_kernel.specs.Words.{State, Turn, door_of, object_at, objects_in_call, objects_in_transit, state_at, state_of, step}
 use Rattle.kernel_invariant.specs.Core.{has_arguments}
 use Rattle.kernel_invariant.specs.Records.{record_of, stage_in}
+use Rattle.kernel_invariant.specs.Events.{IsToldBy}
 use Rattle.kernel_laws.specs.Places.{BecomesAnswered, BecomesReturned, IsCollect, MakesCall, ReturnsCall, answer_at, is_answered_in, is_entered_in, is_returned_in, process_at}
 use Rattle.kernel_laws.specs.Once.{Enters, FailsToEnter}
 use Rattle.kernel_laws.specs.NoLoss.{AreBrought, AreInstalled, AreReleased, Brings, Fate, IsPut, IsSameTable, NoLoss, Passes, Puts, in_transit, message_in, message_of, results_in_transit}
@@ -27,7 +29,7 @@ use Rattle.kernel_laws.proofs.Rows.{HandsOver, Origin, answered_row, ended_row, 
 use Rattle.kernel_laws.proofs.Rows.HandsOver.{results, nothing, error}
 use Rattle.kernel_laws.proofs.Rows.Origin.{new, older}
 use Rattle.kernel_laws.proofs.ReturnRefusals.{not_refused_at}
-use Rattle.kernel_laws.proofs.Tables.{Installs, Releases, call_passes, failed_accept_keeps, failed_collect_keeps, return_passes}
+use Rattle.kernel_laws.proofs.Tables.{Installs, Releases, call_passes, failed_accept_keeps, failed_collect_keeps, notice_accept_keeps, return_passes}
 use Rattle.kernel_laws.proofs.Readers.{AnsweredRowAt, EndedRowAt, EnteredRowAt, HasObjects, ReturnedRowAt, made_here, number_of, table_at}
 use Rattle.kernel_laws.proofs.Once.{HandsBack, accept_fails, accepts, answered_by, collected_results, collects, entered_by}
 use Rattle.kernel_laws.proofs.Match.{installed_at_accept, installed_at_collect, only_by_call, only_by_return}
@@ -439,6 +441,16 @@ module _ (m : State) (xs : List Turn) (k : Known m xs) where
           ap (λ n. object_at n p fd) (next m xs k i x e)
           ∙ failed_accept_keeps (state_at m xs i) x.thread c c x.request h.no_request h.was_given f p fd
 
+  notice_keeps :
+      (i c entry cookie : ℕ) (x : Turn) → slice_get xs i ≡ Some x → answer_at m xs i x ≡ answer.EnteredNotice c entry cookie →
+      (p : ℕ) → IsSameTable m xs i p
+  notice_keeps i c entry cookie x e f p fd = go (subst (IsToldBy (state_at m xs i) x.thread x.request) f (k.keeps i x e).told)
+    where
+      go :
+          (x.request ≡ None) × (state_of (state_at m xs i) x.thread ≡ is.Given (item.Notice c)) →
+          object_at (state_at m xs (i + 1)) p fd ≡ object_at (state_at m xs i) p fd
+      go h = ap (λ n. object_at n p fd) (next m xs k i x e) ∙ notice_accept_keeps (state_at m xs i) x.thread c x.request h.0 h.1 p fd
+
   collect_keeps :
       (i c : ℕ) (x : Turn) (y : Errno) → slice_get xs i ≡ Some x → IsCollect m xs i x c → answer_at m xs i x ≡ answer.Failure y →
       (p : ℕ) → IsSameTable m xs i p
@@ -478,6 +490,7 @@ module _ (m : State) (xs : List Turn) (k : Known m xs) where
         fate = fate;
         brought = brought;
         accept_keeps = accept_keeps;
+        notice_keeps = notice_keeps;
         collect_keeps = collect_keeps;
         released = released;
       }

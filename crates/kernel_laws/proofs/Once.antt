@@ -25,6 +25,7 @@ use Rattle.kernel_laws.specs.Once.InvocationMoves.{stays as move_stays, begins a
 use Rattle.kernel_laws.specs.Once.WaitsAgain.{is_idle, is_given, has_failed}
 use Rattle.kernel_laws.proofs.Changes.{answered_rank, entered_rank}
 use Rattle.kernel_laws.proofs.Known.{Known, becomes_once, changes, false_not_true, invariant_after, invariant_before, next}
+use Rattle.kernel_laws.proofs.NoticePlaces.{notice_entered_by}
 use Rattle.kernel_laws.proofs.Bound.{invalid_decides, none_invalid}
 use Rattle.kernel_laws.proofs.ReturnRefusals.{no_return_refusal}
 use Rattle.kernel_laws.proofs.Returns.{return_ends, return_parks, return_unbinds, wakes}
@@ -47,6 +48,9 @@ entered_not_failed c d entry cookie bytes fds e = cc
 
 same_given : (c d : ℕ) (r : Call) → is.Given (item.Call r.number) ≡ is.Given (item.Call c) → r.number ≡ d → d ≡ c
 same_given c d r e f = cc
+
+notice_or_call : (c n : ℕ) → is.Given (item.Notice n) ≡ is.Given (item.Call c) → ⊥
+notice_or_call c n e = cc
 
 same_item : (c d : ℕ) (o : Option Item) → o ≡ Some (item.Call c) → o ≡ Some (item.Call d) → c ≡ d
 same_item c d o e f = cc
@@ -83,16 +87,16 @@ pub owner_same : (m : State) (o : Option Call) (s : CallStage) → stage_in o �
 owner_same m None s e = grind arith
 owner_same m (Some r) s e = refl
 
-begun :
-    (m : State) (t : ℕ) (q : Option Request) (a : Answer) (n : State) (u c : ℕ) (o p : Option Inv) →
-    InvocationArrow m t q a n u o p → o ≡ None → item_in p ≡ Some (item.Call c) → p ≡ Some (new_invocation (item.Call c))
-begun m t q a n u c o p stays e f = absurd (grind arith)
-begun m t q a n u c o p (begins i g h k b) e f =
-    let same : i ≡ item.Call c = cc in
+pub begun :
+    (m : State) (t : ℕ) (q : Option Request) (a : Answer) (n : State) (u : ℕ) (w : Item) (o p : Option Inv) →
+    InvocationArrow m t q a n u o p → o ≡ None → item_in p ≡ Some w → p ≡ Some (new_invocation w)
+begun m t q a n u w o p stays e f = absurd (grind arith)
+begun m t q a n u w o p (begins i g h k b) e f =
+    let same : i ≡ w = cc in
     ap (λ (z : Item). Some (new_invocation z)) same
-begun m t q a n u c o p (cancels v g) e f = absurd (grind arith)
-begun m t q a n u c o p (ends v bytes pass g h l k) e f = absurd (grind arith)
-begun m t q a n u c o p (leaves v g) e f = absurd (grind arith)
+begun m t q a n u w o p (cancels v g) e f = absurd (grind arith)
+begun m t q a n u w o p (ends v bytes pass g h l k) e f = absurd (grind arith)
+begun m t q a n u w o p (leaves v g) e f = absurd (grind arith)
 
 -- an accept that fails begins no invocation
 not_begun :
@@ -206,10 +210,11 @@ module _ (m : State) (xs : List Turn) (k : Known m xs) where
         stage_before = before;
         stage_after = after;
         entered = becomes;
+        no_notice = λ n b. notice_or_call c _ (sym (notice_entered_by m xs k i n x e b).given ∙ s);
         nothing_else = λ d b. same_given c d (entered_by i d x e b).call (sym (entered_by i d x e b).given ∙ s) (number_of (state_at m xs i) d _ (entered_by i d x e b).before);
         of_the_owner = owner_same (state_at m xs i) (record_of (state_at m xs i) c) _ before ∙ h.at_doors.given_owner c x.thread before;
         free_before = free;
-        invocation_after = begun _ _ _ _ _ x.thread c _ _ (invocations i x.thread x e) free (g.invocations.entered c x.thread after);
+        invocation_after = begun _ _ _ _ _ x.thread (item.Call c) _ _ (invocations i x.thread x e) free (g.invocations.entered c x.thread after);
       }
     where
       before : stage_of (state_at m xs i) c ≡ Some (stage.Given (tid x.thread))
@@ -256,6 +261,7 @@ module _ (m : State) (xs : List Turn) (k : Known m xs) where
                 let same : z ≡ r = some_call z r (sym f ∙ b) in
                 ap (λ (y : Call). has_own_room (state_at m xs i) x.thread y.objects) same ∙ room;
             none_entered = λ d b. none (only_by_accept i d x e b);
+            no_notice = λ n b. notice_or_call c _ (sym (notice_entered_by m xs k i n x e b).given ∙ s);
             of_the_owner = owner_same (state_at m xs i) (record_of (state_at m xs i) c) _ before ∙ h.at_doors.given_owner c x.thread before;
             free_after = not_begun _ _ _ _ _ x.thread c _ _ (invocations i x.thread x e) (h.servers.outside x.thread (ap is_outside s)) a;
             parked =

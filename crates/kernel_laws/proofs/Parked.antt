@@ -11,9 +11,9 @@ use Rattle.dk_base.specs.declared.answer.Answer.TheVariants as answer
 use Rattle.dk_base.specs.ByNumber.{at_number}
 use Rattle.kernel_records.specs.declared.record.ThreadState.TheVariants as is
 use Rattle.kernel_records.specs.Words.{ProcessTable, bound_at, bound_in, change_thread, is_given_as, is_idle, state_in, thread_at, unbind_thread}
-use Rattle.written_kernel.specs.Words.{State, accept_call, act, begin_call, bound_of, fail_begin, fail_each, fail_one, fail_return, fail_returns, find_call, give_one, go_on, has_invalid_door, has_lost_door, has_room, is_bound_to_invalid, now, pick, pool_of, process_of, settle, state_of, step, thread_of, with_event_counted, with_state}
+use Rattle.written_kernel.specs.Words.{State, accept_call, act, begin_call, bound_of, fail_begin, fail_each, fail_one, fail_return, fail_returns, find_call, give_one, go_on, has_invalid_door, has_lost_door, has_room, is_bound_to_invalid, make_notices, now, pick, pool_of, process_of, settle, state_of, step, thread_of, with_event_counted, with_state}
 use Rattle.written_kernel.proofs.Lists.{at_number-with_at_number, numbered_within}
-use Rattle.written_kernel.proofs.Settling.{KeptByFailing, KeptByGiving, KeptByStarting, give_and_start-all, settle-all}
+use Rattle.written_kernel.proofs.Settling.{KeptByFailing, KeptByGiving, KeptByMaking, KeptByStarting, give_and_start-all, make_notices-alone, settle-all, with_notice_of}
 use Rattle.written_kernel.proofs.Threads.{thread_at-change_thread}
 use Rattle.kernel_invariant.proofs.Picks.{parked_is, pick_is}
 
@@ -135,8 +135,11 @@ not_both : (b : Bool) → b ≡ true → b ≡ false → ⊥
 not_both b e f = cc
 
 waits : (before m : State) (t since : ℕ) → has_invalid_door m t ≡ false → state_of m t ≡ is.Idle since → Stays m (settle before m) t since
-waits before m t since v e = settle-all (λ n. Stays m n t since) fails gives starts before m (still v e)
+waits before m t since v e = settle-all (λ n. Stays m n t since) before makes fails gives starts m (still v e)
   where
+    makes : KeptByMaking (λ n. Stays m n t since) before
+    makes n d l h = stays_with m n (with_notice_of n d) t since refl refl h
+
     fails : KeptByFailing (λ n. Stays m n t since)
     fails n u l h = go (t == u) refl
       where
@@ -223,16 +226,24 @@ record HasFailed (n : State) (t : ℕ) : Type 0 where
   bound : bound_of n t ≡ None
 
 fails_then : (before m : State) (t since : ℕ) → has_invalid_door m t ≡ true → state_of m t ≡ is.Idle since → HasFailed (settle before m) t
-fails_then before m t since v e = give_and_start-all (λ n. HasFailed n t) gives starts before (fail_returns m) (go (fails_each m t since (length m.process_table.threads) within.0 v e))
+fails_then before m t since v e =
+    give_and_start-all (λ n. HasFailed n t) gives starts before (fail_returns n)
+    (go
+    (fails_each n t since (length n.process_table.threads) within.0
+    (ap (λ n. has_invalid_door n t) (make_notices-alone before m) ∙ v) (ap (λ n. state_of n t) (make_notices-alone before m) ∙ e)))
   where
+    n : State
+    n = make_notices before m
+
     there : IsThread m t
     there = is_thread m t (λ d. absurd (cc (sym e ∙ d)))
 
     within : (1 ≤ t) × (t ≤ length m.process_table.threads)
     within = numbered_within m.process_table.threads t there.thread there.there
 
-    go : Fails m (fail_returns m) t since (length m.process_table.threads) → HasFailed (fail_returns m) t
-    go (not_yet f w s) = absurd (omega (arith, f, within.1))
+    go : Fails n (fail_returns n) t since (length n.process_table.threads) → HasFailed (fail_returns n) t
+    go (not_yet f w s) =
+        absurd (omega (arith, f, within.1, ap (λ (k : State). length k.process_table.threads) (make_notices-alone before m)))
     go (now_failed f s b) = record { state = s; bound = b }
 
     gives : KeptByGiving (λ n. HasFailed n t)

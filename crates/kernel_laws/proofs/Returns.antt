@@ -72,15 +72,15 @@ record GoesOn (n : State) (t : ℕ) : Type 0 where
 
 settle_running : (before m : State) (t : ℕ) → state_of m t ≡ is.Running → state_of (settle before m) t ≡ is.Running
 settle_running before m t =
-    settle-all (λ n. state_of n t ≡ is.Running)
+    settle-all (λ n. state_of n t ≡ is.Running) before (λ n d l e. e)
     (λ n u l e. state_elsewhere n.process_table u t _ (other_thread n t u _ _ e (loses_idle n u l).1 (λ z. cc)) ∙ e)
     (λ n w x p e. given_state n w.item x.thread.0 t (other_thread n t x.thread.0 _ _ e (picked_idle n _ x p) (λ z. cc)) ∙ e)
     (λ n u d e. state_elsewhere n.process_table u t _ (other_thread n t u _ _ e d (λ z. cc)) ∙ e)
-    before m
+    m
 
 settle_unbound : (before m : State) (t : ℕ) → bound_of m t ≡ None → bound_of (settle before m) t ≡ None
 settle_unbound before m t =
-    settle-all (λ n. bound_of n t ≡ None) (λ n u l e. fails n u e) (λ n w x p e. given_bound n w.item x.thread.0 t ∙ e) (λ n u d e. e) before m
+    settle-all (λ n. bound_of n t ≡ None) before (λ n d l e. e) (λ n u l e. fails n u e) (λ n w x p e. given_bound n w.item x.thread.0 t ∙ e) (λ n u d e. e) m
   where
     fails : (n : State) (u : ℕ) → bound_of n t ≡ None → bound_at (unbind_thread n.bindings u) t ≡ None
     fails n u e = go (t == u) refl

@@ -1,13 +1,15 @@
 -- What is known of each place of a run, from its opening state on.
-use Rattle.std.specs.Prelude.{ℕ, ◌≡◌, ◌+◌, ◌≤◌, List, None, zero, suc, length}
+use Rattle.std.specs.Prelude.{ℕ, ◌≡◌, ◌+◌, ◌≤◌, List, None, zero, suc, find, length}
 use Rattle.std.proofs.Common.{sym, ap, subst, ◌∙◌, add-one}
 use native.Mathlib.Omega.{arith}
 use Rattle.std.proofs.lemmas.Bool.Decides.{nat_tests}
 use Rattle.std.proofs.lemmas.Option.{slice_get_within}
 use Rattle.dk_base.specs.ByNumber.{at_number}
+use Rattle.kernel_records.specs.Words.{NoticeList}
 use Rattle.written_kernel.specs.Words.{IsOpening, IsRun, State, Turn, door_of, state_at}
 use Rattle.written_kernel.proofs.Opening.{opened}
 use Rattle.written_kernel.proofs.Runs.{MayTurn_at, state_at_more}
+use Rattle.kernel_invariant.specs.Records.{has_notice_number, notice_of}
 use Rattle.kernel_invariant.specs.Invariant.{Invariant}
 use Rattle.kernel_invariant.proofs.Events.{step_keeps}
 use Rattle.kernel_invariant.proofs.Openings.{no_call_at_first, opening_keeps}
@@ -28,10 +30,14 @@ module _ (m : State) (xs : List Turn) (opens : IsOpening m) (run : IsRun m xs) w
   no_door_at_first : (d : ℕ) → door_of m d ≡ None
   no_door_at_first d = ap (λ ds. at_number ds d) (opened opens).doors ∙ grind (arith, nat_tests)
 
+  no_notice_at_first : (c : ℕ) → notice_of m c ≡ None
+  no_notice_at_first c = ap (λ (list : NoticeList). find (has_notice_number c) list.notices) (opened opens).notice_list
+
   pub known : Known m xs
   known =
       record {
         no_call = no_call_at_first m opens;
+        no_notice = no_notice_at_first;
         no_event = (opened opens).events;
         no_door = no_door_at_first;
         invariant = invariant_at;

@@ -5,7 +5,7 @@ use Rattle.std.specs.List.{list_any}
 use Rattle.std.proofs.Common.{refl, sym, ap, ◌∙◌}
 use native.Mathlib.Omega.{arith}
 use Rattle.std.proofs.lemmas.Bool.Decides.{nat_tests}
-use Rattle.written_kernel.specs.Types.{Answer, Call, CallStage, Errno, Fd, Obj, Pass, Request, ThreadState}
+use Rattle.written_kernel.specs.Types.{Answer, Call, CallStage, Errno, Fd, Notice, Obj, Pass, Request, ThreadState}
 use Rattle.dk_base.specs.declared.error.Errno.TheVariants.{E2BIG, EINVAL, EMFILE}
 use Rattle.dk_base.specs.declared.limits.TheConstants.{DATA_MAX, PASS_MAX}
 use Rattle.dk_base.specs.declared.object.Item.TheVariants as item
@@ -13,8 +13,8 @@ use Rattle.dk_base.specs.declared.request.Request.TheVariants as request
 use Rattle.dk_base.specs.declared.answer.Answer.TheVariants as answer
 use Rattle.kernel_records.specs.declared.record.ThreadState.TheVariants as is
 use Rattle.kernel_records.specs.declared.record.CallStage.TheVariants as stage
-use Rattle.kernel_records.specs.Words.{Test, first_refusal, free_rows, insert_rows, is_bad_pass, is_given_as, is_not_open, is_to_collect_as, limit_tests, new_descriptors, object_in, object_named, objects_passed, refused_where, release_rows, table_in, tid, with_table}
-use Rattle.written_kernel.specs.Words.{State, accept_call, act, begin_call, client_call, collect_answer, collect_answer_in, door_named, door_of, effect, fail_begin, find_call, go_on, has_room, object_at, objects_collected, objects_collected_in, pool_tests, process_of, refusal_of, return, return_parked, return_unbound, has_invalid_door, state_of, step, table_of, tables_after_collect, tables_after_pass, tables_with, unless_refused}
+use Rattle.kernel_records.specs.Words.{Test, first_refusal, free_rows, insert_rows, is_bad_pass, is_given_as, is_given_notice_as, is_not_open, is_to_collect_as, limit_tests, new_descriptors, object_in, object_named, objects_passed, refused_where, release_rows, table_in, tid, with_table}
+use Rattle.written_kernel.specs.Words.{State, accept_call, accept_notice, act, begin_call, client_call, collect_answer, collect_answer_in, door_named, door_of, effect, fail_begin, find_call, find_notice, go_on, has_room, object_at, objects_collected, objects_collected_in, pool_tests, process_of, refusal_of, return, return_parked, return_unbound, has_invalid_door, state_of, step, table_of, tables_after_collect, tables_after_pass, tables_with, unless_refused}
 use Rattle.written_kernel.proofs.Settling.{tables-settle}
 use Rattle.kernel_invariant.specs.Records.{record_of}
 use Rattle.kernel_invariant.specs.Arrows.{has_own_room, own_table}
@@ -28,7 +28,7 @@ use Rattle.kernel_laws.proofs.Refusals.FailsIn.{by_test}
 -- after an act
 
 -- the end of a wait
-tables-go_on : (m : State) (t : ℕ) (s : ThreadState) → state_of m t ≡ s → (step m t None).state.tables ≡ (go_on m t (process_of m t) s).state.tables
+pub tables-go_on : (m : State) (t : ℕ) (s : ThreadState) → state_of m t ≡ s → (step m t None).state.tables ≡ (go_on m t (process_of m t) s).state.tables
 unfolding step
 tables-go_on m t s e =
     tables-settle m (act m t None).state
@@ -131,7 +131,7 @@ collect_installs m t q r bytes objects e s f g room =
 -- what brings nothing
 
 -- the end of a wait answers so
-answers-go_on : (m : State) (t : ℕ) (s : ThreadState) → state_of m t ≡ s → (step m t None).answer ≡ (go_on m t (process_of m t) s).answer
+pub answers-go_on : (m : State) (t : ℕ) (s : ThreadState) → state_of m t ≡ s → (step m t None).answer ≡ (go_on m t (process_of m t) s).answer
 unfolding step
 answers-go_on m t s e = ap (λ z. (go_on m t (process_of m t) z).answer) e
 
@@ -159,6 +159,18 @@ failed_accept_keeps m t c d q e s a p fd = ap (λ tables. object_named (table_in
         ap (λ o. (step m t o).state.tables) e
         ∙ tables-go_on m t (is.Given (item.Call c)) s
         ∙ failed_call m t (process_of m t) c d (find_call m (is_given_as c t)) answers
+
+-- a notice brings nothing
+pub notice_accept_keeps :
+    (m : State) (t c : ℕ) (q : Option Request) → q ≡ None → state_of m t ≡ is.Given (item.Notice c) → (p : ℕ) (fd : Fd) →
+    object_at (step m t q).state p fd ≡ object_at m p fd
+notice_accept_keeps m t c q e s p fd =
+    ap (λ tables. object_named (table_in tables p) fd)
+    (ap (λ o. (step m t o).state.tables) e ∙ tables-go_on m t (is.Given (item.Notice c)) s ∙ go (find_notice m (is_given_notice_as c t)))
+  where
+    go : (o : Option Notice) → (accept_notice m t c o).state.tables ≡ m.tables
+    go None = refl
+    go (Some x) = refl
 
 -- with no object the table is put back
 nothing_installed : (m : State) (p q : ℕ) (fd : Fd) → object_named (table_in (tables_after_collect m p []) q) fd ≡ object_at m q fd

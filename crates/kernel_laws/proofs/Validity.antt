@@ -4,7 +4,7 @@ use Rattle.std.specs.Option.{option_map}
 use Rattle.std.proofs.Common.{refl, sym, ap, subst, ◌∙◌}
 use native.Mathlib.Omega.{arith}
 use Rattle.std.proofs.lemmas.Bool.Decides.{nat_tests}
-use Rattle.written_kernel.specs.Types.{Call, CallStage, Door, Errno, Fd, Item, Name, Param, PathId, Request, ThreadState}
+use Rattle.written_kernel.specs.Types.{Call, CallStage, Door, Errno, Fd, Item, Name, Notice, Param, PathId, Request, ThreadState}
 use Rattle.dk_base.specs.declared.error.Errno.TheVariants.{EBADF, EINTR}
 use Rattle.dk_base.specs.declared.object.Item.TheVariants as item
 use Rattle.dk_base.specs.declared.request.Param.TheVariants as param
@@ -12,8 +12,8 @@ use Rattle.dk_base.specs.declared.request.Request.TheVariants as request
 use Rattle.dk_base.specs.ByNumber.{at_number}
 use Rattle.kernel_records.specs.declared.record.ThreadState.TheVariants as is
 use Rattle.kernel_records.specs.declared.record.CallStage.TheVariants as stage
-use Rattle.kernel_records.specs.Words.{Leaving, at_stage, broken_call_at, change_first, ended_where, gone_call_at, interruption, is_given_as, is_last, is_owned_by, is_queued_as, is_valid_door, is_valid_in, left_call, new_door, process_end, revocation, revoke_door, revoked_door, set_param, tid, with_owner_ended, with_param, without_arguments_at}
-use Rattle.written_kernel.specs.Words.{State, accept_call, act, await, await_name, begin_call, door_at, door_of, effect, fail_begin, find_call, give_one, go_on, has_invalid_door, has_room, is_live_process, is_valid, leave, leave_process, leave_thread, name_of, process_of, refusal_of, return_parked, return_unbound, revoke, settle, state_of, step, unless_refused}
+use Rattle.kernel_records.specs.Words.{Leaving, at_stage, broken_call_at, change_first, ended_where, gone_call_at, interruption, is_given_as, is_given_notice_as, is_last, is_owned_by, is_queued_as, is_valid_door, is_valid_in, left_call, new_door, process_end, revocation, revoke_door, revoked_door, set_param, tid, with_owner_ended, with_param, without_arguments_at}
+use Rattle.written_kernel.specs.Words.{State, accept_call, accept_notice, act, await, await_name, begin_call, door_at, door_of, effect, fail_begin, find_call, find_notice, give_one, go_on, has_invalid_door, has_room, is_live_process, is_valid, leave, leave_process, leave_thread, name_of, process_of, refusal_of, return_parked, return_unbound, revoke, settle, state_of, step, unless_refused}
 use Rattle.written_kernel.proofs.Doors.{at_number-change_door}
 use Rattle.written_kernel.proofs.Lists.{at_number-map, numbered_front}
 use Rattle.written_kernel.proofs.Settling.{doors-settle, settle-all}
@@ -92,9 +92,13 @@ accept_stays m t p c (Some r) = go (has_room m p r.objects)
     go true = same_doors m.doors
     go false = same_doors m.doors
 
+notice_stays : (m : State) (t c : ℕ) (o : Option Notice) → DoorsStay m (accept_notice m t c o).state
+notice_stays m t c None = same_doors m.doors
+notice_stays m t c (Some n) = same_doors m.doors
+
 go_on_stays : (m : State) (t p : ℕ) (s : ThreadState) → DoorsStay m (go_on m t p s).state
 go_on_stays m t p (is.Given (item.Call c)) = accept_stays m t p c (find_call m (is_given_as c t))
-go_on_stays m t p (is.Given (item.Notice n)) = same_doors m.doors
+go_on_stays m t p (is.Given (item.Notice n)) = notice_stays m t n (find_notice m (is_given_notice_as n t))
 go_on_stays m t p _ = same_doors m.doors
 
 -- a door of a process that ends, and one that is revoked
@@ -278,7 +282,8 @@ give_over m (item.Call j) u c e = given_over m.call_tree.calls j c u e
 give_over m (item.Notice n) u c e = e
 
 settle_over : (before m : State) (c : ℕ) → IsOver m c → IsOver (settle before m) c
-settle_over before m c = settle-all (λ n. IsOver n c) (λ n t l e. e) (λ n w x p e. give_over n w.item x.thread.0 c e) (λ n t r e. e) before m
+settle_over before m c =
+    settle-all (λ n. IsOver n c) before (λ n d l e. e) (λ n t l e. e) (λ n w x p e. give_over n w.item x.thread.0 c e) (λ n t r e. e) m
 
 calls_left : (m : State) (who : Leaving) (c : ℕ) → record_of (leave m who) c ≡ option_map (left_call who) (record_of m c)
 calls_left m who c = find-map (left_call who) (λ r. (left_fields who r).number) m.call_tree.calls c

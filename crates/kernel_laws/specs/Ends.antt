@@ -5,13 +5,14 @@ use Rattle.written_kernel.specs.Types.{Call, Fd, Pid}
 use Rattle.dk_base.specs.declared.request.Request.TheVariants as request
 use Rattle.dk_base.specs.ByNumber.{at_number}
 use Rattle.kernel_records.specs.declared.record.CallStage.TheVariants as stage
+use Rattle.kernel_records.specs.declared.record.NoticeStage.TheVariants as notice
 use Rattle.kernel_records.specs.declared.record.ThreadState.TheVariants as is
 use Rattle.kernel_records.specs.Words.{is_live, tid}
 use Rattle.written_kernel.specs.Words.{State, Turn, door_of, is_valid, object_at, process_of, state_at, state_of}
 use Rattle.kernel_invariant.specs.Arrows.{EndsNow}
 use Rattle.kernel_invariant.specs.Core.{ended_in}
 use Rattle.kernel_invariant.specs.Records.{owner_in, owner_of_call, record_of, stage_of}
-use Rattle.kernel_laws.specs.Places.{process_at}
+use Rattle.kernel_laws.specs.Places.{notice_stage_of, owner_of_notice, process_at}
 
 abbrev pub is_ended : State → ℕ → Bool
 is_ended m p = ended_in (at_number m.process_table.processes p)
@@ -29,6 +30,19 @@ ServesNone m p =
     (c u : ℕ) → process_of m u ≡ p →
     (stage_of m c ≡ Some (stage.Given (tid u))) ⊎ (stage_of m c ≡ Some (stage.Entered (tid u))) → ⊥
 
+-- no notice waits at a door that process p made, or is with a thread
+abbrev pub HasNoNotice : State → ℕ → Type 0
+HasNoNotice m p =
+    (c u : ℕ) → owner_of_notice m c ≡ Some p →
+    (notice_stage_of m c ≡ Some notice.Waiting)
+    ⊎ ((notice_stage_of m c ≡ Some (notice.Given (tid u))) ⊎ (notice_stage_of m c ≡ Some (notice.Entered (tid u)))) → ⊥
+
+-- and no notice at all, whoever made its door, is with a thread of p
+abbrev pub ServesNoNotice : State → ℕ → Type 0
+ServesNoNotice m p =
+    (c u : ℕ) → process_of m u ≡ p →
+    (notice_stage_of m c ≡ Some (notice.Given (tid u))) ⊎ (notice_stage_of m c ≡ Some (notice.Entered (tid u))) → ⊥
+
 pub record HasEnded (m : State) (p : ℕ) : Type 0 where
   pub no_row : (fd : Fd) → object_at m p fd ≡ None
   -- so none is parked, was given anything, or waits
@@ -36,6 +50,8 @@ pub record HasEnded (m : State) (p : ℕ) : Type 0 where
   pub no_valid_door : (d : ℕ) → owner_in (door_of m d) ≡ Some p → is_valid m d ≡ false
   pub no_call : HasNoCall m p
   pub serves_none : ServesNone m p
+  pub no_notice : HasNoNotice m p
+  pub serves_no_notice : ServesNoNotice m p
   -- and its own calls are answered, or Gone
   pub none_live : (c : ℕ) (r : Call) → record_of m c ≡ Some r → process_of m r.caller.0 ≡ p → is_live r.stage ≡ false
 

@@ -1,12 +1,14 @@
 -- Invalid doors: a door that is not valid stays so; and a door turns so only by a Revoke that is not refused and whose descriptor
--- names it, or as the process that made it ends, and by each of the two.
+-- names it, or as the process that made it ends, and by each of the two. No call and no notice waits at one.
 use Rattle.std.specs.Prelude.{ℕ, ◌≡◌, ◌+◌, ◌≤◌, List, true, false, Some, length, slice_get}
-use Rattle.written_kernel.specs.Types.{Door, Fd}
+use Rattle.written_kernel.specs.Types.{Call, Door, Fd, Notice}
 use Rattle.dk_base.specs.declared.object.Obj.TheVariants as obj
 use Rattle.dk_base.specs.declared.request.Request.TheVariants as request
 use Rattle.dk_base.specs.declared.answer.Answer.TheVariants as answer
+use Rattle.kernel_records.specs.declared.record.CallStage.TheVariants as stage
+use Rattle.kernel_records.specs.declared.record.NoticeStage.TheVariants as notice
 use Rattle.written_kernel.specs.Words.{State, Turn, door_of, is_valid, object_at, state_at}
-use Rattle.kernel_invariant.specs.Records.{owner_in}
+use Rattle.kernel_invariant.specs.Records.{notice_of, owner_in, record_of}
 use Rattle.kernel_laws.specs.Places.{answer_at, process_at}
 use Rattle.kernel_laws.specs.Ends.{is_ended}
 
@@ -29,3 +31,9 @@ pub record InvalidDoors (m : State) (xs : List Turn) : Type 0 where
       Invalidates m xs i x d
   pub by_each :
       (i d : ℕ) (x : Turn) → slice_get xs i ≡ Some x → Invalidates m xs i x d → is_valid (state_at m xs (i + 1)) d ≡ false
+  pub call_waits :
+      (i c : ℕ) (r : Call) → i ≤ length xs → record_of (state_at m xs i) c ≡ Some r → r.stage ≡ stage.Queued →
+      is_valid (state_at m xs i) r.door ≡ true
+  pub notice_waits :
+      (i c : ℕ) (x : Notice) → i ≤ length xs → notice_of (state_at m xs i) c ≡ Some x → x.stage ≡ notice.Waiting →
+      is_valid (state_at m xs i) x.door ≡ true

@@ -12,6 +12,7 @@ use Rattle.kernel_laws.specs.Pools.{AreBoundToOwn, NoPoolHasBoth}
 use Rattle.kernel_laws.specs.Ends.{Ends}
 use Rattle.kernel_laws.specs.InvalidDoors.{InvalidDoors}
 use Rattle.kernel_laws.specs.Cancels.{Cancels}
+use Rattle.kernel_laws.specs.Notices.{Notices}
 use Rattle.kernel_laws.specs.EventsShown.{EventsShown}
 
 pub record AllLaws (m : State) (xs : List Turn) : Type 0 where
@@ -27,6 +28,7 @@ pub record AllLaws (m : State) (xs : List Turn) : Type 0 where
   pub ends : Ends m xs
   pub invalid_doors : InvalidDoors m xs
   pub cancels : Cancels m xs
+  pub notices : Notices m xs
   pub events_shown : EventsShown m xs
 
 unfoldable pub Laws : State → List Turn → Type 0

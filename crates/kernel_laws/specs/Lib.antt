@@ -12,5 +12,6 @@ pub mod Cancels
 pub mod EventsShown
 pub mod NoLoss
 pub mod Held
+pub mod Notices
 pub mod Laws
 pub mod Words

@@ -117,9 +117,12 @@ pub record NoLoss (m : State) (xs : List Turn) : Type 0 where
       Fate m xs i x c objects
   -- they are installed at each accept that enters the call, and at each collect that answers results
   pub brought : (i c : ℕ) (x : Turn) (fds : List Fd) → slice_get xs i ≡ Some x → Brings m xs i x c fds → AreBrought m xs i x c fds
-  -- an accept that fails and a collect that answers an error bring nothing into any table
+  -- an accept that fails, an accept of a notice and a collect that answers an error bring nothing into any table
   pub accept_keeps :
       (i c : ℕ) (x : Turn) → slice_get xs i ≡ Some x → answer_at m xs i x ≡ answer.EnterFailed c → (p : ℕ) → IsSameTable m xs i p
+  pub notice_keeps :
+      (i c entry cookie : ℕ) (x : Turn) → slice_get xs i ≡ Some x → answer_at m xs i x ≡ answer.EnteredNotice c entry cookie →
+      (p : ℕ) → IsSameTable m xs i p
   pub collect_keeps :
       (i c : ℕ) (x : Turn) (e : Errno) → slice_get xs i ≡ Some x → IsCollect m xs i x c → answer_at m xs i x ≡ answer.Failure e →
       (p : ℕ) → IsSameTable m xs i p

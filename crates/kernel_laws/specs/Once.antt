@@ -1,6 +1,6 @@
 -- Once: each call is entered at most once, and only by the accept of the thread that it was given to, a thread of the
--- process that made its door; a thread is in one invocation at a time; each call is answered at most once, and only by the
--- collect of its caller; and what is answered with results was entered before.
+-- process that made its door; an accept enters just one call or just one notice; a thread is in one invocation at a time; each
+-- call is answered at most once, and only by the collect of its caller; and what is answered with results was entered before.
 use Rattle.std.specs.Prelude.{ℕ, ◌≡◌, ◌+◌, ◌<◌, ◌≤◌, ◌⊎◌, List, Option, Bool, true, false, Some, None, length, slice_get}
 use Rattle.written_kernel.specs.Types.{Call, Fd, Inv, Item, Pass}
 use Rattle.dk_base.specs.declared.error.Errno.TheVariants.{EINVAL, EMFILE}
@@ -12,7 +12,7 @@ use Rattle.kernel_records.specs.Words.{cancelled_invocation, is_live, new_invoca
 use Rattle.written_kernel.specs.Words.{State, Turn, bound_of, caller_in, has_room, invocation_of, now, process_of, state_at, state_of}
 use Rattle.kernel_invariant.specs.Records.{item_of, owner_of_call, record_of, stage_of}
 use Rattle.kernel_invariant.specs.Events.{Begins, IsCancelled}
-use Rattle.kernel_laws.specs.Places.{BecomesAnswered, BecomesEntered, HasEntered, IsAccept, IsBoundToInvalid, IsBoundToNoInvalid, IsCollect, IsReturn, answer_at}
+use Rattle.kernel_laws.specs.Places.{BecomesAnswered, BecomesEntered, HasEntered, IsAccept, IsBoundToInvalid, IsBoundToNoInvalid, IsCollect, IsReturn, NoticeBecomesEntered, answer_at}
 
 -- the turn of place i ends the wait of a thread that was given call c: the thread enters c, and nothing else
 pub record Enters (m : State) (xs : List Turn) (i : ℕ) (x : Turn) (c : ℕ) : Type 0 where
@@ -22,6 +22,7 @@ pub record Enters (m : State) (xs : List Turn) (i : ℕ) (x : Turn) (c : ℕ) : 
   pub stage_after : HasEntered (state_at m xs (i + 1)) x.thread c
   pub entered : BecomesEntered m xs c i
   pub nothing_else : (d : ℕ) → BecomesEntered m xs d i → d ≡ c
+  pub no_notice : (n : ℕ) → NoticeBecomesEntered m xs n i → ⊥
   pub of_the_owner : owner_of_call (state_at m xs i) c ≡ Some (process_of (state_at m xs i) x.thread)
   pub free_before : invocation_of (state_at m xs i) x.thread ≡ None
   pub invocation_after : invocation_of (state_at m xs (i + 1)) x.thread ≡ Some (new_invocation (item.Call c))
@@ -40,7 +41,7 @@ pub data WaitsAgain (m : State) (xs : List Turn) (i : ℕ) (x : Turn) (c : ℕ) 
       bound_of (state_at m xs (i + 1)) x.thread ≡ None → WaitsAgain m xs i x c
 
 -- The turn of place i ends the wait of a thread that was given call c: its process has too few descriptors free for what comes
--- with the call, which ends with EMFILE; no call is entered, and the thread has no invocation. The thread waits again.
+-- with the call, which ends with EMFILE; no call and no notice is entered, and the thread has no invocation. The thread waits again.
 pub record FailsToEnter (m : State) (xs : List Turn) (i : ℕ) (x : Turn) (c : ℕ) : Type 0 where
   pub no_request : x.request ≡ None
   pub was_given : state_of (state_at m xs i) x.thread ≡ is.Given (item.Call c)
@@ -50,6 +51,7 @@ pub record FailsToEnter (m : State) (xs : List Turn) (i : ℕ) (x : Turn) (c : �
   -- too few descriptors are free for the call's objects
   pub full : (r : Call) → record_of (state_at m xs i) c ≡ Some r → has_room (state_at m xs i) (process_of (state_at m xs i) x.thread) r.objects ≡ false
   pub none_entered : (d : ℕ) → BecomesEntered m xs d i → ⊥
+  pub no_notice : (n : ℕ) → NoticeBecomesEntered m xs n i → ⊥
   pub of_the_owner : owner_of_call (state_at m xs i) c ≡ Some (process_of (state_at m xs i) x.thread)
   pub free_after : invocation_of (state_at m xs (i + 1)) x.thread ≡ None
   pub parked : WaitsAgain m xs i x c

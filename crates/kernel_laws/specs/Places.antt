@@ -1,17 +1,18 @@
--- What is said of a place in a run: what its turn answers, what becomes true there, and which turns make, enter, return and
--- collect a call. The states before and after the turn of place i are those at i and at i + 1.
+-- What is said of a place in a run: what its turn answers, what becomes true there, which turns make, enter, return and collect
+-- a call, and where a notice stands. The states before and after the turn of place i are those at i and at i + 1.
 use Rattle.std.specs.Prelude.{ℕ, ◌≡◌, ◌+◌, ◌<◌, List, Option, Bool, true, false, Some, None, length, map, slice_get}
-use Rattle.written_kernel.specs.Types.{Answer, Call, CallStage, Door, Errno, Fd, Obj, Pass}
+use Rattle.written_kernel.specs.Types.{Answer, Call, CallStage, Door, Errno, Fd, Notice, NoticeStage, Obj, Pass}
 use Rattle.dk_base.specs.declared.error.Errno.TheVariants.{EINVAL}
 use Rattle.dk_base.specs.declared.object.Obj.TheVariants as obj
 use Rattle.dk_base.specs.declared.request.Request.TheVariants as request
 use Rattle.dk_base.specs.declared.answer.Answer.TheVariants as answer
 use Rattle.kernel_records.specs.declared.record.CallStage.TheVariants as stage
+use Rattle.kernel_records.specs.declared.record.NoticeStage.TheVariants as notice
 use Rattle.kernel_records.specs.declared.record.ThreadState.TheVariants as is
 use Rattle.kernel_records.specs.Words.{tid}
-use Rattle.written_kernel.specs.Words.{State, Turn, bound_of, is_valid, object_at, process_of, state_at, state_of, step}
-use Rattle.kernel_invariant.specs.Records.{record_of, stage_of}
-use Rattle.kernel_invariant.specs.Core.{abandoned_in, has_arguments}
+use Rattle.written_kernel.specs.Words.{State, Turn, bound_of, door_of, is_valid, object_at, process_of, state_at, state_of, step}
+use Rattle.kernel_invariant.specs.Records.{notice_of, owner_in, record_of, stage_of}
+use Rattle.kernel_invariant.specs.Core.{abandoned_in, has_arguments, notice_in}
 use Rattle.kernel_laws.specs.Refusals.{Refusal, ReturnRefusal}
 
 -- what the turn of place i answers, if it is this turn
@@ -75,6 +76,41 @@ BecomesAnswered m xs c i = Becomes (λ n. is_answered n c) m xs i
 -- thread t has entered call c, which has not left it
 abbrev pub HasEntered : State → ℕ → ℕ → Type 0
 HasEntered m t c = stage_of m c ≡ Some (stage.Entered (tid t))
+
+-- where a notice stands, of which there is a record
+
+abbrev pub notice_stage_of : State → ℕ → Option NoticeStage
+notice_stage_of m c = notice_in (notice_of m c)
+
+abbrev pub is_entered_notice_stage : NoticeStage → Bool
+is_entered_notice_stage (notice.Entered u) = true
+is_entered_notice_stage _ = false
+
+abbrev pub is_entered_notice_in : Option Notice → Bool
+is_entered_notice_in None = false
+is_entered_notice_in (Some x) = is_entered_notice_stage x.stage
+
+abbrev pub is_notice_entered : State → ℕ → Bool
+is_notice_entered m c = is_entered_notice_in (notice_of m c)
+
+abbrev pub NoticeBecomesEntered : State → List Turn → ℕ → ℕ → Type 0
+NoticeBecomesEntered m xs c i = Becomes (λ n. is_notice_entered n c) m xs i
+
+-- thread t has entered notice c, and is still in it
+abbrev pub HasEnteredNotice : State → ℕ → ℕ → Type 0
+HasEnteredNotice m t c = notice_stage_of m c ≡ Some (notice.Entered (tid t))
+
+abbrev pub notice_door : State → Option Notice → Option Door
+notice_door m None = None
+notice_door m (Some x) = door_of m x.door
+
+-- the door of a notice
+abbrev pub door_of_notice : State → ℕ → Option Door
+door_of_notice m c = notice_door m (notice_of m c)
+
+-- the process that made the door of a notice
+abbrev pub owner_of_notice : State → ℕ → Option ℕ
+owner_of_notice m c = owner_in (door_of_notice m c)
 
 -- the procedure and the cookie of a door that is there
 pub record IsOf (o : Option Door) (entry cookie : ℕ) : Type 0 where
