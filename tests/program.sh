@@ -286,9 +286,9 @@ many_runs() {
     done
 }
 
-# leaving_runs: of scripts in which callers and servers leave, a hundred runs each, all of them legal.
-leaving_runs() {
-    for name in two_clients_interrupted client_and_server_killed exits_in_procedures private_door_revoked_under_load; do
+# hundred_runs NAME..: of each of these scripts, all of them legal.
+hundred_runs() {
+    for name in "$@"; do
         input=tests/run/$name.in
         i=0
         while [ $i -lt 100 ]; do
@@ -297,6 +297,42 @@ leaving_runs() {
             judge_run "$input, run $i" $? "$(statuses_of "tests/run/$name")" "$input"
         done
     done
+}
+
+# Scripts in which callers and servers leave.
+leaving_runs() {
+    hundred_runs two_clients_interrupted client_and_server_killed exits_in_procedures private_door_revoked_under_load
+}
+
+# Scripts in which references to a door fall to one again and again.
+notice_runs() {
+    hundred_runs notices_of_two_clients last_client_ends_the_server references_dropped_by_interrupts_and_kills
+    hundred_runs notices_of_a_private_door_that_is_revoked
+}
+
+# A door that has 4000 notices before the first of them is accepted.
+many_notices() {
+    {
+        printf '%s\n' 'doors script 1' 'process p' 'thread t' 'create d p 0 unref-multi' 'repeat 4000' 'dup e $d' 'close $e' end
+        printf '%s\n' serve end 'proc p' 'return ""' end
+    } >"$work/notices.in"
+    awk '
+        function line(text) { print ++events, "t t", text }
+        BEGIN {
+            line("create ok fd 0")
+            for (i = 1; i <= 4000; i++) { line("dup ok fd 1"); line("close ok") }
+            line("return wait")
+            for (i = 1; i <= 4000; i++) { line("accept enter n" i " p 0 unref"); line("return wait") }
+            print "end complete " events
+        }' >"$work/notices.out"
+    echo "legal 16002" >"$work/legal"
+    run play <"$work/notices.in"
+    judge "4000 notices" $? 0 "$work/notices.out"
+    with_trace "$work/notices.in" "$work/notices.out" >"$work/to_check"
+    run check <"$work/to_check"
+    judge "4000 notices, checked" $? 0 "$work/legal"
+    run run <"$work/notices.in"
+    judge_run "4000 notices, run" $? 0 "$work/notices.in"
 }
 
 # chain CUT: writes into TO a script in which a client calls t62, whose procedure calls t61, and so on down to t1, and the caller of
@@ -600,6 +636,8 @@ for program in "$@"; do
     runs
     many_runs
     leaving_runs
+    notice_runs
+    many_notices
     cut_chains
     refused_starts
     words

@@ -1,14 +1,15 @@
 -- The descriptors, the names and the bindings of a state are of doors that were made: what keeps this so, and changes of lists
 -- of doors.
-use Rattle.std.proofs.Common.{◌≡◌, ℕ, ◌-◌, ◌==◌, ◌&&◌, zero, suc, List, [], ◌∷◌, Option, Some, None, Bool, true, false, if◌then◌else◌, ◌⊎◌, inl, inr, is_some, option_map, unwrap_or, slice_get, slice_set, refl, sym, ap, ◌∙◌}
+use Rattle.std.proofs.Common.{◌≡◌, ℕ, ◌-◌, ◌==◌, ◌&&◌, zero, suc, List, [], ◌∷◌, Option, Some, None, Bool, true, false, if◌then◌else◌, ◌⊎◌, inl, inr, is_some, option_map, unwrap_or, map, slice_get, slice_set, refl, sym, ap, ◌∙◌}
 use Rattle.std.specs.Prelude.{All}
-use Rattle.std.proofs.lemmas.List.Elements.{All-cons, All-head, All-tail}
+use Rattle.std.proofs.lemmas.List.Elements.{All-cons, All-head, All-map, All-tail, All-weaker}
 use Rattle.std.proofs.lemmas.Option.{slice_get-map}
-use Rattle.written_kernel.specs.Types.{CallStage, Fd, Name, Obj, Pass}
+use Rattle.written_kernel.specs.Types.{CallStage, Fd, Name, Notice, NoticeStage, Obj, Pass}
 use Rattle.dk_base.specs.declared.object.Obj.TheVariants as obj
 use Rattle.kernel_records.specs.declared.record.CallStage.TheVariants as stage
+use Rattle.kernel_records.specs.declared.record.NoticeStage.TheVariants as notice
 use Rattle.dk_base.specs.ByNumber.{at_number, with_at_number}
-use Rattle.kernel_records.specs.Words.{bound_at, bound_in, close_table, free_place, free_row, insert_row, insert_rows, object_in, object_named, objects_passed, release_rows, table_in, with_row, with_table}
+use Rattle.kernel_records.specs.Words.{Leaving, bound_at, bound_in, change_first_notice, close_table, free_place, free_row, insert_row, insert_rows, left_notice, left_notice_at, notice_at, object_in, object_named, objects_passed, release_rows, table_in, with_row, with_table}
 use Rattle.kernel_records.proofs.Passing.{All-objects_passed, object_named-before}
 use Rattle.written_kernel.proofs.Lists.{at_number-with_at_number, slice_get-slice_set}
 use Rattle.script_requests.specs.Words.{IsNumberOf}
@@ -41,6 +42,12 @@ AreKnownNames made names = All (IsKnownName made) names
 
 abbrev pub AreKnownBindings : ℕ → List (Option ℕ) → Type 0
 AreKnownBindings made bindings = (t d : ℕ) → bound_at bindings t ≡ Some d → IsNumberOf made d
+
+abbrev pub IsKnownNotice : ℕ → Notice → Type 0
+IsKnownNotice made x = IsNumberOf made x.door
+
+abbrev pub AreKnownNotices : ℕ → List Notice → Type 0
+AreKnownNotices made xs = All (IsKnownNotice made) xs
 
 -- objects
 
@@ -174,6 +181,51 @@ binding-known made bindings u o here h t d e =
         IsNumberOf made d
     by_test true f = here d (sym f ∙ e)
     by_test false f = h t d (sym f ∙ e)
+
+-- notices: another stage keeps the door
+
+pub changed_notices-known :
+    (made : ℕ) (test : Notice → Bool) (s : NoticeStage) (xs : List Notice) → AreKnownNotices made xs →
+    AreKnownNotices made (change_first_notice test (notice_at s) xs)
+changed_notices-known made test s [] all = all
+changed_notices-known made test s (x ∷ xs) all =
+    by_test (changed_notices-known made test s xs (All-tail (IsKnownNotice made) x xs all)) (test x)
+  where
+    by_test :
+        AreKnownNotices made (change_first_notice test (notice_at s) xs) → (b : Bool) →
+        AreKnownNotices made (if b then notice_at s x ∷ xs else x ∷ change_first_notice test (notice_at s) xs)
+    by_test rest true =
+        All-cons (IsKnownNotice made) (notice_at s x) xs (All-head (IsKnownNotice made) x xs all) (All-tail (IsKnownNotice made) x xs all)
+    by_test rest false =
+        All-cons (IsKnownNotice made) x (change_first_notice test (notice_at s) xs) (All-head (IsKnownNotice made) x xs all) rest
+
+left_notice-known : (made : ℕ) (who : Leaving) (s : NoticeStage) (x : Notice) → IsKnownNotice made x → IsKnownNotice made (left_notice_at who s x)
+left_notice-known made who s x h = by_stage s
+  where
+    by_test : (b : Bool) (z : NoticeStage) → IsKnownNotice made (if b then notice_at z x else x)
+    by_test true z = h
+    by_test false z = h
+
+    by_stage : (s : NoticeStage) → IsKnownNotice made (left_notice_at who s x)
+    by_stage notice.Waiting = by_test (who.loses x.door) notice.Dropped
+    by_stage (notice.Given u) = by_test (who.ends u.0) notice.Over
+    by_stage (notice.Entered u) = by_test (who.ends u.0) notice.Over
+    by_stage notice.Over = h
+    by_stage notice.Dropped = h
+
+pub left_notices-known :
+    (made : ℕ) (who : Leaving) (xs : List Notice) → AreKnownNotices made xs → AreKnownNotices made (map (left_notice who) xs)
+left_notices-known made who xs all =
+    All-map
+    (IsKnownNotice made)
+    (left_notice who)
+    xs
+    (All-weaker
+    (IsKnownNotice made)
+    (λ x. IsKnownNotice made (left_notice who x))
+    (λ x known. left_notice-known made who x.stage x known)
+    xs
+    all)
 
 -- what holds of each element of a list, where one becomes another
 

@@ -5,7 +5,7 @@ use Rattle.std.specs.Option.{option_map_or}
 use Rattle.std.proofs.lemmas.Bool.{false≢true}
 use Rattle.std.proofs.lemmas.List.{length-map}
 use Rattle.std.proofs.lemmas.List.Elements.{All-nil, All-cons, All-head, All-tail, All-push, All-weaker, All-map, All-filter}
-use Rattle.written_kernel.specs.Types.{Call, CallStage, Door, Errno, Fd, Item, Name, Obj, Param, Pass, PathId, Request, ThreadState}
+use Rattle.written_kernel.specs.Types.{Call, CallStage, Door, Errno, Fd, Item, Name, Notice, Obj, Param, Pass, PathId, Request, ThreadState}
 use Rattle.dk_base.specs.declared.answer.Answer.TheVariants as answer
 use Rattle.dk_base.specs.declared.error.Errno.TheVariants.{EBADF, EINVAL, EMFILE, ENOENT}
 use Rattle.dk_base.specs.declared.object.Item.TheVariants as item
@@ -13,19 +13,20 @@ use Rattle.dk_base.specs.declared.object.Obj.TheVariants as obj
 use Rattle.dk_base.specs.declared.request.Param.TheVariants as param
 use Rattle.dk_base.specs.declared.request.Request.TheVariants as request
 use Rattle.kernel_records.specs.declared.record.CallStage.TheVariants as stage
+use Rattle.kernel_records.specs.declared.record.NoticeStage.TheVariants as notice
 use Rattle.kernel_records.specs.declared.record.ThreadState.TheVariants as is
 use Rattle.dk_base.specs.ByNumber.{with_at_number}
-use Rattle.kernel_records.specs.Words.{Leaving, abandoned_at, at_stage, bind_thread, change_door, change_door_in, change_first, close_row, close_table, collect_call, door_attached, end_owner, entry_of, has_other_path, has_path, info_in, interruption, is_client_call_of, is_given_as, is_last, is_queued_as, is_served_by, is_to_collect_as, is_valid_in, left_call, new_descriptors, new_door, objects_passed, process_end, revocation, revoked_door, set_param, thread_end, tid, unbind_thread, with_name, with_owner_ended, with_param, with_row, with_table, without_arguments_at, without_name}
-use Rattle.written_kernel.specs.Words.{ActResult, State, accept, accept_call, act, await, await_name, begin_call, bound_of, caller_in, client_call, client_process, collect, collect_answer, collect_answer_in, door_at, door_named, door_of, effect, enter, exit, fail_begin, find_call, give_one, go_on, has_invalid_door, has_room, is_door, is_live_process, is_valid, is_waiting_state, kill, leave, leave_process, leave_thread, name_of, new_call, now, object_at, objects_collected, objects_collected_in, process_of, refusal_of, results_answer, return, return_parked, return_unbound, revoke, root, served_by, settle, state_of, step, table_of, tables_after_pass, tables_with, unless_refused, waiting_among, waiting_threads, walk, with_table_of}
+use Rattle.kernel_records.specs.Words.{Leaving, abandoned_at, at_stage, bind_thread, change_door, change_door_in, change_first, close_row, close_table, collect_call, door_attached, end_notice, end_owner, enter_notice, entry_of, give_notice, has_other_path, has_path, info_in, interruption, is_client_call_of, is_given_as, is_given_notice_as, is_last, is_notice_entered_by, is_queued_as, is_served_by, is_to_collect_as, is_valid_in, is_waiting_notice_as, left_call, make_notice, new_descriptors, new_door, new_notice, objects_passed, process_end, revocation, revoked_door, set_param, thread_end, tid, unbind_thread, with_name, with_owner_ended, with_param, with_row, with_table, without_arguments_at, without_name}
+use Rattle.written_kernel.specs.Words.{ActResult, State, accept, accept_call, accept_notice, act, await, await_name, begin_call, bound_of, caller_in, client_call, client_process, collect, collect_answer, collect_answer_in, door_at, door_named, door_of, effect, enter, exit, fail_begin, find_call, find_notice, give_one, go_on, has_invalid_door, has_room, is_door, is_due, is_live_process, is_valid, is_waiting_state, kill, leave, leave_process, leave_thread, name_of, new_call, now, object_at, objects_collected, objects_collected_in, process_of, refusal_of, results_answer, return, return_parked, return_unbound, revoke, root, served_by, settle, state_of, step, table_of, tables_after_pass, tables_with, unless_refused, waiting_among, waiting_threads, walk, with_table_of}
 use Rattle.written_kernel.proofs.CallLists.{IsOver, left_call-over}
 use Rattle.written_kernel.proofs.Lists.{length-with_at_number, numbered_within, numbered_there}
-use Rattle.written_kernel.proofs.Settling.{settle-all}
+use Rattle.written_kernel.proofs.Settling.{settle-all, with_notice_of}
 use Rattle.script_lang.specs.Words.{ScriptValue}
 use Rattle.script_requests.specs.DeclaredNames.{IsTarget}
 use Rattle.script_requests.specs.Words.{IsDeclaredAnswer, IsDeclaredThread, IsEntry, IsNumberOf, IsProcess, IsThread}
 use Rattle.script_requests.proofs.Elements.{All-at_number, All-find}
 use Rattle.written_script.specs.DeclaredRuns.{IsDeclaredDoor}
-use Rattle.written_script.proofs.DeclaredObjects.{All-with_at_number, AreKnownBindings, AreKnownInTransit, AreKnownNames, AreKnownResults, AreKnownRows, IsKnownInTransit, IsKnownName, IsKnownObject, binding-known, closed-known, inserted-known, none-known, passed-known, released-known, row-known}
+use Rattle.written_script.proofs.DeclaredObjects.{All-with_at_number, AreKnownBindings, AreKnownInTransit, AreKnownNames, AreKnownNotices, AreKnownResults, AreKnownRows, IsKnownInTransit, IsKnownName, IsKnownNotice, IsKnownObject, binding-known, changed_notices-known, closed-known, inserted-known, left_notices-known, none-known, passed-known, released-known, row-known}
 
 -- a call's caller is declared, and its door and the doors that it takes along or brings back were made
 pub record IsKnownCall (script : ScriptValue) (made : ℕ) (r : Call) : Type 0 where
@@ -37,17 +38,18 @@ pub record IsKnownCall (script : ScriptValue) (made : ℕ) (r : Call) : Type 0 w
 abbrev pub AreKnownCalls : ScriptValue → ℕ → List Call → Type 0
 AreKnownCalls script made rs = All (IsKnownCall script made) rs
 
-pub record AreKnown (script : ScriptValue) (ds : List Door) (rs : List Call) (ts : List (List (Option Obj))) (ns : List Name) (bs : List (Option ℕ)) : Type 0 where
+pub record AreKnown (script : ScriptValue) (ds : List Door) (rs : List Call) (ts : List (List (Option Obj))) (ns : List Name) (bs : List (Option ℕ)) (xs : List Notice) : Type 0 where
   pub doors : All (IsDeclaredDoor script) ds
   pub calls : AreKnownCalls script (length ds) rs
-  -- descriptors, names and bindings are of doors that were made
+  -- descriptors, names, bindings and notices are of doors that were made
   pub rows : AreKnownRows (length ds) ts
   pub names : AreKnownNames (length ds) ns
   pub bindings : AreKnownBindings (length ds) bs
+  pub notices : AreKnownNotices (length ds) xs
 
 -- no other part of a state matters, so a change of another part keeps this as it is
 abbrev pub IsKnown : ScriptValue → State → Type 0
-IsKnown script m = AreKnown script m.doors m.call_tree.calls m.tables m.names m.bindings
+IsKnown script m = AreKnown script m.doors m.call_tree.calls m.tables m.names m.bindings m.notice_list.notices
 
 -- threads are of declared processes
 abbrev pub HasOwners : ScriptValue → State → Type 0
@@ -93,7 +95,7 @@ changed_calls script made test change keeps (r ∷ rs) all =
 changed-known :
     (script : ScriptValue) (m : State) (test : Call → Bool) (change : Call → Call) →
     ((r : Call) → IsKnownCall script (length m.doors) r → IsKnownCall script (length m.doors) (change r)) →
-    IsKnown script m → AreKnown script m.doors (change_first test change m.call_tree.calls) m.tables m.names m.bindings
+    IsKnown script m → AreKnown script m.doors (change_first test change m.call_tree.calls) m.tables m.names m.bindings m.notice_list.notices
 changed-known script m test change keeps h =
     record {
       doors = h.doors;
@@ -101,11 +103,12 @@ changed-known script m test change keeps h =
       rows = h.rows;
       names = h.names;
       bindings = h.bindings;
+      notices = h.notices;
     }
 
 opened-known :
     (script : ScriptValue) (m : State) (r : Call) → IsKnown script m → IsKnownCall script (length m.doors) r →
-    AreKnown script m.doors (m.call_tree.calls ++ r ∷ []) m.tables m.names m.bindings
+    AreKnown script m.doors (m.call_tree.calls ++ r ∷ []) m.tables m.names m.bindings m.notice_list.notices
 opened-known script m r h here =
     record {
       doors = h.doors;
@@ -113,13 +116,14 @@ opened-known script m r h here =
       rows = h.rows;
       names = h.names;
       bindings = h.bindings;
+      notices = h.notices;
     }
 
 -- changes of the doors
 
 with_door-known :
     (script : ScriptValue) (m : State) (d : Door) → IsKnown script m → IsDeclaredDoor script d →
-    AreKnown script (m.doors ++ d ∷ []) m.call_tree.calls m.tables m.names m.bindings
+    AreKnown script (m.doors ++ d ∷ []) m.call_tree.calls m.tables m.names m.bindings m.notice_list.notices
 with_door-known script m d h here =
     let one : length (m.doors ++ d ∷ []) ≡ length m.doors + 1 = simp length-append refl
     in record {
@@ -140,6 +144,13 @@ with_door-known script m d h here =
           m.names
           h.names;
       bindings = λ t n e. more n (h.bindings t n e) one;
+      notices =
+          All-weaker
+          (IsKnownNotice (length m.doors))
+          (IsKnownNotice (length (m.doors ++ d ∷ [])))
+          (λ x known. more x.door known one)
+          m.notice_list.notices
+          h.notices;
     }
   where
     more :
@@ -178,26 +189,27 @@ with_param-declared script param.DescMax value d h = record { owner = h.owner; e
 
 -- another list of as many doors
 redoored-known :
-    (script : ScriptValue) (ds es : List Door) {rs : List Call} {ts : List (List (Option Obj))} {ns : List Name} {bs : List (Option ℕ)} →
-    length ds ≡ length es → All (IsDeclaredDoor script) es → AreKnown script ds rs ts ns bs → AreKnown script es rs ts ns bs
-redoored-known script ds es {rs} {ts} {ns} {bs} same doors h =
+    (script : ScriptValue) (ds es : List Door) {rs : List Call} {ts : List (List (Option Obj))} {ns : List Name} {bs : List (Option ℕ)} {xs : List Notice} →
+    length ds ≡ length es → All (IsDeclaredDoor script) es → AreKnown script ds rs ts ns bs xs → AreKnown script es rs ts ns bs xs
+redoored-known script ds es {rs} {ts} {ns} {bs} {xs} same doors h =
     record {
       doors = doors;
       calls = subst (λ (n : ℕ). AreKnownCalls script n rs) same h.calls;
       rows = subst (λ (n : ℕ). AreKnownRows n ts) same h.rows;
       names = subst (λ (n : ℕ). AreKnownNames n ns) same h.names;
       bindings = subst (λ (n : ℕ). AreKnownBindings n bs) same h.bindings;
+      notices = subst (λ (n : ℕ). AreKnownNotices n xs) same h.notices;
     }
 
 -- a door becomes another
 change_door-known :
     (script : ScriptValue) (m : State) (d : ℕ) (change : Door → Door) → ((y : Door) → IsDeclaredDoor script y → IsDeclaredDoor script (change y)) →
-    IsKnown script m → AreKnown script (change_door m.doors d change) m.call_tree.calls m.tables m.names m.bindings
+    IsKnown script m → AreKnown script (change_door m.doors d change) m.call_tree.calls m.tables m.names m.bindings m.notice_list.notices
 change_door-known script m d change keeps h = by_door (door_of m d) refl
   where
     by_door :
         (o : Option Door) → door_of m d ≡ o →
-        AreKnown script (change_door_in m.doors d change o) m.call_tree.calls m.tables m.names m.bindings
+        AreKnown script (change_door_in m.doors d change o) m.call_tree.calls m.tables m.names m.bindings m.notice_list.notices
     by_door None e = h
     by_door (Some y) e =
         redoored-known script m.doors (with_at_number m.doors d (change y))
@@ -209,7 +221,7 @@ change_door-known script m d change keeps h = by_door (door_of m d) refl
 
 set_param-known :
     (script : ScriptValue) (m : State) (d : ℕ) (x : Param) (value : ℕ) → IsKnown script m →
-    AreKnown script (set_param m.doors d x value) m.call_tree.calls m.tables m.names m.bindings
+    AreKnown script (set_param m.doors d x value) m.call_tree.calls m.tables m.names m.bindings m.notice_list.notices
 set_param-known script m d x value h = change_door-known script m d (with_param x value) (with_param-declared script x value) h
 
 ended_door : (script : ScriptValue) (p : ℕ) (d : Door) → IsDeclaredDoor script d → IsDeclaredDoor script (with_owner_ended p d)
@@ -233,9 +245,10 @@ ended_doors script p ds all =
     all)
 
 tables-known :
-    (script : ScriptValue) (m : State) {rs : List Call} (tables : List (List (Option Obj))) → AreKnown script m.doors rs m.tables m.names m.bindings →
-    AreKnownRows (length m.doors) tables → AreKnown script m.doors rs tables m.names m.bindings
-tables-known script m tables h here = record { doors = h.doors; calls = h.calls; rows = here; names = h.names; bindings = h.bindings }
+    (script : ScriptValue) (m : State) {rs : List Call} {xs : List Notice} (tables : List (List (Option Obj))) →
+    AreKnown script m.doors rs m.tables m.names m.bindings xs → AreKnownRows (length m.doors) tables →
+    AreKnown script m.doors rs tables m.names m.bindings xs
+tables-known script m tables h here = record { doors = h.doors; calls = h.calls; rows = here; names = h.names; bindings = h.bindings; notices = h.notices }
 
 -- leaving
 
@@ -275,6 +288,7 @@ leave-known script m who h =
       rows = h.rows;
       names = h.names;
       bindings = h.bindings;
+      notices = left_notices-known (length m.doors) who m.notice_list.notices h.notices;
     }
 
 leave_process-known : (script : ScriptValue) (m : State) (p : ℕ) → IsKnown script m → IsKnown script (leave_process m p)
@@ -289,37 +303,44 @@ leave_process-known script m p h =
 -- changes of tables and of the names
 
 passes-known :
-    (script : ScriptValue) (m : State) {rs : List Call} (p : ℕ) (pass : List Pass) → AreKnown script m.doors rs m.tables m.names m.bindings →
-    AreKnown script m.doors rs (tables_after_pass m p pass) m.names m.bindings
+    (script : ScriptValue) (m : State) {rs : List Call} (p : ℕ) (pass : List Pass) → AreKnown script m.doors rs m.tables m.names m.bindings m.notice_list.notices →
+    AreKnown script m.doors rs (tables_after_pass m p pass) m.names m.bindings m.notice_list.notices
 passes-known script m p pass h = tables-known script m (tables_after_pass m p pass) h (released-known (length m.doors) m.tables p pass h.rows)
 
 installs-known :
     (script : ScriptValue) (m : State) {rs : List Call} (p : ℕ) (objects : List Obj) → AreKnownInTransit (length m.doors) objects →
-    AreKnown script m.doors rs m.tables m.names m.bindings → AreKnown script m.doors rs (tables_with m p objects) m.names m.bindings
+    AreKnown script m.doors rs m.tables m.names m.bindings m.notice_list.notices → AreKnown script m.doors rs (tables_with m p objects) m.names m.bindings m.notice_list.notices
 installs-known script m p objects all h = tables-known script m (tables_with m p objects) h (inserted-known (length m.doors) m.tables p objects all h.rows)
 
 with_row-known :
     (script : ScriptValue) (m : State) (p place : ℕ) (o : Option Obj) → IsKnown script m → IsKnownObject (length m.doors) o →
     IsKnown script (with_table_of m p (with_row (table_of m p) place o))
 with_row-known script m p place o h here =
-    record { doors = h.doors; calls = h.calls; rows = row-known (length m.doors) m.tables p place o here h.rows; names = h.names; bindings = h.bindings }
+    record { doors = h.doors; calls = h.calls; rows = row-known (length m.doors) m.tables p place o here h.rows; names = h.names; bindings = h.bindings; notices = h.notices }
 
 names-known :
     (script : ScriptValue) (m : State) (names : List Name) → IsKnown script m → AreKnownNames (length m.doors) names →
-    AreKnown script m.doors m.call_tree.calls m.tables names m.bindings
-names-known script m names h here = record { doors = h.doors; calls = h.calls; rows = h.rows; names = here; bindings = h.bindings }
+    AreKnown script m.doors m.call_tree.calls m.tables names m.bindings m.notice_list.notices
+names-known script m names h here = record { doors = h.doors; calls = h.calls; rows = h.rows; names = here; bindings = h.bindings; notices = h.notices }
 
--- changes of the bindings
+-- changes of the bindings and of the notices
+
+notices-known :
+    (script : ScriptValue) (m : State) {rs : List Call} {ts : List (List (Option Obj))} (notices : List Notice) →
+    AreKnown script m.doors rs ts m.names m.bindings m.notice_list.notices → AreKnownNotices (length m.doors) notices →
+    AreKnown script m.doors rs ts m.names m.bindings notices
+notices-known script m notices h here =
+    record { doors = h.doors; calls = h.calls; rows = h.rows; names = h.names; bindings = h.bindings; notices = here }
 
 bindings-known :
     (script : ScriptValue) (m : State) (bindings : List (Option ℕ)) → IsKnown script m → AreKnownBindings (length m.doors) bindings →
-    AreKnown script m.doors m.call_tree.calls m.tables m.names bindings
+    AreKnown script m.doors m.call_tree.calls m.tables m.names bindings m.notice_list.notices
 bindings-known script m bindings h here =
-    record { doors = h.doors; calls = h.calls; rows = h.rows; names = h.names; bindings = here }
+    record { doors = h.doors; calls = h.calls; rows = h.rows; names = h.names; bindings = here; notices = h.notices }
 
 unbound-known :
     (script : ScriptValue) (m : State) (t : ℕ) → IsKnown script m →
-    AreKnown script m.doors m.call_tree.calls m.tables m.names (unbind_thread m.bindings t)
+    AreKnown script m.doors m.call_tree.calls m.tables m.names (unbind_thread m.bindings t) m.notice_list.notices
 unbound-known script m t h =
     bindings-known script m (unbind_thread m.bindings t) h
     (binding-known (length m.doors) m.bindings t None (λ d e. absurd (cc e)) h.bindings)
@@ -371,10 +392,12 @@ return-known script m t p bytes pass h = by_test (has_invalid_door m t)
   where
     returned : IsKnown script (return_parked m t p bytes pass).state
     returned =
-        passes-known script m p pass
+        notices-known script m (end_notice m.notice_list t).notices
+        (passes-known script m p pass
         (changed-known script m (is_client_call_of t) _
         (emptied script (length m.doors) (stage.Returned bytes (objects_passed (table_of m p) pass)) (passed-known (length m.doors) m.tables p pass h.rows))
-        h)
+        h))
+        (changed_notices-known (length m.doors) (is_notice_entered_by t) notice.Over m.notice_list.notices h.notices)
 
     by_test : (b : Bool) → IsKnownAct script (if b then return_unbound m t p bytes pass else return_parked m t p bytes pass)
     by_test true = record { state = unbound-known script (return_parked m t p bytes pass).state t returned; answer = tt }
@@ -578,15 +601,14 @@ enter-known script m t p r h thread process owners made = by_refusal (refusal_of
 
 -- ends of waits
 
--- the door of a known call is there
+-- a door that was made is there
 entry-known :
-    (script : ScriptValue) (m : State) (r : Call) → IsKnown script m → IsKnownCall script (length m.doors) r →
-    IsEntry script (entry_of (door_of m r.door))
-entry-known script m r h here = by_door (door_of m r.door) refl
+    (script : ScriptValue) (m : State) (d : ℕ) → IsKnown script m → IsNumberOf (length m.doors) d → IsEntry script (entry_of (door_of m d))
+entry-known script m d h here = by_door (door_of m d) refl
   where
-    by_door : (o : Option Door) → door_of m r.door ≡ o → IsEntry script (entry_of o)
-    by_door None e = absurd (not_missing (numbered_there m.doors r.door here.door.0 here.door.1) e)
-    by_door (Some d) e = (All-at_number (IsDeclaredDoor script) m.doors r.door d h.doors e).entry
+    by_door : (o : Option Door) → door_of m d ≡ o → IsEntry script (entry_of o)
+    by_door None e = absurd (not_missing (numbered_there m.doors d here.0 here.1) e)
+    by_door (Some x) e = (All-at_number (IsDeclaredDoor script) m.doors d x h.doors e).entry
 
 accept-known : (script : ScriptValue) (m : State) (t p : ℕ) (i : Item) → IsKnown script m → IsKnownAct script (accept m t p i)
 accept-known script m t p (item.Call c) h = by_call (find_call m (is_given_as c t)) refl
@@ -597,7 +619,7 @@ accept-known script m t p (item.Call c) h = by_call (find_call m (is_given_as c 
           state =
               installs-known script m p r.objects known.objects
               (changed-known script m (is_given_as c t) _ (emptied script (length m.doors) (stage.Entered (tid t)) tt) h);
-          answer = entry-known script m r h known;
+          answer = entry-known script m r.door h known.door;
         }
     by_room r known false =
         record { state = changed-known script m (is_given_as c t) _ (emptied script (length m.doors) (stage.Ended EMFILE) tt) h; answer = tt }
@@ -606,7 +628,19 @@ accept-known script m t p (item.Call c) h = by_call (find_call m (is_given_as c 
     by_call None e = record { state = h; answer = tt }
     by_call (Some r) e =
         by_room r (All-find (IsKnownCall script (length m.doors)) (is_given_as c t) m.call_tree.calls r h.calls e) (has_room m p r.objects)
-accept-known script m t p (item.Notice n) h = record { state = h; answer = tt }
+accept-known script m t p (item.Notice c) h = by_notice (find_notice m (is_given_notice_as c t)) refl
+  where
+    by_notice : (o : Option Notice) → find_notice m (is_given_notice_as c t) ≡ o → IsKnownAct script (accept_notice m t c o)
+    by_notice None e = record { state = h; answer = tt }
+    by_notice (Some x) e =
+        record {
+          state =
+              notices-known script m (enter_notice m.notice_list c t).notices h
+              (changed_notices-known (length m.doors) (is_given_notice_as c t) (notice.Entered (tid t)) m.notice_list.notices h.notices);
+          answer =
+              entry-known script m x.door h
+              (All-find (IsKnownNotice (length m.doors)) (is_given_notice_as c t) m.notice_list.notices x h.notices e);
+        }
 
 collect-known : (script : ScriptValue) (m : State) (t p c : ℕ) → IsKnown script m → IsKnownAct script (collect m t p c)
 collect-known script m t p c h =
@@ -617,12 +651,12 @@ collect-known script m t p c h =
       answer = by_call (find_call m (is_to_collect_as c));
     }
   where
-    next : AreKnown script m.doors (collect_call m.call_tree c (now m)).calls m.tables m.names m.bindings
+    next : AreKnown script m.doors (collect_call m.call_tree c (now m)).calls m.tables m.names m.bindings m.notice_list.notices
     next = changed-known script m (is_to_collect_as c) _ (emptied script (length m.doors) (stage.Answered (now m)) tt) h
 
     by_room :
         (objects : List Obj) → AreKnownInTransit (length m.doors) objects → (b : Bool) →
-        AreKnown script m.doors (collect_call m.call_tree c (now m)).calls (if b then tables_with m p objects else m.tables) m.names m.bindings
+        AreKnown script m.doors (collect_call m.call_tree c (now m)).calls (if b then tables_with m p objects else m.tables) m.names m.bindings m.notice_list.notices
     by_room objects all true = installs-known script m p objects all next
     by_room objects all false = next
 
@@ -671,16 +705,34 @@ go_on-known script m t p _ h = record { state = h; answer = tt }
 give_one-known : (script : ScriptValue) (m : State) (i : Item) (u : ℕ) → IsKnown script m → IsKnown script (give_one m i u)
 give_one-known script m (item.Call c) u h =
     changed-known script m (is_queued_as c) _ (staged script (length m.doors) (stage.Given (tid u)) tt) h
-give_one-known script m (item.Notice n) u h = h
+give_one-known script m (item.Notice c) u h =
+    notices-known script m (give_notice m.notice_list c u).notices h
+    (changed_notices-known (length m.doors) (is_waiting_notice_as c) (notice.Given (tid u)) m.notice_list.notices h.notices)
+
+-- a notice is made of a door that is there
+due_door : (before m : State) (d : ℕ) → is_due before m d (door_of m d) ≡ true → IsNumberOf (length m.doors) d
+due_door before m d due = by_door (door_of m d) refl due
+  where
+    by_door : (o : Option Door) → door_of m d ≡ o → is_due before m d o ≡ true → IsNumberOf (length m.doors) d
+    by_door None e f = cc
+    by_door (Some x) e f = numbered_within m.doors d x e
+
+make_notice-known :
+    (script : ScriptValue) (before m : State) (d : ℕ) → is_due before m d (door_of m d) ≡ true → IsKnown script m → IsKnown script (with_notice_of m d)
+make_notice-known script before m d due h =
+    notices-known script m (make_notice m.notice_list (now m) d).notices h
+    (All-push (IsKnownNotice (length m.doors)) m.notice_list.notices (new_notice (m.notice_list.made + 1) (now m) d) h.notices
+    (due_door before m d due))
 
 settle-known : (script : ScriptValue) (before m : State) → IsKnown script m → IsKnown script (settle before m)
 settle-known script before m h =
     settle-all
     (IsKnown script)
+    before
+    (λ n d due known. make_notice-known script before n d due known)
     (λ n t lost known. unbound-known script n t known)
     (λ n w x picked known. give_one-known script n w.item x.thread.0 known)
     (λ n t spare known. known)
-    before
     m
     h
 

@@ -7,6 +7,7 @@ pub mod BudgetRow
 pub mod RefusedRow
 pub mod LoopsRow
 pub mod InterruptedRow
+pub mod NoticedRow
 pub mod FitRequests
 pub mod DeclaredObjects
 pub mod DeclaredStates

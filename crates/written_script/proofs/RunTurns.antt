@@ -21,7 +21,7 @@ use Rattle.script_requests.proofs.Elements.{All-at_number, All-none}
 use Rattle.script_requests.proofs.SoundFrames.{IsStep, AreSteps, AreLines, IsFrame, frame_of-frame}
 use Rattle.written_script.specs.DeclaredRuns.{IsDeclared, IsDeclaredDoor}
 use Rattle.written_script.specs.ScriptRuns.{History, limit_of, with_script_threads, opening_of, first_history, request_at_turn, history_after, run, run_from, AreRunnableFrom, IsAllowed, turns_from, turns_of}
-use Rattle.written_script.proofs.DeclaredObjects.{IsKnownName, no_rows-known}
+use Rattle.written_script.proofs.DeclaredObjects.{IsKnownNotice, IsKnownName, no_rows-known}
 use Rattle.written_script.proofs.DeclaredStates.{IsKnown, IsKnownCall, MakesDeclared, AsksDeclared, step-known, root-declared, waiting-declared}
 use Rattle.written_script.proofs.FitRequests.{HasThreads, IsFitSomewhere, fit-somewhere, IsBuiltLine, request-fit, request-built}
 use Rattle.written_script.proofs.Histories.{IsOpening-opening_of, events-opening_of, events-run}
@@ -272,6 +272,7 @@ IsKnownHistory-first_history script sound =
             (object_at-opening (IsOpening-opening_of script sound));
         names = rw opens.names (All-nil (IsKnownName (length (opening_of script).doors)));
         bindings = λ t d e. absurd (none_bound (bound_of (opening_of script) t) d (bound_of-opening (IsOpening-opening_of script sound) t) e);
+        notices = rw opens.notice_list (All-nil (IsKnownNotice (length (opening_of script).doors)));
       };
       events = All-nil (IsDeclaredEvent script);
     }

@@ -85,3 +85,15 @@ abbrev pub interrupted_trace : List ℕ
 interrupted_trace =
     codes
     "1 g g create ok fd 0\n2 g g attach ok\n3 g g return wait\n4 f f create ok fd 0\n5 f f attach ok\n6 f f return wait\n7 c c await ok\n8 c c open ok fd 0\n9 c c call wait c1\n10 f c accept enter c1 ask 4 \"q\"\n11 f c open ok fd 1\n12 f c call wait c2\n13 k k interrupt ok\n14 g f accept enter c2 find 3 \"q\"\n15 g f return wait\n16 f f collect ok \"found q\"\n17 f f testcancel ok yes\n18 f f return wait\n19 c c collect EINTR\n20 c c exit ok\n21 k k exit ok\nend complete 21\n"
+
+-- The references to two doors fall to one twice each: of the first a notice is made once, and of the second each time. A notice brings no
+-- descriptors.
+abbrev pub noticed_script : List ℕ
+noticed_script =
+    codes
+    "doors script 1\nprocess srv\nthread s\ncreate d p 7 unref\ncreate m p 9 unref-multi\nrepeat 2\ndup e $d\nclose $e\ndup e $m\nclose $e\nend\nserve\nend\nproc p\nif unref\nclose $arg\nend\nend\n"
+
+abbrev pub noticed_trace : List ℕ
+noticed_trace =
+    codes
+    "1 s s create ok fd 0\n2 s s create ok fd 1\n3 s s dup ok fd 2\n4 s s close ok\n5 s s dup ok fd 2\n6 s s close ok\n7 s s dup ok fd 2\n8 s s close ok\n9 s s dup ok fd 2\n10 s s close ok\n11 s s return wait\n12 s s accept enter n1 p 7 unref\n13 s s close EBADF\n14 s s return wait\n15 s s accept enter n2 p 9 unref\n16 s s close EBADF\n17 s s return wait\n18 s s accept enter n3 p 9 unref\n19 s s close EBADF\n20 s s return wait\nend complete 20\n"

@@ -1,6 +1,6 @@
 //! Scripts whose traces are known beforehand, computed through the definitions. No function here does anything: each is a law that
 //! the run which the definitions give a script has this text.
-ghost use Rattle.written_script.specs.WorkedRuns.{PlaysAs, echo_script, echo_trace, grown_script, grown_trace, budget_script, budget_trace, refused_script, refused_trace, loops_script, loops_trace, interrupted_script, interrupted_trace};
+ghost use Rattle.written_script.specs.WorkedRuns.{PlaysAs, echo_script, echo_trace, grown_script, grown_trace, budget_script, budget_trace, refused_script, refused_trace, loops_script, loops_trace, interrupted_script, interrupted_trace, noticed_script, noticed_trace};
 
 /// An echo door and a client.
 pub fn echo()
@@ -30,4 +30,9 @@ pub fn loops()
 /// A client is interrupted while its server waits in a call of its own.
 pub fn interrupted()
     ensures { PlaysAs interrupted_script interrupted_trace }
+{}
+
+/// References to two doors fall to one, twice each.
+pub fn noticed()
+    ensures { PlaysAs noticed_script noticed_trace }
 {}

@@ -6,7 +6,7 @@ use std::test::Fail;
 use thread_machine::later::later;
 
 /// Lines of a thread that need no later capability, and lines that do.
-const BUILT_LINES: [&str; 35] = [
+const BUILT_LINES: [&str; 40] = [
     "create d e 0",
     "attach 1 p",
     "open v p",
@@ -42,23 +42,25 @@ const BUILT_LINES: [&str; 35] = [
     "if ok\nrevoke 1\nend",
     "repeat 2\nserve\nrevoke 1\nend",
     "serve\nrevoke 1",
+    "create d e 0 unref",
+    "create d e 0 unref-multi",
+    "create d e 0 no-cancel unref",
+    "create d e 0 private unref-multi",
+    "if unref\nexit\nend",
 ];
 
 /// Lines of a procedure, and a member, that need none either.
-const BUILT_SCRIPTS: [(&str, &str); 6] = [
+const BUILT_SCRIPTS: [(&str, &str); 7] = [
     ("call r 1 \"\" desc 1", ""),
     ("bind 1\nunbind", ""),
     ("serve", "spare s"),
     ("exit", ""),
     ("if ok\nexit\nend", "spare s"),
     ("testcancel\nrevoke 1\nkill a\ninterrupt t", ""),
+    ("create d e 0 unref\nif unref\nserve\nend", "spare s"),
 ];
 
-const LATER_LINES: [&str; 23] = [
-    "create d e 0 unref",
-    "create d e 0 unref-multi",
-    "create d e 0 no-cancel unref",
-    "create d e 0 private unref-multi",
+const LATER_LINES: [&str; 19] = [
     "pipe r w",
     "write 1 \"\"",
     "read v 1 1",
