@@ -1,9 +1,9 @@
 //! The doors of a kernel.
-ghost use Rattle.std.specs.Prelude.{◌≡◌, ◌+◌, ◌<◌, ◌≤◌, [], ◌∷◌, length, if◌then◌else◌, Ok, Err, IfOk, OnOk, OnErr};
+ghost use Rattle.std.specs.Prelude.{◌≡◌, ◌+◌, ◌<◌, ◌≤◌, [], ◌∷◌, false, length, if◌then◌else◌, None, Ok, Some, Err, IfOk, OnOk, OnErr};
 ghost use Rattle.dk_base.specs.declared.error.Errno.TheVariants.{EINVAL};
 ghost use Rattle.dk_base.specs.declared.limits.TheConstants.{EVENTS_MAX};
 ghost use Rattle.dk_base.specs.ByNumber.{at_number};
-ghost use Rattle.kernel_records.specs.Words.{bind_tests, end_owner, first_refusal, has_common_door, has_many, has_told_attributes, info_in, is_valid_in, limit_tests, may_take_notice_in, new_door, notice_doors, param_in, pool_in, refused_where, revoke_door, revoke_tests, set_param, set_param_tests, unless_refused_with, valid_doors_of, with_door};
+ghost use Rattle.kernel_records.specs.Words.{bind_tests, end_owner, first_refusal, has_common_door, has_many, has_told_attributes, info_in, is_notice_door, is_valid_in, limit_tests, may_take_notice_in, new_door, notice_doors, param_in, pool_in, refused_where, revoke_door, revoke_tests, set_param, set_param_tests, unless_refused_with, valid_doors_of, with_door};
 
 use crate::attributes::{first_desc_max, has_told_attributes, takes_notices};
 use crate::door::{
@@ -219,6 +219,17 @@ impl Doors {
         ensures { result.now ≡ notice_doors self.now.items }
     {
         self.with_notices.as_slice()
+    }
+
+    /// Whether a door is there of which notices can be made, valid or not.
+    pub fn takes_notices(&self, d: u32) -> bool
+        ensures there { (x : Door) → at_number self.now.items d ≡ Some x → result ≡ is_notice_door x }
+        ensures none { at_number self.now.items d ≡ None → result ≡ false }
+    {
+        match self.door(d) {
+            Some(door) => takes_notices(door.attrs),
+            None => false,
+        }
     }
 
     /// Whether any number of notices of a door can be made.

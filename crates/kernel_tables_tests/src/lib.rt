@@ -1,9 +1,11 @@
 //! Tests of the tables of the kernel: descriptors, and those that are passed, names, processes and threads, doors, server pools,
-//! calls, notices.
+//! calls, notices, and the references that are counted.
 #![tactic(auto)]
 
 #[cfg(test)]
 mod calls;
+#[cfg(test)]
+mod counts;
 #[cfg(test)]
 mod descriptors;
 #[cfg(test)]

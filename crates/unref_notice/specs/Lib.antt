@@ -1,2 +1,4 @@
+pub mod Counted
+pub mod Counting
 pub mod Value
 pub mod Words

@@ -1,8 +1,10 @@
-//! Unreferenced notices (door_create(3C)): those that wait for a thread, that a thread was given or has entered, and, of a door that
-//! has at most one, also one that is over or dropped.
+//! Unreferenced notices (door_create(3C)): how many references each door has, of which a notice is made when they fall to one; and
+//! the notices that wait for a thread, that a thread was given or has entered, and, of a door that has at most one, also one that is
+//! over or dropped.
 #![tactic(auto)]
 
 mod change;
+pub mod counts;
 mod leave;
 pub mod notices;
 mod stage;
