@@ -1,7 +1,8 @@
 -- The whole of leaving: what its parts need of a store.
 use Rattle.std.proofs.Common.{◌≡◌, ℕ, ◌+◌, ◌<◌, ◌≤◌, true, List, Some, is_some, length, sym, ap, ◌∙◌, subst, arith}
-use Rattle.kernel_records.specs.Words.{CallTree, NoticeList, ProcessTable, bound_at, parked_at, process_in, thread_at}
+use Rattle.kernel_records.specs.Words.{CallTree, Leaving, NoticeList, ProcessTable, bound_at, left_calls, live_calls, parked_at, process_in, thread_at}
 use Rattle.written_kernel.specs.Types.{Door, Parked, Thread}
+use Rattle.call_tree.specs.Words.{CallsValue}
 use Rattle.server_pool.specs.Words.{PoolsValue, pool_at, stack_in, thread_room_in}
 use Rattle.pool_agreement.specs.Words.{Agrees, IsListed, pool_by}
 use Rattle.pool_agreement.proofs.Readers.{is_pool-self, there_is}
@@ -17,6 +18,14 @@ parked_early {n} {table} {doors} {tree} {list} {v} h t x e =
     let s = h.stacks x.pool in
     let k : IsListed (stack_in v x.pool) x = s.all t x e (is_pool-self x.pool) in
     (s.parked k.place x k.there).since
+
+-- calls that leave their pools, as they were read where they are held
+pub withdrawn :
+    {n : ℕ} {table : ProcessTable} {doors : List Door} {list : NoticeList} {v w : PoolsValue} (who : Leaving) (read held : CallsValue) → read ≡ held →
+    (Agrees n table doors read.tree list v → Agrees n table doors (live_calls (left_calls who read.tree)) list w) → Agrees n table doors held.tree list v →
+    Agrees n table doors (live_calls (left_calls who held.tree)) list w
+withdrawn {n} {table} {doors} {list} {v} {w} who read held same =
+    subst (λ (x : CallsValue). Agrees n table doors x.tree list v → Agrees n table doors (live_calls (left_calls who x.tree)) list w) same
 
 module _ {s now : StoreValue} (h : IsAgreed s) (same : s ≡ now) where
   pub early : now.latest ≤ now.events → s.latest < s.events + 1

@@ -1,5 +1,6 @@
 mod Acts
 mod Alike
+mod Counted
 mod Giving
 mod GivingAll
 mod ItemRoom
@@ -9,7 +10,6 @@ mod LeftThreads
 mod Made
 mod MadeNotice
 mod MadeRoom
-pub mod NoTable
 mod NoticeRoom
 mod Spares
 mod Threads

@@ -1,13 +1,14 @@
 -- What a store holds, by the values of its parts, and the written state that this is.
-use Rattle.std.specs.Prelude.{ℕ, ◌≡◌, ◌+◌, ◌<◌, ◌≤◌, Bool, List, None, Option, Some, count_by, false, is_some, length, true}
+use Rattle.std.specs.Prelude.{ℕ, ◌≡◌, ◌+◌, ◌<◌, ◌≤◌, ◌==◌, ◌&&◌, Bool, List, None, Option, Some, count_by, false, is_some, length, true}
 use Rattle.dk_base.specs.Words.{RoomValue}
 use Rattle.written_kernel.specs.Types.{Door, Obj, Pool}
 use Rattle.kernel_records.specs.Words.{ProcessTable, is_pool, thread_at}
-use Rattle.written_kernel.specs.Words.{State, may_have_notice, pool_of}
+use Rattle.written_kernel.specs.Words.{State, door_of, may_have_notice, pool_of, reference_count}
 use Rattle.name_space.specs.Words.{HasRoomForName, NameTable}
 use Rattle.server_pool.specs.Words.{PoolsValue, item_room_in, pool_at, thread_room_in}
 use Rattle.call_tree.specs.Words.{CallsValue, HasRoomForCall}
-use Rattle.unref_notice.specs.Words.{NoticesValue}
+use Rattle.unref_notice.specs.Words.{NoticesValue, count_of, was_shared}
+use Rattle.unref_notice.specs.declared.counts.TheConstants.{REFERENCES_ROOM}
 use Rattle.unref_notice.specs.declared.notices.TheConstants.{NOTICES_MAX}
 use Rattle.pool_agreement.specs.Words.{Agrees, HasPlaces, own_pool}
 
@@ -24,6 +25,11 @@ pub record StoreValue : Type 0 where
   pub events : ℕ
   -- no thread parked, and no call or notice was made, after this event
   pub latest : ℕ
+  -- how many references each door had when the step began
+  pub opening : List ℕ
+  -- how many more doors can be counted without memory, and how many more references
+  pub door_room : ℕ
+  pub reference_room : ℕ
 
 abbrev pub stored_state : StoreValue → State
 stored_state store =
@@ -46,12 +52,15 @@ IsAgreed store = Agrees store.latest store.processes store.doors.items store.cal
 abbrev pub ArePlaced : State → Type 0
 ArePlaced m = HasPlaces m.process_table m.bindings m.doors m.call_tree.calls m.notice_list.notices
 
--- another name, door and call take no memory, nor do another thread and another call in this pool
+-- another name, door and call take no memory, nor do another thread and another call in this pool, and further references can be
+-- counted
 pub record HasRoom (store : StoreValue) (touched : Pool) : Type 0 where
   pub names : HasRoomForName store.names
   pub doors : 0 < store.doors.spare
   pub door_pools : 0 < store.pools.door_room
+  pub counts : 0 < store.door_room
   pub calls : HasRoomForCall store.calls
+  pub references : REFERENCES_ROOM ≤ store.reference_room
   pub threads : is_some (pool_at store.pools touched) ≡ true → 0 < thread_room_in store.pools touched
   pub items : is_some (pool_at store.pools touched) ≡ true → 0 < item_room_in store.pools touched
 
@@ -81,6 +90,15 @@ pub record HasRoomForNotices (store : StoreValue) (ds : List ℕ) : Type 0 where
   pub items :
       (pool : Pool) → is_some (pool_at store.pools pool) ≡ true → 0 < count_served (stored_state store) pool ds →
       count_served (stored_state store) pool ds < item_room_in store.pools pool
+
+-- the step that is an event has begun: the counts at its beginning are those of this state
+pub record HasBegun (opening : List ℕ) (m : State) : Type 0 where
+  pub counts : (d : ℕ) → count_of opening d ≡ reference_count m d
+  pub none : (d : ℕ) → door_of m d ≡ None → count_of opening d ≡ 0
+
+-- a door had more than one reference when the step began, and has one in this state
+abbrev pub has_fallen_since : List ℕ → State → ℕ → Bool
+has_fallen_since opening m d = was_shared opening d && (reference_count m d == 1)
 
 -- another notice can be made of the door of a number, if it is there
 abbrev pub may_have_notice_in : State → ℕ → Option Door → Bool

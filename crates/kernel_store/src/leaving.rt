@@ -1,7 +1,7 @@
 //! What becomes of pools, threads, calls and notices where callers are interrupted, threads end and doors are lost, part by part.
 ghost use Rattle.std.specs.Prelude.{◌≡◌, ℕ, ◌+◌, ◌<◌, ◌≤◌, ◌&&◌, List, OnOk, Some, true, find, is_some, length};
 ghost use Rattle.dk_base.specs.ByNumber.{at_number};
-ghost use Rattle.kernel_records.specs.Words.{CallTree, NoticeList, ProcessTable, bound_at, change_thread, deserted_in, end_thread, interrupted_where, is_owned_by, is_queued, is_served_by, kept_notices, leaving_of, left_calls, left_notices, left_thread_of, left_threads, live_calls, parked_at, park_thread, process_in, thread_at};
+ghost use Rattle.kernel_records.specs.Words.{CallTree, NoticeList, ProcessTable, change_thread, deserted_in, end_thread, interrupted_where, is_owned_by, is_queued, is_served_by, kept_notices, leaving_of, left_calls, left_notices, left_thread_of, left_threads, live_calls, parked_at, park_thread, thread_at};
 ghost use Rattle.written_kernel.specs.Types.{Door, Parked, Pool, Thread};
 ghost use Rattle.server_pool.specs.Words.{AllParkedBefore, item_room_in, pool_at, stack_in, thread_room_in};
 ghost use Rattle.pool_agreement.specs.Words.{Agrees, AgreesSomehow, leaves_queue, notice_leaves_queue};
@@ -12,6 +12,7 @@ use dk_base::error::NoMemory;
 use dk_base::number::{Pid, Tid};
 use dk_base::object::Item;
 use door_object::doors::Doors;
+use kernel_holdings::holdings::Holdings;
 use kernel_records::leaving::Leaver;
 use kernel_records::pool::Pool;
 use kernel_records::record::{Call, CallStage, Notice, NoticeStage, ThreadState};
@@ -308,10 +309,17 @@ pub fn leave_threads(processes: &mut Procs, pools: &mut Pools, who: Leaver, call
 // calls
 
 /// What becomes of the calls, after the threads. Those whose callers end are forgotten.
-pub fn leave_calls(alloc: Global, calls: &mut Calls, who: Leaver, processes: &Procs, doors: &Doors)
-    ensures { calls.new.tree ≡ live_calls (left_calls (leaving_of processes.now doors.now.items who) calls.old.tree) }
+pub fn leave_calls(
+    alloc: Global,
+    held: &mut Holdings,
+    who: Leaver,
+    processes: &Procs,
+    doors: &Doors,
+)
+    ensures calls { held.new.calls.tree ≡ live_calls (left_calls (leaving_of processes.now doors.now.items who) held.old.calls.tree) }
+    ensures same { held.new ≡ record (held.old) { calls = held.new.calls; reference_room = held.new.reference_room } }
 {
-    calls.leave(
+    held.leave_calls(
         alloc,
         |t| ends(who, processes, Tid(t)),
         |t| interrupts(who, Tid(t)),

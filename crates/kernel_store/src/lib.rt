@@ -4,7 +4,5 @@
 
 mod leaving;
 mod notices;
-mod numbered;
 mod starting;
 pub mod store;
-pub mod tables;

@@ -1,16 +1,19 @@
 //! What the kernel holds, by subject.
-ghost use Rattle.std.specs.Prelude.{◌≡◌, ℕ, ◌+◌, ◌<◌, ◌≤◌, ◌++◌, ◌∷◌, Bool, List, [], filter, length, None, true, false, find, is_none, is_some, IfOk, IfNone, OnOk, OnErr, OnSome};
+ghost use Rattle.std.specs.Prelude.{◌≡◌, ℕ, ◌+◌, ◌<◌, ◌≤◌, ◌++◌, ◌∷◌, Bool, List, [], filter, length, None, true, false, find, is_none, is_some, IfOk, IfNone, IfSome, OnOk, OnErr, OnSome};
 ghost use Rattle.dk_base.specs.declared.limits.TheConstants.{PROCESSES_MAX, THREADS_MAX, EVENTS_MAX};
 ghost use Rattle.dk_base.specs.declared.object.Item.TheVariants as item;
+ghost use Rattle.dk_base.specs.declared.object.Obj.TheVariants as obj;
 ghost use Rattle.dk_base.specs.declared.limits.TheConstants.{QUEUE_MAX};
 ghost use Rattle.kernel_records.specs.declared.record.ThreadState.TheVariants as is;
 ghost use Rattle.name_space.specs.Words.{HasRoomForName};
-ghost use Rattle.written_kernel.specs.Types.{Pool, Thread};
-ghost use Rattle.kernel_records.specs.Words.{bind_thread, close_row, close_table, collect_call, descriptor, door_attached, end_invocation, end_notice, end_owner, end_process, enter_call, enter_notice, enter_thread, fail_call, first_refusal, free_place, has_told_attributes, insert_row, is_bad_pass, is_done, is_dormant, is_given_as, is_given_notice_as, is_idle, is_queued, is_to_collect_as, kept_notices, leaving_of, live_calls, lowest_free, make_notice, new_descriptors, notice_doors, objects_passed, open_call, park_thread, return_call, revoke_door, revoke_tests, set_param, set_param_tests, thread_at, unbind_thread, with_door, with_name, with_table, without_name};
-ghost use Rattle.written_kernel.specs.Words.{bound_of, calls_waiting, door_of, forget, has_invalid_door, has_lost_door, has_room, is_live_process, is_running, is_valid, leave, name_of, no_process, now, object_at, pool_of, state_of, table_of, tables_after_pass, tables_with, with_event_counted, with_new_process, with_new_thread, with_state, with_table_of};
+ghost use Rattle.written_kernel.specs.Types.{Pool};
+ghost use Rattle.kernel_records.specs.Words.{bind_thread, close_row, close_table, collect_call, descriptor, door_attached, end_invocation, end_notice, end_owner, end_process, enter_call, enter_notice, enter_thread, fail_call, first_refusal, free_place, has_double_release, has_told_attributes, insert_row, is_bad_pass, is_done, is_dormant, is_given_as, is_given_notice_as, is_idle, is_queued, is_to_collect_as, kept_notices, leaving_of, live_calls, lowest_free, make_notice, new_descriptors, notice_doors, objects_passed, open_call, park_thread, return_call, revoke_door, revoke_tests, set_param, set_param_tests, unbind_thread, with_door, with_name, with_table, without_name};
+ghost use Rattle.written_kernel.specs.Words.{bound_of, calls_waiting, door_of, forget, has_invalid_door, has_room, is_live_process, is_running, is_valid, leave, name_of, no_process, now, object_at, objects_collected_in, pool_of, reference_count, state_of, table_of, tables_after_pass, tables_with, with_event_counted, with_new_process, with_new_thread, with_state, with_table_of};
 ghost use Rattle.server_pool.specs.Words.{item_room_in};
 ghost use Rattle.pool_agreement.specs.Words.{IsGivenOut, IsGivenOutBut, own_pool};
-ghost use Rattle.kernel_store.specs.Stored.{ArePlaced, CanMake, HasRoom, HasRoomForNotices, HasRoomToLeave, IsAgreed, may_have_notice_in, stored_state};
+ghost use Rattle.unref_notice.specs.Words.{AreCounted, was_shared};
+ghost use Rattle.unref_notice.specs.declared.counts.TheConstants.{REFERENCES_ROOM};
+ghost use Rattle.kernel_store.specs.Stored.{ArePlaced, CanMake, HasRoom, HasRoomForNotices, HasRoomToLeave, IsAgreed, HasBegun, has_fallen_since, may_have_notice_in, stored_state};
 
 mod settling;
 
@@ -19,19 +22,18 @@ use crate::leaving::{
     withdraw_notices,
 };
 use crate::notices::room_for_notices;
-use crate::tables::Tables;
 use call_tree::calls::Calls;
-use dk_base::error::{Errno, NoMemory};
+use dk_base::error::NoMemory;
 use dk_base::list::{Bytes, FdList, ObjList, PassList, Room};
 use dk_base::number::{Fd, PathId, Pid, Tid};
 use dk_base::object::{Item, Obj};
 use dk_base::request::Param;
 use dk_base::set::Attrs;
 use door_object::doors::Doors;
+use kernel_holdings::holdings::Holdings;
 use kernel_records::leaving::Leaver;
 use kernel_records::pool::{Pool, Waiting};
 use kernel_records::record::{Call, Door, Notice, ThreadState};
-use name_space::names::Names;
 use proc_table::procs::Procs;
 use server_pool::pools::Pools;
 use std::alloc::Global;
@@ -44,10 +46,8 @@ use unref_notice::notices::Notices;
 pub struct Store {
     processes: Procs,
     pools: Pools,
-    tables: Tables,
-    names: Names,
+    held: Holdings,
     doors: Doors,
-    calls: Calls,
     notices: Notices,
     events: u64,
     /// No thread parked, and no call or notice was made, after this event.
@@ -55,14 +55,15 @@ pub struct Store {
 }
 
 impl Model for Store {
+    ghost use Rattle.std.specs.Prelude.{◌≡◌, length};
     ghost use Rattle.pool_agreement.specs.Words.{Agrees};
     ghost use Rattle.kernel_store.specs.Stored.{StoreValue};
 
     ghost Value = { StoreValue };
 
-    ghost view = { λ s. record { processes = s.processes; pools = s.pools; tables = s.tables; names = s.names; doors = s.doors; calls = s.calls; notices = s.notices; events = s.events; latest = s.latest } };
+    ghost view = { λ s. record { processes = s.processes; pools = s.pools; tables = s.held.tables; names = s.held.names; doors = s.doors; calls = s.held.calls; notices = s.notices; events = s.events; latest = s.latest; opening = s.held.opening; door_room = s.held.door_room; reference_room = s.held.reference_room } };
 
-    ghost invariant = { λ s. Agrees s.latest s.processes s.doors.items s.calls.tree s.notices.list s.pools };
+    ghost invariant = { λ s. Agrees s.latest s.processes s.doors.items s.held.calls.tree s.notices.list s.pools × (length s.held.opening ≡ length s.doors.items) };
 }
 
 impl Store {
@@ -74,10 +75,8 @@ impl Store {
         Ok(Store {
             processes: Procs::new(alloc),
             pools: Pools::new(alloc)?,
-            tables: Tables::new(alloc),
-            names: Names::new(alloc),
+            held: Holdings::new(alloc),
             doors: Doors::new(alloc),
-            calls: Calls::new(alloc),
             notices: Notices::new(alloc),
             events: 0,
             latest: 0,
@@ -92,18 +91,6 @@ impl Store {
         &self.processes
     }
 
-    pub fn tables(&self) -> &Tables
-        ensures { result.now ≡ self.now.tables }
-    {
-        &self.tables
-    }
-
-    pub fn names(&self) -> &Names
-        ensures { result.now ≡ self.now.names }
-    {
-        &self.names
-    }
-
     pub fn doors(&self) -> &Doors
         ensures { result.now ≡ self.now.doors }
     {
@@ -113,7 +100,7 @@ impl Store {
     pub fn calls(&self) -> &Calls
         ensures { result.now ≡ self.now.calls }
     {
-        &self.calls
+        self.held.calls()
     }
 
     /// Its caller also learns here that the pools hold what the records say.
@@ -170,49 +157,55 @@ impl Store {
         self.pools.calls_waiting(pool)
     }
 
+    /// How many references a door has: descriptors, names, and what is in transit with calls.
+    pub fn references(&self, d: u32) -> u64
+        ensures { result ≡ reference_count (stored_state self.now) d }
+    {
+        self.held.references(d)
+    }
+
     /// What a descriptor of a process names.
     pub fn object_at(&self, p: Pid, fd: Fd) -> Option<Obj>
-        ensures { result ≡ object_at (stored_state self.now) p.0 fd }
+        ensures object { result ≡ object_at (stored_state self.now) p.0 fd }
+        ensures counted { IfSome result (λ o. AreCounted self.now.opening (o ∷ [])) }
     {
-        self.tables.object_at(p, fd)
+        self.held.object_at(p, fd)
     }
 
     /// Whether a process has no free descriptor.
     pub fn is_full(&self, p: Pid) -> bool
         ensures { result ≡ is_none (lowest_free (table_of (stored_state self.now) p.0)) }
     {
-        self.tables.is_full(p)
+        self.held.tables().is_full(p)
     }
 
     /// Whether these descriptors cannot be passed out of a process's table (door_call(3C)).
     pub fn is_bad_pass(&self, p: Pid, pass: &PassList) -> bool
         ensures { result ≡ is_bad_pass (table_of (stored_state self.now) p.0) pass.now }
     {
-        self.tables.is_bad_pass(p, pass)
+        self.held.tables().is_bad_pass(p, pass)
     }
 
     /// Whether a process has a free descriptor for each of these objects.
     pub fn has_room(&self, p: Pid, objects: &ObjList) -> bool
         ensures { result ≡ has_room (stored_state self.now) p.0 objects.now }
     {
-        self.tables.has_room(p, objects)
+        self.held.tables().has_room(p, objects)
     }
 
     /// Whether a door is attached to a path.
     pub fn has_name(&self, path: PathId) -> bool
         ensures { result ≡ is_some (name_of (stored_state self.now) path) }
     {
-        self.names.has(path)
+        self.held.names().has(path)
     }
 
     /// The number of the door that is attached to a path, 0 for none.
     pub fn door_attached(&self, path: PathId) -> u32
-        ensures { result ≡ door_attached (name_of (stored_state self.now) path) }
+        ensures door { result ≡ door_attached (name_of (stored_state self.now) path) }
+        ensures counted { is_some (name_of (stored_state self.now) path) ≡ true → AreCounted self.now.opening (obj.Door result ∷ []) }
     {
-        match self.names.look(path) {
-            Ok(door) => door,
-            Err(_) => 0,
-        }
+        self.held.door_attached(path)
     }
 
     pub fn door(&self, d: u32) -> Option<Door>
@@ -244,11 +237,11 @@ impl Store {
         ensures latest { self.new.latest ≡ self.old.latest }
         ensures notice_room { self.old.notices.spare ≤ self.new.notices.spare }
         ensures items { (pool : Pool) → item_room_in self.old.pools pool ≤ item_room_in self.new.pools pool }
+        ensures opening { self.new.opening ≡ self.old.opening }
         ensures room { OnOk result (HasRoom self.new touched) }
     {
-        self.names.reserve()?;
+        self.held.reserve()?;
         self.doors.reserve()?;
-        self.calls.reserve()?;
         self.pools.reserve_door()?;
         self.pools.room(touched)
     }
@@ -266,9 +259,31 @@ impl Store {
         ensures room { OnOk result (HasRoomForNotices self.new ds.now) }
         ensures kept { (touched : Pool) → HasRoom self.old touched → HasRoom self.new touched }
         ensures kept_to_leave { HasRoomToLeave self.old → HasRoomToLeave self.new }
+        ensures opening { self.new.opening ≡ self.old.opening }
     {
         self.notices.reserve(ds.len())?;
         room_for_notices(&mut self.pools, &self.doors, ds)
+    }
+
+    // steps
+
+    /// The step begins that an event is: the references that each door has now are those at its beginning. It takes no memory.
+    pub fn start_step(&mut self)
+        ensures same { self.new ≡ record (self.old) { opening = self.new.opening } }
+        ensures opened { HasBegun self.new.opening (stored_state self.old) }
+    {
+        self.held.start_step();
+    }
+
+    /// The doors that take notices, had more than one reference when the step began, and have one now, in the order of their
+    /// numbers, follow what is in `into`. Only the doors are looked at to which references came or went. It takes no memory.
+    pub fn end_of_step(&mut self, into: &mut Room<u32>)
+        requires placed { ArePlaced (stored_state self.old) }
+        requires room { length (filter (was_shared self.old.opening) (notice_doors (stored_state self.old).doors)) ≤ into.old.spare }
+        ensures same { self.new ≡ self.old }
+        ensures items { into.new.items ≡ into.old.items ++ filter (has_fallen_since self.old.opening (stored_state self.old)) (notice_doors (stored_state self.old).doors) }
+    {
+        self.held.end_of_step(&self.doors, into);
     }
 
     // before the first event
@@ -280,7 +295,7 @@ impl Store {
         ensures given_out { IfOk result (λ s. IsGivenOut self.pools → IsGivenOut s.pools) }
         ensures latest { IfOk result (λ s. s.latest ≡ self.latest) }
     {
-        self.tables.add(alloc, limit)?;
+        self.held.add_table(alloc, limit)?;
         if self.processes.add_proc(limit).is_err() {
             return Err(NoMemory);
         }
@@ -316,14 +331,17 @@ impl Store {
 
     /// An object gets the lowest free descriptor of a process that has one.
     pub fn insert(&mut self, p: Pid, object: Obj) -> Fd
-        requires { is_some (lowest_free (table_of (stored_state self.old) p.0)) ≡ true }
+        requires free { is_some (lowest_free (table_of (stored_state self.old) p.0)) ≡ true }
+        requires counted { AreCounted self.old.opening (object ∷ []) }
+        requires references { REFERENCES_ROOM ≤ self.old.reference_room }
         ensures state { stored_state self.new ≡ with_table_of (stored_state self.old) p.0 (insert_row (table_of (stored_state self.old) p.0) object) }
         ensures fd { result ≡ descriptor (free_place (table_of (stored_state self.old) p.0)) }
         ensures pools { self.new.pools ≡ self.old.pools }
         ensures latest { self.new.latest ≡ self.old.latest }
+        ensures opening { self.new.opening ≡ self.old.opening }
         ensures notice_room { self.old.notices.spare ≤ self.new.notices.spare }
     {
-        self.tables.insert(p, object)
+        self.held.insert(p, object)
     }
 
     /// Closes a descriptor of a process that names something.
@@ -332,22 +350,27 @@ impl Store {
         ensures state { stored_state self.new ≡ with_table_of (stored_state self.old) p.0 (close_row (table_of (stored_state self.old) p.0) fd.0) }
         ensures pools { self.new.pools ≡ self.old.pools }
         ensures latest { self.new.latest ≡ self.old.latest }
+        ensures opening { self.new.opening ≡ self.old.opening }
         ensures notice_room { self.old.notices.spare ≤ self.new.notices.spare }
     {
-        self.tables.close(p, fd)
+        self.held.close(p, fd)
     }
 
     /// What a process's descriptors name follows what is in `into`, and those with release are closed. It takes no memory.
     pub fn take_out(&mut self, p: Pid, pass: &PassList, into: &mut Room<Obj>)
-        requires { length pass.now ≤ into.old.spare }
+        requires once { has_double_release pass.now ≡ false }
+        requires room { length pass.now ≤ into.old.spare }
         ensures state { stored_state self.new ≡ record (stored_state self.old) { tables = tables_after_pass (stored_state self.old) p.0 pass.now } }
         ensures items { into.new.items ≡ into.old.items ++ objects_passed (table_of (stored_state self.old) p.0) pass.now }
+        ensures counted { AreCounted self.new.opening (objects_passed (table_of (stored_state self.old) p.0) pass.now) }
+        ensures references { self.old.reference_room ≤ self.new.reference_room }
         ensures pools { self.new.pools ≡ self.old.pools }
         ensures latest { self.new.latest ≡ self.old.latest }
+        ensures opening { self.new.opening ≡ self.old.opening }
         ensures notice_room { self.old.notices.spare ≤ self.new.notices.spare }
-        ensures room { (touched : Pool) → HasRoom self.old touched → HasRoom self.new touched }
+        ensures kept { (touched : Pool) → HasRoom self.old touched → HasRoom self.new touched }
     {
-        self.tables.take_out(p, pass, into)
+        self.held.take_out(p, pass, into)
     }
 
     /// Objects get the lowest free descriptors of a process that has one for each, in order. It takes no memory.
@@ -355,25 +378,31 @@ impl Store {
         requires empty { fds.items ≡ [] }
         requires room { length objects.now ≤ fds.spare }
         requires free { has_room (stored_state self.old) p.0 objects.now ≡ true }
+        requires counted { AreCounted self.old.opening objects.now }
+        requires references { REFERENCES_ROOM ≤ self.old.reference_room }
         ensures state { stored_state self.new ≡ record (stored_state self.old) { tables = tables_with (stored_state self.old) p.0 objects.now } }
         ensures fds { result ≡ new_descriptors (table_of (stored_state self.old) p.0) objects.now }
         ensures pools { self.new.pools ≡ self.old.pools }
         ensures latest { self.new.latest ≡ self.old.latest }
+        ensures opening { self.new.opening ≡ self.old.opening }
         ensures notice_room { self.old.notices.spare ≤ self.new.notices.spare }
     {
-        self.tables.install(p, objects, fds)
+        self.held.install(p, objects, fds)
     }
 
     /// Attaches a door to a path that has none, which takes no memory.
     pub fn attach(&mut self, path: PathId, door: u32)
         requires room { HasRoomForName self.old.names }
         requires free { is_some (name_of (stored_state self.old) path) ≡ false }
+        requires counted { AreCounted self.old.opening (obj.Door door ∷ []) }
+        requires references { REFERENCES_ROOM ≤ self.old.reference_room }
         ensures state { stored_state self.new ≡ record (stored_state self.old) { names = with_name (stored_state self.old).names path door } }
         ensures pools { self.new.pools ≡ self.old.pools }
         ensures latest { self.new.latest ≡ self.old.latest }
+        ensures opening { self.new.opening ≡ self.old.opening }
         ensures notice_room { self.old.notices.spare ≤ self.new.notices.spare }
     {
-        let _ = self.names.attach(path, door);
+        self.held.attach(path, door);
     }
 
     /// A path has no door any more.
@@ -381,9 +410,10 @@ impl Store {
         ensures state { stored_state self.new ≡ record (stored_state self.old) { names = without_name (stored_state self.old).names path } }
         ensures pools { self.new.pools ≡ self.old.pools }
         ensures latest { self.new.latest ≡ self.old.latest }
+        ensures opening { self.new.opening ≡ self.old.opening }
         ensures notice_room { self.old.notices.spare ≤ self.new.notices.spare }
     {
-        let _ = self.names.detach(path);
+        self.held.detach(path);
     }
 
     // doors
@@ -393,10 +423,14 @@ impl Store {
         requires few { length (stored_state self.old).doors < EVENTS_MAX }
         requires room { 0 < self.old.doors.spare }
         requires pool_room { 0 < self.old.pools.door_room }
+        requires count_room { 0 < self.old.door_room }
         requires placed { ArePlaced (stored_state self.old) }
         requires allowed { has_told_attributes attrs ≡ false }
         ensures state { stored_state self.new ≡ record (stored_state self.old) { doors = with_door (stored_state self.old).doors owner.0 entry cookie attrs } }
         ensures number { result ≡ length (stored_state self.old).doors + 1 }
+        ensures counted { AreCounted self.new.opening (obj.Door result ∷ []) }
+        ensures opening { self.new.opening ≡ self.old.opening ++ 0 ∷ [] }
+        ensures references { self.new.reference_room ≡ self.old.reference_room }
         ensures given_out { IsGivenOut self.old.pools → IsGivenOut self.new.pools }
         ensures latest { self.new.latest ≡ self.old.latest }
         ensures notice_room { self.old.notices.spare ≤ self.new.notices.spare }
@@ -406,6 +440,7 @@ impl Store {
             return 0;
         };
         self.pools.add_door();
+        self.held.add_door();
         number
     }
 
@@ -415,6 +450,7 @@ impl Store {
         ensures state { stored_state self.new ≡ record (stored_state self.old) { doors = set_param (stored_state self.old).doors d param value } }
         ensures pools { self.new.pools ≡ self.old.pools }
         ensures latest { self.new.latest ≡ self.old.latest }
+        ensures opening { self.new.opening ≡ self.old.opening }
         ensures notice_room { self.old.notices.spare ≤ self.new.notices.spare }
     {
         let _ = self.doors.setparam(d, p, param, value);
@@ -433,6 +469,8 @@ impl Store {
         ensures state { stored_state self.new ≡ with_state (stored_state self.old) t.0 state }
         ensures pools { self.new.pools ≡ self.old.pools }
         ensures latest { self.new.latest ≡ self.old.latest }
+        ensures references { self.new.reference_room ≡ self.old.reference_room }
+        ensures opening { self.new.opening ≡ self.old.opening }
         ensures notice_room { self.old.notices.spare ≤ self.new.notices.spare }
     {
         self.processes.turn(t, state)
@@ -444,6 +482,7 @@ impl Store {
         ensures state { stored_state self.new ≡ record (stored_state self.old) { bindings = bind_thread (stored_state self.old).bindings t.0 d } }
         ensures given_out { IsGivenOut self.old.pools → IsGivenOut self.new.pools }
         ensures latest { self.new.latest ≡ self.old.latest }
+        ensures opening { self.new.opening ≡ self.old.opening }
         ensures notice_room { self.old.notices.spare ≤ self.new.notices.spare }
         ensures items { (pool : Pool) → item_room_in self.old.pools pool ≤ item_room_in self.new.pools pool }
     {
@@ -457,6 +496,7 @@ impl Store {
         ensures state { stored_state self.new ≡ record (stored_state self.old) { bindings = unbind_thread (stored_state self.old).bindings t.0 } }
         ensures given_out { IsGivenOut self.old.pools → IsGivenOut self.new.pools }
         ensures latest { self.new.latest ≡ self.old.latest }
+        ensures opening { self.new.opening ≡ self.old.opening }
         ensures notice_room { self.old.notices.spare ≤ self.new.notices.spare }
         ensures items { (pool : Pool) → item_room_in self.old.pools pool ≤ item_room_in self.new.pools pool }
     {
@@ -475,6 +515,8 @@ impl Store {
         ensures state { stored_state self.new ≡ record (stored_state self.old) { process_table = park_thread (stored_state self.old).process_table t.0 (now (stored_state self.old)) } }
         ensures given_out { IsGivenOut self.old.pools → IsGivenOutBut (own_pool (stored_state self.old) t.0) self.new.pools }
         ensures latest { self.new.latest ≡ now (stored_state self.old) }
+        ensures references { self.new.reference_room ≡ self.old.reference_room }
+        ensures opening { self.new.opening ≡ self.old.opening }
         ensures notice_room { self.old.notices.spare ≤ self.new.notices.spare }
         ensures items { (pool : Pool) → item_room_in self.old.pools pool ≤ item_room_in self.new.pools pool }
     {
@@ -496,9 +538,11 @@ impl Store {
         requires door { is_valid (stored_state self.old) call.door ≡ true }
         requires room { HasRoom self.old (pool_of (stored_state self.old) call.door) }
         requires few { calls_waiting (stored_state self.old) (pool_of (stored_state self.old) call.door) < QUEUE_MAX }
+        requires counted { AreCounted self.old.opening call.objects }
         ensures state { stored_state self.new ≡ record (stored_state self.old) { call_tree = open_call (stored_state self.old).call_tree call } }
         ensures given_out { IsGivenOut self.old.pools → IsGivenOutBut (pool_of (stored_state self.old) call.door) self.new.pools }
         ensures latest { self.new.latest ≡ now (stored_state self.old) }
+        ensures opening { self.new.opening ≡ self.old.opening }
         ensures notice_room { self.old.notices.spare ≤ self.new.notices.spare }
         ensures items { (pool : Pool) → item_room_in self.old.pools pool ≤ item_room_in self.new.pools pool + 1 }
     {
@@ -510,7 +554,7 @@ impl Store {
         };
         self.latest = call.made;
         let _ = self.pools.enqueue(pool, waiting);
-        self.calls.open(call);
+        self.held.open_call(call);
     }
 
     /// The thread that was given a call enters it. The record as it was is handed out, if there is one.
@@ -519,11 +563,14 @@ impl Store {
         ensures entered { OnSome result (stored_state self.new ≡ record (stored_state self.old) { process_table = enter_thread (stored_state self.old).process_table t.0 (item.Call c); call_tree = enter_call (stored_state self.old).call_tree c t.0 }) }
         ensures none { IfNone result (stored_state self.new ≡ stored_state self.old) }
         ensures before { result ≡ find (is_given_as c t.0) (stored_state self.old).call_tree.calls }
+        ensures counted { IfSome result (λ call. AreCounted self.new.opening call.objects) }
+        ensures references { self.old.reference_room ≤ self.new.reference_room }
         ensures pools { self.new.pools ≡ self.old.pools }
         ensures latest { self.new.latest ≡ self.old.latest }
+        ensures opening { self.new.opening ≡ self.old.opening }
         ensures notice_room { self.old.notices.spare ≤ self.new.notices.spare }
     {
-        let Some(call) = self.calls.enter(alloc, c, t) else {
+        let Some(call) = self.held.enter_call(alloc, c, t) else {
             return None;
         };
         self.processes.enter(t, Item::Call(c));
@@ -543,14 +590,15 @@ impl Store {
         ensures before { result ≡ find (is_given_as c t.0) (stored_state self.old).call_tree.calls }
         ensures given_out { IsGivenOut self.old.pools → IsGivenOutBut (own_pool (stored_state self.old) t.0) self.new.pools }
         ensures latest { self.new.latest ≤ now (stored_state self.old) }
+        ensures opening { self.new.opening ≡ self.old.opening }
         ensures notice_room { self.old.notices.spare ≤ self.new.notices.spare }
         ensures items { (pool : Pool) → item_room_in self.old.pools pool ≤ item_room_in self.new.pools pool }
     {
-        if self.calls.given(c, t).is_none() {
+        if self.held.calls().given(c, t).is_none() {
             return None;
         }
         self.park(t);
-        self.calls.fail(alloc, c, t)
+        self.held.fail_call(alloc, c, t)
     }
 
     /// A thread that runs returns to its client, if it has one, or its notice is over, and it is parked (door_return(3C)).
@@ -560,14 +608,16 @@ impl Store {
         requires first { self.old.latest ≤ self.old.events }
         requires placed { ArePlaced (stored_state self.old) }
         requires room { HasRoom self.old (own_pool (stored_state self.old) t.0) }
+        requires counted { AreCounted self.old.opening objects }
         ensures state { stored_state self.new ≡ record (stored_state self.old) { process_table = park_thread (stored_state self.old).process_table t.0 (now (stored_state self.old)); call_tree = return_call (stored_state self.old).call_tree t.0 bytes objects; notice_list = kept_notices (stored_state self.old).doors (end_notice (stored_state self.old).notice_list t.0) } }
         ensures given_out { IsGivenOut self.old.pools → IsGivenOutBut (own_pool (stored_state self.old) t.0) self.new.pools }
         ensures latest { self.new.latest ≡ now (stored_state self.old) }
+        ensures opening { self.new.opening ≡ self.old.opening }
         ensures notice_room { self.old.notices.spare ≤ self.new.notices.spare }
         ensures items { (pool : Pool) → item_room_in self.old.pools pool ≤ item_room_in self.new.pools pool }
     {
         self.park(t);
-        self.calls.give_back(alloc, t, bytes, objects);
+        self.held.give_back(alloc, t, bytes, objects);
         self.notices.end(t, &self.doors);
     }
 
@@ -576,15 +626,18 @@ impl Store {
     pub fn return_unbound(&mut self, alloc: Global, t: Tid, bytes: Bytes, objects: ObjList)
         requires running { is_running (stored_state self.old) t.0 ≡ true }
         requires bound { is_some (bound_of (stored_state self.old) t.0) ≡ true }
+        requires counted { AreCounted self.old.opening objects }
+        requires references { REFERENCES_ROOM ≤ self.old.reference_room }
         ensures state { stored_state self.new ≡ record (stored_state self.old) { process_table = end_invocation (stored_state self.old).process_table t.0; bindings = unbind_thread (stored_state self.old).bindings t.0; call_tree = return_call (stored_state self.old).call_tree t.0 bytes objects; notice_list = kept_notices (stored_state self.old).doors (end_notice (stored_state self.old).notice_list t.0) } }
         ensures given_out { IsGivenOut self.old.pools → IsGivenOut self.new.pools }
         ensures latest { self.new.latest ≡ self.old.latest }
+        ensures opening { self.new.opening ≡ self.old.opening }
         ensures notice_room { self.old.notices.spare ≤ self.new.notices.spare }
         ensures items { (pool : Pool) → item_room_in self.old.pools pool ≤ item_room_in self.new.pools pool }
     {
         self.processes.end_invocation(t);
         let _ = self.pools.unbind(t);
-        self.calls.give_back(alloc, t, bytes, objects);
+        self.held.give_back(alloc, t, bytes, objects);
         self.notices.end(t, &self.doors);
     }
 
@@ -592,11 +645,14 @@ impl Store {
     pub fn collect_call(&mut self, c: u32) -> Option<Call>
         ensures after { (at : ℕ) → stored_state self.new ≡ record (stored_state self.old) { call_tree = live_calls (collect_call (stored_state self.old).call_tree c at) } }
         ensures before { result ≡ find (is_to_collect_as c) (stored_state self.old).call_tree.calls }
+        ensures counted { AreCounted self.new.opening (objects_collected_in result) }
+        ensures references { self.old.reference_room ≤ self.new.reference_room }
         ensures pools { self.new.pools ≡ self.old.pools }
         ensures latest { self.new.latest ≡ self.old.latest }
+        ensures opening { self.new.opening ≡ self.old.opening }
         ensures notice_room { self.old.notices.spare ≤ self.new.notices.spare }
     {
-        self.calls.collect(c)
+        self.held.collect_call(c)
     }
 
     // notices
@@ -631,6 +687,7 @@ impl Store {
         ensures before { result ≡ find (is_given_notice_as n t.0) (stored_state self.old).notice_list.notices }
         ensures pools { self.new.pools ≡ self.old.pools }
         ensures latest { self.new.latest ≡ self.old.latest }
+        ensures opening { self.new.opening ≡ self.old.opening }
         ensures notice_room { self.old.notices.spare ≤ self.new.notices.spare }
     {
         let Some(notice) = self.notices.enter(n, t) else {
@@ -652,6 +709,7 @@ impl Store {
         ensures room { OnOk result (HasRoomToLeave self.new) }
         ensures kept { (touched : Pool) → HasRoom self.old touched → HasRoom self.new touched }
         ensures kept_for_notices { (ds : List ℕ) → HasRoomForNotices self.old ds → HasRoomForNotices self.new ds }
+        ensures opening { self.new.opening ≡ self.old.opening }
     {
         make_room(&mut self.pools, &self.processes)
     }
@@ -665,6 +723,7 @@ impl Store {
         requires room { HasRoomToLeave self.old }
         ensures state { stored_state self.new ≡ forget (leave (stored_state self.old) (leaving_of (stored_state self.old).process_table (stored_state self.old).doors who)) }
         ensures latest { self.new.latest ≤ now (stored_state self.old) }
+        ensures opening { self.new.opening ≡ self.old.opening }
         ensures notice_room { self.old.notices.spare ≤ self.new.notices.spare }
         ensures items { (pool : Pool) → item_room_in self.old.pools pool ≤ item_room_in self.new.pools pool }
     {
@@ -674,7 +733,7 @@ impl Store {
             who,
             &self.processes,
             &self.doors,
-            &self.calls,
+            self.held.calls(),
         );
         withdraw_notices(
             &mut self.pools,
@@ -687,10 +746,10 @@ impl Store {
             &mut self.processes,
             &mut self.pools,
             who,
-            &self.calls,
+            self.held.calls(),
             self.latest,
         );
-        leave_calls(alloc, &mut self.calls, who, &self.processes, &self.doors);
+        leave_calls(alloc, &mut self.held, who, &self.processes, &self.doors);
         leave_notices(&mut self.notices, who, &self.processes, &self.doors);
     }
 
@@ -698,11 +757,12 @@ impl Store {
     pub fn end_process(&mut self, p: Pid)
         ensures state { stored_state self.new ≡ record (stored_state self.old) { process_table = end_process (stored_state self.old).process_table p.0; tables = with_table (stored_state self.old).tables p.0 (close_table (table_of (stored_state self.old) p.0)); doors = end_owner (stored_state self.old).doors p.0 } }
         ensures latest { self.new.latest ≡ self.old.latest }
+        ensures opening { self.new.opening ≡ self.old.opening }
         ensures notice_room { self.old.notices.spare ≤ self.new.notices.spare }
         ensures items { (pool : Pool) → item_room_in self.old.pools pool ≤ item_room_in self.new.pools pool }
     {
         self.processes.end_process(p);
-        self.tables.close_all(p);
+        self.held.close_all(p);
         self.doors.owner_ended(p);
     }
 
@@ -711,6 +771,7 @@ impl Store {
         requires { first_refusal (revoke_tests p.0 (door_of (stored_state self.old) d)) ≡ None }
         ensures state { stored_state self.new ≡ record (stored_state self.old) { doors = revoke_door (stored_state self.old).doors d } }
         ensures latest { self.new.latest ≡ self.old.latest }
+        ensures opening { self.new.opening ≡ self.old.opening }
         ensures notice_room { self.old.notices.spare ≤ self.new.notices.spare }
         ensures items { (pool : Pool) → item_room_in self.old.pools pool ≤ item_room_in self.new.pools pool }
     {
@@ -723,6 +784,7 @@ impl Store {
         ensures state { stored_state self.new ≡ with_event_counted (stored_state self.old) }
         ensures pools { self.new.pools ≡ self.old.pools }
         ensures latest { self.new.latest ≡ self.old.latest }
+        ensures opening { self.new.opening ≡ self.old.opening }
         ensures notice_room { self.old.notices.spare ≤ self.new.notices.spare }
     {
         self.events += 1;

@@ -1,5 +1,5 @@
 -- The names that are attached, with the room for more, and what is told of them.
-use Rattle.std.specs.Prelude.{◌<◌, ◌==◌, ℕ, Bool, List, Option, map, nat_eq, option_map}
+use Rattle.std.specs.Prelude.{◌<◌, ℕ, List, Option, map, nat_eq, option_map}
 use Rattle.std.specs.List.{IsDistinct}
 use Rattle.dk_base.specs.declared.number.PathId.{PathId}
 use Rattle.kernel_records.specs.declared.record.Name.{Name}
@@ -20,10 +20,6 @@ door_of_name n = n.door
 -- the number of the door attached to a path, if there is one
 abbrev pub attached_door : List Name → PathId → Option ℕ
 attached_door names path = option_map door_of_name (name_in names path)
-
--- a name of this door
-abbrev pub names_door : ℕ → Name → Bool
-names_door d n = n.door == d
 
 abbrev pub path_number : Name → ℕ
 path_number n = n.path.0

@@ -1,7 +1,7 @@
 //! The doors attached to paths: fattach(3C), fdetach(3C), and open(2) of such a path.
-ghost use Rattle.std.specs.Prelude.{◌≡◌, ◌+◌, ◌≤◌, ◌==◌, [], count_by, if◌then◌else◌, is_ok, is_some, length, ok_or, slice_get, IsOk, OnOk, OnErr};
+ghost use Rattle.std.specs.Prelude.{◌≡◌, ◌+◌, ◌≤◌, [], if◌then◌else◌, is_ok, is_some, length, ok_or, slice_get, IsOk, OnOk, OnErr};
 ghost use Rattle.kernel_records.specs.Words.{name_in, with_name, without_name};
-ghost use Rattle.name_space.specs.NameTable.{HasRoomForName, HaveDistinctPaths, attached_door, names_door};
+ghost use Rattle.name_space.specs.NameTable.{HasRoomForName, HaveDistinctPaths, attached_door};
 
 use dk_base::error::{Errno, NoMemory};
 use dk_base::number::PathId;
@@ -27,13 +27,6 @@ impl Model for Names {
     ghost view = { λ n. record { names = names_in n.doors.entries; spare = spare n.doors } };
 
     ghost invariant = { λ n. IsUnique nat_eq n.doors };
-}
-
-/// How many of these doors are this one.
-fn count_door(doors: &[u32], door: u32) -> usize
-    ensures { result ≡ count_by (λ d. d == door) doors.now }
-{
-    doors.iter().filter(|d| **d == door).count()
 }
 
 impl Names {
@@ -82,6 +75,7 @@ impl Names {
         ensures names { self.new.names ≡ without_name self.old.names path }
         ensures spare { self.old.spare ≤ self.new.spare }
         ensures err { OnErr result (self.new.names ≡ self.old.names) }
+        ensures distinct { HaveDistinctPaths self.old.names }
     {
         match self.doors.shift_remove(&path.0) {
             Some(door) => Ok(door),
@@ -126,12 +120,5 @@ impl Names {
             }),
             None => None,
         }
-    }
-
-    /// How many names a door has.
-    pub fn count_of(&self, door: u32) -> usize
-        ensures { result ≡ count_by (names_door door) self.now.names }
-    {
-        count_door(self.doors.values().as_slice(), door)
     }
 }

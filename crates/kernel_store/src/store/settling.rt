@@ -30,7 +30,7 @@ impl Store {
         };
         self.processes.give(next.thread, next.item);
         match next.item {
-            Item::Call(c) => self.calls.give(c, next.thread),
+            Item::Call(c) => self.held.give_call(c, next.thread),
             Item::Notice(n) => self.notices.give(n, next.thread),
         }
         true

@@ -1,21 +1,26 @@
-use Rattle.std.proofs.Common.{ap, length, ◌+◌, ◌≤◌, sym, subst}
+use Rattle.std.proofs.Common.{rules, ◌≡◌, ap, length, ◌+◌, ◌≤◌, sym, ◌∙◌, subst}
 use Rattle.kernel_records.specs.Words.{new_door}
 use Rattle.server_pool.specs.Words.{PoolsValue, item_room_in}
 use Rattle.pool_agreement.specs.Words.{Agrees, IsGivenOut}
 use Rattle.pool_agreement.proofs.Queues.{agrees_door}
 use Rattle.kernel_store.specs.Stored.{ArePlaced, StoreValue, stored_state}
 use Rattle.kernel_store.proofs.Alike.{given_out_door, items_door}
+use Rattle.kernel_store.proofs.Counted.{last_counted, one_more_counted}
 use Rattle.kernel_store.proofs.store.Store.add_door.Goals as goal
 
 pub invariant_of-self-2 : goal.invariant_of-self-2
 invariant_of-self-2 c =
     let doors = c.self.inside.doors.items in
     let after : PoolsValue = c.add_door.new.self in
-    subst (λ doors. Agrees c.self.inside.latest c.self.inside.processes doors c.self.inside.calls.tree c.self.inside.notices.list after) (sym c.in-Ok.ensures.made)
-    (agrees_door c.self.invariant (new_door (length doors + 1) c.args.owner.0 c.args.entry c.args.cookie c.args.attrs) after
-    (subst (λ (s : StoreValue). ArePlaced (stored_state s)) (sym c.self.view_is) c.requires.placed)
-    (ap (λ (v : PoolsValue). v.bindings) c.add_door.ensures) (ap (λ (v : PoolsValue). v.common) c.add_door.ensures)
-    (ap (λ (v : PoolsValue). v.spares) c.add_door.ensures) (ap (λ (v : PoolsValue). v.private) c.add_door.ensures))
+    rw c.add_door-2.ensures.same (
+      subst (λ doors. Agrees c.self.inside.latest c.self.inside.processes doors c.self.inside.held.calls.tree c.self.inside.notices.list after) (sym c.in-Ok.ensures.made)
+          (agrees_door c.self.invariant.0 (new_door (length doors + 1) c.args.owner.0 c.args.entry c.args.cookie c.args.attrs) after
+          (subst (λ (s : StoreValue). ArePlaced (stored_state s)) (sym c.self.view_is) c.requires.placed)
+          (ap (λ (v : PoolsValue). v.bindings) c.add_door.ensures) (ap (λ (v : PoolsValue). v.common) c.add_door.ensures)
+          (ap (λ (v : PoolsValue). v.spares) c.add_door.ensures) (ap (λ (v : PoolsValue). v.private) c.add_door.ensures)),
+      one_more_counted c.self.inside.held.opening doors c.create.new.self.items
+          (new_door (length doors + 1) c.args.owner.0 c.args.entry c.args.cookie c.args.attrs) c.in-Ok.ensures.made c.self.invariant.1,
+    )
 
 pub returns-clause-given_out : goal.returns-clause-given_out
 returns-clause-given_out c = λ h.
@@ -27,3 +32,9 @@ returns-clause-items c = λ pool.
     subst (λ (s : StoreValue). item_room_in s.pools pool ≤ item_room_in c.add_door.new.self pool) c.self.view_is
     (items_door c.self.inside.pools c.add_door.new.self (ap (λ (v : PoolsValue). v.common) c.add_door.ensures)
     (ap (λ (v : PoolsValue). v.private) c.add_door.ensures) pool)
+
+pub returns-clause-counted : goal.returns-clause-counted
+returns-clause-counted c =
+    let number : c.in-Ok.number ≡ length c.self.inside.doors.items + 1 = search rules in
+    rw c.add_door-2.ensures.same
+    (last_counted c.self.inside.held.opening c.in-Ok.number (number ∙ ap (λ n. n + 1) (sym c.self.invariant.1)))

@@ -15,7 +15,7 @@ not_both e f = absurd cc
 
 pub add_spare-requires : goal.add_spare-requires
 add_spare-requires c =
-    spares_below c.self.invariant c.args.p.0 (c.thread_count.result + 1) (rw c.thread_count.ensures.count (omega arith))
+    spares_below c.self.invariant.0 c.args.p.0 (c.thread_count.result + 1) (rw c.thread_count.ensures.count (omega arith))
 
 pub returns-in_err-add_spare-clause-given_out : goal.returns-in_err-add_spare-clause-given_out
 returns-in_err-add_spare-clause-given_out c = λ h.
@@ -31,17 +31,21 @@ invariant_of-self-then-is_ok c =
           let lives = subst (λ (s : StoreValue). is_live_in (at_number s.processes.processes c.args.p.0) ≡ true) (sym c.self.view_is) c.requires.lives in
           let added : w.add_spare.new.self ≡ change_spares v c.args.p.0 (with_spare (length before.threads + 1)) =
           w.in_ok-add_spare.ensures.ok ∙ ap (λ n. change_spares v c.args.p.0 (with_spare (n + 1))) c.thread_count.ensures.count in
-          subst (λ s. Agrees s.latest c.add_thread.new.self s.doors.items s.calls.tree s.notices.list s.pools) (sym w.self-inside-is)
-          (subst₂ (λ table v. Agrees c.self.inside.latest table c.self.inside.doors.items c.self.inside.calls.tree c.self.inside.notices.list v)
-          (sym (made ∙ ap (λ b. record before { threads = before.threads ++ new_thread (length before.threads + 1) c.args.p.0 b ∷ [] }) w.if-spare.true))
-          (sym added)
-          (agrees_spare c.self.invariant c.args.p.0 (is_there (at_number before.processes c.args.p.0) lives)))
+          subst (λ s. Agrees s.latest c.add_thread.new.self s.doors.items s.held.calls.tree s.notices.list s.pools × (length s.held.opening ≡ length s.doors.items)) (sym w.self-inside-is) (
+            subst₂ (λ table v. Agrees c.self.inside.latest table c.self.inside.doors.items c.self.inside.held.calls.tree c.self.inside.notices.list v)
+                (sym (made ∙ ap (λ b. record before { threads = before.threads ++ new_thread (length before.threads + 1) c.args.p.0 b ∷ [] }) w.if-spare.true))
+                (sym added)
+                (agrees_spare c.self.invariant.0 c.args.p.0 (is_there (at_number before.processes c.args.p.0) lives)),
+            c.self.invariant.1,
+          )
       | else-spare w ↦
           let made : c.add_thread.new.self ≡ record before { threads = before.threads ++ new_thread (length before.threads + 1) c.args.p.0 c.args.spare ∷ [] } = search rules in
-          subst (λ s. Agrees s.latest c.add_thread.new.self s.doors.items s.calls.tree s.notices.list s.pools) (sym w.self-inside-is)
-          (subst (λ table. Agrees c.self.inside.latest table c.self.inside.doors.items c.self.inside.calls.tree c.self.inside.notices.list v)
-          (sym (made ∙ ap (λ b. record before { threads = before.threads ++ new_thread (length before.threads + 1) c.args.p.0 b ∷ [] }) w.if-spare.false))
-          (agrees_thread c.self.invariant c.args.p.0))
+          subst (λ s. Agrees s.latest c.add_thread.new.self s.doors.items s.held.calls.tree s.notices.list s.pools × (length s.held.opening ≡ length s.doors.items)) (sym w.self-inside-is) (
+            subst (λ table. Agrees c.self.inside.latest table c.self.inside.doors.items c.self.inside.held.calls.tree c.self.inside.notices.list v)
+                (sym (made ∙ ap (λ b. record before { threads = before.threads ++ new_thread (length before.threads + 1) c.args.p.0 b ∷ [] }) w.if-spare.false))
+                (agrees_thread c.self.invariant.0 c.args.p.0),
+            c.self.invariant.1,
+          )
     ]
 
 pub returns-then-is_ok-clause-given_out : goal.returns-then-is_ok-clause-given_out
@@ -63,9 +67,11 @@ invariant_of-self-then-spare-2 c =
           let back : c.take_back.new.self ≡ change_spares (change_spares v c.args.p.0 (with_spare k)) c.args.p.0 without_highest =
           c.take_back.ensures ∙ ap (λ s. change_spares s.pools c.args.p.0 without_highest) w.self-inside-is
           ∙ ap (λ v. change_spares v c.args.p.0 without_highest) w.in_ok-add_spare.ensures.ok in
-          subst (λ s. Agrees s.latest c.add_thread.new.self s.doors.items s.calls.tree s.notices.list c.take_back.new.self) (sym w.self-inside-is)
-          (subst₂ (λ table v. Agrees c.self.inside.latest table c.self.inside.doors.items c.self.inside.calls.tree c.self.inside.notices.list v) (sym kept) (sym back)
-          (agrees_same c.self.invariant (same_taken_back v c.args.p.0 k)))
+          subst (λ s. Agrees s.latest c.add_thread.new.self s.doors.items s.held.calls.tree s.notices.list c.take_back.new.self × (length s.held.opening ≡ length s.doors.items)) (sym w.self-inside-is) (
+            subst₂ (λ table v. Agrees c.self.inside.latest table c.self.inside.doors.items c.self.inside.held.calls.tree c.self.inside.notices.list v) (sym kept) (sym back)
+                (agrees_same c.self.invariant.0 (same_taken_back v c.args.p.0 k)),
+            c.self.invariant.1,
+          )
       | else-spare w ↦ absurd (not_both c.if-spare-2.true w.if-spare.false)
     ]
 
@@ -78,4 +84,12 @@ returns-then-spare-2-clause-given_out c = λ h.
           subst IsGivenOut (sym c.take_back.ensures)
           (subst (λ s. IsGivenOut s.pools) (sym w.self-inside-is) (subst IsGivenOut (sym w.in_ok-add_spare.ensures.ok) before))
       | else-spare w ↦ absurd (not_both c.if-spare-2.true w.if-spare.false)
+    ]
+
+pub returns-else-spare-2-clause-given_out : goal.returns-else-spare-2-clause-given_out
+returns-else-spare-2-clause-given_out c = λ h.
+    let before = subst (λ (s : StoreValue). IsGivenOut s.pools) (sym c.self.view_is) h in
+    elim c.if-spare.branch [
+      | then-spare+in_ok-add_spare w ↦ absurd (not_both w.if-spare.true c.if-spare-2.false)
+      | else-spare w ↦ subst (λ s. IsGivenOut s.pools) (sym w.self-inside-is) before
     ]

@@ -4,7 +4,7 @@ use Rattle.kernel_store.proofs.Acts.{bound, given_out_bound}
 use Rattle.kernel_store.proofs.store.Store.bind.Goals as goal
 
 pub invariant_of-self : goal.invariant_of-self
-invariant_of-self c = rw c.bind.ensures (bound c.self.invariant c.self.view_is c.args.t.0 (Some c.args.d) c.requires)
+invariant_of-self c = (rw c.bind.ensures (bound c.self.invariant.0 c.self.view_is c.args.t.0 (Some c.args.d) c.requires), c.self.invariant.1)
 
 pub returns-clause-given_out : goal.returns-clause-given_out
 returns-clause-given_out c given =

@@ -7,5 +7,5 @@ use Rattle.kernel_store.proofs.store.Store.calls_waiting.Goals as goal
 pub returns : goal.returns
 returns c =
     c.calls_waiting.ensures
-    ∙ sym (queue_length_agrees c.self.invariant c.args.pool)
+    ∙ sym (queue_length_agrees c.self.invariant.0 c.args.pool)
     ∙ ap (λ (v : StoreValue). calls_waiting (stored_state v) c.args.pool) c.self.view_is

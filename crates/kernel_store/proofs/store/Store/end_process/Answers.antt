@@ -1,5 +1,10 @@
+use Rattle.std.proofs.Common.{sym, ◌∙◌}
 use Rattle.pool_agreement.proofs.Leaving.{agrees_end}
 use Rattle.kernel_store.proofs.store.Store.end_process.Goals as goal
 
 pub invariant_of-self : goal.invariant_of-self
-invariant_of-self c = rw c.end_process.ensures (rw c.owner_ended.ensures (agrees_end c.self.invariant c.args.p.0))
+invariant_of-self c =
+    let agreed = agrees_end c.self.invariant.0 c.args.p.0 in
+    rw c.end_process.ensures
+    (rw c.close_all.ensures.same
+    (rw c.owner_ended.ensures (agreed, c.self.invariant.1 ∙ sym c.self.invariant.0.private ∙ agreed.private)))

@@ -7,17 +7,19 @@ use Rattle.kernel_store.proofs.Acts.{entered, none_changed}
 use Rattle.kernel_store.proofs.store.Store.enter_call.Goals as goal
 
 pub invariant_of-self : goal.invariant_of-self
-invariant_of-self c = rw c.enter.ensures.after (agrees_enter c.self.invariant c.args.c c.args.t.0)
+invariant_of-self c =
+    rw c.enter_call.ensures.same (rw c.enter_call.ensures.calls (agrees_enter c.self.invariant.0 c.args.c c.args.t.0), c.self.invariant.1)
 
 pub returns-in_default-clause-none : goal.returns-in_default-clause-none
 returns-in_default-clause-none c =
-    let calls = c.self.inside.calls in
-    let kept : c.enter.new.self.tree ≡ calls.tree =
-    c.enter.ensures.after
+    let calls = c.self.inside.held.calls in
+    let kept : c.enter_call.new.self.calls.tree ≡ calls.tree =
+    c.enter_call.ensures.calls
     ∙ ap (λ rs. record calls.tree { calls = rs })
     (none_changed (is_given_as c.args.c c.args.t.0) (without_arguments_at (stage.Entered c.args.t)) calls.tree.calls (sym c.in_default.ensures.before)) in
-    rw kept (ap stored_state c.self.view_is)
+    rw c.enter_call.ensures.same (rw kept (ap stored_state c.self.view_is))
 
 pub invariant_of-self-2 : goal.invariant_of-self-2
 invariant_of-self-2 c =
-    rw c.enter-2.ensures (rw c.enter.ensures.after (entered c.self.invariant c.self.view_is c.args.c c.args.t.0 c.requires))
+    rw c.enter_call.ensures.same
+    (rw c.enter.ensures (rw c.enter_call.ensures.calls (entered c.self.invariant.0 c.self.view_is c.args.c c.args.t.0 c.requires)), c.self.invariant.1)

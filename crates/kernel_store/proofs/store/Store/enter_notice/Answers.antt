@@ -7,7 +7,7 @@ use Rattle.kernel_store.proofs.Acts.{entered_notice, no_notice_changed}
 use Rattle.kernel_store.proofs.store.Store.enter_notice.Goals as goal
 
 pub invariant_of-self : goal.invariant_of-self
-invariant_of-self c = rw c.enter.ensures.list (agrees_enter_notice c.self.invariant c.args.n c.args.t.0)
+invariant_of-self c = (rw c.enter.ensures.list (agrees_enter_notice c.self.invariant.0 c.args.n c.args.t.0), c.self.invariant.1)
 
 pub returns-in_default-clause-none : goal.returns-in_default-clause-none
 returns-in_default-clause-none c =
@@ -20,4 +20,4 @@ returns-in_default-clause-none c =
 
 pub invariant_of-self-2 : goal.invariant_of-self-2
 invariant_of-self-2 c =
-    rw c.enter-2.ensures (rw c.enter.ensures.list (entered_notice c.self.invariant c.self.view_is c.args.n c.args.t.0 c.requires))
+    (rw c.enter-2.ensures (rw c.enter.ensures.list (entered_notice c.self.invariant.0 c.self.view_is c.args.n c.args.t.0 c.requires)), c.self.invariant.1)

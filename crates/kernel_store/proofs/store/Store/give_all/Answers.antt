@@ -4,7 +4,7 @@ use Rattle.kernel_store.proofs.GivingAll.{given_all, given_to_all, given_to_next
 use Rattle.kernel_store.proofs.store.Store.give_all.Goals as goal
 
 pub loop-i-init : goal.loop-i-init
-loop-i-init c = given_to_none c.args.self.now (subst IsAgreed c.self.view_is c.self.invariant)
+loop-i-init c = given_to_none c.args.self.now (subst IsAgreed c.self.view_is c.self.invariant.0)
 
 pub loop-i-preserved : goal.loop-i-preserved
 loop-i-preserved c =

@@ -10,30 +10,36 @@ returns-in_default-clause-none c e = (
   ap (λ pools. record (the_view c.self.inside) { pools = pools }) c.in_default.ensures.none ∙ c.self.view_is,
   subst (λ s. IsGivenOutIn s.pools c.args.pool) c.self.view_is
       (nothing_to_give (the_view c.self.inside) c.args.pool (sym c.in_default.ensures.result)),
-  subst IsAgreed c.self.view_is c.self.invariant,
+  subst IsAgreed c.self.view_is c.self.invariant.0,
 )
 
 pub give-requires : goal.give-requires
-give-requires c = matched_is_idle (the_view c.self.inside) c.self.invariant c.args.pool c.in-Some.next (sym c.in-Some.ensures.result)
+give-requires c = matched_is_idle (the_view c.self.inside) c.self.invariant.0 c.args.pool c.in-Some.next (sym c.in-Some.ensures.result)
 
 pub invariant_of-self-in-Call : goal.invariant_of-self-in-Call
 invariant_of-self-in-Call c =
-    agrees_given (the_view c.self.inside) c.self.invariant c.args.pool c.in-Some.next (sym c.in-Some.ensures.result) c.in-Call.c
-    c.in-Call.is _ _ c.give-in-Call.new.self c.give.ensures c.in-Some.ensures.some c.give-in-Call.ensures
+    rw c.give_call.ensures.same (
+      agrees_given (the_view c.self.inside) c.self.invariant.0 c.args.pool c.in-Some.next (sym c.in-Some.ensures.result) c.in-Call.c
+          c.in-Call.is _ _ c.give_call.new.self.calls c.give.ensures c.in-Some.ensures.some c.give_call.ensures.calls,
+      c.self.invariant.1,
+    )
 
 pub invariant_of-self-in-Notice : goal.invariant_of-self-in-Notice
-invariant_of-self-in-Notice c =
-    agrees_given_notice (the_view c.self.inside) c.self.invariant c.args.pool c.in-Some.next (sym c.in-Some.ensures.result) c.in-Notice.n
-    c.in-Notice.is _ _ c.give-in-Notice.new.self c.give.ensures c.in-Some.ensures.some c.give-in-Notice.ensures.list
+invariant_of-self-in-Notice c = (
+  agrees_given_notice (the_view c.self.inside) c.self.invariant.0 c.args.pool c.in-Some.next (sym c.in-Some.ensures.result) c.in-Notice.n
+      c.in-Notice.is _ _ c.give-in-Notice.new.self c.give.ensures c.in-Some.ensures.some c.give-in-Notice.ensures.list,
+  c.self.invariant.1,
+)
 
 pub returns-in-Call-clause-given : goal.returns-in-Call-clause-given
 returns-in-Call-clause-given c e =
-    rw (← c.self.view_is)
-    (gives_on (the_view c.self.inside) c.self.invariant c.args.pool c.in-Some.next (sym c.in-Some.ensures.result) c.in-Call.c
-    c.in-Call.is _ _ c.give-in-Call.new.self c.give.ensures c.in-Some.ensures.some c.give-in-Call.ensures)
+    rw c.give_call.ensures.same
+    (rw (← c.self.view_is)
+    (gives_on (the_view c.self.inside) c.self.invariant.0 c.args.pool c.in-Some.next (sym c.in-Some.ensures.result) c.in-Call.c
+    c.in-Call.is _ _ c.give_call.new.self.calls c.give.ensures c.in-Some.ensures.some c.give_call.ensures.calls))
 
 pub returns-in-Notice-clause-given : goal.returns-in-Notice-clause-given
 returns-in-Notice-clause-given c e =
     rw (← c.self.view_is)
-    (gives_on_notice (the_view c.self.inside) c.self.invariant c.args.pool c.in-Some.next (sym c.in-Some.ensures.result) c.in-Notice.n
+    (gives_on_notice (the_view c.self.inside) c.self.invariant.0 c.args.pool c.in-Some.next (sym c.in-Some.ensures.result) c.in-Notice.n
     c.in-Notice.is _ _ c.give-in-Notice.new.self c.give.ensures c.in-Some.ensures.some c.give-in-Notice.ensures.list)

@@ -23,7 +23,7 @@ enqueue-requires c =
     let door = subst (λ (s : StoreValue). is_valid (stored_state s) c.args.d ≡ true) (sym c.self.view_is) c.requires.valid in
     let placed = subst (λ (s : StoreValue). ArePlaced (stored_state s)) (sym c.self.view_is) c.requires.placed in
     let there : is_some (pool_at c.self.inside.pools c.pool_of-pool.result) ≡ true =
-    ap (λ pool. is_some (pool_at c.self.inside.pools pool)) c.pool_of-pool.ensures ∙ served_there c.self.invariant placed c.args.d door in
+    ap (λ pool. is_some (pool_at c.self.inside.pools pool)) c.pool_of-pool.ensures ∙ served_there c.self.invariant.0 placed c.args.d door in
     place_left c.self.view_is c.args.d c.requires.room c.pool_of-pool.result c.pool_of-pool.ensures there
 
 pub invariant_of-self : goal.invariant_of-self
@@ -36,14 +36,16 @@ invariant_of-self c =
     let placed = subst (λ (s : StoreValue). ArePlaced (stored_state s)) (sym c.self.view_is) c.requires.placed in
     let later : s.latest ≤ now = subst (λ (s : StoreValue). s.latest ≤ s.events + 1) (sym c.self.view_is) c.requires.first in
     let there : is_some (pool_at v pool) ≡ true =
-    ap (λ pool. is_some (pool_at v pool)) c.pool_of-pool.ensures ∙ served_there c.self.invariant placed c.args.d door in
+    ap (λ pool. is_some (pool_at v pool)) c.pool_of-pool.ensures ∙ served_there c.self.invariant.0 placed c.args.d door in
     let taken : c.enqueue.new.self ≡ change_pool v pool (enqueue_in (waiting_notice (new_notice (s.notices.list.made + 1) now c.args.d))) =
     subst (λ r. OnOk r (c.enqueue.new.self ≡ change_pool v pool (enqueue_in (record { item = item.Notice c.make-number.result; made = now; door = c.args.d }))))
     c.enqueue.ensures.result c.enqueue.ensures.ok
-    ∙ ap (λ k. change_pool v pool (enqueue_in (record { item = item.Notice k; made = now; door = c.args.d }))) c.make-number.ensures.number in
-    subst (λ list. Agrees now s.processes s.doors.items s.calls.tree list c.enqueue.new.self) (sym c.make-number.ensures.list)
-    (subst (Agrees now s.processes s.doors.items s.calls.tree (make_notice s.notices.list now c.args.d)) (sym taken)
-    (agrees_make c.self.invariant now c.args.d pool later c.pool_of-pool.ensures there))
+    ∙ ap (λ k. change_pool v pool (enqueue_in (record { item = item.Notice k; made = now; door = c.args.d }))) c.make-number.ensures.number in (
+      subst (λ list. Agrees now s.processes s.doors.items s.held.calls.tree list c.enqueue.new.self) (sym c.make-number.ensures.list)
+          (subst (Agrees now s.processes s.doors.items s.held.calls.tree (make_notice s.notices.list now c.args.d)) (sym taken)
+          (agrees_make c.self.invariant.0 now c.args.d pool later c.pool_of-pool.ensures there)),
+      c.self.invariant.1,
+    )
 
 pub returns-clause-left : goal.returns-clause-left
 returns-clause-left c = λ ds can.

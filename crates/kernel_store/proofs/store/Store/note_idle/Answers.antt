@@ -17,7 +17,7 @@ pub returns : goal.returns
 returns c =
     record {
       flags =
-          noted_all c.args.self.now c.args.had c.loop-i.had c.loop-i.i c.loop-i.invariant (subst IsAgreed c.self.view_is c.self.invariant)
+          noted_all c.args.self.now c.args.had c.loop-i.had c.loop-i.i c.loop-i.invariant (subst IsAgreed c.self.view_is c.self.invariant.0)
           (le_antisymm c.loop-i.auto.i-end c.loop-i-test.false
           ∙ c.process_count-i-end.ensures.count ∙ ap (λ (s : StoreValue). length s.processes.processes) c.self.view_is);
     }

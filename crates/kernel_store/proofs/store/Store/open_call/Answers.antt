@@ -18,7 +18,7 @@ enqueue-requires c =
     let door = subst (λ (s : StoreValue). is_valid (stored_state s) c.args.call.door ≡ true) (sym c.self.view_is) c.requires.door in
     let placed = subst (λ (s : StoreValue). ArePlaced (stored_state s)) (sym c.self.view_is) c.requires.placed in
     subst (λ pool. 0 < item_room_in c.self.inside.pools pool) (sym c.pool_of-pool.ensures)
-    (room.items (served_there c.self.invariant placed c.args.call.door door))
+    (room.items (served_there c.self.invariant.0 placed c.args.call.door door))
 
 pub invariant_of-self : goal.invariant_of-self
 invariant_of-self c =
@@ -30,20 +30,23 @@ invariant_of-self c =
     subst (λ (s : StoreValue). calls_waiting (stored_state s) (pool_of (stored_state s) c.args.call.door) < QUEUE_MAX) (sym c.self.view_is) c.requires.few in
     let fewer : count_calls (queue_in v pool) < QUEUE_MAX =
     subst (λ (k : ℕ). k < QUEUE_MAX)
-    (queue_length_agrees c.self.invariant (pool_in (at_number c.self.inside.doors.items c.args.call.door))
+    (queue_length_agrees c.self.invariant.0 (pool_in (at_number c.self.inside.doors.items c.args.call.door))
     ∙ ap (λ pool. count_calls (queue_in v pool)) (sym c.pool_of-pool.ensures)) few in
     let there : is_some (pool_at v pool) ≡ true =
-    ap (λ pool. is_some (pool_at v pool)) c.pool_of-pool.ensures ∙ served_there c.self.invariant placed c.args.call.door door in
+    ap (λ pool. is_some (pool_at v pool)) c.pool_of-pool.ensures ∙ served_there c.self.invariant.0 placed c.args.call.door door in
     let taken : c.enqueue.new.self ≡ change_pool v pool (enqueue_in (waiting_call c.args.call)) =
     enqueued c.enqueue.result (waiting_call c.args.call) (queue_in v pool) c.enqueue.ensures.result fewer c.enqueue.ensures.ok in
     let number = subst (λ (s : StoreValue). c.args.call.number ≡ s.calls.tree.made + 1) (sym c.self.view_is) c.requires.number in
     let later : c.self.inside.latest < c.args.call.made = made_later c.self.view_is c.args.call.made c.requires.made c.requires.first in
-    subst (λ tree. Agrees c.args.call.made c.self.inside.processes c.self.inside.doors.items tree c.self.inside.notices.list c.enqueue.new.self)
-    (sym c.open.ensures.tree)
-    (subst
-    (Agrees c.args.call.made c.self.inside.processes c.self.inside.doors.items (open_call c.self.inside.calls.tree c.args.call)
-    c.self.inside.notices.list)
-    (sym taken) (agrees_open c.self.invariant c.args.call pool number later c.requires.queued c.pool_of-pool.ensures there))
+    rw c.open_call.ensures.same (
+      subst (λ tree. Agrees c.args.call.made c.self.inside.processes c.self.inside.doors.items tree c.self.inside.notices.list c.enqueue.new.self)
+          (sym c.open_call.ensures.calls)
+          (subst
+          (Agrees c.args.call.made c.self.inside.processes c.self.inside.doors.items (open_call c.self.inside.held.calls.tree c.args.call)
+          c.self.inside.notices.list)
+          (sym taken) (agrees_open c.self.invariant.0 c.args.call pool number later c.requires.queued c.pool_of-pool.ensures there)),
+      c.self.invariant.1,
+    )
 
 pub returns-clause-given_out : goal.returns-clause-given_out
 returns-clause-given_out c = λ h q e.
@@ -53,7 +56,7 @@ returns-clause-given_out c = λ h q e.
     subst (λ (s : StoreValue). calls_waiting (stored_state s) (pool_of (stored_state s) c.args.call.door) < QUEUE_MAX) (sym c.self.view_is) c.requires.few in
     let fewer : count_calls (queue_in v pool) < QUEUE_MAX =
     subst (λ (k : ℕ). k < QUEUE_MAX)
-    (queue_length_agrees c.self.invariant (pool_in (at_number c.self.inside.doors.items c.args.call.door))
+    (queue_length_agrees c.self.invariant.0 (pool_in (at_number c.self.inside.doors.items c.args.call.door))
     ∙ ap (λ pool. count_calls (queue_in v pool)) (sym c.pool_of-pool.ensures)) few in
     let taken : c.enqueue.new.self ≡ change_pool v pool (enqueue_in (waiting_call c.args.call)) =
     enqueued c.enqueue.result (waiting_call c.args.call) (queue_in v pool) c.enqueue.ensures.result fewer c.enqueue.ensures.ok in
@@ -72,7 +75,7 @@ returns-clause-items c = λ q.
     subst (λ (s : StoreValue). calls_waiting (stored_state s) (pool_of (stored_state s) c.args.call.door) < QUEUE_MAX) (sym c.self.view_is) c.requires.few in
     let fewer : count_calls (queue_in v pool) < QUEUE_MAX =
     subst (λ (k : ℕ). k < QUEUE_MAX)
-    (queue_length_agrees c.self.invariant (pool_in (at_number c.self.inside.doors.items c.args.call.door))
+    (queue_length_agrees c.self.invariant.0 (pool_in (at_number c.self.inside.doors.items c.args.call.door))
     ∙ ap (λ pool. count_calls (queue_in v pool)) (sym c.pool_of-pool.ensures)) few in
     let taken : c.enqueue.new.self ≡ change_pool v pool (enqueue_in (waiting_call c.args.call)) =
     enqueued c.enqueue.result (waiting_call c.args.call) (queue_in v pool) c.enqueue.ensures.result fewer c.enqueue.ensures.ok in

@@ -1,6 +1,6 @@
-use Rattle.std.proofs.Common.{sym, subst, subst₂}
+use Rattle.std.proofs.Common.{sym, subst}
 use Rattle.server_pool.specs.Words.{item_room_in, thread_room_in}
-use Rattle.pool_agreement.specs.Words.{Agrees, IsGivenOut}
+use Rattle.pool_agreement.specs.Words.{IsGivenOut}
 use Rattle.kernel_store.specs.Stored.{StoreValue}
 use Rattle.kernel_store.proofs.Alike.{HoldsSame, agrees_same, given_out_same, same_in_room}
 use Rattle.kernel_store.proofs.store.Store.reserve.Goals as goal
@@ -10,9 +10,6 @@ returns-in_err-reserve-clause-given_out c = subst (λ (s : StoreValue). IsGivenO
 
 pub returns-in_err-reserve-2-clause-given_out : goal.returns-in_err-reserve-2-clause-given_out
 returns-in_err-reserve-2-clause-given_out c = subst (λ (s : StoreValue). IsGivenOut s.pools) (sym c.self.view_is)
-
-pub returns-in_err-reserve-3-clause-given_out : goal.returns-in_err-reserve-3-clause-given_out
-returns-in_err-reserve-3-clause-given_out c = subst (λ (s : StoreValue). IsGivenOut s.pools) (sym c.self.view_is)
 
 pub returns-in_err-reserve_door-clause-given_out :
     goal.returns-in_err-reserve_door-clause-given_out
@@ -25,8 +22,8 @@ invariant_of-self-2 c =
     same_in_room c.self.inside.pools c.reserve_door.new.self c.room.new.self c.reserve_door.new.self.door_room
     (thread_room_in c.room.new.self c.args.touched) (item_room_in c.room.new.self c.args.touched) c.args.touched
     c.reserve_door.ensures.same c.room.ensures.same in
-    subst₂ (λ doors tree. Agrees c.self.inside.latest c.self.inside.processes doors tree c.self.inside.notices.list c.room.new.self) (sym c.reserve-2.ensures.items)
-    (sym c.reserve-3.ensures.tree) (agrees_same c.self.invariant same)
+    rw c.reserve.ensures.calls
+    (rw c.reserve.ensures.opening (rw c.reserve-2.ensures.items (agrees_same c.self.invariant.0 same, c.self.invariant.1)))
 
 pub returns-clause-given_out : goal.returns-clause-given_out
 returns-clause-given_out c = λ h.

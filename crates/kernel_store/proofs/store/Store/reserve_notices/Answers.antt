@@ -8,9 +8,11 @@ use Rattle.kernel_store.proofs.NoticeRoom.{ok_then, room_made_for}
 use Rattle.kernel_store.proofs.store.Store.reserve_notices.Goals as goal
 
 pub invariant_of-self-2 : goal.invariant_of-self-2
-invariant_of-self-2 c =
-    subst (λ list. Agrees c.self.inside.latest c.self.inside.processes c.self.inside.doors.items c.self.inside.calls.tree list c.room_for_notices.new.pools)
-    (sym c.reserve.ensures.list) (agrees_same c.self.invariant c.room_for_notices.ensures.same)
+invariant_of-self-2 c = (
+  subst (λ list. Agrees c.self.inside.latest c.self.inside.processes c.self.inside.doors.items c.self.inside.held.calls.tree list c.room_for_notices.new.pools)
+      (sym c.reserve.ensures.list) (agrees_same c.self.invariant.0 c.room_for_notices.ensures.same),
+  c.self.invariant.1,
+)
 
 pub returns-clause-room : goal.returns-clause-room
 returns-clause-room c =

@@ -8,18 +8,21 @@ use Rattle.kernel_store.proofs.store.Store.return_unbound.Goals as goal
 
 pub invariant_of-self : goal.invariant_of-self
 invariant_of-self c =
-    rw c.end_invocation.ensures
-    (rw c.give_back.ensures
-    (rw (holds_ok c.unbind.result (ap is_ok c.unbind.ensures.result ∙ leaves_door c.self.view_is c.args.t.0 c.requires.bound) c.unbind.ensures.ok)
-    (rw c.end.ensures.list
-    (agrees_end_notice
-    (agrees_return
-    (agrees_alike (bound c.self.invariant c.self.view_is c.args.t.0 None c.requires.running) c.args.t.0 thread_outside (λ x b. refl) (λ x p. refl))
-    c.args.t.0 c.args.bytes c.args.objects)
-    c.args.t.0))))
+    rw c.give_back.ensures.same (
+      rw c.end_invocation.ensures
+          (rw c.give_back.ensures.calls
+          (rw (holds_ok c.unbind.result (ap is_ok c.unbind.ensures.result ∙ leaves_door c.self.view_is c.args.t.0 c.requires.bound) c.unbind.ensures.ok)
+          (rw c.end.ensures.list
+          (agrees_end_notice
+          (agrees_return
+          (agrees_alike (bound c.self.invariant.0 c.self.view_is c.args.t.0 None c.requires.running) c.args.t.0 thread_outside (λ x b. refl) (λ x p. refl))
+          c.args.t.0 c.args.bytes c.args.objects)
+          c.args.t.0)))),
+      c.self.invariant.1,
+    )
 
 pub end-requires : goal.end-requires
-end-requires c = record { kept = list_is_kept c.self.invariant }
+end-requires c = record { kept = list_is_kept c.self.invariant.0 }
 
 pub returns-clause-given_out : goal.returns-clause-given_out
 returns-clause-given_out c given =

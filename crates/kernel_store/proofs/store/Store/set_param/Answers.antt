@@ -1,4 +1,4 @@
-use Rattle.std.proofs.Common.{◌≡◌, None, is_ok, ap, ◌∙◌}
+use Rattle.std.proofs.Common.{◌≡◌, None, is_ok, ap, sym, ◌∙◌}
 use Rattle.kernel_records.specs.Words.{first_refusal, set_param_tests, unless_refused_with}
 use Rattle.written_kernel.specs.Words.{door_of}
 use Rattle.pool_agreement.proofs.Queues.{agrees_param}
@@ -12,5 +12,6 @@ invariant_of-self c =
     let allowed : first_refusal (set_param_tests c.args.p.0 (door_of (stored_state (the_view c.self.inside)) c.args.d) c.args.param c.args.value) ≡ None =
     ap (λ (s : StoreValue). first_refusal (set_param_tests c.args.p.0 (door_of (stored_state s) c.args.d) c.args.param c.args.value)) c.self.view_is
     ∙ c.requires in
+    let agreed = agrees_param c.self.invariant.0 c.args.d c.args.param c.args.value in
     rw (holds_ok c.setparam.result (ap is_ok (c.setparam.ensures.result ∙ ap unless_refused_with allowed)) c.setparam.ensures.ok)
-    (agrees_param c.self.invariant c.args.d c.args.param c.args.value)
+    (agreed, c.self.invariant.1 ∙ sym c.self.invariant.0.private ∙ agreed.private)

@@ -9,25 +9,29 @@ use Rattle.kernel_store.proofs.store.Store.start_spare.Goals as goal
 
 pub turn-requires-clause-not_done : goal.turn-requires-clause-not_done
 turn-requires-clause-not_done c =
-    spare_not_done (the_view c.self.inside) c.self.invariant c.args.p.0 c.in-Some.t.0 c.in-Some.ensures.result
+    spare_not_done (the_view c.self.inside) c.self.invariant.0 c.args.p.0 c.in-Some.t.0 c.in-Some.ensures.result
 
 pub turn-requires-clause-not_idle : goal.turn-requires-clause-not_idle
 turn-requires-clause-not_idle c =
-    spare_not_idle (the_view c.self.inside) c.self.invariant c.args.p.0 c.in-Some.t.0 c.in-Some.ensures.result
+    spare_not_idle (the_view c.self.inside) c.self.invariant.0 c.args.p.0 c.in-Some.t.0 c.in-Some.ensures.result
 
 pub invariant_of-self : goal.invariant_of-self
-invariant_of-self c =
-    agrees_started (the_view c.self.inside) c.self.invariant c.args.p.0 c.in-Some.t.0 c.in-Some.ensures.result c.turn.new.self
-    c.take_spare.new.self c.turn.ensures c.take_spare.ensures.left
+invariant_of-self c = (
+  agrees_started (the_view c.self.inside) c.self.invariant.0 c.args.p.0 c.in-Some.t.0 c.in-Some.ensures.result c.turn.new.self
+      c.take_spare.new.self c.turn.ensures c.take_spare.ensures.left,
+  c.self.invariant.1,
+)
 
 pub invariant_of-self-in_default : goal.invariant_of-self-in_default
-invariant_of-self-in_default c =
-    agrees_unstarted (the_view c.self.inside) c.self.invariant c.args.p.0 c.in_default.ensures.result c.take_spare.new.self
-    c.take_spare.ensures.left
+invariant_of-self-in_default c = (
+  agrees_unstarted (the_view c.self.inside) c.self.invariant.0 c.args.p.0 c.in_default.ensures.result c.take_spare.new.self
+      c.take_spare.ensures.left,
+  c.self.invariant.1,
+)
 
 pub returns-in-Some-clause-state : goal.returns-in-Some-clause-state
 returns-in-Some-clause-state c =
-    state_started (the_view c.self.inside) c.self.invariant c.args.p.0 c.in-Some.t.0 c.in-Some.ensures.result c.turn.new.self
+    state_started (the_view c.self.inside) c.self.invariant.0 c.args.p.0 c.in-Some.t.0 c.in-Some.ensures.result c.turn.new.self
     c.take_spare.new.self c.turn.ensures c.take_spare.ensures.left
     ∙ ap (λ s. start_one (stored_state s) c.args.p.0 true) c.self.view_is
 
@@ -38,7 +42,7 @@ returns-in-Some-clause-given_out c =
 
 pub returns-in_default-clause-state : goal.returns-in_default-clause-state
 returns-in_default-clause-state c =
-    state_unstarted (the_view c.self.inside) c.self.invariant c.args.p.0 c.in_default.ensures.result c.take_spare.new.self
+    state_unstarted (the_view c.self.inside) c.self.invariant.0 c.args.p.0 c.in_default.ensures.result c.take_spare.new.self
     c.take_spare.ensures.left
     ∙ ap (λ s. start_one (stored_state s) c.args.p.0 true) c.self.view_is
 
@@ -49,7 +53,7 @@ returns-in_default-clause-given_out c =
 
 pub returns-in-Some-clause-picks : goal.returns-in-Some-clause-picks
 returns-in-Some-clause-picks c pool =
-    picks_kept c.self.invariant c.self.view_is (record (the_view c.self.inside) { processes = c.turn.new.self; pools = c.take_spare.new.self })
-    (agrees_started (the_view c.self.inside) c.self.invariant c.args.p.0 c.in-Some.t.0 c.in-Some.ensures.result c.turn.new.self
+    picks_kept c.self.invariant.0 c.self.view_is (record (the_view c.self.inside) { processes = c.turn.new.self; pools = c.take_spare.new.self })
+    (agrees_started (the_view c.self.inside) c.self.invariant.0 c.args.p.0 c.in-Some.t.0 c.in-Some.ensures.result c.turn.new.self
     c.take_spare.new.self c.turn.ensures c.take_spare.ensures.left)
     c.args.p.0 c.take_spare.ensures.left pool

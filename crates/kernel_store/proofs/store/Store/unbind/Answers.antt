@@ -4,9 +4,11 @@ use Rattle.kernel_store.proofs.Acts.{bound, given_out_bound, holds_ok, leaves_do
 use Rattle.kernel_store.proofs.store.Store.unbind.Goals as goal
 
 pub invariant_of-self : goal.invariant_of-self
-invariant_of-self c =
-    rw (holds_ok c.unbind.result (ap is_ok c.unbind.ensures.result ∙ leaves_door c.self.view_is c.args.t.0 c.requires.bound) c.unbind.ensures.ok)
-    (bound c.self.invariant c.self.view_is c.args.t.0 None c.requires.running)
+invariant_of-self c = (
+  rw (holds_ok c.unbind.result (ap is_ok c.unbind.ensures.result ∙ leaves_door c.self.view_is c.args.t.0 c.requires.bound) c.unbind.ensures.ok)
+      (bound c.self.invariant.0 c.self.view_is c.args.t.0 None c.requires.running),
+  c.self.invariant.1,
+)
 
 pub returns-clause-given_out : goal.returns-clause-given_out
 returns-clause-given_out c given =

@@ -13,10 +13,13 @@ invariant_of-self c =
     let after : PoolsValue = c.add_process.new.self in
     let made : c.add_proc.new.self ≡ record before { processes = before.processes ++ new_process (length before.processes + 1) c.args.limit ∷ [] } = search rules in
     let pools = c.in_ok-add_process.ensures.ok in
-    subst (λ table. Agrees c.self.inside.latest table c.self.inside.doors.items c.self.inside.calls.tree c.self.inside.notices.list after) (sym made)
-    (agrees_process c.self.invariant (new_process (length before.processes + 1) c.args.limit) after
-    (ap (λ (v : PoolsValue). v.bindings) pools) (ap (λ (v : PoolsValue). v.private) pools)
-    (ap (λ (v : PoolsValue). v.common) pools) (ap (λ (v : PoolsValue). v.spares) pools))
+    rw c.in_ok-add_table.ensures.ok (
+      subst (λ table. Agrees c.self.inside.latest table c.self.inside.doors.items c.self.inside.held.calls.tree c.self.inside.notices.list after) (sym made)
+          (agrees_process c.self.invariant.0 (new_process (length before.processes + 1) c.args.limit) after
+          (ap (λ (v : PoolsValue). v.bindings) pools) (ap (λ (v : PoolsValue). v.private) pools)
+          (ap (λ (v : PoolsValue). v.common) pools) (ap (λ (v : PoolsValue). v.spares) pools)),
+      c.self.invariant.1,
+    )
 
 pub returns-clause-given_out : goal.returns-clause-given_out
 returns-clause-given_out c = λ h.

@@ -1,7 +1,8 @@
-use Rattle.std.proofs.Common.{ok_or, ap, sym, ◌∙◌}
+use Rattle.std.proofs.Common.{nat_eq, ok_or, ap, subst, sym, ◌∙◌}
+use Rattle.std.specs.List.{IsDistinct}
 use Rattle.dk_base.specs.declared.error.Errno.TheVariants.{EINVAL}
 use Rattle.name_space.specs.NameTable.{names_in}
-use Rattle.name_space.proofs.Entries.{detached, door_found}
+use Rattle.name_space.proofs.Entries.{detached, door_found, paths_are}
 use Rattle.name_space.proofs.names.Names.detach.Goals as goal
 use Rattle.name_space.proofs.names.Names.detach.Goals.{in-Some, in-None}
 
@@ -16,3 +17,7 @@ returns-clause-answer c =
 pub returns-clause-names : goal.returns-clause-names
 returns-clause-names c =
     rw (← c.self.view_is) (ap names_in c.shift_remove.ensures.entries ∙ detached c.args.path c.self.inside.doors.entries c.self.invariant)
+
+pub returns-clause-distinct : goal.returns-clause-distinct
+returns-clause-distinct c =
+    rw (← c.self.view_is) (subst (IsDistinct nat_eq) (sym (paths_are c.self.inside.doors.entries)) c.self.invariant)

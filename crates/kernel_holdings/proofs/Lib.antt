@@ -1,0 +1,6 @@
+mod NoTable
+pub mod Referring
+pub mod TableCounts
+pub mod Lowering
+pub mod NameCounts
+pub mod TransitCounts

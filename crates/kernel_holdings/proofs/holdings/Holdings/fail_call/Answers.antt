@@ -1,0 +1,26 @@
+use Rattle.std.proofs.Common.{◌≡◌, ◌+◌, find, length, sym, ap, ◌∙◌}
+use Rattle.dk_base.specs.declared.object.Obj.{Obj}
+use Rattle.kernel_records.specs.Words.{is_given_as}
+use Rattle.kernel_holdings.proofs.TransitCounts.{fail_call-in_transit, if_found, in_transit, none_taken, one_taken, transit_of}
+use Rattle.kernel_holdings.proofs.holdings.Holdings.fail_call.Goals as goal
+
+pub invariant_of-self : goal.invariant_of-self
+invariant_of-self c =
+    let h = c.self.inside in
+    let test = is_given_as c.args.c c.args.t.0 in
+    let taken : (o : Obj) → in_transit o c.fail.new.self.tree.calls + if_found (transit_of o) (find test h.calls.tree.calls) ≡ in_transit o h.calls.tree.calls =
+    λ o. rw c.fail.ensures.after (fail_call-in_transit o h.calls.tree c.args.c c.args.t.0) in (
+      none_taken h.counts.now h.tables h.names.names h.calls.tree.calls c.self.invariant.0 test c.fail.new.self.tree.calls taken c.in_err-call.ensures.before,
+      c.self.invariant.1,
+    )
+
+pub invariant_of-self-2 : goal.invariant_of-self-2
+invariant_of-self-2 c =
+    let h = c.self.inside in
+    let down = c.lower_call.ensures in
+    let test = is_given_as c.args.c c.args.t.0 in
+    let taken : (o : Obj) → in_transit o c.fail.new.self.tree.calls + if_found (transit_of o) (find test h.calls.tree.calls) ≡ in_transit o h.calls.tree.calls =
+    λ o. rw c.fail.ensures.after (fail_call-in_transit o h.calls.tree c.args.c c.args.t.0) in (
+      one_taken h.counts.now h.tables h.names.names h.calls.tree.calls c.self.invariant.0 test c.fail.new.self.tree.calls taken c.lower_call.new.counts.now c.in_ok-call.call c.in_ok-call.ensures.before down.counts,
+      down.len ∙ c.self.invariant.1 ∙ ap length (sym down.opening),
+    )
