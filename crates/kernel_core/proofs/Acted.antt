@@ -2,7 +2,7 @@
 use Rattle.std.proofs.Common.{◌≡◌, ℕ, zero, suc, ◌+◌, ◌<◌, ◌≤◌, Bool, true, false, if◌then◌else◌, List, [], ◌∷◌, ◌++◌, Option, None, Some, cond, filter, is_some, length, refl, sym, subst, ap, ap₂, ◌∙◌, arith, true≢false}
 use Rattle.std.specs.List.{AllByRecursion}
 use Rattle.std.proofs.lemmas.Bool.Decides.{nat_tests}
-use Rattle.std.proofs.lemmas.List.Sums.{sum_by-cons}
+use Rattle.std.proofs.lemmas.List.Sums.{count_by-le-length, length-filter, sum_by-cons}
 use Rattle.dk_base.specs.ByNumber.{at_number}
 use Rattle.dk_base.specs.declared.object.Item.TheVariants as item
 use Rattle.dk_base.specs.declared.request.Request.TheVariants as request
@@ -13,12 +13,14 @@ use Rattle.kernel_records.specs.Words.{is_given_as, is_given_notice_as, is_last,
 use Rattle.written_kernel.specs.Words.{StandsFor, State, accept, accept_call, accept_notice, act, await, await_name, begin_call, door_of, effect, exit, fail_begin, find_call, find_notice, forget, go_on, has_invalid_door, has_room, is_live_process, kill, leave_process, leave_thread, name_of, pool_of, process_of, refusal_of, return, return_parked, return_unbound, state_of, unless_refused}
 use Rattle.written_kernel.proofs.Lists.{numbered_there, numbered_within}
 use Rattle.server_pool.specs.Words.{item_room_in, pool_at}
-use Rattle.kernel_store.specs.Words.{CanMake, IsAgreed, StoreValue, count_served, stored_state}
+use Rattle.unref_notice.specs.Words.{count_of}
+use Rattle.kernel_store.specs.Words.{CanMake, IsAgreed, HasBegun, StoreValue, count_served, stored_state}
 use Rattle.kernel_core.specs.declared.event.Parts.{Parts}
 use Rattle.kernel_core.specs.declared.event.Taken.{Taken}
-use Rattle.kernel_core.specs.Watched.{HadRoomForNotices, IsKeptDoor, IsReadyForNotices, KeepsDoors, is_watched, watched}
+use Rattle.kernel_core.specs.Watched.{HadRoomForNotices, IsKeptDoor, IsReadyForNotices, KeepsDoors, fallen, is_watched, watched}
 use Rattle.kernel_core.specs.Woken.{IsReady}
-use Rattle.kernel_core.proofs.Due.{AreNumbered, among, noticed_is, takes_in}
+use Rattle.unref_notice.proofs.Numbered.{AreNumbered, among, noticed_is, takes_in}
+use Rattle.kernel_core.proofs.Fallen.{fallen_watched, has_one}
 use Rattle.kernel_core.proofs.Steps.{processes_after}
 
 -- an act makes no notice
@@ -89,19 +91,26 @@ made-act m t (Some r) = go (refusal_of m t (process_of m t) r)
     go None = made-effect m t (process_of m t) r
 made-act m t None = made-go_on m t (process_of m t) (state_of m t)
 
+-- nor does it change the counts at its beginning
+pub opened_kept : (o p : List ℕ) (m : State) → ((d : ℕ) → count_of p d ≡ count_of o d) → HasBegun o m → HasBegun p m
+opened_kept o p m same h =
+    record { counts = λ d. same d ∙ h.counts d; none = λ d e. same d ∙ h.none d e }
+
 -- what the act of an event leaves of what was taken before it
 pub had_room :
     (p : Parts) (n : StoreValue) (taken : Taken) (t : ℕ) (q : Option Request) → IsReady p taken →
     StandsFor (stored_state n) (act (stored_state p.store) t q).state →
     IsReadyForNotices (stored_state p.store) (forget (act (stored_state p.store) t q).state) → p.store.notices.spare ≤ n.notices.spare →
+    ((d : ℕ) → count_of n.opening d ≡ count_of p.store.opening d) →
     ((pool : Pool) → item_room_in p.store.pools pool ≤ item_room_in n.pools pool + 1) →
     HadRoomForNotices p.store n taken.watched.items
-had_room p n taken t q r s k records items =
+had_room p n taken t q r s k records same items =
     record {
       watched = r.watched;
       room = r.notices;
       agreed = r.agreed;
       doors = subst (KeepsDoors (stored_state p.store)) (sym s) k.doors;
+      opened = opened_kept p.store.opening n.opening (stored_state p.store) same r.opened;
       processes = processes_after (stored_state p.store) (stored_state n) t q s;
       made = ap made s ∙ made-act (stored_state p.store) t q;
       records = records;
@@ -207,7 +216,7 @@ pool_before b n ds (Private e) h a k there c =
     there_by_length b.doors.items b.pools.private e h.agreed.private (served_there (stored_state b) e ds h.doors.numbered k c)
 
 -- so notices can be made of them
-pub can_make : (b n : StoreValue) (ds : List ℕ) → HadRoomForNotices b n ds → IsAgreed n → CanMake n ds
+can_make : (b n : StoreValue) (ds : List ℕ) → HadRoomForNotices b n ds → IsAgreed n → CanMake n ds
 can_make b n ds h a =
     record {
       records = omega (arith, h.room.records, h.records);
@@ -226,3 +235,30 @@ can_make b n ds h a =
     enough pool there =
         subst (λ c. c ≤ item_room_in n.pools pool) (sym (same_count (stored_state b) (stored_state n) pool ds h.doors all))
         (fits pool (count_served (stored_state b) pool ds) (λ l. h.room.items pool (pool_before b n ds pool h a all there l) l))
+
+-- a notice of each of them, or of fewer
+
+fewer_served : (q : ℕ → Bool) (m : State) (pool : Pool) (ds : List ℕ) → count_served m pool (filter q ds) ≤ count_served m pool ds
+fewer_served q m pool [] = omega arith
+fewer_served q m pool (d ∷ ds) = go (q d) (fewer_served q m pool ds)
+  where
+    go :
+        (b : Bool) → count_served m pool (filter q ds) ≤ count_served m pool ds →
+        count_served m pool (if b then d ∷ filter q ds else filter q ds) ≤ count_served m pool (d ∷ ds)
+    go true ih = omega (arith, ih, served_first m pool d (filter q ds), served_first m pool d ds)
+    go false ih = omega (arith, ih, served_first m pool d ds)
+
+can_make_fewer : (n : StoreValue) (q : ℕ → Bool) (ds : List ℕ) → CanMake n ds → CanMake n (filter q ds)
+can_make_fewer n q ds h =
+    let l : length (filter q ds) ≤ length ds = omega (arith, length-filter q ds, count_by-le-length q ds) in
+    record {
+      records = omega (arith, h.records, l);
+      numbers = omega (arith, h.numbers, l);
+      items = λ pool there. omega (arith, h.items pool there, fewer_served q (stored_state n) pool ds);
+    }
+
+pub can_make_fallen :
+    (b n : StoreValue) (ds : List ℕ) → HadRoomForNotices b n ds → IsAgreed n → AreNumbered n.doors.items → CanMake n (fallen (stored_state b) (stored_state n))
+can_make_fallen b n ds h a numbered =
+    subst (CanMake n) (sym (fallen_watched (stored_state b) (stored_state n) n.opening h.doors numbered h.opened))
+    (can_make_fewer n (has_one (stored_state n)) (watched (stored_state b)) (subst (CanMake n) h.watched (can_make b n ds h a)))

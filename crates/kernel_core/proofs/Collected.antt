@@ -1,10 +1,22 @@
 -- A call that brings no objects leaves the tables, and a stage of which a caller is told nothing brings none.
-use Rattle.std.proofs.Common.{◌≡◌, ℕ, Bool, true, false, List, [], Option, Some, None, if◌then◌else◌, refl, ap, ◌∙◌}
+use Rattle.std.proofs.Common.{◌≡◌, ℕ, zero, suc, ◌-◌, ◌==◌, Bool, true, false, List, [], ◌∷◌, Option, Some, None, if◌then◌else◌, slice_get, slice_set, unwrap_or, refl, ap, ◌∙◌}
 use Rattle.written_kernel.specs.Types.{Call, CallStage, Errno, Obj}
 use Rattle.dk_base.specs.declared.answer.Answer.TheVariants.{Done}
 use Rattle.kernel_records.specs.declared.record.CallStage.TheVariants as stage
+use Rattle.kernel_records.specs.Words.{table_in, with_table}
 use Rattle.written_kernel.specs.Words.{State, collect_answer, collect_answer_in, has_room, objects_collected, tables_after_collect, tables_with}
-use Rattle.kernel_store.proofs.NoTable.{table_put_back}
+
+-- a table that is put back changes nothing
+
+put_back : {X : Type 0} (xs : List X) (i : ℕ) (x : X) → slice_set xs i (unwrap_or (slice_get xs i) x) ≡ xs
+put_back [] i x = refl
+put_back (y ∷ ys) zero x = refl
+put_back (y ∷ ys) (suc i) x = ap (λ zs. y ∷ zs) (put_back ys i x)
+
+table_put_back : (tables : List (List (Option Obj))) (p : ℕ) → with_table tables p (table_in tables p) ≡ tables
+table_put_back tables p =
+    elim (p == 0) as (λ b. (if b then tables else slice_set tables (p - 1) (unwrap_or (if b then None else slice_get tables (p - 1)) [])) ≡ tables)
+    [ true ↦ refl | false ↦ put_back tables (p - 1) [] ]
 
 pub nothing_collected : (m : State) (p : ℕ) → tables_after_collect m p [] ≡ m.tables
 nothing_collected m p = go (has_room m p [])

@@ -5,9 +5,11 @@ pub mod Steps
 pub mod Readers
 pub mod Kept
 pub mod Tests
-pub mod Counted
+pub mod Opening
 pub mod Collected
 pub mod Due
+pub mod Fallen
 pub mod Watching
 pub mod Making
 pub mod Acted
+pub mod Finishing

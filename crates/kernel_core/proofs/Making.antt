@@ -5,7 +5,7 @@ use Rattle.kernel_records.specs.Words.{new_notice}
 use Rattle.written_kernel.specs.Words.{State, door_of, now}
 use Rattle.written_kernel.proofs.Settling.{with_notice_of}
 use Rattle.kernel_store.specs.Words.{ArePlaced, may_have_notice_in}
-use Rattle.kernel_core.specs.Watched.{is_due_now, make_due}
+use Rattle.kernel_core.specs.Watched.{make_of}
 
 -- places
 
@@ -34,13 +34,13 @@ placed-with_notice_of m d there h =
 
 -- what is made changes notices alone
 
-pub make_due-alone : (m : State) (ds : List ℕ) → make_due m ds ≡ record m { notice_list = (make_due m ds).notice_list }
-make_due-alone m [] = refl
-make_due-alone m (d ∷ ds) = go (is_due_now m d) (λ k. make_due-alone k ds)
+pub make_of-alone : (m : State) (ds : List ℕ) → make_of m ds ≡ record m { notice_list = (make_of m ds).notice_list }
+make_of-alone m [] = refl
+make_of-alone m (d ∷ ds) = go (may_have_notice_in m d (door_of m d)) (λ k. make_of-alone k ds)
   where
     go :
-        (b : Bool) → ((k : State) → make_due k ds ≡ record k { notice_list = (make_due k ds).notice_list }) →
-        make_due (if b then with_notice_of m d else m) ds ≡ record m { notice_list = (make_due (if b then with_notice_of m d else m) ds).notice_list }
+        (b : Bool) → ((k : State) → make_of k ds ≡ record k { notice_list = (make_of k ds).notice_list }) →
+        make_of (if b then with_notice_of m d else m) ds ≡ record m { notice_list = (make_of (if b then with_notice_of m d else m) ds).notice_list }
     go true ih = ih (with_notice_of m d)
     go false ih = ih m
 

@@ -1,5 +1,5 @@
 -- What a step keeps within.
-use Rattle.std.proofs.Common.{◌≡◌, ℕ, ◌<◌, ◌&&◌, true, false, true≢false, not, length, List, [], ◌∷◌, Option, None, refl, Result, Ok, Err, IfOk, OnErr, subst, sym, ap, ◌∙◌, arith}
+use Rattle.std.proofs.Common.{◌≡◌, ℕ, ◌<◌, ◌&&◌, not, length, List, [], ◌∷◌, Option, None, refl, Result, Ok, Err, IfOk, OnErr, subst, sym, ap, ◌∙◌, arith}
 use Rattle.written_kernel.specs.Types.{Item, NoMemory, Request, Stepped}
 use Rattle.kernel_core.specs.declared.event.Parts.{Parts}
 use Rattle.kernel_core.specs.declared.event.Taken.{Taken}
@@ -8,9 +8,7 @@ use Rattle.kernel_store.specs.Words.{stored_state}
 use Rattle.kernel_core.specs.Woken.{HasListRoom, IsCurrent, IsReady, IsReadyToSettle}
 use Rattle.kernel_core.proofs.Readers.{length_runnables}
 use Rattle.dk_base.specs.declared.object.Item.TheVariants as item
-use Rattle.dk_base.specs.declared.request.Request.TheVariants as request
 use Rattle.kernel_records.specs.Words.{has_common_door, is_live_call}
-use Rattle.kernel_invariant.specs.Events.{is_leaving}
 use Rattle.written_kernel.proofs.Failing.{doors-fail_returns}
 use Rattle.pool_agreement.specs.Words.{first_common_of, is_this}
 use Rattle.pool_agreement.proofs.Settling.{first_common, no_first_common}
@@ -176,14 +174,10 @@ pub first_gone_on :
 first_gone_on m n t h =
     λ p. first_kept m n (go_on m t (process_of m t) (state_of m t)).state p h ∙ no_first_common m t (state_of m t) p
 
--- where no thread's door is lost nothing fails before the giving, and an act of leaving makes no door
+-- what fails before the giving makes no door
 
 doors-given : (m : State) → (give (fail_returns m)).doors ≡ m.doors
 doors-given m = doors-give (fail_returns m) ∙ doors-fail_returns m
-
-none_first_left : (m : State) (t : ℕ) (r : Request) → is_leaving r ≡ true → first_common_of m t r ≡ None
-none_first_left m t (request.Create entry cookie attrs) l = absurd (true≢false (sym l))
-none_first_left m t r l = refl
 
 -- nor does the making of notices
 pub first_made :
@@ -191,8 +185,3 @@ pub first_made :
     has_first_common_door before (give (fail_returns k)) p ≡ has_first_common_door before (give n) p
 first_made before k n e p =
     ap (λ doors. not (has_common_door before.doors p) && has_common_door doors p) (doors-given k ∙ e ∙ sym (doors-give n))
-
-pub none_first_entered :
-    (m n : State) (t : ℕ) (r : Request) → is_leaving r ≡ true → StandsFor n (enter m t (process_of m t) r).state →
-    (p : ℕ) → has_first_common_door m (give n) p ≡ false
-none_first_entered m n t r l h p = first_entered m n t r (first_common_of m t r) h refl p ∙ ap (is_this p) (none_first_left m t r l)

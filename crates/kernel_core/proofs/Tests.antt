@@ -1,11 +1,12 @@
 -- Tests one after the other.
-use Rattle.std.proofs.Common.{◌≡◌, ℕ, ◌<◌, ◌++◌, Bool, true, false, if◌then◌else◌, List, [], ◌∷◌, Some, None, length, nat_le, refl, arith}
+use Rattle.std.proofs.Common.{◌≡◌, ℕ, ◌<◌, ◌++◌, ◌&&◌, ◌||◌, Bool, true, false, if◌then◌else◌, List, [], ◌∷◌, Some, None, is_some, length, nat_le, nat_lt, refl, arith}
+use Rattle.std.specs.List.{list_any}
 use Rattle.std.proofs.lemmas.Bool.Decides.{nat_tests}
-use Rattle.dk_base.specs.declared.error.Errno.TheVariants.{EAGAIN}
-use Rattle.dk_base.specs.declared.limits.TheConstants.{QUEUE_MAX}
+use Rattle.dk_base.specs.declared.error.Errno.TheVariants.{E2BIG, EAGAIN, EINVAL}
+use Rattle.dk_base.specs.declared.limits.TheConstants.{DATA_MAX, PASS_MAX, QUEUE_MAX}
 use Rattle.written_kernel.specs.Types.{Errno, Fd, Pass}
-use Rattle.kernel_records.specs.Words.{Test, first_refusal, limit_tests}
-use Rattle.written_kernel.specs.Words.{State, call_tests, calls_waiting, door_named, door_of, is_valid, object_at, pass_tests, pool_of, pool_tests}
+use Rattle.kernel_records.specs.Words.{Test, first_refusal, has_double_release, is_not_open, limit_tests, refused_where}
+use Rattle.written_kernel.specs.Words.{State, call_tests, calls_waiting, client_call, door_named, door_of, is_valid, object_at, pass_tests, pool_of, pool_tests, return_tests, table_of}
 
 pub first_of : (xs ys : List Test) (e : Errno) → first_refusal xs ≡ Some e → first_refusal (xs ++ ys) ≡ Some e
 first_of [] ys e h = grind arith
@@ -62,3 +63,29 @@ called_valid m p fd bytes pass h = go (is_valid m (door_named (object_at m p fd)
         is_valid m (door_named (object_at m p fd)) ≡ true
     go true e f = e
     go false e f = grind (arith, nat_tests)
+
+-- nor does what is passed without a refusal release a descriptor twice
+
+released_once : (m : State) (p : ℕ) (pass : List Pass) → first_refusal (pass_tests m p pass) ≡ None → has_double_release pass ≡ false
+released_once m p pass h = go (list_any (is_not_open (table_of m p)) pass) (has_double_release pass) h
+  where
+    go : (a b : Bool) → (if a || b then Some EINVAL else None) ≡ None → b ≡ false
+    go true b e = absurd (cc e)
+    go false true e = absurd (cc e)
+    go false false e = refl
+
+pub called_once :
+    (m : State) (p : ℕ) (fd : Fd) (bytes : List ℕ) (pass : List Pass) → first_refusal (call_tests m p fd bytes pass) ≡ None →
+    has_double_release pass ≡ false
+called_once m p fd bytes pass h =
+    let d = door_named (object_at m p fd) in
+    released_once m p pass
+    (none_before (pass_tests m p pass) (pool_tests m d)
+    (none_after (limit_tests (door_of m d) (length bytes) (length pass)) (pass_tests m p pass ++ pool_tests m d) h))
+
+pub returned_once :
+    (m : State) (t p : ℕ) (bytes : List ℕ) (pass : List Pass) → first_refusal (return_tests m t p bytes pass) ≡ None →
+    has_double_release pass ≡ false
+returned_once m t p bytes pass h =
+    let too_long = is_some (client_call m t) && (nat_lt DATA_MAX (length bytes) || nat_lt PASS_MAX (length pass)) in
+    released_once m p pass (none_after (refused_where too_long E2BIG ∷ []) (pass_tests m p pass) h)

@@ -1,3 +1,4 @@
+pub mod Acted
 pub mod Kept
 pub mod Numbers
 pub mod Watched

@@ -6,7 +6,7 @@ use Rattle.kernel_core.specs.declared.event.Parts.{Parts}
 use Rattle.kernel_core.specs.declared.event.Taken.{Taken}
 use Rattle.kernel_core.specs.declared.runnable.Runnable.{Runnable}
 use Rattle.written_kernel.specs.Words.{State, is_runnable}
-use Rattle.kernel_store.specs.Words.{HasRoomForNotices, IsAgreed, stored_state}
+use Rattle.kernel_store.specs.Words.{HasRoomForNotices, IsAgreed, HasBegun, stored_state}
 use Rattle.kernel_core.specs.Watched.{watched}
 
 -- of each of the threads 1 to n whether it can take a turn
@@ -32,6 +32,7 @@ pub record IsReady (parts : Parts) (taken : Taken) : Type 0 where
   pub flags : length parts.store.processes.processes ≤ taken.had.spare
   pub watched : taken.watched.items ≡ watched (stored_state parts.store)
   pub notices : HasRoomForNotices parts.store taken.watched.items
+  pub opened : HasBegun parts.store.opening (stored_state parts.store)
   pub agreed : IsAgreed parts.store
 
 -- the same once its act is done

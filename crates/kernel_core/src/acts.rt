@@ -10,6 +10,7 @@ ghost use Rattle.kernel_core.specs.Numbers.{HasNumbersLeft};
 ghost use Rattle.pool_agreement.specs.Words.{IsGivenOut, IsGivenOutBut, own_pool, pool_of_request};
 ghost use Rattle.kernel_invariant.specs.Events.{is_leaving};
 ghost use Rattle.server_pool.specs.Words.{item_room_in};
+ghost use Rattle.unref_notice.specs.Words.{count_of};
 ghost use Rattle.kernel_store.specs.Words.{ArePlaced, HasRoom, HasRoomToLeave, stored_state};
 
 use crate::binding::{bind, bind_refusal, bound_refusal, information_of_bound, unbind};
@@ -96,6 +97,7 @@ fn plain_effect(store: &mut Store, t: Tid, p: Pid, request: Request, objects: Ro
     ensures answer { result ≡ (effect (stored_state store.old) t.0 p.0 request).answer }
     ensures given_out { IsGivenOut store.old.pools → IsGivenOutBut (pool_of_request (stored_state store.old) t.0 request) store.new.pools }
     ensures latest { store.new.latest ≤ now (stored_state store.old) }
+    ensures opening { (d : ℕ) → count_of store.new.opening d ≡ count_of store.old.opening d }
     ensures notice_room { store.old.notices.spare ≤ store.new.notices.spare }
     ensures items { (pool : Pool) → item_room_in store.old.pools pool ≤ item_room_in store.new.pools pool + 1 }
 {
@@ -154,6 +156,7 @@ fn staying_effect(
     ensures answer { result ≡ (effect (stored_state store.old) t.0 p.0 request).answer }
     ensures given_out { IsGivenOut store.old.pools → IsGivenOutBut (pool_of_request (stored_state store.old) t.0 request) store.new.pools }
     ensures latest { store.new.latest ≤ now (stored_state store.old) }
+    ensures opening { (d : ℕ) → count_of store.new.opening d ≡ count_of store.old.opening d }
     ensures notice_room { store.old.notices.spare ≤ store.new.notices.spare }
     ensures items { (pool : Pool) → item_room_in store.old.pools pool ≤ item_room_in store.new.pools pool + 1 }
 {
@@ -177,6 +180,7 @@ fn leaving_effect(store: &mut Store, alloc: Global, t: Tid, p: Pid, request: Req
     ensures state { StandsFor (stored_state store.new) (effect (stored_state store.old) t.0 p.0 request).state }
     ensures answer { result ≡ (effect (stored_state store.old) t.0 p.0 request).answer }
     ensures latest { store.new.latest ≤ now (stored_state store.old) }
+    ensures opening { store.new.opening ≡ store.old.opening }
     ensures notice_room { store.old.notices.spare ≤ store.new.notices.spare }
     ensures items { (pool : Pool) → item_room_in store.old.pools pool ≤ item_room_in store.new.pools pool + 1 }
 {
@@ -213,6 +217,7 @@ fn effect(
     ensures answer { result ≡ (effect (stored_state store.old) t.0 p.0 request).answer }
     ensures given_out { is_leaving request ≡ false → IsGivenOut store.old.pools → IsGivenOutBut (pool_of_request (stored_state store.old) t.0 request) store.new.pools }
     ensures latest { store.new.latest ≤ now (stored_state store.old) }
+    ensures opening { (d : ℕ) → count_of store.new.opening d ≡ count_of store.old.opening d }
     ensures notice_room { store.old.notices.spare ≤ store.new.notices.spare }
     ensures items { (pool : Pool) → item_room_in store.old.pools pool ≤ item_room_in store.new.pools pool + 1 }
 {
@@ -254,6 +259,7 @@ pub fn enter(
     ensures answer { result ≡ (enter (stored_state store.old) t.0 (process_of (stored_state store.old) t.0) request).answer }
     ensures given_out { is_leaving request ≡ false → IsGivenOut store.old.pools → IsGivenOutBut (pool_of_request (stored_state store.old) t.0 request) store.new.pools }
     ensures latest { store.new.latest ≤ now (stored_state store.old) }
+    ensures opening { (d : ℕ) → count_of store.new.opening d ≡ count_of store.old.opening d }
     ensures notice_room { store.old.notices.spare ≤ store.new.notices.spare }
     ensures items { (pool : Pool) → item_room_in store.old.pools pool ≤ item_room_in store.new.pools pool + 1 }
 {
@@ -273,6 +279,7 @@ fn end_work(store: &mut Store, alloc: Global, t: Tid) -> Answer
     ensures answer { result ≡ (end_work (stored_state store.old) t.0).answer }
     ensures pools { store.new.pools ≡ store.old.pools }
     ensures latest { store.new.latest ≡ store.old.latest }
+    ensures opening { store.new.opening ≡ store.old.opening }
     ensures notice_room { store.old.notices.spare ≤ store.new.notices.spare }
 {
     store.turn(t, ThreadState::Running);
@@ -294,6 +301,7 @@ pub fn go_on(store: &mut Store, alloc: Global, t: Tid, fds: Room<Fd>) -> Answer
     ensures answer { result ≡ (go_on (stored_state store.old) t.0 (process_of (stored_state store.old) t.0) (state_of (stored_state store.old) t.0)).answer }
     ensures given_out { IsGivenOut store.old.pools → IsGivenOutBut (own_pool (stored_state store.old) t.0) store.new.pools }
     ensures latest { store.new.latest ≤ now (stored_state store.old) }
+    ensures opening { store.new.opening ≡ store.old.opening }
     ensures notice_room { store.old.notices.spare ≤ store.new.notices.spare }
     ensures items { (pool : Pool) → item_room_in store.old.pools pool ≤ item_room_in store.new.pools pool + 1 }
 {

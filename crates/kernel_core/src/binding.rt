@@ -28,6 +28,7 @@ pub fn bind(store: &mut Store, t: Tid, p: Pid, fd: Fd) -> Answer
     ensures answer { result ≡ (bind (stored_state store.old) t.0 p.0 fd).answer }
     ensures given_out { IsGivenOut store.old.pools → IsGivenOut store.new.pools }
     ensures latest { store.new.latest ≡ store.old.latest }
+    ensures opening { store.new.opening ≡ store.old.opening }
     ensures notice_room { store.old.notices.spare ≤ store.new.notices.spare }
     ensures items { (pool : Pool) → item_room_in store.old.pools pool ≤ item_room_in store.new.pools pool + 1 }
 {
@@ -54,6 +55,7 @@ pub fn unbind(store: &mut Store, t: Tid) -> Answer
     ensures answer { result ≡ (unbind (stored_state store.old) t.0).answer }
     ensures given_out { IsGivenOut store.old.pools → IsGivenOut store.new.pools }
     ensures latest { store.new.latest ≡ store.old.latest }
+    ensures opening { store.new.opening ≡ store.old.opening }
     ensures notice_room { store.old.notices.spare ≤ store.new.notices.spare }
     ensures items { (pool : Pool) → item_room_in store.old.pools pool ≤ item_room_in store.new.pools pool + 1 }
 {

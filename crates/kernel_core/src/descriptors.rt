@@ -1,9 +1,11 @@
 //! The acts of descriptors and names. What needs a free or an open descriptor, or a free path, has the condition that it is
 //! not refused.
-ghost use Rattle.std.specs.Prelude.{◌≡◌, ◌≤◌, None, false, is_none, true};
+ghost use Rattle.std.specs.Prelude.{◌≡◌, ◌≤◌, ◌∷◌, [], None, false, is_none, true};
 ghost use Rattle.kernel_records.specs.Words.{first_refusal, is_done, is_dormant, is_idle, lowest_free};
 ghost use Rattle.written_kernel.specs.Words.{attach, attach_tests, await, close, close_tests, detach, detach_tests, door_named, dup, dup_tests, end_await, insert_object, is_running, object_at, open_path, open_tests, state_of, table_of};
 ghost use Rattle.name_space.specs.Words.{HasRoomForName};
+ghost use Rattle.unref_notice.specs.Words.{AreCounted};
+ghost use Rattle.unref_notice.specs.declared.counts.TheConstants.{REFERENCES_ROOM};
 ghost use Rattle.kernel_store.specs.Words.{stored_state};
 
 use dk_base::answer::Answer;
@@ -25,11 +27,14 @@ pub fn door_named(store: &Store, p: Pid, fd: Fd) -> u32
 
 /// An object gets the lowest descriptor that is free, of which there is one.
 pub fn add_row(store: &mut Store, p: Pid, object: Obj) -> Answer
-    requires { is_none (lowest_free (table_of (stored_state store.old) p.0)) ≡ false }
+    requires free { is_none (lowest_free (table_of (stored_state store.old) p.0)) ≡ false }
+    requires counted { AreCounted store.old.opening (object ∷ []) }
+    requires references { REFERENCES_ROOM ≤ store.old.reference_room }
     ensures state { stored_state store.new ≡ (insert_object (stored_state store.old) p.0 object).state }
     ensures answer { result ≡ (insert_object (stored_state store.old) p.0 object).answer }
     ensures pools { store.new.pools ≡ store.old.pools }
     ensures latest { store.new.latest ≡ store.old.latest }
+    ensures opening { store.new.opening ≡ store.old.opening }
     ensures notice_room { store.old.notices.spare ≤ store.new.notices.spare }
 {
     let fd = store.insert(p, object);
@@ -53,6 +58,7 @@ pub fn close(store: &mut Store, p: Pid, fd: Fd) -> Answer
     ensures answer { result ≡ (close (stored_state store.old) p.0 fd).answer }
     ensures pools { store.new.pools ≡ store.old.pools }
     ensures latest { store.new.latest ≡ store.old.latest }
+    ensures opening { store.new.opening ≡ store.old.opening }
     ensures notice_room { store.old.notices.spare ≤ store.new.notices.spare }
 {
     store.close(p, fd);
@@ -74,11 +80,13 @@ pub fn dup_refusal(store: &Store, p: Pid, fd: Fd) -> Option<Errno>
 
 /// dup(2): the same object at the lowest descriptor that is free.
 pub fn dup(store: &mut Store, p: Pid, fd: Fd) -> Answer
-    requires { first_refusal (dup_tests (stored_state store.old) p.0 fd) ≡ None }
+    requires allowed { first_refusal (dup_tests (stored_state store.old) p.0 fd) ≡ None }
+    requires references { REFERENCES_ROOM ≤ store.old.reference_room }
     ensures state { stored_state store.new ≡ (dup (stored_state store.old) p.0 fd).state }
     ensures answer { result ≡ (dup (stored_state store.old) p.0 fd).answer }
     ensures pools { store.new.pools ≡ store.old.pools }
     ensures latest { store.new.latest ≡ store.old.latest }
+    ensures opening { store.new.opening ≡ store.old.opening }
     ensures notice_room { store.old.notices.spare ≤ store.new.notices.spare }
 {
     match store.object_at(p, fd) {
@@ -103,14 +111,17 @@ pub fn attach_refusal(store: &Store, p: Pid, fd: Fd, path: PathId) -> Option<Err
 pub fn attach(store: &mut Store, p: Pid, fd: Fd, path: PathId) -> Answer
     requires room { HasRoomForName store.old.names }
     requires allowed { first_refusal (attach_tests (stored_state store.old) p.0 fd path) ≡ None }
+    requires references { REFERENCES_ROOM ≤ store.old.reference_room }
     ensures state { stored_state store.new ≡ (attach (stored_state store.old) p.0 fd path).state }
     ensures answer { result ≡ (attach (stored_state store.old) p.0 fd path).answer }
     ensures pools { store.new.pools ≡ store.old.pools }
     ensures latest { store.new.latest ≡ store.old.latest }
+    ensures opening { store.new.opening ≡ store.old.opening }
     ensures notice_room { store.old.notices.spare ≤ store.new.notices.spare }
 {
-    let door = door_named(store, p, fd);
-    store.attach(path, door);
+    if let Some(Obj::Door(door)) = store.object_at(p, fd) {
+        store.attach(path, door);
+    }
     Answer::Done
 }
 
@@ -130,6 +141,7 @@ pub fn detach(store: &mut Store, path: PathId) -> Answer
     ensures answer { result ≡ (detach (stored_state store.old) path).answer }
     ensures pools { store.new.pools ≡ store.old.pools }
     ensures latest { store.new.latest ≡ store.old.latest }
+    ensures opening { store.new.opening ≡ store.old.opening }
     ensures notice_room { store.old.notices.spare ≤ store.new.notices.spare }
 {
     store.detach(path);
@@ -151,11 +163,13 @@ pub fn open_refusal(store: &Store, p: Pid, path: PathId) -> Option<Errno>
 
 /// open(2) of a path with a door: the door at the lowest descriptor that is free.
 pub fn open_path(store: &mut Store, p: Pid, path: PathId) -> Answer
-    requires { first_refusal (open_tests (stored_state store.old) p.0 path) ≡ None }
+    requires allowed { first_refusal (open_tests (stored_state store.old) p.0 path) ≡ None }
+    requires references { REFERENCES_ROOM ≤ store.old.reference_room }
     ensures state { stored_state store.new ≡ (open_path (stored_state store.old) p.0 path).state }
     ensures answer { result ≡ (open_path (stored_state store.old) p.0 path).answer }
     ensures pools { store.new.pools ≡ store.old.pools }
     ensures latest { store.new.latest ≡ store.old.latest }
+    ensures opening { store.new.opening ≡ store.old.opening }
     ensures notice_room { store.old.notices.spare ≤ store.new.notices.spare }
 {
     let door = store.door_attached(path);
@@ -170,6 +184,7 @@ pub fn await_path(store: &mut Store, t: Tid, path: PathId) -> Answer
     ensures answer { result ≡ (await (stored_state store.old) t.0 path).answer }
     ensures pools { store.new.pools ≡ store.old.pools }
     ensures latest { store.new.latest ≡ store.old.latest }
+    ensures opening { store.new.opening ≡ store.old.opening }
     ensures notice_room { store.old.notices.spare ≤ store.new.notices.spare }
 {
     if store.has_name(path) {
@@ -188,6 +203,7 @@ pub fn found(store: &mut Store, t: Tid) -> Answer
     ensures answer { result ≡ (end_await (stored_state store.old) t.0).answer }
     ensures pools { store.new.pools ≡ store.old.pools }
     ensures latest { store.new.latest ≡ store.old.latest }
+    ensures opening { store.new.opening ≡ store.old.opening }
     ensures notice_room { store.old.notices.spare ≤ store.new.notices.spare }
 {
     store.turn(t, ThreadState::Running);

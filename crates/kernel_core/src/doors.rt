@@ -1,5 +1,5 @@
 //! The acts of doors, of calls of them, and of their invocations.
-ghost use Rattle.std.specs.Prelude.{◌≡◌, ◌+◌, ◌++◌, ◌<◌, ◌≤◌, [], None, false, length, true};
+ghost use Rattle.std.specs.Prelude.{◌≡◌, ℕ, ◌+◌, ◌++◌, ◌<◌, ◌≤◌, [], None, false, length, true};
 ghost use Rattle.dk_base.specs.declared.object.Item.TheVariants as item;
 ghost use Rattle.kernel_records.specs.declared.record.ThreadState.TheVariants as is;
 ghost use Rattle.kernel_records.specs.Words.{cookie_of, entry_of, first_refusal, is_done, is_dormant, is_given_as, is_given_notice_as, is_idle, limit_tests, no_cancel_of};
@@ -9,6 +9,8 @@ ghost use Rattle.kernel_core.specs.Handed.{objects_at_end, objects_given, object
 ghost use Rattle.kernel_core.specs.Kept.{HasNothingPast};
 ghost use Rattle.kernel_core.specs.Numbers.{HasNumbersLeft};
 ghost use Rattle.server_pool.specs.Words.{item_room_in};
+ghost use Rattle.unref_notice.specs.Words.{AreCounted, count_of};
+ghost use Rattle.unref_notice.specs.declared.counts.TheConstants.{REFERENCES_ROOM};
 ghost use Rattle.pool_agreement.specs.Words.{IsGivenOut, IsGivenOutBut, own_pool};
 ghost use Rattle.kernel_store.specs.Words.{ArePlaced, HasRoom, stored_state};
 
@@ -43,12 +45,15 @@ pub fn create(store: &mut Store, p: Pid, entry: u32, cookie: u64, attrs: Attrs) 
     requires numbers { HasNumbersLeft (stored_state store.old) }
     requires room { 0 < store.old.doors.spare }
     requires pool_room { 0 < store.old.pools.door_room }
+    requires count_room { 0 < store.old.door_room }
+    requires references { REFERENCES_ROOM ≤ store.old.reference_room }
     requires placed { ArePlaced (stored_state store.old) }
     requires allowed { first_refusal (create_tests (stored_state store.old) p.0 attrs) ≡ None }
     ensures state { stored_state store.new ≡ (create (stored_state store.old) p.0 entry cookie attrs).state }
     ensures answer { result ≡ (create (stored_state store.old) p.0 entry cookie attrs).answer }
     ensures given_out { IsGivenOut store.old.pools → IsGivenOut store.new.pools }
     ensures latest { store.new.latest ≡ store.old.latest }
+    ensures opening { (d : ℕ) → count_of store.new.opening d ≡ count_of store.old.opening d }
     ensures notice_room { store.old.notices.spare ≤ store.new.notices.spare }
     ensures items { (pool : Pool) → item_room_in store.old.pools pool ≤ item_room_in store.new.pools pool + 1 }
 {
@@ -148,6 +153,7 @@ pub fn call(
     ensures answer { result ≡ (call (stored_state store.old) t.0 p.0 fd bytes pass.now rsize).answer }
     ensures given_out { IsGivenOut store.old.pools → IsGivenOutBut (pool_of (stored_state store.old) (door_named (object_at (stored_state store.old) p.0 fd))) store.new.pools }
     ensures latest { store.new.latest ≡ now (stored_state store.old) }
+    ensures opening { store.new.opening ≡ store.old.opening }
     ensures notice_room { store.old.notices.spare ≤ store.new.notices.spare }
     ensures items { (pool : Pool) → item_room_in store.old.pools pool ≤ item_room_in store.new.pools pool + 1 }
 {
@@ -196,12 +202,14 @@ pub fn return_from(
     requires first { store.old.latest ≤ store.old.events }
     requires none_past { HasNothingPast (stored_state store.old) }
     requires running { is_running (stored_state store.old) t.0 ≡ true }
+    requires allowed { first_refusal (return_tests (stored_state store.old) t.0 p.0 bytes pass.now) ≡ None }
     requires empty { objects.items ≡ [] }
     requires spare { length pass.now ≤ objects.spare }
     ensures state { StandsFor (stored_state store.new) (return (stored_state store.old) t.0 p.0 bytes pass.now).state }
     ensures answer { result ≡ (return (stored_state store.old) t.0 p.0 bytes pass.now).answer }
     ensures given_out { IsGivenOut store.old.pools → IsGivenOutBut (own_pool (stored_state store.old) t.0) store.new.pools }
     ensures latest { store.new.latest ≤ now (stored_state store.old) }
+    ensures opening { store.new.opening ≡ store.old.opening }
     ensures notice_room { store.old.notices.spare ≤ store.new.notices.spare }
     ensures items { (pool : Pool) → item_room_in store.old.pools pool ≤ item_room_in store.new.pools pool + 1 }
 {
@@ -267,10 +275,12 @@ fn begin_call(store: &mut Store, alloc: Global, t: Tid, p: Pid, c: u32, fds: Roo
     requires empty { fds.items ≡ [] }
     requires spare { length (objects_given (stored_state store.old) t.0 c) ≤ fds.spare }
     requires room { has_room (stored_state store.old) p.0 (objects_given (stored_state store.old) t.0 c) ≡ true }
+    requires references { REFERENCES_ROOM ≤ store.old.reference_room }
     ensures state { stored_state store.new ≡ (accept_call (stored_state store.old) t.0 p.0 c (find_call (stored_state store.old) (is_given_as c t.0))).state }
     ensures answer { result ≡ (accept_call (stored_state store.old) t.0 p.0 c (find_call (stored_state store.old) (is_given_as c t.0))).answer }
     ensures pools { store.new.pools ≡ store.old.pools }
     ensures latest { store.new.latest ≡ store.old.latest }
+    ensures opening { store.new.opening ≡ store.old.opening }
     ensures notice_room { store.old.notices.spare ≤ store.new.notices.spare }
 {
     let Some(call) = store.enter_call(alloc, c, t) else {
@@ -304,6 +314,7 @@ fn fail_begin(store: &mut Store, alloc: Global, t: Tid, p: Pid, c: u32) -> Answe
     ensures answer { result ≡ (accept_call (stored_state store.old) t.0 p.0 c (find_call (stored_state store.old) (is_given_as c t.0))).answer }
     ensures given_out { IsGivenOut store.old.pools → IsGivenOutBut (own_pool (stored_state store.old) t.0) store.new.pools }
     ensures latest { store.new.latest ≤ now (stored_state store.old) }
+    ensures opening { store.new.opening ≡ store.old.opening }
     ensures notice_room { store.old.notices.spare ≤ store.new.notices.spare }
     ensures items { (pool : Pool) → item_room_in store.old.pools pool ≤ item_room_in store.new.pools pool + 1 }
 {
@@ -327,6 +338,7 @@ fn accept_call(store: &mut Store, alloc: Global, t: Tid, p: Pid, c: u32, fds: Ro
     ensures answer { result ≡ (accept_call (stored_state store.old) t.0 p.0 c (find_call (stored_state store.old) (is_given_as c t.0))).answer }
     ensures given_out { IsGivenOut store.old.pools → IsGivenOutBut (own_pool (stored_state store.old) t.0) store.new.pools }
     ensures latest { store.new.latest ≤ now (stored_state store.old) }
+    ensures opening { store.new.opening ≡ store.old.opening }
     ensures notice_room { store.old.notices.spare ≤ store.new.notices.spare }
     ensures items { (pool : Pool) → item_room_in store.old.pools pool ≤ item_room_in store.new.pools pool + 1 }
 {
@@ -345,6 +357,7 @@ fn accept_notice(store: &mut Store, t: Tid, n: u32) -> Answer
     ensures answer { result ≡ (accept_notice (stored_state store.old) t.0 n (find_notice (stored_state store.old) (is_given_notice_as n t.0))).answer }
     ensures pools { store.new.pools ≡ store.old.pools }
     ensures latest { store.new.latest ≡ store.old.latest }
+    ensures opening { store.new.opening ≡ store.old.opening }
     ensures notice_room { store.old.notices.spare ≤ store.new.notices.spare }
 {
     let Some(notice) = store.enter_notice(n, t) else {
@@ -371,6 +384,7 @@ pub fn accept(store: &mut Store, alloc: Global, t: Tid, p: Pid, item: Item, fds:
     ensures answer { result ≡ (accept (stored_state store.old) t.0 p.0 item).answer }
     ensures given_out { IsGivenOut store.old.pools → IsGivenOutBut (own_pool (stored_state store.old) t.0) store.new.pools }
     ensures latest { store.new.latest ≤ now (stored_state store.old) }
+    ensures opening { store.new.opening ≡ store.old.opening }
     ensures notice_room { store.old.notices.spare ≤ store.new.notices.spare }
     ensures items { (pool : Pool) → item_room_in store.old.pools pool ≤ item_room_in store.new.pools pool + 1 }
 {
@@ -391,10 +405,13 @@ fn hand_results(
 ) -> Answer
     requires empty { fds.items ≡ [] }
     requires spare { length objects.now ≤ fds.spare }
+    requires counted { AreCounted store.old.opening objects.now }
+    requires references { REFERENCES_ROOM ≤ store.old.reference_room }
     ensures state { stored_state store.new ≡ record (stored_state store.old) { tables = tables_after_collect (stored_state store.old) p.0 objects.now } }
     ensures answer { (r : Call) → r.rsize ≡ rsize → result ≡ results_answer (stored_state store.old) p.0 r bytes objects.now }
     ensures pools { store.new.pools ≡ store.old.pools }
     ensures latest { store.new.latest ≡ store.old.latest }
+    ensures opening { store.new.opening ≡ store.old.opening }
     ensures notice_room { store.old.notices.spare ≤ store.new.notices.spare }
 {
     if !store.has_room(p, objects) {
@@ -411,10 +428,13 @@ fn hand_results(
 fn outcome(store: &mut Store, p: Pid, call: Option<Call>, fds: Room<Fd>) -> Answer
     requires empty { fds.items ≡ [] }
     requires spare { length (objects_collected_in call) ≤ fds.spare }
+    requires counted { AreCounted store.old.opening (objects_collected_in call) }
+    requires references { REFERENCES_ROOM ≤ store.old.reference_room }
     ensures state { stored_state store.new ≡ record (stored_state store.old) { tables = tables_after_collect (stored_state store.old) p.0 (objects_collected_in call) } }
     ensures answer { result ≡ collect_answer_in (stored_state store.old) p.0 call }
     ensures pools { store.new.pools ≡ store.old.pools }
     ensures latest { store.new.latest ≡ store.old.latest }
+    ensures opening { store.new.opening ≡ store.old.opening }
     ensures notice_room { store.old.notices.spare ≤ store.new.notices.spare }
 {
     let Some(Call { rsize, stage, .. }) = call else {
@@ -437,10 +457,12 @@ pub fn collect(store: &mut Store, t: Tid, p: Pid, c: u32, fds: Room<Fd>) -> Answ
     requires not_dormant { is_dormant (state_of (stored_state store.old) t.0) ≡ false }
     requires empty { fds.items ≡ [] }
     requires spare { length (objects_to_collect (stored_state store.old) c) ≤ fds.spare }
+    requires references { REFERENCES_ROOM ≤ store.old.reference_room }
     ensures state { StandsFor (stored_state store.new) (collect (stored_state store.old) t.0 p.0 c).state }
     ensures answer { result ≡ (collect (stored_state store.old) t.0 p.0 c).answer }
     ensures pools { store.new.pools ≡ store.old.pools }
     ensures latest { store.new.latest ≡ store.old.latest }
+    ensures opening { store.new.opening ≡ store.old.opening }
     ensures notice_room { store.old.notices.spare ≤ store.new.notices.spare }
 {
     let call = store.collect_call(c);

@@ -1,20 +1,23 @@
 //! One event: the memory that it can need is taken first, then the act, and what follows it.
-ghost use Rattle.std.specs.Prelude.{◌≡◌, ℕ, ◌+◌, ◌<◌, ◌≤◌, false, length, true, Some, None, IfOk, OnOk, OnErr};
+ghost use Rattle.std.specs.Prelude.{◌≡◌, ℕ, ◌+◌, ◌<◌, ◌≤◌, List, Option, false, length, true, Some, None, IfOk, OnOk, OnErr};
 ghost use Rattle.std.specs.Option.{option_map};
 ghost use Rattle.dk_base.specs.declared.limits.TheConstants.{EVENTS_MAX, THREADS_MAX};
 ghost use Rattle.written_kernel.specs.Words.{IsStep, State, act, forget, has_invalid_door, has_lost_door, is_live_process, is_running, step, with_event_counted, with_new_thread, woken_threads};
 ghost use Rattle.kernel_core.specs.Kept.{HasNothingPast};
 ghost use Rattle.kernel_core.specs.Numbers.{HasNumbersLeft};
 ghost use Rattle.kernel_invariant.specs.Events.{is_leaving};
-ghost use Rattle.pool_agreement.specs.Words.{IsGivenOut, first_common_of, makes_first_common, pool_of_request};
-ghost use Rattle.kernel_store.specs.Words.{ArePlaced, HasRoom, stored_state};
+ghost use Rattle.pool_agreement.specs.Words.{IsGivenOut, IsGivenOutBut, first_common_of, makes_first_common, pool_of_request};
+ghost use Rattle.kernel_store.specs.Words.{ArePlaced, HasRoom, HasRoomForNotices, HasRoomToLeave, stored_state};
+ghost use Rattle.written_kernel.specs.Types.{Pool, Request};
+ghost use Rattle.kernel_core.specs.Acted.{HasActed};
+ghost use Rattle.kernel_core.specs.declared.event.Parts.{Parts};
 ghost use Rattle.kernel_core.specs.Watched.{IsReadyForNotices};
 ghost use Rattle.kernel_core.specs.Woken.{IsCurrent, IsReady, IsReadyToSettle};
 
 use crate::acts::{count_passed, enter, go_on, is_leaving};
 use crate::descriptors::door_named;
 use crate::doors::{count_at_end, create_refusal};
-use crate::notices::{settle_leaving, settle_staying, watched_doors};
+use crate::notices::{settle, watched_doors};
 use crate::runnable::Runnable;
 use dk_base::answer::Answer;
 use dk_base::error::NoMemory;
@@ -81,6 +84,23 @@ struct Taken {
     had: Room<bool>,
 }
 
+/// Takes the memory that threads can need which park again as their callers leave, if they leave.
+fn reserve_leaving(store: &mut Store, leaves: bool) -> Result<(), NoMemory>
+    ensures state { stored_state store.new ≡ stored_state store.old }
+    ensures given_out { IsGivenOut store.old.pools → IsGivenOut store.new.pools }
+    ensures latest { store.new.latest ≡ store.old.latest }
+    ensures opening { store.new.opening ≡ store.old.opening }
+    ensures room { leaves ≡ true → OnOk result (HasRoomToLeave store.new) }
+    ensures kept { (touched : Pool) → HasRoom store.old touched → HasRoom store.new touched }
+    ensures kept_for_notices { (ds : List ℕ) → HasRoomForNotices store.old ds → HasRoomForNotices store.new ds }
+{
+    if leaves {
+        store.reserve_leaving()
+    } else {
+        Ok(())
+    }
+}
+
 impl Parts {
     /// Another thread of a process.
     pub fn add_thread(&mut self, process: Pid, spare: bool) -> Result<Tid, NoMemory>
@@ -100,20 +120,23 @@ impl Parts {
         Ok(thread)
     }
 
-    /// Takes the memory that an event can need which touches this pool, which changes nothing else. One that hands over objects
-    /// needs room for them besides.
-    fn reserve(&mut self, alloc: Global, touched: Pool) -> Result<Taken, NoMemory>
+    /// The step begins that an event is, and takes the memory that it can need where it touches this pool and where callers, threads or
+    /// doors may leave by it, which changes nothing else. One that hands over objects needs room for them besides.
+    fn reserve(&mut self, alloc: Global, touched: Pool, leaves: bool) -> Result<Taken, NoMemory>
         requires { ArePlaced (stored_state self.old.store) }
         ensures state { stored_state self.new.store ≡ stored_state self.old.store }
         ensures runnable { self.new.runnable ≡ self.old.runnable }
         ensures given_out { IsGivenOut self.old.store.pools → IsGivenOut self.new.store.pools }
         ensures latest { self.new.store.latest ≡ self.old.store.latest }
         ensures room { OnOk result (HasRoom self.new.store touched) }
+        ensures leaving_room { leaves ≡ true → OnOk result (HasRoomToLeave self.new.store) }
         ensures ready { IfOk result (λ taken. IsReady self.new taken) }
     {
+        self.store.start_step();
         self.store.reserve(touched)?;
         let watched = watched_doors(&self.store, alloc)?;
         self.store.reserve_notices(watched.slice())?;
+        reserve_leaving(&mut self.store, leaves)?;
         self.store.notices();
         let woken = Room::with_room(alloc, self.store.processes().thread_count() as usize)?;
         let had = Room::with_room(alloc, self.store.processes().process_count() as usize)?;
@@ -143,79 +166,31 @@ impl Parts {
         }
     }
 
-    /// The event of an entry by which no caller, thread or door leaves.
-    #[tactic(auto, unfolding(written_kernel::specs::Step::step))]
-    fn enter_staying(
+    /// What follows the act of an event that touched this pool, and by which callers, threads or doors may have left if it `leaves`, on
+    /// what was taken for it. `first` is the process whose first common door the act made.
+    fn finish(
         &mut self,
-        alloc: Global,
-        t: Tid,
-        request: Request,
-    ) -> Result<Stepped, NoMemory>
-        requires running { is_running (stored_state self.old.store) t.0 ≡ true }
-        requires numbers { HasNumbersLeft (stored_state self.old.store) }
-        requires none_past { HasNothingPast (stored_state self.old.store) }
-        requires current { IsCurrent self.old.runnable (stored_state self.old.store) }
-        requires placed { ArePlaced (stored_state self.old.store) }
-        requires noticing { IsReadyForNotices (stored_state self.old.store) (forget (act (stored_state self.old.store) t.0 (Some request)).state) }
-        requires stays { is_leaving request ≡ false }
-        requires none_lost { (u : ℕ) → has_lost_door (act (stored_state self.old.store) t.0 (Some request)).state u ≡ false }
-        requires given_out { IsGivenOut self.old.store.pools }
-        requires parked { self.old.store.latest ≤ self.old.store.events }
-        ensures step { IfOk result (λ s. IsStep (step (stored_state self.old.store) t.0 (Some request)) (stored_state self.new.store) s) }
+        taken: Taken,
+        touched: Pool,
+        leaves: bool,
+        first: Option<Pid>,
+        answer: Answer,
+    ) -> Stepped
+        requires acted { (m : State) × (t : ℕ) × (q : Option Request) × (before : Parts) × HasActed m t q before self.old taken (option_map (λ p. p.0) first) answer }
+        requires given_out { leaves ≡ false → IsGivenOutBut touched self.old.store.pools }
+        requires none_lost { leaves ≡ false → (u : ℕ) → has_lost_door (stored_state self.old.store) u ≡ false }
+        ensures step { (m : State) (t : ℕ) (q : Option Request) (before : Parts) → HasActed m t q before self.old taken (option_map (λ p. p.0) first) answer → IsStep (step m t q) (stored_state self.new.store) result }
         ensures current { IsCurrent self.new.runnable (stored_state self.new.store) }
-        ensures err { OnErr result (stored_state self.new.store ≡ stored_state self.old.store) }
         ensures given_out { IsGivenOut self.new.store.pools }
         ensures parked { self.new.store.latest ≤ self.new.store.events }
     {
-        let touched = pool_of_request(&self.store, t, &request);
-        let taken = self.reserve(alloc, touched)?;
-        let objects = Room::with_room(alloc, count_passed(&request))?;
-        let first = first_common(&self.store, t, &request);
-        let answer = enter(&mut self.store, alloc, t, request, objects);
         let Taken {
             woken,
             watched,
             had,
         } = taken;
-        settle_staying(&mut self.store, watched.slice(), had, touched, first);
-        Ok(self.end_event(woken, answer))
-    }
-
-    /// The event of an entry by which callers, threads or doors leave.
-    #[tactic(auto, unfolding(written_kernel::specs::Step::step))]
-    fn enter_leaving(
-        &mut self,
-        alloc: Global,
-        t: Tid,
-        request: Request,
-    ) -> Result<Stepped, NoMemory>
-        requires running { is_running (stored_state self.old.store) t.0 ≡ true }
-        requires numbers { HasNumbersLeft (stored_state self.old.store) }
-        requires none_past { HasNothingPast (stored_state self.old.store) }
-        requires current { IsCurrent self.old.runnable (stored_state self.old.store) }
-        requires placed { ArePlaced (stored_state self.old.store) }
-        requires noticing { IsReadyForNotices (stored_state self.old.store) (forget (act (stored_state self.old.store) t.0 (Some request)).state) }
-        requires leaves { is_leaving request ≡ true }
-        requires given_out { IsGivenOut self.old.store.pools }
-        requires parked { self.old.store.latest ≤ self.old.store.events }
-        ensures step { IfOk result (λ s. IsStep (step (stored_state self.old.store) t.0 (Some request)) (stored_state self.new.store) s) }
-        ensures current { IsCurrent self.new.runnable (stored_state self.new.store) }
-        ensures err { OnErr result (stored_state self.new.store ≡ stored_state self.old.store) }
-        ensures given_out { IsGivenOut self.new.store.pools }
-        ensures parked { self.new.store.latest ≤ self.new.store.events }
-    {
-        let touched = pool_of_request(&self.store, t, &request);
-        let taken = self.reserve(alloc, touched)?;
-        let objects = Room::with_room(alloc, count_passed(&request))?;
-        self.store.reserve_leaving()?;
-        let answer = enter(&mut self.store, alloc, t, request, objects);
-        let Taken {
-            woken,
-            watched,
-            had,
-        } = taken;
-        settle_leaving(&mut self.store, watched.slice(), had);
-        Ok(self.end_event(woken, answer))
+        settle(&mut self.store, watched, had, touched, leaves, first);
+        self.end_event(woken, answer)
     }
 
     /// The event of a kernel entry.
@@ -235,73 +210,16 @@ impl Parts {
         ensures given_out { IsGivenOut self.new.store.pools }
         ensures parked { self.new.store.latest ≤ self.new.store.events }
     {
-        if is_leaving(&request) {
-            self.enter_leaving(alloc, t, request)
-        } else {
-            self.enter_staying(alloc, t, request)
-        }
+        let leaves = is_leaving(&request);
+        let touched = pool_of_request(&self.store, t, &request);
+        let taken = self.reserve(alloc, touched, leaves)?;
+        let objects = Room::with_room(alloc, count_passed(&request))?;
+        let first = first_common(&self.store, t, &request);
+        let answer = enter(&mut self.store, alloc, t, request, objects);
+        Ok(self.finish(taken, touched, leaves, first, answer))
     }
 
-    /// The event of the end of a wait of a thread that is not bound to an invalid door.
-    #[tactic(auto, unfolding(written_kernel::specs::Step::step))]
-    fn go_on_served(&mut self, alloc: Global, t: Tid) -> Result<Stepped, NoMemory>
-        requires numbers { HasNumbersLeft (stored_state self.old.store) }
-        requires none_past { HasNothingPast (stored_state self.old.store) }
-        requires current { IsCurrent self.old.runnable (stored_state self.old.store) }
-        requires placed { ArePlaced (stored_state self.old.store) }
-        requires noticing { IsReadyForNotices (stored_state self.old.store) (forget (act (stored_state self.old.store) t.0 None).state) }
-        requires none_lost { (u : ℕ) → has_lost_door (act (stored_state self.old.store) t.0 None).state u ≡ false }
-        requires given_out { IsGivenOut self.old.store.pools }
-        requires parked { self.old.store.latest ≤ self.old.store.events }
-        ensures step { IfOk result (λ s. IsStep (step (stored_state self.old.store) t.0 None) (stored_state self.new.store) s) }
-        ensures current { IsCurrent self.new.runnable (stored_state self.new.store) }
-        ensures err { OnErr result (stored_state self.new.store ≡ stored_state self.old.store) }
-        ensures given_out { IsGivenOut self.new.store.pools }
-        ensures parked { self.new.store.latest ≤ self.new.store.events }
-    {
-        let touched = self.store.own_pool(t);
-        let taken = self.reserve(alloc, touched)?;
-        let fds = Room::with_room(alloc, count_at_end(&self.store, t))?;
-        let answer = go_on(&mut self.store, alloc, t, fds);
-        let Taken {
-            woken,
-            watched,
-            had,
-        } = taken;
-        settle_staying(&mut self.store, watched.slice(), had, touched, None);
-        Ok(self.end_event(woken, answer))
-    }
-
-    /// The event of the end of a wait of a thread that is bound to an invalid door: where it parks again, it wakes with EINVAL.
-    #[tactic(auto, unfolding(written_kernel::specs::Step::step))]
-    fn go_on_unserved(&mut self, alloc: Global, t: Tid) -> Result<Stepped, NoMemory>
-        requires numbers { HasNumbersLeft (stored_state self.old.store) }
-        requires none_past { HasNothingPast (stored_state self.old.store) }
-        requires current { IsCurrent self.old.runnable (stored_state self.old.store) }
-        requires placed { ArePlaced (stored_state self.old.store) }
-        requires noticing { IsReadyForNotices (stored_state self.old.store) (forget (act (stored_state self.old.store) t.0 None).state) }
-        requires given_out { IsGivenOut self.old.store.pools }
-        requires parked { self.old.store.latest ≤ self.old.store.events }
-        ensures step { IfOk result (λ s. IsStep (step (stored_state self.old.store) t.0 None) (stored_state self.new.store) s) }
-        ensures current { IsCurrent self.new.runnable (stored_state self.new.store) }
-        ensures err { OnErr result (stored_state self.new.store ≡ stored_state self.old.store) }
-        ensures given_out { IsGivenOut self.new.store.pools }
-        ensures parked { self.new.store.latest ≤ self.new.store.events }
-    {
-        let touched = self.store.own_pool(t);
-        let taken = self.reserve(alloc, touched)?;
-        let fds = Room::with_room(alloc, count_at_end(&self.store, t))?;
-        let answer = go_on(&mut self.store, alloc, t, fds);
-        let Taken {
-            woken,
-            watched,
-            had,
-        } = taken;
-        settle_leaving(&mut self.store, watched.slice(), had);
-        Ok(self.end_event(woken, answer))
-    }
-
-    /// The event of the end of a wait.
+    /// The event of the end of a wait. A thread that is bound to an invalid door wakes with EINVAL where it parks again.
     pub fn go_on(&mut self, alloc: Global, t: Tid) -> Result<Stepped, NoMemory>
         requires numbers { HasNumbersLeft (stored_state self.old.store) }
         requires none_past { HasNothingPast (stored_state self.old.store) }
@@ -317,10 +235,11 @@ impl Parts {
         ensures given_out { IsGivenOut self.new.store.pools }
         ensures parked { self.new.store.latest ≤ self.new.store.events }
     {
-        if self.store.has_invalid_door(t) {
-            self.go_on_unserved(alloc, t)
-        } else {
-            self.go_on_served(alloc, t)
-        }
+        let loses = self.store.has_invalid_door(t);
+        let touched = self.store.own_pool(t);
+        let taken = self.reserve(alloc, touched, false)?;
+        let fds = Room::with_room(alloc, count_at_end(&self.store, t))?;
+        let answer = go_on(&mut self.store, alloc, t, fds);
+        Ok(self.finish(taken, touched, loses, None, answer))
     }
 }

@@ -6,7 +6,6 @@ ghost use Rattle.written_kernel.specs.Words.{credentials, credentials_tests, doo
 ghost use Rattle.kernel_store.specs.Words.{stored_state};
 
 use crate::descriptors::door_named;
-use crate::references::references;
 use dk_base::answer::Answer;
 use dk_base::error::Errno;
 use dk_base::number::{Fd, Pid, Tid};
@@ -25,11 +24,10 @@ pub fn door_refusal(store: &Store, p: Pid, fd: Fd) -> Option<Errno>
 }
 
 /// What a process is told of a door.
-#[tactic(auto, using(crate::proofs::Counted::told_of_two))]
 pub fn information_of(store: &Store, p: Pid, door: u32) -> Answer
     ensures { result ≡ (information_of (stored_state store.now) p.0 door).answer }
 {
-    Answer::Info(store.doors().info(door, p, references(store, door)))
+    Answer::Info(store.doors().info(door, p, store.references(door)))
 }
 
 /// door_info(3C): what the process is told of the door.
@@ -70,6 +68,7 @@ pub fn set_parameter(store: &mut Store, p: Pid, fd: Fd, param: Param, value: u64
     ensures answer { result ≡ (set_parameter (stored_state store.old) p.0 fd param value).answer }
     ensures pools { store.new.pools ≡ store.old.pools }
     ensures latest { store.new.latest ≡ store.old.latest }
+    ensures opening { store.new.opening ≡ store.old.opening }
     ensures notice_room { store.old.notices.spare ≤ store.new.notices.spare }
 {
     let door = door_named(store, p, fd);

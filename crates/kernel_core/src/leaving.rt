@@ -29,6 +29,7 @@ pub fn interrupt(store: &mut Store, alloc: Global, thread: Tid) -> Answer
     ensures state { StandsFor (stored_state store.new) (interrupt (stored_state store.old) thread.0).state }
     ensures answer { result ≡ (interrupt (stored_state store.old) thread.0).answer }
     ensures latest { store.new.latest ≤ now (stored_state store.old) }
+    ensures opening { store.new.opening ≡ store.old.opening }
     ensures notice_room { store.old.notices.spare ≤ store.new.notices.spare }
     ensures items { (pool : Pool) → item_room_in store.old.pools pool ≤ item_room_in store.new.pools pool + 1 }
 {
@@ -44,6 +45,7 @@ fn leave_process(store: &mut Store, alloc: Global, p: Pid)
     requires first { store.old.latest ≤ store.old.events }
     ensures state { StandsFor (stored_state store.new) (leave_process (stored_state store.old) p.0) }
     ensures latest { store.new.latest ≤ now (stored_state store.old) }
+    ensures opening { store.new.opening ≡ store.old.opening }
     ensures notice_room { store.old.notices.spare ≤ store.new.notices.spare }
     ensures items { (pool : Pool) → item_room_in store.old.pools pool ≤ item_room_in store.new.pools pool + 1 }
 {
@@ -60,6 +62,7 @@ pub fn exit(store: &mut Store, alloc: Global, t: Tid, p: Pid) -> Answer
     ensures state { StandsFor (stored_state store.new) (exit (stored_state store.old) t.0 p.0).state }
     ensures answer { result ≡ (exit (stored_state store.old) t.0 p.0).answer }
     ensures latest { store.new.latest ≤ now (stored_state store.old) }
+    ensures opening { store.new.opening ≡ store.old.opening }
     ensures notice_room { store.old.notices.spare ≤ store.new.notices.spare }
     ensures items { (pool : Pool) → item_room_in store.old.pools pool ≤ item_room_in store.new.pools pool + 1 }
 {
@@ -81,6 +84,7 @@ pub fn kill(store: &mut Store, alloc: Global, p: Pid) -> Answer
     ensures state { StandsFor (stored_state store.new) (kill (stored_state store.old) p.0).state }
     ensures answer { result ≡ (kill (stored_state store.old) p.0).answer }
     ensures latest { store.new.latest ≤ now (stored_state store.old) }
+    ensures opening { store.new.opening ≡ store.old.opening }
     ensures notice_room { store.old.notices.spare ≤ store.new.notices.spare }
     ensures items { (pool : Pool) → item_room_in store.old.pools pool ≤ item_room_in store.new.pools pool + 1 }
 {
@@ -108,6 +112,7 @@ pub fn revoke(store: &mut Store, alloc: Global, p: Pid, fd: Fd) -> Answer
     ensures state { StandsFor (stored_state store.new) (revoke (stored_state store.old) p.0 fd).state }
     ensures answer { result ≡ (revoke (stored_state store.old) p.0 fd).answer }
     ensures latest { store.new.latest ≤ now (stored_state store.old) }
+    ensures opening { store.new.opening ≡ store.old.opening }
     ensures notice_room { store.old.notices.spare ≤ store.new.notices.spare }
     ensures items { (pool : Pool) → item_room_in store.old.pools pool ≤ item_room_in store.new.pools pool + 1 }
 {
@@ -136,6 +141,7 @@ pub fn wake(store: &mut Store, t: Tid) -> Answer
     ensures answer { result ≡ (wake (stored_state store.old) t.0).answer }
     ensures pools { store.new.pools ≡ store.old.pools }
     ensures latest { store.new.latest ≡ store.old.latest }
+    ensures opening { store.new.opening ≡ store.old.opening }
     ensures notice_room { store.old.notices.spare ≤ store.new.notices.spare }
 {
     store.turn(t, ThreadState::Running);

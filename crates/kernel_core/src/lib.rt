@@ -12,6 +12,5 @@ pub mod kernel;
 mod leaving;
 mod notices;
 mod numbered;
-mod references;
 mod runnable;
 mod turns;

@@ -5,10 +5,9 @@ ghost use Rattle.std.specs.Option.{option_map};
 ghost use Rattle.dk_base.specs.declared.limits.TheConstants.{EVENTS_MAX};
 ghost use Rattle.written_kernel.specs.Words.{State, give, has_first_common_door, has_lost_door, make_notices, now, settle};
 ghost use Rattle.pool_agreement.specs.Words.{IsGivenOut, IsGivenOutBut, is_this};
-ghost use Rattle.kernel_store.specs.Words.{ArePlaced, CanMake, StoreValue, stored_state};
-ghost use Rattle.kernel_core.specs.Watched.{HadRoomForNotices, KeepsDoors, make_due, watched};
+ghost use Rattle.kernel_store.specs.Words.{ArePlaced, CanMake, HasBegun, StoreValue, stored_state};
+ghost use Rattle.kernel_core.specs.Watched.{HadRoomForNotices, KeepsDoors, make_of, watched};
 
-use crate::references::references;
 use dk_base::error::NoMemory;
 use dk_base::list::Room;
 use dk_base::number::Pid;
@@ -23,107 +22,96 @@ pub fn watched_doors(store: &Store, alloc: Global) -> Result<Room<u32>, NoMemory
     let noticed = store.doors().notice_doors();
     let mut watched = Room::with_room(alloc, noticed.len())?;
     for d in noticed {
-        if references(store, *d) > 1 {
+        if store.references(*d) > 1 {
             watched.push(*d);
         }
     }
     Ok(watched)
 }
 
-/// A notice is made of a door of which one reference is left, where it may have one. Says whether one was made.
-fn make_one_due(store: &mut Store, d: u32) -> bool
+/// A notice is made of a door where it may have one. Says whether one was made.
+fn make_one(store: &mut Store, d: u32) -> bool
     requires placed { ArePlaced (stored_state store.old) }
     requires few { store.old.events < EVENTS_MAX }
     requires first { store.old.latest ≤ now (stored_state store.old) }
     requires room { (ds : List ℕ) × CanMake store.old (d ∷ ds) }
-    ensures state { stored_state store.new ≡ make_due (stored_state store.old) (d ∷ []) }
+    ensures state { stored_state store.new ≡ make_of (stored_state store.old) (d ∷ []) }
     ensures none { result ≡ false → store.new ≡ store.old }
     ensures placed { ArePlaced (stored_state store.new) }
     ensures latest { store.new.latest ≤ now (stored_state store.old) }
     ensures left { (ds : List ℕ) → CanMake store.old (d ∷ ds) → CanMake store.new ds }
 {
-    if references(store, d) != 1 || !store.may_have_notice(d) {
+    if !store.may_have_notice(d) {
         return false;
     }
     store.make_notice(d);
     true
 }
 
-/// A notice is made of each of these doors that is due after the act, in order. Says whether any was made.
-fn make_due(store: &mut Store, ds: &[u32]) -> bool
+/// A notice is made of each of these doors that may have one, in order. Says whether any was made.
+fn make_all(store: &mut Store, ds: &[u32]) -> bool
     requires placed { ArePlaced (stored_state store.old) }
     requires few { store.old.events < EVENTS_MAX }
     requires first { store.old.latest ≤ now (stored_state store.old) }
     requires room { CanMake store.old ds.now }
-    ensures state { stored_state store.new ≡ make_due (stored_state store.old) ds.now }
+    ensures state { stored_state store.new ≡ make_of (stored_state store.old) ds.now }
     ensures none { result ≡ false → store.new ≡ store.old }
     ensures latest { store.new.latest ≤ now (stored_state store.old) }
 {
     let mut made = false;
     for d in ds {
-        if make_one_due(store, *d) {
+        if make_one(store, *d) {
             made = true;
         }
     }
     made
 }
 
-/// The same, where the room was taken before the act.
-fn make_watched(store: &mut Store, ds: &[u32]) -> bool
+/// A notice is made of each door that is due after the act of an event. The room was taken before it, and the doors that were watched
+/// then give the room to list those whose references have fallen to one. Says whether any was made.
+fn make_notices(store: &mut Store, mut ds: Room<u32>) -> bool
     requires placed { ArePlaced (stored_state store.old) }
     requires few { store.old.events < EVENTS_MAX }
     requires first { store.old.latest ≤ now (stored_state store.old) }
-    requires room { (before : StoreValue) × HadRoomForNotices before store.old ds.now }
-    ensures state { (before : State) → ds.now ≡ watched before → KeepsDoors before (stored_state store.old) → stored_state store.new ≡ make_notices before (stored_state store.old) }
+    requires room { (before : StoreValue) × HadRoomForNotices before store.old ds.items }
+    ensures state { (before : State) → ds.items ≡ watched before → KeepsDoors before (stored_state store.old) → HasBegun store.old.opening before → stored_state store.new ≡ make_notices before (stored_state store.old) }
     ensures processes { length store.new.processes.processes ≡ length store.old.processes.processes }
     ensures none { result ≡ false → store.new ≡ store.old }
     ensures latest { store.new.latest ≤ now (stored_state store.old) }
 {
     // its clause says here that the pools hold what the records say
     store.notices();
-    make_due(store, ds)
+    ds.clear();
+    store.end_of_step(&mut ds);
+    make_all(store, ds.slice())
 }
 
-/// What follows the act of an event by which no caller, thread or door leaves, and that touched this pool. `first` is the process
-/// whose first common door the act made. Where a notice was made, other pools may have an idle thread for it.
-pub fn settle_staying(
+/// What follows the act of an event that touched this pool, and by which callers, threads or doors may have left if it `leaves`. `first`
+/// is the process whose first common door the act made. Where a notice was made, other pools may have an idle thread for it.
+pub fn settle(
     store: &mut Store,
-    ds: &[u32],
+    ds: Room<u32>,
     had: Room<bool>,
     touched: Pool,
+    leaves: bool,
     first: Option<Pid>,
 )
     requires placed { ArePlaced (stored_state store.old) }
     requires few { store.old.events < EVENTS_MAX }
     requires first { store.old.latest ≤ now (stored_state store.old) }
-    requires room { (before : StoreValue) × HadRoomForNotices before store.old ds.now }
+    requires room { (before : StoreValue) × HadRoomForNotices before store.old ds.items }
     requires empty { had.items ≡ [] }
     requires flags { length store.old.processes.processes ≤ had.spare }
-    requires given_out { IsGivenOutBut touched store.old.pools }
-    requires none_lost { (u : ℕ) → has_lost_door (stored_state store.old) u ≡ false }
-    ensures state { (before : State) → ds.now ≡ watched before → KeepsDoors before (stored_state store.old) → ((p : ℕ) → has_first_common_door before (give (stored_state store.old)) p ≡ is_this p (option_map (λ p. p.0) first)) → stored_state store.new ≡ settle before (stored_state store.old) }
+    requires given_out { leaves ≡ false → IsGivenOutBut touched store.old.pools }
+    requires none_lost { leaves ≡ false → (u : ℕ) → has_lost_door (stored_state store.old) u ≡ false }
+    ensures state { (before : State) → ds.items ≡ watched before → KeepsDoors before (stored_state store.old) → HasBegun store.old.opening before → ((p : ℕ) → has_first_common_door before (give (stored_state store.old)) p ≡ is_this p (option_map (λ p. p.0) first)) → stored_state store.new ≡ settle before (stored_state store.old) }
     ensures given_out { IsGivenOut store.new.pools }
     ensures latest { store.new.latest ≤ now (stored_state store.old) }
 {
-    if make_watched(store, ds) {
+    let made = make_notices(store, ds);
+    if made || leaves {
         store.settle_all(had, first);
     } else {
         store.settle(touched, first);
     }
-}
-
-/// The same of an event by which callers, threads or doors may leave, and no door is made.
-pub fn settle_leaving(store: &mut Store, ds: &[u32], had: Room<bool>)
-    requires placed { ArePlaced (stored_state store.old) }
-    requires few { store.old.events < EVENTS_MAX }
-    requires first { store.old.latest ≤ now (stored_state store.old) }
-    requires room { (before : StoreValue) × HadRoomForNotices before store.old ds.now }
-    requires empty { had.items ≡ [] }
-    requires flags { length store.old.processes.processes ≤ had.spare }
-    ensures state { (before : State) → ds.now ≡ watched before → KeepsDoors before (stored_state store.old) → ((p : ℕ) → has_first_common_door before (give (stored_state store.old)) p ≡ false) → stored_state store.new ≡ settle before (stored_state store.old) }
-    ensures given_out { IsGivenOut store.new.pools }
-    ensures latest { store.new.latest ≤ now (stored_state store.old) }
-{
-    make_watched(store, ds);
-    store.settle_all(had, None);
 }

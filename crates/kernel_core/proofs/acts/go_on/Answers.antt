@@ -1,4 +1,4 @@
-use Rattle.std.proofs.Common.{arith}
+use Rattle.std.proofs.Common.{arith, refl}
 use Rattle.written_kernel.specs.Words.{go_on, process_of, state_of}
 use Rattle.kernel_store.specs.Words.{stored_state}
 use Rattle.kernel_core.proofs.Live.{go_on_past, is_kept}
@@ -42,6 +42,7 @@ returns-in_default c =
       answer = grind arith;
       given_out = λ h pool e. h pool;
       latest = omega (arith, c.requires.first);
+      opening = refl;
       notice_room = omega arith;
       items = λ pool. omega arith;
     }

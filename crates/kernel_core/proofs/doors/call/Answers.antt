@@ -1,9 +1,11 @@
-use Rattle.std.proofs.Common.{◌<◌, ap, sym, subst, ◌∙◌}
+use Rattle.std.proofs.Common.{◌≡◌, ◌<◌, ◌++◌, ap, sym, subst, ◌∙◌}
 use Rattle.dk_base.specs.declared.limits.TheConstants.{QUEUE_MAX}
+use Rattle.kernel_records.specs.Words.{objects_passed}
 use Rattle.written_kernel.specs.Types.{Call}
-use Rattle.written_kernel.specs.Words.{State, calls_waiting, is_valid, pool_of}
+use Rattle.written_kernel.specs.Words.{State, calls_waiting, is_valid, pool_of, table_of}
+use Rattle.unref_notice.specs.Words.{AreCounted}
 use Rattle.kernel_store.specs.Words.{stored_state}
-use Rattle.kernel_core.proofs.Tests.{called_valid, not_full}
+use Rattle.kernel_core.proofs.Tests.{called_once, called_valid, not_full}
 use Rattle.kernel_core.proofs.doors.call.Goals as goal
 
 pub open_call-requires-clause-few : goal.open_call-requires-clause-few
@@ -21,3 +23,14 @@ open_call-requires-clause-door c =
     ap (λ (k : State). is_valid k c.new_call-call.result.door) c.take_out.ensures.state
     ∙ ap (is_valid m) door
     ∙ called_valid m c.args.p.0 c.args.fd c.args.bytes c.args.pass.now c.requires.allowed
+
+pub take_out-requires-clause-once : goal.take_out-requires-clause-once
+take_out-requires-clause-once c =
+    called_once (stored_state c.args.store.now) c.args.p.0 c.args.fd c.args.bytes c.args.pass.now c.requires.allowed
+
+pub open_call-requires-clause-counted : goal.open_call-requires-clause-counted
+open_call-requires-clause-counted c =
+    let passed = objects_passed (table_of (stored_state c.args.store.now) c.args.p.0) c.args.pass.now in
+    let objects : c.new_call-call.result.objects ≡ passed =
+    ap (λ (r : Call). r.objects) c.new_call-call.ensures ∙ c.into_list.ensures ∙ c.take_out.ensures.items ∙ ap (λ os. os ++ passed) c.requires.empty in
+    subst (AreCounted c.take_out.new.self.opening) (sym objects) c.take_out.ensures.counted

@@ -26,5 +26,6 @@ returns c =
       answer = sym (ap (collect_answer_in m c.args.p.0) c.in-Some.is ∙ told.1);
       pools = refl;
       latest = refl;
+      opening = refl;
       notice_room = omega arith;
     }

@@ -1,8 +1,10 @@
-use Rattle.std.proofs.Common.{◌≡◌, ◌++◌, true, false, ap, sym, ◌∙◌}
+use Rattle.std.proofs.Common.{◌≡◌, ◌++◌, true, false, ap, sym, subst, ◌∙◌}
 use Rattle.kernel_records.specs.Words.{end_invocation, end_notice, kept_notices, objects_passed, park_thread, return_call, unbind_thread}
 use Rattle.written_kernel.specs.Words.{State, has_invalid_door, now, table_of, tables_after_pass}
+use Rattle.unref_notice.specs.Words.{AreCounted}
 use Rattle.kernel_store.specs.Words.{stored_state}
 use Rattle.kernel_core.proofs.Live.{return_stands}
+use Rattle.kernel_core.proofs.Tests.{returned_once}
 use Rattle.kernel_core.proofs.doors.return_from.Goals as goal
 
 pub returns-then-has_invalid_door-clause-state : goal.returns-then-has_invalid_door-clause-state
@@ -64,3 +66,21 @@ returns-clause-state c =
       notice_list = kept_notices m.doors (end_notice m.notice_list t);
     })
     objects)
+
+pub take_out-requires-clause-once : goal.take_out-requires-clause-once
+take_out-requires-clause-once c =
+    returned_once (stored_state c.args.store.now) c.args.t.0 c.args.p.0 c.args.bytes c.args.pass.now c.requires.allowed
+
+pub return_unbound-requires-clause-counted : goal.return_unbound-requires-clause-counted
+return_unbound-requires-clause-counted c =
+    let passed = objects_passed (table_of (stored_state c.args.store.now) c.args.p.0) c.args.pass.now in
+    let objects : c.into_list-objects.result ≡ passed =
+    c.into_list-objects.ensures ∙ c.take_out.ensures.items ∙ ap (λ os. os ++ passed) c.requires.empty in
+    subst (AreCounted c.take_out.new.self.opening) (sym objects) c.take_out.ensures.counted
+
+pub return_call-requires-clause-counted : goal.return_call-requires-clause-counted
+return_call-requires-clause-counted c =
+    let passed = objects_passed (table_of (stored_state c.args.store.now) c.args.p.0) c.args.pass.now in
+    let objects : c.into_list-objects.result ≡ passed =
+    c.into_list-objects.ensures ∙ c.take_out.ensures.items ∙ ap (λ os. os ++ passed) c.requires.empty in
+    subst (AreCounted c.take_out.new.self.opening) (sym objects) c.take_out.ensures.counted

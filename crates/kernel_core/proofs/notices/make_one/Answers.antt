@@ -3,7 +3,7 @@ use Rattle.std.specs.Prelude.{is_some}
 use Rattle.written_kernel.specs.Words.{door_of}
 use Rattle.kernel_store.specs.Words.{ArePlaced, stored_state}
 use Rattle.kernel_core.proofs.Making.{placed-with_notice_of, may_have_there}
-use Rattle.kernel_core.proofs.notices.make_one_due.Goals as goal
+use Rattle.kernel_core.proofs.notices.make_one.Goals as goal
 
 pub returns-clause-placed : goal.returns-clause-placed
 returns-clause-placed c =

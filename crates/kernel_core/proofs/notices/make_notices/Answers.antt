@@ -1,0 +1,47 @@
+use Rattle.std.proofs.Common.{◌≡◌, ◌++◌, ◌∙◌, ap, ap₂, length, filter, sym, subst, arith}
+use Rattle.kernel_records.specs.Words.{notice_doors}
+use Rattle.written_kernel.specs.Words.{State}
+use Rattle.kernel_store.specs.Words.{CanMake, StoreValue, has_fallen_since, stored_state}
+use Rattle.kernel_core.specs.Watched.{fallen, make_of}
+use Rattle.kernel_core.proofs.Acted.{can_make_fallen}
+use Rattle.kernel_core.proofs.Due.{make_of-is}
+use Rattle.kernel_core.proofs.Fallen.{fallen_is, shared_after}
+use Rattle.kernel_core.proofs.Making.{make_of-alone}
+use Rattle.kernel_core.proofs.notices.make_notices.Goals as goal
+
+pub end_of_step-requires-clause-room : goal.end_of_step-requires-clause-room
+end_of_step-requires-clause-room c =
+    let h = c.requires.room.1 in
+    let shared = shared_after (stored_state c.requires.room.0) (stored_state c.args.store.now) c.args.store.now.opening h.doors c.requires.placed.door_number h.opened in
+    omega (arith, ap length shared, ap length h.watched, c.clear.ensures.spare)
+
+pub make_all-requires-clause-room : goal.make_all-requires-clause-room
+make_all-requires-clause-room c =
+    let b = stored_state c.requires.room.0 in
+    let n = stored_state c.args.store.now in
+    let h = c.requires.room.1 in
+    let listed : c.slice.result.now ≡ fallen b n =
+    c.slice.ensures ∙ c.end_of_step.ensures.items
+    ∙ ap (λ ds. ds ++ filter (has_fallen_since c.args.store.now.opening n) (notice_doors n.doors)) c.clear.ensures.items
+    ∙ fallen_is b n c.args.store.now.opening h.opened in
+    subst (λ (s : StoreValue). CanMake s c.slice.result.now) (sym c.end_of_step.ensures.same)
+    (subst (CanMake c.args.store.now) (sym listed)
+    (can_make_fallen c.requires.room.0 c.args.store.now c.args.ds.items h c.notices.ensures.agreed c.requires.placed.door_number))
+
+pub returns-clause-state : goal.returns-clause-state
+returns-clause-state c =
+    λ before e h o.
+    let n = stored_state c.args.store.now in
+    let listed : c.slice.result.now ≡ fallen before n =
+    c.slice.ensures ∙ c.end_of_step.ensures.items
+    ∙ ap (λ ds. ds ++ filter (has_fallen_since c.args.store.now.opening n) (notice_doors n.doors)) c.clear.ensures.items
+    ∙ fallen_is before n c.args.store.now.opening o in
+    c.make_all.ensures.state
+    ∙ ap₂ (λ (s : StoreValue) ds. make_of (stored_state s) ds) c.end_of_step.ensures.same listed
+    ∙ make_of-is before n c.requires.placed.door_number
+
+pub returns-clause-processes : goal.returns-clause-processes
+returns-clause-processes c =
+    ap (λ (k : State). length k.process_table.processes)
+    (c.make_all.ensures.state ∙ make_of-alone (stored_state c.end_of_step.new.self) c.slice.result.now)
+    ∙ ap (λ (s : StoreValue). length s.processes.processes) c.end_of_step.ensures.same
