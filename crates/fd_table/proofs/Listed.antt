@@ -1,11 +1,9 @@
 -- What a table names, row by row, and what its rows are once each is closed.
-use Rattle.std.proofs.Common.{◌≡◌, ℕ, ◌+◌, ◌<◌, List, [], ◌∷◌, ◌++◌, Option, Some, None, length, get_or, take, drop, cond, count_by, refl, sym, ap, ◌∙◌, append_assoc, arith}
+use Rattle.std.proofs.Common.{◌≡◌, ℕ, ◌+◌, ◌<◌, List, [], ◌∷◌, ◌++◌, Option, Some, None, length, get_or, take, drop, refl, sym, ap, ◌∙◌, append_assoc, arith}
 use Rattle.std.proofs.lemmas.List.{append-nil, drop_all, length-map, take_all, take_more}
 use Rattle.std.proofs.lemmas.List.Elements.{filter_map-append}
-use Rattle.std.proofs.lemmas.List.Sums.{sum_by-cons}
 use Rattle.dk_base.specs.declared.object.Obj.{Obj}
-use Rattle.kernel_records.specs.Words.{close_table, count_object, free_row, is_object, objects_of, row_object}
-use Rattle.fd_table.specs.Rows.{names_object}
+use Rattle.kernel_records.specs.Words.{close_table, free_row, objects_of, row_object}
 
 objects_more :
     (t : List (Option Obj)) (i : ℕ) (row : Option Obj) → i < length t → get_or t i None ≡ row →
@@ -38,13 +36,3 @@ closed_rows t new n is long =
     let same : length new ≡ length t = ap length is ∙ length-map t free_row in
     let none = drop_all (length new) t (omega arith) in
     rw none (rw append-nil (take_all n new (omega arith) ∙ is))
-
--- the rows that name an object are as many as the objects that are named and are it
-pub counted : (o : Obj) (t : List (Option Obj)) → count_by (names_object o) t ≡ count_object o (objects_of t)
-counted o [] = refl
-counted o (None ∷ t) = let rest = counted o t in let more = sum_by-cons (λ row. cond (names_object o row) 1 0) None t in omega (arith, rest, more)
-counted o (Some p ∷ t) =
-    let rest = counted o t in
-    let more = sum_by-cons (λ row. cond (names_object o row) 1 0) (Some p) t in
-    let named = sum_by-cons (λ q. cond (is_object o q) 1 0) p (objects_of t) in
-    omega (arith, rest, more, named)

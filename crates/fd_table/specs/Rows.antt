@@ -1,17 +1,11 @@
 -- The lowest free row of a table as its code keeps it.
-use Rattle.std.specs.Prelude.{ℕ, List, Option, Bool, false, Some, None, is_none}
+use Rattle.std.specs.Prelude.{ℕ, List, Option, is_none}
 use Rattle.std.specs.List.{position_or_len}
 use Rattle.dk_base.specs.declared.object.Obj.{Obj}
-use Rattle.kernel_records.specs.Words.{is_object}
 
 -- the most rows of a table, which is the greatest 32-bit number
 abbrev pub ROWS_MAX : ℕ
 ROWS_MAX = 4294967295
-
--- a row that names this object
-abbrev pub names_object : Obj → Option Obj → Bool
-names_object o None = false
-names_object o (Some p) = is_object o p
 
 -- the lowest free row, or the number of rows where none is free
 abbrev pub lowest_row : List (Option Obj) → ℕ

@@ -1,7 +1,7 @@
 //! The rows of a table, one for each descriptor.
-ghost use Rattle.std.specs.Prelude.{◌≡◌, ◌+◌, ◌≤◌, ◌++◌, count_by, length};
-ghost use Rattle.kernel_records.specs.Words.{close_table, count_object, is_object, lowest_free, objects_of};
-ghost use Rattle.fd_table.specs.Rows.{ROWS_MAX, lowest_row, names_object};
+ghost use Rattle.std.specs.Prelude.{◌≡◌, ◌+◌, ◌≤◌, ◌++◌, length};
+ghost use Rattle.kernel_records.specs.Words.{close_table, lowest_free, objects_of};
+ghost use Rattle.fd_table.specs.Rows.{ROWS_MAX, lowest_row};
 
 use dk_base::list::Room;
 use dk_base::object::Obj;
@@ -43,40 +43,4 @@ pub fn list_objects(rows: &[Option<Obj>], into: &mut Room<Obj>)
             into.push(*object);
         }
     }
-}
-
-fn is_object(object: Obj, other: Obj) -> bool
-    ensures { result ≡ is_object object other }
-{
-    match (object, other) {
-        (Obj::Door(a), Obj::Door(b)) => a == b,
-        (Obj::Port(a), Obj::Port(b)) => a == b,
-        (Obj::PipeIn(a), Obj::PipeIn(b)) => a == b,
-        (Obj::PipeOut(a), Obj::PipeOut(b)) => a == b,
-        _ => false,
-    }
-}
-
-fn names_object(row: Option<Obj>, object: Obj) -> bool
-    ensures { result ≡ names_object object row }
-{
-    match row {
-        Some(named) => is_object(object, named),
-        None => false,
-    }
-}
-
-fn count_rows(rows: &[Option<Obj>], object: Obj) -> usize
-    ensures { result ≡ count_by (names_object object) rows.now }
-{
-    rows.iter()
-        .filter(|row| names_object(**row, object))
-        .count()
-}
-
-/// How many rows name an object.
-pub fn count_object(rows: &[Option<Obj>], object: Obj) -> usize
-    ensures { result ≡ count_object object (objects_of rows.now) }
-{
-    count_rows(rows, object)
 }

@@ -1,9 +1,9 @@
 //! The table of a process's descriptors.
 ghost use Rattle.std.specs.Prelude.{◌≡◌, ◌+◌, ◌<◌, ◌≤◌, ◌++◌, List, Option, Some, None, IfOk, IfErr, OnOk, OnErr, is_none, length};
-ghost use Rattle.kernel_records.specs.Words.{close_row, close_table, count_object, descriptor, empty_table, first_refusal, free_place, free_rows, insert_row, insert_rows, lowest_free, new_descriptors, object_named, objects_of};
+ghost use Rattle.kernel_records.specs.Words.{close_row, close_table, descriptor, empty_table, first_refusal, free_place, free_rows, insert_row, insert_rows, lowest_free, new_descriptors, object_named, objects_of};
 ghost use Rattle.fd_table.specs.Duplicated.{dup_row, dup_tests};
 
-use crate::rows::{close_rows, count_object, list_objects, lowest_from};
+use crate::rows::{close_rows, list_objects, lowest_from};
 use dk_base::error::{Errno, NoMemory};
 use dk_base::list::{ObjList, Room};
 use dk_base::number::Fd;
@@ -90,13 +90,6 @@ impl FdTable {
             Some(row) => *row,
             None => None,
         }
-    }
-
-    /// How many descriptors name an object.
-    pub fn count_of(&self, object: Obj) -> usize
-        ensures { result ≡ count_object object (objects_of self.now) }
-    {
-        count_object(&self.rows, object)
     }
 
     /// The object gets the lowest free descriptor, of which there is one.
