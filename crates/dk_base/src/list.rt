@@ -124,6 +124,17 @@ impl<T: Copy + Drop> Sequence<T> {
     {
         Sequence::from_slice(alloc, self.items.as_slice())
     }
+
+    /// Want of memory leaves the list as it was.
+    pub fn append(&mut self, items: &[T]) -> Result<(), NoMemory>
+        ensures ok { OnOk result (self.new ≡ self.old ++ items.now) }
+        ensures err { OnErr result (self.new ≡ self.old) }
+    {
+        match self.items.extend_from_slice(items) {
+            Ok(()) => Ok(()),
+            Err(_) => Err(NoMemory),
+        }
+    }
 }
 
 /// A list that tells how many pushes can't fail. Clauses see its items and that number, `spare`.
@@ -200,5 +211,18 @@ impl<T: Drop> Room<T> {
     {
         let Room { items } = self;
         Sequence { items }
+    }
+}
+
+impl<T: Copy + Drop> Room<T> {
+    /// It takes no memory.
+    pub fn append(&mut self, items: &[T])
+        requires { length items.now ≤ self.old.spare }
+        ensures items { self.new.items ≡ self.old.items ++ items.now }
+        ensures spare { self.old.spare ≤ self.new.spare + length items.now }
+    {
+        let Ok(()) = self.items.extend_from_slice(items) else {
+            unreachable!()
+        };
     }
 }

@@ -14,17 +14,19 @@ fn lists(rt: HostRuntime) -> Result<(), Fail> {
     let alloc = rt.alloc();
     let mut bytes = Bytes::from_slice(alloc, b"door")?;
     bytes.push(b's')?;
-    assert!(rt; !bytes.is_empty() && is_copied(alloc, &bytes, b"doors"));
+    bytes.append(b" and ports")?;
+    assert!(rt; !bytes.is_empty() && is_copied(alloc, &bytes, b"doors and ports"));
     Ok(())
 }
 
-/// Three threads, the last in room that was taken later.
-fn three(alloc: Global) -> Result<TidList, Fail> {
+/// Five threads, the last three in room that was taken later.
+fn five(alloc: Global) -> Result<TidList, Fail> {
     let mut room = Room::with_room(alloc, 2)?;
     room.push(Tid(3));
     room.push(Tid(4));
-    room.reserve(1)?;
-    room.push(Tid(5));
+    room.reserve(3)?;
+    room.append(&[Tid(5), Tid(6)]);
+    room.push(Tid(7));
     Ok(room.into_list())
 }
 
@@ -37,8 +39,8 @@ fn cleared(list: Sequence<Tid>) -> usize {
 
 #[test]
 fn rooms(rt: HostRuntime) -> Result<(), Fail> {
-    let list = three(rt.alloc())?;
-    assert!(rt; list.slice() == [Tid(3), Tid(4), Tid(5)].as_slice());
+    let list = five(rt.alloc())?;
+    assert!(rt; list.slice() == [Tid(3), Tid(4), Tid(5), Tid(6), Tid(7)].as_slice());
     assert!(rt; cleared(list) == 0);
     Ok(())
 }

@@ -49,15 +49,6 @@ impl From<Failed> for ReadingFault {
     }
 }
 
-fn append(bytes: &mut Bytes, piece: &[u8]) -> Result<(), NoMemory>
-    ensures { OnOk result (bytes.new ≡ bytes.old ++ piece.now) }
-{
-    for byte in piece {
-        bytes.push(*byte)?;
-    }
-    Ok(())
-}
-
 /// Reads up to the end of the input, or until more than `limit` bytes were read. A fault loses what was read.
 pub fn read_all<S: Source>(
     alloc: Global,
@@ -78,7 +69,7 @@ pub fn read_all<S: Source>(
         if count == 0 {
             return Ok(ReadText::Whole(bytes));
         }
-        append(&mut bytes, &chunk[..count])?;
+        bytes.append(&chunk[..count])?;
     }
     Ok(ReadText::TooLong)
 }

@@ -12,21 +12,12 @@ use script_line::sets::{ATTRIBUTES, attribute_word};
 use script_text::writer::Writer;
 use std::alloc::Global;
 
-/// Puts bytes after others. Want of memory may leave a part of them there.
-fn extend(text: &mut Bytes, bytes: &[u8]) -> Result<(), NoMemory>
-    ensures { OnOk result (text.new ≡ text.old ++ bytes.now) }
-{
-    for byte in bytes {
-        text.push(*byte)?;
-    }
-    Ok(())
-}
-
-fn extend_number(alloc: Global, text: &mut Bytes, number: u64) -> Result<(), NoMemory>
+/// Puts a number after other bytes, in decimal.
+fn append_number(alloc: Global, text: &mut Bytes, number: u64) -> Result<(), NoMemory>
     ensures { OnOk result (text.new ≡ text.old ++ decimal number) }
 {
     match number.to_string(alloc) {
-        Ok(digits) => extend(text, digits.as_bytes()),
+        Ok(digits) => text.append(digits.as_bytes()),
         Err(_) => Err(NoMemory),
     }
 }
@@ -36,7 +27,7 @@ fn variable_word(alloc: Global, name: &[u8]) -> Result<Bytes, NoMemory>
 {
     let mut word = Sequence::new(alloc);
     word.push(b'$')?;
-    extend(&mut word, name)?;
+    word.append(name)?;
     Ok(word)
 }
 
@@ -47,14 +38,14 @@ fn fd_word(alloc: Global, fd: &FdArg) -> Result<Bytes, NoMemory>
     match fd {
         FdArg::Number(number) => {
             let mut word = Sequence::new(alloc);
-            extend_number(alloc, &mut word, u64::from(*number))?;
+            append_number(alloc, &mut word, u64::from(*number))?;
             Ok(word)
         }
         FdArg::Of { name, k } => {
             let mut word = variable_word(alloc, name.slice())?;
             if *k != 0 {
                 word.push(b'.')?;
-                extend_number(alloc, &mut word, u64::from(*k))?;
+                append_number(alloc, &mut word, u64::from(*k))?;
             }
             Ok(word)
         }
@@ -83,8 +74,8 @@ fn fill_word(alloc: Global, count: u32) -> Result<Bytes, NoMemory>
     ensures { IfOk result (λ word. word ≡ codes "fill:" ++ decimal count) }
 {
     let mut word = Sequence::new(alloc);
-    extend(&mut word, b"fill:")?;
-    extend_number(alloc, &mut word, u64::from(count))?;
+    word.append(b"fill:")?;
+    append_number(alloc, &mut word, u64::from(count))?;
     Ok(word)
 }
 

@@ -143,10 +143,7 @@ impl Draft {
     fn add_turns(&mut self, threads: &[Tid]) -> Result<(), NoMemory>
         ensures { OnOk result (self.new ≡ record self.old { schedule = self.old.schedule ++ threads.now }) }
     {
-        for thread in threads {
-            self.schedule.push(*thread)?;
-        }
-        Ok(())
+        self.schedule.append(threads)
     }
 
     /// The item that stands after these lines, where this is the last process, and so many blocks are open before it.

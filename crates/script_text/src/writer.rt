@@ -1,4 +1,4 @@
-ghost use Rattle.std.specs.Prelude.{◌≡◌, ◌≤◌, ◌+◌, [], ◌∷◌, ◌++◌, length, decimal, IfOk, OnOk, OnErr};
+ghost use Rattle.std.specs.Prelude.{◌≡◌, [], ◌∷◌, ◌++◌, decimal, IfOk, OnOk, OnErr};
 ghost use Rattle.script_text.specs.Strings.{quoted_text as quoted_bytes};
 
 use crate::string::quoted_text;
@@ -7,18 +7,7 @@ use dk_base::list::{Bytes, Room};
 use std::alloc::Global;
 use std::marker::Model;
 
-/// Puts bytes after a text that has room for them.
-fn append(text: &mut Room<u8>, bytes: &[u8])
-    requires { length bytes.now ≤ text.old.spare }
-    ensures items { text.new.items ≡ text.old.items ++ bytes.now }
-    ensures spare { text.old.spare ≤ text.new.spare + length bytes.now }
-{
-    for byte in bytes {
-        text.push(*byte);
-    }
-}
-
-/// A text that is written word by word. Clauses see its bytes so far. Want of memory leaves it was.
+/// A text that is written word by word. Clauses see its bytes so far. Want of memory leaves it as it was.
 #[derive(Drop)]
 pub struct Writer {
     text: Room<u8>,
@@ -48,7 +37,7 @@ impl Writer {
         ensures err { OnErr result (self.new ≡ self.old) }
     {
         self.text.reserve(bytes.len())?;
-        append(&mut self.text, bytes);
+        self.text.append(bytes);
         Ok(())
     }
 
@@ -67,7 +56,7 @@ impl Writer {
     {
         self.text.reserve(word.len() + 1)?;
         self.text.push(b' ');
-        append(&mut self.text, word);
+        self.text.append(word);
         Ok(())
     }
 

@@ -21,10 +21,7 @@ fn append(bytes: &mut Bytes, more: &[u8]) -> Result<(), NoMemory>
     ensures { OnOk result (bytes.new ≡ take greatest_data_of (bytes.old ++ more.now)) }
 {
     let shown = first_items(more, greatest_data() - bytes.len());
-    for byte in shown {
-        bytes.push(*byte)?;
-    }
-    Ok(())
+    bytes.append(shown)
 }
 
 /// Appends so many bytes `x`, or as many as data has room for.

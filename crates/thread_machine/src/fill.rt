@@ -20,7 +20,5 @@ pub fn fill<T: Copy + Drop>(room: &mut Room<T>, items: &[T])
     ensures spare { length room.old.items + room.old.spare ≤ length room.new.items + room.new.spare }
 {
     room.clear();
-    for item in items {
-        room.push(*item);
-    }
+    room.append(items);
 }
