@@ -40,7 +40,6 @@ pub enum Part {
 }
 
 /// A script.
-#[derive(Drop)]
 pub struct Script {
     pub(crate) budget: u32,
     pub(crate) processes: Sequence<ScriptProcess>,
@@ -50,6 +49,21 @@ pub struct Script {
     pub(crate) schedule: TidList,
     /// The names with their numbers, those of paths among them.
     pub(crate) tables: Tables,
+}
+
+/// By hand, so that dropping a script is one call for its holder, who would otherwise drop each of its parts.
+impl Drop for Script {
+    fn drop(self) {
+        let Script {
+            budget: _,
+            processes: _,
+            threads: _,
+            procedures: _,
+            order: _,
+            schedule: _,
+            tables: _,
+        } = self;
+    }
 }
 
 impl Model for Script {

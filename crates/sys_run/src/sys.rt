@@ -30,13 +30,25 @@ pub enum Played {
 
 /// A script, the kernel, and the journal of the events so far. The journal is a run of the script from its opening
 /// state, in which its threads took turns, and kernel and machines stand after it.
-#[derive(Drop)]
 pub struct Sys {
     alloc: Global,
     script: Script,
     kernel: Kernel,
     machines: Vec<Machine>,
     journal: Vec<Event>,
+}
+
+/// By hand, so that dropping a run is one call for its holder, who would otherwise drop each of its parts.
+impl Drop for Sys {
+    fn drop(self) {
+        let Sys {
+            alloc: _,
+            script: _,
+            kernel: _,
+            machines: _,
+            journal: _,
+        } = self;
+    }
 }
 
 impl Model for Sys {
