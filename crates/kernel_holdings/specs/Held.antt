@@ -1,10 +1,10 @@
 -- What refers to objects, by the values of its parts, and how many references a door has among them.
-use Rattle.std.specs.Prelude.{ℕ, ◌≡◌, ◌<◌, ◌≤◌, ◌++◌, ◌==◌, ◌&&◌, ◌||◌, Bool, false, List, Option, filter, flat_map, length, map}
+use Rattle.std.specs.Prelude.{ℕ, ◌≡◌, ◌<◌, ◌≤◌, ◌==◌, ◌&&◌, ◌||◌, Bool, false, List, Option, filter, length}
 use Rattle.dk_base.specs.declared.object.Obj.TheVariants as obj
 use Rattle.kernel_records.specs.declared.record.CallStage.TheVariants as stage
-use Rattle.kernel_records.specs.Words.{Leaving, is_object, objects_of}
+use Rattle.kernel_records.specs.Words.{Leaving, is_object}
 use Rattle.written_kernel.specs.Types.{Call, CallStage, Name, Obj, Pass}
-use Rattle.written_kernel.specs.Words.{named_object, objects_in_call}
+use Rattle.written_kernel.specs.Words.{holdings_in}
 use Rattle.name_space.specs.Words.{HasRoomForName, NameTable}
 use Rattle.call_tree.specs.Words.{CallsValue, HasRoomForCall}
 use Rattle.unref_notice.specs.Words.{count_of, was_shared}
@@ -25,7 +25,7 @@ pub record HoldingsValue : Type 0 where
 -- how many of what is held, once for each holding, is this door
 abbrev pub references_in : List (List (Option Obj)) → List Name → List Call → ℕ → ℕ
 references_in tables names calls d =
-    length (filter (is_object (obj.Door d)) (flat_map objects_of tables ++ map named_object names ++ flat_map objects_in_call calls))
+    length (filter (is_object (obj.Door d)) (holdings_in tables names calls))
 
 -- the counts of all doors are those of what is held
 abbrev pub IsCountOf : List ℕ → List (List (Option Obj)) → List Name → List Call → Type 0

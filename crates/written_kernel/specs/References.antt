@@ -1,6 +1,6 @@
 -- The references of an object: rows of tables, names, argument objects of calls that are Queued or Given, and result
 -- objects of calls that are Returned.
-use Rattle.std.specs.Prelude.{List, [], ◌++◌, map, filter, flat_map}
+use Rattle.std.specs.Prelude.{List, [], ◌++◌, Option, map, filter, flat_map}
 use Rattle.written_kernel.specs.Types.{Call, CallStage, Name, Obj}
 use Rattle.dk_base.specs.declared.object.Obj.TheVariants as obj
 use Rattle.kernel_records.specs.declared.record.CallStage.TheVariants as stage
@@ -19,9 +19,12 @@ objects_in_transit r _ = []
 abbrev pub objects_in_call : Call → List Obj
 objects_in_call r = objects_in_transit r r.stage
 
--- every object that is held, once for each holding
+-- every object that tables, names and calls hold, once for each holding
+abbrev pub holdings_in : List (List (Option Obj)) → List Name → List Call → List Obj
+holdings_in tables names calls = flat_map objects_of tables ++ map named_object names ++ flat_map objects_in_call calls
+
 abbrev pub holdings : State → List Obj
-holdings m = flat_map objects_of m.tables ++ map named_object m.names ++ flat_map objects_in_call m.call_tree.calls
+holdings m = holdings_in m.tables m.names m.call_tree.calls
 
 abbrev pub refs : State → Obj → List Obj
 refs m o = filter (is_object o) (holdings m)

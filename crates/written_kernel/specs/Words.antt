@@ -10,7 +10,7 @@ pub use Rattle.written_kernel.specs.Leaving.{exit, interrupt, is_cancelled, kill
 pub use Rattle.written_kernel.specs.Legal.{IsFit, MayEnter, MayGoOn, MayTurn}
 pub use Rattle.written_kernel.specs.Notices.{falls_to_one, is_due, make_each, make_notices, make_one, may_have_notice, reference_count}
 pub use Rattle.written_kernel.specs.Opening.{IsOpening, no_process, opening, with_new_process, with_new_thread, with_processes}
-pub use Rattle.written_kernel.specs.References.{holdings, named_object, objects_in_call, objects_in_transit, refs}
+pub use Rattle.written_kernel.specs.References.{holdings, holdings_in, named_object, objects_in_call, objects_in_transit, refs}
 pub use Rattle.written_kernel.specs.Runs.{IsRun, Turn, events_of, state_after, state_after_turn, state_at}
 pub use Rattle.written_kernel.specs.Settle.{fail_each, fail_one, fail_return, fail_returns, give, give_and_start, give_each, give_one, give_to, has_first_common_door, has_given_last, has_lost_door, needs_spare, settle, start_each, start_one, start_spares}
 pub use Rattle.written_kernel.specs.State.{State, bound_of, calls_waiting, client_call, door_of, find_call, find_notice, has_invalid_door, invocation_of, is_bound_to_invalid, is_live_process, is_valid, name_of, now, object_at, pick, pool_of, process_of, state_of, table_of, thread_of, waiting_items, with_state, with_table_of}
