@@ -6,7 +6,7 @@ use Rattle.kernel_records.specs.declared.record.Call.{Call}
 use Rattle.kernel_records.specs.declared.record.CallStage.TheVariants as stage
 use Rattle.kernel_records.specs.Words.{change_first, is_live_call, is_to_collect_as, without_arguments_at}
 use Rattle.call_tree.specs.LiveCalls.{AreLive}
-use Rattle.call_tree.proofs.Places.{position_is}
+use Rattle.kernel_records.proofs.Places.{position_is}
 
 pub live_same : (rs : List Call) → AreLive rs → filter is_live_call rs ≡ rs
 live_same [] h = refl

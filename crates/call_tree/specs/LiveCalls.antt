@@ -1,4 +1,4 @@
--- The calls that are live, with the room for more, and what tests of numbers answer.
+-- The calls that are live, with the room for more.
 use Rattle.std.specs.Prelude.{◌≡◌, ◌<◌, ℕ, Bool, true, List, [], ◌∷◌}
 use Rattle.kernel_records.specs.declared.record.Call.{Call}
 use Rattle.kernel_records.specs.Words.{CallTree, is_live_call, is_to_collect}
@@ -20,7 +20,3 @@ AreLive (r ∷ rs) = (is_live_call r ≡ true) × AreLive rs
 -- a call that its caller can collect
 abbrev pub is_ready_call : Call → Bool
 is_ready_call r = is_to_collect r.stage
-
--- a test of numbers answers as this function does
-abbrev pub AnswersAs : (ℕ → Bool → Type 0) → (ℕ → Bool) → Type 0
-AnswersAs answers test = (n : ℕ) → (b : Bool) → n < 4294967296 → answers n b → b ≡ test n

@@ -2,8 +2,8 @@
 ghost use Rattle.std.specs.Prelude.{◌≡◌, ◌+◌, ◌≤◌, [], ℕ, true, find, length, OnOk};
 ghost use Rattle.std.specs.Option.{option_copied, option_map};
 ghost use Rattle.std.specs.List.{list_any};
-ghost use Rattle.kernel_records.specs.Words.{Leaving, collect_call, enter_call, fail_call, give_call, is_client_call_of, is_given_as, is_live_call, is_served_as, is_served_by, is_to_collect_as, left_calls, live_calls, open_call, return_call};
-ghost use Rattle.call_tree.specs.LiveCalls.{AnswersAs, AreLive, HasRoomForCall, is_ready_call};
+ghost use Rattle.kernel_records.specs.Words.{AnswersAs, Leaving, collect_call, enter_call, fail_call, give_call, is_client_call_of, is_given_as, is_live_call, is_served_as, is_served_by, is_to_collect_as, left_calls, live_calls, open_call, return_call};
+ghost use Rattle.call_tree.specs.LiveCalls.{AreLive, HasRoomForCall, is_ready_call};
 ghost use Rattle.call_tree.specs.Walks.{argument_objects, caller_among, door_in, is_call, lead_in, root_in, server_in};
 
 use crate::change::{answer_client, give_queued, place_ready, take_given};

@@ -1,8 +1,8 @@
 //! What becomes of calls where callers and server threads end, callers are interrupted, and doors become invalid.
 ghost use Rattle.std.specs.Prelude.{◌≡◌, ◌≤◌, ℕ, Bool, filter, map, vec_capacity, vec_len};
-ghost use Rattle.kernel_records.specs.Words.{Leaving, abandoned_at, is_live_call, left_call, without_arguments_at};
+ghost use Rattle.kernel_records.specs.Words.{AnswersAs, Leaving, abandoned_at, is_live_call, left_call, without_arguments_at};
 ghost use Rattle.kernel_records.specs.declared.record.CallStage.TheVariants as stage;
-ghost use Rattle.call_tree.specs.LiveCalls.{AnswersAs, AreLive};
+ghost use Rattle.call_tree.specs.LiveCalls.{AreLive};
 
 use crate::change::move_on;
 use crate::stage::is_live_call;

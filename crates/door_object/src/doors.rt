@@ -73,7 +73,7 @@ fn new_door(number: u32, owner: Pid, entry: u32, cookie: u64, attrs: Attrs) -> D
     }
 }
 
-#[tactic(auto, using(crate::proofs::Places::numbered_here))]
+#[tactic(auto, using(kernel_records::proofs::Places::numbered_here))]
 fn revoke_at(doors: &mut [Door], d: u32)
     ensures { doors.new ≡ revoke_door doors.old d }
 {
@@ -87,7 +87,7 @@ fn revoke_at(doors: &mut [Door], d: u32)
     }
 }
 
-#[tactic(auto, using(crate::proofs::Places::numbered_here))]
+#[tactic(auto, using(kernel_records::proofs::Places::numbered_here))]
 fn set_param_at(doors: &mut [Door], d: u32, param: Param, value: u64)
     ensures { doors.new ≡ set_param doors.old d param value }
 {

@@ -9,9 +9,9 @@ use Rattle.dk_base.specs.declared.request.Request.TheVariants as request
 use Rattle.kernel_records.specs.declared.pool.Pool.TheVariants.{Common, Private}
 use Rattle.kernel_records.specs.declared.record.ThreadState.TheVariants as is
 use Rattle.written_kernel.specs.Types.{Call, Door, Errno, Item, Name, Notice, Pass, PathId, Pool, Request, ThreadState}
-use Rattle.kernel_records.specs.Words.{is_given_as, is_given_notice_as, is_last, is_pool, is_private, notice_doors, pool_in}
+use Rattle.kernel_records.specs.Words.{AreNumbered, is_given_as, is_given_notice_as, is_last, is_pool, is_private, notice_doors, numbers_where, pool_in, takes_notices_in}
 use Rattle.written_kernel.specs.Words.{StandsFor, State, accept, accept_call, accept_notice, act, await, await_name, begin_call, door_of, effect, exit, fail_begin, find_call, find_notice, forget, go_on, has_invalid_door, has_room, is_live_process, kill, leave_process, leave_thread, name_of, pool_of, process_of, refusal_of, return, return_parked, return_unbound, state_of, unless_refused}
-use Rattle.written_kernel.proofs.Lists.{numbered_there, numbered_within}
+use Rattle.kernel_records.proofs.Lists.{numbered_there, numbered_within}
 use Rattle.server_pool.specs.Words.{item_room_in, pool_at}
 use Rattle.unref_notice.specs.Words.{count_of}
 use Rattle.kernel_store.specs.Words.{CanMake, IsAgreed, HasBegun, StoreValue, count_served, stored_state}
@@ -19,7 +19,7 @@ use Rattle.kernel_core.specs.declared.event.Parts.{Parts}
 use Rattle.kernel_core.specs.declared.event.Taken.{Taken}
 use Rattle.kernel_core.specs.Watched.{HadRoomForNotices, IsKeptDoor, IsReadyForNotices, KeepsDoors, fallen, is_watched, watched}
 use Rattle.kernel_core.specs.Woken.{IsReady}
-use Rattle.unref_notice.proofs.Numbered.{AreNumbered, among, noticed_is, takes_in}
+use Rattle.kernel_records.proofs.DoorNumbers.{notice_doors_numbered}
 use Rattle.kernel_core.proofs.Fallen.{fallen_watched, has_one}
 use Rattle.kernel_core.proofs.Steps.{processes_after}
 
@@ -119,9 +119,9 @@ had_room p n taken t q r s k records same items =
 
 -- the doors that are watched are there
 
-all_among : (p : ℕ → Bool) (n : ℕ) → AllByRecursion (λ d. p d ≡ true) (among p n)
+all_among : (p : ℕ → Bool) (n : ℕ) → AllByRecursion (λ d. p d ≡ true) (numbers_where p n)
 all_among p zero = tt
-all_among p (suc n) = go (p (suc n)) refl (among p n) (all_among p n)
+all_among p (suc n) = go (p (suc n)) refl (numbers_where p n) (all_among p n)
   where
     go :
         (b : Bool) → p (suc n) ≡ b → (ds : List ℕ) → AllByRecursion (λ d. p d ≡ true) ds →
@@ -138,11 +138,11 @@ all_filter P q (d ∷ ds) h = go (q d) (all_filter P q ds h.1)
     go true k = (h.0, k)
     go false k = k
 
-watched_there : (m : State) → AreNumbered m.doors → AllByRecursion (λ d. takes_in (door_of m d) ≡ true) (watched m)
+watched_there : (m : State) → AreNumbered m.doors → AllByRecursion (λ d. takes_notices_in (door_of m d) ≡ true) (watched m)
 watched_there m numbered =
-    all_filter (λ d. takes_in (door_of m d) ≡ true) (is_watched m) (notice_doors m.doors)
-    (subst (AllByRecursion (λ d. takes_in (door_of m d) ≡ true)) (sym (noticed_is m.doors numbered))
-    (all_among (λ d. takes_in (door_of m d)) (length m.doors)))
+    all_filter (λ d. takes_notices_in (door_of m d) ≡ true) (is_watched m) (notice_doors m.doors)
+    (subst (AllByRecursion (λ d. takes_notices_in (door_of m d) ≡ true)) (sym (notice_doors_numbered m.doors numbered))
+    (all_among (λ d. takes_notices_in (door_of m d)) (length m.doors)))
 
 -- the same pools serve them
 
@@ -151,10 +151,10 @@ same_pool x y e f g =
     ap (λ b. if b then Private y.number else Common y.owner) (ap is_private e)
     ∙ ap₂ (λ n p. if is_private x.attrs then Private n else Common p) f g
 
-kept_pool : (m n : State) (d : ℕ) → KeepsDoors m n → takes_in (door_of m d) ≡ true → pool_of n d ≡ pool_of m d
+kept_pool : (m n : State) (d : ℕ) → KeepsDoors m n → takes_notices_in (door_of m d) ≡ true → pool_of n d ≡ pool_of m d
 kept_pool m n d h e = go (door_of m d) refl e
   where
-    go : (o : Option Door) → door_of m d ≡ o → takes_in o ≡ true → pool_in (door_of n d) ≡ pool_in (door_of m d)
+    go : (o : Option Door) → door_of m d ≡ o → takes_notices_in o ≡ true → pool_in (door_of n d) ≡ pool_in (door_of m d)
     go None f g = absurd (true≢false (sym g))
     go (Some x) f g =
         let k : IsKeptDoor x (door_of n d) = h.kept d x f in
@@ -166,7 +166,7 @@ served_first :
 served_first m pool d ds = sum_by-cons (λ e. cond (is_pool pool (pool_of m e)) 1 0) d ds
 
 same_count :
-    (m n : State) (pool : Pool) (ds : List ℕ) → KeepsDoors m n → AllByRecursion (λ d. takes_in (door_of m d) ≡ true) ds →
+    (m n : State) (pool : Pool) (ds : List ℕ) → KeepsDoors m n → AllByRecursion (λ d. takes_notices_in (door_of m d) ≡ true) ds →
     count_served n pool ds ≡ count_served m pool ds
 same_count m n pool [] h k = refl
 same_count m n pool (d ∷ ds) h k =
@@ -176,7 +176,7 @@ same_count m n pool (d ∷ ds) h k =
 
 -- a private pool that serves one of these doors is that of a door that was there
 served_there :
-    (m : State) (e : ℕ) (ds : List ℕ) → AreNumbered m.doors → AllByRecursion (λ d. takes_in (door_of m d) ≡ true) ds →
+    (m : State) (e : ℕ) (ds : List ℕ) → AreNumbered m.doors → AllByRecursion (λ d. takes_notices_in (door_of m d) ≡ true) ds →
     0 < count_served m (Private e) ds → is_some (door_of m e) ≡ true
 served_there m e [] numbered k c = absurd (omega arith)
 served_there m e (d ∷ ds) numbered k c =
@@ -186,7 +186,7 @@ served_there m e (d ∷ ds) numbered k c =
     number_is x true f = grind (arith, nat_tests)
     number_is x false f = cc
 
-    at : (o : Option Door) → door_of m d ≡ o → takes_in o ≡ true → is_pool (Private e) (pool_in o) ≡ true → is_some (door_of m e) ≡ true
+    at : (o : Option Door) → door_of m d ≡ o → takes_notices_in o ≡ true → is_pool (Private e) (pool_in o) ≡ true → is_some (door_of m e) ≡ true
     at None f g i = absurd (true≢false (sym g))
     at (Some x) f g i =
         let same : e ≡ d = number_is x (is_private x.attrs) i ∙ numbered d x f in
@@ -208,7 +208,7 @@ there_by_length xs ys i same e = go (at_number xs i) refl e
 
 pool_before :
     (b n : StoreValue) (ds : List ℕ) (pool : Pool) → HadRoomForNotices b n ds → IsAgreed n →
-    AllByRecursion (λ d. takes_in (door_of (stored_state b) d) ≡ true) ds → is_some (pool_at n.pools pool) ≡ true →
+    AllByRecursion (λ d. takes_notices_in (door_of (stored_state b) d) ≡ true) ds → is_some (pool_at n.pools pool) ≡ true →
     0 < count_served (stored_state b) pool ds → is_some (pool_at b.pools pool) ≡ true
 pool_before b n ds (Common p) h a k there c =
     there_by_length n.pools.common b.pools.common p.0 (h.agreed.common ∙ sym h.processes ∙ sym a.common) there
@@ -224,8 +224,8 @@ can_make b n ds h a =
       items = λ pool there. enough pool there;
     }
   where
-    all : AllByRecursion (λ d. takes_in (door_of (stored_state b) d) ≡ true) ds
-    all = subst (AllByRecursion (λ d. takes_in (door_of (stored_state b) d) ≡ true)) (sym h.watched) (watched_there (stored_state b) h.doors.numbered)
+    all : AllByRecursion (λ d. takes_notices_in (door_of (stored_state b) d) ≡ true) ds
+    all = subst (AllByRecursion (λ d. takes_notices_in (door_of (stored_state b) d) ≡ true)) (sym h.watched) (watched_there (stored_state b) h.doors.numbered)
 
     fits : (pool : Pool) (c : ℕ) → (0 < c → c < item_room_in b.pools pool) → c ≤ item_room_in n.pools pool
     fits pool zero f = omega arith

@@ -4,11 +4,11 @@ use Rattle.std.proofs.Common.{◌≡◌, ℕ, zero, suc, ◌+◌, ◌<◌, Bool,
 use Rattle.std.proofs.lemmas.Bool.Decides.{nat_tests}
 use Rattle.std.specs.List.{list_any}
 use Rattle.written_kernel.specs.Types.{Door}
-use Rattle.kernel_records.specs.Words.{has_notice, has_unref_multi, is_notice_of, new_notice, is_valid_door, make_notice, notice_doors, takes_notices}
+use Rattle.kernel_records.specs.Words.{AreNumbered, has_notice, has_unref_multi, is_notice_of, is_valid_door, make_notice, new_notice, notice_doors, numbers_where, takes_notices, takes_notices_in}
 use Rattle.written_kernel.specs.Words.{State, door_of, falls_to_one, is_due, make_notices, now}
 use Rattle.written_kernel.proofs.Notices.{due_among, due_doors, is_number, list_any-append, make_notices-due, with_made}
 use Rattle.written_kernel.proofs.Settling.{with_notice_of}
-use Rattle.unref_notice.proofs.Numbered.{AreNumbered, among, among-same, filter-among, noticed_is, takes_in}
+use Rattle.kernel_records.proofs.DoorNumbers.{filter-numbers_where, notice_doors_numbered, numbers_where-same}
 use Rattle.kernel_store.specs.Words.{may_have_notice_in}
 use Rattle.kernel_core.specs.Watched.{fallen, make_of}
 
@@ -17,28 +17,28 @@ use Rattle.kernel_core.specs.Watched.{fallen, make_of}
 abbrev pub may_have : State → ℕ → Bool
 may_have n d = may_have_notice_in n d (door_of n d)
 
-due_at : (m n : State) (d : ℕ) → is_due m n d (door_of n d) ≡ ((takes_in (door_of n d) && falls_to_one m n d) && may_have n d)
+due_at : (m n : State) (d : ℕ) → is_due m n d (door_of n d) ≡ ((takes_notices_in (door_of n d) && falls_to_one m n d) && may_have n d)
 due_at m n d = go (door_of n d)
   where
     parts : (u v w f : Bool) → (((u && v) && w) && f) ≡ ((u && f) && ((u && v) && w))
     parts u v w f = grind arith
 
-    go : (o : Option Door) → is_due m n d o ≡ ((takes_in o && falls_to_one m n d) && may_have_notice_in n d o)
+    go : (o : Option Door) → is_due m n d o ≡ ((takes_notices_in o && falls_to_one m n d) && may_have_notice_in n d o)
     go None = refl
     go (Some x) =
         parts (takes_notices x.attrs) (is_valid_door x) (has_unref_multi x.attrs || not (has_notice n.notice_list d)) (falls_to_one m n d)
 
-due_among-is : (m n : State) (k : ℕ) → due_among m n k ≡ among (λ d. is_due m n d (door_of n d)) k
+due_among-is : (m n : State) (k : ℕ) → due_among m n k ≡ numbers_where (λ d. is_due m n d (door_of n d)) k
 due_among-is m n zero = refl
 due_among-is m n (suc k) = ap (λ ds. ds ++ (if is_due m n (suc k) (door_of n (suc k)) then suc k ∷ [] else [])) (due_among-is m n k)
 
 due_doors-fallen : (m n : State) → AreNumbered n.doors → due_doors m n ≡ filter (may_have n) (fallen m n)
 due_doors-fallen m n numbered =
     due_among-is m n (length n.doors)
-    ∙ among-same (λ d. is_due m n d (door_of n d)) (λ d. (takes_in (door_of n d) && falls_to_one m n d) && may_have n d) (due_at m n) (length n.doors)
-    ∙ sym (filter-among (may_have n) (λ d. takes_in (door_of n d) && falls_to_one m n d) (length n.doors))
-    ∙ ap (filter (may_have n)) (sym (filter-among (falls_to_one m n) (λ d. takes_in (door_of n d)) (length n.doors)))
-    ∙ ap (λ ds. filter (may_have n) (filter (falls_to_one m n) ds)) (sym (noticed_is n.doors numbered))
+    ∙ numbers_where-same (λ d. is_due m n d (door_of n d)) (λ d. (takes_notices_in (door_of n d) && falls_to_one m n d) && may_have n d) (due_at m n) (length n.doors)
+    ∙ sym (filter-numbers_where (may_have n) (λ d. takes_notices_in (door_of n d) && falls_to_one m n d) (length n.doors))
+    ∙ ap (filter (may_have n)) (sym (filter-numbers_where (falls_to_one m n) (λ d. takes_notices_in (door_of n d)) (length n.doors)))
+    ∙ ap (λ ds. filter (may_have n) (filter (falls_to_one m n) ds)) (sym (notice_doors_numbered n.doors numbered))
 
 -- each is listed once
 
@@ -56,23 +56,23 @@ apart-push (d ∷ ds) e a n = (
     last : (b : Bool) → b ≡ false → (c : Bool) → c ≡ false → (b || (c || false)) ≡ false
     last b e c f = grind arith
 
-among-within : (p : ℕ → Bool) (n d : ℕ) → n < d → list_any (is_number d) (among p n) ≡ false
-among-within p zero d h = refl
-among-within p (suc n) d h =
-    list_any-append (is_number d) (among p n) (if p (suc n) then suc n ∷ [] else [])
-    ∙ ap₂ (λ b c. b || c) (among-within p n d (omega arith)) (go (p (suc n)))
+numbers_where-within : (p : ℕ → Bool) (n d : ℕ) → n < d → list_any (is_number d) (numbers_where p n) ≡ false
+numbers_where-within p zero d h = refl
+numbers_where-within p (suc n) d h =
+    list_any-append (is_number d) (numbers_where p n) (if p (suc n) then suc n ∷ [] else [])
+    ∙ ap₂ (λ b c. b || c) (numbers_where-within p n d (omega arith)) (go (p (suc n)))
   where
     go : (b : Bool) → list_any (is_number d) (if b then suc n ∷ [] else []) ≡ false
     go true = grind (arith, nat_tests)
     go false = refl
 
-among-apart : (p : ℕ → Bool) (n : ℕ) → AreApart (among p n)
-among-apart p zero = tt
-among-apart p (suc n) = go (p (suc n)) (among-apart p n)
+numbers_where-apart : (p : ℕ → Bool) (n : ℕ) → AreApart (numbers_where p n)
+numbers_where-apart p zero = tt
+numbers_where-apart p (suc n) = go (p (suc n)) (numbers_where-apart p n)
   where
-    go : (b : Bool) → AreApart (among p n) → AreApart (among p n ++ (if b then suc n ∷ [] else []))
-    go true a = apart-push (among p n) (suc n) a (among-within p n (suc n) (omega arith))
-    go false a = subst AreApart (sym (append-nil (among p n))) a
+    go : (b : Bool) → AreApart (numbers_where p n) → AreApart (numbers_where p n ++ (if b then suc n ∷ [] else []))
+    go true a = apart-push (numbers_where p n) (suc n) a (numbers_where-within p n (suc n) (omega arith))
+    go false a = subst AreApart (sym (append-nil (numbers_where p n))) a
 
 none-filter : (q p : ℕ → Bool) (ds : List ℕ) → list_any q ds ≡ false → list_any q (filter p ds) ≡ false
 none-filter q p [] h = refl
@@ -93,7 +93,7 @@ apart-filter p (d ∷ ds) a = go (p d) (apart-filter p ds a.1)
 fallen-apart : (m n : State) → AreNumbered n.doors → AreApart (fallen m n)
 fallen-apart m n numbered =
     apart-filter (falls_to_one m n) (notice_doors n.doors)
-    (subst AreApart (sym (noticed_is n.doors numbered)) (among-apart (λ d. takes_in (door_of n d)) (length n.doors)))
+    (subst AreApart (sym (notice_doors_numbered n.doors numbered)) (numbers_where-apart (λ d. takes_notices_in (door_of n d)) (length n.doors)))
 
 -- a notice of one door leaves whether another may have one
 

@@ -2,14 +2,14 @@
 use Rattle.std.proofs.Common.{◌≡◌, ℕ, ◌≤◌, Bool, true, false, if◌then◌else◌, true≢false, ◌==◌, ◌&&◌, nat_lt, List, [], ◌∷◌, Option, None, Some, IsSome, filter, length, refl, sym, ap, ◌∙◌, arith}
 use Rattle.std.proofs.lemmas.Bool.Decides.{nat_tests}
 use Rattle.written_kernel.specs.Types.{Door}
-use Rattle.kernel_records.specs.Words.{notice_doors, takes_notices}
+use Rattle.kernel_records.specs.Words.{AreNumbered, notice_doors, takes_notices, takes_notices_in}
 use Rattle.written_kernel.specs.Words.{State, door_of, falls_to_one, reference_count}
-use Rattle.written_kernel.proofs.Lists.{numbered_past, numbered_there, numbered_within}
+use Rattle.kernel_records.proofs.Lists.{numbered_past, numbered_there, numbered_within}
 use Rattle.unref_notice.specs.Words.{was_shared}
 use Rattle.pool_agreement.proofs.Queued.{same_filter}
 use Rattle.kernel_store.specs.Words.{HasBegun, has_fallen_since}
 use Rattle.kernel_core.specs.Watched.{IsKeptDoor, KeepsDoors, fallen, is_watched, watched}
-use Rattle.unref_notice.proofs.Numbered.{AreNumbered, among-past, among-same, filter-among, noticed_is, takes_in}
+use Rattle.kernel_records.proofs.DoorNumbers.{filter-numbers_where, notice_doors_numbered, numbers_where-past, numbers_where-same}
 
 filter-both : (p q : ℕ → Bool) (ds : List ℕ) → filter (λ d. p d && q d) ds ≡ filter q (filter p ds)
 filter-both p q [] = refl
@@ -35,30 +35,30 @@ no_fewer m n h = go (nat_lt 0 (length m.doors)) refl
 -- a door that was not there had no reference, and the others take notices as before
 watched_at :
     (m n : State) (opening : List ℕ) (d : ℕ) → KeepsDoors m n → HasBegun opening m →
-    (takes_in (door_of n d) && is_watched m d) ≡ (takes_in (door_of m d) && is_watched m d)
+    (takes_notices_in (door_of n d) && is_watched m d) ≡ (takes_notices_in (door_of m d) && is_watched m d)
 watched_at m n opening d h o = go (door_of m d) refl
   where
     none : (b : Bool) → (b && false) ≡ false
     none true = refl
     none false = refl
 
-    go : (x : Option Door) → door_of m d ≡ x → (takes_in (door_of n d) && is_watched m d) ≡ (takes_in x && is_watched m d)
-    go None e = ap (λ k. takes_in (door_of n d) && nat_lt 1 k) (sym (o.counts d) ∙ o.none d e) ∙ none (takes_in (door_of n d))
+    go : (x : Option Door) → door_of m d ≡ x → (takes_notices_in (door_of n d) && is_watched m d) ≡ (takes_notices_in x && is_watched m d)
+    go None e = ap (λ k. takes_notices_in (door_of n d) && nat_lt 1 k) (sym (o.counts d) ∙ o.none d e) ∙ none (takes_notices_in (door_of n d))
     go (Some x) e =
         let k : IsKeptDoor x (door_of n d) = h.kept d x e in
-        ap (λ b. b && is_watched m d) (ap takes_in k.there ∙ ap takes_notices k.same.attrs)
+        ap (λ b. b && is_watched m d) (ap takes_notices_in k.there ∙ ap takes_notices k.same.attrs)
 
 watched_after :
     (m n : State) (opening : List ℕ) → KeepsDoors m n → AreNumbered n.doors → HasBegun opening m → filter (is_watched m) (notice_doors n.doors) ≡ watched m
 watched_after m n opening h numbered o =
-    ap (filter (is_watched m)) (noticed_is n.doors numbered)
-    ∙ filter-among (is_watched m) (λ d. takes_in (door_of n d)) (length n.doors)
-    ∙ among-same (λ d. takes_in (door_of n d) && is_watched m d) (λ d. takes_in (door_of m d) && is_watched m d) (λ d. watched_at m n opening d h o)
+    ap (filter (is_watched m)) (notice_doors_numbered n.doors numbered)
+    ∙ filter-numbers_where (is_watched m) (λ d. takes_notices_in (door_of n d)) (length n.doors)
+    ∙ numbers_where-same (λ d. takes_notices_in (door_of n d) && is_watched m d) (λ d. takes_notices_in (door_of m d) && is_watched m d) (λ d. watched_at m n opening d h o)
     (length n.doors)
-    ∙ among-past (λ d. takes_in (door_of m d) && is_watched m d) (length m.doors) (length n.doors) (no_fewer m n h)
-    (λ d l. ap (λ x. takes_in x && is_watched m d) (numbered_past m.doors d l))
-    ∙ sym (filter-among (is_watched m) (λ d. takes_in (door_of m d)) (length m.doors))
-    ∙ ap (filter (is_watched m)) (sym (noticed_is m.doors h.numbered))
+    ∙ numbers_where-past (λ d. takes_notices_in (door_of m d) && is_watched m d) (length m.doors) (length n.doors) (no_fewer m n h)
+    (λ d l. ap (λ x. takes_notices_in x && is_watched m d) (numbered_past m.doors d l))
+    ∙ sym (filter-numbers_where (is_watched m) (λ d. takes_notices_in (door_of m d)) (length m.doors))
+    ∙ ap (filter (is_watched m)) (sym (notice_doors_numbered m.doors h.numbered))
 
 -- the doors that had more than one reference when the step began
 pub shared_after :

@@ -13,7 +13,8 @@ use Rattle.kernel_records.specs.declared.record.CallStage.TheVariants as stage
 use Rattle.dk_base.specs.ByNumber.{at_number}
 use Rattle.kernel_records.specs.Words.{CallTree, NoticeList, ProcessTable, at_stage, change_first, change_thread, change_thread_in, end_notice, enter_notice, first_refusal, idle_thread, insert_row, interruption, is_client_call_of, is_given_as, is_given_notice_as, is_last, is_live_call, is_queued_as, is_to_collect_as, left_call, new_descriptors, object_passed, objects_passed, process_end, return_call, revocation, revoked_door, thread_at, thread_at_state, thread_end, thread_in_invocation, thread_outside, tid, unbind_thread, with_owner_ended, without_arguments_at, Leaving, Test, change_door, change_door_in, refused_where, with_param, has_refused_size, has_too_many, is_valid_in, refuses_descriptors_in}
 use Rattle.written_kernel.specs.Words.{ActResult, StandsFor, State, accept, accept_call, accept_notice, act, attach, await, await_name, begin_call, call, call_tests, client_call, collect, collect_answer, collect_answer_in, create, door_named, effect, enter, exit, fail_begin, find_call, find_notice, fail_return, give_one, go_on, has_invalid_door, has_lost_door, has_room, is_due, is_live_process, kill, leave, leave_process, leave_thread, name_of, new_call, no_act, now, object_at, objects_collected_in, open_path, pass_tests, pick, pool_of, process_of, refusal_of, refused_act, return, return_parked, return_tests, return_unbound, revoke, settle, state_of, table_of, tables_after_collect, tables_after_pass, tables_with, unless_refused, with_state, close, dup, detach, set_parameter, door_at, door_of, pool_tests}
-use Rattle.written_kernel.proofs.Lists.{length-with_at_number}
+use Rattle.kernel_records.proofs.Lists.{length-with_at_number}
+use Rattle.kernel_records.proofs.Places.{length-change_first}
 use Rattle.written_kernel.proofs.CallLists.{IsOver, left_call-over}
 use Rattle.written_kernel.proofs.Leaving.{calls-leave, threads-leave, threads_of-leave_process}
 use Rattle.written_kernel.proofs.Settling.{settle-all, with_notice_of}
@@ -64,12 +65,6 @@ thread-grows k m t change =
     }
 
 -- calls
-
-length-change_first : (test : Call → Bool) (change : Call → Call) (rs : List Call) → length (change_first test change rs) ≡ length rs
-length-change_first test change [] = refl
-length-change_first test change (r ∷ rs) =
-    elim (test r) as (λ b. length (if b then change r ∷ rs else r ∷ change_first test change rs) ≡ length (r ∷ rs))
-    [ true ↦ refl | false ↦ ap suc (length-change_first test change rs) ]
 
 change_first-small :
     (test : Call → Bool) (change : Call → Call) → ((r : Call) → IsSmallCall r → IsSmallCall (change r)) → (rs : List Call) →

@@ -9,10 +9,10 @@ use Rattle.written_kernel.proofs.Forget.{IsStep-stands_for, act-forget, is_runna
 use Rattle.dk_base.specs.ByNumber.{at_number}
 use Rattle.std.proofs.lemmas.Bool.Decides.{nat_tests}
 use Rattle.kernel_records.specs.Words.{is_kept_notice, is_live_call, is_live_in, is_live_stage, is_owned_by, is_valid_door, process_in}
-use Rattle.written_kernel.proofs.Lists.{numbered_there}
+use Rattle.kernel_records.proofs.Lists.{numbered_there}
 use Rattle.written_kernel.proofs.Opening.{IsDeclaredIn, forget-opening, opened, opening_threads}
 use Rattle.written_kernel.proofs.Steps.{events-step}
-use Rattle.kernel_invariant.specs.Core.{notice_in, noticed_in, number_in}
+use Rattle.kernel_invariant.specs.Core.{notice_in, noticed_door_in, number_in}
 use Rattle.kernel_invariant.specs.Events.{Keeps, may_lose_door}
 use Rattle.kernel_invariant.specs.Invariant.{AreNoticesInOrder, IsConsistent, IsInOrder}
 use Rattle.kernel_invariant.specs.Records.{has_notice_number, has_number, notice_of, owner_in}
@@ -250,7 +250,7 @@ module _ (m : State) (h : IsConsistent m) where
   noticed_is : (i : ℕ) (n : Notice) → slice_get m.notice_list.notices i ≡ Some n → is_some (door_of m n.door) ≡ true
   noticed_is i n e =
       let found : notice_of m n.number ≡ Some n = noticed_in_order m.notice_list.notices 0 i n h.notices_in_order e in
-      ap (λ o. is_some (door_of m (noticed_in o))) (sym found)
+      ap (λ o. is_some (door_of m (noticed_door_in o))) (sym found)
       ∙ h.coherent.notices_at_doors.notice_door n.number (ap (λ o. is_some (notice_in o)) found)
 
   places : ArePlaced m

@@ -10,7 +10,7 @@ use Rattle.dk_base.specs.declared.object.Item.TheVariants as item
 use Rattle.dk_base.specs.declared.request.Request.TheVariants as request
 use Rattle.kernel_records.specs.declared.record.ThreadState.TheVariants as is
 use Rattle.kernel_records.specs.declared.record.CallStage.TheVariants as stage
-use Rattle.kernel_records.specs.Words.{at_stage, change_first, change_door, change_first_notice, close_row, close_table, end_notice, end_owner, end_process, has_many, has_unref_multi, is_client_call_of, is_given_as, is_given_notice_as, is_kept_notice, is_live_call, is_past_stage, is_queued_as, is_waiting_notice_as, kept_notices, new_notice, notice_at, objects_passed, process_end, revocation, revoke_door, revoked_door, set_param, tid, with_door, with_owner_ended, with_param, with_table, without_arguments_at}
+use Rattle.kernel_records.specs.Words.{at_stage, change_first, change_door, close_row, close_table, end_notice, end_owner, end_process, has_many, has_unref_multi, is_client_call_of, is_given_as, is_given_notice_as, is_kept_notice, is_live_call, is_past_stage, is_queued_as, is_waiting_notice_as, kept_notices, new_notice, notice_at, objects_passed, process_end, revocation, revoke_door, revoked_door, set_param, tid, with_door, with_owner_ended, with_param, with_table, without_arguments_at}
 use Rattle.written_kernel.specs.Words.{State, StandsFor, accept, accept_call, accept_notice, await, await_name, begin_call, collect, door_at, effect, fail_begin, find_call, find_notice, forget, give_one, go_on, has_invalid_door, has_room, leave, leave_process, name_of, now, return, return_parked, return_unbound, revoke, settle, table_of}
 use Rattle.kernel_invariant.specs.Events.{is_leaving}
 use Rattle.call_tree.specs.Words.{AreLive}
@@ -18,7 +18,7 @@ use Rattle.pool_agreement.specs.Words.{AreKept}
 use Rattle.kernel_store.specs.Words.{ArePlaced}
 use Rattle.kernel_core.specs.Kept.{HasNothingPast}
 use Rattle.written_kernel.proofs.Doors.{at_number-change_door, with_owner_ended-same}
-use Rattle.written_kernel.proofs.Lists.{at_number-map, numbered_front}
+use Rattle.kernel_records.proofs.Lists.{at_number-map, numbered_front}
 use Rattle.written_kernel.proofs.NoticeLists.{kept_where}
 use Rattle.written_kernel.proofs.Settling.{settle-all}
 
@@ -71,10 +71,10 @@ kept_same doors (n ∷ ns) h =
 
 changed_kept :
     (doors : List Door) (test : Notice → Bool) (s : NoticeStage) (ns : List Notice) → is_past_stage s ≡ false → AreKept doors ns →
-    AreKept doors (change_first_notice test (notice_at s) ns)
+    AreKept doors (change_first test (notice_at s) ns)
 changed_kept doors test s [] e h = tt
 changed_kept doors test s (n ∷ ns) e h =
-    elim (test n) as (λ b. AreKept doors (if b then notice_at s n ∷ ns else n ∷ change_first_notice test (notice_at s) ns))
+    elim (test n) as (λ b. AreKept doors (if b then notice_at s n ∷ ns else n ∷ change_first test (notice_at s) ns))
     [ true ↦ (kept_where doors (notice_at s n) e, h.1) | false ↦ (h.0, changed_kept doors test s ns e h.1) ]
 
 pushed_kept : (doors : List Door) (ns : List Notice) (n : Notice) → is_kept_notice doors n ≡ true → AreKept doors ns → AreKept doors (ns ++ n ∷ [])

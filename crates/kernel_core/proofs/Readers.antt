@@ -13,7 +13,7 @@ use Rattle.written_kernel.proofs.Forget.{is_runnable-forget, root-forget}
 use Rattle.std.proofs.lemmas.Option.{slice_get-get_or}
 use Rattle.std.proofs.lemmas.Bool.Decides.{nat_tests}
 use Rattle.dk_base.specs.ByNumber.{at_number}
-use Rattle.written_kernel.proofs.Lists.{numbered_past, numbered_there, numbered_within}
+use Rattle.kernel_records.proofs.Lists.{numbered_past, numbered_there, numbered_within}
 use Rattle.kernel_core.specs.Woken.{runnables}
 
 pub runnable_stands : (kept m : State) (t : ℕ) → StandsFor kept m → is_runnable kept t ≡ is_runnable m t

@@ -11,6 +11,5 @@ mod information;
 pub mod kernel;
 mod leaving;
 mod notices;
-mod numbered;
 mod runnable;
 mod turns;

@@ -5,7 +5,7 @@ ghost use Rattle.written_kernel.specs.Words.{State, is_runnable, least_or as lea
 ghost use Rattle.kernel_store.specs.Words.{stored_state};
 ghost use Rattle.kernel_core.specs.Woken.{IsCurrent, HasListRoom, runnables};
 
-use crate::numbered::numbered_item;
+use kernel_records::numbered::numbered_item;
 use crate::turns::runnable;
 use dk_base::error::NoMemory;
 use dk_base::list::Room;

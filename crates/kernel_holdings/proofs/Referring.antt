@@ -7,7 +7,7 @@ use Rattle.dk_base.specs.declared.object.Obj.TheVariants as obj
 use Rattle.kernel_records.specs.Words.{count_object, is_object, objects_of}
 use Rattle.written_kernel.specs.Types.{Call, Name, Obj}
 use Rattle.written_kernel.specs.Words.{named_object, objects_in_call}
-use Rattle.written_kernel.proofs.Lists.{is_some-at_number}
+use Rattle.kernel_records.proofs.Lists.{is_some-at_number}
 use Rattle.kernel_holdings.specs.Words.{IsCountOf, references_in}
 
 pub count_object-append : (o : Obj) (xs ys : List Obj) → count_object o (xs ++ ys) ≡ count_object o xs + count_object o ys

@@ -15,7 +15,7 @@ use Rattle.kernel_records.specs.Words.{close_row, close_table, count_object, emp
 use Rattle.kernel_records.proofs.Passing.{count_object-release_rows}
 use Rattle.fd_table.proofs.Lowest.{free_taken_at, free_there, place_is, some_place}
 use Rattle.written_kernel.specs.Types.{Call, Name, NoMemory, Obj, Pass}
-use Rattle.written_kernel.proofs.Lists.{at_number-suc, with_at_number-suc}
+use Rattle.kernel_records.proofs.Lists.{at_number-suc, with_at_number-suc}
 use Rattle.unref_notice.specs.Words.{AreCounted, count_of}
 use Rattle.kernel_holdings.specs.Words.{IsCountOf, is_released}
 use Rattle.kernel_holdings.proofs.NoTable.{no_table, none_changed}

@@ -1,12 +1,10 @@
 //! Descriptors, names and calls, with the references of each door counted.
-ghost use Rattle.std.specs.Prelude.{◌≡◌, ◌+◌, ◌<◌, ◌≤◌, ◌++◌, ◌∷◌, ℕ, [], Some, true, false, filter, find, is_some, length, IfSome, OnOk, OnErr};
-ghost use Rattle.dk_base.specs.ByNumber.{at_number};
+ghost use Rattle.std.specs.Prelude.{◌≡◌, ◌+◌, ◌<◌, ◌≤◌, ◌++◌, ◌∷◌, ℕ, [], true, false, filter, find, is_some, length, IfSome, OnOk, OnErr};
 ghost use Rattle.dk_base.specs.declared.object.Obj.TheVariants as obj;
-ghost use Rattle.kernel_records.specs.Words.{Leaving, close_row, close_table, collect_call, descriptor, door_attached, empty_table, enter_call, fail_call, free_place, free_rows, give_call, has_double_release, insert_row, insert_rows, is_given_as, is_queued, is_to_collect_as, left_calls, live_calls, lowest_free, name_in, new_descriptors, notice_doors, object_named, objects_passed, open_call, release_rows, return_call, table_in, with_name, with_table, without_name};
-ghost use Rattle.written_kernel.specs.Types.{Door as DoorRecord};
+ghost use Rattle.kernel_records.specs.Words.{AnswersAs, AreNumbered, Leaving, close_row, close_table, collect_call, descriptor, door_attached, empty_table, enter_call, fail_call, free_place, free_rows, give_call, has_double_release, insert_row, insert_rows, is_given_as, is_queued, is_to_collect_as, left_calls, live_calls, lowest_free, name_in, new_descriptors, notice_doors, object_named, objects_passed, open_call, release_rows, return_call, table_in, with_name, with_table, without_name};
 ghost use Rattle.written_kernel.specs.Words.{objects_collected_in};
 ghost use Rattle.name_space.specs.Words.{HasRoomForName};
-ghost use Rattle.call_tree.specs.Words.{AnswersAs, HasRoomForCall};
+ghost use Rattle.call_tree.specs.Words.{HasRoomForCall};
 ghost use Rattle.unref_notice.specs.declared.counts.TheConstants.{REFERENCES_ROOM};
 ghost use Rattle.unref_notice.specs.Words.{AreCounted, count_of, was_shared};
 ghost use Rattle.kernel_holdings.specs.Words.{HasRoomToHold, has_fallen_to_one, references_in};
@@ -137,7 +135,7 @@ impl Holdings {
     /// The doors that take notices, had more than one reference when the step began, and have one now, in the order of their
     /// numbers, follow what is in `into`. Only the doors are looked at to which references came or went. It takes no memory.
     pub fn end_of_step(&mut self, doors: &Doors, into: &mut Room<u32>)
-        requires numbered { (d : ℕ) (x : DoorRecord) → at_number doors.now.items d ≡ Some x → x.number ≡ d }
+        requires numbered { AreNumbered doors.now.items }
         requires room { length (filter (was_shared self.old.opening) (notice_doors doors.now.items)) ≤ into.old.spare }
         ensures same { self.new ≡ self.old }
         ensures items { into.new.items ≡ into.old.items ++ filter (has_fallen_to_one self.old) (notice_doors doors.now.items) }

@@ -4,5 +4,4 @@
 
 pub mod holdings;
 mod lowered;
-pub mod numbered;
 pub mod tables;

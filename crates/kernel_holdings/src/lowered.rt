@@ -2,9 +2,8 @@
 ghost use Rattle.std.specs.Prelude.{◌≡◌, ◌-◌, ◌≤◌, ℕ, Bool, filter, flat_map, length};
 ghost use Rattle.std.specs.Option.{option_to_list};
 ghost use Rattle.dk_base.specs.declared.object.Obj.TheVariants as obj;
-ghost use Rattle.kernel_records.specs.Words.{Leaving, count_object, object_named, objects_of, objects_passed, table_in};
+ghost use Rattle.kernel_records.specs.Words.{AnswersAs, Leaving, count_object, object_named, objects_of, objects_passed, table_in};
 ghost use Rattle.written_kernel.specs.Words.{objects_in_call};
-ghost use Rattle.call_tree.specs.Words.{AnswersAs};
 ghost use Rattle.unref_notice.specs.Words.{count_of};
 ghost use Rattle.kernel_holdings.specs.Words.{drops_transit, is_released};
 

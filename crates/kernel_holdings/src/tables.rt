@@ -3,13 +3,13 @@ ghost use Rattle.std.specs.Prelude.{◌≡◌, ◌+◌, ◌<◌, ◌≤◌, ◌+
 ghost use Rattle.dk_base.specs.ByNumber.{at_number};
 ghost use Rattle.kernel_records.specs.Words.{close_row, close_table, descriptor, empty_table, free_place, free_rows, insert_row, insert_rows, is_bad_pass, lowest_free, new_descriptors, object_named, objects_passed, release_rows, table_in, with_table};
 
-use crate::numbered::numbered_item;
 use arg_transfer::passing::{check_pass, install, take_out};
 use dk_base::error::NoMemory;
 use dk_base::list::{FdList, ObjList, PassList, Room};
 use dk_base::number::{Fd, Pid};
 use dk_base::object::Obj;
 use fd_table::table::FdTable;
+use kernel_records::numbered::numbered_item;
 use std::alloc::Global;
 use std::marker::Model;
 

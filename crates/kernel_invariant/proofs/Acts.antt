@@ -18,9 +18,10 @@ use Rattle.kernel_invariant.specs.Invariant.{IsInOrder, IsConsistent}
 use Rattle.kernel_invariant.specs.Arrows.{ByAct, NoticeByAct}
 use Rattle.kernel_invariant.specs.Arrows.ByAct.{stays}
 use Rattle.kernel_invariant.specs.Arrows.NoticeByAct.{stays as notice_stays}
-use Rattle.written_kernel.proofs.Lists.{at_number-with_at_number, length-with_at_number, numbered_past, numbered_there, numbered_within}
+use Rattle.kernel_records.proofs.Lists.{at_number-with_at_number, length-with_at_number, numbered_past, numbered_there, numbered_within}
 use Rattle.kernel_invariant.proofs.Later.{by_act_later, notice_by_act_later}
-use Rattle.kernel_invariant.proofs.Calls.{IsInOrder-change_first, find-change_first, find-found, length-change_first}
+use Rattle.kernel_invariant.proofs.Calls.{IsInOrder-change_first, find-change_first, find-found}
+use Rattle.kernel_records.proofs.Places.{length-change_first}
 use Rattle.kernel_invariant.proofs.Cores.{IsThere, Turns, act-core, change_door-core, set_thread_state-turns, upd, with_door-core}
 use Rattle.kernel_invariant.proofs.ThreadMoves.{IsSameButLimits, turn_keeps, door_keeps, is_quiet, limits_keep}
 

@@ -23,8 +23,9 @@ use Rattle.kernel_invariant.specs.Arrows.{ByAct}
 use Rattle.kernel_invariant.specs.Arrows.ByAct.{makes, returns, ends, collects_results, collects_nothing, collects_error, enters}
 use Rattle.kernel_invariant.specs.Arrows.NoticeByAct.{stays as notice_stays, returns as notice_returns}
 use Rattle.kernel_invariant.specs.Arrows.EndsBy.{server_full}
-use Rattle.kernel_invariant.proofs.Calls.{IsInOrder-push, change_first-none, find-found, find-none, find-passes, find-past, find-push}
-use Rattle.kernel_invariant.proofs.Notices.{change_first_notice-none, notice-passes}
+use Rattle.kernel_invariant.proofs.Calls.{IsInOrder-push, find-found, find-none, find-passes, find-past, find-push}
+use Rattle.kernel_records.proofs.Places.{change_first-none}
+use Rattle.kernel_invariant.proofs.Notices.{notice-passes}
 use Rattle.kernel_invariant.proofs.NoticeMoves.{end_notice_keeps}
 use Rattle.kernel_invariant.proofs.NoticeActs.{accept_notice_does, does_notice, entered_notice_is, no_entered, none_entered, notice_found}
 use Rattle.kernel_invariant.proofs.Cores.{Turns, act-core, end_invocation-turns, enter_thread-turns, park_thread-turns, set_thread_state-turns, upd}
@@ -279,7 +280,7 @@ module _ (m : State) (t : ℕ) (bytes : List ℕ) (pass : List Pass) (h : IsCons
       same_notices : find_notice m (is_notice_entered_by t) ≡ None → m.notice_list ≡ end_notice m.notice_list t
       same_notices f =
           sym (ap (λ ns. record m.notice_list { notices = ns })
-          (change_first_notice-none (is_notice_entered_by t) (notice_at notice.Over) m.notice_list.notices f))
+          (change_first-none (is_notice_entered_by t) (notice_at notice.Over) m.notice_list.notices f))
 
       of_client : (r : Call) → client_call m t ≡ Some r → Does m t q (act_result (returned table returned_calls (end_notice m.notice_list t)) a)
       of_client r f =

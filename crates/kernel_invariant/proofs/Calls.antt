@@ -57,14 +57,6 @@ module _ (test : Call → Bool) where
 -- the first call that meets a test, changed
 
 module _ (test : Call → Bool) (change : Call → Call) where
-  pub change_first-none : (rs : List Call) → find test rs ≡ None → change_first test change rs ≡ rs
-  change_first-none [] e = refl
-  change_first-none (x ∷ rs) e = grind (arith, change_first-none rs)
-
-  pub length-change_first : (rs : List Call) → length (change_first test change rs) ≡ length rs
-  length-change_first [] = refl
-  length-change_first (x ∷ rs) = grind (arith, length-change_first rs)
-
   module _ (same : (r : Call) → (change r).number ≡ r.number) where
     pub IsInOrder-change_first : (rs : List Call) (n : ℕ) → IsInOrder n rs → IsInOrder n (change_first test change rs)
     IsInOrder-change_first [] n h = h

@@ -9,10 +9,10 @@ use Rattle.kernel_records.specs.Words.{CallTree, NoticeList, ProcessTable, chang
 use Rattle.dk_base.specs.ByNumber.{at_number}
 use Rattle.written_kernel.specs.Words.{State}
 use Rattle.kernel_invariant.specs.Records.{has_notice_number, has_number}
-use Rattle.kernel_invariant.specs.Core.{Core, core, notice_in, noticed_in, number_in}
+use Rattle.kernel_invariant.specs.Core.{Core, core, notice_in, noticed_door_in, number_in}
 use Rattle.written_kernel.proofs.Invocations.{invocation-enter_thread, invocation-park_thread, invocation-set_thread_state, invocation-without}
 use Rattle.written_kernel.proofs.Doors.{at_number-change_door}
-use Rattle.written_kernel.proofs.Lists.{numbered_push}
+use Rattle.kernel_records.proofs.Lists.{numbered_push}
 use Rattle.written_kernel.proofs.Threads.{processes-change_thread, thread_at-change_thread}
 
 abbrev pub upd : {X : Type 0} → (ℕ → X) → ℕ → X → ℕ → X
@@ -44,7 +44,7 @@ pub record SameCore (k l : Core) : Type 0 where
   pub call : (c : ℕ) → k.call c ≡ l.call c
   pub made : k.made ≡ l.made
   pub notice : (n : ℕ) → k.notice n ≡ l.notice n
-  pub noticed : (n : ℕ) → k.noticed n ≡ l.noticed n
+  pub noticed_door : (n : ℕ) → k.noticed_door n ≡ l.noticed_door n
 
 pub same_core : (k l : Core) → SameCore k l → k ≡ l
 same_core k l h = λ i. record {
@@ -58,7 +58,7 @@ same_core k l h = λ i. record {
   call = λ t. h.call t i;
   made = h.made i;
   notice = λ t. h.notice t i;
-  noticed = λ t. h.noticed t i;
+  noticed_door = λ t. h.noticed_door t i;
 }
 
 -- one thread turns to a state, and then this is what threads serve
@@ -200,7 +200,7 @@ act-core m b tree t s serves call h g =
       call = g;
       made = refl;
       notice = λ u. refl;
-      noticed = λ u. refl;
+      noticed_door = λ u. refl;
     })
 
 pub with_door-core :
@@ -218,7 +218,7 @@ with_door-core m d n =
       call = λ u. refl;
       made = refl;
       notice = λ u. refl;
-      noticed = λ u. refl;
+      noticed_door = λ u. refl;
     })
 
 pub change_door-core :
@@ -239,14 +239,14 @@ change_door-core m d change x e =
       call = λ u. refl;
       made = refl;
       notice = λ u. refl;
-      noticed = λ u. refl;
+      noticed_door = λ u. refl;
     })
 
 -- an act that changes a thread and the stages of notices
 pub notice-core :
     (m : State) (b : ProcessTable) (list : NoticeList) (t : ℕ) (s : ThreadState) (serves : ℕ → Option Inv) (notice : ℕ → Option NoticeStage) →
     Turns m.process_table b t s serves → ((n : ℕ) → notice_in (find (has_notice_number n) list.notices) ≡ notice n) →
-    ((n : ℕ) → noticed_in (find (has_notice_number n) list.notices) ≡ (core m).noticed n) →
+    ((n : ℕ) → noticed_door_in (find (has_notice_number n) list.notices) ≡ (core m).noticed_door n) →
     core (record m { process_table = b; notice_list = list })
     ≡ record (core m) { role = upd (core m).role t s; serves = serves; notice = notice }
 notice-core m b list t s serves notice h g d =
@@ -262,5 +262,5 @@ notice-core m b list t s serves notice h g d =
       call = λ c. refl;
       made = refl;
       notice = g;
-      noticed = d;
+      noticed_door = d;
     })

@@ -12,7 +12,7 @@ use Rattle.dk_base.specs.ByNumber.{at_number}
 use Rattle.kernel_records.specs.Words.{is_given_as, is_given_notice_as, new_door, set_param, with_door, with_param}
 use Rattle.written_kernel.specs.Words.{MayTurn, State, accept, accept_call, accept_notice, act, await, await_name, begin_call, door_of, effect, enter, fail_begin, find_call, find_notice, go_on, has_invalid_door, has_room, name_of, process_of, refusal_of, return, return_parked, return_unbound, state_of, step, unless_refused}
 use Rattle.written_kernel.proofs.Doors.{at_number-change_door}
-use Rattle.written_kernel.proofs.Lists.{numbered_push, numbered_past}
+use Rattle.kernel_records.proofs.Lists.{numbered_push, numbered_past}
 use Rattle.kernel_invariant.specs.Invariant.{IsConsistent, Invariant}
 use Rattle.kernel_invariant.specs.Events.{DoorArrow}
 use Rattle.kernel_invariant.specs.Events.DoorArrow.{none, kept, created}

@@ -8,7 +8,7 @@ use Rattle.kernel_records.specs.declared.record.ThreadState.TheVariants as is
 use Rattle.dk_base.specs.ByNumber.{at_number}
 use Rattle.kernel_records.specs.Words.{bound_at, bound_in, is_idle, set_thread_state, unbind_thread}
 use Rattle.written_kernel.specs.Words.{State, bound_of, fail_return, has_invalid_door, has_lost_door, is_bound_to_invalid, state_of, wake, with_state}
-use Rattle.written_kernel.proofs.Lists.{at_number-with_at_number}
+use Rattle.kernel_records.proofs.Lists.{at_number-with_at_number}
 use Rattle.kernel_invariant.specs.Core.{Core, core}
 use Rattle.kernel_invariant.specs.Coherent.{IsCoherent}
 use Rattle.kernel_invariant.specs.Invariant.{IsConsistent}

@@ -19,7 +19,7 @@ use Rattle.kernel_invariant.specs.Events.{DoorArrow, InvocationArrow}
 use Rattle.kernel_invariant.specs.Events.DoorArrow.{none, kept}
 use Rattle.kernel_invariant.specs.Events.InvocationArrow.{stays}
 use Rattle.written_kernel.proofs.Doors.{at_number-change_door}
-use Rattle.written_kernel.proofs.Lists.{at_number-map, at_number-renumbered_there, at_number-with_at_number, length-with_at_number}
+use Rattle.kernel_records.proofs.Lists.{at_number-map, at_number-renumbered_there, at_number-with_at_number, length-with_at_number}
 use Rattle.kernel_invariant.proofs.LeftStates.{MayLeave, left_state, leaving_does, leaving_serves}
 use Rattle.kernel_invariant.proofs.Acts.{AreTables, Does, act_result, does_nothing, own_tables}
 

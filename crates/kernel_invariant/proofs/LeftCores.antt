@@ -333,8 +333,8 @@ pub record LeftCore (k : Core) (who : Leaving) (now : ℕ) (l : Core) : Type 0 w
   pub bound : (u : ℕ) → l.bound u ≡ k.bound u
   pub call : (c : ℕ) → l.call c ≡ option_map (left_call who) (k.call c)
   pub made : l.made ≡ k.made
-  pub notice : (n : ℕ) → l.notice n ≡ option_map (left_notice_stage who (k.noticed n)) (k.notice n)
-  pub noticed : (n : ℕ) → l.noticed n ≡ k.noticed n
+  pub notice : (n : ℕ) → l.notice n ≡ option_map (left_notice_stage who (k.noticed_door n)) (k.notice n)
+  pub noticed_door : (n : ℕ) → l.noticed_door n ≡ k.noticed_door n
   pub door_there : (d : ℕ) → is_some (l.door d) ≡ is_some (k.door d)
   pub door_owner : (d : ℕ) → owner_in (l.door d) ≡ owner_in (k.door d)
   pub door_no_cancel : (d : ℕ) → no_cancel_of (l.door d) ≡ no_cancel_of (k.door d)
@@ -361,7 +361,7 @@ door_same who (Some r) = (left_fields who r).door
 record NoticeBefore (k : Core) (who : Leaving) (n : ℕ) (x : NoticeStage) : Type 0 where
   stage : NoticeStage
   there : k.notice n ≡ Some stage
-  same : left_notice_stage who (k.noticed n) stage ≡ x
+  same : left_notice_stage who (k.noticed_door n) stage ≡ x
 
 module _ (k : Core) (who : Leaving) (now : ℕ) (l : Core) (h : IsCoherent k) (p : LeftCore k who now l) where
   -- a call that is found has its number
@@ -463,7 +463,7 @@ module _ (k : Core) (who : Leaving) (now : ℕ) (l : Core) (h : IsCoherent k) (p
   notice_before : (n : ℕ) (x : NoticeStage) → l.notice n ≡ Some x → NoticeBefore k who n x
   notice_before n x e = go (k.notice n) refl (sym (p.notice n) ∙ e)
     where
-      go : (o : Option NoticeStage) → k.notice n ≡ o → option_map (left_notice_stage who (k.noticed n)) o ≡ Some x → NoticeBefore k who n x
+      go : (o : Option NoticeStage) → k.notice n ≡ o → option_map (left_notice_stage who (k.noticed_door n)) o ≡ Some x → NoticeBefore k who n x
       go None f g = absurd (grind arith)
       go (Some s) f g = record { stage = s; there = f; same = some_is _ _ g }
 
@@ -473,13 +473,13 @@ module _ (k : Core) (who : Leaving) (now : ℕ) (l : Core) (h : IsCoherent k) (p
         notice_given =
             λ n u e.
             let b : NoticeBefore k who n (notice.Given (tid u)) = notice_before n _ e in
-            let w : (b.stage ≡ notice.Given (tid u)) × (who.ends u ≡ false) = notice_was_given who (k.noticed n) b.stage u b.same in
+            let w : (b.stage ≡ notice.Given (tid u)) × (who.ends u ≡ false) = notice_was_given who (k.noticed_door n) b.stage u b.same in
             keeps_given_notice k who now u _ _ h (p.thread u) n (h.notices_given.notice_given n u (b.there ∙ ap (λ s. Some s) w.0)) w.1;
         notice_given_back =
             λ n u e.
             let w : Was k who now u (l.role u) (l.serves u) h = was_given_item k who now u _ _ h (p.thread u) (item.Notice n) e in
             p.notice n
-            ∙ ap (option_map (left_notice_stage who (k.noticed n))) (h.notices_given.notice_given_back n u (w.role ∙ e))
+            ∙ ap (option_map (left_notice_stage who (k.noticed_door n))) (h.notices_given.notice_given_back n u (w.role ∙ e))
             ∙ ap (λ (b : Bool). Some (if b then notice.Over else notice.Given (tid u))) w.stays;
       }
 
@@ -489,44 +489,44 @@ module _ (k : Core) (who : Leaving) (now : ℕ) (l : Core) (h : IsCoherent k) (p
         notice_entered =
             λ n u e.
             let b : NoticeBefore k who n (notice.Entered (tid u)) = notice_before n _ e in
-            let w : (b.stage ≡ notice.Entered (tid u)) × (who.ends u ≡ false) = notice_was_entered who (k.noticed n) b.stage u b.same in
+            let w : (b.stage ≡ notice.Entered (tid u)) × (who.ends u ≡ false) = notice_was_entered who (k.noticed_door n) b.stage u b.same in
             still_serves k who now u _ _ h (p.thread u) (item.Notice n)
             (h.notices_entered.notice_entered n u (b.there ∙ ap (λ s. Some s) w.0)) w.1;
         notice_entered_back =
             λ n u e.
             let w : Served k who now u (l.role u) (l.serves u) h (item.Notice n) = did_serve k who now u _ _ h (p.thread u) (item.Notice n) e in
             p.notice n
-            ∙ ap (option_map (left_notice_stage who (k.noticed n))) (h.notices_entered.notice_entered_back n u w.item)
+            ∙ ap (option_map (left_notice_stage who (k.noticed_door n))) (h.notices_entered.notice_entered_back n u w.item)
             ∙ ap (λ (b : Bool). Some (if b then notice.Over else notice.Entered (tid u))) w.stays;
       }
 
-  notice_owner_same : (n : ℕ) → owner_in (l.door (l.noticed n)) ≡ owner_in (k.door (k.noticed n))
-  notice_owner_same n = p.door_owner (l.noticed n) ∙ ap (λ d. owner_in (k.door d)) (p.noticed n)
+  notice_owner_same : (n : ℕ) → owner_in (l.door (l.noticed_door n)) ≡ owner_in (k.door (k.noticed_door n))
+  notice_owner_same n = p.door_owner (l.noticed_door n) ∙ ap (λ d. owner_in (k.door d)) (p.noticed_door n)
 
-  left_notices_at_doors : AreNoticesAtDoors l.notice l.noticed l.door l.process
+  left_notices_at_doors : AreNoticesAtDoors l.notice l.noticed_door l.door l.process
   left_notices_at_doors =
       record {
         notice_door =
-            λ n e. p.door_there (l.noticed n)
-            ∙ ap (λ d. is_some (k.door d)) (p.noticed n)
+            λ n e. p.door_there (l.noticed_door n)
+            ∙ ap (λ d. is_some (k.door d)) (p.noticed_door n)
             ∙ h.notices_at_doors.notice_door n (was_there _ (k.notice n) (sym (ap is_some (p.notice n)) ∙ e));
         notice_valid =
             λ n e.
             let b : NoticeBefore k who n notice.Waiting = notice_before n _ e in
-            let w : (b.stage ≡ notice.Waiting) × (who.loses (k.noticed n) ≡ false) = notice_was_waiting who (k.noticed n) b.stage b.same in
-            ap (λ d. is_valid_in (l.door d)) (p.noticed n)
-            ∙ p.door_valid (k.noticed n) (h.notices_at_doors.notice_valid n (b.there ∙ ap (λ s. Some s) w.0)) w.1;
+            let w : (b.stage ≡ notice.Waiting) × (who.loses (k.noticed_door n) ≡ false) = notice_was_waiting who (k.noticed_door n) b.stage b.same in
+            ap (λ d. is_valid_in (l.door d)) (p.noticed_door n)
+            ∙ p.door_valid (k.noticed_door n) (h.notices_at_doors.notice_valid n (b.there ∙ ap (λ s. Some s) w.0)) w.1;
         notice_given_owner =
             λ n u e.
             let b : NoticeBefore k who n (notice.Given (tid u)) = notice_before n _ e in
-            let w : (b.stage ≡ notice.Given (tid u)) × (who.ends u ≡ false) = notice_was_given who (k.noticed n) b.stage u b.same in
+            let w : (b.stage ≡ notice.Given (tid u)) × (who.ends u ≡ false) = notice_was_given who (k.noticed_door n) b.stage u b.same in
             notice_owner_same n
             ∙ h.notices_at_doors.notice_given_owner n u (b.there ∙ ap (λ s. Some s) w.0)
             ∙ ap (λ i. Some i) (sym (p.process u));
         notice_entered_owner =
             λ n u e.
             let b : NoticeBefore k who n (notice.Entered (tid u)) = notice_before n _ e in
-            let w : (b.stage ≡ notice.Entered (tid u)) × (who.ends u ≡ false) = notice_was_entered who (k.noticed n) b.stage u b.same in
+            let w : (b.stage ≡ notice.Entered (tid u)) × (who.ends u ≡ false) = notice_was_entered who (k.noticed_door n) b.stage u b.same in
             notice_owner_same n
             ∙ h.notices_at_doors.notice_entered_owner n u (b.there ∙ ap (λ s. Some s) w.0)
             ∙ ap (λ i. Some i) (sym (p.process u));

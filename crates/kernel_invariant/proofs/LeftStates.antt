@@ -17,7 +17,7 @@ use Rattle.kernel_records.specs.declared.record.NoticeStage.TheVariants as notic
 use Rattle.kernel_records.specs.Words.{Leaving, abandoned_at, broken_call_at, cancelled_invocation, without_arguments_at, deserted_at, deserted_in, ended_thread, ended_where, gone_call_at, interrupted_state, interrupted_thread, interrupted_where, invocation_in, is_entered_by, is_given_to, is_left, is_live, is_notice_of, is_private_in, is_served_by, is_valid_in, left_call, left_notice, left_notice_at, left_thread, left_thread_of, left_threads, no_cancel_of, notice_at, object_named, process_in, state_in, table_in, tid}
 use Rattle.written_kernel.specs.Words.{State, door_of, invocation_of, is_valid, leave, now, process_of, state_of, thread_of}
 use Rattle.kernel_invariant.specs.Records.{item_in, notice_of, owner_in, record_of, stage_in}
-use Rattle.kernel_invariant.specs.Core.{abandoned_in, caller_number, core, door_in, ended_in, has_arguments, is_outside, is_underway, live_in, notice_in, noticed_in, number_in, underway_in}
+use Rattle.kernel_invariant.specs.Core.{abandoned_in, caller_number, core, door_in, ended_in, has_arguments, is_outside, is_underway, live_in, notice_in, noticed_door_in, number_in, underway_in}
 use Rattle.kernel_invariant.specs.Coherent.{AreDoors, is_unbuilt}
 use Rattle.kernel_invariant.specs.Invariant.{IsConsistent}
 use Rattle.kernel_invariant.specs.Arrows.{ByAct, EndsNow, NoticeByAct}
@@ -27,7 +27,7 @@ use Rattle.kernel_invariant.specs.Arrows.EndsBy.{door_invalid, interrupted, serv
 use Rattle.kernel_invariant.specs.Events.{InvocationArrow, IsLeft}
 use Rattle.kernel_invariant.specs.Events.InvocationArrow.{stays as invocation_stays, cancels as invocation_cancels, leaves as invocation_leaves}
 use Rattle.kernel_invariant.specs.Events.IsLeft.{interrupted as is_interrupted, caller_ends}
-use Rattle.written_kernel.proofs.Lists.{at_number-map}
+use Rattle.kernel_records.proofs.Lists.{at_number-map}
 use Rattle.kernel_invariant.proofs.Calls.{IsInOrder-map, find-found, find-map, find-none, find-passes}
 use Rattle.kernel_invariant.proofs.Notices.{AreNoticesInOrder-map, notice-map}
 use Rattle.kernel_invariant.proofs.LeftCores.{LeftCore, LeftThread, ended_now, leaving_keeps, left_fields, left_notice_stage, still_calling}
@@ -242,11 +242,11 @@ module _ (m : State) (q : Option Request) (who : Leaving) (processes : List Proc
   pub notices_after : (n : ℕ) → notice_of after n ≡ option_map (left_notice who) (notice_of m n)
   notices_after n = notice-map (left_notice who) left_notice_number m.notice_list.notices n
 
-  stage_after : (o : Option Notice) → notice_in (option_map (left_notice who) o) ≡ option_map (left_notice_stage who (noticed_in o)) (notice_in o)
+  stage_after : (o : Option Notice) → notice_in (option_map (left_notice who) o) ≡ option_map (left_notice_stage who (noticed_door_in o)) (notice_in o)
   stage_after None = refl
   stage_after (Some x) = ap (λ s. Some s) (left_notice_fields who x.stage x refl).stage
 
-  door_after : (o : Option Notice) → noticed_in (option_map (left_notice who) o) ≡ noticed_in o
+  door_after : (o : Option Notice) → noticed_door_in (option_map (left_notice who) o) ≡ noticed_door_in o
   door_after None = refl
   door_after (Some x) = (left_notice_fields who x.stage x refl).door
 
@@ -295,7 +295,7 @@ module _ (m : State) (q : Option Request) (who : Leaving) (processes : List Proc
           call = calls_after;
           made = refl;
           notice = λ n. ap notice_in (notices_after n) ∙ stage_after (notice_of m n);
-          noticed = λ n. ap noticed_in (notices_after n) ∙ door_after (notice_of m n);
+          noticed_door = λ n. ap noticed_door_in (notices_after n) ∙ door_after (notice_of m n);
           door_there = may.door_there;
           door_owner = may.door_owner;
           door_no_cancel = may.door_no_cancel;
@@ -429,7 +429,7 @@ module _ (m : State) (q : Option Request) (who : Leaving) (processes : List Proc
           go : (b : Bool) → who.loses x.door ≡ b → NoticeByAct m t q a after (Some x) (Some (if b then notice_at notice.Dropped x else x))
           go true g =
               let valid : is_valid m x.door ≡ true =
-              ap (λ o. is_valid m (noticed_in o)) (sym there) ∙ h.coherent.notices_at_doors.notice_valid c (stage_is _ e)
+              ap (λ o. is_valid m (noticed_door_in o)) (sym there) ∙ h.coherent.notices_at_doors.notice_valid c (stage_is _ e)
               in
               notice_drops x e valid (may.door_lost x.door g)
           go false g = notice_stays

@@ -12,7 +12,7 @@ use Rattle.kernel_records.specs.declared.record.ThreadState.TheVariants as is
 use Rattle.kernel_records.specs.Words.{bound_in, change_thread, idle_thread, is_given_as, is_given_notice_as, is_idle, is_valid_in, new_door, set_param, state_in, thread_at, thread_at_state, thread_in_invocation, thread_outside, with_door, with_param}
 use Rattle.written_kernel.specs.Words.{MayTurn, State, accept, accept_call, accept_notice, act, await, await_name, begin_call, bound_of, door_of, effect, enter, fail_begin, find_call, find_notice, go_on, has_invalid_door, has_lost_door, has_room, is_bound_to_invalid, is_valid, name_of, now, process_of, refusal_of, return, return_parked, return_unbound, state_of, unless_refused}
 use Rattle.written_kernel.proofs.Doors.{at_number-change_door}
-use Rattle.written_kernel.proofs.Lists.{at_number-with_at_number, numbered_push}
+use Rattle.kernel_records.proofs.Lists.{at_number-with_at_number, numbered_push}
 use Rattle.written_kernel.proofs.Threads.{thread_at-change_thread}
 use Rattle.kernel_invariant.specs.Invariant.{Invariant}
 use Rattle.kernel_invariant.specs.Events.{is_leaving, may_lose_door}

@@ -8,17 +8,18 @@ use Rattle.dk_base.specs.declared.object.Item.TheVariants as item
 use Rattle.written_kernel.specs.Types.{Answer, Inv, Notice, NoticeStage, Obj, Request, ThreadState}
 use Rattle.kernel_records.specs.declared.record.ThreadState.TheVariants as is
 use Rattle.kernel_records.specs.declared.record.NoticeStage.TheVariants as notice
-use Rattle.kernel_records.specs.Words.{NoticeList, ProcessTable, change_first_notice, is_entered_stage, is_given_notice_as, is_given_stage, is_notice_entered_by, is_notice_of, notice_at, tid}
+use Rattle.kernel_records.specs.Words.{NoticeList, ProcessTable, change_first, is_entered_stage, is_given_notice_as, is_given_stage, is_notice_entered_by, is_notice_of, notice_at, tid}
 use Rattle.written_kernel.specs.Words.{State, accept_notice, begin_notice, find_notice, invocation_of, state_of}
 use Rattle.dk_base.specs.ByNumber.{at_number}
 use Rattle.kernel_invariant.specs.Records.{has_notice_number, item_in, notice_of}
-use Rattle.kernel_invariant.specs.Core.{core, ended_in, notice_in, noticed_in}
+use Rattle.kernel_invariant.specs.Core.{core, ended_in, notice_in, noticed_door_in}
 use Rattle.kernel_invariant.specs.Coherent.{IsCoherent}
 use Rattle.kernel_invariant.specs.Invariant.{IsConsistent}
 use Rattle.kernel_invariant.specs.Arrows.{NoticeByAct}
 use Rattle.kernel_invariant.specs.Arrows.ByAct.{stays}
 use Rattle.kernel_invariant.specs.Arrows.NoticeByAct.{stays as notice_stays, enters as notice_enters}
-use Rattle.kernel_invariant.proofs.Notices.{AreNoticesInOrder-change_first_notice, length-change_first_notice, notice-change_first, notice-as, notice-found, notice-none, notice-number, notice-passes}
+use Rattle.kernel_invariant.proofs.Notices.{AreNoticesInOrder-change_first_notice, notice-change_first, notice-as, notice-found, notice-none, notice-number, notice-passes}
+use Rattle.kernel_records.proofs.Places.{length-change_first}
 use Rattle.kernel_invariant.proofs.NoticeMoves.{enter_notice_keeps}
 use Rattle.kernel_invariant.proofs.Cores.{Turns, enter_thread-turns, notice-core, upd}
 use Rattle.kernel_invariant.proofs.Acts.{AreTables, Does, act_result, does_nothing, same_tables, there}
@@ -79,7 +80,7 @@ notice_arrow_at m t q a n i x f g e b c = go (c == i) refl
 
 -- the notices after the first that meets a test moved to a stage
 abbrev pub moved_list : NoticeList → (Notice → Bool) → NoticeStage → NoticeList
-moved_list list test s = record list { notices = change_first_notice test (notice_at s) list.notices }
+moved_list list test s = record list { notices = change_first test (notice_at s) list.notices }
 
 module _ (test : Notice → Bool) (s : NoticeStage) (m : State) (x : Notice) (h : IsConsistent m) (f : find_notice m test ≡ Some x) where
   pub moved-notice : (c : ℕ) → find (has_notice_number c) (moved_list m.notice_list test s).notices ≡ upd (notice_of m) x.number (Some (notice_at s x)) c
@@ -92,25 +93,25 @@ module _ (test : Notice → Bool) (s : NoticeStage) (m : State) (x : Notice) (h 
       go true = refl
       go false = refl
 
-  pub moved-door : (c : ℕ) → noticed_in (find (has_notice_number c) (moved_list m.notice_list test s).notices) ≡ (core m).noticed c
-  moved-door c = ap noticed_in (moved-notice c) ∙ go (c == x.number) refl
+  pub moved-door : (c : ℕ) → noticed_door_in (find (has_notice_number c) (moved_list m.notice_list test s).notices) ≡ (core m).noticed_door c
+  moved-door c = ap noticed_door_in (moved-notice c) ∙ go (c == x.number) refl
     where
-      go : (b : Bool) → (c == x.number) ≡ b → noticed_in (if b then Some (notice_at s x) else notice_of m c) ≡ noticed_in (notice_of m c)
+      go : (b : Bool) → (c == x.number) ≡ b → noticed_door_in (if b then Some (notice_at s x) else notice_of m c) ≡ noticed_door_in (notice_of m c)
       go true e =
           let same : x.number ≡ c = grind (arith, nat_tests) in
-          sym (ap noticed_in (notice_found m test x h f)) ∙ ap (λ (j : ℕ). noticed_in (notice_of m j)) same
+          sym (ap noticed_door_in (notice_found m test x h f)) ∙ ap (λ (j : ℕ). noticed_door_in (notice_of m j)) same
       go false e = refl
 
 -- the doors of notices stay where the first that meets a test is changed
 pub door_had :
     (test : Notice → Bool) (change : Notice → Notice) → ((x : Notice) → (change x).door ≡ x.door) → (d : ℕ) (xs : List Notice) →
-    list_any (is_notice_of d) (change_first_notice test change xs) ≡ list_any (is_notice_of d) xs
+    list_any (is_notice_of d) (change_first test change xs) ≡ list_any (is_notice_of d) xs
 door_had test change same d [] = refl
 door_had test change same d (x ∷ xs) = go (test x) (door_had test change same d xs)
   where
     go :
-        (b : Bool) → list_any (is_notice_of d) (change_first_notice test change xs) ≡ list_any (is_notice_of d) xs →
-        list_any (is_notice_of d) (if b then change x ∷ xs else x ∷ change_first_notice test change xs) ≡ list_any (is_notice_of d) (x ∷ xs)
+        (b : Bool) → list_any (is_notice_of d) (change_first test change xs) ≡ list_any (is_notice_of d) xs →
+        list_any (is_notice_of d) (if b then change x ∷ xs else x ∷ change_first test change xs) ≡ list_any (is_notice_of d) (x ∷ xs)
     go true ih = ap (λ (e : ℕ). (e == d) || list_any (is_notice_of d) xs) (same x)
     go false ih = ap (λ (b : Bool). is_notice_of d x || b) ih
 
@@ -140,7 +141,7 @@ does_notice test z m t q a table tables s serves x h rows g f k b =
             tables = rows.counted ∙ sym (ap length g.processes);
             no_rows = λ p fd e. rows.no_rows p fd (ap (λ xs. ended_in (at_number xs p)) (sym g.processes) ∙ e);
             notices_in_order = AreNoticesInOrder-change_first_notice test (notice_at z) (λ y. refl) m.notice_list.notices 0 h.notices_in_order;
-            notices_counted = length-change_first_notice test (notice_at z) m.notice_list.notices ∙ h.notices_counted;
+            notices_counted = length-change_first test (notice_at z) m.notice_list.notices ∙ h.notices_counted;
           };
       arrows = λ c. stays;
       notices =

@@ -19,7 +19,7 @@ set_notice k n s = record k { notice = upd k.notice n (Some s) }
 
 -- a new notice of a valid door waits
 abbrev pub made_notice_core : Core → ℕ → ℕ → Core
-made_notice_core k n d = record (set_notice k n notice.Waiting) { noticed = upd k.noticed n d }
+made_notice_core k n d = record (set_notice k n notice.Waiting) { noticed_door = upd k.noticed_door n d }
 
 pub make_notice_keeps :
     (k : Core) (n d : ℕ) → IsCoherent k → k.notice n ≡ None → is_valid_in (k.door d) ≡ true → IsCoherent (made_notice_core k n d)
@@ -62,7 +62,7 @@ pub record GivesNotice (k : Core) (n u : ℕ) : Type 0 where
   pub since : ℕ
   pub idle : k.role u ≡ is.Idle since
   pub waiting : k.notice n ≡ Some notice.Waiting
-  pub owner : owner_in (k.door (k.noticed n)) ≡ Some (k.process u)
+  pub owner : owner_in (k.door (k.noticed_door n)) ≡ Some (k.process u)
 
 pub give_notice_keeps : (k : Core) (n u : ℕ) → IsCoherent k → GivesNotice k n u → IsCoherent (given_notice_core k n u)
 give_notice_keeps k n u h p =

@@ -9,9 +9,9 @@ use Rattle.dk_base.specs.declared.object.Obj.TheVariants as obj
 use Rattle.written_kernel.specs.Types.{Answer, Call, CallStage, Door, Item, Notice, NoticeStage, Request}
 use Rattle.kernel_records.specs.declared.record.CallStage.TheVariants as stage
 use Rattle.kernel_records.specs.declared.record.NoticeStage.TheVariants as notice
-use Rattle.kernel_records.specs.Words.{at_stage, change_first, change_first_notice, has_unref_multi, is_object, is_queued, is_queued_as, is_valid_door, is_waiting_notice_as, is_waiting_stage, new_notice, notice_at, objects_of, takes_notices, tid}
+use Rattle.kernel_records.specs.Words.{at_stage, change_first, has_unref_multi, is_object, is_queued, is_queued_as, is_valid_door, is_waiting_notice_as, is_waiting_stage, new_notice, notice_at, objects_of, takes_notices, tid}
 use Rattle.written_kernel.specs.Words.{MayTurn, State, act, door_of, falls_to_one, find_notice, give_one, holdings, is_due, make_each, make_notices, may_have_notice, named_object, now, objects_in_call, objects_in_transit, reference_count, settle, step, with_event_counted}
-use Rattle.written_kernel.proofs.Lists.{numbered_within}
+use Rattle.kernel_records.proofs.Lists.{numbered_within}
 use Rattle.written_kernel.proofs.Notices.{IsDue, due_is, is_due-so_far, make_each-due}
 use Rattle.written_kernel.proofs.Steps.{events-step}
 use Rattle.written_kernel.proofs.Settling.{KeptByGiving, events-settle, fail_returns-all, give_and_start-all, settle-all, with_notice_of}
@@ -21,7 +21,8 @@ use Rattle.kernel_invariant.specs.Arrows.{NoticeArrow, NoticeByAct, NoticeByGivi
 use Rattle.kernel_invariant.specs.Arrows.NoticeByAct.{stays as notice_stays, makes as notice_makes, enters as notice_enters, returns as notice_returns, drops as notice_drops, ends as notice_ends}
 use Rattle.kernel_invariant.specs.Arrows.NoticeByGiving.{stays, gives}
 use Rattle.kernel_invariant.specs.Events.{IsNoticed}
-use Rattle.kernel_invariant.proofs.Notices.{AreNoticesInOrder-change_first_notice, AreNoticesInOrder-push, change_first_notice-none, notice-change_first, notice-found, notice-passes, notice-past, notice-push}
+use Rattle.kernel_invariant.proofs.Notices.{AreNoticesInOrder-change_first_notice, AreNoticesInOrder-push, notice-change_first, notice-found, notice-passes, notice-past, notice-push}
+use Rattle.kernel_records.proofs.Places.{change_first-none}
 use Rattle.kernel_invariant.proofs.Later.{AreSameDoors, notice_by_act_later}
 use Rattle.kernel_invariant.proofs.Settling.{make_notices_does}
 use Rattle.kernel_invariant.proofs.Steps.{StepDoes, same_done, step_does}
@@ -57,7 +58,7 @@ given_once m n k u h = go (find_notice n (is_waiting_notice_as k)) refl
     change = notice_at (notice.Given (tid u))
 
     after : List Notice
-    after = change_first_notice test change n.notice_list.notices
+    after = change_first test change n.notice_list.notices
 
     at : (y : Notice) (c : ℕ) → find test n.notice_list.notices ≡ Some y → (b : Bool) → (c == y.number) ≡ b → NoticeByGiving (notice_of n c) (if b then Some (change y) else notice_of n c)
     at y c f true e =
@@ -68,7 +69,7 @@ given_once m n k u h = go (find_notice n (is_waiting_notice_as k)) refl
 
     go : (o : Option Notice) → find_notice n test ≡ o → NoticesGiven m (give_one n (item.Notice k) u)
     go None f =
-        let same : after ≡ n.notice_list.notices = change_first_notice-none test change n.notice_list.notices f in
+        let same : after ≡ n.notice_list.notices = change_first-none test change n.notice_list.notices f in
         record {
           in_order = subst (λ xs. AreNoticesInOrder 0 xs) (sym same) h.in_order;
           giving = λ c. subst (λ xs. NoticeByGiving (notice_of m c) (find (has_notice_number c) xs)) (sym same) (h.giving c);

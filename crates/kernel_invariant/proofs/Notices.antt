@@ -4,7 +4,7 @@ use Rattle.std.proofs.Common.{refl, ◌∙◌}
 use native.Mathlib.Omega.{arith}
 use Rattle.std.proofs.lemmas.Bool.Decides.{nat_tests}
 use Rattle.written_kernel.specs.Types.{Notice}
-use Rattle.kernel_records.specs.Words.{change_first_notice}
+use Rattle.kernel_records.specs.Words.{change_first}
 use Rattle.kernel_invariant.specs.Records.{has_notice_number}
 use Rattle.kernel_invariant.specs.Invariant.{AreNoticesInOrder}
 
@@ -57,22 +57,14 @@ module _ (test : Notice → Bool) where
 -- the first notice that meets a test, changed
 
 module _ (test : Notice → Bool) (change : Notice → Notice) where
-  pub change_first_notice-none : (rs : List Notice) → find test rs ≡ None → change_first_notice test change rs ≡ rs
-  change_first_notice-none [] e = refl
-  change_first_notice-none (x ∷ rs) e = grind (arith, change_first_notice-none rs)
-
-  pub length-change_first_notice : (rs : List Notice) → length (change_first_notice test change rs) ≡ length rs
-  length-change_first_notice [] = refl
-  length-change_first_notice (x ∷ rs) = grind (arith, length-change_first_notice rs)
-
   module _ (same : (r : Notice) → (change r).number ≡ r.number) where
-    pub AreNoticesInOrder-change_first_notice : (rs : List Notice) (n : ℕ) → AreNoticesInOrder n rs → AreNoticesInOrder n (change_first_notice test change rs)
+    pub AreNoticesInOrder-change_first_notice : (rs : List Notice) (n : ℕ) → AreNoticesInOrder n rs → AreNoticesInOrder n (change_first test change rs)
     AreNoticesInOrder-change_first_notice [] n h = h
     AreNoticesInOrder-change_first_notice (x ∷ rs) n h = grind (arith, AreNoticesInOrder-change_first_notice rs (n + 1) h.1, same x)
 
     pub notice-change_first :
         (rs : List Notice) (n : ℕ) (r : Notice) (j : ℕ) → AreNoticesInOrder n rs → find test rs ≡ Some r →
-        find (has_notice_number j) (change_first_notice test change rs) ≡ (if j == r.number then Some (change r) else find (has_notice_number j) rs)
+        find (has_notice_number j) (change_first test change rs) ≡ (if j == r.number then Some (change r) else find (has_notice_number j) rs)
     notice-change_first [] n r j h e = grind arith
     notice-change_first (x ∷ rs) n r j h e =
         grind (arith, nat_tests, notice-change_first rs (n + 1) r j h.1, notice-found test rs (n + 1) r h.1, notice-before rs (n + 1) r.number h.1, same x)

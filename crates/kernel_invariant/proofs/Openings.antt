@@ -9,7 +9,7 @@ use Rattle.kernel_records.specs.declared.record.ThreadState.TheVariants as is
 use Rattle.dk_base.specs.ByNumber.{at_number}
 use Rattle.kernel_records.specs.Words.{CallTree, NoticeList, process_in}
 use Rattle.written_kernel.specs.Words.{IsOpening, State, pick, pool_of, process_of, state_of, thread_of}
-use Rattle.written_kernel.proofs.Lists.{numbered_there}
+use Rattle.kernel_records.proofs.Lists.{numbered_there}
 use Rattle.written_kernel.proofs.Opening.{bound_of-opening, invocation_of-opening, length-tables_opening, object_at-opening, opened, state_of-opening, waiting_items-opening}
 use Rattle.kernel_invariant.specs.Core.{Core, core, number_in, ended_in}
 use Rattle.kernel_invariant.specs.Coherent.{IsCoherent}

@@ -12,14 +12,15 @@ use Rattle.kernel_records.specs.declared.record.NoticeStage.TheVariants as notic
 use Rattle.kernel_records.specs.Words.{NoticeList, at_stage, is_idle, is_queued_as, is_queued_call, is_valid_in, is_waiting_notice, is_waiting_notice_as, new_notice, notice_at, set_thread_state, tid, waiting_call, waiting_notice, with_notice, with_notices}
 use Rattle.written_kernel.specs.Words.{State, bound_of, door_of, fail_return, fail_returns, find_call, find_notice, give, give_and_start, give_each, give_one, give_to, has_invalid_door, has_lost_door, invocation_of, is_bound_to_invalid, is_due, make_notices, now, pick, pool_of, settle, state_of, waiting_items, with_state}
 use Rattle.kernel_invariant.specs.Records.{has_notice_number, has_number, notice_of, owner_in, record_of}
-use Rattle.kernel_invariant.specs.Core.{Core, core, door_in, ended_in, notice_in, noticed_in}
+use Rattle.kernel_invariant.specs.Core.{Core, core, door_in, ended_in, notice_in, noticed_door_in}
 use Rattle.kernel_invariant.specs.Coherent.{IsCoherent}
 use Rattle.kernel_invariant.specs.Invariant.{AreNoticesInOrder, IsInOrder, IsConsistent, Invariant}
 use Rattle.kernel_invariant.specs.Arrows.{ByGiving}
 use Rattle.kernel_invariant.specs.Arrows.ByGiving.{stays, gives}
-use Rattle.kernel_invariant.proofs.Calls.{IsInOrder-change_first, find-as, length-change_first}
+use Rattle.kernel_invariant.proofs.Calls.{IsInOrder-change_first, find-as}
+use Rattle.kernel_records.proofs.Places.{length-change_first}
 use Rattle.kernel_invariant.proofs.Cores.{Turns, act-core, notice-core, same_core, set_role, set_thread_state-turns, upd}
-use Rattle.kernel_invariant.proofs.Notices.{AreNoticesInOrder-change_first_notice, AreNoticesInOrder-push, length-change_first_notice, notice-as, notice-past, notice-push}
+use Rattle.kernel_invariant.proofs.Notices.{AreNoticesInOrder-change_first_notice, AreNoticesInOrder-push, notice-as, notice-past, notice-push}
 use Rattle.kernel_invariant.proofs.NoticeMoves.{GivesNotice, give_notice_keeps, given_notice_core, made_notice_core, make_notice_keeps}
 use Rattle.kernel_invariant.proofs.NoticeActs.{moved-door, moved-notice, moved-stage}
 use Rattle.kernel_invariant.proofs.ThreadMoves.{given_core, Gives, give_keeps, start_keeps}
@@ -243,7 +244,7 @@ give_notice_does m x u h there_is waiting g =
                       AreNoticesInOrder-change_first_notice (is_waiting_notice_as x.number) (notice_at (notice.Given (tid u))) (λ y. refl) m.notice_list.notices 0
                       h.notices_in_order;
                   notices_counted =
-                      length-change_first_notice (is_waiting_notice_as x.number) (notice_at (notice.Given (tid u))) m.notice_list.notices ∙ h.notices_counted;
+                      length-change_first (is_waiting_notice_as x.number) (notice_at (notice.Given (tid u))) m.notice_list.notices ∙ h.notices_counted;
                 };
             arrows = λ c. stays;
             serves = λ t. ap (λ (k : Core). k.serves t) l;
@@ -314,8 +315,8 @@ give_notice_to_does m x h e q = go (pick m (pool_of m x.door)) refl
     stage_is : (core m).notice x.number ≡ Some notice.Waiting
     stage_is = ap notice_in e ∙ ap (λ s. Some s) q
 
-    door_is : (core m).noticed x.number ≡ x.door
-    door_is = ap noticed_in e
+    door_is : (core m).noticed_door x.number ≡ x.door
+    door_is = ap noticed_door_in e
 
     valid : is_valid_in (door_of m x.door) ≡ true
     valid = ap (λ d. is_valid_in (door_of m d)) (sym door_is) ∙ h.coherent.notices_at_doors.notice_valid x.number stage_is
@@ -591,14 +592,14 @@ make_does before m d h due =
           call = λ c. refl;
           made = refl;
           notice = λ c. ap notice_in (found c) ∙ at_stage_of (c == x.number) (notice_of m c);
-          noticed = λ c. ap noticed_in (found c) ∙ at_door_of (c == x.number) (notice_of m c);
+          noticed_door = λ c. ap noticed_door_in (found c) ∙ at_door_of (c == x.number) (notice_of m c);
         })
       where
         at_stage_of : (b : Bool) (o : Option Notice) → notice_in (if b then Some x else o) ≡ (if b then Some notice.Waiting else notice_in o)
         at_stage_of true o = refl
         at_stage_of false o = refl
 
-        at_door_of : (b : Bool) (o : Option Notice) → noticed_in (if b then Some x else o) ≡ (if b then d else noticed_in o)
+        at_door_of : (b : Bool) (o : Option Notice) → noticed_door_in (if b then Some x else o) ≡ (if b then d else noticed_door_in o)
         at_door_of true o = refl
         at_door_of false o = refl
 

@@ -158,10 +158,10 @@ limits_keep k d x y h there s =
       notices_entered = h.notices_entered;
       notices_at_doors =
           record {
-            notice_door = λ n e. reads is_some refl (k.noticed n) ∙ h.notices_at_doors.notice_door n e;
-            notice_valid = λ n e. reads is_valid_in valid (k.noticed n) ∙ h.notices_at_doors.notice_valid n e;
-            notice_given_owner = λ n u e. reads owner_in owner (k.noticed n) ∙ h.notices_at_doors.notice_given_owner n u e;
-            notice_entered_owner = λ n u e. reads owner_in owner (k.noticed n) ∙ h.notices_at_doors.notice_entered_owner n u e;
+            notice_door = λ n e. reads is_some refl (k.noticed_door n) ∙ h.notices_at_doors.notice_door n e;
+            notice_valid = λ n e. reads is_valid_in valid (k.noticed_door n) ∙ h.notices_at_doors.notice_valid n e;
+            notice_given_owner = λ n u e. reads owner_in owner (k.noticed_door n) ∙ h.notices_at_doors.notice_given_owner n u e;
+            notice_entered_owner = λ n u e. reads owner_in owner (k.noticed_door n) ∙ h.notices_at_doors.notice_entered_owner n u e;
           };
       servers = h.servers;
       calls = h.calls;

@@ -40,13 +40,13 @@ pub record AreNoticesEntered (serves : ℕ → Option Inv) (notices : ℕ → Op
   pub notice_entered_back : (n u : ℕ) → item_in (serves u) ≡ Some (item.Notice n) → notices n ≡ Some (notice.Entered (tid u))
 
 -- the doors of notices
-pub record AreNoticesAtDoors (notices : ℕ → Option NoticeStage) (noticed : ℕ → ℕ) (door : ℕ → Option Door) (process : ℕ → ℕ) : Type 0 where
-  pub notice_door : (n : ℕ) → is_some (notices n) ≡ true → is_some (door (noticed n)) ≡ true
+pub record AreNoticesAtDoors (notices : ℕ → Option NoticeStage) (noticed_door : ℕ → ℕ) (door : ℕ → Option Door) (process : ℕ → ℕ) : Type 0 where
+  pub notice_door : (n : ℕ) → is_some (notices n) ≡ true → is_some (door (noticed_door n)) ≡ true
   -- doors of waiting notices are valid
-  pub notice_valid : (n : ℕ) → notices n ≡ Some notice.Waiting → is_valid_in (door (noticed n)) ≡ true
+  pub notice_valid : (n : ℕ) → notices n ≡ Some notice.Waiting → is_valid_in (door (noticed_door n)) ≡ true
   -- a notice is given to, and entered by, a thread of the process that made its door
-  pub notice_given_owner : (n u : ℕ) → notices n ≡ Some (notice.Given (tid u)) → owner_in (door (noticed n)) ≡ Some (process u)
-  pub notice_entered_owner : (n u : ℕ) → notices n ≡ Some (notice.Entered (tid u)) → owner_in (door (noticed n)) ≡ Some (process u)
+  pub notice_given_owner : (n u : ℕ) → notices n ≡ Some (notice.Given (tid u)) → owner_in (door (noticed_door n)) ≡ Some (process u)
+  pub notice_entered_owner : (n u : ℕ) → notices n ≡ Some (notice.Entered (tid u)) → owner_in (door (noticed_door n)) ≡ Some (process u)
 
 -- threads, with what they serve
 pub record AreServers (role : ℕ → ThreadState) (serves : ℕ → Option Inv) (made : ℕ) : Type 0 where
@@ -110,7 +110,7 @@ pub record IsCoherent (k : Core) : Type 0 where
   pub invocations : AreInvocations k.serves k.call
   pub notices_given : AreNoticesGiven k.role k.notice
   pub notices_entered : AreNoticesEntered k.serves k.notice
-  pub notices_at_doors : AreNoticesAtDoors k.notice k.noticed k.door k.process
+  pub notices_at_doors : AreNoticesAtDoors k.notice k.noticed_door k.door k.process
   pub servers : AreServers k.role k.serves k.made
   pub calls : AreCalls k.call k.made
   pub at_doors : AreAtDoors k.call k.door k.process

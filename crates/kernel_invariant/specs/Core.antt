@@ -23,7 +23,7 @@ pub record Core : Type 0 where
   pub made : ℕ
   pub notice : ℕ → Option NoticeStage
   -- the door of a notice, 0 for none
-  pub noticed : ℕ → ℕ
+  pub noticed_door : ℕ → ℕ
 
 abbrev pub number_in : Option Thread → Option ℕ
 number_in None = None
@@ -33,9 +33,9 @@ abbrev pub notice_in : Option Notice → Option NoticeStage
 notice_in None = None
 notice_in (Some n) = Some n.stage
 
-abbrev pub noticed_in : Option Notice → ℕ
-noticed_in None = 0
-noticed_in (Some n) = n.door
+abbrev pub noticed_door_in : Option Notice → ℕ
+noticed_door_in None = 0
+noticed_door_in (Some n) = n.door
 
 abbrev pub core : State → Core
 core m =
@@ -50,7 +50,7 @@ core m =
       call = λ c. record_of m c;
       made = m.call_tree.made;
       notice = λ n. notice_in (notice_of m n);
-      noticed = λ n. noticed_in (notice_of m n);
+      noticed_door = λ n. noticed_door_in (notice_of m n);
     }
 
 -- of a call's record, if there is one

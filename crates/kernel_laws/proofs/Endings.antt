@@ -12,7 +12,7 @@ use Rattle.dk_base.specs.declared.request.Request.TheVariants as request
 use Rattle.kernel_records.specs.declared.record.ThreadState.TheVariants as is
 use Rattle.kernel_records.specs.Words.{Leaving, change_thread, deserted_in, ended_process, ended_thread, idle_thread, interrupted_where, interruption, is_active, is_given_as, is_given_notice_as, is_last, is_live_in, is_served_by, keeps_alive, left_thread_of, process_end, process_in, revocation, state_in, thread_at_state, thread_end, thread_in_invocation, thread_outside}
 use Rattle.written_kernel.specs.Words.{State, accept_call, accept_notice, act, await, await_name, begin_call, door_at, effect, exit, fail_begin, find_call, find_notice, give_one, go_on, has_invalid_door, has_room, is_live_process, kill, leave, leave_process, leave_thread, name_of, now, process_of, refusal_of, return_parked, return_unbound, settle, state_of, step, thread_of, unless_refused, with_event_counted}
-use Rattle.written_kernel.proofs.Lists.{at_number-map, at_number-suc}
+use Rattle.kernel_records.proofs.Lists.{at_number-map, at_number-suc}
 use Rattle.written_kernel.proofs.Settling.{settle-all}
 use Rattle.written_kernel.proofs.Threads.{at_number-end_process, processes-change_thread, thread_at-end_process}
 use Rattle.kernel_invariant.specs.Arrows.{EndsNow}

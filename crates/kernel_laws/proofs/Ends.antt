@@ -13,13 +13,13 @@ use Rattle.kernel_records.specs.declared.record.CallStage.TheVariants as stage
 use Rattle.kernel_records.specs.Words.{Leaving, ProcessTable, change_thread, end_process, ended_process, ended_thread, idle_thread, interrupted_where, interruption, is_given_as, is_given_notice_as, is_last, is_live, is_live_in, is_served_by, is_valid_in, left_thread, left_thread_of, process_end, revocation, state_in, thread_at, thread_at_state, thread_end, thread_in_invocation, thread_outside, tid, with_ended}
 use Rattle.written_kernel.specs.Words.{MayEnter, MayTurn, State, Turn, accept_call, accept_notice, act, await, await_name, begin_call, door_at, door_of, effect, exit, fail_begin, find_call, find_notice, give_one, go_on, has_invalid_door, has_room, is_live_process, is_running_state, can_go_on, is_valid, kill, leave, leave_process, leave_thread, name_of, now, process_of, return_parked, return_unbound, served_by, settle, state_at, state_of, step, thread_of}
 use Rattle.written_kernel.proofs.Entries.{enter_either}
-use Rattle.written_kernel.proofs.Lists.{at_number-map, at_number-renumbered_there, is_some-at_number}
+use Rattle.kernel_records.proofs.Lists.{at_number-map, at_number-renumbered_there, is_some-at_number}
 use Rattle.written_kernel.proofs.Steps.{process_of-step}
 use Rattle.written_kernel.proofs.Settling.{settle-all}
 use Rattle.written_kernel.proofs.Threads.{processes-change_thread}
 use Rattle.kernel_invariant.specs.Records.{item_in, notice_of, owner_in, owner_of_call, record_of, stage_in, stage_of}
 use Rattle.kernel_invariant.specs.Arrows.{EndsNow}
-use Rattle.kernel_invariant.specs.Core.{core, door_in, ended_in, is_outside, notice_in, noticed_in, number_in}
+use Rattle.kernel_invariant.specs.Core.{core, door_in, ended_in, is_outside, notice_in, noticed_door_in, number_in}
 use Rattle.kernel_invariant.specs.Coherent.{IsCoherent}
 use Rattle.kernel_invariant.specs.Invariant.{Invariant}
 use Rattle.kernel_laws.specs.Ends.{Ends, EndsProcess, HasEnded, HasNoCall, HasNoNotice, IsLast, ServesNoNotice, ThreadEnds, is_ended}
@@ -307,10 +307,10 @@ module _ (m : State) (h : Invariant m) (p : ℕ) (e : is_ended m p ≡ true) whe
 
   notice_owner :
       (c : ℕ) (s : NoticeStage) → notice_stage_of m c ≡ Some s → owner_of_notice m c ≡ Some p →
-      owner_in (door_of m (noticed_in (notice_of m c))) ≡ Some p
+      owner_in (door_of m (noticed_door_in (notice_of m c))) ≡ Some p
   notice_owner c s e f = go (notice_of m c) e f
     where
-      go : (o : Option Notice) → notice_in o ≡ Some s → owner_in (notice_door m o) ≡ Some p → owner_in (door_of m (noticed_in o)) ≡ Some p
+      go : (o : Option Notice) → notice_in o ≡ Some s → owner_in (notice_door m o) ≡ Some p → owner_in (door_of m (noticed_door_in o)) ≡ Some p
       go None g h = absurd (cc g)
       go (Some x) g h = h
 
@@ -322,7 +322,7 @@ module _ (m : State) (h : Invariant m) (p : ℕ) (e : is_ended m p ≡ true) whe
 
   no_notice : HasNoNotice m p
   no_notice c u f (inl g) =
-      not_valid_and_valid _ (coherent.notices_at_doors.notice_valid c g) (no_valid_door (noticed_in (notice_of m c)) (notice_owner c _ g f))
+      not_valid_and_valid _ (coherent.notices_at_doors.notice_valid c g) (no_valid_door (noticed_door_in (notice_of m c)) (notice_owner c _ g f))
   no_notice c u f (inr (inl g)) =
       serves_no_notice c u (same_owner p _ _ (notice_owner c _ g f) (coherent.notices_at_doors.notice_given_owner c u g)) (inl g)
   no_notice c u f (inr (inr g)) =

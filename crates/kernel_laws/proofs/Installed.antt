@@ -10,7 +10,7 @@ use Rattle.std.proofs.lemmas.List.Sums.{sum_by-set, passes_at_first}
 use Rattle.dk_base.specs.ByNumber.{at_number}
 use Rattle.written_kernel.specs.Types.{Fd, Obj, Pass}
 use Rattle.kernel_records.specs.Words.{close_row, descriptor, free_place, free_rows, insert_row, insert_rows, new_descriptors, object_in, object_named, release_row, release_rows, table_in, with_table}
-use Rattle.written_kernel.proofs.Lists.{at_number-renumbered_there, at_number-with_at_number, slice_get-slice_set}
+use Rattle.kernel_records.proofs.Lists.{at_number-renumbered_there, at_number-with_at_number, slice_get-slice_set}
 use Rattle.written_kernel.proofs.Steps.{length-insert_rows, length-release_rows}
 use Rattle.kernel_laws.specs.NoLoss.{is_descriptor, is_release_of}
 use Rattle.kernel_laws.proofs.Passed.{Found, found_any}

@@ -13,7 +13,7 @@ use Rattle.kernel_records.specs.declared.record.CallStage.TheVariants as stage
 use Rattle.kernel_records.specs.declared.record.NoticeStage.TheVariants as notice
 use Rattle.kernel_records.specs.Words.{is_live_in, is_owned_by, is_valid_in}
 use Rattle.written_kernel.specs.Words.{State, Turn, act, door_at, door_named, door_of, is_valid, object_at, process_of, refusal_of, revoke, state_at, step, unless_refused}
-use Rattle.kernel_invariant.specs.Core.{door_in, ended_in, notice_in, noticed_in}
+use Rattle.kernel_invariant.specs.Core.{door_in, ended_in, notice_in, noticed_door_in}
 use Rattle.kernel_invariant.specs.Invariant.{Invariant}
 use Rattle.kernel_invariant.specs.Records.{notice_of, owner_in, record_of, stage_in}
 use Rattle.kernel_laws.specs.Ends.{is_ended}
@@ -160,7 +160,7 @@ module _ (m : State) (xs : List Turn) (k : Known m xs) where
       (i c : ℕ) (x : Notice) → i ≤ length xs → notice_of (state_at m xs i) c ≡ Some x → x.stage ≡ notice.Waiting →
       is_valid (state_at m xs i) x.door ≡ true
   notice_waits i c x l e f =
-      subst (λ o. is_valid (state_at m xs i) (noticed_in o) ≡ true) e
+      subst (λ o. is_valid (state_at m xs i) (noticed_door_in o) ≡ true) e
       ((k.invariant i l).consistent.coherent.notices_at_doors.notice_valid c (ap notice_in e ∙ ap (λ (s : NoticeStage). Some s) f))
 
   pub invalid_doors_hold : InvalidDoors m xs

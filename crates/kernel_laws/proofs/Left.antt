@@ -14,7 +14,7 @@ use Rattle.kernel_records.specs.Words.{Leaving, ProcessTable, cancelled_invocati
 use Rattle.written_kernel.specs.Words.{State, act, door_at, effect, exit, invocation_of, is_cancelled, is_live_process, kill, leave, leave_process, leave_thread, now, process_of, served_by, state_of, step, thread_of}
 use Rattle.written_kernel.proofs.Entries.{enter_either}
 use Rattle.written_kernel.proofs.Invocations.{invocation_of-settle}
-use Rattle.written_kernel.proofs.Lists.{at_number-map}
+use Rattle.kernel_records.proofs.Lists.{at_number-map}
 use Rattle.kernel_invariant.specs.Records.{item_in, item_of, record_of, stage_in, stage_of}
 use Rattle.kernel_invariant.specs.Core.{abandoned_in, core, is_outside, number_in, underway_in}
 use Rattle.kernel_invariant.specs.Coherent.{IsCoherent}

@@ -7,7 +7,7 @@ use native.Mathlib.Omega.{arith}
 use Rattle.std.proofs.lemmas.Bool.Decides.{nat_tests}
 use Rattle.written_kernel.specs.Types.{Notice, NoticeStage}
 use Rattle.kernel_records.specs.declared.record.NoticeStage.TheVariants as notice
-use Rattle.kernel_records.specs.Words.{change_first_notice, has_notice, is_given_notice_as, is_notice_of, is_waiting_notice_as, is_waiting_stage, new_notice, notice_at, tid}
+use Rattle.kernel_records.specs.Words.{change_first, has_notice, is_given_notice_as, is_notice_of, is_waiting_notice_as, is_waiting_stage, new_notice, notice_at, tid}
 use Rattle.written_kernel.specs.Words.{State, door_of, is_due, make_notices, now}
 use Rattle.written_kernel.proofs.NoticeLists.{Ascend, new_notices}
 use Rattle.written_kernel.proofs.Notices.{due_among, due_doors, notices-make_notices}
@@ -191,13 +191,13 @@ stage_front (y ∷ rs) ss c s e = grind (arith, stage_front rs ss c s)
 
 pub stage_given :
     (rs : List Notice) (j c u : ℕ) (s : NoticeStage) → is_waiting_stage s ≡ false → notice_in (find (has_notice_number c) rs) ≡ Some s →
-    notice_in (find (has_notice_number c) (change_first_notice (is_waiting_notice_as j) (notice_at (notice.Given (tid u))) rs)) ≡ Some s
+    notice_in (find (has_notice_number c) (change_first (is_waiting_notice_as j) (notice_at (notice.Given (tid u))) rs)) ≡ Some s
 stage_given [] j c u s w e = absurd (cc e)
 stage_given (y ∷ rs) j c u s w e = grind (arith, nat_tests, stage_given rs j c u s w)
 
 pub stage_entered :
     (rs : List Notice) (c t : ℕ) → notice_in (find (has_notice_number c) rs) ≡ Some (notice.Given (tid t)) →
-    notice_in (find (has_notice_number c) (change_first_notice (is_given_notice_as c t) (notice_at (notice.Entered (tid t))) rs))
+    notice_in (find (has_notice_number c) (change_first (is_given_notice_as c t) (notice_at (notice.Entered (tid t))) rs))
     ≡ Some (notice.Entered (tid t))
 stage_entered [] c t e = absurd (cc e)
 stage_entered (y ∷ rs) c t e = grind (arith, nat_tests, stage_entered rs c t)

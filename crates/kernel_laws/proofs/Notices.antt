@@ -4,7 +4,7 @@ use Rattle.written_kernel.specs.Types.{Notice}
 use Rattle.kernel_records.specs.declared.record.NoticeStage.TheVariants as notice
 use Rattle.kernel_records.specs.Words.{tid}
 use Rattle.written_kernel.specs.Words.{State, Turn, door_of, process_of, state_at}
-use Rattle.kernel_invariant.specs.Core.{notice_in, noticed_in}
+use Rattle.kernel_invariant.specs.Core.{notice_in, noticed_door_in}
 use Rattle.kernel_invariant.specs.Invariant.{Invariant}
 use Rattle.kernel_invariant.specs.Records.{notice_of, owner_in}
 use Rattle.kernel_laws.specs.Places.{notice_stage_of, notice_door, owner_of_notice}
@@ -22,7 +22,7 @@ given_to_owner :
 given_to_owner m h t c e = go (notice_of m c) e (h.consistent.coherent.notices_at_doors.notice_given_owner c t e)
   where
     go :
-        (o : Option Notice) → notice_in o ≡ Some (notice.Given (tid t)) → owner_in (door_of m (noticed_in o)) ≡ Some (process_of m t) →
+        (o : Option Notice) → notice_in o ≡ Some (notice.Given (tid t)) → owner_in (door_of m (noticed_door_in o)) ≡ Some (process_of m t) →
         owner_in (notice_door m o) ≡ Some (process_of m t)
     go None f g = absurd (cc f)
     go (Some x) f g = g

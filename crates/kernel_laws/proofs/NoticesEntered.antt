@@ -10,7 +10,7 @@ use Rattle.kernel_records.specs.declared.record.ThreadState.TheVariants as is
 use Rattle.kernel_records.specs.declared.record.NoticeStage.TheVariants as notice
 use Rattle.kernel_records.specs.Words.{cookie_of, entry_of, tid}
 use Rattle.written_kernel.specs.Words.{State, Turn, door_of, invocation_of, process_of, state_at, state_of}
-use Rattle.kernel_invariant.specs.Core.{core, is_outside, notice_in, noticed_in}
+use Rattle.kernel_invariant.specs.Core.{core, is_outside, notice_in, noticed_door_in}
 use Rattle.kernel_invariant.specs.Coherent.{IsCoherent}
 use Rattle.kernel_invariant.specs.Records.{notice_of, owner_in}
 use Rattle.kernel_invariant.specs.Events.{IsToldBy}
@@ -112,7 +112,7 @@ module _ (m : State) (xs : List Turn) (k : Known m xs) where
 
           owner : owner_in (door_of (state_at m xs i) y.door) ≡ Some (process_of (state_at m xs i) x.thread)
           owner =
-              ap (λ o. owner_in (door_of (state_at m xs i) (noticed_in o))) (sym there)
+              ap (λ o. owner_in (door_of (state_at m xs i) (noticed_door_in o))) (sym there)
               ∙ h.notices_at_doors.notice_given_owner c x.thread before
 
           other : (d : ℕ) → EnteredNoticeRow (state_at m xs i) x.thread x.request (notice_of (state_at m xs i) d) → d ≡ c

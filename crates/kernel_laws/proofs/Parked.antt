@@ -12,7 +12,7 @@ use Rattle.dk_base.specs.ByNumber.{at_number}
 use Rattle.kernel_records.specs.declared.record.ThreadState.TheVariants as is
 use Rattle.kernel_records.specs.Words.{ProcessTable, bound_at, bound_in, change_thread, is_given_as, is_idle, state_in, thread_at, unbind_thread}
 use Rattle.written_kernel.specs.Words.{State, accept_call, act, begin_call, bound_of, fail_begin, fail_each, fail_one, fail_return, fail_returns, find_call, give_one, go_on, has_invalid_door, has_lost_door, has_room, is_bound_to_invalid, make_notices, now, pick, pool_of, process_of, settle, state_of, step, thread_of, with_event_counted, with_state}
-use Rattle.written_kernel.proofs.Lists.{at_number-with_at_number, numbered_within}
+use Rattle.kernel_records.proofs.Lists.{at_number-with_at_number, numbered_within}
 use Rattle.written_kernel.proofs.Settling.{KeptByFailing, KeptByGiving, KeptByMaking, KeptByStarting, give_and_start-all, make_notices-alone, settle-all, with_notice_of}
 use Rattle.written_kernel.proofs.Threads.{thread_at-change_thread}
 use Rattle.kernel_invariant.proofs.Picks.{parked_is, pick_is}

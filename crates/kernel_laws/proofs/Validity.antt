@@ -15,7 +15,7 @@ use Rattle.kernel_records.specs.declared.record.CallStage.TheVariants as stage
 use Rattle.kernel_records.specs.Words.{Leaving, at_stage, broken_call_at, change_first, ended_where, gone_call_at, interruption, is_given_as, is_given_notice_as, is_last, is_owned_by, is_queued_as, is_valid_door, is_valid_in, left_call, new_door, process_end, revocation, revoke_door, revoked_door, set_param, tid, with_owner_ended, with_param, without_arguments_at}
 use Rattle.written_kernel.specs.Words.{State, accept_call, accept_notice, act, await, await_name, begin_call, door_at, door_of, effect, fail_begin, find_call, find_notice, give_one, go_on, has_invalid_door, has_room, is_live_process, is_valid, leave, leave_process, leave_thread, name_of, process_of, refusal_of, return_parked, return_unbound, revoke, settle, state_of, step, unless_refused}
 use Rattle.written_kernel.proofs.Doors.{at_number-change_door}
-use Rattle.written_kernel.proofs.Lists.{at_number-map, numbered_front}
+use Rattle.kernel_records.proofs.Lists.{at_number-map, numbered_front}
 use Rattle.written_kernel.proofs.Settling.{doors-settle, settle-all}
 use Rattle.kernel_invariant.specs.Core.{is_underway, underway_in}
 use Rattle.kernel_invariant.specs.Records.{has_number, record_of}

@@ -1,1 +1,4 @@
+pub mod Lists
+pub mod DoorNumbers
+pub mod Places
 pub mod Passing

@@ -1,11 +1,12 @@
 -- Door calls, in the order in which they were made. A call is looked up by its stage, with its number or its thread. A writer
 -- moves the first such call to its next stage; where there is none it changes nothing.
-use Rattle.std.specs.Prelude.{ℕ, ◌++◌, List, [], ◌∷◌, Bool, true, false, ◌==◌, ◌&&◌, ◌||◌, not, if◌then◌else◌, filter}
+use Rattle.std.specs.Prelude.{ℕ, ◌++◌, List, [], ◌∷◌, Bool, true, false, ◌==◌, ◌&&◌, ◌||◌, not, filter}
 use Rattle.dk_base.specs.declared.error.Errno.TheVariants.{EMFILE}
 use Rattle.dk_base.specs.declared.object.Obj.{Obj}
 use Rattle.kernel_records.specs.declared.record.Call.{Call}
 use Rattle.kernel_records.specs.declared.record.CallStage.{CallStage}
 use Rattle.kernel_records.specs.declared.record.CallStage.TheVariants as stage
+use Rattle.kernel_records.specs.Lists.{change_first}
 use Rattle.kernel_records.specs.Numbers.{tid}
 
 -- how many calls were made, and their records
@@ -82,11 +83,6 @@ abbrev pub is_to_collect_as : ℕ → Call → Bool
 is_to_collect_as c r = (r.number == c) && is_to_collect r.stage
 
 -- the next stage
-
--- the list with its first call that meets a test changed
-abbrev pub change_first : (Call → Bool) → (Call → Call) → List Call → List Call
-change_first test change [] = []
-change_first test change (r ∷ rs) = if test r then change r ∷ rs else r ∷ change_first test change rs
 
 abbrev pub open_call : CallTree → Call → CallTree
 open_call tree r = record { made = r.number; calls = tree.calls ++ r ∷ [] }

@@ -1,6 +1,6 @@
 -- Doors, numbered from 1 by their places: what door_create(3C) makes, which are valid, their parameters (door_getparam(3C),
 -- door_setparam(3C)) and what door_info(3C) tells of them.
-use Rattle.std.specs.Prelude.{ℕ, ◌+◌, ◌++◌, [], ◌∷◌, List, Option, Bool, false, true, ◌==◌, ◌&&◌, ◌||◌, not, if◌then◌else◌, Some, None, bit_and, bit_or, filter, length, map, nat_lt}
+use Rattle.std.specs.Prelude.{ℕ, ◌≡◌, ◌+◌, ◌++◌, [], ◌∷◌, List, Option, Bool, false, true, ◌==◌, ◌&&◌, ◌||◌, not, if◌then◌else◌, Some, None, bit_and, bit_or, filter, length, map, nat_lt}
 use Rattle.std.specs.List.{list_any}
 use Rattle.dk_base.specs.declared.answer.DoorInfo.{DoorInfo}
 use Rattle.dk_base.specs.declared.error.Errno.TheVariants.{E2BIG, EBADF, EINVAL, ENFILE, ENOBUFS, ENOTSUP, EPERM}
@@ -246,6 +246,10 @@ is_valid_of p d = (d.owner.0 == p) && is_valid_door d
 abbrev pub number_of_door : Door → ℕ
 number_of_door d = d.number
 
+-- the number of each door is its place
+abbrev pub AreNumbered : List Door → Type 0
+AreNumbered doors = (d : ℕ) (x : Door) → at_number doors d ≡ Some x → x.number ≡ d
+
 abbrev pub valid_doors_of : ℕ → List Door → List ℕ
 valid_doors_of p doors = map number_of_door (filter (is_valid_of p) doors)
 
@@ -253,6 +257,10 @@ valid_doors_of p doors = map number_of_door (filter (is_valid_of p) doors)
 
 abbrev pub is_notice_door : Door → Bool
 is_notice_door d = takes_notices d.attrs
+
+abbrev pub takes_notices_in : Option Door → Bool
+takes_notices_in None = false
+takes_notices_in (Some d) = is_notice_door d
 
 abbrev pub notice_doors : List Door → List ℕ
 notice_doors doors = map number_of_door (filter is_notice_door doors)

@@ -1,6 +1,6 @@
 -- What becomes of calls, threads and notices where callers are interrupted, threads end, and doors become invalid, all at one
 -- event: each record's next one from the records before the event alone. A caller that ends and is interrupted ends.
-use Rattle.std.specs.Prelude.{ℕ, List, Option, Bool, false, true, ◌==◌, ◌||◌, if◌then◌else◌, Some, None, find, filter, map}
+use Rattle.std.specs.Prelude.{ℕ, List, Option, Bool, false, true, ◌==◌, ◌||◌, if◌then◌else◌, Some, None, find, map}
 use Rattle.std.specs.Option.{option_map}
 use Rattle.dk_base.specs.declared.error.Errno.{Errno}
 use Rattle.dk_base.specs.declared.error.Errno.TheVariants.{EBADF, EINTR}

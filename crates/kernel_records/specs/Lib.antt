@@ -1,4 +1,5 @@
 pub mod Numbers
+pub mod Lists
 pub mod Refusals
 pub mod ProcessTable
 pub mod Tables

@@ -1,6 +1,6 @@
 -- Unreferenced notices (door_create(3C)), in the order in which they were made. A notice is looked up by its stage, with its number or
 -- its thread. A writer moves the first such notice to its next stage; where there is none it changes nothing.
-use Rattle.std.specs.Prelude.{ℕ, ◌+◌, ◌++◌, List, [], ◌∷◌, Option, Bool, true, false, Some, None, ◌==◌, ◌&&◌, ◌||◌, not, if◌then◌else◌, filter}
+use Rattle.std.specs.Prelude.{ℕ, ◌+◌, ◌++◌, List, [], ◌∷◌, Option, Bool, true, false, Some, None, ◌==◌, ◌&&◌, ◌||◌, not, filter}
 use Rattle.std.specs.List.{list_any}
 use Rattle.dk_base.specs.ByNumber.{at_number}
 use Rattle.kernel_records.specs.declared.record.Door.{Door}
@@ -8,6 +8,7 @@ use Rattle.kernel_records.specs.declared.record.Notice.{Notice}
 use Rattle.kernel_records.specs.declared.record.NoticeStage.{NoticeStage}
 use Rattle.kernel_records.specs.declared.record.NoticeStage.TheVariants.{Waiting, Given, Entered, Over, Dropped}
 use Rattle.kernel_records.specs.Doors.{has_unref_multi, is_valid_door, takes_notices}
+use Rattle.kernel_records.specs.Lists.{change_first}
 use Rattle.kernel_records.specs.Numbers.{tid}
 
 -- how many notices were made, and their records
@@ -61,11 +62,6 @@ has_notice list d = list_any (is_notice_of d) list.notices
 
 -- the next stage
 
--- the list with its first notice that meets a test changed
-abbrev pub change_first_notice : (Notice → Bool) → (Notice → Notice) → List Notice → List Notice
-change_first_notice test change [] = []
-change_first_notice test change (n ∷ ns) = if test n then change n ∷ ns else n ∷ change_first_notice test change ns
-
 -- as it is made, at this event
 abbrev pub new_notice : ℕ → ℕ → ℕ → Notice
 new_notice number made d = record { number = number; made = made; door = d; stage = Waiting }
@@ -74,14 +70,14 @@ abbrev pub make_notice : NoticeList → ℕ → ℕ → NoticeList
 make_notice list now d = record { made = list.made + 1; notices = list.notices ++ new_notice (list.made + 1) now d ∷ [] }
 
 abbrev pub give_notice : NoticeList → ℕ → ℕ → NoticeList
-give_notice list c u = record list { notices = change_first_notice (is_waiting_notice_as c) (notice_at (Given (tid u))) list.notices }
+give_notice list c u = record list { notices = change_first (is_waiting_notice_as c) (notice_at (Given (tid u))) list.notices }
 
 abbrev pub enter_notice : NoticeList → ℕ → ℕ → NoticeList
-enter_notice list c t = record list { notices = change_first_notice (is_given_notice_as c t) (notice_at (Entered (tid t))) list.notices }
+enter_notice list c t = record list { notices = change_first (is_given_notice_as c t) (notice_at (Entered (tid t))) list.notices }
 
 -- the notice that a thread has entered is over; where it has entered none nothing changes
 abbrev pub end_notice : NoticeList → ℕ → NoticeList
-end_notice list t = record list { notices = change_first_notice (is_notice_entered_by t) (notice_at Over) list.notices }
+end_notice list t = record list { notices = change_first (is_notice_entered_by t) (notice_at Over) list.notices }
 
 -- Of which doors one can be made: a door that is valid and takes notices, where it had one or not. A door without DOOR_UNREF_MULTI has
 -- at most one ever.

@@ -3,5 +3,6 @@
 #![tactic(auto)]
 
 pub mod leaving;
+pub mod numbered;
 pub mod pool;
 pub mod record;

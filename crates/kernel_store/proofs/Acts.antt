@@ -5,7 +5,7 @@ use Rattle.dk_base.specs.declared.error.Errno.TheVariants.{EBADF}
 use Rattle.dk_base.specs.declared.object.Item.TheVariants as item
 use Rattle.kernel_records.specs.declared.pool.Pool.TheVariants.{Common, Private}
 use Rattle.kernel_records.specs.declared.record.ThreadState.TheVariants as is
-use Rattle.kernel_records.specs.Words.{bound_at, change_first, change_first_notice, end_thread, enter_call, enter_notice, enter_thread, is_dormant, is_done, is_idle, park_thread, process_in, set_thread_state, state_in, thread_at, tid}
+use Rattle.kernel_records.specs.Words.{bound_at, change_first, end_thread, enter_call, enter_notice, enter_thread, is_dormant, is_done, is_idle, park_thread, process_in, set_thread_state, state_in, thread_at, tid}
 use Rattle.written_kernel.specs.Types.{Call, Notice, Pool, Thread, ThreadState}
 use Rattle.written_kernel.specs.Words.{bound_of, is_running, is_running_state, state_of}
 use Rattle.server_pool.specs.Words.{AllParkedBefore, PoolValue, PoolsValue, change_pool, park_in, pool_at, stack_in, thread_room_in}
@@ -45,29 +45,6 @@ running_not_dormant _ e = cc
 thread_there : (o : Option Thread) → is_done (state_in o) ≡ false → (x : Thread) × (o ≡ Some x)
 thread_there None e = cc
 thread_there (Some x) e = (x, refl)
-
--- no call is changed where none is found
-pub none_changed : (test : Call → Bool) (change : Call → Call) (rs : List Call) → find test rs ≡ None → change_first test change rs ≡ rs
-none_changed test change [] e = refl
-none_changed test change (r ∷ rs) e = go (test r) e (λ f. none_changed test change rs f)
-  where
-    go :
-        (b : Bool) → (if b then Some r else find test rs) ≡ None → (find test rs ≡ None → change_first test change rs ≡ rs) →
-        (if b then change r ∷ rs else r ∷ change_first test change rs) ≡ r ∷ rs
-    go true f same = cc
-    go false f same = ap (λ xs. r ∷ xs) (same f)
-
--- and no notice
-pub no_notice_changed :
-    (test : Notice → Bool) (change : Notice → Notice) (ns : List Notice) → find test ns ≡ None → change_first_notice test change ns ≡ ns
-no_notice_changed test change [] e = refl
-no_notice_changed test change (n ∷ ns) e = go (test n) e (λ f. no_notice_changed test change ns f)
-  where
-    go :
-        (b : Bool) → (if b then Some n else find test ns) ≡ None → (find test ns ≡ None → change_first_notice test change ns ≡ ns) →
-        (if b then change n ∷ ns else n ∷ change_first_notice test change ns) ≡ n ∷ ns
-    go true f same = cc
-    go false f same = ap (λ xs. n ∷ xs) (same f)
 
 -- what holds of a result that is Ok
 pub holds_ok : {X E P : Type 0} (r : Result X E) → is_ok r ≡ true → OnOk r P → P

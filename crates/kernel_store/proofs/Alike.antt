@@ -5,7 +5,7 @@ use Rattle.dk_base.specs.ByNumber.{at_number}
 use Rattle.kernel_records.specs.declared.pool.Pool.TheVariants.{Common, Private}
 use Rattle.kernel_records.specs.Words.{CallTree, NoticeList, ProcessTable}
 use Rattle.written_kernel.specs.Types.{Door, Pool}
-use Rattle.written_kernel.proofs.Lists.{numbered_past, numbered_push}
+use Rattle.kernel_records.proofs.Lists.{numbered_past, numbered_push}
 use Rattle.server_pool.specs.Words.{PoolValue, PoolsValue, change_pool, empty_pool, item_room_in, pool_at, pool_or_empty, queue_in, spares_of, stack_in, with_room}
 use Rattle.pool_agreement.specs.Words.{Agrees, IsGivenOut, IsGivenOutIn, IsQueueOf, IsStackOf}
 use Rattle.pool_agreement.proofs.Leaving.{read_kept}

@@ -6,7 +6,7 @@ use Rattle.dk_base.specs.ByNumber.{at_number}
 use Rattle.dk_base.specs.declared.object.Obj.TheVariants as obj
 use Rattle.kernel_records.specs.Words.{count_object, is_object}
 use Rattle.written_kernel.specs.Types.{Door}
-use Rattle.written_kernel.proofs.Lists.{is_some-at_number, numbered_push}
+use Rattle.kernel_records.proofs.Lists.{is_some-at_number, numbered_push}
 use Rattle.unref_notice.specs.Words.{AreCounted, count_of}
 
 -- one more of both

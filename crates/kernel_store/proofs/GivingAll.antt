@@ -10,12 +10,12 @@ use Rattle.kernel_records.specs.declared.record.ThreadState.TheVariants as is
 use Rattle.kernel_records.specs.Words.{ProcessTable, bound_at, is_idle, is_pool, pid, set_thread_state, state_in, thread_at, thread_at_state, unbind_thread}
 use Rattle.written_kernel.specs.Types.{Errno, Parked, Pool}
 use Rattle.written_kernel.specs.Words.{State, fail_each, fail_one, fail_returns, give, give_and_start, has_first_common_door, has_invalid_door, has_lost_door, is_bound_to_invalid, needs_spare, pick, start_each, start_one, start_spares}
-use Rattle.written_kernel.proofs.Lists.{is_some-at_number, numbered_push}
+use Rattle.kernel_records.proofs.Lists.{is_some-at_number, numbered_push}
 use Rattle.written_kernel.proofs.Settling.{fail_returns-all}
 use Rattle.written_kernel.proofs.Threads.{processes-change_thread}
 use Rattle.server_pool.specs.Words.{PoolValue, PoolsValue, change_pool, change_spares, pick_of, pool_or_empty, stack_in, unpark_in, without_lowest}
 use Rattle.pool_agreement.specs.Words.{Agrees, IsGivenOut, is_this, own_pool}
-use Rattle.pool_agreement.proofs.GivingAll.{IsParkedSomewhere, agrees_failed, idle_is_parked}
+use Rattle.pool_agreement.proofs.LeavingPools.{IsParkedSomewhere, agrees_failed, idle_is_parked}
 use Rattle.pool_agreement.proofs.GivingFirst.{given_out_gives_nothing}
 use Rattle.pool_agreement.proofs.GivingOut.{IsGivenOutTo, given_out_to_all, given_out_to_next, given_out_to_none}
 use Rattle.pool_agreement.proofs.Queued.{both_true}

@@ -8,7 +8,7 @@ use Rattle.kernel_records.specs.declared.pool.Pool.TheVariants.{Common, Private}
 use Rattle.kernel_records.specs.Words.{is_notice_door, is_pool, is_private, notice_doors, number_of_door, pool_in}
 use Rattle.written_kernel.specs.Types.{Door, Pool, Waiting}
 use Rattle.written_kernel.proofs.Giving.{same_pool}
-use Rattle.written_kernel.proofs.Lists.{at_number-suc}
+use Rattle.kernel_records.proofs.Lists.{at_number-suc}
 use Rattle.server_pool.specs.Words.{IsAscending, PoolValue, PoolsValue, change_pool, enqueue_in, is_waiting_otherwise, item_room_in, pool_at, pool_or_empty, withdraw_in, without_item}
 use Rattle.server_pool.proofs.Changed.{pool_changed, pool_kept}
 use Rattle.server_pool.proofs.Order.{ordered_filter}

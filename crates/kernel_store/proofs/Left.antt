@@ -5,7 +5,7 @@ use Rattle.dk_base.specs.ByNumber.{at_number, with_at_number}
 use Rattle.kernel_records.specs.declared.record.ThreadState.TheVariants as is
 use Rattle.kernel_records.specs.Words.{CallTree, NoticeList, ProcessTable, bound_at, cancelled_thread, change_thread, change_thread_in, end_thread, ended_thread, idle_thread, interrupted_state, interrupted_where, is_dormant, is_idle, is_pool, is_spare_of, park_thread, parked_in, pool_of_thread, process_in, thread_at, tid}
 use Rattle.written_kernel.specs.Types.{Door, Parked, Pool, Thread, ThreadState}
-use Rattle.written_kernel.proofs.Lists.{at_number-suc, with_at_number-suc}
+use Rattle.kernel_records.proofs.Lists.{at_number-suc, with_at_number-suc}
 use Rattle.server_pool.specs.Words.{AllParkedBefore, ParkedBefore, PoolValue, PoolsValue, change_pool, is_another_thread, park_in, pool_at, pool_or_empty, stack_in, thread_room_in, unpark_in, without_thread}
 use Rattle.server_pool.proofs.Changed.{pool_changed, pool_kept}
 use Rattle.pool_agreement.specs.Words.{Agrees, pool_by}

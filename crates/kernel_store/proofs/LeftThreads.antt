@@ -8,7 +8,7 @@ use Rattle.kernel_records.specs.declared.leaving.Leaver.TheVariants.{Interrupted
 use Rattle.kernel_records.specs.declared.record.CallStage.TheVariants as stage
 use Rattle.kernel_records.specs.Words.{CallTree, Leaving, NoticeList, ProcessTable, bound_at, cancelled_thread, change_thread, deserted_at, deserted_in, ended_thread, interrupted_where, is_left, is_owned_by, is_served_by, leaving_of, left_thread_of, left_threads, parked_at, parked_thread, process_in, thread_at, tid}
 use Rattle.written_kernel.specs.Types.{Call, CallStage, Door, Parked, Pool, Thread}
-use Rattle.written_kernel.proofs.Lists.{at_number-map, at_number-suc, numbered_past, numbered_there}
+use Rattle.kernel_records.proofs.Lists.{at_number-map, at_number-suc, numbered_past, numbered_there}
 use Rattle.written_kernel.proofs.Places.{place_of}
 use Rattle.written_kernel.proofs.Threads.{processes-change_thread}
 use Rattle.server_pool.specs.Words.{AllParkedBefore, ParkedBefore, PoolsValue, stack_in, thread_room_in}

@@ -5,7 +5,7 @@ use Rattle.kernel_records.specs.Words.{is_pool}
 use Rattle.written_kernel.specs.Types.{Pool}
 use Rattle.dk_base.specs.ByNumber.{at_number}
 use Rattle.written_kernel.proofs.Giving.{same_pool}
-use Rattle.written_kernel.proofs.Lists.{numbered_within}
+use Rattle.kernel_records.proofs.Lists.{numbered_within}
 use Rattle.pool_agreement.proofs.Readers.{there_is}
 use Rattle.server_pool.specs.Words.{PoolValue, PoolsValue, change_pool, item_room_in, pool_at, pool_or_empty, thread_room_in, with_room}
 use Rattle.server_pool.proofs.Changed.{pool_changed, pool_kept}

@@ -7,7 +7,7 @@ ghost use Rattle.pool_agreement.specs.Words.{is_this};
 ghost use Rattle.kernel_store.specs.Flags.{is_flagged};
 
 use dk_base::number::Pid;
-use kernel_holdings::numbered::numbered_item;
+use kernel_records::numbered::numbered_item;
 use kernel_records::pool::Pool;
 
 /// The flag of a number, false where there is none.

@@ -1,7 +1,7 @@
 //! References of doors: they come and go, and doors that fall to one reference in a step are told, where they take notices.
 ghost use Rattle.std.specs.Prelude.{◌≡◌, ◌≤◌, true, [], length};
 ghost use Rattle.unref_notice.specs.declared.counts.TheConstants.{REFERENCES_ROOM};
-ghost use Rattle.kernel_tables_tests.specs.Numbered.{AreNumbered};
+ghost use Rattle.kernel_records.specs.Words.{AreNumbered};
 
 use dk_base::list::Room;
 use dk_base::number::Pid;

@@ -26,9 +26,7 @@ fn is_made(notices: &mut Notices, d: u32, number: u32) -> bool {
 /// Whether a notice is given to a thread, which enters it.
 fn is_entered(notices: &mut Notices, n: u32, t: Tid) -> bool {
     notices.give(n, t);
-    notices.given(n, t).is_some()
-        && matches!(notices.enter(n, t), Some(notice) if notice.number == n)
-        && notices.given(n, t).is_none()
+    matches!(notices.enter(n, t), Some(notice) if notice.number == n)
         && notices.enter(n, t).is_none()
 }
 

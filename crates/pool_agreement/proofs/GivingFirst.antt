@@ -6,14 +6,14 @@ use Rattle.std.proofs.lemmas.Bool.Decides.{nat_tests}
 use Rattle.dk_base.specs.declared.object.Item.TheVariants as item
 use Rattle.kernel_records.specs.declared.record.CallStage.TheVariants as stage
 use Rattle.kernel_records.specs.declared.record.NoticeStage.TheVariants as notice
-use Rattle.kernel_records.specs.Words.{CallTree, NoticeList, at_stage, change_first, change_first_notice, give_call, give_notice, is_queued, is_queued_as, is_queued_call, is_waiting_notice, is_waiting_notice_as, is_waiting_stage, items_in_order, notice_at, pick_parked, tid, waiting_call, waiting_notice, with_notice, with_notices}
+use Rattle.kernel_records.specs.Words.{CallTree, NoticeList, at_stage, change_first, give_call, give_notice, is_queued, is_queued_as, is_queued_call, is_waiting_notice, is_waiting_notice_as, is_waiting_stage, items_in_order, notice_at, pick_parked, tid, waiting_call, waiting_notice, with_notice, with_notices}
 use Rattle.written_kernel.specs.Types.{Call, Item, Notice, Parked, Pool, Waiting}
 use Rattle.written_kernel.specs.Words.{State, give, give_each, give_one, give_to, pick, pool_of, waiting_items}
-use Rattle.written_kernel.proofs.NoticeLists.{map-change_first_notice}
-use Rattle.written_kernel.proofs.Places.{IsIn, map-change_first}
+use Rattle.kernel_records.proofs.Places.{map-change_first}
+use Rattle.written_kernel.proofs.Places.{IsIn}
 use Rattle.server_pool.specs.Words.{IsOrderedBy, PoolsValue, is_item, is_waiting_call, is_waiting_otherwise, pick_of, queue_in, stack_in, without_item}
 use Rattle.server_pool.proofs.Order.{ordered_filter}
-use Rattle.pool_agreement.specs.Words.{Agrees, AreDated, AreInOrder, AreNoticesInOrder, IsGivenOut, WaitsBefore, date_of_call, date_of_notice, is_notice_waiting}
+use Rattle.pool_agreement.specs.Words.{Agrees, AreDated, AreInOrder, AreNoticesAscending, IsGivenOut, WaitsBefore, date_of_call, date_of_notice, is_notice_waiting}
 use Rattle.pool_agreement.proofs.Merged.{all_map, all_with_notice, calls_in_order, filter_both, is_served_in, notices_in_order, queue_in_order, queue_is, same_queue, waiting_calls, waiting_notices}
 use Rattle.pool_agreement.proofs.Parked.{all_in, pick_of_stack}
 use Rattle.pool_agreement.proofs.Parking.{to_filter}
@@ -103,7 +103,7 @@ call_above c low made (r ∷ rs) o h =
     go false e rest = rest
 
 notice_above :
-    (c low made : ℕ) (ns : List Notice) → AreNoticesInOrder low made ns → c ≤ low →
+    (c low made : ℕ) (ns : List Notice) → AreNoticesAscending low made ns → c ≤ low →
     AllByRecursion (λ v. is_item (item.Notice c) v.item ≡ false) (waiting_notices ns)
 notice_above c low made [] o h = tt
 notice_above c low made (n ∷ ns) o h =
@@ -127,7 +127,7 @@ apart_calls low made (r ∷ rs) o = go (is_queued r.stage) (call_above r.number 
     go true a rest = (a, rest)
     go false a rest = rest
 
-apart_notices : (low made : ℕ) (ns : List Notice) → AreNoticesInOrder low made ns → IsOrderedBy IsApart (waiting_notices ns)
+apart_notices : (low made : ℕ) (ns : List Notice) → AreNoticesAscending low made ns → IsOrderedBy IsApart (waiting_notices ns)
 apart_notices low made [] o = tt
 apart_notices low made (n ∷ ns) o =
     go (is_waiting_stage n.stage) (notice_above n.number n.number made ns o.2 (omega arith)) (apart_notices n.number made ns o.2)
@@ -148,7 +148,7 @@ notices_from_calls rs [] = tt
 notices_from_calls rs (n ∷ ns) = (notice_from_calls n rs, notices_from_calls rs ns)
 
 apart_in_order :
-    (tree : CallTree) (list : NoticeList) → AreInOrder 0 tree.made tree.calls → AreNoticesInOrder 0 list.made list.notices →
+    (tree : CallTree) (list : NoticeList) → AreInOrder 0 tree.made tree.calls → AreNoticesAscending 0 list.made list.notices →
     IsOrderedBy IsApart (items_in_order tree.calls list.notices)
 apart_in_order tree list o p =
     apart-with_notices (waiting_notices list.notices) (waiting_calls tree.calls) (apart_notices 0 list.made list.notices p)
@@ -225,8 +225,8 @@ calls_given c t low made (r ∷ rs) o =
         ap (λ b. map waiting_call (if b then r ∷ filter is_queued_call after else filter is_queued_call after)) f ∙ ih
 
 notices_given :
-    (c t low made : ℕ) (ns : List Notice) → AreNoticesInOrder low made ns →
-    waiting_notices (change_first_notice (is_waiting_notice_as c) (notice_at (notice.Given (tid t))) ns)
+    (c t low made : ℕ) (ns : List Notice) → AreNoticesAscending low made ns →
+    waiting_notices (change_first (is_waiting_notice_as c) (notice_at (notice.Given (tid t))) ns)
     ≡ without_item (item.Notice c) (waiting_notices ns)
 notices_given c t low made [] o = refl
 notices_given c t low made (n ∷ ns) o =
@@ -236,7 +236,7 @@ notices_given c t low made (n ∷ ns) o =
     given = notice_at (notice.Given (tid t)) n
 
     after : List Notice
-    after = change_first_notice (is_waiting_notice_as c) (notice_at (notice.Given (tid t))) ns
+    after = change_first (is_waiting_notice_as c) (notice_at (notice.Given (tid t))) ns
 
     left : List Waiting
     left = without_item (item.Notice c) (waiting_notices ns)
@@ -275,7 +275,7 @@ notices_stay c [] = refl
 notices_stay c (r ∷ rs) = ap (λ ws. waiting_call r ∷ ws) (notices_stay c rs)
 
 module _
-    (latest : ℕ) (tree : CallTree) (list : NoticeList) (o : AreInOrder 0 tree.made tree.calls) (p : AreNoticesInOrder 0 list.made list.notices)
+    (latest : ℕ) (tree : CallTree) (list : NoticeList) (o : AreInOrder 0 tree.made tree.calls) (p : AreNoticesAscending 0 list.made list.notices)
     (d : AreDated 0 latest (map date_of_call tree.calls)) (e : AreDated 0 latest (map date_of_notice list.notices)) where
   abbrev items : List Waiting
   items = items_in_order tree.calls list.notices
@@ -307,7 +307,7 @@ module _
   without_notice : (c t : ℕ) → items_in_order tree.calls (give_notice list c t).notices ≡ without_item (item.Notice c) items
   without_notice c t =
       all_but (item.Notice c) tree.calls (give_notice list c t).notices refl
-      (map-change_first_notice date_of_notice (is_waiting_notice_as c) (notice_at (notice.Given (tid t))) (λ n. refl) list.notices)
+      (map-change_first date_of_notice (is_waiting_notice_as c) (notice_at (notice.Given (tid t))) (λ n. refl) list.notices)
       (sym (notices_stay c (filter is_queued_call tree.calls))) (notices_given c t 0 list.made list.notices p)
 
 -- where pools agree with the state

@@ -9,7 +9,7 @@ use Rattle.kernel_records.specs.declared.record.CallStage.TheVariants as stage
 use Rattle.kernel_records.specs.Words.{CallTree, Leaving, NoticeList, ProcessTable, abandoned_at, broken_call_at, end_owner, end_process, ended_process, ended_where, gone_call_at, has_many, is_kept_notice, is_live_call, is_past_stage, is_pool, is_queued, is_queued_in, kept_notices, left_call, left_calls, live_calls, pool_in, revoke_door, revoked_door, waiting_call, with_ended, with_owner_ended, without_arguments_at}
 use Rattle.written_kernel.specs.Types.{Call, CallStage, Door, Errno, Notice, Pool, Process, Waiting}
 use Rattle.written_kernel.proofs.Doors.{at_number-change_door, map-change_door}
-use Rattle.written_kernel.proofs.Lists.{at_number-map, length-with_at_number, same_length}
+use Rattle.kernel_records.proofs.Lists.{at_number-map, length-with_at_number, same_length}
 use Rattle.server_pool.specs.Words.{PoolValue, PoolsValue, change_pool, empty_pool, is_waiting_otherwise, pool_at, pool_or_empty, queue_in, spares_or_none, stack_in, withdraw_in, without_item}
 use Rattle.server_pool.proofs.Changed.{pool_changed, pool_kept}
 use Rattle.pool_agreement.specs.Words.{Agrees, AreDated, AreInOrder, IsQueueOf, date_of_call, leaves_queue, spare_at, spares_among, waiting_in}

@@ -7,7 +7,7 @@ use Rattle.kernel_records.specs.declared.record.NoticeStage.TheVariants as notic
 use Rattle.kernel_records.specs.Words.{CallTree, Leaving, NoticeList, ProcessTable, is_kept_notice, is_pool, is_waiting_stage, kept_notices, left_notice, left_notice_at, left_notices, pool_in, waiting_notice}
 use Rattle.written_kernel.specs.Types.{Door, Notice, NoticeStage, Pool, Waiting}
 use Rattle.server_pool.specs.Words.{PoolValue, PoolsValue, change_pool, is_waiting_otherwise, queue_in, spares_or_none, stack_in, withdraw_in, without_item}
-use Rattle.pool_agreement.specs.Words.{Agrees, AreDated, AreNoticesInOrder, IsQueueOf, date_of_notice, is_waiting_notice_in, notice_leaves_queue, notices_waiting_in}
+use Rattle.pool_agreement.specs.Words.{Agrees, AreDated, AreNoticesAscending, IsQueueOf, date_of_notice, is_waiting_notice_in, notice_leaves_queue, notices_waiting_in}
 use Rattle.pool_agreement.proofs.Dated.{dated_filter}
 use Rattle.pool_agreement.proofs.Leaving.{read_change, read_kept}
 use Rattle.pool_agreement.proofs.Noticed.{kept_filter, notices_filter, waiting_kept}
@@ -89,11 +89,11 @@ left_all who (suc i) [] l = refl
 left_all who (suc i) (n ∷ ns) l = ap (λ xs. left_notice who n ∷ xs) (left_all who i ns (omega arith))
 
 order_first :
-    (who : Leaving) (i : ℕ) (ns : List Notice) (low made : ℕ) → AreNoticesInOrder low made ns → AreNoticesInOrder low made (left_first who i ns)
+    (who : Leaving) (i : ℕ) (ns : List Notice) (low made : ℕ) → AreNoticesAscending low made ns → AreNoticesAscending low made (left_first who i ns)
 order_first who zero ns low made h = h
 order_first who (suc i) [] low made h = h
 order_first who (suc i) (n ∷ ns) low made h =
-    subst (λ k. (low < k) × (k ≤ made) × AreNoticesInOrder k made (left_first who i ns)) (sym (left_notice_number who n))
+    subst (λ k. (low < k) × (k ≤ made) × AreNoticesAscending k made (left_first who i ns)) (sym (left_notice_number who n))
     (h.0, h.1, order_first who i ns n.number made h.2)
 
 dates_first : (who : Leaving) (i : ℕ) (ns : List Notice) → map date_of_notice (left_first who i ns) ≡ map date_of_notice ns
@@ -102,7 +102,7 @@ dates_first who (suc i) [] = refl
 dates_first who (suc i) (n ∷ ns) = ap₂ (λ k ks. k ∷ ks) (left_reads who date_of_notice (λ s x. refl) n) (dates_first who i ns)
 
 -- the numbers of a list are above those before it
-number_above : (ns : List Notice) (low made i : ℕ) (n : Notice) → AreNoticesInOrder low made ns → slice_get ns i ≡ Some n → low < n.number
+number_above : (ns : List Notice) (low made i : ℕ) (n : Notice) → AreNoticesAscending low made ns → slice_get ns i ≡ Some n → low < n.number
 number_above [] low made i n h e = cc
 number_above (x ∷ xs) low made zero n h e = let same : x ≡ n = cc in subst (λ (y : Notice). low < y.number) same h.0
 number_above (x ∷ xs) low made (suc i) n h e =
@@ -129,7 +129,7 @@ without_cons c w ws k e f = ap (λ b. if b then w ∷ without_item (item.Notice 
     kept = ap (λ i. is_waiting_otherwise (item.Notice c) (record w { item = i })) e ∙ ap not f
 
 none_of_them :
-    (doors : List Door) (pool : Pool) (ns : List Notice) (c low made : ℕ) → c ≤ low → AreNoticesInOrder low made ns →
+    (doors : List Door) (pool : Pool) (ns : List Notice) (c low made : ℕ) → c ≤ low → AreNoticesAscending low made ns →
     without_item (item.Notice c) (notices_waiting_in doors ns pool) ≡ notices_waiting_in doors ns pool
 none_of_them doors pool [] c low made l h = refl
 none_of_them doors pool (n ∷ ns) c low made l h =
@@ -160,7 +160,7 @@ without_same c w ws e = ap (λ b. if b then w ∷ without_item (item.Notice c) w
 module _ (who : Leaving) (doors : List Door) (pool : Pool) where
   -- where the next notice leaves the pool, it is withdrawn
   waiting_withdrawn :
-      (i : ℕ) (ns : List Notice) (low made : ℕ) (n : Notice) → AreNoticesInOrder low made ns → slice_get ns i ≡ Some n → is_waiting_notice_in doors pool n ≡ true →
+      (i : ℕ) (ns : List Notice) (low made : ℕ) (n : Notice) → AreNoticesAscending low made ns → slice_get ns i ≡ Some n → is_waiting_notice_in doors pool n ≡ true →
       notice_leaves_queue who n ≡ true →
       without_item (item.Notice n.number) (notices_waiting_in doors (left_first who i ns) pool) ≡ notices_waiting_in doors (left_first who (suc i) ns) pool
   waiting_withdrawn i [] low made n h e q l = cc
@@ -242,7 +242,7 @@ module _
 
   -- all but the queues, with the next notice left
   with_next :
-      (w : PoolsValue) → AreNoticesInOrder 0 list.made list.notices → AreDated 0 n (map date_of_notice list.notices) →
+      (w : PoolsValue) → AreNoticesAscending 0 list.made list.notices → AreDated 0 n (map date_of_notice list.notices) →
       Agrees n table doors tree (notices_left doors who i list) v → w.bindings ≡ v.bindings → ((q : Pool) → stack_in w q ≡ stack_in v q) →
       w.spares ≡ v.spares → length w.common ≡ length v.common → length w.private ≡ length v.private →
       ((q : Pool) → IsQueueOf doors tree.calls (left_first who (suc i) list.notices) q (queue_in w q)) →
@@ -274,7 +274,7 @@ module _
       queue_kept doors tree.calls (left_first who i list.notices) refl (sym (waiting_kept doors (left_first who i list.notices) q)) (h.queues q)
 
   pub agrees_notice_withdrawn :
-      (x : Notice) → AreNoticesInOrder 0 list.made list.notices → AreDated 0 n (map date_of_notice list.notices) →
+      (x : Notice) → AreNoticesAscending 0 list.made list.notices → AreDated 0 n (map date_of_notice list.notices) →
       slice_get list.notices i ≡ Some x → notice_leaves_queue who x ≡ true → Agrees n table doors tree (notices_left doors who i list) v →
       Agrees n table doors tree (notices_left doors who (suc i) list)
       (change_pool v (pool_in (at_number doors x.door)) (withdraw_in (item.Notice x.number)))
@@ -308,7 +308,7 @@ module _
           (ap₂ (λ a b. (a && b) && notice_leaves_queue who x) k (is_pool-sym q pool ∙ e))) (all_of q h)
 
   pub agrees_notice_stays :
-      (x : Notice) → AreNoticesInOrder 0 list.made list.notices → AreDated 0 n (map date_of_notice list.notices) →
+      (x : Notice) → AreNoticesAscending 0 list.made list.notices → AreDated 0 n (map date_of_notice list.notices) →
       slice_get list.notices i ≡ Some x → notice_leaves_queue who x ≡ false → Agrees n table doors tree (notices_left doors who i list) v →
       Agrees n table doors tree (notices_left doors who (suc i) list) v
   agrees_notice_stays x order dates at stays h =

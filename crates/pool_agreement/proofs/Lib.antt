@@ -8,7 +8,7 @@ pub mod Queued
 pub mod Queues
 pub mod Leaving
 pub mod Unparking
-pub mod GivingAll
+pub mod LeavingPools
 pub mod Settling
 pub mod Dated
 pub mod Noticed

@@ -5,10 +5,10 @@ use Rattle.std.proofs.lemmas.List.{map-append}
 use Rattle.std.proofs.lemmas.List.Elements.{filter-append}
 use Rattle.dk_base.specs.ByNumber.{at_number}
 use Rattle.kernel_records.specs.declared.record.NoticeStage.TheVariants as notice
-use Rattle.kernel_records.specs.Words.{change_first_notice, has_many, is_kept_notice, is_past_stage, is_pool, is_waiting_notice_as, is_waiting_stage, notice_at, pool_in, tid, waiting_notice}
+use Rattle.kernel_records.specs.Words.{change_first, has_many, is_kept_notice, is_past_stage, is_pool, is_waiting_notice_as, is_waiting_stage, notice_at, pool_in, tid, waiting_notice}
 use Rattle.written_kernel.specs.Types.{Door, Notice, Pool, Waiting}
 use Rattle.written_kernel.proofs.NoticeLists.{filter-kept, present_is_kept, waiting_is_present}
-use Rattle.pool_agreement.specs.Words.{AreKept, AreNoticesInOrder, is_waiting_notice_in, notices_waiting_in}
+use Rattle.pool_agreement.specs.Words.{AreKept, AreNoticesAscending, is_waiting_notice_in, notices_waiting_in}
 use Rattle.pool_agreement.proofs.Queued.{both_true, first_passes, is_pool-other, same_filter}
 
 -- what waits in a pool
@@ -52,23 +52,23 @@ notices_waiting_doors doors others ns pool h =
 
 -- numbers that go up
 
-pub notices_lower : (ns : List Notice) (low high made : ℕ) → low ≤ high → AreNoticesInOrder high made ns → AreNoticesInOrder low made ns
+pub notices_lower : (ns : List Notice) (low high made : ℕ) → low ≤ high → AreNoticesAscending high made ns → AreNoticesAscending low made ns
 notices_lower [] low high made le h = tt
 notices_lower (n ∷ ns) low high made le h = let a : high < n.number = h.0 in (omega arith, h.1, h.2)
 
 pub notices_push :
-    (ns : List Notice) (low made : ℕ) (n : Notice) → low ≤ made → n.number ≡ made + 1 → AreNoticesInOrder low made ns →
-    AreNoticesInOrder low n.number (ns ++ n ∷ [])
+    (ns : List Notice) (low made : ℕ) (n : Notice) → low ≤ made → n.number ≡ made + 1 → AreNoticesAscending low made ns →
+    AreNoticesAscending low n.number (ns ++ n ∷ [])
 notices_push [] low made n le e h = (omega arith, omega arith, tt)
 notices_push (x ∷ xs) low made n le e h =
     let a : x.number ≤ made = h.1 in (h.0, omega arith, notices_push xs x.number made n a e h.2)
 
 pub notices_filter :
-    (keep : Notice → Bool) (ns : List Notice) (low made : ℕ) → AreNoticesInOrder low made ns → AreNoticesInOrder low made (filter keep ns)
+    (keep : Notice → Bool) (ns : List Notice) (low made : ℕ) → AreNoticesAscending low made ns → AreNoticesAscending low made (filter keep ns)
 notices_filter keep [] low made h = h
 notices_filter keep (n ∷ ns) low made h = go (keep n) (notices_filter keep ns n.number made h.2)
   where
-    go : (b : Bool) → AreNoticesInOrder n.number made (filter keep ns) → AreNoticesInOrder low made (if b then n ∷ filter keep ns else filter keep ns)
+    go : (b : Bool) → AreNoticesAscending n.number made (filter keep ns) → AreNoticesAscending low made (if b then n ∷ filter keep ns else filter keep ns)
     go true rest = (h.0, h.1, rest)
     go false rest = let a : low < n.number = h.0 in notices_lower (filter keep ns) low n.number made (omega arith) rest
 
@@ -107,26 +107,26 @@ kept_doors doors others (n ∷ ns) same h =
 
 module _ (test : Notice → Bool) (change : Notice → Notice) where
   pub notices_changed :
-      ((n : Notice) → (change n).number ≡ n.number) → (ns : List Notice) (low made : ℕ) → AreNoticesInOrder low made ns →
-      AreNoticesInOrder low made (change_first_notice test change ns)
+      ((n : Notice) → (change n).number ≡ n.number) → (ns : List Notice) (low made : ℕ) → AreNoticesAscending low made ns →
+      AreNoticesAscending low made (change_first test change ns)
   notices_changed same [] low made h = h
   notices_changed same (n ∷ ns) low made h = go (test n) (notices_changed same ns n.number made h.2)
     where
       go :
-          (b : Bool) → AreNoticesInOrder n.number made (change_first_notice test change ns) →
-          AreNoticesInOrder low made (if b then change n ∷ ns else n ∷ change_first_notice test change ns)
-      go true rest = subst (λ k. (low < k) × (k ≤ made) × AreNoticesInOrder k made ns) (sym (same n)) h
+          (b : Bool) → AreNoticesAscending n.number made (change_first test change ns) →
+          AreNoticesAscending low made (if b then change n ∷ ns else n ∷ change_first test change ns)
+      go true rest = subst (λ k. (low < k) × (k ≤ made) × AreNoticesAscending k made ns) (sym (same n)) h
       go false rest = (h.0, h.1, rest)
 
   pub kept_changed :
       (doors : List Door) → ((n : Notice) → is_kept_notice doors (change n) ≡ true) → (ns : List Notice) → AreKept doors ns →
-      AreKept doors (change_first_notice test change ns)
+      AreKept doors (change_first test change ns)
   kept_changed doors keeps [] h = h
   kept_changed doors keeps (n ∷ ns) h = go (test n) (kept_changed doors keeps ns h.1)
     where
       go :
-          (b : Bool) → AreKept doors (change_first_notice test change ns) →
-          AreKept doors (if b then change n ∷ ns else n ∷ change_first_notice test change ns)
+          (b : Bool) → AreKept doors (change_first test change ns) →
+          AreKept doors (if b then change n ∷ ns else n ∷ change_first test change ns)
       go true rest = (keeps n, h.1)
       go false rest = (h.0, rest)
 
@@ -134,14 +134,14 @@ module _ (test : Notice → Bool) (change : Notice → Notice) where
   pub waiting-changed :
       (doors : List Door) (pool : Pool) →
       ((n : Notice) → test n ≡ true → is_waiting_stage n.stage ≡ false) → ((n : Notice) → is_waiting_stage (change n).stage ≡ false) →
-      (ns : List Notice) → filter (is_waiting_notice_in doors pool) (change_first_notice test change ns) ≡ filter (is_waiting_notice_in doors pool) ns
+      (ns : List Notice) → filter (is_waiting_notice_in doors pool) (change_first test change ns) ≡ filter (is_waiting_notice_in doors pool) ns
   waiting-changed doors pool before after [] = refl
   waiting-changed doors pool before after (n ∷ ns) = go (test n) refl (waiting-changed doors pool before after ns)
     where
       go :
           (b : Bool) → test n ≡ b →
-          filter (is_waiting_notice_in doors pool) (change_first_notice test change ns) ≡ filter (is_waiting_notice_in doors pool) ns →
-          filter (is_waiting_notice_in doors pool) (if b then change n ∷ ns else n ∷ change_first_notice test change ns)
+          filter (is_waiting_notice_in doors pool) (change_first test change ns) ≡ filter (is_waiting_notice_in doors pool) ns →
+          filter (is_waiting_notice_in doors pool) (if b then change n ∷ ns else n ∷ change_first test change ns)
           ≡ filter (is_waiting_notice_in doors pool) (n ∷ ns)
       go true e ih =
           ap (λ c. if c && is_pool pool (pool_in (at_number doors (change n).door)) then change n ∷ filter (is_waiting_notice_in doors pool) ns else filter (is_waiting_notice_in doors pool) ns) (after n)
@@ -154,10 +154,10 @@ abbrev given : ℕ → Notice → Notice
 given t n = notice_at (notice.Given (tid t)) n
 
 abbrev pub given_notices : ℕ → ℕ → List Notice → List Notice
-given_notices c t ns = change_first_notice (is_waiting_notice_as c) (given t) ns
+given_notices c t ns = change_first (is_waiting_notice_as c) (given t) ns
 
 found_above :
-    (test : Notice → Bool) (ns : List Notice) (low made : ℕ) (n : Notice) (more : List Notice) → AreNoticesInOrder low made ns → filter test ns ≡ n ∷ more →
+    (test : Notice → Bool) (ns : List Notice) (low made : ℕ) (n : Notice) (more : List Notice) → AreNoticesAscending low made ns → filter test ns ≡ n ∷ more →
     low < n.number
 found_above test [] low made n more h e = cc
 found_above test (x ∷ xs) low made n more h e = go (test x) (found_above test xs x.number made n more h.2) e
@@ -171,7 +171,7 @@ found_above test (x ∷ xs) low made n more h e = go (test x) (found_above test 
 -- it waits no longer
 pub waiting-given :
     (doors : List Door) (pool : Pool) (c t : ℕ) (ns : List Notice) (low made : ℕ) (n : Notice) (more : List Notice) →
-    AreNoticesInOrder low made ns → filter (is_waiting_notice_in doors pool) ns ≡ n ∷ more → n.number ≡ c →
+    AreNoticesAscending low made ns → filter (is_waiting_notice_in doors pool) ns ≡ n ∷ more → n.number ≡ c →
     filter (is_waiting_notice_in doors pool) (given_notices c t ns) ≡ more
 waiting-given doors pool c t [] low made n more h e same_as = cc
 waiting-given doors pool c t (x ∷ xs) low made n more h e same_as = go (is_waiting_notice_in doors pool x) refl (λ k. waiting-given doors pool c t xs x.number made n more h.2 k same_as) e
@@ -205,7 +205,7 @@ waiting-given doors pool c t (x ∷ xs) low made n more h e same_as = go (is_wai
 -- and what waits in other pools stays
 pub waiting-given_elsewhere :
     (doors : List Door) (pool other : Pool) (c t : ℕ) (ns : List Notice) (low made : ℕ) (n : Notice) (more : List Notice) →
-    AreNoticesInOrder low made ns → filter (is_waiting_notice_in doors pool) ns ≡ n ∷ more → n.number ≡ c → is_pool pool other ≡ false →
+    AreNoticesAscending low made ns → filter (is_waiting_notice_in doors pool) ns ≡ n ∷ more → n.number ≡ c → is_pool pool other ≡ false →
     filter (is_waiting_notice_in doors other) (given_notices c t ns) ≡ filter (is_waiting_notice_in doors other) ns
 waiting-given_elsewhere doors pool other c t [] low made n more h e same_as o = refl
 waiting-given_elsewhere doors pool other c t (x ∷ xs) low made n more h e same_as o = go (is_waiting_notice_in doors pool x) refl (λ k. waiting-given_elsewhere doors pool other c t xs x.number made n more h.2 k same_as o) e

@@ -5,12 +5,12 @@ use Rattle.dk_base.specs.ByNumber.{at_number}
 use Rattle.dk_base.specs.declared.object.Item.TheVariants as item
 use Rattle.kernel_records.specs.declared.record.NoticeStage.TheVariants as notice
 use Rattle.kernel_records.specs.declared.record.ThreadState.TheVariants as is
-use Rattle.kernel_records.specs.Words.{CallTree, NoticeList, ProcessTable, change_first_notice, end_notice, enter_notice, give_notice, give_thread, is_entered_stage, is_given_notice_as, is_given_stage, is_kept_notice, is_notice_entered_by, is_pool, is_waiting_notice_as, is_waiting_stage, kept_notices, make_notice, new_notice, notice_at, pool_in, thread_at_state, tid, waiting_notice}
+use Rattle.kernel_records.specs.Words.{CallTree, NoticeList, ProcessTable, change_first, end_notice, enter_notice, give_notice, give_thread, is_entered_stage, is_given_notice_as, is_given_stage, is_kept_notice, is_notice_entered_by, is_pool, is_waiting_notice_as, is_waiting_stage, kept_notices, make_notice, new_notice, notice_at, pool_in, thread_at_state, tid, waiting_notice}
 use Rattle.written_kernel.specs.Types.{Door, Notice, NoticeStage, Parked, Pool, Thread, Waiting}
-use Rattle.written_kernel.proofs.NoticeLists.{map-change_first_notice}
+use Rattle.kernel_records.proofs.Places.{map-change_first}
 use Rattle.written_kernel.proofs.Threads.{processes-change_thread}
 use Rattle.server_pool.specs.Words.{PoolValue, PoolsValue, change_pool, enqueue_in, match_in, pick_of, pool_at, queue_in, spares_or_none, stack_in}
-use Rattle.pool_agreement.specs.Words.{Agrees, AreDated, AreKept, AreNoticesInOrder, IsQueueOf, date_of_call, date_of_notice, notices_waiting_in, spares_among}
+use Rattle.pool_agreement.specs.Words.{Agrees, AreDated, AreKept, AreNoticesAscending, IsQueueOf, date_of_call, date_of_notice, notices_waiting_in, spares_among}
 use Rattle.pool_agreement.proofs.Dated.{dated_filter, dated_later, dated_push}
 use Rattle.pool_agreement.proofs.Noticed.{all_kept, given_notices, kept_changed, kept_filter, kept_push, notices_changed, notices_filter, notices_push, waiting-changed, waiting_kept}
 use Rattle.pool_agreement.proofs.Parking.{stack_later}
@@ -83,7 +83,7 @@ module _
 
   -- other notices, of which the same wait
   with_notices :
-      (notices : List Notice) → AreNoticesInOrder 0 list.made notices → AreDated 0 n (map date_of_notice notices) → AreKept doors notices →
+      (notices : List Notice) → AreNoticesAscending 0 list.made notices → AreDated 0 n (map date_of_notice notices) → AreKept doors notices →
       ((pool : Pool) → notices_waiting_in doors notices pool ≡ notices_waiting_in doors list.notices pool) →
       Agrees n table doors tree (record list { notices = notices }) v
   with_notices notices order dates kept same =
@@ -102,14 +102,14 @@ module _
       }
 
   changed_dates :
-      (test : Notice → Bool) (s : NoticeStage) → AreDated 0 n (map date_of_notice (change_first_notice test (notice_at s) list.notices))
+      (test : Notice → Bool) (s : NoticeStage) → AreDated 0 n (map date_of_notice (change_first test (notice_at s) list.notices))
   changed_dates test s =
-      subst (AreDated 0 n) (sym (map-change_first_notice date_of_notice test (notice_at s) (λ x. refl) list.notices)) h.notice_dates
+      subst (AreDated 0 n) (sym (map-change_first date_of_notice test (notice_at s) (λ x. refl) list.notices)) h.notice_dates
 
   -- a thread enters the notice that it was given
   pub agrees_enter_notice : (c t : ℕ) → Agrees n table doors tree (enter_notice list c t) v
   agrees_enter_notice c t =
-      with_notices (change_first_notice (is_given_notice_as c t) (notice_at entered) list.notices)
+      with_notices (change_first (is_given_notice_as c t) (notice_at entered) list.notices)
       (notices_changed (is_given_notice_as c t) (notice_at entered) (λ x. refl) list.notices 0 list.made h.notices)
       (changed_dates (is_given_notice_as c t) entered)
       (kept_changed (is_given_notice_as c t) (notice_at entered) doors (λ x. refl) list.notices h.kept)
@@ -134,7 +134,7 @@ module _
       (waiting-changed (is_notice_entered_by t) (notice_at notice.Over) doors pool (λ x e. entered_stage t x.stage e) (λ x. refl) list.notices))
     where
       ended : List Notice
-      ended = change_first_notice (is_notice_entered_by t) (notice_at notice.Over) list.notices
+      ended = change_first (is_notice_entered_by t) (notice_at notice.Over) list.notices
 
   -- the thread on top of a pool is given the oldest item of the pool, a notice
   pub agrees_give_notice :

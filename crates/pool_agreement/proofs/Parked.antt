@@ -9,7 +9,7 @@ use Rattle.kernel_records.specs.declared.record.ThreadState.TheVariants as is
 use Rattle.kernel_records.specs.declared.record.Thread.{Thread}
 use Rattle.kernel_records.specs.Words.{ProcessTable, better_parked, bound_at, is_pool, later_parked, parked_at, parked_in, parked_thread, pick_among, pick_parked, pool_of_thread, thread_at}
 use Rattle.server_pool.specs.Words.{IsStack, ParkedBefore, pick_of}
-use Rattle.written_kernel.proofs.Lists.{numbered_within}
+use Rattle.kernel_records.proofs.Lists.{numbered_within}
 use Rattle.written_kernel.proofs.Places.{IsIn, place_of}
 use Rattle.pool_agreement.specs.Words.{IsListed, IsParkedIn, IsStackOf}
 

@@ -14,8 +14,8 @@ use Rattle.kernel_records.specs.Words.{CallTree, NoticeList, ProcessTable, at_st
 use Rattle.written_kernel.specs.Types.{Call, CallStage, Door, Item, Notice, Obj, Param, Parked, Pool, Thread, Waiting}
 use Rattle.written_kernel.proofs.Doors.{at_number-change_door, map-change_door}
 use Rattle.written_kernel.proofs.Giving.{same_pool}
-use Rattle.written_kernel.proofs.Lists.{is_some-at_number, numbered_front, numbered_past, numbered_push, numbered_there, numbered_within, same_length}
-use Rattle.written_kernel.proofs.Places.{map-change_first}
+use Rattle.kernel_records.proofs.Lists.{is_some-at_number, numbered_front, numbered_past, numbered_push, numbered_there, numbered_within, same_length}
+use Rattle.kernel_records.proofs.Places.{map-change_first}
 use Rattle.written_kernel.proofs.Threads.{processes-change_thread}
 use Rattle.server_pool.specs.Words.{PoolValue, PoolsValue, change_pool, count_calls, empty_pool, enqueue_in, is_waiting_call, match_in, pick_of, pool_at, pool_or_empty, queue_in, spares_or_none, stack_in}
 use Rattle.pool_agreement.specs.Words.{Agrees, AreDated, AreInOrder, HasPlaces, IsQueueOf, IsStackOf, date_of_call, date_of_notice, spares_among, waiting_in}

@@ -8,7 +8,7 @@ use Rattle.kernel_records.specs.declared.pool.Waiting.{Waiting}
 use Rattle.dk_base.specs.ByNumber.{at_number}
 use Rattle.kernel_records.specs.Words.{is_pool}
 use Rattle.server_pool.specs.Words.{PoolValue, PoolsValue, change_at_number, change_item, change_pool, change_spares, pool_at, pool_or_empty, queue_in, spares_of, spares_or_none, stack_in}
-use Rattle.written_kernel.proofs.Lists.{at_number-renumbered_there, length-with_at_number}
+use Rattle.kernel_records.proofs.Lists.{at_number-renumbered_there, length-with_at_number}
 
 -- lists that are numbered from 1
 

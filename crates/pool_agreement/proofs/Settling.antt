@@ -14,7 +14,7 @@ use Rattle.written_kernel.specs.Types.{Attrs, Call, Door, Errno, Item, Name, Not
 use Rattle.written_kernel.specs.Words.{State, accept, accept_call, accept_notice, await, await_name, begin_call, create, create_tests, door_at, effect, enter, exit, fail_begin, fail_returns, find_call, find_notice, give, go_on, has_first_common_door, has_given_last, has_invalid_door, has_room, is_live_process, kill, leave_process, leave_thread, make_notices, name_of, needs_spare, process_of, return, return_parked, return_unbound, start_each, start_one, start_spares, unless_refused}
 use Rattle.written_kernel.proofs.Doors.{map-change_door}
 use Rattle.written_kernel.proofs.Entries.{enter_either}
-use Rattle.written_kernel.proofs.Lists.{map-map_same}
+use Rattle.kernel_records.proofs.Lists.{map-map_same}
 use Rattle.written_kernel.proofs.Notices.{doors-make_notices}
 use Rattle.written_kernel.proofs.Settling.{fail_returns-alone, give-all}
 use Rattle.server_pool.specs.Words.{PoolsValue, pick_of, stack_in}

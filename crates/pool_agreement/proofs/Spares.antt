@@ -6,7 +6,7 @@ use Rattle.std.proofs.lemmas.Option.{slice_get_within}
 use Rattle.kernel_records.specs.declared.record.Thread.{Thread}
 use Rattle.kernel_records.specs.declared.record.ThreadState.TheVariants as is
 use Rattle.kernel_records.specs.Words.{ProcessTable, is_dormant, is_spare_of, set_thread_state, start_spare, start_thread_at, state_in, thread_at}
-use Rattle.written_kernel.proofs.Lists.{at_number-suc}
+use Rattle.kernel_records.proofs.Lists.{at_number-suc}
 use Rattle.pool_agreement.specs.Words.{spare_at, spare_in, spares_among}
 
 -- one thread

@@ -11,7 +11,7 @@ use Rattle.kernel_records.specs.declared.record.ThreadState.TheVariants as is
 use Rattle.kernel_records.specs.Words.{CallTree, NoticeList, ProcessTable, bound_at, bound_in, change_thread, change_thread_in, end_thread, ended_thread, enter_thread, give_thread, idle_thread, is_dormant, is_idle, is_pool, is_private_in, park_thread, parked_at, parked_in, parked_thread, pick_parked, pool_of_thread, process_in, set_thread_state, state_in, thread_at, thread_at_state, thread_in_invocation, tid}
 use Rattle.written_kernel.specs.Types.{Door}
 use Rattle.written_kernel.proofs.Giving.{same_pool}
-use Rattle.written_kernel.proofs.Lists.{at_number-with_at_number, is_some-at_number, length-with_at_number}
+use Rattle.kernel_records.proofs.Lists.{at_number-with_at_number, is_some-at_number, length-with_at_number}
 use Rattle.written_kernel.proofs.Threads.{processes-change_thread, thread_at-change_thread}
 use Rattle.server_pool.specs.Words.{AllParkedBefore, PoolsValue, PoolValue, change_pool, match_in, park_in, pick_of, pool_at, pool_or_empty, queue_in, spares_or_none, stack_in}
 use Rattle.pool_agreement.specs.Words.{Agrees, HasPlaces, IsParkedIn, IsQueueOf, IsStackOf, date_of_call, date_of_notice, pool_by, spare_at, spare_in, spares_among}

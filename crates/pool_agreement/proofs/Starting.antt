@@ -10,7 +10,7 @@ use Rattle.kernel_records.specs.declared.record.ThreadState.{ThreadState}
 use Rattle.kernel_records.specs.declared.record.ThreadState.TheVariants as is
 use Rattle.kernel_records.specs.Words.{CallTree, NoticeList, ProcessTable, is_dormant, is_idle, new_thread, opening_state, parked_at, parked_thread, set_thread_state, start_spare, state_in, thread_at, thread_at_state}
 use Rattle.written_kernel.specs.Types.{Door}
-use Rattle.written_kernel.proofs.Lists.{at_number-suc, is_some-at_number, numbered_past, numbered_push}
+use Rattle.kernel_records.proofs.Lists.{at_number-suc, is_some-at_number, numbered_past, numbered_push}
 use Rattle.written_kernel.proofs.Threads.{processes-change_thread}
 use Rattle.server_pool.specs.Words.{PoolValue, PoolsValue, change_spares, empty_pool, no_pools, pool_at, pool_or_empty, spares_of, spares_or_none, stack_in, with_spare, without_lowest}
 use Rattle.pool_agreement.specs.Words.{Agrees, IsQueueOf, IsStackOf, spare_at, spare_in, spares_among}

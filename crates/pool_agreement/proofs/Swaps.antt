@@ -7,11 +7,11 @@ use Rattle.dk_base.specs.declared.object.Item.TheVariants as item
 use Rattle.kernel_records.specs.declared.record.CallStage.TheVariants as stage
 use Rattle.kernel_records.specs.declared.record.NoticeStage.TheVariants as notice
 use Rattle.kernel_records.specs.declared.record.ThreadState.TheVariants as is
-use Rattle.kernel_records.specs.Words.{CallTree, NoticeList, ProcessTable, at_stage, better_parked, change_first, change_first_notice, change_thread, change_thread_in, give_call, give_notice, give_thread, is_pool, is_queued, is_queued_as, is_waiting_notice_as, is_waiting_stage, later_parked, notice_at, parked_at, parked_thread, pick_among, pick_parked, pool_in, thread_at, thread_at_state, tid}
+use Rattle.kernel_records.specs.Words.{CallTree, NoticeList, ProcessTable, at_stage, better_parked, change_first, change_thread, change_thread_in, give_call, give_notice, give_thread, is_pool, is_queued, is_queued_as, is_waiting_notice_as, is_waiting_stage, later_parked, notice_at, parked_at, parked_thread, pick_among, pick_parked, pool_in, thread_at, thread_at_state, tid}
 use Rattle.written_kernel.specs.Types.{Call, Door, Item, Notice, Parked, Pool, Thread, Waiting}
 use Rattle.written_kernel.specs.Words.{State, give_each, give_one, give_to, pick, pool_of}
 use Rattle.written_kernel.proofs.Giving.{same_pool}
-use Rattle.written_kernel.proofs.Lists.{same_length, with_at_number-suc}
+use Rattle.kernel_records.proofs.Lists.{same_length, with_at_number-suc}
 use Rattle.written_kernel.proofs.Threads.{map-change_thread, thread_at-change_thread}
 use Rattle.server_pool.specs.Words.{is_item}
 use Rattle.pool_agreement.proofs.Merged.{is_served_in}
@@ -215,26 +215,26 @@ module _
 module _
     (p q : Notice → Bool) (f g : Notice → Notice) (apart : (n : Notice) → p n ≡ true → q n ≡ false)
     (after_f : (n : Notice) → p n ≡ true → q (f n) ≡ false) (after_g : (n : Notice) → q n ≡ true → p (g n) ≡ false) where
-  two_notices : (ns : List Notice) → change_first_notice p f (change_first_notice q g ns) ≡ change_first_notice q g (change_first_notice p f ns)
+  two_notices : (ns : List Notice) → change_first p f (change_first q g ns) ≡ change_first q g (change_first p f ns)
   two_notices [] = refl
   two_notices (n ∷ ns) = go (p n) refl (q n) refl (two_notices ns)
     where
       go :
           (b : Bool) → p n ≡ b → (c : Bool) → q n ≡ c →
-          change_first_notice p f (change_first_notice q g ns) ≡ change_first_notice q g (change_first_notice p f ns) →
-          change_first_notice p f (if c then g n ∷ ns else n ∷ change_first_notice q g ns)
-          ≡ change_first_notice q g (if b then f n ∷ ns else n ∷ change_first_notice p f ns)
+          change_first p f (change_first q g ns) ≡ change_first q g (change_first p f ns) →
+          change_first p f (if c then g n ∷ ns else n ∷ change_first q g ns)
+          ≡ change_first q g (if b then f n ∷ ns else n ∷ change_first p f ns)
       go true e true h ih = absurd (true≢false (sym h ∙ apart n e))
       go true e false h ih =
-          ap (λ b. if b then f n ∷ change_first_notice q g ns else n ∷ change_first_notice p f (change_first_notice q g ns)) e
-          ∙ sym (ap (λ b. if b then g (f n) ∷ ns else f n ∷ change_first_notice q g ns) (after_f n e))
+          ap (λ b. if b then f n ∷ change_first q g ns else n ∷ change_first p f (change_first q g ns)) e
+          ∙ sym (ap (λ b. if b then g (f n) ∷ ns else f n ∷ change_first q g ns) (after_f n e))
       go false e true h ih =
-          ap (λ b. if b then f (g n) ∷ ns else g n ∷ change_first_notice p f ns) (after_g n h)
-          ∙ sym (ap (λ b. if b then g n ∷ change_first_notice p f ns else n ∷ change_first_notice q g (change_first_notice p f ns)) h)
+          ap (λ b. if b then f (g n) ∷ ns else g n ∷ change_first p f ns) (after_g n h)
+          ∙ sym (ap (λ b. if b then g n ∷ change_first p f ns else n ∷ change_first q g (change_first p f ns)) h)
       go false e false h ih =
-          ap (λ b. if b then f n ∷ change_first_notice q g ns else n ∷ change_first_notice p f (change_first_notice q g ns)) e
+          ap (λ b. if b then f n ∷ change_first q g ns else n ∷ change_first p f (change_first q g ns)) e
           ∙ ap (λ us. n ∷ us) ih
-          ∙ sym (ap (λ b. if b then g n ∷ change_first_notice p f ns else n ∷ change_first_notice q g (change_first_notice p f ns)) h)
+          ∙ sym (ap (λ b. if b then g n ∷ change_first p f ns else n ∷ change_first q g (change_first p f ns)) h)
 
 and_false : (b : Bool) → b && false ≡ false
 and_false true = refl

@@ -8,7 +8,7 @@ use Rattle.kernel_records.specs.declared.record.ThreadState.TheVariants as is
 use Rattle.kernel_records.specs.Words.{CallTree, NoticeList, ProcessTable, bound_at, change_thread, change_thread_in, end_thread, ended_thread, idle_thread, is_dormant, is_idle, is_pool, is_spare_of, park_thread, parked_at, parked_in, parked_thread, pool_of_thread, process_in, state_in, thread_at, tid}
 use Rattle.written_kernel.specs.Types.{Door, Parked, Pool, Thread, ThreadState}
 use Rattle.written_kernel.proofs.Giving.{same_pool}
-use Rattle.written_kernel.proofs.Lists.{at_number-renumbered_there, with_at_number-suc}
+use Rattle.kernel_records.proofs.Lists.{at_number-renumbered_there, with_at_number-suc}
 use Rattle.written_kernel.proofs.Threads.{processes-change_thread}
 use Rattle.server_pool.specs.Words.{AllParkedBefore, PoolValue, PoolsValue, change_at_number, change_item, change_pool, change_spares, is_another_spare, park_in, pool_at, spares_of, spares_or_none, stack_in, unpark_in, without_spare, without_thread}
 use Rattle.pool_agreement.specs.Words.{Agrees, IsQueueOf, IsStackOf, pool_by, spare_at, spare_in, spares_among}

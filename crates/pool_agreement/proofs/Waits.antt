@@ -10,7 +10,7 @@ use Rattle.written_kernel.proofs.Places.{IsIn}
 use Rattle.written_kernel.proofs.Waits.{Passes, from_filter}
 use Rattle.server_pool.specs.Words.{is_call, is_item, is_waiting_call, is_waiting_otherwise, without_item}
 use Rattle.server_pool.proofs.Order.{ordered_filter, ordered_push}
-use Rattle.pool_agreement.specs.Words.{AreDated, AreInOrder, AreNoticesInOrder, IsQueue, IsQueueOf, WaitsBefore, date_of_call, date_of_notice, is_notice_waiting, is_waiting_notice_in, notices_waiting_in, waiting_in}
+use Rattle.pool_agreement.specs.Words.{AreDated, AreInOrder, AreNoticesAscending, IsQueue, IsQueueOf, WaitsBefore, date_of_call, date_of_notice, is_notice_waiting, is_waiting_notice_in, notices_waiting_in, waiting_in}
 use Rattle.pool_agreement.proofs.Dated.{dated_in}
 use Rattle.pool_agreement.proofs.Merged.{earlier_before, filter_both}
 use Rattle.pool_agreement.proofs.Noticed.{IsOldestNotice, given_notices, notices_waiting_push, oldest_notice, oldest_notice_served, waiting-given, waiting-given_elsewhere}
@@ -233,7 +233,7 @@ module _
       notice_number =
           let same : item.Notice first_notice.notice.number ≡ item.Notice c = ap (λ (x : Waiting). x.item) first_notice.same ∙ is_notice in cc
 
-      pub notice_left : (t made : ℕ) → AreNoticesInOrder 0 made notices → IsQueueOf doors calls (given_notices c t notices) pool ws
+      pub notice_left : (t made : ℕ) → AreNoticesAscending 0 made notices → IsQueueOf doors calls (given_notices c t notices) pool ws
       notice_left t made order =
           record {
             calls_wait = sym (calls_are false (ap (λ i. is_waiting_call (record w { item = i })) is_notice));
@@ -245,7 +245,7 @@ module _
           }
 
       pub notice_left_elsewhere :
-          (t made : ℕ) (other : Pool) → AreNoticesInOrder 0 made notices → is_pool pool other ≡ false →
+          (t made : ℕ) (other : Pool) → AreNoticesAscending 0 made notices → is_pool pool other ≡ false →
           notices_waiting_in doors (given_notices c t notices) other ≡ notices_waiting_in doors notices other
       notice_left_elsewhere t made other order f =
           ap (map waiting_notice)

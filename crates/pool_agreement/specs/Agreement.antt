@@ -45,9 +45,9 @@ is_waiting_notice_in doors pool n = is_waiting_stage n.stage && is_pool pool (po
 abbrev pub notices_waiting_in : List Door → List Notice → Pool → List Waiting
 notices_waiting_in doors notices pool = map waiting_notice (filter (is_waiting_notice_in doors pool) notices)
 
-abbrev pub AreNoticesInOrder : ℕ → ℕ → List Notice → Type 0
-AreNoticesInOrder low made [] = Unit {0}
-AreNoticesInOrder low made (n ∷ ns) = (low < n.number) × (n.number ≤ made) × AreNoticesInOrder n.number made ns
+abbrev pub AreNoticesAscending : ℕ → ℕ → List Notice → Type 0
+AreNoticesAscending low made [] = Unit {0}
+AreNoticesAscending low made (n ∷ ns) = (low < n.number) × (n.number ≤ made) × AreNoticesAscending n.number made ns
 
 -- none is past that no rule asks for again
 abbrev pub AreKept : List Door → List Notice → Type 0
@@ -106,7 +106,7 @@ pub record Agrees (latest : ℕ) (table : ProcessTable) (doors : List Door) (tre
   pub spares : (p : ℕ) → spares_of pools p ≡ spares_among table p (length table.threads)
   pub calls : AreInOrder 0 tree.made tree.calls
   pub call_dates : AreDated 0 latest (map date_of_call tree.calls)
-  pub notices : AreNoticesInOrder 0 list.made list.notices
+  pub notices : AreNoticesAscending 0 list.made list.notices
   pub notice_dates : AreDated 0 latest (map date_of_notice list.notices)
   pub kept : AreKept doors list.notices
   -- there is a pool for each process, and one for each door

@@ -1,31 +1,21 @@
--- Items of lists that are numbered from 1, and threads that have not ended, which are there.
-use Rattle.std.proofs.Common.{◌≡◌, ℕ, zero, suc, ◌-◌, ◌<◌, true, false, List, [], ◌∷◌, Option, Some, length, get_or, slice_get, refl, sym, ap, ◌∙◌, arith}
-use Rattle.std.proofs.lemmas.Option.{slice_get-get_or}
-use Rattle.std.proofs.lemmas.Bool.Decides.{nat_tests}
+-- Threads that have not ended are there.
+use Rattle.std.proofs.Common.{◌≡◌, ℕ, zero, suc, ◌-◌, ◌<◌, true, false, List, [], ◌∷◌, Option, length, slice_get, refl, sym, ap, ◌∙◌, arith}
 use Rattle.kernel_records.specs.declared.record.Thread.{Thread}
 use Rattle.kernel_records.specs.declared.record.ThreadState.{ThreadState}
 use Rattle.kernel_records.specs.declared.record.ThreadState.TheVariants as is
 use Rattle.dk_base.specs.ByNumber.{at_number}
 use Rattle.kernel_records.specs.Words.{is_done, is_idle, state_in}
-
-pub numbered_here : {X : Type 0} (xs : List X) (n : ℕ) (d : X) → 0 < n → n - 1 < length xs → at_number xs n ≡ Some (get_or xs (n - 1) d)
-numbered_here xs n d p h = let e = slice_get-get_or xs (n - 1) d h in grind (arith, nat_tests)
+use Rattle.kernel_records.proofs.Lists.{at_number-suc}
 
 place_there : (xs : List Thread) (k : ℕ) → is_done (state_in (slice_get xs k)) ≡ false → k < length xs
 place_there [] k e = cc
 place_there (x ∷ xs) zero e = omega arith
 place_there (x ∷ xs) (suc k) e = omega (arith, place_there xs k e)
 
-sub_suc_one : (k : ℕ) → suc k - 1 ≡ k
-sub_suc_one k = omega arith
-
-at_suc : (xs : List Thread) (k : ℕ) → at_number xs (suc k) ≡ slice_get xs k
-at_suc xs k = grind (arith, nat_tests, sub_suc_one k)
-
 pub thread_there : (xs : List Thread) (n : ℕ) → is_done (state_in (at_number xs n)) ≡ false → (0 < n) × (n - 1 < length xs)
 thread_there xs zero e = cc
 thread_there xs (suc k) e =
-    let h : is_done (state_in (slice_get xs k)) ≡ false = sym (ap (λ (o : Option Thread). is_done (state_in o)) (at_suc xs k)) ∙ e in
+    let h : is_done (state_in (slice_get xs k)) ≡ false = sym (ap (λ (o : Option Thread). is_done (state_in o)) (at_number-suc xs k)) ∙ e in
     let l : k < length xs = place_there xs k h in
     (omega arith, omega arith)
 

@@ -1,6 +1,5 @@
 //! Processes and threads, numbered from 1. Each change of a thread has a name and a condition on what the thread was at.
 #![tactic(auto)]
 
-mod numbered;
 pub mod procs;
 mod thread;

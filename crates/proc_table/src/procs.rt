@@ -7,7 +7,6 @@ ghost use Rattle.dk_base.specs.ByNumber.{at_number};
 ghost use Rattle.kernel_records.specs.declared.record.ThreadState.TheVariants.{Done};
 ghost use Rattle.kernel_records.specs.Words.{ProcessTable, active_threads, cancelled_thread, change_thread, end_invocation, end_process, end_thread, enter_thread, give_thread, interrupted_thread, invocation_in, is_active_of, is_done, is_idle, is_idle_thread, is_last, is_live_in, keeps_alive, new_process, new_thread, opening_state, park_thread, process_in, set_thread_state, state_in, thread_at};
 
-use crate::numbered::numbered_item;
 use crate::thread::{
     cancel, end, end_invocation, enter, interrupt, is_active_of, is_idle_thread, keeps_alive, park,
     turn,
@@ -16,6 +15,7 @@ use dk_base::error::ProcFault;
 use dk_base::limits::{PROCESSES_MAX, THREADS_MAX};
 use dk_base::number::{Pid, Tid};
 use dk_base::object::{Inv, Item};
+use kernel_records::numbered::numbered_item;
 use kernel_records::record::{Process, ProcessStage, Thread, ThreadState};
 use std::alloc::Global;
 use std::marker::Model;
@@ -233,7 +233,7 @@ impl Procs {
     }
 
     /// A thread that has not ended turns to another state.
-    #[tactic(auto, using(crate::proofs::Places::numbered_here))]
+    #[tactic(auto, using(kernel_records::proofs::Places::numbered_here))]
     fn set_state(&mut self, t: Tid, state: ThreadState)
         requires { is_done (state_in (thread_at self.old t.0)) ≡ false }
         ensures { self.new ≡ set_thread_state self.old t.0 state }
@@ -275,7 +275,7 @@ impl Procs {
 
     /// A thread enters the invocation of the item that it was given, and runs. The change itself needs only that the thread
     /// has not ended; that it is this item is for what stands above.
-    #[tactic(auto, using(crate::proofs::Places::numbered_here))]
+    #[tactic(auto, using(kernel_records::proofs::Places::numbered_here))]
     pub fn enter(&mut self, t: Tid, item: Item)
         requires { state_in (thread_at self.old t.0) ≡ ThreadState.Given item }
         ensures { self.new ≡ enter_thread self.old t.0 item }
@@ -287,7 +287,7 @@ impl Procs {
 
     /// A thread's invocation ends, and it is parked since an event (door_return(3C)). That it enters a pool is for what stands
     /// above.
-    #[tactic(auto, using(crate::proofs::Places::numbered_here))]
+    #[tactic(auto, using(kernel_records::proofs::Places::numbered_here))]
     pub fn park(&mut self, t: Tid, since: u64)
         ensures { self.new ≡ park_thread self.old t.0 since }
     {
@@ -299,7 +299,7 @@ impl Procs {
 
     /// A thread ends, and leaves the invocation that it is in. Says whether it was the last thread of its process that was
     /// neither Done nor Dormant.
-    #[tactic(auto, using(crate::proofs::Places::numbered_here))]
+    #[tactic(auto, using(kernel_records::proofs::Places::numbered_here))]
     pub fn end_thread(&mut self, t: Tid) -> bool
         ensures state { self.new ≡ end_thread self.old t.0 }
         ensures last { result ≡ is_last self.old t.0 (process_in (thread_at self.old t.0)) }
@@ -314,7 +314,7 @@ impl Procs {
 
     /// The caller of the thread's invocation has left it, so the flag of the invocation is set (DOOR_NO_CANCEL,
     /// door_create(3C)). A thread that is in none stays as it is.
-    #[tactic(auto, using(crate::proofs::Places::numbered_here))]
+    #[tactic(auto, using(kernel_records::proofs::Places::numbered_here))]
     pub fn cancel(&mut self, t: Tid)
         ensures { self.new ≡ change_thread self.old t.0 cancelled_thread }
     {
@@ -325,7 +325,7 @@ impl Procs {
     }
 
     /// A thread is interrupted: its wait for the events of a port is marked. A thread at anything else stays as it is.
-    #[tactic(auto, using(crate::proofs::Places::numbered_here))]
+    #[tactic(auto, using(kernel_records::proofs::Places::numbered_here))]
     pub fn interrupt(&mut self, t: Tid)
         ensures { self.new ≡ change_thread self.old t.0 interrupted_thread }
     {
@@ -336,7 +336,7 @@ impl Procs {
     }
 
     /// A thread's invocation ends, and the thread goes on as it was.
-    #[tactic(auto, using(crate::proofs::Places::numbered_here))]
+    #[tactic(auto, using(kernel_records::proofs::Places::numbered_here))]
     pub fn end_invocation(&mut self, t: Tid)
         requires { is_done (state_in (thread_at self.old t.0)) ≡ false }
         ensures { self.new ≡ end_invocation self.old t.0 }
@@ -347,7 +347,7 @@ impl Procs {
     }
 
     /// A process ends; its threads stay as they are. A number that no process has ends no process.
-    #[tactic(auto, using(crate::proofs::Places::numbered_here))]
+    #[tactic(auto, using(kernel_records::proofs::Places::numbered_here))]
     pub fn end_process(&mut self, p: Pid)
         ensures { self.new ≡ end_process self.old p.0 }
     {

@@ -1,4 +1,3 @@
 pub mod Order
 pub mod Changed
 pub mod Matched
-pub mod Places

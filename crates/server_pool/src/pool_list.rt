@@ -14,7 +14,7 @@ use dk_base::object::Item;
 use kernel_records::pool::{Parked, Waiting};
 
 /// Room for another thread and another item of a pool, if it is there.
-#[tactic(auto, using(crate::proofs::Places::numbered_here))]
+#[tactic(auto, using(kernel_records::proofs::Places::numbered_here))]
 pub fn room_at(pools: &mut [ServerPool], number: u32) -> Result<(), NoMemory>
     ensures same { pools.new ≡ change_at_number pools.old number (with_room (pool_or_empty (at_number pools.new number)).thread_room (pool_or_empty (at_number pools.new number)).item_room) }
     ensures threads { (pool_or_empty (at_number pools.old number)).thread_room ≤ (pool_or_empty (at_number pools.new number)).thread_room }
@@ -32,7 +32,7 @@ pub fn room_at(pools: &mut [ServerPool], number: u32) -> Result<(), NoMemory>
 }
 
 /// Room for so many more threads of a pool, if it is there.
-#[tactic(auto, using(crate::proofs::Places::numbered_here))]
+#[tactic(auto, using(kernel_records::proofs::Places::numbered_here))]
 pub fn room_for_threads_at(pools: &mut [ServerPool], number: u32, n: usize) -> Result<(), NoMemory>
     ensures same { pools.new ≡ change_at_number pools.old number (with_room (pool_or_empty (at_number pools.new number)).thread_room (pool_or_empty (at_number pools.new number)).item_room) }
     ensures threads { (pool_or_empty (at_number pools.old number)).thread_room ≤ (pool_or_empty (at_number pools.new number)).thread_room }
@@ -49,7 +49,7 @@ pub fn room_for_threads_at(pools: &mut [ServerPool], number: u32, n: usize) -> R
 }
 
 /// Room for so many more items of a pool, if it is there.
-#[tactic(auto, using(crate::proofs::Places::numbered_here))]
+#[tactic(auto, using(kernel_records::proofs::Places::numbered_here))]
 pub fn room_for_items_at(pools: &mut [ServerPool], number: u32, n: usize) -> Result<(), NoMemory>
     ensures same { pools.new ≡ change_at_number pools.old number (with_room (pool_or_empty (at_number pools.new number)).thread_room (pool_or_empty (at_number pools.new number)).item_room) }
     ensures threads { (pool_or_empty (at_number pools.old number)).thread_room ≤ (pool_or_empty (at_number pools.new number)).thread_room }
@@ -66,7 +66,7 @@ pub fn room_for_items_at(pools: &mut [ServerPool], number: u32, n: usize) -> Res
 }
 
 /// A thread parks in a pool after all the others. It takes no memory.
-#[tactic(auto, using(crate::proofs::Places::numbered_here))]
+#[tactic(auto, using(kernel_records::proofs::Places::numbered_here))]
 pub fn park_at(pools: &mut [ServerPool], number: u32, x: Parked)
     requires room { 0 < (pool_or_empty (at_number pools.old number)).thread_room }
     requires later { AllParkedBefore (pool_or_empty (at_number pools.old number)).parked x }
@@ -79,7 +79,7 @@ pub fn park_at(pools: &mut [ServerPool], number: u32, x: Parked)
 }
 
 /// The pick of a pool and its oldest item leave, where there are both.
-#[tactic(auto, using(crate::proofs::Places::numbered_here))]
+#[tactic(auto, using(kernel_records::proofs::Places::numbered_here))]
 pub fn match_at(pools: &mut [ServerPool], number: u32) -> Option<Match>
     ensures result { let pool = pool_or_empty (at_number pools.old number) in result ≡ first_match pool.parked pool.waiting }
     ensures some { OnSome result (pools.new ≡ change_at_number pools.old number match_in) }
@@ -95,7 +95,7 @@ pub fn match_at(pools: &mut [ServerPool], number: u32) -> Option<Match>
 }
 
 /// A thread leaves a pool. Says whether it was there.
-#[tactic(auto, using(crate::proofs::Places::numbered_here))]
+#[tactic(auto, using(kernel_records::proofs::Places::numbered_here))]
 pub fn unpark_at(pools: &mut [ServerPool], number: u32, t: Tid) -> bool
     ensures result { result ≡ list_any (is_thread t.0) (pool_or_empty (at_number pools.old number)).parked }
     ensures pools { pools.new ≡ change_at_number pools.old number (unpark_in t.0) }
@@ -110,7 +110,7 @@ pub fn unpark_at(pools: &mut [ServerPool], number: u32, t: Tid) -> bool
 }
 
 /// An item waits behind the others, which takes no memory. EAGAIN for a call where 32 calls wait.
-#[tactic(auto, using(crate::proofs::Places::numbered_here))]
+#[tactic(auto, using(kernel_records::proofs::Places::numbered_here))]
 pub fn enqueue_at(pools: &mut [ServerPool], number: u32, w: Waiting) -> Result<(), Errno>
     requires { 0 < (pool_or_empty (at_number pools.old number)).item_room }
     ensures result { result ≡ (if is_call_too_many w (pool_or_empty (at_number pools.old number)).waiting then Err EAGAIN else Ok tt) }
@@ -127,7 +127,7 @@ pub fn enqueue_at(pools: &mut [ServerPool], number: u32, w: Waiting) -> Result<(
 }
 
 /// An item leaves a pool. Says whether it was there.
-#[tactic(auto, using(crate::proofs::Places::numbered_here))]
+#[tactic(auto, using(kernel_records::proofs::Places::numbered_here))]
 pub fn withdraw_at(pools: &mut [ServerPool], number: u32, item: Item) -> bool
     ensures result { result ≡ list_any (is_waiting_as item) (pool_or_empty (at_number pools.old number)).waiting }
     ensures pools { pools.new ≡ change_at_number pools.old number (withdraw_in item) }

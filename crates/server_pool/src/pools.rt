@@ -9,7 +9,6 @@ ghost use Rattle.server_pool.specs.Words.{AllBelow, AllParkedBefore, IsAscending
 
 use crate::bindings::{bound_at, no_bindings, set_binding};
 use crate::facts::Match;
-use crate::numbered::numbered_item;
 use crate::pool::ServerPool;
 use crate::pool_list::{
     enqueue_at, match_at, park_at, room_at, room_for_items_at, room_for_threads_at, unpark_at,
@@ -20,6 +19,7 @@ use dk_base::error::{Errno, NoMemory};
 use dk_base::limits::THREADS_MAX;
 use dk_base::number::{Pid, Tid};
 use dk_base::object::Item;
+use kernel_records::numbered::numbered_item;
 use kernel_records::pool::{Parked, Pool, Waiting};
 use std::alloc::Global;
 use std::marker::Model;

@@ -7,7 +7,7 @@ use Rattle.written_kernel.specs.Types.{Pid}
 use Rattle.std.proofs.lemmas.List.{length-map}
 use Rattle.written_kernel.specs.Words.{State, opening, with_new_thread}
 use Rattle.written_kernel.proofs.Opening.{IsDeclaredIn, opening_events, opening_processes}
-use Rattle.written_kernel.proofs.Lists.{at_number-suc}
+use Rattle.kernel_records.proofs.Lists.{at_number-suc}
 use Rattle.dk_base.specs.ByNumber.{at_number}
 use Rattle.script_lang.specs.Words.{ScriptValue}
 use Rattle.script_requests.specs.Types.{ScriptProcess, ScriptThread}

@@ -7,8 +7,8 @@ use Rattle.std.proofs.lemmas.List.Sums.{sum_by-cons}
 use Rattle.std.specs.List.{All, count_by}
 use Rattle.std.specs.List.Sorted.{IsNonDecreasing}
 use Rattle.std.specs.Ordering.{nat_cmp}
-use Rattle.unref_notice.specs.Counting.{among}
-use Rattle.unref_notice.proofs.Numbered.{all-among}
+use Rattle.kernel_records.specs.Words.{numbers_where}
+use Rattle.kernel_records.proofs.DoorNumbers.{all-numbers_where}
 
 abbrev how_many : ℕ → List ℕ → ℕ
 how_many d xs = count_by (λ x. x == d) xs
@@ -53,18 +53,18 @@ same_ascending (x ∷ xs) (y ∷ ys) up over same =
         let whole = same d in
         omega (arith, left, right, head, whole)
 
-among_ascends : (p : ℕ → Bool) (n : ℕ) → IsNonDecreasing (among p n)
+among_ascends : (p : ℕ → Bool) (n : ℕ) → IsNonDecreasing (numbers_where p n)
 among_ascends p zero = IsNonDecreasingBy-short (λ x. x) [] (omega arith)
 among_ascends p (suc n) = go (p (suc n)) (among_ascends p n)
   where
-    go : (b : Bool) → IsNonDecreasing (among p n) → IsNonDecreasing (among p n ++ (if b then suc n ∷ [] else []))
+    go : (b : Bool) → IsNonDecreasing (numbers_where p n) → IsNonDecreasing (numbers_where p n ++ (if b then suc n ∷ [] else []))
     go true ih =
-        IsNonDecreasingBy-push (λ x. x) (among p n) (suc n) ih
-        (λ d l. let at = All-get_or (λ e. (p e ≡ true) × (1 ≤ e) × (e ≤ n)) (among p n) (length (among p n) - 1) d (omega arith) (all-among p n) in omega (arith, at.2))
-    go false ih = subst IsNonDecreasing (sym (append-nil (among p n))) ih
+        IsNonDecreasingBy-push (λ x. x) (numbers_where p n) (suc n) ih
+        (λ d l. let at = All-get_or (λ e. (p e ≡ true) × (1 ≤ e) × (e ≤ n)) (numbers_where p n) (length (numbers_where p n) - 1) d (omega arith) (all-numbers_where p n) in omega (arith, at.2))
+    go false ih = subst IsNonDecreasing (sym (append-nil (numbers_where p n))) ih
 
 -- the point
-pub sorted_among : (p : ℕ → Bool) (n : ℕ) (xs : List ℕ) → IsPermutation (among p n) xs → IsSorted nat_cmp xs → xs ≡ among p n
+pub sorted_among : (p : ℕ → Bool) (n : ℕ) (xs : List ℕ) → IsPermutation (numbers_where p n) xs → IsSorted nat_cmp xs → xs ≡ numbers_where p n
 sorted_among p n xs moved sorted =
-    same_ascending xs (among p n) (IsNonDecreasingBy-from_sort (λ x. x) xs sorted) (among_ascends p n)
-    (λ d. sum_by-IsPermutation (λ x. cond (x == d) 1 0) (among p n) xs moved)
+    same_ascending xs (numbers_where p n) (IsNonDecreasingBy-from_sort (λ x. x) xs sorted) (among_ascends p n)
+    (λ d. sum_by-IsPermutation (λ x. cond (x == d) 1 0) (numbers_where p n) xs moved)

@@ -3,8 +3,8 @@ use Rattle.std.proofs.Common.{◌≡◌, ℕ, zero, suc, ◌<◌, ◌≤◌, Boo
 use Rattle.std.proofs.lemmas.List.Quantifiers.{position-Some}
 use Rattle.kernel_records.specs.declared.record.Door.{Door}
 use Rattle.kernel_records.specs.declared.record.Notice.{Notice}
-use Rattle.kernel_records.specs.Words.{NoticeList, change_first_notice, is_kept_notice, kept_notices}
-use Rattle.unref_notice.proofs.Places.{changed_at}
+use Rattle.kernel_records.specs.Words.{NoticeList, change_first, is_kept_notice, kept_notices}
+use Rattle.kernel_records.proofs.Places.{changed_at}
 
 abbrev AreKept : (Notice → Bool) → List Notice → Type 0
 AreKept kept [] = Unit {0}
@@ -42,7 +42,7 @@ set_removed kept (m ∷ ms) (suc i) n h l e =
 
 pub removed_there :
     (kept test : Notice → Bool) (change : Notice → Notice) (ns : List Notice) (i : ℕ) (d : Notice) → filter kept ns ≡ ns →
-    position test ns ≡ Some i → kept (change (get_or ns i d)) ≡ false → remove ns i ≡ filter kept (change_first_notice test change ns)
+    position test ns ≡ Some i → kept (change (get_or ns i d)) ≡ false → remove ns i ≡ filter kept (change_first test change ns)
 removed_there kept test change ns i d h e over =
     let w = position-Some test ns i d e in
     sym (ap (filter kept) (changed_at test change ns i d e) ∙ set_removed kept ns i (change (get_or ns i d)) (are_kept kept ns h) w.0 over)
@@ -50,7 +50,7 @@ removed_there kept test change ns i d h e over =
 pub stays_there :
     (kept test : Notice → Bool) (change : Notice → Notice) (ns : List Notice) (i : ℕ) (d : Notice) → filter kept ns ≡ ns →
     position test ns ≡ Some i → kept (change (get_or ns i d)) ≡ true →
-    set ns i (change (get_or ns i d)) ≡ filter kept (change_first_notice test change ns)
+    set ns i (change (get_or ns i d)) ≡ filter kept (change_first test change ns)
 stays_there kept test change ns i d h e over =
     sym (ap (filter kept) (changed_at test change ns i d e) ∙ kept_same kept (set ns i (change (get_or ns i d))) (set_kept kept ns i (change (get_or ns i d)) (are_kept kept ns h) over))
 

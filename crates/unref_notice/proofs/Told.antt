@@ -5,12 +5,13 @@ use Rattle.std.proofs.lemmas.Bool.Decides.{nat_tests}
 use Rattle.std.proofs.lemmas.List.Sorted.{IsPermutation-trans}
 use Rattle.dk_base.specs.ByNumber.{at_number}
 use Rattle.kernel_records.specs.declared.record.Door.{Door}
-use Rattle.kernel_records.specs.Words.{notice_doors}
+use Rattle.kernel_records.specs.Words.{AreNumbered, notice_doors, takes_notices_in}
 use Rattle.unref_notice.specs.declared.counts.Count.{Count}
-use Rattle.unref_notice.specs.Counting.{IsTracked, has_fallen_in, is_told, is_touched_in, now_of, opening_of, takes_in, touched_doors}
+use Rattle.unref_notice.specs.Counting.{IsTracked, has_fallen_in, is_told, is_touched_in, now_of, opening_of, touched_doors}
 use Rattle.unref_notice.specs.Words.{count_of, was_shared}
 use Rattle.unref_notice.proofs.Ascending.{sorted_among}
-use Rattle.unref_notice.proofs.Numbered.{AreNumbered, among-past, among-same, at_number-map, filter-among, noticed_is, numbered_past}
+use Rattle.kernel_records.proofs.DoorNumbers.{filter-numbers_where, notice_doors_numbered, numbers_where-past, numbers_where-same}
+use Rattle.kernel_records.proofs.Lists.{at_number-map, numbered_past}
 
 sorted_touched :
     (counts : List Count) (touched sorted : List ℕ) → IsTracked counts touched → IsPermutation touched sorted → IsSorted nat_cmp sorted →
@@ -52,21 +53,21 @@ abbrev of_touched : List Count → List Door → ℕ → Bool
 of_touched counts doors d = is_touched_in (at_number counts d) && is_told counts doors d
 
 abbrev of_doors : List Count → List Door → ℕ → Bool
-of_doors counts doors d = takes_in (at_number doors d) && fell counts d
+of_doors counts doors d = takes_notices_in (at_number doors d) && fell counts d
 
 told_is :
     (counts : List Count) (touched : List ℕ) (doors : List Door) → IsTracked counts touched → AreNumbered doors →
     filter (is_told counts doors) (touched_doors counts) ≡ filter (fell counts) (notice_doors doors)
 told_is counts touched doors tracked numbered =
-    filter-among (is_told counts doors) (λ d. is_touched_in (at_number counts d)) (length counts)
-    ∙ sym (among-past (of_touched counts doors) (length counts) (length counts + length doors) (omega arith) (λ d l. ap (λ o. is_touched_in o && is_told counts doors d) (numbered_past counts d l)))
-    ∙ among-same (of_touched counts doors) (of_doors counts doors) alike (length counts + length doors)
-    ∙ among-past (of_doors counts doors) (length doors) (length counts + length doors) (omega arith) (λ d l. ap (λ o. takes_in o && fell counts d) (numbered_past doors d l))
-    ∙ sym (filter-among (fell counts) (λ d. takes_in (at_number doors d)) (length doors))
-    ∙ ap (filter (fell counts)) (sym (noticed_is doors numbered))
+    filter-numbers_where (is_told counts doors) (λ d. is_touched_in (at_number counts d)) (length counts)
+    ∙ sym (numbers_where-past (of_touched counts doors) (length counts) (length counts + length doors) (omega arith) (λ d l. ap (λ o. is_touched_in o && is_told counts doors d) (numbered_past counts d l)))
+    ∙ numbers_where-same (of_touched counts doors) (of_doors counts doors) alike (length counts + length doors)
+    ∙ numbers_where-past (of_doors counts doors) (length doors) (length counts + length doors) (omega arith) (λ d l. ap (λ o. takes_notices_in o && fell counts d) (numbered_past doors d l))
+    ∙ sym (filter-numbers_where (fell counts) (λ d. takes_notices_in (at_number doors d)) (length doors))
+    ∙ ap (filter (fell counts)) (sym (notice_doors_numbered doors numbered))
   where
     alike : (d : ℕ) → of_touched counts doors d ≡ of_doors counts doors d
-    alike d = touched_fell counts touched d (takes_in (at_number doors d)) tracked ∙ ap (λ b. takes_in (at_number doors d) && b) (sym (fell_in counts d))
+    alike d = touched_fell counts touched d (takes_notices_in (at_number doors d)) tracked ∙ ap (λ b. takes_notices_in (at_number doors d) && b) (sym (fell_in counts d))
 
 -- the point
 pub told_sorted :

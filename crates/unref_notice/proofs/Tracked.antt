@@ -6,9 +6,11 @@ use Rattle.std.proofs.lemmas.List.Sorted.{All-permutation, IsPermutation-cons, I
 use Rattle.std.proofs.lemmas.Option.{same_Some, slice_get-get_or}
 use Rattle.std.specs.List.{list_any}
 use Rattle.dk_base.specs.ByNumber.{at_number}
+use Rattle.kernel_records.specs.Words.{numbers_where}
 use Rattle.unref_notice.specs.declared.counts.Count.{Count}
-use Rattle.unref_notice.specs.Counting.{IsTracked, among, is_touched_in, now_of, opening_of, touched_doors}
-use Rattle.unref_notice.proofs.Numbered.{all-among, among-below, among-none, at_number-map, at_number-push, at_number-set, at_number-suc, fewer-among, length-among, more-among, numbered_within, there-among}
+use Rattle.unref_notice.specs.Counting.{IsTracked, is_touched_in, now_of, opening_of, touched_doors}
+use Rattle.kernel_records.proofs.DoorNumbers.{all-numbers_where, at_number-push, at_number-set, fewer-numbers_where, length-numbers_where, more-numbers_where, numbers_where-below, numbers_where-none, there-numbers_where}
+use Rattle.kernel_records.proofs.Lists.{at_number-map, at_number-suc, numbered_within}
 
 -- what is read of counts of which one changes
 
@@ -50,12 +52,12 @@ pub tracked_first :
     (counts : List Count) (touched : List ℕ) (i : ℕ) (x y d : Count) → i < length counts → x ≡ get_or counts i d →
     IsTracked counts touched → x.touched ≡ false → y.touched ≡ true → IsTracked (set counts i y) (touched ++ (i + 1) ∷ [])
 tracked_first counts touched i x y d l here tracked off on =
-    let more : IsPermutation (suc i ∷ touched_doors counts) (among (is_touched (set counts i y)) (length counts)) =
-    more-among (is_touched counts) (is_touched (set counts i y)) (length counts) (suc i) (omega arith) (omega arith)
+    let more : IsPermutation (suc i ∷ touched_doors counts) (numbers_where (is_touched (set counts i y)) (length counts)) =
+    more-numbers_where (is_touched counts) (is_touched (set counts i y)) (length counts) (suc i) (omega arith) (omega arith)
     (ap is_touched_in (there counts i x d l here) ∙ off) (ap is_touched_in (set_there counts i y l) ∙ on)
     (λ e apart. sym (ap is_touched_in (set_elsewhere counts i y e l apart))) in
     let same : IsPermutation (suc i ∷ touched_doors counts) (touched_doors (set counts i y)) =
-    subst (λ n. IsPermutation (suc i ∷ touched_doors counts) (among (is_touched (set counts i y)) n)) (sym (length-set counts i y)) more in
+    subst (λ n. IsPermutation (suc i ∷ touched_doors counts) (numbers_where (is_touched (set counts i y)) n)) (sym (length-set counts i y)) more in
     let last : IsPermutation (suc i ∷ touched_doors counts) (touched ++ suc i ∷ []) =
     IsPermutation-trans (suc i ∷ touched_doors counts) (suc i ∷ touched) (touched ++ suc i ∷ [])
     (IsPermutation-cons (suc i) (touched_doors counts) touched tracked.listed)
@@ -71,8 +73,8 @@ pub tracked_again :
     IsTracked counts touched → x.touched ≡ true → y.touched ≡ true → IsTracked (set counts i y) touched
 tracked_again counts touched i x y d l here tracked was on =
     let same : touched_doors counts ≡ touched_doors (set counts i y) =
-    among-below (is_touched counts) (is_touched (set counts i y)) (length counts) (λ e _. alike e (e == suc i) refl)
-    ∙ ap (among (is_touched (set counts i y))) (sym (length-set counts i y)) in
+    numbers_where-below (is_touched counts) (is_touched (set counts i y)) (length counts) (λ e _. alike e (e == suc i) refl)
+    ∙ ap (numbers_where (is_touched (set counts i y))) (sym (length-set counts i y)) in
     record {
       listed = subst (λ ds. IsPermutation ds touched) same tracked.listed;
       still = still_set counts touched i y l tracked on;
@@ -89,13 +91,13 @@ tracked_again counts touched i x y d l here tracked was on =
 
 pub no_more_touched : (counts : List Count) (touched : List ℕ) → IsTracked counts touched → length touched ≤ length counts
 no_more_touched counts touched tracked =
-    omega (arith, length_permutation (touched_doors counts) touched tracked.listed, length-among (is_touched counts) (length counts))
+    omega (arith, length_permutation (touched_doors counts) touched tracked.listed, length-numbers_where (is_touched counts) (length counts))
 
 pub fewer_touched :
     (counts : List Count) (touched : List ℕ) (i : ℕ) (x d : Count) → i < length counts → x ≡ get_or counts i d →
     IsTracked counts touched → x.touched ≡ false → length touched < length counts
 fewer_touched counts touched i x d l here tracked off =
-    omega (arith, length_permutation (touched_doors counts) touched tracked.listed, fewer-among (is_touched counts) (length counts) (suc i) (omega arith) (omega arith) (ap is_touched_in (there counts i x d l here) ∙ off))
+    omega (arith, length_permutation (touched_doors counts) touched tracked.listed, fewer-numbers_where (is_touched counts) (length counts) (suc i) (omega arith) (omega arith) (ap is_touched_in (there counts i x d l here) ∙ off))
 
 -- another door, that is not touched
 pub tracked_push :
@@ -107,10 +109,10 @@ tracked_push counts touched y tracked off even =
     let last : is_touched (counts ++ y ∷ []) (suc (length counts)) ≡ false = ap is_touched_in here ∙ off in
     let long : suc (length counts) ≡ length (counts ++ y ∷ []) = omega (arith, length_push counts y) in
     let same : touched_doors counts ≡ touched_doors (counts ++ y ∷ []) =
-    among-below (is_touched counts) (is_touched (counts ++ y ∷ [])) (length counts) (λ d l. ap is_touched_in (sym (before d l)))
-    ∙ sym (append-nil (among (is_touched (counts ++ y ∷ [])) (length counts)))
-    ∙ ap (λ (b : Bool). among (is_touched (counts ++ y ∷ [])) (length counts) ++ (if b then suc (length counts) ∷ [] else [])) (sym last)
-    ∙ ap (among (is_touched (counts ++ y ∷ []))) long in
+    numbers_where-below (is_touched counts) (is_touched (counts ++ y ∷ [])) (length counts) (λ d l. ap is_touched_in (sym (before d l)))
+    ∙ sym (append-nil (numbers_where (is_touched (counts ++ y ∷ [])) (length counts)))
+    ∙ ap (λ (b : Bool). numbers_where (is_touched (counts ++ y ∷ [])) (length counts) ++ (if b then suc (length counts) ∷ [] else [])) (sym last)
+    ∙ ap (numbers_where (is_touched (counts ++ y ∷ []))) long in
     record {
       listed = subst (λ ds. IsPermutation ds touched) same tracked.listed;
       still = λ d x e off. go d x off (d == suc (length counts)) (sym (at_number-push counts y d) ∙ e);
@@ -125,7 +127,7 @@ tracked_push counts touched y tracked off even =
 
 pub touched_within : (counts : List Count) (touched : List ℕ) (k d : ℕ) → IsTracked counts touched → k < length touched → (1 ≤ get_or touched k d) × (get_or touched k d ≤ length counts)
 touched_within counts touched k d tracked l =
-    let within = All-permutation (λ e. (is_touched counts e ≡ true) × (1 ≤ e) × (e ≤ length counts)) (touched_doors counts) touched tracked.listed (all-among (is_touched counts) (length counts)) k d l in
+    let within = All-permutation (λ e. (is_touched counts e ≡ true) × (1 ≤ e) × (e ≤ length counts)) (touched_doors counts) touched tracked.listed (all-numbers_where (is_touched counts) (length counts)) k d l in
     (within.1, within.2)
 
 -- a step begins
@@ -141,7 +143,7 @@ settled_first counts touched tracked e x at none = go x.touched refl
     go : (b : Bool) → x.touched ≡ b → (x.touched ≡ false) × (x.opening ≡ x.now)
     go true t =
         let w = numbered_within counts e x at in
-        absurd (true≢false (sym (there-among (is_touched counts) (length counts) e w.0 w.1 (ap is_touched_in at ∙ t)) ∙ list_any-IsPermutation (λ k. k == e) (touched_doors counts) touched tracked.listed ∙ none))
+        absurd (true≢false (sym (there-numbers_where (is_touched counts) (length counts) e w.0 w.1 (ap is_touched_in at ∙ t)) ∙ list_any-IsPermutation (λ k. k == e) (touched_doors counts) touched tracked.listed ∙ none))
     go false t = (t, tracked.still e x at t)
 
 pub settled_more :
@@ -165,7 +167,7 @@ map_same f g [] same = refl
 map_same f g (x ∷ xs) same = ap₂ (λ n ns. n ∷ ns) (same 0 x refl) (map_same f g xs (λ k y e. same (suc k) y (at_number-suc (x ∷ xs) (suc k) ∙ sym (at_number-suc xs k) ∙ e)))
 
 pub settled_untouched : (counts : List Count) → AreSettledBut counts [] → touched_doors counts ≡ []
-settled_untouched counts but = among-none (is_touched counts) (length counts) (λ d. go d (at_number counts d) refl)
+settled_untouched counts but = numbers_where-none (is_touched counts) (length counts) (λ d. go d (at_number counts d) refl)
   where
     go : (d : ℕ) (o : Option Count) → at_number counts d ≡ o → is_touched_in (at_number counts d) ≡ false
     go d None e = ap is_touched_in e

@@ -1,10 +1,10 @@
 -- The counts of doors as they are kept, and what is read of them.
-use Rattle.std.specs.Prelude.{ℕ, zero, suc, ◌-◌, ◌≡◌, ◌==◌, ◌&&◌, ◌++◌, Bool, false, List, [], ◌∷◌, Option, None, Some, if◌then◌else◌, length, nat_le, nat_lt, IsPermutation}
+use Rattle.std.specs.Prelude.{ℕ, ◌-◌, ◌≡◌, ◌==◌, ◌&&◌, Bool, false, List, Option, None, Some, if◌then◌else◌, length, nat_le, nat_lt, IsPermutation}
 use Rattle.dk_base.specs.ByNumber.{at_number}
 use Rattle.dk_base.specs.declared.object.Obj.{Obj}
 use Rattle.dk_base.specs.declared.object.Obj.TheVariants as obj
 use Rattle.kernel_records.specs.declared.record.Door.{Door}
-use Rattle.kernel_records.specs.Words.{is_notice_door}
+use Rattle.kernel_records.specs.Words.{numbers_where, takes_notices_in}
 use Rattle.unref_notice.specs.declared.counts.Count.{Count}
 
 abbrev pub now_of : Count → ℕ
@@ -26,17 +26,8 @@ abbrev pub has_fallen_in : Option Count → Bool
 has_fallen_in None = false
 has_fallen_in (Some x) = nat_lt 1 x.opening && (x.now == 1)
 
-abbrev pub takes_in : Option Door → Bool
-takes_in None = false
-takes_in (Some x) = is_notice_door x
-
--- the numbers from 1 to n that pass a test, in order
-abbrev pub among : (ℕ → Bool) → ℕ → List ℕ
-among p zero = []
-among p (suc n) = among p n ++ (if p (suc n) then suc n ∷ [] else [])
-
 abbrev pub touched_doors : List Count → List ℕ
-touched_doors counts = among (λ d. is_touched_in (at_number counts d)) (length counts)
+touched_doors counts = numbers_where (λ d. is_touched_in (at_number counts d)) (length counts)
 
 -- the doors that are touched are listed, and the count of another is what it was when the step began
 pub record IsTracked (counts : List Count) (touched : List ℕ) : Type 0 where
@@ -45,4 +36,4 @@ pub record IsTracked (counts : List Count) (touched : List ℕ) : Type 0 where
 
 -- a door has fallen to one reference, and takes notices
 abbrev pub is_told : List Count → List Door → ℕ → Bool
-is_told counts doors d = has_fallen_in (at_number counts d) && takes_in (at_number doors d)
+is_told counts doors d = has_fallen_in (at_number counts d) && takes_notices_in (at_number doors d)

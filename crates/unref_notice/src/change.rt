@@ -3,7 +3,7 @@ ghost use Rattle.std.specs.Prelude.{◌≡◌, ◌<◌, find, get_or, position, 
 ghost use Rattle.std.specs.VecDeque.{deque_capacity, deque_len};
 ghost use Rattle.kernel_records.specs.declared.record.Notice.{Notice};
 ghost use Rattle.kernel_records.specs.declared.record.NoticeStage.TheVariants as stage;
-ghost use Rattle.kernel_records.specs.Words.{change_first_notice, is_given_notice_as, is_notice_entered_by, is_waiting_notice_as, notice_at, tid};
+ghost use Rattle.kernel_records.specs.Words.{change_first, is_given_notice_as, is_notice_entered_by, is_waiting_notice_as, notice_at, tid};
 
 use crate::stage::{is_given_as, is_in_hand, is_waiting_as};
 use dk_base::number::Tid;
@@ -39,7 +39,7 @@ pub fn place_entered(notices: &VecDeque<Notice>, t: Tid) -> Option<usize>
 
 /// A waiting notice is given to a thread.
 pub fn give_waiting(notices: &mut VecDeque<Notice>, n: u32, t: Tid)
-    ensures changed { notices.new.items ≡ change_first_notice (is_waiting_notice_as n) (notice_at (stage.Given (tid t.0))) notices.old.items }
+    ensures changed { notices.new.items ≡ change_first (is_waiting_notice_as n) (notice_at (stage.Given (tid t.0))) notices.old.items }
     ensures len { deque_len notices.new ≡ deque_len notices.old }
     ensures capacity { deque_capacity notices.new ≡ deque_capacity notices.old }
 {
@@ -52,7 +52,7 @@ pub fn give_waiting(notices: &mut VecDeque<Notice>, n: u32, t: Tid)
 /// A thread enters the notice that it was given. The record as it was is handed out.
 pub fn enter_given(notices: &mut VecDeque<Notice>, n: u32, t: Tid) -> Option<Notice>
     ensures before { result ≡ find (is_given_notice_as n t.0) notices.old.items }
-    ensures changed { notices.new.items ≡ change_first_notice (is_given_notice_as n t.0) (notice_at (stage.Entered (tid t.0))) notices.old.items }
+    ensures changed { notices.new.items ≡ change_first (is_given_notice_as n t.0) (notice_at (stage.Entered (tid t.0))) notices.old.items }
     ensures len { deque_len notices.new ≡ deque_len notices.old }
     ensures capacity { deque_capacity notices.new ≡ deque_capacity notices.old }
 {

@@ -1,10 +1,9 @@
 //! How many references each door has, and which doors had more than one when the step began, and have one.
-ghost use Rattle.std.specs.Prelude.{◌≡◌, ◌+◌, ◌-◌, ◌<◌, ◌≤◌, ◌++◌, ◌∷◌, ℕ, [], OnOk, Some, filter, length, map, slice_index, slice_set, vec_capacity};
+ghost use Rattle.std.specs.Prelude.{◌≡◌, ◌+◌, ◌-◌, ◌<◌, ◌≤◌, ◌++◌, ◌∷◌, ℕ, [], OnOk, filter, length, map, slice_index, slice_set, vec_capacity};
 ghost use Rattle.dk_base.specs.ByNumber.{at_number};
 ghost use Rattle.dk_base.specs.declared.object.Obj.TheVariants as obj;
-ghost use Rattle.kernel_records.specs.Words.{count_object, notice_doors};
+ghost use Rattle.kernel_records.specs.Words.{AreNumbered, count_object, notice_doors};
 ghost use Rattle.unref_notice.specs.declared.counts.TheConstants.{REFERENCES_ROOM};
-ghost use Rattle.kernel_records.specs.declared.record.Door.{Door};
 ghost use Rattle.unref_notice.specs.Counting.{IsTracked, has_fallen_in, is_told, now_of, opening_of, place_in, touched_doors};
 ghost use Rattle.unref_notice.specs.Words.{AreCounted, count_of, has_fallen, was_shared};
 
@@ -292,7 +291,7 @@ impl Counts {
     /// The doors that take notices, had more than one reference when the step began, and have one now, in the order of their
     /// numbers, follow what is in `into`. Only the doors that were touched in this step are looked at. It takes no memory.
     pub fn end_of_step(&mut self, doors: &Doors, into: &mut Room<u32>)
-        requires numbered { (d : ℕ) (x : Door) → at_number doors.now.items d ≡ Some x → x.number ≡ d }
+        requires numbered { AreNumbered doors.now.items }
         requires room { length (filter (was_shared self.old.opening) (notice_doors doors.now.items)) ≤ into.old.spare }
         ensures counts { self.new ≡ self.old }
         ensures items { into.new.items ≡ into.old.items ++ filter (has_fallen self.old) (notice_doors doors.now.items) }

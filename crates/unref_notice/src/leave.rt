@@ -2,8 +2,7 @@
 ghost use Rattle.std.specs.Prelude.{◌≡◌, ◌≤◌, ℕ, Bool, filter, map};
 ghost use Rattle.std.specs.VecDeque.{deque_capacity, deque_len};
 ghost use Rattle.kernel_records.specs.declared.record.NoticeStage.TheVariants as notice;
-ghost use Rattle.kernel_records.specs.Words.{Leaving, is_kept_notice, left_notice};
-ghost use Rattle.unref_notice.specs.Words.{AnswersAs};
+ghost use Rattle.kernel_records.specs.Words.{AnswersAs, Leaving, is_kept_notice, left_notice};
 
 use crate::stage::is_past;
 use door_object::doors::Doors;

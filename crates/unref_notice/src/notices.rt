@@ -1,11 +1,10 @@
 //! The notices of a kernel, in the order in which they were made.
 ghost use Rattle.std.specs.Prelude.{◌≡◌, ◌+◌, ◌<◌, ◌≤◌, ℕ, Bool, [], OnOk, find, get_or, length};
 ghost use Rattle.kernel_records.specs.declared.record.Notice.{Notice};
-ghost use Rattle.kernel_records.specs.Words.{Leaving, end_notice, enter_notice, give_notice, has_notice, is_given_notice_as, kept_notices, left_notices, make_notice};
+ghost use Rattle.kernel_records.specs.Words.{AnswersAs, Leaving, end_notice, enter_notice, give_notice, has_notice, is_given_notice_as, kept_notices, left_notices, make_notice};
 ghost use Rattle.unref_notice.specs.declared.notices.TheConstants.{NOTICES_MAX};
-ghost use Rattle.unref_notice.specs.Words.{AnswersAs};
 
-use crate::change::{end_at, enter_given, give_waiting, place_entered, place_given};
+use crate::change::{end_at, enter_given, give_waiting, place_entered};
 use crate::leave::{keep, leave_all};
 use crate::stage::is_of_door;
 use dk_base::error::NoMemory;
@@ -85,16 +84,6 @@ impl Notices {
         ensures { result ≡ has_notice self.now.list d }
     {
         self.notices.iter().any(|notice| is_of_door(notice, d))
-    }
-
-    /// The notice that a thread was given under this number.
-    pub fn given(&self, n: u32, t: Tid) -> Option<Notice>
-        ensures { result ≡ find (is_given_notice_as n t.0) self.now.list.notices }
-    {
-        let Some(place) = place_given(&self.notices, n, t) else {
-            return None;
-        };
-        Some(self.notices[place])
     }
 
     /// Another notice of a door is made at this event, after the others, and its number is answered. It takes no memory.

@@ -8,7 +8,7 @@ use Rattle.dk_base.specs.declared.error.Errno.TheVariants.{EBADF, EINTR, EMFILE}
 use Rattle.kernel_records.specs.declared.record.CallStage.TheVariants as stage
 use Rattle.kernel_records.specs.Words.{CallTree, Leaving, abandoned_at, at_stage, broken_call_at, change_first, collect_call, enter_call, ended_where, fail_call, give_call, gone_call_at, is_client_call_of, is_entered_by, is_given_as, is_given_to, is_left, is_live, is_live_call, is_queued, is_queued_as, is_queued_call, is_queued_in, is_to_collect_as, is_served, is_served_by, is_to_collect, left_call, left_calls, live_calls, open_call, return_call, tid, without_arguments_at}
 use Rattle.written_kernel.specs.References.{objects_in_call, objects_in_transit}
-use Rattle.written_kernel.proofs.Lists.{find-map_same}
+use Rattle.kernel_records.proofs.Lists.{find-map_same}
 
 -- tests that only live calls meet
 

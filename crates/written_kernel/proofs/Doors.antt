@@ -5,7 +5,7 @@ use Rattle.std.proofs.lemmas.Bool.Decides.{nat_tests}
 use Rattle.written_kernel.specs.Types.{Door}
 use Rattle.dk_base.specs.ByNumber.{at_number}
 use Rattle.kernel_records.specs.Words.{change_door, change_door_in, end_owner, has_common_door, is_common_of, revoke_door, revoked_door, with_owner_ended}
-use Rattle.written_kernel.proofs.Lists.{at_number-renumbered_there, map-map_same, map-with_at_number}
+use Rattle.kernel_records.proofs.Lists.{at_number-renumbered_there, map-map_same, map-with_at_number}
 
 -- a reader that does not see the change reads the same doors
 pub map-change_door :

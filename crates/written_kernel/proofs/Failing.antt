@@ -8,7 +8,7 @@ use Rattle.dk_base.specs.ByNumber.{at_number}
 use Rattle.written_kernel.specs.Notices.{is_due, make_each, make_notices, make_one}
 use Rattle.written_kernel.specs.State.{State, bound_of, door_of, has_invalid_door, invocation_of, is_bound_to_invalid, process_of, state_of, thread_of}
 use Rattle.written_kernel.specs.Settle.{fail_each, fail_one, fail_return, fail_returns, give_and_start, has_lost_door, settle}
-use Rattle.written_kernel.proofs.Lists.{at_number-with_at_number, length-with_at_number, numbered_within, same_length}
+use Rattle.kernel_records.proofs.Lists.{at_number-with_at_number, length-with_at_number, numbered_within, same_length}
 use Rattle.written_kernel.proofs.Settling.{KeptByFailing, fail_returns-all, fail_returns-alone, fail_returns-none, make_notices-alone, with_notice_of, with_threads}
 use Rattle.written_kernel.proofs.Threads.{map-change_thread, processes-change_thread, thread_at-change_thread}
 

@@ -13,7 +13,7 @@ use Rattle.kernel_records.specs.Words.{CallTree, Leaving, NoticeList, ProcessTab
 use Rattle.written_kernel.specs.Step.{step}
 use Rattle.written_kernel.specs.Words.{ActResult, IsStep, StandsFor, State, Step, accept, accept_call, accept_notice, act, await, await_name, begin_call, begin_notice, bound_of, call, calls_waiting, caller_in, caller_of, can_go_on, client_call, client_process, collect, collect_answer_in, create, credentials, door_at, door_named, door_of, effect, enter, tests_of, exit, fail_begin, fail_each, fail_one, fail_return, fail_returns, falls_to_one, find_call, find_notice, forget, give, give_and_start, give_each, give_one, give_to, go_on, has_invalid_door, has_lost_door, has_room, holdings, information_of, interrupt, invocation_of, is_due, is_live_process, is_runnable, is_running, kill, leave, leave_process, leave_thread, make_each, make_notices, make_one, may_have_notice, name_of, named_object, needs_spare, new_call, now, no_act, object_at, objects_collected_in, pick, pool_of, process_of, reference_count, refs, refusal_of, return, return_parked, return_unbound, revoke, root, served_by, set_parameter, settle, start_each, start_one, start_spares, state_of, step_after, table_of, tables_after_collect, unless_refused, waiting_items, walk, with_event_counted, woken_among, woken_threads}
 use Rattle.written_kernel.proofs.CallLists.{HaveSameLive, IsOfLiveCalls, client_is_live, collect_call-live, count_by-live, enter_call-live, fail_call-live, filter-live, find-live, give_call-live, given_as_is_live, left_calls-live, live_calls-live, objects-live, open_call-live, queued_call_is_live, queued_in_is_live, ready_as_is_live, return_call-live, served_is_live}
-use Rattle.written_kernel.proofs.Lists.{Extends, map-same}
+use Rattle.kernel_records.proofs.Lists.{Extends, map-same}
 use Rattle.written_kernel.proofs.NoticeLists.{HaveSameKept, IsOfPresentNotices, KeepsMany, end_notice-kept, enter_notice-kept, filter-kept, find-kept, give_notice-kept, given_notice_is_present, has_notice-kept, keeps_many_same, kept_notices-kept, kept_notices-later, left_notices-kept, make_notice-kept, present_is_kept, waiting_is_present}
 use Rattle.written_kernel.proofs.Settling.{with_notice_of}
 use Rattle.written_kernel.proofs.Steps.{DoorIdentity, IsSameDoor, act-keeps, create-keeps, door-extends, door_identity, leave_process-keeps, revoke-keeps, set_param-keeps}

@@ -17,7 +17,7 @@ use Rattle.written_kernel.specs.Settle.{fail_returns, give, give_and_start, give
 use Rattle.written_kernel.proofs.Settling.{KeptByMaking, fail_returns-alone, make_notices-all, pick-start_spares, start_spares-alone}
 use Rattle.written_kernel.proofs.NoticeLists.{AreAscending, ascending-give_notice, ascending-make_notice, notice_gone, notice_stays}
 use Rattle.written_kernel.proofs.Threads.{map-change_thread, thread_at-change_thread}
-use Rattle.written_kernel.proofs.Lists.{at_number-suc, numbered_within, same_length}
+use Rattle.kernel_records.proofs.Lists.{at_number-suc, numbered_within, same_length}
 use Rattle.written_kernel.proofs.Places.{place_of}
 pub use Rattle.written_kernel.proofs.Places.{IsIn}
 use Rattle.written_kernel.proofs.Waits.{IsWaiting, Passes, from_filter, from_waits, in_waits-notice}

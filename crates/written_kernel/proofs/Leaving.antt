@@ -6,7 +6,7 @@ use Rattle.kernel_records.specs.declared.record.NoticeStage.TheVariants as notic
 use Rattle.kernel_records.specs.Words.{Leaving, left_call, left_notice, left_notice_at, left_thread_of, process_end, process_in, revocation}
 use Rattle.written_kernel.specs.State.{State, now, process_of, thread_of}
 use Rattle.written_kernel.specs.Leaving.{leave, leave_process}
-use Rattle.written_kernel.proofs.Lists.{map-map_same}
+use Rattle.kernel_records.proofs.Lists.{map-map_same}
 use Rattle.written_kernel.proofs.Threads.{left_thread_of-number, left_thread_of-process, left_threads-revocation, thread_at-end_process, thread_at-left_threads, threads-end_process}
 
 -- notices

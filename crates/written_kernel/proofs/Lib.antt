@@ -1,4 +1,3 @@
-pub mod Lists
 pub mod CallLists
 pub mod NoticeLists
 pub mod Threads

@@ -8,25 +8,13 @@ use Rattle.std.proofs.lemmas.List.Elements.{filter-append}
 use Rattle.written_kernel.specs.Types.{Door, Notice, NoticeStage}
 use Rattle.kernel_records.specs.declared.record.NoticeStage.TheVariants as notice
 use Rattle.dk_base.specs.ByNumber.{at_number}
-use Rattle.kernel_records.specs.Words.{Leaving, NoticeList, change_first_notice, end_notice, enter_notice, give_notice, has_many, has_notice, is_entered_stage, is_given_notice_as, is_given_stage, is_kept_notice, is_notice_entered_by, is_notice_of, is_past_stage, is_waiting_notice, is_waiting_notice_as, is_waiting_stage, kept_notices, left_notice, left_notice_at, left_notices, make_notice, new_notice, notice_at, tid}
-use Rattle.written_kernel.proofs.Lists.{at_number-suc}
+use Rattle.kernel_records.specs.Words.{Leaving, NoticeList, change_first, end_notice, enter_notice, give_notice, has_many, has_notice, is_entered_stage, is_given_notice_as, is_given_stage, is_kept_notice, is_notice_entered_by, is_notice_of, is_past_stage, is_waiting_notice, is_waiting_notice_as, is_waiting_stage, kept_notices, left_notice, left_notice_at, left_notices, make_notice, new_notice, notice_at, tid}
+use Rattle.kernel_records.proofs.Lists.{at_number-suc}
+use Rattle.kernel_records.proofs.Places.{map-change_first}
 use Rattle.written_kernel.proofs.Places.{IsIn, IsInOrder}
 
 abbrev pub notice_number : Notice → ℕ
 notice_number n = n.number
-
--- a reader that does not see the change of a notice
-pub map-change_first_notice :
-    {Y : Type 0} (f : Notice → Y) (test : Notice → Bool) (change : Notice → Notice) → ((n : Notice) → f (change n) ≡ f n) →
-    (ns : List Notice) → map f (change_first_notice test change ns) ≡ map f ns
-map-change_first_notice f test change same [] = refl
-map-change_first_notice f test change same (n ∷ ns) = go (test n) (map-change_first_notice f test change same ns)
-  where
-    go :
-        (b : Bool) → map f (change_first_notice test change ns) ≡ map f ns →
-        map f (if b then change n ∷ ns else n ∷ change_first_notice test change ns) ≡ map f (n ∷ ns)
-    go true ih = ap (λ y. y ∷ map f ns) (same n)
-    go false ih = ap (λ ys. f n ∷ ys) ih
 
 -- notices that are made
 
@@ -179,8 +167,8 @@ kept-kept doors ns = kept-later doors doors (keeps_many_same doors) ns
 
 pub change_first_notice-kept :
     (doors : List Door) (test : Notice → Bool) (change : Notice → Notice) → IsOfKept doors test → (ns : List Notice) →
-    filter (is_kept_notice doors) (change_first_notice test change (filter (is_kept_notice doors) ns))
-    ≡ filter (is_kept_notice doors) (change_first_notice test change ns)
+    filter (is_kept_notice doors) (change_first test change (filter (is_kept_notice doors) ns))
+    ≡ filter (is_kept_notice doors) (change_first test change ns)
 change_first_notice-kept doors test change only [] = refl
 change_first_notice-kept doors test change only (n ∷ ns) =
     go (is_kept_notice doors n) refl (test n) refl (change_first_notice-kept doors test change only ns)
@@ -190,11 +178,11 @@ change_first_notice-kept doors test change only (n ∷ ns) =
 
     go :
         (b : Bool) → is_kept_notice doors n ≡ b → (c : Bool) → test n ≡ c →
-        filter (is_kept_notice doors) (change_first_notice test change (filter (is_kept_notice doors) ns))
-        ≡ filter (is_kept_notice doors) (change_first_notice test change ns) →
+        filter (is_kept_notice doors) (change_first test change (filter (is_kept_notice doors) ns))
+        ≡ filter (is_kept_notice doors) (change_first test change ns) →
         filter (is_kept_notice doors)
-        (change_first_notice test change (if b then n ∷ filter (is_kept_notice doors) ns else filter (is_kept_notice doors) ns))
-        ≡ filter (is_kept_notice doors) (if c then change n ∷ ns else n ∷ change_first_notice test change ns)
+        (change_first test change (if b then n ∷ filter (is_kept_notice doors) ns else filter (is_kept_notice doors) ns))
+        ≡ filter (is_kept_notice doors) (if c then change n ∷ ns else n ∷ change_first test change ns)
     go true e true f ih = grind (arith, e, f, kept-kept doors ns)
     go true e false f ih = grind (arith, e, f, ih)
     go false e true f ih = absurd (true≢false (sym f ∙ only n e))
@@ -263,8 +251,8 @@ module _ (doors : List Door) (list : NoticeList) where
   change_in_list :
       (test : Notice → Bool) (change : Notice → Notice) → IsOfPresentNotices test →
       HaveSameKept doors
-      (record list { notices = change_first_notice test change (kept_notices doors list).notices })
-      (record list { notices = change_first_notice test change list.notices })
+      (record list { notices = change_first test change (kept_notices doors list).notices })
+      (record list { notices = change_first test change list.notices })
   change_in_list test change only =
       ap (λ ns. record list { notices = ns })
       (change_first_notice-kept doors test change (present_is_kept doors test only) list.notices)
@@ -339,7 +327,7 @@ ascending-make_notice list now d a =
 pub ascending-give_notice : (list : NoticeList) (c u : ℕ) → AreAscending list → AreAscending (give_notice list c u)
 ascending-give_notice list c u a =
     ascending_same list (give_notice list c u).notices
-    (map-change_first_notice notice_number (is_waiting_notice_as c) (notice_at (notice.Given (tid u))) (λ n. refl) list.notices)
+    (map-change_first notice_number (is_waiting_notice_as c) (notice_at (notice.Given (tid u))) (λ n. refl) list.notices)
     a
 
 -- of some of them
@@ -383,7 +371,7 @@ given_not_waiting : (u : ℕ) (n x : Notice) → n ≡ notice_at (notice.Given (
 given_not_waiting u n x e q = true≢false (sym q ∙ ap is_waiting_notice e)
 
 abbrev given_notices : ℕ → ℕ → List Notice → List Notice
-given_notices c u ns = change_first_notice (is_waiting_notice_as c) (notice_at (notice.Given (tid u))) ns
+given_notices c u ns = change_first (is_waiting_notice_as c) (notice_at (notice.Given (tid u))) ns
 
 -- and the others that wait did before
 pub notice_stays :

@@ -12,7 +12,7 @@ use Rattle.dk_base.specs.declared.request.Request.TheVariants as request
 use Rattle.kernel_records.specs.declared.record.ThreadState.TheVariants as is
 use Rattle.kernel_records.specs.declared.record.CallStage.TheVariants as stage
 use Rattle.kernel_records.specs.declared.record.NoticeStage.TheVariants as notice
-use Rattle.kernel_records.specs.Words.{CallTree, Leaving, NoticeList, at_stage, change_first, change_first_notice, end_notice, end_owner, interruption, is_client_call_of, is_given_as, is_given_notice_as, is_last, is_notice_entered_by, is_queued_as, is_queued_in, is_to_collect_as, is_waiting_notice_as, left_call, left_notice, new_door, new_notice, notice_at, objects_passed, open_call, process_end, return_call, revocation, revoke_door, revoked_door, set_param, thread_end, tid, with_door, with_param, without_arguments_at}
+use Rattle.kernel_records.specs.Words.{CallTree, Leaving, NoticeList, at_stage, change_first, end_notice, end_owner, interruption, is_client_call_of, is_given_as, is_given_notice_as, is_last, is_notice_entered_by, is_queued_as, is_queued_in, is_to_collect_as, is_waiting_notice_as, left_call, left_notice, new_door, new_notice, notice_at, objects_passed, open_call, process_end, return_call, revocation, revoke_door, revoked_door, set_param, thread_end, tid, with_door, with_param, without_arguments_at}
 use Rattle.written_kernel.specs.State.{State, calls_waiting, find_call, find_notice, has_invalid_door, is_live_process, name_of, now, object_at, pick, pool_of, process_of, state_of, table_of, waiting_items}
 use Rattle.written_kernel.specs.Descriptors.{await_name, door_named}
 use Rattle.written_kernel.specs.Doors.{accept, accept_call, accept_notice, begin_call, fail_begin, has_room, new_call, return, return_parked, return_unbound}
@@ -22,8 +22,9 @@ use Rattle.written_kernel.specs.Settle.{give_one, settle}
 use Rattle.written_kernel.specs.Step.{act, effect, enter, go_on, step}
 use Rattle.written_kernel.specs.Opening.{IsOpening}
 use Rattle.written_kernel.specs.Runs.{Turn, state_after, state_after_turn}
-use Rattle.written_kernel.proofs.Lists.{map-map_same, same_length}
-use Rattle.written_kernel.proofs.Places.{map-change_first, order_by, order_none, order_push, order_same}
+use Rattle.kernel_records.proofs.Lists.{map-map_same, same_length}
+use Rattle.written_kernel.proofs.Places.{order_by, order_none, order_push, order_same}
+use Rattle.kernel_records.proofs.Places.{map-change_first}
 pub use Rattle.written_kernel.proofs.Places.{IsInOrder}
 use Rattle.written_kernel.proofs.Doors.{map-change_door, map-end_owner}
 use Rattle.written_kernel.proofs.CallLists.{left_call-number}
@@ -33,7 +34,7 @@ use Rattle.written_kernel.proofs.Settling.{settle-all, with_notice_of}
 use Rattle.written_kernel.proofs.Opening.{IsOpened, opened, waiting_items-opening}
 use Rattle.written_kernel.proofs.Steps.{ThreadIdentity, thread_identity, ProcessIdentity, process_identity, step-keeps}
 use Rattle.written_kernel.proofs.Giving.{IsApart, IsApart-from_unique, HasUniqueNumbers-from_places, all_given_out, no_pool_has_both}
-use Rattle.written_kernel.proofs.NoticeLists.{ascending-from_places, map-change_first_notice, notice_number}
+use Rattle.written_kernel.proofs.NoticeLists.{ascending-from_places, notice_number}
 
 abbrev pub call_number : Call → ℕ
 call_number r = r.number
@@ -119,16 +120,16 @@ one_door_changes m d x value l =
 one_notice_moves :
     {tree : CallTree} {doors : List Door} (list : NoticeList) (test : Notice → Bool) (change : Notice → Notice) →
     ((n : Notice) → notice_number (change n) ≡ notice_number n) → AreListed tree doors list →
-    AreListed tree doors (record list { notices = change_first_notice test change list.notices })
+    AreListed tree doors (record list { notices = change_first test change list.notices })
 one_notice_moves list test change same l =
-    let kept : map notice_number (change_first_notice test change list.notices) ≡ map notice_number list.notices =
-    map-change_first_notice notice_number test change same list.notices in
+    let kept : map notice_number (change_first test change list.notices) ≡ map notice_number list.notices =
+    map-change_first notice_number test change same list.notices in
     record {
       calls_made = l.calls_made;
       calls = l.calls;
       doors = l.doors;
-      notices_made = l.notices_made ∙ sym (same_length notice_number (change_first_notice test change list.notices) list.notices kept);
-      notices = order_same notice_number list.notices (change_first_notice test change list.notices) kept l.notices;
+      notices_made = l.notices_made ∙ sym (same_length notice_number (change_first test change list.notices) list.notices kept);
+      notices = order_same notice_number list.notices (change_first test change list.notices) kept l.notices;
     }
 
 one_notice_more : (m : State) (d : ℕ) → IsListed m → IsListed (with_notice_of m d)

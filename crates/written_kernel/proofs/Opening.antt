@@ -14,7 +14,7 @@ use Rattle.written_kernel.specs.References.{holdings, named_object, objects_in_c
 use Rattle.written_kernel.specs.Kept.{forget}
 use Rattle.written_kernel.specs.Opening.{IsOpening, no_process, opening, with_new_process, with_new_thread, with_processes}
 use Rattle.written_kernel.specs.Opening.IsOpening.{processes, thread}
-use Rattle.written_kernel.proofs.Lists.{numbered_push, at_number-map, at_number-suc, numbered_within}
+use Rattle.kernel_records.proofs.Lists.{numbered_push, at_number-map, at_number-suc, numbered_within}
 
 pub record IsOpeningProcess (p : ℕ) (x : Process) : Type 0 where
   pub number : x.number ≡ p

@@ -2,9 +2,7 @@
 use Rattle.std.proofs.Common.{◌≡◌, ◌≤◌, ℕ, suc, ◌+◌, ◌==◌, Bool, true, false, if◌then◌else◌, List, [], ◌∷◌, ◌++◌, Option, None, Some, option_map, length, map, slice_get, refl, sym, ap, ◌∙◌, ◌⊎◌, inl, inr, ⊎_elim, arith}
 use Rattle.std.proofs.lemmas.Bool.Decides.{nat_tests}
 use Rattle.dk_base.specs.ByNumber.{at_number}
-use Rattle.kernel_records.specs.Words.{change_first}
-use Rattle.written_kernel.specs.Types.{Call}
-use Rattle.written_kernel.proofs.Lists.{numbered_push, numbered_within, same_numbered}
+use Rattle.kernel_records.proofs.Lists.{numbered_push, numbered_within, same_numbered}
 
 -- x is an item of the list
 abbrev pub IsIn : {X : Type 0} → X → List X → Type 0
@@ -50,16 +48,3 @@ pub in_append : {X : Type 0} (xs ys : List X) (x : X) → IsIn x (xs ++ ys) → 
 in_append [] ys x h = inr h
 in_append (z ∷ zs) ys x (inl e) = inl (inl e)
 in_append (z ∷ zs) ys x (inr k) = ⊎_elim (λ i. inl (inr i)) inr (in_append zs ys x k)
-
--- a reader that does not see the change of a call
-pub map-change_first :
-    {Y : Type 0} (f : Call → Y) (test : Call → Bool) (change : Call → Call) → ((r : Call) → f (change r) ≡ f r) → (rs : List Call) →
-    map f (change_first test change rs) ≡ map f rs
-map-change_first f test change same [] = refl
-map-change_first f test change same (r ∷ rs) = go (test r) (map-change_first f test change same rs)
-  where
-    go :
-        (b : Bool) → map f (change_first test change rs) ≡ map f rs →
-        map f (if b then change r ∷ rs else r ∷ change_first test change rs) ≡ map f (r ∷ rs)
-    go true ih = ap (λ y. y ∷ map f rs) (same r)
-    go false ih = ap (λ ys. f r ∷ ys) ih

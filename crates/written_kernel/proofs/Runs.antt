@@ -6,7 +6,7 @@ use Rattle.written_kernel.specs.State.{State, door_of, process_of}
 use Rattle.written_kernel.specs.Step.{event_of}
 use Rattle.written_kernel.specs.Legal.{MayTurn}
 use Rattle.written_kernel.specs.Runs.{Turn, state_after_turn, state_after, state_at, events_of, IsRun}
-use Rattle.written_kernel.proofs.Lists.{Extends, Extends-same, Extends-then}
+use Rattle.kernel_records.proofs.Lists.{Extends, Extends-same, Extends-then}
 use Rattle.written_kernel.proofs.Steps.{events-step, threads-step, process_of-step, door_identity, IsSameDoor, door-extends, doors-step}
 
 -- one list of turns after another

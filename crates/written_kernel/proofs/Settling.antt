@@ -11,7 +11,7 @@ use Rattle.kernel_records.specs.Words.{ProcessTable, better_parked, bound_at, is
 use Rattle.written_kernel.specs.Notices.{is_due, make_each, make_notices}
 use Rattle.written_kernel.specs.State.{State, door_of, now, pick, pool_of, state_of, waiting_items, with_state}
 use Rattle.written_kernel.specs.Settle.{fail_each, fail_one, fail_return, fail_returns, give, give_and_start, give_each, give_one, give_to, has_lost_door, needs_spare, settle, start_each, start_one, start_spares}
-use Rattle.written_kernel.proofs.Lists.{at_number-suc, same_length}
+use Rattle.kernel_records.proofs.Lists.{at_number-suc, same_length}
 use Rattle.written_kernel.proofs.Threads.{map-change_thread, thread_at-change_thread}
 
 -- the spare that starts is Dormant

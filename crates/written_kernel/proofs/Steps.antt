@@ -17,7 +17,7 @@ use Rattle.written_kernel.specs.Settle.{fail_return, give_one, settle}
 use Rattle.written_kernel.specs.Step.{act, effect, enter, go_on, step}
 use Rattle.written_kernel.proofs.Entries.{enter_either}
 use Rattle.written_kernel.proofs.Settling.{settle-all, with_notice_of}
-use Rattle.written_kernel.proofs.Lists.{length-with_at_number, same_length, same_numbered, at_number-map, at_number-extends, map-with_at_number, Extends, Extends-same, Extends-then}
+use Rattle.kernel_records.proofs.Lists.{length-with_at_number, same_length, same_numbered, at_number-map, at_number-extends, map-with_at_number, Extends, Extends-same, Extends-then}
 use Rattle.written_kernel.proofs.Threads.{map-change_thread, map-left_threads, processes-change_thread, threads-end_process}
 use Rattle.written_kernel.proofs.Doors.{map-change_door, map-end_owner}
 

@@ -6,7 +6,7 @@ use Rattle.kernel_records.specs.declared.record.CallStage.TheVariants as stage
 use Rattle.kernel_records.specs.declared.record.ThreadState.TheVariants as is
 use Rattle.dk_base.specs.ByNumber.{at_number}
 use Rattle.kernel_records.specs.Words.{Leaving, ProcessTable, cancelled_invocation, cancelled_thread, change_thread, change_thread_in, deserted_at, deserted_in, end_process, ended_process, ended_thread, idle_thread, interrupted_state, interrupted_thread, interrupted_where, invocation_in, is_left, is_served_by, left_thread, left_thread_of, left_threads, revocation, thread_at, with_ended}
-use Rattle.written_kernel.proofs.Lists.{at_number-map, at_number-renumbered_there, map-with_at_number, map-map_same, map_unchanged}
+use Rattle.kernel_records.proofs.Lists.{at_number-map, at_number-renumbered_there, map-with_at_number, map-map_same, map_unchanged}
 
 -- a change of one thread
 

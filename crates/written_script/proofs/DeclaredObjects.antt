@@ -9,9 +9,9 @@ use Rattle.dk_base.specs.declared.object.Obj.TheVariants as obj
 use Rattle.kernel_records.specs.declared.record.CallStage.TheVariants as stage
 use Rattle.kernel_records.specs.declared.record.NoticeStage.TheVariants as notice
 use Rattle.dk_base.specs.ByNumber.{at_number, with_at_number}
-use Rattle.kernel_records.specs.Words.{Leaving, bound_at, bound_in, change_first_notice, close_table, free_place, free_row, insert_row, insert_rows, left_notice, left_notice_at, notice_at, object_in, object_named, objects_passed, release_rows, table_in, with_row, with_table}
+use Rattle.kernel_records.specs.Words.{Leaving, bound_at, bound_in, change_first, close_table, free_place, free_row, insert_row, insert_rows, left_notice, left_notice_at, notice_at, object_in, object_named, objects_passed, release_rows, table_in, with_row, with_table}
 use Rattle.kernel_records.proofs.Passing.{All-objects_passed, object_named-before}
-use Rattle.written_kernel.proofs.Lists.{at_number-with_at_number, slice_get-slice_set}
+use Rattle.kernel_records.proofs.Lists.{at_number-with_at_number, slice_get-slice_set}
 use Rattle.script_requests.specs.Words.{IsNumberOf}
 
 -- of so many doors that were made
@@ -186,18 +186,18 @@ binding-known made bindings u o here h t d e =
 
 pub changed_notices-known :
     (made : ℕ) (test : Notice → Bool) (s : NoticeStage) (xs : List Notice) → AreKnownNotices made xs →
-    AreKnownNotices made (change_first_notice test (notice_at s) xs)
+    AreKnownNotices made (change_first test (notice_at s) xs)
 changed_notices-known made test s [] all = all
 changed_notices-known made test s (x ∷ xs) all =
     by_test (changed_notices-known made test s xs (All-tail (IsKnownNotice made) x xs all)) (test x)
   where
     by_test :
-        AreKnownNotices made (change_first_notice test (notice_at s) xs) → (b : Bool) →
-        AreKnownNotices made (if b then notice_at s x ∷ xs else x ∷ change_first_notice test (notice_at s) xs)
+        AreKnownNotices made (change_first test (notice_at s) xs) → (b : Bool) →
+        AreKnownNotices made (if b then notice_at s x ∷ xs else x ∷ change_first test (notice_at s) xs)
     by_test rest true =
         All-cons (IsKnownNotice made) (notice_at s x) xs (All-head (IsKnownNotice made) x xs all) (All-tail (IsKnownNotice made) x xs all)
     by_test rest false =
-        All-cons (IsKnownNotice made) x (change_first_notice test (notice_at s) xs) (All-head (IsKnownNotice made) x xs all) rest
+        All-cons (IsKnownNotice made) x (change_first test (notice_at s) xs) (All-head (IsKnownNotice made) x xs all) rest
 
 left_notice-known : (made : ℕ) (who : Leaving) (s : NoticeStage) (x : Notice) → IsKnownNotice made x → IsKnownNotice made (left_notice_at who s x)
 left_notice-known made who s x h = by_stage s

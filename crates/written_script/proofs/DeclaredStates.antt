@@ -19,7 +19,7 @@ use Rattle.dk_base.specs.ByNumber.{with_at_number}
 use Rattle.kernel_records.specs.Words.{Leaving, abandoned_at, at_stage, bind_thread, change_door, change_door_in, change_first, close_row, close_table, collect_call, door_attached, end_notice, end_owner, enter_notice, entry_of, give_notice, has_other_path, has_path, info_in, interruption, is_client_call_of, is_given_as, is_given_notice_as, is_last, is_notice_entered_by, is_queued_as, is_served_by, is_to_collect_as, is_valid_in, is_waiting_notice_as, left_call, make_notice, new_descriptors, new_door, new_notice, objects_passed, process_end, revocation, revoked_door, set_param, thread_end, tid, unbind_thread, with_name, with_owner_ended, with_param, with_row, with_table, without_arguments_at, without_name}
 use Rattle.written_kernel.specs.Words.{ActResult, State, accept, accept_call, accept_notice, act, await, await_name, begin_call, bound_of, caller_in, client_call, client_process, collect, collect_answer, collect_answer_in, door_at, door_named, door_of, effect, enter, exit, fail_begin, find_call, find_notice, give_one, go_on, has_invalid_door, has_room, is_door, is_due, is_live_process, is_valid, is_waiting_state, kill, leave, leave_process, leave_thread, name_of, new_call, now, object_at, objects_collected, objects_collected_in, process_of, refusal_of, results_answer, return, return_parked, return_unbound, revoke, root, served_by, settle, state_of, step, table_of, tables_after_pass, tables_with, unless_refused, waiting_among, waiting_threads, walk, with_table_of}
 use Rattle.written_kernel.proofs.CallLists.{IsOver, left_call-over}
-use Rattle.written_kernel.proofs.Lists.{length-with_at_number, numbered_within, numbered_there}
+use Rattle.kernel_records.proofs.Lists.{length-with_at_number, numbered_within, numbered_there}
 use Rattle.written_kernel.proofs.Settling.{settle-all, with_notice_of}
 use Rattle.script_lang.specs.Words.{ScriptValue}
 use Rattle.script_requests.specs.DeclaredNames.{IsTarget}

@@ -8,7 +8,7 @@ use Rattle.std.proofs.lemmas.Option.{slice_get_within}
 use Rattle.written_kernel.specs.Types.{Thread}
 use Rattle.kernel_records.specs.Words.{new_thread, process_in, state_in}
 use Rattle.written_kernel.specs.Words.{IsRun, MayTurn, State, bound_of, can_go_on, event_of, is_runnable, is_running, opening, process_of, step, thread_of, with_new_thread}
-use Rattle.written_kernel.proofs.Lists.{numbered_within, numbered_there}
+use Rattle.kernel_records.proofs.Lists.{numbered_within, numbered_there}
 use Rattle.written_kernel.proofs.Opening.{opened, bound_of-opening, object_at-opening, opening_processes, length-with_new_thread, opening_threads}
 use Rattle.written_kernel.proofs.Steps.{events-step, threads-step, processes-step, process_of-step}
 use Rattle.script_lang.specs.Types.{Line}

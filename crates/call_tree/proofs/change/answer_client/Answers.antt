@@ -1,7 +1,7 @@
 use Rattle.std.proofs.Common.{ap, sym, ◌∙◌}
 use Rattle.kernel_records.specs.Words.{is_client_call_of, is_live_call, without_arguments_at}
 use Rattle.call_tree.proofs.Live.{set_live}
-use Rattle.call_tree.proofs.Places.{changed_there, changed_nowhere}
+use Rattle.kernel_records.proofs.Places.{changed_there, changed_nowhere}
 use Rattle.call_tree.proofs.change.answer_client.Goals as goal
 
 pub returns-in-Some-clause-changed : goal.returns-in-Some-clause-changed

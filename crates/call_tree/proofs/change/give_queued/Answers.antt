@@ -2,7 +2,7 @@ use Rattle.std.proofs.Common.{ap, sym}
 use Rattle.kernel_records.specs.declared.record.CallStage.TheVariants as stage
 use Rattle.kernel_records.specs.Words.{at_stage, is_live_call, is_queued_as, tid}
 use Rattle.call_tree.proofs.Live.{set_live}
-use Rattle.call_tree.proofs.Places.{changed_there, changed_nowhere}
+use Rattle.kernel_records.proofs.Places.{changed_there, changed_nowhere}
 use Rattle.call_tree.proofs.change.give_queued.Goals as goal
 
 pub returns-in-Some-clause-changed : goal.returns-in-Some-clause-changed

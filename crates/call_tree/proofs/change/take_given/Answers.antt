@@ -1,7 +1,7 @@
 use Rattle.std.proofs.Common.{ap, sym, ◌∙◌}
 use Rattle.kernel_records.specs.Words.{is_given_as, is_live_call, without_arguments_at}
 use Rattle.call_tree.proofs.Live.{set_live}
-use Rattle.call_tree.proofs.Places.{changed_there, changed_nowhere, found_there, find_nowhere}
+use Rattle.kernel_records.proofs.Places.{changed_there, changed_nowhere, found_there, find_nowhere}
 use Rattle.call_tree.proofs.change.take_given.Goals as goal
 
 pub returns-in_default-clause-after : goal.returns-in_default-clause-after

@@ -1,6 +1,5 @@
 use Rattle.std.proofs.Common.{◌≡◌, ◌++◌, map, take, drop}
-use Rattle.kernel_records.specs.Words.{Leaving, left_call}
-use Rattle.call_tree.specs.LiveCalls.{AnswersAs}
+use Rattle.kernel_records.specs.Words.{AnswersAs, Leaving, left_call}
 use Rattle.call_tree.proofs.leave.leave_all.Given as goal
 
 abbrev pub invariant-loop-call : goal.invariant-loop-call

@@ -1,7 +1,6 @@
 use Rattle.std.proofs.Common.{◌≡◌, ◌-◌, ◌≤◌, ℕ, filter, length, take}
 use Rattle.dk_base.specs.declared.object.Obj.TheVariants as obj
-use Rattle.kernel_records.specs.Words.{Leaving}
-use Rattle.call_tree.specs.Words.{AnswersAs}
+use Rattle.kernel_records.specs.Words.{AnswersAs, Leaving}
 use Rattle.unref_notice.specs.Words.{count_of}
 use Rattle.kernel_holdings.specs.Words.{drops_transit}
 use Rattle.kernel_holdings.proofs.TransitCounts.{in_transit}

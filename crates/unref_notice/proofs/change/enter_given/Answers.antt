@@ -1,7 +1,7 @@
 use Rattle.std.proofs.Common.{ap, sym, ◌∙◌}
 use Rattle.kernel_records.specs.declared.record.NoticeStage.TheVariants as stage
 use Rattle.kernel_records.specs.Words.{is_given_notice_as, notice_at, tid}
-use Rattle.unref_notice.proofs.Places.{changed_there, changed_nowhere, found_there, find_nowhere}
+use Rattle.kernel_records.proofs.Places.{changed_there, changed_nowhere, found_there, find_nowhere}
 use Rattle.unref_notice.proofs.change.enter_given.Goals as goal
 
 pub returns-in_default-clause-before : goal.returns-in_default-clause-before

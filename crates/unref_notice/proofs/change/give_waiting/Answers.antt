@@ -1,7 +1,7 @@
 use Rattle.std.proofs.Common.{ap, sym, ◌∙◌}
 use Rattle.kernel_records.specs.declared.record.NoticeStage.TheVariants as stage
 use Rattle.kernel_records.specs.Words.{is_waiting_notice_as, notice_at, tid}
-use Rattle.unref_notice.proofs.Places.{changed_there, changed_nowhere}
+use Rattle.kernel_records.proofs.Places.{changed_there, changed_nowhere}
 use Rattle.unref_notice.proofs.change.give_waiting.Goals as goal
 
 pub returns-in-Some-clause-changed : goal.returns-in-Some-clause-changed

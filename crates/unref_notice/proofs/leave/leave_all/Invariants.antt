@@ -1,6 +1,5 @@
 use Rattle.std.proofs.Common.{◌≡◌, ◌++◌, map, take, drop}
-use Rattle.kernel_records.specs.Words.{Leaving, left_notice}
-use Rattle.unref_notice.specs.Words.{AnswersAs}
+use Rattle.kernel_records.specs.Words.{AnswersAs, Leaving, left_notice}
 use Rattle.unref_notice.proofs.leave.leave_all.Given as goal
 
 abbrev pub invariant-loop-notice : goal.invariant-loop-notice

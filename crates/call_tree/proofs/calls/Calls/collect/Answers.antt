@@ -3,7 +3,7 @@ use Rattle.kernel_records.specs.declared.record.CallStage.TheVariants as stage
 use Rattle.kernel_records.specs.Words.{is_live_call, is_to_collect_as, without_arguments_at}
 use Rattle.call_tree.specs.LiveCalls.{AreLive}
 use Rattle.call_tree.proofs.Live.{live_same, removed_live, removed_there}
-use Rattle.call_tree.proofs.Places.{changed_nowhere, find_nowhere, found_there}
+use Rattle.kernel_records.proofs.Places.{changed_nowhere, find_nowhere, found_there}
 use Rattle.call_tree.proofs.calls.Calls.collect.Goals as goal
 
 pub invariant_of-self : goal.invariant_of-self

@@ -3,7 +3,8 @@ use Rattle.kernel_records.specs.declared.record.CallStage.TheVariants as stage
 use Rattle.kernel_records.specs.Words.{is_given_as, without_arguments_at}
 use Rattle.pool_agreement.proofs.Queues.{agrees_enter}
 use Rattle.kernel_store.specs.Stored.{stored_state}
-use Rattle.kernel_store.proofs.Acts.{entered, none_changed}
+use Rattle.kernel_store.proofs.Acts.{entered}
+use Rattle.kernel_records.proofs.Places.{change_first-none}
 use Rattle.kernel_store.proofs.store.Store.enter_call.Goals as goal
 
 pub invariant_of-self : goal.invariant_of-self
@@ -16,7 +17,7 @@ returns-in_default-clause-none c =
     let kept : c.enter_call.new.self.calls.tree ≡ calls.tree =
     c.enter_call.ensures.calls
     ∙ ap (λ rs. record calls.tree { calls = rs })
-    (none_changed (is_given_as c.args.c c.args.t.0) (without_arguments_at (stage.Entered c.args.t)) calls.tree.calls (sym c.in_default.ensures.before)) in
+    (change_first-none (is_given_as c.args.c c.args.t.0) (without_arguments_at (stage.Entered c.args.t)) calls.tree.calls (sym c.in_default.ensures.before)) in
     rw c.enter_call.ensures.same (rw kept (ap stored_state c.self.view_is))
 
 pub invariant_of-self-2 : goal.invariant_of-self-2

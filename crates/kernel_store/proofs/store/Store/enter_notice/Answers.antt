@@ -3,7 +3,8 @@ use Rattle.kernel_records.specs.declared.record.NoticeStage.TheVariants as stage
 use Rattle.kernel_records.specs.Words.{is_given_notice_as, notice_at}
 use Rattle.pool_agreement.proofs.Noticing.{agrees_enter_notice}
 use Rattle.kernel_store.specs.Stored.{stored_state}
-use Rattle.kernel_store.proofs.Acts.{entered_notice, no_notice_changed}
+use Rattle.kernel_store.proofs.Acts.{entered_notice}
+use Rattle.kernel_records.proofs.Places.{change_first-none}
 use Rattle.kernel_store.proofs.store.Store.enter_notice.Goals as goal
 
 pub invariant_of-self : goal.invariant_of-self
@@ -15,7 +16,7 @@ returns-in_default-clause-none c =
     let kept : c.enter.new.self.list ≡ notices.list =
     c.enter.ensures.list
     ∙ ap (λ ns. record notices.list { notices = ns })
-    (no_notice_changed (is_given_notice_as c.args.n c.args.t.0) (notice_at (stage.Entered c.args.t)) notices.list.notices (sym c.in_default.ensures.before)) in
+    (change_first-none (is_given_notice_as c.args.n c.args.t.0) (notice_at (stage.Entered c.args.t)) notices.list.notices (sym c.in_default.ensures.before)) in
     rw kept (ap stored_state c.self.view_is)
 
 pub invariant_of-self-2 : goal.invariant_of-self-2

@@ -5,7 +5,7 @@ use Rattle.kernel_records.specs.declared.record.NoticeStage.TheVariants as stage
 use Rattle.kernel_records.specs.Words.{has_many, is_kept_notice, is_notice_entered_by, notice_at}
 use Rattle.unref_notice.specs.Words.{NoticesValue}
 use Rattle.unref_notice.proofs.Kept.{kept_inside, removed_there, stays_there}
-use Rattle.unref_notice.proofs.Places.{changed_nowhere}
+use Rattle.kernel_records.proofs.Places.{changed_nowhere}
 use Rattle.unref_notice.proofs.notices.Notices.end.Goals as goal
 
 pub returns-in_default-clause-list : goal.returns-in_default-clause-list

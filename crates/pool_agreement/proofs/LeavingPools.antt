@@ -7,7 +7,7 @@ use Rattle.kernel_records.specs.declared.pool.Pool.TheVariants.{Common, Private}
 use Rattle.kernel_records.specs.Words.{CallTree, NoticeList, ProcessTable, bound_at, bound_in, change_thread, is_dormant, is_idle, is_pool, parked_at, parked_in, parked_thread, pool_of_thread, process_in, set_thread_state, state_in, thread_at, thread_at_state, tid, unbind_thread}
 use Rattle.written_kernel.specs.Types.{Door, Parked, Pool, Thread, ThreadState}
 use Rattle.written_kernel.proofs.Giving.{same_pool}
-use Rattle.written_kernel.proofs.Lists.{at_number-with_at_number, numbered_within}
+use Rattle.kernel_records.proofs.Lists.{at_number-with_at_number, numbered_within}
 use Rattle.written_kernel.proofs.Places.{IsIn, place_of}
 use Rattle.written_kernel.proofs.Threads.{processes-change_thread}
 use Rattle.server_pool.specs.Words.{PoolValue, PoolsValue, change_pool, pool_at, pool_or_empty, queue_in, spares_or_none, stack_in, unpark_in}
