@@ -106,13 +106,11 @@ events_settled {m} {t} {q} {b} {n} h s e =
 
 pub ready_settled :
     {m : State} {t : ℕ} {q : Option Request} {b n : Parts} {taken : Taken} {first : Option ℕ} {a : Answer} → HasActed m t q b n taken first a →
-    (s : StoreValue) → stored_state s ≡ settle m (stored_state n.store) →
-    IsReadyToSettle (record { store = s; runnable = n.runnable }) taken.woken
+    (s : StoreValue) → stored_state s ≡ settle m (stored_state n.store) → IsReadyToSettle (record n { store = s }) taken.woken
 ready_settled {m} {t} {q} {b} {n} {taken} h s e =
     let g : IsSettled m (stored_state s) = settled_after m (stored_state n.store) (stored_state s) t q h.acted e in
-    subst (λ (r : Runnable). IsReadyToSettle (record { store = s; runnable = r }) taken.woken) (sym h.runnable)
-    (ready_after b s taken h.ready (g.threads ∙ sym (ap (λ (k : State). length k.process_table.threads) h.same))
-    (subst (IsCurrent b.runnable) (sym h.same) h.current))
+    ready_after b (record n { store = s }) taken h.ready (g.threads ∙ sym (ap (λ (k : State). length k.process_table.threads) h.same)) h.runnable
+    (subst (IsCurrent b.runnable) (sym h.same) h.current)
 
 -- once the event is counted it is a step
 pub step_settled :

@@ -1,5 +1,5 @@
 -- What is read of a kept state is read of each state that it stands for, and which threads can take a turn.
-use Rattle.std.proofs.Common.{◌≡◌, ℕ, ◌+◌, ◌<◌, ◌++◌, ◌∷◌, [], ◌-◌, zero, suc, Bool, true, false, List, Option, Some, None, length, get_or, inl, inr, not, ◌&&◌, refl, sym, ap, ◌∙◌, arith, length-append, add-one}
+use Rattle.std.proofs.Common.{◌≡◌, ℕ, ◌+◌, ◌<◌, ◌++◌, ◌∷◌, [], ◌-◌, zero, suc, Bool, true, false, List, Option, Some, None, length, get_or, inl, inr, not, ◌&&◌, refl, sym, ap, ap₂, ◌∙◌, arith, length-append, add-one}
 use Rattle.std.proofs.lemmas.List.{get_or_append_left}
 use Rattle.std.proofs.lemmas.Bool.{cases_lt}
 use Rattle.std.proofs.lemmas.Grind.{common_steps}
@@ -101,15 +101,25 @@ runnables-forget m (suc n) =
     ap (λ xs. xs ++ is_runnable (forget m) (suc n) ∷ []) (runnables-forget m n)
     ∙ ap (λ b. runnables m n ++ b ∷ []) (is_runnable-forget m (suc n))
 
--- the least of the threads up to one more
-pub least_more :
-    (m : State) (i : ℕ) (here : Bool) (o : Option ℕ) → here ≡ is_runnable m (i + 1) → o ≡ least_among m i →
-    least_or o here (i + 1) ≡ least_among m (i + 1)
-least_more m i here o e f =
+-- the least of the threads: none up to one that cannot take a turn, or the first that can
+
+pub least_none :
+    (m : State) (i : ℕ) → least_among m i ≡ None → is_runnable m (i + 1) ≡ false → least_among m (i + 1) ≡ None
+least_none m i none here =
     let k : i + 1 ≡ suc i = omega arith in
-    ap (λ x. least_or x here (i + 1)) f
-    ∙ ap (λ b. least_or (least_among m i) b (i + 1)) e
-    ∙ rw k refl
+    ap (least_among m) k ∙ ap₂ (λ o b. least_or o b (suc i)) none (ap (is_runnable m) (sym k) ∙ here)
+
+pub least_found :
+    (m : State) (i n : ℕ) → i < n → least_among m i ≡ None → is_runnable m (i + 1) ≡ true → least_among m n ≡ Some (i + 1)
+least_found m i zero h none here = absurd (omega arith)
+least_found m i (suc n) h none here =
+    elim (cases_lt i n) [
+      | inl l ↦ ap (λ o. least_or o (is_runnable m (suc n)) (suc n)) (least_found m i n l none here)
+      | inr k ↦
+          let e : n ≡ i = omega arith in
+          let t : i + 1 ≡ suc n = omega arith in
+          ap₂ (λ o b. least_or o b (suc n)) (ap (least_among m) e ∙ none) (ap (is_runnable m) (sym t) ∙ here) ∙ ap (λ j. Some j) (sym t)
+    ]
 
 least_among-forget : (kept m : State) (n : ℕ) → StandsFor kept m → least_among kept n ≡ least_among m n
 least_among-forget kept m zero e = refl

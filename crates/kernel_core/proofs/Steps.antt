@@ -2,6 +2,7 @@
 use Rattle.std.proofs.Common.{◌≡◌, ℕ, ◌<◌, ◌&&◌, not, length, List, [], ◌∷◌, Option, None, refl, Result, Ok, Err, IfOk, OnErr, subst, sym, ap, ◌∙◌, arith}
 use Rattle.written_kernel.specs.Types.{Item, NoMemory, Request, Stepped}
 use Rattle.kernel_core.specs.declared.event.Parts.{Parts}
+use Rattle.kernel_core.specs.declared.runnable.Runnable.{Runnable}
 use Rattle.kernel_core.specs.declared.event.Taken.{Taken}
 use Rattle.kernel_store.specs.Words.{StoreValue}
 use Rattle.kernel_store.specs.Words.{stored_state}
@@ -16,7 +17,7 @@ use Rattle.written_kernel.specs.Words.{IsStep, StandsFor, State, act, enter, fai
 use Rattle.kernel_core.specs.Kept.{HasNothingPast}
 use Rattle.kernel_core.specs.Numbers.{HasNumbersLeft}
 use Rattle.kernel_core.specs.Within.{IsWithin, IsSmall}
-use Rattle.written_kernel.proofs.Lists.{same_length}
+use Rattle.kernel_records.proofs.Lists.{same_length}
 use Rattle.written_kernel.proofs.Settling.{give-all}
 use Rattle.written_kernel.proofs.Steps.{act-keeps, process_identity}
 use Rattle.written_kernel.proofs.Forget.{IsStep-stands_for, forget-forget, settle-forget, woken_threads-forget}
@@ -110,15 +111,18 @@ settled_kept before m n h e = e ∙ ap with_event_counted (sym (live_state (sett
 
 -- what was taken before an event suffices after its act and what follows it
 pub ready_after :
-    (p : Parts) (s : StoreValue) (taken : Taken) → IsReady p taken →
-    length s.processes.threads ≡ length p.store.processes.threads → IsCurrent p.runnable (stored_state p.store) →
-    IsReadyToSettle (record { store = s; runnable = p.runnable }) taken.woken
-ready_after p s taken h g k =
+    (p x : Parts) (taken : Taken) → IsReady p taken → length x.store.processes.threads ≡ length p.store.processes.threads →
+    x.runnable ≡ p.runnable → IsCurrent p.runnable (stored_state p.store) → IsReadyToSettle x taken.woken
+ready_after p x taken h g same k =
     record {
       woken = h.woken;
       woken_room = omega (arith, h.woken_room, g);
-      listed = ap length k.items ∙ length_runnables (stored_state p.store) (length p.store.processes.threads) ∙ sym g;
-      room = subst (HasListRoom p.runnable) (sym g) k.room;
+      listed =
+          ap (λ (r : Runnable). length r.list.items) same ∙ ap length k.items
+          ∙ length_runnables (stored_state p.store) (length p.store.processes.threads) ∙ sym g;
+      room =
+          subst (λ (r : Runnable). HasListRoom r (length x.store.processes.threads)) (sym same)
+          (subst (HasListRoom p.runnable) (sym g) k.room);
     }
 
 -- an act leaves as many processes as before

@@ -1,5 +1,5 @@
 //! One event: the memory that it can need is taken first, then the act, and what follows it.
-ghost use Rattle.std.specs.Prelude.{◌≡◌, ℕ, ◌+◌, ◌<◌, ◌≤◌, List, Option, false, length, true, Some, None, IfOk, OnOk, OnErr};
+ghost use Rattle.std.specs.Prelude.{◌≡◌, ℕ, ◌+◌, ◌<◌, ◌≤◌, List, [], Option, false, length, true, Some, None, IfOk, OnOk, OnErr};
 ghost use Rattle.std.specs.Option.{option_map};
 ghost use Rattle.dk_base.specs.declared.limits.TheConstants.{EVENTS_MAX, THREADS_MAX};
 ghost use Rattle.written_kernel.specs.Words.{IsStep, State, act, forget, has_invalid_door, has_lost_door, is_live_process, is_running, step, with_event_counted, with_new_thread, woken_threads};
@@ -22,19 +22,22 @@ use crate::runnable::Runnable;
 use dk_base::answer::Answer;
 use dk_base::error::NoMemory;
 use dk_base::event::Stepped;
-use dk_base::list::Room;
+use dk_base::list::{Room, Sequence};
 use dk_base::number::{Pid, Tid};
 use dk_base::request::Request;
 use dk_base::set::Attrs;
 use kernel_records::pool::Pool;
 use kernel_store::store::Store;
 use std::alloc::Global;
+use std::mem;
 
-/// A kernel's store, and who can take a turn, which is kept from one event to the next.
+/// A kernel's store; who can take a turn; and the room of lists that every event needs, which is kept from one event to the next.
 #[derive(Drop)]
 pub struct Parts {
     pub store: Store,
     pub runnable: Runnable,
+    pub watched: Room<u32>,
+    pub had: Room<bool>,
 }
 
 /// The pool that the act of an entry touches.
@@ -82,6 +85,24 @@ struct Taken {
     woken: Room<Tid>,
     watched: Room<u32>,
     had: Room<bool>,
+}
+
+/// A list without its items, with the room that it has or room for `n`.
+fn emptied<T: Drop>(list: Room<T>, n: usize) -> Result<Room<T>, NoMemory>
+    ensures empty { IfOk result (λ room. room.items ≡ []) }
+    ensures spare { IfOk result (λ room. n ≤ room.spare) }
+{
+    let mut list = list;
+    list.clear();
+    list.reserve(n)?;
+    Ok(list)
+}
+
+/// No item, and no room.
+pub fn no_room<T: Drop>(alloc: Global) -> Room<T>
+    ensures { result.items ≡ [] }
+{
+    Sequence::new(alloc).into_room()
 }
 
 /// Takes the memory that threads can need which park again as their callers leave, if they leave.
@@ -134,12 +155,14 @@ impl Parts {
     {
         self.store.start_step();
         self.store.reserve(touched)?;
-        let watched = watched_doors(&self.store, alloc)?;
+        let watched = mem::replace(&mut self.watched, no_room(alloc));
+        let watched = watched_doors(&self.store, watched)?;
         self.store.reserve_notices(watched.slice())?;
         reserve_leaving(&mut self.store, leaves)?;
         self.store.notices();
         let woken = Room::with_room(alloc, self.store.processes().thread_count() as usize)?;
-        let had = Room::with_room(alloc, self.store.processes().process_count() as usize)?;
+        let had = mem::replace(&mut self.had, no_room(alloc));
+        let had = emptied(had, self.store.processes().process_count() as usize)?;
         Ok(Taken {
             woken,
             watched,
@@ -186,11 +209,14 @@ impl Parts {
     {
         let Taken {
             woken,
-            watched,
+            mut watched,
             had,
         } = taken;
-        settle(&mut self.store, watched, had, touched, leaves, first);
-        self.end_event(woken, answer)
+        let had = settle(&mut self.store, &mut watched, had, touched, leaves, first);
+        let stepped = self.end_event(woken, answer);
+        self.watched = watched;
+        self.had = had;
+        stepped
     }
 
     /// The event of a kernel entry.

@@ -13,7 +13,7 @@ ghost use Rattle.kernel_store.specs.Words.{stored_state};
 ghost use Rattle.kernel_core.specs.Within.{IsWithin, IsSmall};
 ghost use Rattle.kernel_core.specs.Woken.{IsCurrent};
 
-use crate::event::Parts;
+use crate::event::{Parts, no_room};
 use crate::runnable::Runnable;
 use crate::turns::{self, is_running_state};
 use dk_base::error::{NoMemory, ProcFault};
@@ -51,7 +51,12 @@ impl Kernel {
     {
         let store = with_processes(Store::new(alloc)?, alloc, limits.slice())?;
         let runnable = Runnable::new(alloc)?;
-        let parts = Parts { store, runnable };
+        let parts = Parts {
+            store,
+            runnable,
+            watched: no_room(alloc),
+            had: no_room(alloc),
+        };
         Ok(Kernel { alloc, parts })
     }
 

@@ -13,14 +13,16 @@ use dk_base::list::Room;
 use dk_base::number::Pid;
 use kernel_records::pool::Pool;
 use kernel_store::store::Store;
-use std::alloc::Global;
 
-/// The doors of which an event may make notices: those that take notices and have more than one reference.
-pub fn watched_doors(store: &Store, alloc: Global) -> Result<Room<u32>, NoMemory>
+/// The doors of which an event may make notices: those that take notices and have more than one reference. They are listed in the
+/// room that `list` has, which is made greater where it is too small.
+pub fn watched_doors(store: &Store, list: Room<u32>) -> Result<Room<u32>, NoMemory>
     ensures { IfOk result (λ ds. ds.items ≡ watched (stored_state store.now)) }
 {
     let noticed = store.doors().notice_doors();
-    let mut watched = Room::with_room(alloc, noticed.len())?;
+    let mut watched = list;
+    watched.clear();
+    watched.reserve(noticed.len())?;
     for d in noticed {
         if store.references(*d) > 1 {
             watched.push(*d);
@@ -69,12 +71,12 @@ fn make_all(store: &mut Store, ds: &[u32]) -> bool
 
 /// A notice is made of each door that is due after the act of an event. The room was taken before it, and the doors that were watched
 /// then give the room to list those whose references have fallen to one. Says whether any was made.
-fn make_notices(store: &mut Store, mut ds: Room<u32>) -> bool
+fn make_notices(store: &mut Store, ds: &mut Room<u32>) -> bool
     requires placed { ArePlaced (stored_state store.old) }
     requires few { store.old.events < EVENTS_MAX }
     requires first { store.old.latest ≤ now (stored_state store.old) }
-    requires room { (before : StoreValue) × HadRoomForNotices before store.old ds.items }
-    ensures state { (before : State) → ds.items ≡ watched before → KeepsDoors before (stored_state store.old) → HasBegun store.old.opening before → stored_state store.new ≡ make_notices before (stored_state store.old) }
+    requires room { (before : StoreValue) × HadRoomForNotices before store.old ds.old.items }
+    ensures state { (before : State) → ds.old.items ≡ watched before → KeepsDoors before (stored_state store.old) → HasBegun store.old.opening before → stored_state store.new ≡ make_notices before (stored_state store.old) }
     ensures processes { length store.new.processes.processes ≡ length store.old.processes.processes }
     ensures none { result ≡ false → store.new ≡ store.old }
     ensures latest { store.new.latest ≤ now (stored_state store.old) }
@@ -82,36 +84,38 @@ fn make_notices(store: &mut Store, mut ds: Room<u32>) -> bool
     // its clause says here that the pools hold what the records say
     store.notices();
     ds.clear();
-    store.end_of_step(&mut ds);
+    store.end_of_step(ds);
     make_all(store, ds.slice())
 }
 
 /// What follows the act of an event that touched this pool, and by which callers, threads or doors may have left if it `leaves`. `first`
-/// is the process whose first common door the act made. Where a notice was made, other pools may have an idle thread for it.
+/// is the process whose first common door the act made. Where a notice was made, other pools may have an idle thread for it. The
+/// room for a flag of each process is given back.
 pub fn settle(
     store: &mut Store,
-    ds: Room<u32>,
+    ds: &mut Room<u32>,
     had: Room<bool>,
     touched: Pool,
     leaves: bool,
     first: Option<Pid>,
-)
+) -> Room<bool>
     requires placed { ArePlaced (stored_state store.old) }
     requires few { store.old.events < EVENTS_MAX }
     requires first { store.old.latest ≤ now (stored_state store.old) }
-    requires room { (before : StoreValue) × HadRoomForNotices before store.old ds.items }
+    requires room { (before : StoreValue) × HadRoomForNotices before store.old ds.old.items }
     requires empty { had.items ≡ [] }
     requires flags { length store.old.processes.processes ≤ had.spare }
     requires given_out { leaves ≡ false → IsGivenOutBut touched store.old.pools }
     requires none_lost { leaves ≡ false → (u : ℕ) → has_lost_door (stored_state store.old) u ≡ false }
-    ensures state { (before : State) → ds.items ≡ watched before → KeepsDoors before (stored_state store.old) → HasBegun store.old.opening before → ((p : ℕ) → has_first_common_door before (give (stored_state store.old)) p ≡ is_this p (option_map (λ p. p.0) first)) → stored_state store.new ≡ settle before (stored_state store.old) }
+    ensures state { (before : State) → ds.old.items ≡ watched before → KeepsDoors before (stored_state store.old) → HasBegun store.old.opening before → ((p : ℕ) → has_first_common_door before (give (stored_state store.old)) p ≡ is_this p (option_map (λ p. p.0) first)) → stored_state store.new ≡ settle before (stored_state store.old) }
     ensures given_out { IsGivenOut store.new.pools }
     ensures latest { store.new.latest ≤ now (stored_state store.old) }
 {
     let made = make_notices(store, ds);
     if made || leaves {
-        store.settle_all(had, first);
+        store.settle_all(had, first)
     } else {
         store.settle(touched, first);
+        had
     }
 }

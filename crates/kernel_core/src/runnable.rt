@@ -1,15 +1,15 @@
 //! Which threads could take a turn after the last event, and which an event wakes.
 ghost use Rattle.std.specs.Prelude.{◌≡◌, ℕ, ◌+◌, ◌<◌, ◌≤◌, ◌&&◌, not, false, [], length, slice_index_or, IfOk, OnOk};
 ghost use Rattle.std.specs.Option.{option_map};
-ghost use Rattle.written_kernel.specs.Words.{State, is_runnable, least_or as least_of, least_runnable, woken_threads};
+ghost use Rattle.written_kernel.specs.Words.{State, is_runnable, least_runnable, woken_threads};
 ghost use Rattle.kernel_store.specs.Words.{stored_state};
 ghost use Rattle.kernel_core.specs.Woken.{IsCurrent, HasListRoom, runnables};
 
-use kernel_records::numbered::numbered_item;
 use crate::turns::runnable;
 use dk_base::error::NoMemory;
 use dk_base::list::Room;
 use dk_base::number::Tid;
+use kernel_records::numbered::numbered_item;
 use kernel_store::store::Store;
 use std::alloc::Global;
 use std::mem;
@@ -65,16 +65,6 @@ fn flag_at(list: &[bool], i: u32) -> bool
     list[i as usize]
 }
 
-fn least_or(least: Option<Tid>, here: bool, t: Tid) -> Option<Tid>
-    ensures { option_map (λ t. t.0) result ≡ least_of (option_map (λ t. t.0) least) here t.0 }
-{
-    match least {
-        Some(least) => Some(least),
-        None if here => Some(t),
-        None => None,
-    }
-}
-
 impl Runnable {
     pub fn new(alloc: Global) -> Result<Self, NoMemory>
         ensures { IfOk result (λ r. r.list.items ≡ []) }
@@ -101,11 +91,12 @@ impl Runnable {
         ensures { (m : State) → IsCurrent self.now m → option_map (λ t. t.0) result ≡ least_runnable m }
     {
         let list = self.list.slice();
-        let mut least = None;
         for i in 0..threads {
-            least = least_or(least, flag_at(list, i), Tid(i + 1));
+            if flag_at(list, i) {
+                return Some(Tid(i + 1));
+            }
         }
-        least
+        None
     }
 
     /// Takes the memory to list one thread more.

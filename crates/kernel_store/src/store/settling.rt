@@ -196,8 +196,8 @@ impl Store {
 
     /// What follows an act, once notices are made, after which any pool may have both a waiting item and an idle thread, and idle
     /// threads may have lost their doors: these wake with EINVAL, what waits is given, and spares start. `first` is the process
-    /// whose first common door the act made. `had` has room for a flag of each process.
-    pub fn settle_all(&mut self, had: Room<bool>, first: Option<Pid>)
+    /// whose first common door the act made. `had` has room for a flag of each process, and is given back.
+    pub fn settle_all(&mut self, had: Room<bool>, first: Option<Pid>) -> Room<bool>
         requires empty { had.items ≡ [] }
         requires room { length self.old.processes.processes ≤ had.spare }
         ensures state { (before : State) → ((p : ℕ) → has_first_common_door before (give (fail_returns (stored_state self.old))) p ≡ is_this p (option_map (λ p. p.0) first)) → stored_state self.new ≡ give_and_start before (fail_returns (stored_state self.old)) }
@@ -208,5 +208,6 @@ impl Store {
         let had = self.note_idle(had);
         self.give_all();
         self.start_all(had.slice(), first);
+        had
     }
 }

@@ -26,7 +26,7 @@ make_all-requires-clause-room c =
     ∙ fallen_is b n c.args.store.now.opening h.opened in
     subst (λ (s : StoreValue). CanMake s c.slice.result.now) (sym c.end_of_step.ensures.same)
     (subst (CanMake c.args.store.now) (sym listed)
-    (can_make_fallen c.requires.room.0 c.args.store.now c.args.ds.items h c.notices.ensures.agreed c.requires.placed.door_number))
+    (can_make_fallen c.requires.room.0 c.args.store.now c.args.ds.now.items h c.notices.ensures.agreed c.requires.placed.door_number))
 
 pub returns-clause-state : goal.returns-clause-state
 returns-clause-state c =
