@@ -1,5 +1,5 @@
 //! A whole run of a script on threads.
-ghost use Rattle.std.specs.Prelude.{◌≡◌, ◌+◌, ◌<◌, ◌^◌, [], length, sum, true, false, IfOk, OnOk};
+ghost use Rattle.std.specs.Prelude.{◌≡◌, ◌+◌, ◌<◌, ◌≤◌, ◌^◌, [], length, sum, true, false, IfOk, OnOk};
 ghost use Rattle.script_requests.specs.Words.{has_later_parts};
 ghost use Rattle.written_script.specs.Words.{is_over};
 ghost use Rattle.sys_run.specs.Words.{LawsOf, history};
@@ -8,7 +8,7 @@ use crate::running::Running;
 use crate::shared::Shared;
 use crate::starting::{Driven, drive_all};
 use dk_base::error::NoMemory;
-use dk_base::list::CountList;
+use dk_base::list::{CountList, Room};
 use dk_base::outside::Gate;
 use script_lang::script::Script;
 use std::alloc::Global;
@@ -148,15 +148,25 @@ fn run_alone(alloc: Global, script: Script) -> Result<Ran, NoMemory>
     finish(Ran { sys, by, tail: 0 })
 }
 
+fn fill_with_zeros(room: Room<u64>, n: u32) -> CountList
+    requires empty { room.items ≡ [] }
+    requires room { n ≤ room.spare }
+    ensures sum { sum result ≡ 0 }
+    ensures count { length result ≡ n }
+{
+    let mut room = room;
+    for _ in 0..n {
+        room.push(0);
+    }
+    room.into_list()
+}
+
 fn zeros(alloc: Global, n: u32) -> Result<CountList, NoMemory>
     ensures sum { IfOk result (λ zeros. sum zeros ≡ 0) }
     ensures count { IfOk result (λ zeros. length zeros ≡ n) }
 {
-    let mut zeros = CountList::new(alloc);
-    for _ in 0..n {
-        zeros.push(0)?;
-    }
-    Ok(zeros)
+    let room = Room::with_room(alloc, n as usize)?;
+    Ok(fill_with_zeros(room, n))
 }
 
 /// The run after the joins, to its end. A lock's value is known by its type alone, so its script is compared with the one that

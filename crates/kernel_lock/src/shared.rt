@@ -1,9 +1,10 @@
 //! The lock, with a condition variable for each driver.
-ghost use Rattle.std.specs.Prelude.{◌≡◌, length};
+ghost use Rattle.std.specs.Prelude.{◌≡◌, ◌≤◌, length};
 
 use crate::running::Running;
 use crate::turns::ToNotify;
 use dk_base::error::NoMemory;
+use dk_base::list::{Room, Sequence};
 use dk_base::number::Tid;
 use std::alloc::Global;
 use std::sync::ledger::{Book, Ledger};
@@ -17,17 +18,23 @@ pub struct Shared<L: Ledger> {
     /// Where the calling thread waits.
     pub(crate) calling: Condvar,
     /// Where the drivers of the script's threads wait, in order.
-    condvars: Vec<Condvar>,
+    condvars: Sequence<Condvar>,
 }
 
-fn condvars(alloc: Global, threads: u32) -> Result<Vec<Condvar>, NoMemory> {
-    let mut condvars = Vec::new(alloc);
+/// One for each thread.
+fn fill(room: Room<Condvar>, threads: u32) -> Sequence<Condvar>
+    requires { threads ≤ room.spare }
+{
+    let mut room = room;
     for _ in 0..threads {
-        if condvars.push(Condvar::new()).is_err() {
-            return Err(NoMemory);
-        }
+        room.push(Condvar::new());
     }
-    Ok(condvars)
+    room.into_list()
+}
+
+fn condvars(alloc: Global, threads: u32) -> Result<Sequence<Condvar>, NoMemory> {
+    let room = Room::with_room(alloc, threads as usize)?;
+    Ok(fill(room, threads))
 }
 
 impl<L: Ledger> Shared<L> {
@@ -60,7 +67,7 @@ impl<L: Ledger> Shared<L> {
     /// Where a thread's driver waits. For a number that the script does not declare it is where the calling thread waits, who is
     /// notified at the end.
     pub(crate) fn condvar(&self, t: Tid) -> &Condvar {
-        match self.condvars.get((t.0 as usize).wrapping_sub(1)) {
+        match self.condvars.slice().get((t.0 as usize).wrapping_sub(1)) {
             Some(condvar) => condvar,
             None => &self.calling,
         }
@@ -82,7 +89,7 @@ impl<L: Ledger> Shared<L> {
     /// Notifies all.
     pub(crate) fn notify_all(&self) {
         self.calling.notify_all();
-        for condvar in &self.condvars {
+        for condvar in self.condvars.slice() {
             condvar.notify_all();
         }
     }
