@@ -125,7 +125,7 @@ impl<T: Copy + Drop> Sequence<T> {
         Sequence::from_slice(alloc, self.items.as_slice())
     }
 
-    /// Want of memory leaves the list as it was.
+    /// Copies of the items follow the list. Want of memory leaves it as it was.
     pub fn append(&mut self, items: &[T]) -> Result<(), NoMemory>
         ensures ok { OnOk result (self.new ≡ self.old ++ items.now) }
         ensures err { OnErr result (self.new ≡ self.old) }
@@ -153,6 +153,15 @@ impl<T> Model for Room<T> {
 }
 
 impl<T: Drop> Room<T> {
+    /// No item, and no room that is told. It takes no memory.
+    pub fn new(alloc: Global) -> Self
+        ensures { result.items ≡ [] }
+    {
+        Room {
+            items: Vec::new(alloc),
+        }
+    }
+
     /// No item, and room for `n`.
     pub fn with_room(alloc: Global, n: usize) -> Result<Self, NoMemory>
         ensures empty { IfOk result (λ room. room.items ≡ []) }
@@ -215,7 +224,7 @@ impl<T: Drop> Room<T> {
 }
 
 impl<T: Copy + Drop> Room<T> {
-    /// It takes no memory.
+    /// Copies of the items follow the list. It takes no memory.
     pub fn append(&mut self, items: &[T])
         requires { length items.now ≤ self.old.spare }
         ensures items { self.new.items ≡ self.old.items ++ items.now }

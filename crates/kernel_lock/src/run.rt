@@ -148,13 +148,13 @@ fn run_alone(alloc: Global, script: Script) -> Result<Ran, NoMemory>
     finish(Ran { sys, by, tail: 0 })
 }
 
-fn fill_with_zeros(room: Room<u64>, n: u32) -> CountList
+/// So many zeros, in room that was taken before. It takes no memory.
+fn fill_with_zeros(mut room: Room<u64>, n: u32) -> CountList
     requires empty { room.items ≡ [] }
     requires room { n ≤ room.spare }
     ensures sum { sum result ≡ 0 }
     ensures count { length result ≡ n }
 {
-    let mut room = room;
     for _ in 0..n {
         room.push(0);
     }

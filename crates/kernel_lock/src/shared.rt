@@ -21,11 +21,10 @@ pub struct Shared<L: Ledger> {
     condvars: Sequence<Condvar>,
 }
 
-/// One for each thread.
-fn fill(room: Room<Condvar>, threads: u32) -> Sequence<Condvar>
+/// A condition variable for each thread, in room that was taken before. It takes no memory.
+fn fill_with_condvars(mut room: Room<Condvar>, threads: u32) -> Sequence<Condvar>
     requires { threads ≤ room.spare }
 {
-    let mut room = room;
     for _ in 0..threads {
         room.push(Condvar::new());
     }
@@ -34,7 +33,7 @@ fn fill(room: Room<Condvar>, threads: u32) -> Sequence<Condvar>
 
 fn condvars(alloc: Global, threads: u32) -> Result<Sequence<Condvar>, NoMemory> {
     let room = Room::with_room(alloc, threads as usize)?;
-    Ok(fill(room, threads))
+    Ok(fill_with_condvars(room, threads))
 }
 
 impl<L: Ledger> Shared<L> {
