@@ -1,5 +1,5 @@
 -- The numbers from 1 to n that pass a test; and the doors that take notices are such numbers.
-use Rattle.std.proofs.Common.{◌≡◌, ◌≢◌, ℕ, zero, suc, ◌+◌, ◌<◌, ◌≤◌, ◌==◌, ◌&&◌, ◌||◌, Bool, true, false, if◌then◌else◌, nat_le, List, [], ◌∷◌, ◌++◌, Option, None, Some, IsSome, length, filter, map, take, slice_get, slice_set, refl, sym, subst, ap, ap₂, ◌∙◌, arith, append-nil, length-append, true≢false, IsPermutation}
+use Rattle.std.proofs.Common.{◌≡◌, ◌≢◌, ℕ, zero, suc, ◌+◌, ◌<◌, ◌≤◌, ◌==◌, ◌&&◌, ◌||◌, Bool, true, false, if◌then◌else◌, nat_le, List, [], ◌∷◌, ◌++◌, Option, None, Some, IsSome, length, filter, map, take, slice_get, refl, sym, subst, ap, ap₂, ◌∙◌, arith, append-nil, length-append, true≢false, IsPermutation}
 use Rattle.std.proofs.lemmas.Bool.Decides.{nat_tests}
 use Rattle.std.proofs.lemmas.List.Elements.{All-append, All-cons, All-nil, All-weaker, filter-append}
 use Rattle.std.proofs.lemmas.List.{map-append}
@@ -10,26 +10,8 @@ use Rattle.std.specs.List.{All, list_any}
 use Rattle.dk_base.specs.ByNumber.{at_number}
 use Rattle.dk_base.specs.declared.set.Attrs.{Attrs}
 use Rattle.kernel_records.specs.declared.record.Door.{Door}
-use Rattle.kernel_records.proofs.Lists.{at_number-suc, is_some-slice_get, numbered_push, numbered_there, slice_get-slice_set}
+use Rattle.kernel_records.proofs.Lists.{at_number-push, at_number-suc, numbered_there}
 use Rattle.kernel_records.specs.Words.{AreNumbered, is_notice_door, new_door, notice_doors, number_of_door, numbers_where, takes_notices_in, with_door}
-
--- items by number
-
-pub at_number-set :
-    {X : Type 0} (xs : List X) (i k : ℕ) (x : X) → i < length xs →
-    at_number (slice_set xs i x) k ≡ (if k == suc i then Some x else at_number xs k)
-at_number-set xs i zero x h = grind (arith, nat_tests)
-at_number-set xs i (suc k) x h =
-    at_number-suc (slice_set xs i x) k
-    ∙ slice_get-slice_set xs i k x
-    ∙ grind (arith, nat_tests, is_some-slice_get xs i, at_number-suc xs k)
-
-pub at_number-push :
-    {X : Type 0} (xs : List X) (y : X) (k : ℕ) →
-    at_number (xs ++ y ∷ []) k ≡ (if k == suc (length xs) then Some y else at_number xs k)
-at_number-push xs y k =
-    let next : length xs + 1 ≡ suc (length xs) = omega arith in
-    subst (λ n. at_number (xs ++ y ∷ []) k ≡ (if k == n then Some y else at_number xs k)) next (numbered_push xs y k)
 
 -- the numbers that pass
 

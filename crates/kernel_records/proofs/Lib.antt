@@ -1,4 +1,6 @@
 pub mod Lists
+pub mod NumberedLists
+pub mod KeptLists
 pub mod DoorNumbers
 pub mod Places
 pub mod Passing

@@ -1,5 +1,5 @@
 -- Lists whose items are numbered from 1: reads after writes.
-use Rattle.std.proofs.Common.{◌≡◌, ℕ, zero, suc, ◌+◌, ◌-◌, ◌<◌, ◌≤◌, Bool, false, if◌then◌else◌, nat_lt, nat_le, ◌&&◌, ◌==◌, List, [], ◌∷◌, ◌++◌, Option, None, Some, IsSome, is_some, option_map, length, map, find, slice_get, slice_set, refl, sym, ap, ap₂, ◌∙◌, arith, append-nil, append_assoc, length-set}
+use Rattle.std.proofs.Common.{◌≡◌, ℕ, zero, suc, ◌+◌, ◌-◌, ◌<◌, ◌≤◌, false, if◌then◌else◌, nat_lt, nat_le, ◌&&◌, ◌==◌, List, [], ◌∷◌, ◌++◌, Option, None, Some, IsSome, is_some, option_map, length, map, slice_get, slice_set, refl, sym, subst, ap, ap₂, ◌∙◌, arith, append-nil, append_assoc, length-set}
 use Rattle.std.proofs.lemmas.List.{length-map}
 use Rattle.std.proofs.lemmas.Bool.Decides.{nat_tests}
 use Rattle.std.proofs.lemmas.Option.{slice_get-map}
@@ -67,6 +67,22 @@ pub numbered_push :
 numbered_push xs y zero = grind (arith, nat_tests)
 numbered_push xs y (suc k) = at_number-suc (xs ++ y ∷ []) k ∙ slice_get_push xs y k ∙ grind (arith, nat_tests, at_number-suc xs k)
 
+pub at_number-set :
+    {X : Type 0} (xs : List X) (i k : ℕ) (x : X) → i < length xs →
+    at_number (slice_set xs i x) k ≡ (if k == suc i then Some x else at_number xs k)
+at_number-set xs i zero x h = grind (arith, nat_tests)
+at_number-set xs i (suc k) x h =
+    at_number-suc (slice_set xs i x) k
+    ∙ slice_get-slice_set xs i k x
+    ∙ grind (arith, nat_tests, is_some-slice_get xs i, at_number-suc xs k)
+
+pub at_number-push :
+    {X : Type 0} (xs : List X) (y : X) (k : ℕ) →
+    at_number (xs ++ y ∷ []) k ≡ (if k == suc (length xs) then Some y else at_number xs k)
+at_number-push xs y k =
+    let next : length xs + 1 ≡ suc (length xs) = omega arith in
+    subst (λ n. at_number (xs ++ y ∷ []) k ≡ (if k == n then Some y else at_number xs k)) next (numbered_push xs y k)
+
 pub at_number-map : {X Y : Type 0} (f : X → Y) (xs : List X) (k : ℕ) → at_number (map f xs) k ≡ option_map f (at_number xs k)
 at_number-map f xs zero = refl
 at_number-map f xs (suc k) = at_number-suc (map f xs) k ∙ slice_get-map f xs k ∙ ap (option_map f) (sym (at_number-suc xs k))
@@ -126,17 +142,6 @@ pub map-same : {X Y : Type 0} (f g : X → Y) → ((x : X) → f x ≡ g x) → 
 map-same f g h [] = refl
 map-same f g h (x ∷ xs) = ap₂ (λ y ys. y ∷ ys) (h x) (map-same f g h xs)
 
-pub map_unchanged : {X : Type 0} (f : X → X) → ((x : X) → f x ≡ x) → (xs : List X) → map f xs ≡ xs
-map_unchanged f h [] = refl
-map_unchanged f h (x ∷ xs) = ap₂ (λ y ys. y ∷ ys) (h x) (map_unchanged f h xs)
-
--- a search that does not see a change of each item
-pub find-map_same :
-    {X : Type 0} (test : X → Bool) (f : X → X) → ((x : X) → test (f x) ≡ test x) → (xs : List X) →
-    find test (map f xs) ≡ option_map f (find test xs)
-find-map_same test f same [] = refl
-find-map_same test f same (x ∷ xs) = grind (arith, same x, find-map_same test f same xs)
-
 -- lists that a reader sees alike
 
 pub same_length : {X Y : Type 0} (f : X → Y) (xs ys : List X) → map f xs ≡ map f ys → length xs ≡ length ys
@@ -156,9 +161,6 @@ pub record Extends {X : Type 0} (xs ys : List X) : Type 0 where
 pub Extends-same : {X : Type 0} (xs ys : List X) → ys ≡ xs → Extends xs ys
 Extends-same xs ys e = record { rest = []; is = e ∙ sym (append-nil xs) }
 
-pub Extends-push : {X : Type 0} (xs : List X) (x : X) → Extends xs (xs ++ x ∷ [])
-Extends-push xs x = record { rest = x ∷ []; is = refl }
-
 pub Extends-then : {X : Type 0} {xs ys zs : List X} → Extends xs ys → Extends ys zs → Extends xs zs
 Extends-then {xs} h k =
     record { rest = h.rest ++ k.rest; is = k.is ∙ ap (λ us. us ++ k.rest) h.is ∙ append_assoc xs h.rest k.rest }
@@ -166,11 +168,3 @@ Extends-then {xs} h k =
 pub at_number-extends :
     {X : Type 0} {xs ys : List X} → Extends xs ys → (k : ℕ) (x : X) → at_number xs k ≡ Some x → at_number ys k ≡ Some x
 at_number-extends {xs} h k x e = ap (λ us. at_number us k) h.is ∙ numbered_front xs h.rest k x e
-
-pub find-extends :
-    {X : Type 0} {xs ys : List X} → Extends xs ys → (p : X → Bool) (x : X) → find p xs ≡ Some x → find p ys ≡ Some x
-find-extends {xs} h p x e = ap (find p) h.is ∙ find_front xs h.rest e
-  where
-    find_front : (xs rest : List _) → find p xs ≡ Some x → find p (xs ++ rest) ≡ Some x
-    find_front [] rest e = cc
-    find_front (y ∷ ys) rest e = grind (arith, find_front ys rest)

@@ -1,16 +1,15 @@
 -- A table whose passed descriptors are released: what its descriptors name, how many are free, and how often an object is named.
-use Rattle.std.proofs.Common.{◌≡◌, ℕ, zero, suc, ◌+◌, ◌≤◌, ◌||◌, ◌&&◌, ◌==◌, cond, inl, inr, Bool, true, false, List, [], ◌∷◌, Option, Some, None, is_none, length, slice_get, get_or, filter, map, not, All, refl, sym, ap, ◌∙◌, arith, length-set, eq-eqb}
-use Rattle.std.specs.List.{Contains, cons_option, list_any}
+use Rattle.std.proofs.Common.{◌≡◌, ℕ, zero, suc, ◌+◌, ◌≤◌, ◌||◌, ◌&&◌, ◌==◌, cond, inl, inr, Bool, true, false, List, [], ◌∷◌, Option, Some, None, is_none, length, slice_get, get_or, filter, not, All, refl, sym, ap, ◌∙◌, arith, length-set}
+use Rattle.std.specs.List.{cons_option, list_any}
 use Rattle.std.specs.Option.{option_to_list}
-use Rattle.std.proofs.lemmas.Bool.{and_from, cases_Bool, cases_eq, cases_lt, eqb-false, eqb-true, or_cases, or_from, or_parts}
-use Rattle.std.proofs.lemmas.List.{length-map, set_past}
+use Rattle.std.proofs.lemmas.Bool.{cases_Bool, cases_eq, cases_lt, eqb-false, eqb-true, or_cases, or_from, or_parts}
+use Rattle.std.proofs.lemmas.List.{set_past}
 use Rattle.std.proofs.lemmas.List.Elements.{All-cons, All-nil}
-use Rattle.std.proofs.lemmas.List.Folds.{list_any_at}
 use Rattle.std.proofs.lemmas.List.Sums.{sum_by-cons, sum_by-set}
 use Rattle.dk_base.specs.declared.number.Fd.{Fd}
 use Rattle.dk_base.specs.declared.object.Obj.{Obj}
 use Rattle.dk_base.specs.declared.object.Pass.{Pass}
-use Rattle.kernel_records.specs.Passing.{has_double_release, is_bad_pass, is_double, is_not_open, object_passed, objects_passed, release_row, release_rows}
+use Rattle.kernel_records.specs.Passing.{has_double_release, is_double, object_passed, objects_passed, release_row, release_rows}
 use Rattle.kernel_records.specs.Tables.{close_row, count_object, free_rows, is_object, object_in, object_named, objects_of}
 
 -- a descriptor that is closed
@@ -79,13 +78,6 @@ object_named-released t (x ∷ xs) fd h =
       | inr later ↦ object_named-released (release_row t x) xs fd later
     ]
 
-pub object_named-passed_released :
-    (t : List (Option Obj)) (pass : List Pass) (x : Pass) → Contains pass x → x.release ≡ true → object_named (release_rows t pass) x.fd ≡ None
-object_named-passed_released t pass x there released =
-    let here : releases x.fd x ≡ true = and_from x.release (x.fd.0 == x.fd.0) released (eq-eqb x.fd.0 x.fd.0 refl) in
-    let found : releases x.fd (get_or pass there.0 x) ≡ true = ap (releases x.fd) there.2 ∙ here in
-    object_named-released t pass x.fd (list_any_at (releases x.fd) pass there.0 x there.1 found)
-
 -- one that is not released names what it named
 pub object_named-kept :
     (t : List (Option Obj)) (pass : List Pass) (fd : Fd) → list_any (releases fd) pass ≡ false →
@@ -127,36 +119,7 @@ row_free : (t : List (Option Obj)) (b : Bool) (n : ℕ) → free_rows t ≤ free
 row_free t true n = closed_free t n
 row_free t false n = omega arith
 
-pub free_rows-release_rows : (t : List (Option Obj)) (pass : List Pass) → free_rows t ≤ free_rows (release_rows t pass)
-free_rows-release_rows t [] = omega arith
-free_rows-release_rows t (x ∷ xs) =
-    omega (arith, row_free t x.release x.fd.0, free_rows-release_rows (release_row t x) xs)
-
 -- the objects that are passed
-
-each_more :
-    (o : Option Obj) (os : List (Option Obj)) (named : List Obj) → is_none o ≡ false → os ≡ map (λ p. Some p) named →
-    o ∷ os ≡ map (λ p. Some p) (cons_option o named)
-each_more None os named h rest = cc
-each_more (Some p) os named h rest = ap (λ more. Some p ∷ more) rest
-
-each_named :
-    (t : List (Option Obj)) (pass : List Pass) → list_any (is_not_open t) pass ≡ false →
-    map (object_passed t) pass ≡ map (λ o. Some o) (objects_passed t pass)
-each_named t [] h = refl
-each_named t (x ∷ xs) h =
-    let parts = or_parts (is_not_open t x) (list_any (is_not_open t) xs) h in
-    each_more (object_passed t x) (map (object_passed t) xs) (objects_passed t xs) parts.0 (each_named t xs parts.1)
-
--- each of those that are accepted names an object that goes
-pub map-object_passed :
-    (t : List (Option Obj)) (pass : List Pass) → is_bad_pass t pass ≡ false →
-    map (object_passed t) pass ≡ map (λ o. Some o) (objects_passed t pass)
-map-object_passed t pass h = each_named t pass (or_parts (list_any (is_not_open t) pass) (has_double_release pass) h).0
-
-pub length-objects_passed : (t : List (Option Obj)) (pass : List Pass) → is_bad_pass t pass ≡ false → length (objects_passed t pass) ≡ length pass
-length-objects_passed t pass h =
-    sym (length-map (objects_passed t pass) (λ o. Some o)) ∙ ap length (sym (map-object_passed t pass h)) ∙ length-map pass (object_passed t)
 
 all_more : (P : Obj → Type 0) (o : Option Obj) (os : List Obj) → ((p : Obj) → o ≡ Some p → P p) → All P os → All P (cons_option o os)
 all_more P None os h rest = rest
@@ -247,29 +210,3 @@ count_object-release_rows o t (x ∷ xs) h =
 -- what the others name, in order
 abbrev pub is_kept : Pass → Bool
 is_kept x = not x.release
-
-abbrev pub objects_kept : List (Option Obj) → List Pass → List Obj
-objects_kept t pass = objects_passed t (filter is_kept pass)
-
-row_split :
-    (o : Obj) (t : List (Option Obj)) (x : Pass) (b : Bool) (released kept : List Pass) →
-    count_object o (objects_passed t (cond b (x ∷ released) released)) + count_object o (objects_passed t (cond (not b) (x ∷ kept) kept))
-    ≡ count_object o (option_to_list (object_passed t x)) + count_object o (objects_passed t released) + count_object o (objects_passed t kept)
-row_split o t x true released kept = omega (arith, count_more o (object_passed t x) (objects_passed t released))
-row_split o t x false released kept = omega (arith, count_more o (object_passed t x) (objects_passed t kept))
-
-pub count_object-objects_passed :
-    (o : Obj) (t : List (Option Obj)) (pass : List Pass) →
-    count_object o (objects_passed t pass) ≡ count_object o (objects_released t pass) + count_object o (objects_kept t pass)
-count_object-objects_passed o t [] = refl
-count_object-objects_passed o t (x ∷ xs) =
-    let row = row_split o t x x.release (filter is_released xs) (filter is_kept xs) in
-    omega (arith, row, count_more o (object_passed t x) (objects_passed t xs), count_object-objects_passed o t xs)
-
--- table and objects together gain one reference for each that is passed and not released
-pub count_object-taken_out :
-    (o : Obj) (t : List (Option Obj)) (pass : List Pass) → has_double_release pass ≡ false →
-    count_object o (objects_of (release_rows t pass)) + count_object o (objects_passed t pass)
-    ≡ count_object o (objects_of t) + count_object o (objects_kept t pass)
-count_object-taken_out o t pass h =
-    omega (arith, count_object-release_rows o t pass h, count_object-objects_passed o t pass)

@@ -56,6 +56,9 @@ without_arguments_at s r = record r { bytes = []; objects = []; stage = s }
 
 -- look-ups
 
+abbrev pub call_number : Call → ℕ
+call_number r = r.number
+
 abbrev pub is_queued_as : ℕ → Call → Bool
 is_queued_as c r = (r.number == c) && is_queued r.stage
 

@@ -1,5 +1,6 @@
 pub mod Numbers
 pub mod Lists
+pub mod NumberedLists
 pub mod Refusals
 pub mod ProcessTable
 pub mod Tables

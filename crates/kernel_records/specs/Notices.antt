@@ -44,6 +44,9 @@ notice_at s n = record n { stage = s }
 
 -- look-ups
 
+abbrev pub notice_number : Notice → ℕ
+notice_number n = n.number
+
 abbrev pub is_waiting_notice_as : ℕ → Notice → Bool
 is_waiting_notice_as c n = (n.number == c) && is_waiting_stage n.stage
 

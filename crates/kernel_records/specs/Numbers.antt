@@ -15,8 +15,8 @@ descriptor n = record { 0 = n }
 
 -- the numbers from 1 to n that pass a test, in order
 abbrev pub numbers_where : (ℕ → Bool) → ℕ → List ℕ
-numbers_where p zero = []
-numbers_where p (suc n) = numbers_where p n ++ (if p (suc n) then suc n ∷ [] else [])
+numbers_where test zero = []
+numbers_where test (suc n) = numbers_where test n ++ (if test (suc n) then suc n ∷ [] else [])
 
 -- what the code asks of a number answers as this test does
 abbrev pub AnswersAs : (ℕ → Bool → Type 0) → (ℕ → Bool) → Type 0

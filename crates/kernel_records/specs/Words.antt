@@ -1,10 +1,11 @@
 -- The words of this crate's specs, from one place, for the crates above.
-pub use Rattle.kernel_records.specs.Calls.{CallTree, at_stage, collect_call, enter_call, fail_call, give_call, is_client_call_of, is_entered_by, is_given_as, is_given_to, is_live, is_live_call, is_queued, is_queued_as, is_queued_call, is_served, is_served_as, is_served_by, is_to_collect, is_to_collect_as, live_calls, open_call, return_call, without_arguments_at}
+pub use Rattle.kernel_records.specs.Calls.{CallTree, at_stage, call_number, collect_call, enter_call, fail_call, give_call, is_client_call_of, is_entered_by, is_given_as, is_given_to, is_live, is_live_call, is_queued, is_queued_as, is_queued_call, is_served, is_served_as, is_served_by, is_to_collect, is_to_collect_as, live_calls, open_call, return_call, without_arguments_at}
 pub use Rattle.kernel_records.specs.Doors.{AreNumbered, attributes_where, bind_tests, change_door, change_door_in, cookie_of, end_owner, entry_of, first_desc_max, has_attributes, has_common_door, has_no_cancel, has_no_size, has_refused_size, has_told_attributes, has_too_many, has_unref_multi, info_in, info_of, is_common_of, is_of_descriptors, is_owned_by, is_private, is_private_in, is_valid_door, is_valid_in, is_valid_of, limit_tests, new_door, no_cancel_of, no_info, number_of_door, notice_doors, is_notice_door, param_in, param_of, refuses_descriptors, refuses_descriptors_in, revoke_door, revoke_tests, revoked_door, set_param, set_param_tests, takes_notices, takes_notices_in, target_of, told_attributes, valid_doors_of, with_door, with_owner_ended, with_param, would_have_no_size}
 pub use Rattle.kernel_records.specs.Leaving.{Leaving, abandoned_at, broken_call_at, cancelled_invocation, cancelled_thread, deserted_at, deserted_in, ended_where, gone_call_at, interrupted_state, interrupted_thread, interrupted_where, interruption, is_left, leaving_of, left_call, left_calls, left_notice, left_notice_at, left_notices, left_thread, left_thread_of, left_threads, process_end, revocation, thread_end}
 pub use Rattle.kernel_records.specs.Lists.{change_first}
 pub use Rattle.kernel_records.specs.Names.{door_attached, has_other_path, has_path, name_in, with_name, without_name}
-pub use Rattle.kernel_records.specs.Notices.{NoticeList, end_notice, enter_notice, give_notice, has_many, has_notice, is_entered_stage, is_given_notice_as, is_given_stage, is_kept_notice, is_notice_entered_by, is_notice_of, is_past_stage, is_waiting_notice, is_waiting_notice_as, is_waiting_stage, kept_notices, make_notice, may_take_notice, may_take_notice_in, new_notice, notice_at}
+pub use Rattle.kernel_records.specs.Notices.{NoticeList, end_notice, enter_notice, give_notice, has_many, has_notice, is_entered_stage, is_given_notice_as, is_given_stage, is_kept_notice, is_notice_entered_by, is_notice_of, is_past_stage, is_waiting_notice, is_waiting_notice_as, is_waiting_stage, kept_notices, make_notice, may_take_notice, may_take_notice_in, new_notice, notice_at, notice_number}
+pub use Rattle.kernel_records.specs.NumberedLists.{IsAscending, IsCounted, is_numbered}
 pub use Rattle.kernel_records.specs.Numbers.{AnswersAs, descriptor, numbers_where, pid, tid}
 pub use Rattle.kernel_records.specs.Passing.{has_double_release, is_bad_pass, is_double, is_not_open, object_passed, objects_passed, release_row, release_rows}
 pub use Rattle.kernel_records.specs.Pools.{better_parked, bind_thread, bound_at, bound_in, is_pool, is_queued_in, items_in_order, later_parked, parked_at, parked_in, parked_thread, pick_among, pick_parked, pool_in, pool_of_door, pool_of_thread, queue_length, unbind_thread, waiting_call, waiting_notice, with_notice, with_notices}

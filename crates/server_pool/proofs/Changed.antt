@@ -5,7 +5,7 @@ use Rattle.dk_base.specs.ByNumber.{at_number, with_at_number}
 use Rattle.kernel_records.specs.declared.pool.Pool.{Pool}
 use Rattle.kernel_records.specs.declared.pool.Pool.TheVariants.{Common, Private}
 use Rattle.kernel_records.specs.Words.{is_pool}
-use Rattle.server_pool.specs.Words.{PoolValue, PoolsValue, change_at_number, change_item, change_pool, empty_pool, item_room_in, pool_at, pool_or_empty, thread_room_in}
+use Rattle.server_pool.specs.Words.{PoolValue, PoolsValue, change_at_number, change_item, change_pool, empty_pool, pool_at, pool_or_empty, thread_room_in}
 
 -- an item of a list
 
@@ -96,9 +96,6 @@ there_with (Some pool) room e h = refl
 
 pub thread_room_there : (pools : PoolsValue) (pool : Pool) → 0 < thread_room_in pools pool → is_some (pool_at pools pool) ≡ true
 thread_room_there pools pool h = there_with (pool_at pools pool) (λ p. p.thread_room) refl h
-
-pub item_room_there : (pools : PoolsValue) (pool : Pool) → 0 < item_room_in pools pool → is_some (pool_at pools pool) ≡ true
-item_room_there pools pool h = there_with (pool_at pools pool) (λ p. p.item_room) refl h
 
 changed_there : (o : Option PoolValue) (change : PoolValue → PoolValue) → is_some o ≡ true → pool_or_empty (option_map change o) ≡ change (pool_or_empty o)
 changed_there None change h = cc

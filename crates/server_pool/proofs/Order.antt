@@ -1,5 +1,5 @@
 -- Lists in order: one more item at the end, and some fewer.
-use Rattle.std.proofs.Common.{◌≡◌, inl, inr, ℕ, zero, suc, ◌-◌, Bool, true, false, cond, ◌<◌, nat_le, nat_lt, ◌&&◌, List, [], ◌∷◌, ◌++◌, Option, Some, None, length, take, drop, filter, slice_get, refl, sym, ap, subst, ◌∙◌, arith}
+use Rattle.std.proofs.Common.{◌≡◌, inl, inr, ℕ, zero, suc, ◌-◌, Bool, true, false, cond, ◌<◌, nat_le, nat_lt, ◌&&◌, List, [], ◌∷◌, ◌++◌, Option, Some, None, length, take, filter, slice_get, refl, sym, ap, subst, ◌∙◌, arith}
 use Rattle.std.proofs.lemmas.Option.{same_Some}
 use Rattle.std.specs.List.{AllByRecursion, fold, list_all}
 use Rattle.std.proofs.lemmas.Bool.Decides.{nat_tests}
@@ -54,10 +54,6 @@ all_less P (x ∷ xs) y a = (a.0, all_less P xs y a.1)
 pub ordered_less : {X : Type 0} (Before : X → X → Type 0) (xs : List X) (y : X) → IsOrderedBy Before (xs ++ y ∷ []) → IsOrderedBy Before xs
 ordered_less Before [] y o = tt
 ordered_less Before (x ∷ xs) y o = (all_less (Before x) xs y o.0, ordered_less Before xs y o.1)
-
-pub ordered_rest : {X : Type 0} (Before : X → X → Type 0) (xs : List X) → IsOrderedBy Before xs → IsOrderedBy Before (drop 1 xs)
-ordered_rest Before [] o = tt
-ordered_rest Before (x ∷ xs) o = o.1
 
 -- a thread parks on top of a stack
 pub stack_push : (xs ys : List Parked) (x : Parked) → ys ≡ xs ++ x ∷ [] → IsStack xs → AllParkedBefore xs x → IsStack ys

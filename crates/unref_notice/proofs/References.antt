@@ -8,8 +8,7 @@ use Rattle.dk_base.specs.declared.object.Obj.TheVariants as obj
 use Rattle.kernel_records.specs.Words.{count_object}
 use Rattle.unref_notice.specs.Counting.{place_in}
 use Rattle.unref_notice.specs.Words.{AreCounted, count_of}
-use Rattle.kernel_records.proofs.DoorNumbers.{at_number-set}
-use Rattle.kernel_records.proofs.Lists.{at_number-suc, numbered_past}
+use Rattle.kernel_records.proofs.Lists.{at_number-set, at_number-suc, numbered_past}
 
 -- the place of an object
 

@@ -9,8 +9,8 @@ use Rattle.dk_base.specs.ByNumber.{at_number}
 use Rattle.kernel_records.specs.Words.{numbers_where}
 use Rattle.unref_notice.specs.declared.counts.Count.{Count}
 use Rattle.unref_notice.specs.Counting.{IsTracked, is_touched_in, now_of, opening_of, touched_doors}
-use Rattle.kernel_records.proofs.DoorNumbers.{all-numbers_where, at_number-push, at_number-set, fewer-numbers_where, length-numbers_where, more-numbers_where, numbers_where-below, numbers_where-none, there-numbers_where}
-use Rattle.kernel_records.proofs.Lists.{at_number-map, at_number-suc, numbered_within}
+use Rattle.kernel_records.proofs.DoorNumbers.{all-numbers_where, fewer-numbers_where, length-numbers_where, more-numbers_where, numbers_where-below, numbers_where-none, there-numbers_where}
+use Rattle.kernel_records.proofs.Lists.{at_number-map, at_number-push, at_number-set, at_number-suc, numbered_within}
 
 -- what is read of counts of which one changes
 

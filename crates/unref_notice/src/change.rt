@@ -24,7 +24,7 @@ fn place_waiting(notices: &VecDeque<Notice>, n: u32) -> Option<usize>
 }
 
 /// The place of notice `n`, where it was given to the thread.
-pub fn place_given(notices: &VecDeque<Notice>, n: u32, t: Tid) -> Option<usize>
+fn place_given(notices: &VecDeque<Notice>, n: u32, t: Tid) -> Option<usize>
     ensures { result ≡ position (is_given_notice_as n t.0) notices.now.items }
 {
     notices.iter().position(|notice| is_given_as(notice, n, t))
