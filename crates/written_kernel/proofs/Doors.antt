@@ -1,10 +1,9 @@
 -- The list of doors after a change of one door, and the readers that see it.
-use Rattle.std.proofs.Common.{◌≡◌, ℕ, ◌==◌, Bool, true, false, if◌then◌else◌, ◌||◌, List, [], ◌∷◌, Option, None, Some, option_map, map, refl, sym, ap, ◌∙◌, arith}
-use Rattle.std.specs.List.{list_any}
+use Rattle.std.proofs.Common.{◌≡◌, ℕ, ◌==◌, Bool, true, false, if◌then◌else◌, List, [], Option, None, Some, option_map, map, refl, ap, ◌∙◌, arith}
 use Rattle.std.proofs.lemmas.Bool.Decides.{nat_tests}
 use Rattle.written_kernel.specs.Types.{Door}
 use Rattle.dk_base.specs.ByNumber.{at_number}
-use Rattle.kernel_records.specs.Words.{change_door, change_door_in, end_owner, has_common_door, is_common_of, revoke_door, revoked_door, with_owner_ended}
+use Rattle.kernel_records.specs.Words.{change_door, change_door_in, end_owner, with_owner_ended}
 use Rattle.kernel_records.proofs.Lists.{at_number-renumbered_there, map-map_same, map-with_at_number}
 
 -- a reader that does not see the change reads the same doors
@@ -32,14 +31,7 @@ at_number-change_door doors d k change = go (at_number doors d) refl
     go None e = there (k == d) refl e
     go (Some x) e = at_number-renumbered_there doors d k (change x) x e
 
--- the doors of a process: what a door was made as is the same after it is revoked, and after its owner ended
-
-list_any-map : {X : Type 0} (p : X → Bool) (xs : List X) → list_any p xs ≡ list_any (λ b. b) (map p xs)
-list_any-map p [] = refl
-list_any-map p (x ∷ xs) = ap (λ b. p x || b) (list_any-map p xs)
-
-pub list_any-same : {X : Type 0} (p : X → Bool) (xs ys : List X) → map p xs ≡ map p ys → list_any p xs ≡ list_any p ys
-list_any-same p xs ys e = list_any-map p xs ∙ ap (list_any (λ b. b)) e ∙ sym (list_any-map p ys)
+-- doors after their owner ended
 
 -- a reader that sees no end of an owner
 pub with_owner_ended-same :
@@ -55,11 +47,3 @@ pub map-end_owner :
     {Y : Type 0} (f : Door → Y) → ((x : Door) → f (record x { owner_ended = true }) ≡ f x) → (doors : List Door) (p : ℕ) →
     map f (end_owner doors p) ≡ map f doors
 map-end_owner f same doors p = map-map_same f (with_owner_ended p) (with_owner_ended-same f same p) doors
-
-pub has_common_door-revoke_door : (doors : List Door) (d p : ℕ) → has_common_door (revoke_door doors d) p ≡ has_common_door doors p
-has_common_door-revoke_door doors d p =
-    list_any-same (is_common_of p) (revoke_door doors d) doors (map-change_door (is_common_of p) doors d revoked_door (λ x. refl))
-
-pub has_common_door-end_owner : (doors : List Door) (q p : ℕ) → has_common_door (end_owner doors q) p ≡ has_common_door doors p
-has_common_door-end_owner doors q p =
-    list_any-same (is_common_of p) (end_owner doors q) doors (map-end_owner (is_common_of p) (λ x. refl) doors q)

@@ -1,16 +1,15 @@
 -- What becomes of each thread, and of the rest of a state, where idle threads that lost their doors fail.
-use Rattle.std.proofs.Common.{◌≡◌, ◌≤◌, ℕ, zero, suc, ◌==◌, ◌&&◌, Bool, true, false, not, if◌then◌else◌, nat_le, List, Option, None, Some, is_some, option_map, length, map, refl, sym, true≢false, ap, ap₂, ◌∙◌, arith}
+use Rattle.std.proofs.Common.{◌≡◌, ◌≤◌, ℕ, zero, suc, ◌==◌, ◌&&◌, Bool, true, false, not, if◌then◌else◌, nat_le, List, Option, None, Some, is_some, option_map, length, refl, sym, true≢false, ap, ap₂, ◌∙◌, arith}
 use Rattle.std.proofs.lemmas.Bool.Decides.{nat_tests}
-use Rattle.written_kernel.specs.Types.{Door, Thread}
+use Rattle.written_kernel.specs.Types.{Thread}
 use Rattle.kernel_records.specs.declared.record.ThreadState.TheVariants as is
-use Rattle.kernel_records.specs.Words.{NoticeList, ProcessTable, bound_at, bound_in, invocation_in, is_idle, is_valid_in, parked_at, parked_in, parked_thread, pool_of_thread, process_in, state_in, thread_at_state, unbind_thread}
+use Rattle.kernel_records.specs.Words.{bound_at, bound_in, is_idle, is_valid_in, state_in, thread_at_state, unbind_thread}
 use Rattle.dk_base.specs.ByNumber.{at_number}
-use Rattle.written_kernel.specs.Notices.{is_due, make_each, make_notices, make_one}
-use Rattle.written_kernel.specs.State.{State, bound_of, door_of, has_invalid_door, invocation_of, is_bound_to_invalid, process_of, state_of, thread_of}
-use Rattle.written_kernel.specs.Settle.{fail_each, fail_one, fail_return, fail_returns, give_and_start, has_lost_door, settle}
-use Rattle.kernel_records.proofs.Lists.{at_number-with_at_number, length-with_at_number, numbered_within, same_length}
-use Rattle.written_kernel.proofs.Settling.{KeptByFailing, fail_returns-all, fail_returns-alone, fail_returns-none, make_notices-alone, with_notice_of, with_threads}
-use Rattle.written_kernel.proofs.Threads.{map-change_thread, processes-change_thread, thread_at-change_thread}
+use Rattle.written_kernel.specs.State.{State, bound_of, has_invalid_door, is_bound_to_invalid, state_of, thread_of}
+use Rattle.written_kernel.specs.Settle.{fail_each, fail_one, fail_return, fail_returns, has_lost_door}
+use Rattle.kernel_records.proofs.Lists.{at_number-with_at_number, numbered_within}
+use Rattle.written_kernel.proofs.Settling.{fail_returns-alone}
+use Rattle.written_kernel.proofs.Threads.{thread_at-change_thread}
 
 -- whether a thread has lost its door
 
@@ -218,91 +217,10 @@ state_of-fail_returns m u = ap state_in (thread_of-fail_returns m u) ∙ go (has
     go true e = there (thread_of m u) (lost_is_idle m u e)
     go false e = refl
 
-pub is_idle-fail_returns :
-    (m : State) (u : ℕ) → is_idle (state_of (fail_returns m) u) ≡ (is_idle (state_of m u) && not (has_lost_door m u))
-is_idle-fail_returns m u = ap is_idle (state_of-fail_returns m u) ∙ go (has_lost_door m u)
-  where
-    none : (b : Bool) → false ≡ (b && false)
-    none true = refl
-    none false = refl
-
-    all : (b : Bool) → b ≡ (b && true)
-    all true = refl
-    all false = refl
-
-    go : (b : Bool) → is_idle (if b then is.FailedReturn else state_of m u) ≡ (is_idle (state_of m u) && not b)
-    go true = none (is_idle (state_of m u))
-    go false = all (is_idle (state_of m u))
-
--- a reader of a thread that sees no state
-pub read-fail_returns :
-    {Y : Type 0} (f : Option Thread → Y) → ((o : Option Thread) → f (option_map (thread_at_state is.FailedReturn) o) ≡ f o) → (m : State)
-    (u : ℕ) → f (thread_of (fail_returns m) u) ≡ f (thread_of m u)
-read-fail_returns f same m u = ap f (thread_of-fail_returns m u) ∙ go (has_lost_door m u)
-  where
-    go : (b : Bool) → f (failed_where b (thread_of m u)) ≡ f (thread_of m u)
-    go true = same (thread_of m u)
-    go false = refl
-
-pub invocation_of-fail_returns : (m : State) (u : ℕ) → invocation_of (fail_returns m) u ≡ invocation_of m u
-invocation_of-fail_returns m u = read-fail_returns invocation_in same m u
-  where
-    same : (o : Option Thread) → invocation_in (option_map (thread_at_state is.FailedReturn) o) ≡ invocation_in o
-    same None = refl
-    same (Some x) = refl
-
-pub process_of-fail_returns : (m : State) (u : ℕ) → process_of (fail_returns m) u ≡ process_of m u
-process_of-fail_returns m u = read-fail_returns process_in same m u
-  where
-    same : (o : Option Thread) → process_in (option_map (thread_at_state is.FailedReturn) o) ≡ process_in o
-    same None = refl
-    same (Some x) = refl
-
-pub map-fail_returns :
-    {Y : Type 0} (f : Thread → Y) → ((x : Thread) → f (thread_at_state is.FailedReturn x) ≡ f x) → (m : State) →
-    map f (fail_returns m).process_table.threads ≡ map f m.process_table.threads
-map-fail_returns f same m =
-    fail_returns-all (λ n. map f n.process_table.threads ≡ map f m.process_table.threads) one m refl
-  where
-    one : KeptByFailing (λ n. map f n.process_table.threads ≡ map f m.process_table.threads)
-    one n t l e = map-change_thread f n.process_table t (thread_at_state is.FailedReturn) same ∙ e
-
-pub threads-fail_returns : (m : State) → length (fail_returns m).process_table.threads ≡ length m.process_table.threads
-threads-fail_returns m =
-    same_length (λ (x : Thread). x.number) (fail_returns m).process_table.threads m.process_table.threads
-    (map-fail_returns (λ (x : Thread). x.number) (λ x. refl) m)
-
-pub bindings-fail_returns : (m : State) → length (fail_returns m).bindings ≡ length m.bindings
-bindings-fail_returns m = fail_returns-all (λ n. length n.bindings ≡ length m.bindings) one m refl
-  where
-    one : KeptByFailing (λ n. length n.bindings ≡ length m.bindings)
-    one n t l e = length-with_at_number n.bindings t None ∙ e
-
-pub processes-fail_returns : (m : State) → (fail_returns m).process_table.processes ≡ m.process_table.processes
-processes-fail_returns m = fail_returns-all (λ n. n.process_table.processes ≡ m.process_table.processes) one m refl
-  where
-    one : KeptByFailing (λ n. n.process_table.processes ≡ m.process_table.processes)
-    one n t l e = processes-change_thread n.process_table t (thread_at_state is.FailedReturn) ∙ e
-
 -- the rest of the state
 
 pub doors-fail_returns : (m : State) → (fail_returns m).doors ≡ m.doors
 doors-fail_returns m = ap (λ (n : State). n.doors) (fail_returns-alone m)
-
-pub call_tree-fail_returns : (m : State) → (fail_returns m).call_tree ≡ m.call_tree
-call_tree-fail_returns m = ap (λ (n : State). n.call_tree) (fail_returns-alone m)
-
-pub notice_list-fail_returns : (m : State) → (fail_returns m).notice_list ≡ m.notice_list
-notice_list-fail_returns m = ap (λ (n : State). n.notice_list) (fail_returns-alone m)
-
-pub tables-fail_returns : (m : State) → (fail_returns m).tables ≡ m.tables
-tables-fail_returns m = ap (λ (n : State). n.tables) (fail_returns-alone m)
-
-pub names-fail_returns : (m : State) → (fail_returns m).names ≡ m.names
-names-fail_returns m = ap (λ (n : State). n.names) (fail_returns-alone m)
-
-pub events-fail_returns : (m : State) → (fail_returns m).events ≡ m.events
-events-fail_returns m = ap (λ (n : State). n.events) (fail_returns-alone m)
 
 -- no thread has lost its door then
 
@@ -315,89 +233,3 @@ has_lost_door-fail_returns m u = go (has_lost_door m u) refl
         (state_of-fail_returns m u ∙ ap (λ b. if b then is.FailedReturn else state_of m u) e)
     go false e =
         has_lost_door-same (fail_returns m) m u (thread_of-not_failed m u e) (bound_of-not_failed m u e) (doors-fail_returns m) ∙ e
-
-pub fail_returns-fail_returns : (m : State) → fail_returns (fail_returns m) ≡ fail_returns m
-fail_returns-fail_returns m = fail_returns-none (fail_returns m) (has_lost_door-fail_returns m)
-
--- failing reads no notices, and making reads no threads
-
-fail_each-with_notices :
-    (m : State) (list : NoticeList) (n : ℕ) →
-    fail_each (record m { notice_list = list }) n ≡ record (fail_each m n) { notice_list = list }
-fail_each-with_notices m list zero = refl
-fail_each-with_notices m list (suc n) =
-    ap (λ k. fail_one k (suc n)) (fail_each-with_notices m list n)
-    ∙ go (fail_each m n) (has_lost_door (fail_each m n) (suc n))
-  where
-    go :
-        (k : State) (b : Bool) →
-        (if b then fail_return (record k { notice_list = list }) (suc n) else record k { notice_list = list })
-        ≡ record (if b then fail_return k (suc n) else k) { notice_list = list }
-    go k true = refl
-    go k false = refl
-
-pub fail_returns-with_notices :
-    (m : State) (list : NoticeList) → fail_returns (record m { notice_list = list }) ≡ record (fail_returns m) { notice_list = list }
-fail_returns-with_notices m list = fail_each-with_notices m list (length m.process_table.threads)
-
-make_each-with_threads :
-    (before m : State) (table : ProcessTable) (bindings : List (Option ℕ)) (n : ℕ) →
-    make_each before (with_threads m table bindings) n ≡ with_threads (make_each before m n) table bindings
-make_each-with_threads before m table bindings zero = refl
-make_each-with_threads before m table bindings (suc n) =
-    ap (λ k. make_one before k (suc n)) (make_each-with_threads before m table bindings n)
-    ∙ go (make_each before m n)
-  where
-    due :
-        (k : State) (o : Option Door) →
-        is_due before (with_threads k table bindings) (suc n) o ≡ is_due before k (suc n) o
-    due k None = refl
-    due k (Some x) = refl
-
-    chosen :
-        (k : State) (b : Bool) →
-        (if b then with_notice_of (with_threads k table bindings) (suc n) else with_threads k table bindings)
-        ≡ with_threads (if b then with_notice_of k (suc n) else k) table bindings
-    chosen k true = refl
-    chosen k false = refl
-
-    go :
-        (k : State) →
-        make_one before (with_threads k table bindings) (suc n) ≡ with_threads (make_one before k (suc n)) table bindings
-    go k =
-        ap (λ c. if c then with_notice_of (with_threads k table bindings) (suc n) else with_threads k table bindings)
-        (due k (door_of k (suc n)))
-        ∙ chosen k (is_due before k (suc n) (door_of k (suc n)))
-
-pub make_notices-fail_returns : (before m : State) → make_notices before (fail_returns m) ≡ fail_returns (make_notices before m)
-make_notices-fail_returns before m =
-    ap (make_notices before) (fail_returns-alone m)
-    ∙ make_each-with_threads before m (fail_returns m).process_table (fail_returns m).bindings (length m.doors)
-    ∙ ap (λ k. with_threads k (fail_returns m).process_table (fail_returns m).bindings) (make_notices-alone before m)
-    ∙ ap {A = State} {B = State} (λ k. record k { notice_list = (make_notices before m).notice_list }) (sym (fail_returns-alone m))
-    ∙ sym (fail_returns-with_notices m (make_notices before m).notice_list)
-    ∙ ap fail_returns (sym (make_notices-alone before m))
-
--- so it comes to the same to fail them first
-pub settle-fail_returns : (before m : State) → settle before (fail_returns m) ≡ settle before m
-settle-fail_returns before m =
-    ap (λ k. give_and_start before (fail_returns k)) (make_notices-fail_returns before m)
-    ∙ ap (give_and_start before) (fail_returns-fail_returns (make_notices before m))
-
--- who is parked: those that keep their doors
-
-pub parked_at-fail_returns :
-    (m : State) (u : ℕ) →
-    parked_at (fail_returns m).process_table (fail_returns m).bindings u
-    ≡ (if has_lost_door m u then None else parked_at m.process_table m.bindings u)
-parked_at-fail_returns m u =
-    ap (parked_thread (fail_returns m).bindings u) (thread_of-fail_returns m u)
-    ∙ go (has_lost_door m u) (thread_of m u) (bound_of-fail_returns m u)
-  where
-    go :
-        (c : Bool) (o : Option Thread) → bound_of (fail_returns m) u ≡ bound_where c (bound_of m u) →
-        parked_thread (fail_returns m).bindings u (failed_where c o) ≡ (if c then None else parked_thread m.bindings u o)
-    go true None e = refl
-    go true (Some x) e = refl
-    go false None e = refl
-    go false (Some x) e = ap (λ b. parked_in u (pool_of_thread x b) x.state) e

@@ -2,6 +2,7 @@
 -- of them: what a step gives is the same.
 use Rattle.std.proofs.Common.{◌≡◌, ℕ, zero, suc, Bool, true, false, if◌then◌else◌, List, [], ◌∷◌, Option, None, Some, is_some, ◌++◌, flat_map, length, map, filter, unwrap_or, not, nat_lt, ◌==◌, ◌&&◌, ◌||◌, refl, sym, subst, true≢false, ap, ap₂, ◌∙◌}
 use Rattle.std.specs.Option.{option_map_or}
+use Rattle.kernel_records.proofs.KeptLists.{count_by-kept, filter-kept, find-kept}
 use Rattle.written_kernel.specs.Types.{Answer, Call, Door, Errno, Fd, Item, Name, Notice, Obj, Parked, Pass, PathId, Pool, Request, Stepped, Thread, ThreadState, Waiting}
 use Rattle.dk_base.specs.ByNumber.{at_number}
 use Rattle.dk_base.specs.declared.answer.Answer.TheVariants as answer
@@ -9,19 +10,19 @@ use Rattle.dk_base.specs.declared.object.Item.TheVariants as item
 use Rattle.dk_base.specs.declared.object.Obj.TheVariants as obj
 use Rattle.dk_base.specs.declared.request.Request.TheVariants as request
 use Rattle.kernel_records.specs.declared.record.ThreadState.TheVariants as is
-use Rattle.kernel_records.specs.Words.{CallTree, Leaving, NoticeList, ProcessTable, collect_call, end_process, first_refusal, give_call, give_notice, has_many, has_notice, has_unref_multi, interruption, is_client_call_of, is_given_as, is_given_notice_as, is_last, is_queued_call, is_queued_in, is_served_by, is_to_collect_as, info_in, is_valid_door, is_waiting_notice, kept_notices, left_calls, left_notices, left_thread, left_thread_of, left_threads, live_calls, objects_of, objects_passed, pid, process_end, revocation, set_thread_state, takes_notices, thread_end, waiting_call, waiting_notice, with_notices}
+use Rattle.kernel_records.specs.Words.{CallTree, Leaving, NoticeList, ProcessTable, collect_call, end_process, first_refusal, give_call, give_notice, has_many, has_notice, has_unref_multi, info_in, interruption, is_client_call_of, is_given_as, is_given_notice_as, is_kept_notice, is_last, is_live_call, is_queued_call, is_queued_in, is_served_by, is_to_collect_as, is_valid_door, is_waiting_notice, kept_notices, left_calls, left_notices, left_thread, left_thread_of, left_threads, live_calls, objects_of, objects_passed, pid, process_end, revocation, set_thread_state, takes_notices, thread_end, waiting_call, waiting_notice, with_notices}
 use Rattle.written_kernel.specs.Step.{step}
-use Rattle.written_kernel.specs.Words.{ActResult, IsStep, StandsFor, State, Step, accept, accept_call, accept_notice, act, await, await_name, begin_call, begin_notice, bound_of, call, calls_waiting, caller_in, caller_of, can_go_on, client_call, client_process, collect, collect_answer_in, create, credentials, door_at, door_named, door_of, effect, enter, tests_of, exit, fail_begin, fail_each, fail_one, fail_return, fail_returns, falls_to_one, find_call, find_notice, forget, give, give_and_start, give_each, give_one, give_to, go_on, has_invalid_door, has_lost_door, has_room, holdings, information_of, interrupt, invocation_of, is_due, is_live_process, is_runnable, is_running, kill, leave, leave_process, leave_thread, make_each, make_notices, make_one, may_have_notice, name_of, named_object, needs_spare, new_call, now, no_act, object_at, objects_collected_in, pick, pool_of, process_of, reference_count, refs, refusal_of, return, return_parked, return_unbound, revoke, root, served_by, set_parameter, settle, start_each, start_one, start_spares, state_of, step_after, table_of, tables_after_collect, unless_refused, waiting_items, walk, with_event_counted, woken_among, woken_threads}
-use Rattle.written_kernel.proofs.CallLists.{HaveSameLive, IsOfLiveCalls, client_is_live, collect_call-live, count_by-live, enter_call-live, fail_call-live, filter-live, find-live, give_call-live, given_as_is_live, left_calls-live, live_calls-live, objects-live, open_call-live, queued_call_is_live, queued_in_is_live, ready_as_is_live, return_call-live, served_is_live}
+use Rattle.written_kernel.specs.Words.{ActResult, IsStep, StandsFor, State, Step, accept, accept_call, accept_notice, act, await, await_name, begin_call, begin_notice, bound_of, call, calls_waiting, caller_in, caller_of, can_go_on, client_call, client_process, collect, collect_answer_in, create, credentials, door_at, door_named, door_of, effect, enter, tests_of, exit, fail_begin, fail_each, fail_one, fail_return, fail_returns, falls_to_one, find_call, find_notice, forget, give, give_and_start, give_each, give_one, give_to, go_on, has_invalid_door, has_lost_door, has_room, holdings, information_of, interrupt, is_due, is_live_process, is_runnable, kill, leave, leave_process, leave_thread, make_each, make_notices, make_one, may_have_notice, name_of, named_object, needs_spare, new_call, now, no_act, object_at, objects_collected_in, pick, pool_of, process_of, reference_count, refs, refusal_of, return, return_parked, return_unbound, revoke, root, served_by, set_parameter, settle, start_each, start_one, start_spares, state_of, step_after, table_of, tables_after_collect, unless_refused, waiting_items, walk, with_event_counted, woken_among, woken_threads}
+use Rattle.written_kernel.proofs.CallLists.{HaveSameLive, IsOfLiveCalls, client_is_live, collect_call-live, enter_call-live, fail_call-live, give_call-live, given_as_is_live, left_calls-live, live_calls-live, objects-live, open_call-live, queued_call_is_live, queued_in_is_live, ready_as_is_live, return_call-live, served_is_live}
 use Rattle.kernel_records.proofs.Lists.{Extends, map-same}
-use Rattle.written_kernel.proofs.NoticeLists.{HaveSameKept, IsOfPresentNotices, KeepsMany, end_notice-kept, enter_notice-kept, filter-kept, find-kept, give_notice-kept, given_notice_is_present, has_notice-kept, keeps_many_same, kept_notices-kept, kept_notices-later, left_notices-kept, make_notice-kept, present_is_kept, waiting_is_present}
+use Rattle.written_kernel.proofs.NoticeLists.{HaveSameKept, IsOfPresentNotices, KeepsMany, end_notice-kept, enter_notice-kept, give_notice-kept, given_notice_is_present, has_notice-kept, keeps_many_same, kept_notices-kept, kept_notices-later, left_notices-kept, make_notice-kept, present_is_kept, waiting_is_present}
 use Rattle.written_kernel.proofs.Settling.{with_notice_of}
-use Rattle.written_kernel.proofs.Steps.{DoorIdentity, IsSameDoor, act-keeps, create-keeps, door-extends, door_identity, leave_process-keeps, revoke-keeps, set_param-keeps}
+use Rattle.written_kernel.proofs.Steps.{DoorIdentity, IsSameDoor, create-keeps, door-extends, door_identity, leave_process-keeps, revoke-keeps, set_param-keeps}
 
 -- The readers of calls. What reads none is the same by its form.
 
 pub find_call-forget : (m : State) (test : Call → Bool) → IsOfLiveCalls test → find_call (forget m) test ≡ find_call m test
-find_call-forget m test only_live = find-live test only_live m.call_tree.calls
+find_call-forget m test only_live = find-kept is_live_call test only_live m.call_tree.calls
 
 pub client_call-forget : (m : State) (t : ℕ) → client_call (forget m) t ≡ client_call m t
 client_call-forget m t = find_call-forget m (is_client_call_of t) (client_is_live t)
@@ -30,17 +31,17 @@ pub served_by-forget : (m : State) (t : ℕ) → served_by (forget m) t ≡ serv
 served_by-forget m t = find_call-forget m (is_served_by t) (served_is_live t)
 
 pub calls_waiting-forget : (m : State) (pool : Pool) → calls_waiting (forget m) pool ≡ calls_waiting m pool
-calls_waiting-forget m pool = count_by-live (is_queued_in m.doors pool) (queued_in_is_live m.doors pool) m.call_tree.calls
+calls_waiting-forget m pool = count_by-kept is_live_call (is_queued_in m.doors pool) (queued_in_is_live m.doors pool) m.call_tree.calls
 
 pub find_notice-forget : (m : State) (test : Notice → Bool) → IsOfPresentNotices test → find_notice (forget m) test ≡ find_notice m test
-find_notice-forget m test only = find-kept m.doors test (present_is_kept m.doors test only) m.notice_list.notices
+find_notice-forget m test only = find-kept (is_kept_notice m.doors) test (present_is_kept m.doors test only) m.notice_list.notices
 
 pub waiting_items-forget : (m : State) → waiting_items (forget m) ≡ waiting_items m
 waiting_items-forget m =
     ap₂
     (λ xs ns. with_notices (map waiting_call xs) (map waiting_notice ns))
-    (filter-live is_queued_call queued_call_is_live m.call_tree.calls)
-    (filter-kept m.doors is_waiting_notice (present_is_kept m.doors is_waiting_notice waiting_is_present) m.notice_list.notices)
+    (filter-kept is_live_call is_queued_call queued_call_is_live m.call_tree.calls)
+    (filter-kept (is_kept_notice m.doors) is_waiting_notice (present_is_kept m.doors is_waiting_notice waiting_is_present) m.notice_list.notices)
 
 -- a call that is forgotten held no object
 
@@ -53,9 +54,6 @@ refs-forget m o = ap (filter _) (holdings-forget m)
 client_process-forget : (m : State) (o : Option Call) → client_process (forget m) o ≡ client_process m o
 client_process-forget m None = refl
 client_process-forget m (Some r) = refl
-
-pub pick-forget : (m : State) (pool : Pool) → pick (forget m) pool ≡ pick m pool
-pick-forget m pool = refl
 
 -- turns
 
@@ -157,9 +155,6 @@ keeps_many-extends doors later h d e = go (at_number doors d) refl e
         let y : IsSameDoor x (at_number later d) = door-extends doors later d x h f in
         ap has_many y.there ∙ ap (λ (i : DoorIdentity). has_unref_multi i.attrs) y.identity ∙ e
 
-pub keeps_many-act : (m : State) (t : ℕ) (r : Option Request) → KeepsMany m.doors (act m t r).state.doors
-keeps_many-act m t r = keeps_many-extends m.doors (act m t r).state.doors (act-keeps m t r).doors
-
 -- what is kept of the notices of a state
 same_notices : (m : State) → HaveSameKept m.doors (forget m).notice_list m.notice_list
 same_notices m = kept_notices-kept m.doors m.notice_list
@@ -177,7 +172,7 @@ pub left_thread_of-forget :
     (m : State) (who : Leaving) (n : ℕ) (x : Thread) →
     left_thread_of who n (forget m).call_tree.calls x ≡ left_thread_of who n m.call_tree.calls x
 left_thread_of-forget m who n x =
-    ap (λ served. left_thread who n served x) (find-live (is_served_by x.number) (served_is_live x.number) m.call_tree.calls)
+    ap (λ served. left_thread who n served x) (find-kept is_live_call (is_served_by x.number) (served_is_live x.number) m.call_tree.calls)
 
 pub left_threads-forget :
     (m : State) (who : Leaving) (n : ℕ) (table : ProcessTable) →
@@ -490,9 +485,6 @@ make_notices-forget before m = make_each-forget before m (length m.doors)
 
 -- failing and starting read no calls and no notices
 
-pub has_lost_door-forget : (m : State) (t : ℕ) → has_lost_door (forget m) t ≡ has_lost_door m t
-has_lost_door-forget m t = refl
-
 fail_each-forget : (m : State) (n : ℕ) → fail_each (forget m) n ≡ forget (fail_each m n)
 fail_each-forget m zero = refl
 fail_each-forget m (suc n) =
@@ -584,17 +576,3 @@ pub IsStep-stands_for :
     IsStep (step kept t r) new stepped → IsStep (step m t r) new stepped
 IsStep-stands_for kept m t r new stepped e h =
     IsStep-forget m t r new stepped (subst (λ n. IsStep (step n t r) new stepped) e h)
-
--- readers of threads see no calls
-
-pub threads-forget : (m : State) → length (forget m).process_table.threads ≡ length m.process_table.threads
-threads-forget m = refl
-
-pub state_of-forget : (m : State) (t : ℕ) → state_of (forget m) t ≡ state_of m t
-state_of-forget m t = refl
-
-pub invocation_of-forget : (m : State) (t : ℕ) → invocation_of (forget m) t ≡ invocation_of m t
-invocation_of-forget m t = refl
-
-pub is_running-forget : (m : State) (t : ℕ) → is_running (forget m) t ≡ is_running m t
-is_running-forget m t = refl

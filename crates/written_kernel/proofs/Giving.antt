@@ -1,105 +1,42 @@
 -- Once a kernel has settled, nothing waits in a pool that has an idle thread.
-use Rattle.std.proofs.Common.{◌≡◌, ◌≤◌, ℕ, zero, suc, ◌==◌, ◌&&◌, Bool, true, false, if◌then◌else◌, nat_le, List, [], ◌∷◌, Option, None, Some, option_map, slice_get, length, filter, count_by, refl, sym, subst, eq-or-lt_of_le, true≢false, ap, ◌∙◌, ◌⊎◌, inl, inr, ⊎_elim, arith}
+use Rattle.std.proofs.Common.{◌≡◌, ◌+◌, ◌≤◌, ℕ, zero, suc, ◌==◌, ◌&&◌, Bool, true, false, if◌then◌else◌, nat_le, List, [], ◌∷◌, Option, None, Some, option_map, length, filter, count_by, refl, sym, subst, eq-or-lt_of_le, ap, ◌∙◌, ◌⊎◌, inl, inr, ⊎_elim, arith}
 use Rattle.std.specs.List.{All}
 use Rattle.std.proofs.lemmas.Bool.Decides.{nat_tests}
 use Rattle.std.proofs.lemmas.List.Sums.{length-filter}
 use Rattle.std.proofs.lemmas.List.Elements.{All-nil, All-cons}
-use Rattle.written_kernel.specs.Types.{Call, CallStage, Item, Notice, Parked, Pool, Thread, Waiting}
+use Rattle.kernel_records.proofs.NumberedLists.{ascending-change_first, ascending-push}
+use Rattle.written_kernel.specs.Types.{Call, Item, Notice, Parked, Pool, Thread, Waiting}
 use Rattle.dk_base.specs.declared.object.Item.TheVariants as item
 use Rattle.kernel_records.specs.declared.pool.Pool.TheVariants.{Common, Private}
 use Rattle.kernel_records.specs.declared.record.ThreadState.TheVariants as is
 use Rattle.kernel_records.specs.declared.record.CallStage.TheVariants as stage
-use Rattle.dk_base.specs.ByNumber.{at_number}
-use Rattle.kernel_records.specs.Words.{CallTree, ProcessTable, at_stage, better_parked, change_first, give_thread, is_live, is_live_call, is_pool, is_queued, is_queued_as, is_queued_in, is_waiting_notice, later_parked, parked_at, parked_thread, pick_among, pick_parked, thread_at, tid, thread_at_state, waiting_call}
+use Rattle.kernel_records.specs.declared.record.NoticeStage.TheVariants as notice
+use Rattle.kernel_records.specs.Words.{CallTree, IsAscending, NoticeList, ProcessTable, at_stage, better_parked, call_number, give_thread, is_pool, is_queued, is_queued_as, is_queued_call, is_queued_in, is_waiting_notice, is_waiting_notice_as, later_parked, new_notice, notice_at, notice_number, parked_at, parked_thread, pick_among, pick_parked, thread_at, thread_at_state, tid, waiting_call}
 use Rattle.written_kernel.specs.State.{State, calls_waiting, pick, pool_of, waiting_items, now}
 use Rattle.written_kernel.specs.Notices.{make_notices}
 use Rattle.written_kernel.specs.Settle.{fail_returns, give, give_and_start, give_each, give_one, give_to, settle, start_spares}
 use Rattle.written_kernel.proofs.Settling.{KeptByMaking, fail_returns-alone, make_notices-all, pick-start_spares, start_spares-alone}
-use Rattle.written_kernel.proofs.NoticeLists.{AreAscending, ascending-give_notice, ascending-make_notice, notice_gone, notice_stays}
 use Rattle.written_kernel.proofs.Threads.{map-change_thread, thread_at-change_thread}
-use Rattle.kernel_records.proofs.Lists.{at_number-suc, numbered_within, same_length}
-use Rattle.written_kernel.proofs.Places.{place_of}
+use Rattle.kernel_records.proofs.Lists.{numbered_within, same_length}
 pub use Rattle.written_kernel.proofs.Places.{IsIn}
 use Rattle.written_kernel.proofs.Waits.{IsWaiting, Passes, from_filter, from_waits, in_waits-notice}
 pub use Rattle.written_kernel.proofs.Waits.{in_waits}
+use Rattle.written_kernel.proofs.GivenLists.{given_gone, given_stays}
 
--- a queued call of this number stands in the list
-pub record HasQueued (rs : List Call) (c : ℕ) (r : Call) : Type 0 where
-  pub is_in : IsIn r rs
-  pub queued : is_queued r.stage ≡ true
-  pub number : r.number ≡ c
+-- the numbers of calls go up, and those of notices, and none is above how many were made: so it is where each has that of its
+-- place, and still where some are forgotten
 
--- no queued call stands after a live call of its number
-abbrev pub IsApart : List Call → Type 0
-IsApart [] = Unit {0}
-IsApart (q ∷ qs) = ((r : Call) → is_live_call q ≡ true → HasQueued qs q.number r → ⊥) × IsApart qs
+abbrev pub AreCallsAscending : CallTree → Type 0
+AreCallsAscending tree = IsAscending call_number 0 tree.made tree.calls
 
--- the calls after a queued one was given to a thread
+abbrev pub AreNoticesAscending : NoticeList → Type 0
+AreNoticesAscending list = IsAscending notice_number 0 list.made list.notices
 
-abbrev given : ℕ → Call → Call
-given u r = at_stage (stage.Given (tid u)) r
+abbrev given_call : ℕ → Call → Call
+given_call u r = at_stage (stage.Given (tid u)) r
 
-abbrev given_calls : ℕ → ℕ → List Call → List Call
-given_calls c u rs = change_first (is_queued_as c) (given u) rs
-
-given_not_queued : (u : ℕ) (r y : Call) → r ≡ given u y → is_queued r.stage ≡ true → ⊥
-given_not_queued u r y e q = true≢false (sym q ∙ ap (λ (z : Call). is_queued z.stage) e)
-
-queued_lives : (s : CallStage) → is_queued s ≡ true → is_live s ≡ true
-queued_lives stage.Queued e = refl
-queued_lives _ e = cc
-
-queued_as : (c : ℕ) (r : Call) → is_queued_as c r ≡ true → (r.number ≡ c) × (is_queued r.stage ≡ true)
-queued_as c r e = (grind (arith, nat_tests), grind (arith, nat_tests))
-
-is_queued_there : (c : ℕ) (r : Call) → is_queued r.stage ≡ true → r.number ≡ c → is_queued_as c r ≡ true
-is_queued_there c r q e = grind (arith, nat_tests)
-
-queued_stays : (rs : List Call) (c u : ℕ) (r : Call) → is_queued r.stage ≡ true → IsIn r (given_calls c u rs) → IsIn r rs
-queued_stays [] c u r q h = h
-queued_stays (y ∷ ys) c u r q h = go (is_queued_as c y) (queued_stays ys c u r q) h
-  where
-    go :
-        (b : Bool) → (IsIn r (given_calls c u ys) → IsIn r ys) → IsIn r (if b then given u y ∷ ys else y ∷ given_calls c u ys) →
-        IsIn r (y ∷ ys)
-    go true ih (inl e) = absurd (given_not_queued u r y e q)
-    go true ih (inr k) = inr k
-    go false ih (inl e) = inl e
-    go false ih (inr k) = inr (ih k)
-
--- none of its number is queued then
-none_queued :
-    (rs : List Call) (c u : ℕ) (r : Call) → IsApart rs → is_queued r.stage ≡ true → r.number ≡ c → IsIn r (given_calls c u rs) → ⊥
-none_queued [] c u r a q e h = h
-none_queued (y ∷ ys) c u r a q e h = go (is_queued_as c y) refl (none_queued ys c u r a.1 q e) h
-  where
-    go :
-        (b : Bool) → is_queued_as c y ≡ b → (IsIn r (given_calls c u ys) → ⊥) →
-        IsIn r (if b then given u y ∷ ys else y ∷ given_calls c u ys) → ⊥
-    go true f ih (inl k) = given_not_queued u r y k q
-    go true f ih (inr k) =
-        let z : (y.number ≡ c) × (is_queued y.stage ≡ true) = queued_as c y f in
-        a.0 r (queued_lives y.stage z.1) (record { is_in = k; queued = q; number = e ∙ sym z.0 })
-    go false f ih (inl k) =
-        true≢false (sym (is_queued_there c r q e) ∙ ap (is_queued_as c) k ∙ f)
-    go false f ih (inr k) = ih k
-
-still_apart : (rs : List Call) (c u : ℕ) → IsApart rs → IsApart (given_calls c u rs)
-still_apart [] c u a = a
-still_apart (y ∷ ys) c u a = go (is_queued_as c y) refl (still_apart ys c u a.1)
-  where
-    go : (b : Bool) → is_queued_as c y ≡ b → IsApart (given_calls c u ys) → IsApart (if b then given u y ∷ ys else y ∷ given_calls c u ys)
-    go true k ih = (
-      λ r l h.
-          a.0 r (queued_lives y.stage (queued_as c y k).1)
-          (record { is_in = h.is_in; queued = h.queued; number = h.number }),
-      a.1,
-    )
-    go false k ih = (
-      λ r l h.
-          a.0 r l (record { is_in = queued_stays ys c u r h.queued h.is_in; queued = h.queued; number = h.number }),
-      ih,
-    )
+abbrev given_notice : ℕ → Notice → Notice
+given_notice u n = notice_at (notice.Given (tid u)) n
 
 -- idle threads get fewer
 
@@ -195,14 +132,14 @@ give_one-pick m (item.Notice n) u pool e =
 call_stays :
     (m : State) (i : Item) (u : ℕ) (r : Call) → is_queued r.stage ≡ true → IsIn r (give_one m i u).call_tree.calls →
     IsIn r m.call_tree.calls
-call_stays m (item.Call c) u r q h = queued_stays m.call_tree.calls c u r q h
+call_stays m (item.Call c) u r q h = given_stays call_number is_queued_call (given_call u) (λ x. refl) c m.call_tree.calls r q h
 call_stays m (item.Notice n) u r q h = h
 
 waiting_notice_stays :
     (m : State) (i : Item) (u : ℕ) (n : Notice) → is_waiting_notice n ≡ true → IsIn n (give_one m i u).notice_list.notices →
     IsIn n m.notice_list.notices
 waiting_notice_stays m (item.Call c) u n q h = h
-waiting_notice_stays m (item.Notice k) u n q h = notice_stays m.notice_list.notices k u n q h
+waiting_notice_stays m (item.Notice k) u n q h = given_stays notice_number is_waiting_notice (given_notice u) (λ x. refl) k m.notice_list.notices n q h
 
 item_stays : (m : State) (i : Item) (u : ℕ) (v : Waiting) → IsIn v (waiting_items (give_one m i u)) → IsIn v (waiting_items m)
 item_stays m i u v h = go (from_waits (give_one m i u) v h)
@@ -217,14 +154,23 @@ item_stays m i u v h = go (from_waits (give_one m i u) v h)
 -- some of the items, which are in order as far as they go
 module _ (Asked : Item → Type 0) where
   record IsDistinct (m : State) : Type 0 where
-    calls : IsApart m.call_tree.calls
-    notices : (n : ℕ) → Asked (item.Notice n) → AreAscending m.notice_list
+    calls : AreCallsAscending m.call_tree
+    notices : (n : ℕ) → Asked (item.Notice n) → AreNoticesAscending m.notice_list
 
   given_distinct : (m : State) (i : Item) (u : ℕ) → IsDistinct m → IsDistinct (give_one m i u)
   given_distinct m (item.Call c) u h =
-      record { calls = still_apart m.call_tree.calls c u h.calls; notices = h.notices }
+      record {
+        calls = ascending-change_first call_number (given_call u) (λ x. refl) (is_queued_as c) m.call_tree.calls 0 m.call_tree.made h.calls;
+        notices = h.notices;
+      }
   given_distinct m (item.Notice n) u h =
-      record { calls = h.calls; notices = λ k a. ascending-give_notice m.notice_list n u (h.notices k a) }
+      record {
+        calls = h.calls;
+        notices =
+            λ k a.
+            ascending-change_first notice_number (given_notice u) (λ x. refl) (is_waiting_notice_as n) m.notice_list.notices 0
+            m.notice_list.made (h.notices k a);
+      }
 
   -- what was given waits no more
   item_gone :
@@ -233,10 +179,10 @@ module _ (Asked : Item → Type 0) where
     where
       go : IsWaiting (give_one m v.item u) v → ⊥
       go (inl (r, k)) =
-          none_queued m.call_tree.calls r.number u r h.calls k.queued refl
+          given_gone call_number is_queued_call (given_call u) (λ x. refl) r.number 0 m.call_tree.made m.call_tree.calls r h.calls k.queued refl
           (subst (λ (w : Waiting). IsIn r (give_one m w.item u).call_tree.calls) k.same k.is_in)
       go (inr (n, k)) =
-          notice_gone 0 m.notice_list.made m.notice_list.notices n.number u n
+          given_gone notice_number is_waiting_notice (given_notice u) (λ x. refl) n.number 0 m.notice_list.made m.notice_list.notices n
           (h.notices n.number (subst (λ (w : Waiting). Asked w.item) k.same a))
           k.waiting refl
           (subst (λ (w : Waiting). IsIn n (give_one m w.item u).notice_list.notices) k.same k.is_in)
@@ -311,9 +257,9 @@ failed_distinct :
     (Asked : Item → Type 0) (m : State) → IsDistinct Asked m → IsDistinct Asked (fail_returns m)
 failed_distinct Asked m h =
     record {
-      calls = subst (λ (tree : CallTree). IsApart tree.calls) (sym (failed_same m).0) h.calls;
+      calls = subst AreCallsAscending (sym (failed_same m).0) h.calls;
       notices =
-          λ n a. subst AreAscending (sym (failed_same m).1) (h.notices n a);
+          λ n a. subst AreNoticesAscending (sym (failed_same m).1) (h.notices n a);
     }
 
 -- and a notice that is made has a number of its own
@@ -323,7 +269,7 @@ made_distinct Asked before m h = make_notices-all (IsDistinct Asked) before one 
   where
     one : KeptByMaking (IsDistinct Asked) before
     one n d due k =
-        record { calls = k.calls; notices = λ c a. ascending-make_notice n.notice_list (now n) d (k.notices c a) }
+        record { calls = k.calls; notices = λ c a. ascending-push notice_number n.notice_list.notices 0 n.notice_list.made (new_notice (n.notice_list.made + 1) (now n) d) (omega arith) refl (k.notices c a) }
 
 -- spares that start leave what waits, and what each pool has
 started_items : (before ungiven given : State) → waiting_items (start_spares before ungiven given) ≡ waiting_items given
@@ -351,7 +297,7 @@ settled_out Asked before m h v a k =
     v a k
 
 pub no_idle_for :
-    (before m : State) → IsApart m.call_tree.calls → (r : Call) → is_queued r.stage ≡ true →
+    (before m : State) → AreCallsAscending m.call_tree → (r : Call) → is_queued r.stage ≡ true →
     IsIn r (settle before m).call_tree.calls → pick (settle before m) (pool_of (settle before m) r.door) ≡ None
 no_idle_for before m a r q h =
     settled_out IsCall before m (record { calls = a; notices = λ n none. absurd none }) (waiting_call r) tt
@@ -359,7 +305,7 @@ no_idle_for before m a r q h =
 
 -- where the numbers of notices ascend, that holds of all that waits
 pub no_idle_for-item :
-    (before m : State) → IsApart m.call_tree.calls → AreAscending m.notice_list → (v : Waiting) →
+    (before m : State) → AreCallsAscending m.call_tree → AreNoticesAscending m.notice_list → (v : Waiting) →
     IsIn v (waiting_items (settle before m)) → pick (settle before m) (pool_of (settle before m) v.door) ≡ None
 no_idle_for-item before m a o v h = settled_out (λ i. Unit {0}) before m (record { calls = a; notices = λ n u. o }) v tt h
 
@@ -368,7 +314,7 @@ All-from_in P [] h = All-nil P
 All-from_in P (x ∷ xs) h = All-cons P x xs (h x (inl refl)) (All-from_in P xs (λ y k. h y (inr k)))
 
 pub all_given_out :
-    (before m : State) → IsApart m.call_tree.calls → AreAscending m.notice_list →
+    (before m : State) → AreCallsAscending m.call_tree → AreNoticesAscending m.notice_list →
     All (λ w. pick (settle before m) (pool_of (settle before m) w.door) ≡ None) (waiting_items (settle before m))
 all_given_out before m a o =
     All-from_in (λ w. pick (settle before m) (pool_of (settle before m) w.door) ≡ None) (waiting_items (settle before m))
@@ -391,7 +337,7 @@ same_pool (Common p) (Private q) e = cc
 same_pool (Private p) (Common q) e = cc
 
 pub no_pool_has_both :
-    (before m : State) → IsApart m.call_tree.calls → (pool : Pool) →
+    (before m : State) → AreCallsAscending m.call_tree → (pool : Pool) →
     (calls_waiting (settle before m) pool ≡ 0) ⊎ (pick (settle before m) pool ≡ None)
 no_pool_has_both before m a pool = go (settle before m) (no_idle_for before m a)
   where
@@ -414,40 +360,6 @@ no_pool_has_both before m a pool = go (settle before m) (no_idle_for before m a)
             ap (pick n)
             (same_pool pool (pool_of n r.door) (second (is_queued r.stage) (is_pool pool (pool_of n r.door)) k.passes))
             ∙ none r (first (is_queued r.stage) (is_pool pool (pool_of n r.door)) k.passes) k.is_in
-
--- where the number of each queued call is that of no other live call
-
-pub record HasUniqueNumbers (rs : List Call) : Type 0 where
-  pub same :
-      (i j : ℕ) (r q : Call) → slice_get rs i ≡ Some r → slice_get rs j ≡ Some q → is_queued r.stage ≡ true →
-      is_live_call q ≡ true → q.number ≡ r.number → i ≡ j
-
-pub IsApart-from_unique : (rs : List Call) → HasUniqueNumbers rs → IsApart rs
-IsApart-from_unique [] h = tt
-IsApart-from_unique (q ∷ qs) h = (
-  λ r l k.
-      let p : (i : ℕ) × (slice_get qs i ≡ Some r) = place_of r qs k.is_in in
-      let same : suc p.0 ≡ 0 = h.same (suc p.0) 0 r q p.1 refl k.queued l (sym k.number) in
-      absurd (omega arith),
-  IsApart-from_unique qs
-      (record {
-        same =
-            λ i j r x e f a l n.
-            let same : suc i ≡ suc j = h.same (suc i) (suc j) r x e f a l n in omega arith;
-      }),
-)
-
--- where the call at each place has the place's number
-pub HasUniqueNumbers-from_places :
-    (rs : List Call) → ((k : ℕ) (r : Call) → at_number rs k ≡ Some r → r.number ≡ k) → HasUniqueNumbers rs
-HasUniqueNumbers-from_places rs h =
-    record {
-      same =
-          λ i j r q e f a l n.
-          let x : r.number ≡ suc i = h (suc i) r (at_number-suc rs i ∙ e) in
-          let y : q.number ≡ suc j = h (suc j) q (at_number-suc rs j ∙ f) in
-          omega arith;
-    }
 
 -- whatever is idle in a pool would be picked
 

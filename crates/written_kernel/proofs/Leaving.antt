@@ -1,13 +1,13 @@
 -- The states after a leaving: its threads, its calls and its notices, each from the same before it.
-use Rattle.std.proofs.Common.{◌≡◌, ℕ, Bool, true, false, if◌then◌else◌, List, Option, None, Some, option_map, length, map, refl, ap, ◌∙◌}
+use Rattle.std.proofs.Common.{◌≡◌, ℕ, Bool, true, false, if◌then◌else◌, List, length, map, refl, ap, ◌∙◌}
 use Rattle.std.proofs.lemmas.List.{length-map}
 use Rattle.written_kernel.specs.Types.{Notice, NoticeStage, Thread}
 use Rattle.kernel_records.specs.declared.record.NoticeStage.TheVariants as notice
-use Rattle.kernel_records.specs.Words.{Leaving, left_call, left_notice, left_notice_at, left_thread_of, process_end, process_in, revocation}
-use Rattle.written_kernel.specs.State.{State, now, process_of, thread_of}
+use Rattle.kernel_records.specs.Words.{Leaving, left_call, left_notice, left_notice_at, left_thread_of, process_end}
+use Rattle.written_kernel.specs.State.{State, now}
 use Rattle.written_kernel.specs.Leaving.{leave, leave_process}
 use Rattle.kernel_records.proofs.Lists.{map-map_same}
-use Rattle.written_kernel.proofs.Threads.{left_thread_of-number, left_thread_of-process, left_threads-revocation, thread_at-end_process, thread_at-left_threads, threads-end_process}
+use Rattle.written_kernel.proofs.Threads.{threads-end_process}
 
 -- notices
 
@@ -51,53 +51,17 @@ module _ (m : State) (who : Leaving) where
   abbrev pub left_in : Thread → Thread
   left_in x = left_thread_of who (now m) m.call_tree.calls x
 
-  pub thread_of-leave : (t : ℕ) → thread_of (leave m who) t ≡ option_map left_in (thread_of m t)
-  thread_of-leave t = thread_at-left_threads who (now m) m.call_tree.calls m.process_table t
-
-  pub process_of-leave : (t : ℕ) → process_of (leave m who) t ≡ process_of m t
-  process_of-leave t = ap process_in (thread_of-leave t) ∙ go (thread_of m t)
-    where
-      go : (o : Option Thread) → process_in (option_map left_in o) ≡ process_in o
-      go None = refl
-      go (Some x) = ap (λ (p : _). p.0) (left_thread_of-process who (now m) m.call_tree.calls x)
-
-  pub number-leave : (t : ℕ) → option_map thread_number (thread_of (leave m who) t) ≡ option_map thread_number (thread_of m t)
-  number-leave t = ap (option_map thread_number) (thread_of-leave t) ∙ go (thread_of m t)
-    where
-      go : (o : Option Thread) → option_map thread_number (option_map left_in o) ≡ option_map thread_number o
-      go None = refl
-      go (Some x) = ap Some (left_thread_of-number who (now m) m.call_tree.calls x)
-
   pub threads-leave : length (leave m who).process_table.threads ≡ length m.process_table.threads
   threads-leave = length-map m.process_table.threads left_in
 
   pub calls-leave : length (leave m who).call_tree.calls ≡ length m.call_tree.calls
   calls-leave = length-map m.call_tree.calls (left_call who)
 
-  pub notices-leave : length (leave m who).notice_list.notices ≡ length m.notice_list.notices
-  notices-leave = length-map m.notice_list.notices (left_notice who)
-
 -- the threads of a process that ends are those of its leaving
 pub threads-leave_process :
     (m : State) (p : ℕ) →
     (leave_process m p).process_table.threads ≡ (leave m (process_end m.process_table m.doors p)).process_table.threads
 threads-leave_process m p = threads-end_process (leave m (process_end m.process_table m.doors p)).process_table p
-
-pub thread_of-leave_process :
-    (m : State) (p t : ℕ) →
-    thread_of (leave_process m p) t ≡ option_map (left_in m (process_end m.process_table m.doors p)) (thread_of m t)
-thread_of-leave_process m p t =
-    thread_at-end_process (leave m (process_end m.process_table m.doors p)).process_table p t
-    ∙ thread_of-leave m (process_end m.process_table m.doors p) t
-
-pub process_of-leave_process : (m : State) (p t : ℕ) → process_of (leave_process m p) t ≡ process_of m t
-process_of-leave_process m p t =
-    ap process_in (thread_at-end_process (leave m (process_end m.process_table m.doors p)).process_table p t)
-    ∙ process_of-leave m (process_end m.process_table m.doors p) t
-
--- a revocation leaves threads as they are
-pub process_table-revocation : (m : State) (d : ℕ) → (leave m (revocation d)).process_table ≡ m.process_table
-process_table-revocation m d = left_threads-revocation d (now m) m.call_tree.calls m.process_table
 
 pub threads_of-leave_process : (m : State) (p : ℕ) → length (leave_process m p).process_table.threads ≡ length m.process_table.threads
 threads_of-leave_process m p =

@@ -2,7 +2,6 @@ pub mod CallLists
 pub mod NoticeLists
 pub mod Threads
 pub mod Doors
-pub mod Entries
 pub mod Settling
 pub mod Notices
 pub mod Failing
@@ -12,7 +11,9 @@ pub mod Steps
 pub mod Runs
 pub mod Opening
 pub mod Places
+pub mod GivenLists
 pub mod Waits
 pub mod Giving
 pub mod Numbers
 pub mod Leaving
+pub mod Moves

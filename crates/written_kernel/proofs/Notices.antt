@@ -1,45 +1,20 @@
 -- What the making of notices does: it changes the list of notices alone, and adds one for each door that is due; none where no
 -- references have changed.
-use Rattle.std.proofs.Common.{◌≡◌, ℕ, zero, suc, ◌+◌, ◌<◌, ◌≤◌, Bool, true, false, if◌then◌else◌, not, ◌==◌, ◌&&◌, ◌||◌, nat_le, nat_lt, List, [], ◌∷◌, ◌++◌, Option, None, Some, length, filter, map, refl, sym, ap, ap₂, ◌∙◌, inl, inr, ⊎_elim, arith, append-nil, true≢false}
+use Rattle.std.proofs.Common.{◌≡◌, ℕ, zero, suc, ◌+◌, ◌<◌, ◌≤◌, Bool, true, false, if◌then◌else◌, not, ◌==◌, ◌&&◌, ◌||◌, nat_lt, List, [], ◌∷◌, ◌++◌, Option, None, Some, length, refl, sym, ap, ap₂, ◌∙◌, ⊎_elim, arith, append-nil, true≢false}
 use Rattle.std.specs.List.{list_any}
 use Rattle.std.proofs.lemmas.Bool.Decides.{nat_tests}
-use Rattle.std.proofs.lemmas.List.Elements.{filter-append}
-use Rattle.std.proofs.lemmas.List.{map-append}
-use Rattle.written_kernel.specs.Types.{Door, Obj, Waiting}
+use Rattle.written_kernel.specs.Types.{Door}
 use Rattle.dk_base.specs.declared.object.Obj.TheVariants as obj
-use Rattle.kernel_records.specs.Words.{CallTree, NoticeList, has_notice, has_unref_multi, is_notice_of, is_object, is_queued_call, is_valid_door, is_waiting_notice, make_notice, new_notice, takes_notices, waiting_call, waiting_notice, with_notice, with_notices}
+use Rattle.kernel_records.specs.Words.{NoticeList, has_notice, has_unref_multi, is_notice_of, is_valid_door, make_notice, new_notice, takes_notices}
 use Rattle.written_kernel.specs.Notices.{falls_to_one, is_due, make_each, make_notices, make_one, may_have_notice, reference_count}
-use Rattle.written_kernel.specs.References.{holdings, refs}
-use Rattle.written_kernel.specs.State.{State, door_of, now, waiting_items}
-use Rattle.written_kernel.proofs.NoticeLists.{new_notices, notices-with_new_notices, made-with_new_notices, with_new_notices, with_new_notices-push, waiting-new_notices}
-use Rattle.written_kernel.proofs.Places.{IsIn, in_append}
+use Rattle.written_kernel.specs.State.{State, door_of, now}
+use Rattle.written_kernel.proofs.NoticeLists.{new_notices, notices-with_new_notices, with_new_notices, with_new_notices-push}
 use Rattle.written_kernel.proofs.Settling.{make_notices-alone, with_notice_of}
 
 -- what stays
 
-pub process_table-make_notices : (before m : State) → (make_notices before m).process_table ≡ m.process_table
-process_table-make_notices before m = ap (λ (n : State). n.process_table) (make_notices-alone before m)
-
-pub bindings-make_notices : (before m : State) → (make_notices before m).bindings ≡ m.bindings
-bindings-make_notices before m = ap (λ (n : State). n.bindings) (make_notices-alone before m)
-
-pub tables-make_notices : (before m : State) → (make_notices before m).tables ≡ m.tables
-tables-make_notices before m = ap (λ (n : State). n.tables) (make_notices-alone before m)
-
-pub names-make_notices : (before m : State) → (make_notices before m).names ≡ m.names
-names-make_notices before m = ap (λ (n : State). n.names) (make_notices-alone before m)
-
 pub doors-make_notices : (before m : State) → (make_notices before m).doors ≡ m.doors
 doors-make_notices before m = ap (λ (n : State). n.doors) (make_notices-alone before m)
-
-pub call_tree-make_notices : (before m : State) → (make_notices before m).call_tree ≡ m.call_tree
-call_tree-make_notices before m = ap (λ (n : State). n.call_tree) (make_notices-alone before m)
-
-pub events-make_notices : (before m : State) → (make_notices before m).events ≡ m.events
-events-make_notices before m = ap (λ (n : State). n.events) (make_notices-alone before m)
-
-pub refs-make_notices : (before m : State) (o : Obj) → refs (make_notices before m) o ≡ refs m o
-refs-make_notices before m o = ap (λ n. refs n o) (make_notices-alone before m)
 
 -- whether a door is due
 
@@ -95,10 +70,6 @@ make_notices-none before m h = make_each-none before m (length m.doors) h
 pub make_notices-same_counts :
     (before m : State) → ((d : ℕ) → reference_count m d ≡ reference_count before d) → make_notices before m ≡ m
 make_notices-same_counts before m h = make_notices-none before m (λ d. falls_to_one-same before m d (h d))
-
-pub make_notices-same_holdings : (before m : State) → holdings m ≡ holdings before → make_notices before m ≡ m
-make_notices-same_holdings before m e =
-    make_notices-same_counts before m (λ d. ap (λ os. length (filter (is_object (obj.Door d)) os)) e)
 
 pub make_notices-same : (m : State) → make_notices m m ≡ m
 make_notices-same m = make_notices-same_counts m m (λ d. refl)
@@ -202,12 +173,6 @@ notice_list-make_notices before m = ap (λ (n : State). n.notice_list) (make_not
 
 -- the old notices, and the new ones behind
 
-pub made-make_notices :
-    (before m : State) → (make_notices before m).notice_list.made ≡ m.notice_list.made + length (due_doors before m)
-made-make_notices before m =
-    ap (λ (list : NoticeList). list.made) (notice_list-make_notices before m)
-    ∙ made-with_new_notices m.notice_list (now m) (due_doors before m)
-
 pub notices-make_notices :
     (before m : State) →
     (make_notices before m).notice_list.notices
@@ -216,87 +181,8 @@ notices-make_notices before m =
     ap (λ (list : NoticeList). list.notices) (notice_list-make_notices before m)
     ∙ notices-with_new_notices m.notice_list (now m) (due_doors before m)
 
--- what waits after that
-pub waiting-make_notices :
-    (before m : State) →
-    filter is_waiting_notice (make_notices before m).notice_list.notices
-    ≡ filter is_waiting_notice m.notice_list.notices ++ new_notices m.notice_list.made (now m) (due_doors before m)
-waiting-make_notices before m =
-    ap (filter is_waiting_notice) (notices-make_notices before m)
-    ∙ filter-append is_waiting_notice m.notice_list.notices (new_notices m.notice_list.made (now m) (due_doors before m))
-    ∙ ap (λ ns. filter is_waiting_notice m.notice_list.notices ++ ns) (waiting-new_notices m.notice_list.made (now m) (due_doors before m))
-
--- a new notice stands among what waits as one that comes last
-
-with_notices-append :
-    (ws ns ks : List Waiting) → with_notices ws (ns ++ ks) ≡ with_notices (with_notices ws ns) ks
-with_notices-append ws [] ks = refl
-with_notices-append ws (n ∷ ns) ks = with_notices-append (with_notice ws n) ns ks
-
-pub waiting_items-make_notices :
-    (before m : State) →
-    waiting_items (make_notices before m)
-    ≡ with_notices (waiting_items m) (map waiting_notice (new_notices m.notice_list.made (now m) (due_doors before m)))
-waiting_items-make_notices before m =
-    ap₂ (λ calls ns. with_notices (map waiting_call (filter is_queued_call calls)) (map waiting_notice ns))
-    (ap (λ (tree : CallTree). tree.calls) (call_tree-make_notices before m))
-    (waiting-make_notices before m)
-    ∙ ap (with_notices (map waiting_call (filter is_queued_call m.call_tree.calls)))
-    (map-append waiting_notice (filter is_waiting_notice m.notice_list.notices) (new_notices m.notice_list.made (now m) (due_doors before m)))
-    ∙ with_notices-append (map waiting_call (filter is_queued_call m.call_tree.calls))
-    (map waiting_notice (filter is_waiting_notice m.notice_list.notices))
-    (map waiting_notice (new_notices m.notice_list.made (now m) (due_doors before m)))
-
--- one of them
-pub waiting_items-with_notice_of :
-    (m : State) (d : ℕ) →
-    waiting_items (with_notice_of m d)
-    ≡ with_notice (waiting_items m) (waiting_notice (new_notice (m.notice_list.made + 1) (now m) d))
-waiting_items-with_notice_of m d =
-    ap (λ ns. with_notices (map waiting_call (filter is_queued_call m.call_tree.calls)) (map waiting_notice ns))
-    (filter-append is_waiting_notice m.notice_list.notices (new_notice (m.notice_list.made + 1) (now m) d ∷ []))
-    ∙ ap (with_notices (map waiting_call (filter is_queued_call m.call_tree.calls)))
-    (map-append waiting_notice (filter is_waiting_notice m.notice_list.notices) (new_notice (m.notice_list.made + 1) (now m) d ∷ []))
-    ∙ with_notices-append (map waiting_call (filter is_queued_call m.call_tree.calls))
-    (map waiting_notice (filter is_waiting_notice m.notice_list.notices))
-    (waiting_notice (new_notice (m.notice_list.made + 1) (now m) d) ∷ [])
-
--- that is the end of the list, where nothing there was made later
-pub with_notice-last :
-    (ws : List Waiting) (n : Waiting) → ((w : Waiting) → IsIn w ws → w.made ≤ n.made) → with_notice ws n ≡ ws ++ n ∷ []
-with_notice-last [] n h = refl
-with_notice-last (w ∷ ws) n h = go (with_notice-last ws n (λ x k. h x (inr k))) (h w (inl refl))
-  where
-    go : with_notice ws n ≡ ws ++ n ∷ [] → w.made ≤ n.made → with_notice (w ∷ ws) n ≡ (w ∷ ws) ++ n ∷ []
-    go ih l =
-        let earlier : nat_le w.made n.made ≡ true = grind (arith, nat_tests, l) in
-        ap (λ b. if b then w ∷ with_notice ws n else n ∷ w ∷ ws) earlier
-        ∙ ap (λ us. w ∷ us) ih
-
 -- a door that is due is one of the doors, and is_due
 pub record IsAmongDue (before m : State) (n d : ℕ) : Type 0 where
   pub low : 1 ≤ d
   pub high : d ≤ n
   pub due : is_due before m d (door_of m d) ≡ true
-
-pub due_among-in : (before m : State) (n d : ℕ) → IsIn d (due_among before m n) → IsAmongDue before m n d
-due_among-in before m zero d h = absurd h
-due_among-in before m (suc n) d h = go (λ i. due_among-in before m n d i) (is_due before m (suc n) (door_of m (suc n))) refl h
-  where
-    more : IsAmongDue before m n d → IsAmongDue before m (suc n) d
-    more k = record { low = k.low; high = omega (arith, k.high); due = k.due }
-
-    here : d ≡ suc n → is_due before m (suc n) (door_of m (suc n)) ≡ true → IsAmongDue before m (suc n) d
-    here e f = record { low = omega (arith, e); high = omega (arith, e); due = ap (λ k. is_due before m k (door_of m k)) e ∙ f }
-
-    at : (b : Bool) → is_due before m (suc n) (door_of m (suc n)) ≡ b → IsIn d (if b then suc n ∷ [] else []) → IsAmongDue before m (suc n) d
-    at true e (inl f) = here f e
-    at true e (inr k) = absurd k
-    at false e k = absurd k
-
-    go :
-        (IsIn d (due_among before m n) → IsAmongDue before m n d) → (b : Bool) → is_due before m (suc n) (door_of m (suc n)) ≡ b →
-        IsIn d (due_among before m n ++ (if b then suc n ∷ [] else [])) → IsAmongDue before m (suc n) d
-    go ih b e k =
-        ⊎_elim (λ i. more (ih i)) (at b e)
-        (in_append (due_among before m n) (if b then suc n ∷ [] else []) d k)

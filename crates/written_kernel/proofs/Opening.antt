@@ -1,16 +1,14 @@
 -- What holds of the states in which a run may begin.
-use Rattle.std.proofs.Common.{◌≡◌, ◌<◌, ◌≤◌, flat_map, ℕ, zero, suc, ◌+◌, ◌==◌, Bool, true, false, if◌then◌else◌, List, [], ◌∷◌, ◌++◌, Option, None, Some, option_map, unwrap_or, length, length-append, map, replicate, slice_get, refl, sym, subst, ap, ap₂, ◌∙◌, ◌⊎◌, inl, inr, ⊎_elim, arith}
+use Rattle.std.proofs.Common.{◌≡◌, ◌<◌, ◌≤◌, ℕ, zero, suc, ◌+◌, ◌==◌, Bool, true, false, if◌then◌else◌, List, [], ◌∷◌, ◌++◌, Option, None, Some, option_map, unwrap_or, length, length-append, map, replicate, slice_get, refl, sym, subst, ap, ap₂, ◌∙◌, ◌⊎◌, inl, inr, ⊎_elim, arith}
 use Rattle.std.proofs.lemmas.Bool.Decides.{nat_tests}
-use Rattle.std.proofs.lemmas.List.{length-map, length-replicate, map-append}
+use Rattle.std.proofs.lemmas.List.{length-map, map-append}
 use Rattle.dk_base.specs.ByNumber.{at_number}
 use Rattle.dk_base.specs.declared.limits.TheConstants.{THREADS_MAX}
 use Rattle.written_kernel.specs.Types.{Fd, Obj, Process, Thread}
 use Rattle.kernel_records.specs.declared.record.ProcessStage.TheVariants.{Live}
 use Rattle.kernel_records.specs.declared.record.ThreadState.TheVariants as is
-use Rattle.kernel_records.specs.Words.{CallTree, NoticeList, bound_at, bound_in, empty_table, invocation_in, items_in_order, kept_notices, live_calls, new_process, new_thread, object_in, object_named, objects_of, opening_state, state_in, table_in}
+use Rattle.kernel_records.specs.Words.{CallTree, NoticeList, bound_at, bound_in, empty_table, invocation_in, items_in_order, kept_notices, live_calls, new_process, new_thread, object_in, object_named, opening_state, state_in, table_in}
 use Rattle.written_kernel.specs.State.{State, bound_of, invocation_of, object_at, state_of, thread_of, waiting_items}
-use Rattle.written_kernel.specs.Walks.{walk, root}
-use Rattle.written_kernel.specs.References.{holdings, named_object, objects_in_call}
 use Rattle.written_kernel.specs.Kept.{forget}
 use Rattle.written_kernel.specs.Opening.{IsOpening, no_process, opening, with_new_process, with_new_thread, with_processes}
 use Rattle.written_kernel.specs.Opening.IsOpening.{processes, thread}
@@ -185,9 +183,6 @@ opened (thread {m} p spare low high few h) = with_new_thread-opened m p spare (l
 
 -- readers at such a state
 
-pub length-bindings_opening : {m : State} → IsOpening m → length m.bindings ≡ THREADS_MAX
-length-bindings_opening {m} h = ap length (opened h).bindings ∙ length-replicate {A = Option ℕ} THREADS_MAX None
-
 pub length-tables_opening : {m : State} → IsOpening m → length m.tables ≡ length m.process_table.processes
 length-tables_opening {m} h = ap length (opened h).tables ∙ length-map m.process_table.processes opening_table
 
@@ -237,9 +232,6 @@ object_at-opening {m} h p fd =
     go None = refl
     go (Some x) = empty_row x.limit fd.0
 
-pub root-opening : {m : State} → IsOpening m → (t : ℕ) → root m t ≡ t
-root-opening {m} h t = ap (λ tree. walk tree.made m t) (opened h).call_tree
-
 pub forget-opening : {m : State} → IsOpening m → forget m ≡ m
 forget-opening {m} h =
     ap₂ {A = CallTree} {B = NoticeList} {C = State} (λ tree list. record m { call_tree = live_calls tree; notice_list = kept_notices m.doors list })
@@ -250,18 +242,3 @@ forget-opening {m} h =
 pub waiting_items-opening : {m : State} → IsOpening m → waiting_items m ≡ []
 waiting_items-opening {m} h =
     ap₂ (λ tree list. items_in_order tree.calls list.notices) (opened h).call_tree (opened h).notice_list
-
-in_empty_table : (n : ℕ) → objects_of (empty_table n) ≡ []
-in_empty_table zero = refl
-in_empty_table (suc n) = in_empty_table n
-
-in_empty_tables : (ps : List Process) → flat_map objects_of (map opening_table ps) ≡ []
-in_empty_tables [] = refl
-in_empty_tables (x ∷ xs) = ap₂ (λ os us. os ++ us) (in_empty_table x.limit) (in_empty_tables xs)
-
--- nothing is held
-pub holdings-opening : {m : State} → IsOpening m → holdings m ≡ []
-holdings-opening {m} h =
-    ap₂ (λ os tree. os ++ flat_map objects_in_call tree.calls)
-    (ap₂ (λ ts ns. flat_map objects_of ts ++ map named_object ns) (opened h).tables (opened h).names) (opened h).call_tree
-    ∙ ap (λ os. os ++ [] ++ []) (in_empty_tables m.process_table.processes)

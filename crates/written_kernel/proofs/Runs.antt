@@ -1,51 +1,11 @@
 -- Runs: what one more turn adds, and the states on the way.
-use Rattle.std.proofs.Common.{◌≡◌, ℕ, zero, suc, ◌+◌, ◌≤◌, List, [], ◌∷◌, ◌++◌, Some, length, map, take, drop, slice_get, le_of_lt, refl, sym, subst, ap, ◌∙◌, arith, add-one, length-take, take-append-drop, take_all}
+use Rattle.std.proofs.Common.{◌≡◌, ℕ, zero, suc, ◌+◌, ◌≤◌, List, [], ◌∷◌, Some, length, take, slice_get, le_of_lt, refl, subst, ap, ◌∙◌, arith, add-one, length-take, take_all}
 use Rattle.std.proofs.lemmas.Option.{slice_get_within}
-use Rattle.written_kernel.specs.Types.{Door}
-use Rattle.written_kernel.specs.State.{State, door_of, process_of}
+use Rattle.written_kernel.specs.State.{State, process_of}
 use Rattle.written_kernel.specs.Step.{event_of}
 use Rattle.written_kernel.specs.Legal.{MayTurn}
 use Rattle.written_kernel.specs.Runs.{Turn, state_after_turn, state_after, state_at, events_of, IsRun}
-use Rattle.kernel_records.proofs.Lists.{Extends, Extends-same, Extends-then}
-use Rattle.written_kernel.proofs.Steps.{events-step, threads-step, process_of-step, door_identity, IsSameDoor, door-extends, doors-step}
-
--- one list of turns after another
-
-pub state_after-append : (m : State) (xs ys : List Turn) → state_after m (xs ++ ys) ≡ state_after (state_after m xs) ys
-state_after-append m [] ys = refl
-state_after-append m (x ∷ xs) ys = state_after-append (state_after_turn m x) xs ys
-
-pub events_of-append :
-    (m : State) (xs ys : List Turn) → events_of m (xs ++ ys) ≡ events_of m xs ++ events_of (state_after m xs) ys
-events_of-append m [] ys = refl
-events_of-append m (x ∷ xs) ys = ap (λ es. event_of m x.thread x.request ∷ es) (events_of-append (state_after_turn m x) xs ys)
-
-pub IsRun-append : (m : State) (xs ys : List Turn) → IsRun m xs → IsRun (state_after m xs) ys → IsRun m (xs ++ ys)
-IsRun-append m [] ys h k = k
-IsRun-append m (x ∷ xs) ys h k = (h.0, IsRun-append (state_after_turn m x) xs ys h.1 k)
-
-pub IsRun_front : (m : State) (xs ys : List Turn) → IsRun m (xs ++ ys) → IsRun m xs
-IsRun_front m [] ys h = tt
-IsRun_front m (x ∷ xs) ys h = (h.0, IsRun_front (state_after_turn m x) xs ys h.1)
-
-pub IsRun_rest : (m : State) (xs ys : List Turn) → IsRun m (xs ++ ys) → IsRun (state_after m xs) ys
-IsRun_rest m [] ys h = h
-IsRun_rest m (x ∷ xs) ys h = IsRun_rest (state_after_turn m x) xs ys h.1
-
--- one turn more
-
-pub state_after_push : (m : State) (xs : List Turn) (x : Turn) → state_after m (xs ++ x ∷ []) ≡ state_after_turn (state_after m xs) x
-state_after_push m xs x = state_after-append m xs (x ∷ [])
-
-pub events_of_push :
-    (m : State) (xs : List Turn) (x : Turn) →
-    events_of m (xs ++ x ∷ []) ≡ events_of m xs ++ event_of (state_after m xs) x.thread x.request ∷ []
-events_of_push m xs x = events_of-append m xs (x ∷ [])
-
-pub IsRun_push :
-    (m : State) (xs : List Turn) (x : Turn) → IsRun m xs → MayTurn (state_after m xs) x.thread x.request →
-    IsRun m (xs ++ x ∷ [])
-IsRun_push m xs x h k = IsRun-append m xs (x ∷ []) h (k, tt)
+use Rattle.written_kernel.proofs.Steps.{events-step, process_of-step}
 
 -- how many
 
@@ -57,22 +17,9 @@ pub events-state_after : (m : State) (xs : List Turn) → (state_after m xs).eve
 events-state_after m [] = omega arith
 events-state_after m (x ∷ xs) = omega (arith, events-state_after (state_after_turn m x) xs, events-step m x.thread x.request)
 
-pub threads-state_after : (m : State) (xs : List Turn) → length (state_after m xs).process_table.threads ≡ length m.process_table.threads
-threads-state_after m [] = refl
-threads-state_after m (x ∷ xs) = threads-state_after (state_after_turn m x) xs ∙ threads-step m x.thread x.request
-
 pub process_of-state_after : (m : State) (xs : List Turn) (t : ℕ) → process_of (state_after m xs) t ≡ process_of m t
 process_of-state_after m [] t = refl
 process_of-state_after m (x ∷ xs) t = process_of-state_after (state_after_turn m x) xs t ∙ process_of-step m x.thread t x.request
-
-pub doors-state_after :
-    (m : State) (xs : List Turn) → Extends (map door_identity m.doors) (map door_identity (state_after m xs).doors)
-doors-state_after m [] = Extends-same (map door_identity m.doors) (map door_identity m.doors) refl
-doors-state_after m (x ∷ xs) = Extends-then (doors-step m x.thread x.request) (doors-state_after (state_after_turn m x) xs)
-
-pub door_of-state_after :
-    (m : State) (xs : List Turn) (d : ℕ) (x : Door) → door_of m d ≡ Some x → IsSameDoor x (door_of (state_after m xs) d)
-door_of-state_after m xs d x e = door-extends m.doors (state_after m xs).doors d x (doors-state_after m xs) e
 
 -- the states on the way
 
@@ -108,12 +55,6 @@ pub MayTurn_at :
 MayTurn_at m [] i x h e = absurd (cc)
 MayTurn_at m (y ∷ ys) zero x h e = let k : y ≡ x = cc in subst (λ z. MayTurn m z.thread z.request) k h.0
 MayTurn_at m (y ∷ ys) (suc i) x h e = MayTurn_at (state_after_turn m y) ys i x h.1 e
-
-pub IsRun-take : (m : State) (xs : List Turn) (i : ℕ) → IsRun m xs → IsRun m (take i xs)
-IsRun-take m xs i h = IsRun_front m (take i xs) (drop i xs) (subst (IsRun m) (sym (take-append-drop i xs)) h)
-
-pub IsRun-drop : (m : State) (xs : List Turn) (i : ℕ) → IsRun m xs → IsRun (state_at m xs i) (drop i xs)
-IsRun-drop m xs i h = IsRun_rest m (take i xs) (drop i xs) (subst (IsRun m) (sym (take-append-drop i xs)) h)
 
 -- the event of the turn at place i is number i + 1 of those after the opening
 pub number-event_of :

@@ -124,11 +124,17 @@ module _ (P : State → Type 0) where
   pub give_and_start-all : KeptByGiving → KeptByStarting → (before m : State) → P m → P (give_and_start before m)
   give_and_start-all gives starts before m h = start_spares-all starts before m (give m) (give-all gives m h)
 
-  pub settle-all :
-      (before : State) → KeptByMaking before → KeptByFailing → KeptByGiving → KeptByStarting → (m : State) → P m → P (settle before m)
-  settle-all before makes fails gives starts m h =
-      give_and_start-all gives starts before (fail_returns (make_notices before m))
-      (fail_returns-all fails (make_notices before m) (make_notices-all before makes m h))
+  -- each part keeps it, in an event that began in this state
+  pub record KeptByParts (before : State) : Type 0 where
+    pub makes : KeptByMaking before
+    pub fails : KeptByFailing
+    pub gives : KeptByGiving
+    pub starts : KeptByStarting
+
+  pub settle-all : (before : State) → KeptByParts before → (m : State) → P m → P (settle before m)
+  settle-all before kept m h =
+      give_and_start-all kept.gives kept.starts before (fail_returns (make_notices before m))
+      (fail_returns-all kept.fails (make_notices before m) (make_notices-all before kept.makes m h))
 
 -- what no part changes
 
@@ -165,7 +171,8 @@ with_settled m n =
     record m { process_table = n.process_table; bindings = n.bindings; call_tree = n.call_tree; notice_list = n.notice_list }
 
 pub settle-alone : (before m : State) → settle before m ≡ with_settled m (settle before m)
-settle-alone before m = settle-all (λ n. n ≡ with_settled m n) before makes fails gives starts m refl
+settle-alone before m =
+    settle-all (λ n. n ≡ with_settled m n) before (record { makes = makes; fails = fails; gives = gives; starts = starts }) m refl
   where
     changed : (n o : State) → n ≡ with_settled m n → o ≡ with_settled n o → o ≡ with_settled m o
     changed n o e f = f ∙ ap (λ k. with_settled k o) e

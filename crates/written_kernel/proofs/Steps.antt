@@ -2,20 +2,20 @@
 use Rattle.std.proofs.Common.{◌≡◌, ℕ, ◌+◌, Bool, true, false, if◌then◌else◌, List, [], ◌∷◌, ◌++◌, Option, None, Some, option_map, length, map, unwrap_or, refl, sym, ap, ◌∙◌, length-set}
 use Rattle.std.proofs.lemmas.List.{length-map, map-append}
 use Rattle.dk_base.specs.ByNumber.{at_number}
-use Rattle.written_kernel.specs.Types.{Attrs, Call, Door, Fd, Item, Name, Notice, Obj, Param, Pass, PathId, Pid, Process, Request, Thread, ThreadState}
+use Rattle.written_kernel.specs.Types.{Attrs, Door, Fd, Item, Name, Obj, Param, Pass, Pid, Process, Request, Thread, ThreadState}
 use Rattle.dk_base.specs.declared.object.Item.TheVariants as item
 use Rattle.dk_base.specs.declared.request.Param.TheVariants as param
-use Rattle.dk_base.specs.declared.request.Request.TheVariants as request
 use Rattle.kernel_records.specs.declared.record.ThreadState.TheVariants as is
-use Rattle.kernel_records.specs.Words.{CallTree, Leaving, NoticeList, ProcessTable, close_row, close_table, end_owner, end_process, ended_process, free_place, free_row, insert_row, insert_rows, interruption, is_given_as, is_given_notice_as, is_last, is_to_collect_as, process_end, process_in, release_row, release_rows, revocation, revoke_door, revoked_door, set_param, thread_at_state, thread_end, thread_outside, with_door, with_ended, with_param, with_row, with_table, change_thread}
-use Rattle.written_kernel.specs.State.{State, door_of, find_call, find_notice, has_invalid_door, is_live_process, name_of, now, process_of, state_of, table_of, thread_of, with_state, with_table_of}
-use Rattle.written_kernel.specs.Descriptors.{await, await_name, insert_object}
-use Rattle.written_kernel.specs.Doors.{accept, accept_call, accept_notice, begin_call, create, fail_begin, has_room, objects_collected_in, return, return_parked, return_unbound, tables_after_collect, tables_after_pass, tables_with}
-use Rattle.written_kernel.specs.Leaving.{exit, kill, leave, leave_process, leave_thread, revoke}
+use Rattle.kernel_records.specs.Words.{CallTree, Leaving, NoticeList, ProcessTable, close_row, close_table, end_owner, end_process, ended_process, free_place, free_row, insert_row, insert_rows, process_end, process_in, release_row, release_rows, revocation, revoke_door, revoked_door, set_param, thread_at_state, thread_outside, with_door, with_ended, with_param, with_row, with_table, change_thread}
+use Rattle.written_kernel.specs.Acts.{ActResult}
+use Rattle.written_kernel.proofs.Moves.{Moves, act_moves}
+use Rattle.written_kernel.specs.State.{State, now, process_of, table_of, thread_of, with_state, with_table_of}
+use Rattle.written_kernel.specs.Descriptors.{insert_object}
+use Rattle.written_kernel.specs.Doors.{create, has_room, tables_after_collect, tables_after_pass, tables_with}
+use Rattle.written_kernel.specs.Leaving.{leave, leave_process, revoke}
 use Rattle.written_kernel.specs.Information.{door_at}
 use Rattle.written_kernel.specs.Settle.{fail_return, give_one, settle}
-use Rattle.written_kernel.specs.Step.{act, effect, enter, go_on, step}
-use Rattle.written_kernel.proofs.Entries.{enter_either}
+use Rattle.written_kernel.specs.Step.{act, step}
 use Rattle.written_kernel.proofs.Settling.{settle-all, with_notice_of}
 use Rattle.kernel_records.proofs.Lists.{length-with_at_number, same_length, same_numbered, at_number-map, at_number-extends, map-with_at_number, Extends, Extends-same, Extends-then}
 use Rattle.written_kernel.proofs.Threads.{map-change_thread, map-left_threads, processes-change_thread, threads-end_process}
@@ -214,13 +214,6 @@ names-keeps : (m : State) (names : List Name) → Keeps m (record m { names = na
 names-keeps m names =
     record { processes = refl; threads = refl; bindings = refl; tables = refl; doors = doors_same m.doors; events = refl }
 
-await-keeps : (m : State) (t : ℕ) (path : PathId) → Keeps m (await m t path).state
-await-keeps m t path = go (name_of m path)
-  where
-    go : (o : Option Name) → Keeps m (await_name m t path o).state
-    go (Some n) = keeps_same m
-    go None = with_state-keeps m t (is.Awaiting path)
-
 processes-end_process :
     (table : ProcessTable) (p : ℕ) → map process_identity (end_process table p).processes ≡ map process_identity table.processes
 processes-end_process table p = go (at_number table.processes p) refl
@@ -270,20 +263,6 @@ leave_process-keeps m p =
     (leave-keeps m (process_end m.process_table m.doors p))
     (process_ended-keeps (leave m (process_end m.process_table m.doors p)) p)
 
-exit-keeps : (m : State) (t p : ℕ) → Keeps m (exit m t p).state
-exit-keeps m t p = go (is_last m.process_table t p)
-  where
-    go : (b : Bool) → Keeps m (if b then leave_process m p else leave_thread m t)
-    go true = leave_process-keeps m p
-    go false = leave-keeps m (thread_end t)
-
-kill-keeps : (m : State) (p : ℕ) → Keeps m (kill m p).state
-kill-keeps m p = go (is_live_process m p)
-  where
-    go : (b : Bool) → Keeps m (if b then leave_process m p else m)
-    go true = leave_process-keeps m p
-    go false = keeps_same m
-
 -- a door is revoked, and a descriptor closed
 revoked-keeps :
     (m : State) (p place d : ℕ) →
@@ -304,68 +283,31 @@ revoke-keeps m p fd =
     (leave-keeps m (revocation (door_at m p fd)))
     (revoked-keeps (leave m (revocation (door_at m p fd))) p fd.0 (door_at m p fd))
 
-return-keeps : (m : State) (t p : ℕ) (bytes : List ℕ) (pass : List Pass) → Keeps m (return m t p bytes pass).state
-return-keeps m t p bytes pass = go (has_invalid_door m t)
-  where
-    go : (b : Bool) → Keeps m (if b then return_unbound m t p bytes pass else return_parked m t p bytes pass).state
-    go true =
-        keeps_then
-        (message-keeps m t thread_outside (tables_after_pass m p pass) (return_unbound m t p bytes pass).state.call_tree
-        (return_unbound m t p bytes pass).state.notice_list (λ x. refl)
-        (after_pass-long m p pass))
-        (bindings-keeps _ _ (length-with_at_number m.bindings t None))
-    go false = message-keeps m t _ _ _ _ (λ x. refl) (after_pass-long m p pass)
-
-effect-keeps : (m : State) (t p : ℕ) (r : Request) → Keeps m (effect m t p r).state
-effect-keeps m t p (request.Create entry cookie attrs) = create-keeps m p entry cookie attrs
-effect-keeps m t p (request.Call fd bytes pass rsize) = message-keeps m t _ _ _ m.notice_list (λ x. refl) (after_pass-long m p pass)
-effect-keeps m t p (request.Return bytes pass) = return-keeps m t p bytes pass
-effect-keeps m t p (request.Revoke fd) = revoke-keeps m p fd
-effect-keeps m t p (request.Bind fd) = bindings-keeps m _ (length-with_at_number m.bindings t (Some (door_at m p fd)))
-effect-keeps m t p request.Unbind = bindings-keeps m _ (length-with_at_number m.bindings t None)
-effect-keeps m t p (request.SetParam fd x value) = set_param-keeps m _ x value
-effect-keeps m t p (request.Close fd) = with_row-keeps m p fd.0 None
-effect-keeps m t p (request.Dup fd) = with_row-keeps m p _ _
-effect-keeps m t p (request.Attach fd path) = names-keeps m _
-effect-keeps m t p (request.Detach path) = names-keeps m _
-effect-keeps m t p (request.Open path) = insert_object-keeps m p _
-effect-keeps m t p (request.Await path) = await-keeps m t path
-effect-keeps m t p (request.Interrupt thread) = leave-keeps m (interruption thread.0)
-effect-keeps m t p (request.Kill process) = kill-keeps m process.0
-effect-keeps m t p request.Exit = exit-keeps m t p
-effect-keeps m t p _ = keeps_same m
-
-enter-keeps : (m : State) (t p : ℕ) (r : Request) → Keeps m (enter m t p r).state
-enter-keeps m t p r = enter_either (λ a. Keeps m a.state) m t p r (λ e. keeps_same m) (effect-keeps m t p r)
-
-accept-keeps : (m : State) (t p : ℕ) (i : Item) → Keeps m (accept m t p i).state
-accept-keeps m t p (item.Call c) = go (find_call m (is_given_as c t))
-  where
-    begins : (r : Call) (b : Bool) → Keeps m (if b then begin_call m t p c r else fail_begin m t c r).state
-    begins r true = message-keeps m t _ _ _ m.notice_list (λ x. refl) (with-long m p r.objects)
-    begins r false = thread-keeps m t _ _ m.notice_list (λ x. refl)
-
-    go : (o : Option Call) → Keeps m (accept_call m t p c o).state
-    go None = keeps_same m
-    go (Some r) = begins r (has_room m p r.objects)
-accept-keeps m t p (item.Notice c) = go (find_notice m (is_given_notice_as c t))
-  where
-    go : (o : Option Notice) → Keeps m (accept_notice m t c o).state
-    go None = keeps_same m
-    go (Some n) = thread-keeps m t _ m.call_tree _ (λ x. refl)
-
-go_on-keeps : (m : State) (t p : ℕ) (s : ThreadState) → Keeps m (go_on m t p s).state
-go_on-keeps m t p (is.Given i) = accept-keeps m t p i
-go_on-keeps m t p (is.Calling c) =
-    message-keeps m t _ _ _ m.notice_list (λ x. refl) (after_collect-long m p (objects_collected_in (find_call m (is_to_collect_as c))))
-go_on-keeps m t p (is.Awaiting path) = with_state-keeps m t is.Running
-go_on-keeps m t p (is.Working op input) = with_state-keeps m t is.Running
-go_on-keeps m t p is.FailedReturn = with_state-keeps m t is.Running
-go_on-keeps m t p _ = keeps_same m
+move-keeps : (m : State) (t : ℕ) (q : Option Request) (a : ActResult) → Moves m t q a → Keeps m a.state
+move-keeps m t q a (Moves.nothing x _) = keeps_same m
+move-keeps m t q a (Moves.rows r place o x _) = with_row-keeps m (process_of m t) place o
+move-keeps m t q a (Moves.names r names _) = names-keeps m names
+move-keeps m t q a (Moves.bound r o _) = bindings-keeps m _ (length-with_at_number m.bindings t o)
+move-keeps m t q a (Moves.parameter fd x value f) = set_param-keeps m _ x value
+move-keeps m t q a (Moves.makes entry cookie attrs f) = create-keeps m (process_of m t) entry cookie attrs
+move-keeps m t q a (Moves.turns s x _ _) = with_state-keeps m t s
+move-keeps m t q a (Moves.calls fd bytes pass rsize f) =
+    message-keeps m t _ _ _ m.notice_list (λ x. refl) (after_pass-long m (process_of m t) pass)
+move-keeps m t q a (Moves.returns bytes pass f e) = message-keeps m t _ _ _ _ (λ x. refl) (after_pass-long m (process_of m t) pass)
+move-keeps m t q a (Moves.returns_unbound bytes pass f e) =
+    keeps_then
+    (message-keeps m t thread_outside _ a.state.call_tree a.state.notice_list (λ x. refl) (after_pass-long m (process_of m t) pass))
+    (bindings-keeps _ _ (length-with_at_number m.bindings t None))
+move-keeps m t q a (Moves.enters r h e) = message-keeps m t _ _ _ m.notice_list (λ x. refl) (with-long m (process_of m t) r.objects)
+move-keeps m t q a (Moves.fails r h e) = thread-keeps m t _ _ m.notice_list (λ x. refl)
+move-keeps m t q a (Moves.enters_notice n h) = thread-keeps m t _ m.call_tree _ (λ x. refl)
+move-keeps m t q a (Moves.collects c e) = message-keeps m t _ _ _ m.notice_list (λ x. refl) (after_collect-long m (process_of m t) _)
+move-keeps m t q a (Moves.leaves r who _) = leave-keeps m who
+move-keeps m t q a (Moves.revokes fd f) = revoke-keeps m (process_of m t) fd
+move-keeps m t q a (Moves.ends r p _) = leave_process-keeps m p
 
 pub act-keeps : (m : State) (t : ℕ) (r : Option Request) → Keeps m (act m t r).state
-act-keeps m t (Some r) = enter-keeps m t (process_of m t) r
-act-keeps m t None = go_on-keeps m t (process_of m t) (state_of m t)
+act-keeps m t r = move-keeps m t r (act m t r) (act_moves m t r)
 
 -- settling
 
@@ -386,10 +328,12 @@ with_notice_of-keeps m d =
 pub settle-keeps : (before m : State) → Keeps m (settle before m)
 settle-keeps before m =
     settle-all (Keeps m) before
-    (λ n d e h. keeps_then h (with_notice_of-keeps n d))
-    (λ n t l h. keeps_then h (fail_return-keeps n t))
-    (λ n w x p h. keeps_then h (give_one-keeps n w.item x.thread.0))
-    (λ n t d h. keeps_then h (with_state-keeps n t is.Running))
+    (record {
+      makes = λ n d e h. keeps_then h (with_notice_of-keeps n d);
+      fails = λ n t l h. keeps_then h (fail_return-keeps n t);
+      gives = λ n w x p h. keeps_then h (give_one-keeps n w.item x.thread.0);
+      starts = λ n t d h. keeps_then h (with_state-keeps n t is.Running);
+    })
     m
     (keeps_same m)
 
@@ -436,9 +380,6 @@ processes-step m t r =
 pub tables-step : (m : State) (t : ℕ) (r : Option Request) → length (step m t r).state.tables ≡ length m.tables
 tables-step m t r = same_length length (step m t r).state.tables m.tables (step-keeps m t r).tables
 
-pub bindings-step : (m : State) (t : ℕ) (r : Option Request) → length (step m t r).state.bindings ≡ length m.bindings
-bindings-step m t r = (step-keeps m t r).bindings
-
 pub doors-step :
     (m : State) (t : ℕ) (r : Option Request) → Extends (map door_identity m.doors) (map door_identity (step m t r).state.doors)
 doors-step m t r = (step-keeps m t r).doors
@@ -450,13 +391,6 @@ pub thread_identity-step :
     option_map thread_identity (thread_of (step m t r).state u) ≡ option_map thread_identity (thread_of m u)
 thread_identity-step m t u r =
     same_numbered thread_identity (step m t r).state.process_table.threads m.process_table.threads u (step-keeps m t r).threads
-
-pub process_identity-step :
-    (m : State) (t p : ℕ) (r : Option Request) →
-    option_map process_identity (at_number (step m t r).state.process_table.processes p)
-    ≡ option_map process_identity (at_number m.process_table.processes p)
-process_identity-step m t p r =
-    same_numbered process_identity (step m t r).state.process_table.processes m.process_table.processes p (step-keeps m t r).processes
 
 pub process_of-step : (m : State) (t u : ℕ) (r : Option Request) → process_of (step m t r).state u ≡ process_of m u
 process_of-step m t u r =
@@ -490,8 +424,3 @@ door-extends xs ys d x h e =
     same_door x (at_number ys d)
     (sym (at_number-map door_identity ys d)
     ∙ at_number-extends h d (door_identity x) (at_number-map door_identity xs d ∙ ap (option_map door_identity) e))
-
-pub door_of-step :
-    (m : State) (t : ℕ) (r : Option Request) (d : ℕ) (x : Door) → door_of m d ≡ Some x →
-    IsSameDoor x (door_of (step m t r).state d)
-door_of-step m t r d x e = door-extends m.doors (step m t r).state.doors d x (doors-step m t r) e

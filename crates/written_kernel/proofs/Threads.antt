@@ -5,8 +5,8 @@ use Rattle.written_kernel.specs.Types.{Call, CallStage, Inv, Process, Thread, Th
 use Rattle.kernel_records.specs.declared.record.CallStage.TheVariants as stage
 use Rattle.kernel_records.specs.declared.record.ThreadState.TheVariants as is
 use Rattle.dk_base.specs.ByNumber.{at_number}
-use Rattle.kernel_records.specs.Words.{Leaving, ProcessTable, cancelled_invocation, cancelled_thread, change_thread, change_thread_in, deserted_at, deserted_in, end_process, ended_process, ended_thread, idle_thread, interrupted_state, interrupted_thread, interrupted_where, invocation_in, is_left, is_served_by, left_thread, left_thread_of, left_threads, revocation, thread_at, with_ended}
-use Rattle.kernel_records.proofs.Lists.{at_number-map, at_number-renumbered_there, map-with_at_number, map-map_same, map_unchanged}
+use Rattle.kernel_records.specs.Words.{Leaving, ProcessTable, cancelled_invocation, cancelled_thread, change_thread, change_thread_in, deserted_at, deserted_in, end_process, ended_process, ended_thread, idle_thread, interrupted_state, interrupted_thread, interrupted_where, invocation_in, is_left, is_served_by, left_thread, left_thread_of, left_threads, thread_at, with_ended}
+use Rattle.kernel_records.proofs.Lists.{at_number-renumbered_there, map-with_at_number, map-map_same}
 
 -- a change of one thread
 
@@ -129,83 +129,6 @@ left_thread_of-same f same who now calls x =
     (λ y h. same None (is.Idle now) y ∙ h)
     (λ y h. same (option_map cancelled_invocation y.invocation) y.state y ∙ h)
 
--- a thread ends, or it does not
-pub left_thread_of-ended :
-    (who : Leaving) (now : ℕ) (calls : List Call) (x : Thread) → who.ends x.number ≡ true →
-    left_thread_of who now calls x ≡ ended_thread x
-left_thread_of-ended who now calls x e =
-    ap
-    (λ b.
-    if b then ended_thread x else deserted_in who now (find (is_served_by x.number) calls) (interrupted_where (who.interrupts x.number) x))
-    e
-
-pub left_thread_of-not_ended :
-    (who : Leaving) (now : ℕ) (calls : List Call) (x : Thread) → who.ends x.number ≡ false →
-    left_thread_of who now calls x ≡ deserted_in who now (find (is_served_by x.number) calls) (interrupted_where (who.interrupts x.number) x)
-left_thread_of-not_ended who now calls x e =
-    ap
-    (λ b.
-    if b then ended_thread x else deserted_in who now (find (is_served_by x.number) calls) (interrupted_where (who.interrupts x.number) x))
-    e
-
--- one that serves no call is not left by a caller
-pub left_thread_of-unserving :
-    (who : Leaving) (now : ℕ) (calls : List Call) (x : Thread) → who.ends x.number ≡ false → find (is_served_by x.number) calls ≡ None →
-    left_thread_of who now calls x ≡ interrupted_where (who.interrupts x.number) x
-left_thread_of-unserving who now calls x e f =
-    left_thread_of-not_ended who now calls x e
-    ∙ ap (λ o. deserted_in who now o (interrupted_where (who.interrupts x.number) x)) f
-
--- nor is one whose caller stays
-pub left_thread_of-kept :
-    (who : Leaving) (now : ℕ) (calls : List Call) (x : Thread) (r : Call) → who.ends x.number ≡ false →
-    find (is_served_by x.number) calls ≡ Some r → is_left who r ≡ false →
-    left_thread_of who now calls x ≡ interrupted_where (who.interrupts x.number) x
-left_thread_of-kept who now calls x r e f g =
-    left_thread_of-not_ended who now calls x e
-    ∙ ap (λ o. deserted_in who now o (interrupted_where (who.interrupts x.number) x)) f
-    ∙ ap
-    (λ b.
-    if b then deserted_at now r.no_cancel r.stage (interrupted_where (who.interrupts x.number) x)
-    else interrupted_where (who.interrupts x.number) x)
-    g
-
-pub left_thread_of-deserted :
-    (who : Leaving) (now : ℕ) (calls : List Call) (x : Thread) (r : Call) → who.ends x.number ≡ false →
-    find (is_served_by x.number) calls ≡ Some r → is_left who r ≡ true →
-    left_thread_of who now calls x ≡ deserted_at now r.no_cancel r.stage (interrupted_where (who.interrupts x.number) x)
-left_thread_of-deserted who now calls x r e f g =
-    left_thread_of-not_ended who now calls x e
-    ∙ ap (λ o. deserted_in who now o (interrupted_where (who.interrupts x.number) x)) f
-    ∙ ap
-    (λ b.
-    if b then deserted_at now r.no_cancel r.stage (interrupted_where (who.interrupts x.number) x)
-    else interrupted_where (who.interrupts x.number) x)
-    g
-
--- a revocation leaves threads as they are
-pub left_thread_of-revocation :
-    (d now : ℕ) (calls : List Call) (x : Thread) → left_thread_of (revocation d) now calls x ≡ x
-left_thread_of-revocation d now calls x = go (find (is_served_by x.number) calls)
-  where
-    go : (o : Option Call) → deserted_in (revocation d) now o x ≡ x
-    go None = refl
-    go (Some r) = refl
-
-pub left_threads-revocation :
-    (d now : ℕ) (calls : List Call) (table : ProcessTable) → left_threads (revocation d) now calls table ≡ table
-left_threads-revocation d now calls table =
-    ap (λ xs. record table { threads = xs })
-    (map_unchanged (left_thread_of (revocation d) now calls) (left_thread_of-revocation d now calls) table.threads)
-
-pub left_thread_of-number :
-    (who : Leaving) (now : ℕ) (calls : List Call) (x : Thread) → (left_thread_of who now calls x).number ≡ x.number
-left_thread_of-number = left_thread_of-same (λ (x : Thread). x.number) (λ v s x. refl)
-
-pub left_thread_of-process :
-    (who : Leaving) (now : ℕ) (calls : List Call) (x : Thread) → (left_thread_of who now calls x).process ≡ x.process
-left_thread_of-process = left_thread_of-same (λ (x : Thread). x.process) (λ v s x. refl)
-
 pub map-left_threads :
     {Y : Type 0} (f : Thread → Y) →
     ((invocation : Option Inv) (state : ThreadState) (x : Thread) → f (record x { invocation = invocation; state = state }) ≡ f x) →
@@ -213,11 +136,6 @@ pub map-left_threads :
     map f (left_threads who now calls table).threads ≡ map f table.threads
 map-left_threads f same who now calls table =
     map-map_same f (left_thread_of who now calls) (left_thread_of-same f same who now calls) table.threads
-
-pub thread_at-left_threads :
-    (who : Leaving) (now : ℕ) (calls : List Call) (table : ProcessTable) (t : ℕ) →
-    thread_at (left_threads who now calls table) t ≡ option_map (left_thread_of who now calls) (thread_at table t)
-thread_at-left_threads who now calls table t = at_number-map (left_thread_of who now calls) table.threads t
 
 -- invocations
 

@@ -1,14 +1,15 @@
 -- The acts of descriptors and names: close(2), dup(2), fattach(3C), fdetach(3C), open(2) of an attached path, and the wait
 -- for a path.
 use Rattle.std.specs.Prelude.{ℕ, List, [], ◌∷◌, Option, Bool, false, true, not, Some, None, is_none, is_some}
-use Rattle.written_kernel.specs.Types.{Fd, Name, Obj, PathId}
+use Rattle.written_kernel.specs.Types.{Fd, Name, Obj, PathId, Request}
 use Rattle.dk_base.specs.declared.error.Errno.TheVariants.{EBADF, EBUSY, EINVAL, EMFILE, ENOENT}
 use Rattle.dk_base.specs.declared.object.Obj.TheVariants as obj
+use Rattle.dk_base.specs.declared.request.Request.TheVariants as request
 use Rattle.dk_base.specs.declared.answer.Answer.TheVariants as answer
 use Rattle.kernel_records.specs.declared.record.ThreadState.TheVariants as is
 use Rattle.kernel_records.specs.Words.{Test, close_row, descriptor, door_attached, free_place, insert_row, lowest_free, refused_where, with_name, with_row, without_name}
 use Rattle.written_kernel.specs.State.{State, object_at, name_of, table_of, with_state, with_table_of}
-use Rattle.written_kernel.specs.Acts.{ActResult}
+use Rattle.written_kernel.specs.Acts.{ActResult, no_act}
 
 abbrev pub is_door : Option Obj → Bool
 is_door (Some (obj.Door d)) = true
@@ -90,3 +91,22 @@ await m t path = await_name m t path (name_of m path)
 -- the end of that wait
 abbrev pub end_await : State → ℕ → ActResult
 end_await m t = record { state = with_state m t is.Running; answer = answer.Done }
+
+-- the tests and the effect of an entry of this file
+
+abbrev pub tests_of_descriptors : State → ℕ → ℕ → Request → List Test
+tests_of_descriptors m t p (request.Close fd) = close_tests m p fd
+tests_of_descriptors m t p (request.Dup fd) = dup_tests m p fd
+tests_of_descriptors m t p (request.Attach fd path) = attach_tests m p fd path
+tests_of_descriptors m t p (request.Detach path) = detach_tests m path
+tests_of_descriptors m t p (request.Open path) = open_tests m p path
+tests_of_descriptors m t p _ = []
+
+abbrev pub effect_of_descriptors : State → ℕ → ℕ → Request → ActResult
+effect_of_descriptors m t p (request.Close fd) = close m p fd
+effect_of_descriptors m t p (request.Dup fd) = dup m p fd
+effect_of_descriptors m t p (request.Attach fd path) = attach m p fd path
+effect_of_descriptors m t p (request.Detach path) = detach m path
+effect_of_descriptors m t p (request.Open path) = open_path m p path
+effect_of_descriptors m t p (request.Await path) = await m t path
+effect_of_descriptors m t p _ = no_act m

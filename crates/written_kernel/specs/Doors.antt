@@ -2,10 +2,11 @@
 -- return begin. An act's record update names the parts of the state that it changes. `p` is the process of the thread
 -- `t`.
 use Rattle.std.specs.Prelude.{ℕ, ◌+◌, ◌++◌, ◌&&◌, ◌||◌, List, ◌∷◌, [], Option, Bool, false, Some, None, if◌then◌else◌, is_none, is_some, length, nat_le, nat_lt}
-use Rattle.written_kernel.specs.Types.{Answer, Attrs, Call, CallStage, Fd, Item, Notice, Obj, Pass}
+use Rattle.written_kernel.specs.Types.{Answer, Attrs, Call, CallStage, Fd, Item, Notice, Obj, Pass, Request}
 use Rattle.dk_base.specs.declared.error.Errno.TheVariants.{E2BIG, EAGAIN, EINVAL, EMFILE}
 use Rattle.dk_base.specs.declared.object.Obj.TheVariants as obj
 use Rattle.dk_base.specs.declared.object.Item.TheVariants as item
+use Rattle.dk_base.specs.declared.request.Request.TheVariants as request
 use Rattle.dk_base.specs.declared.answer.Answer.TheVariants as answer
 use Rattle.kernel_records.specs.declared.record.ThreadState.TheVariants as is
 use Rattle.kernel_records.specs.declared.record.CallStage.TheVariants as stage
@@ -216,3 +217,17 @@ collect m t p c =
           };
       answer = collect_answer_in m p (find_call m (is_to_collect_as c));
     }
+
+-- the tests and the effect of an entry of this file
+
+abbrev pub tests_of_doors : State → ℕ → ℕ → Request → List Test
+tests_of_doors m t p (request.Create entry cookie attrs) = create_tests m p attrs
+tests_of_doors m t p (request.Call fd bytes pass rsize) = call_tests m p fd bytes pass
+tests_of_doors m t p (request.Return bytes pass) = return_tests m t p bytes pass
+tests_of_doors m t p _ = []
+
+abbrev pub effect_of_doors : State → ℕ → ℕ → Request → ActResult
+effect_of_doors m t p (request.Create entry cookie attrs) = create m p entry cookie attrs
+effect_of_doors m t p (request.Call fd bytes pass rsize) = call m t p fd bytes pass rsize
+effect_of_doors m t p (request.Return bytes pass) = return m t p bytes pass
+effect_of_doors m t p _ = no_act m

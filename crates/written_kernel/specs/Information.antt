@@ -1,14 +1,15 @@
 -- The acts that tell of a door, and that change its parameters: door_info(3C), door_getparam(3C), door_setparam(3C); and
 -- the one that tells of a client: door_cred(3C).
 use Rattle.std.specs.Prelude.{ℕ, List, [], ◌∷◌, Option, Some, None, is_none, length, not}
-use Rattle.written_kernel.specs.Types.{Call, Fd, Param}
+use Rattle.written_kernel.specs.Types.{Call, Fd, Param, Request}
 use Rattle.dk_base.specs.declared.error.Errno.TheVariants.{EBADF, EINVAL}
 use Rattle.dk_base.specs.declared.object.Obj.TheVariants as obj
+use Rattle.dk_base.specs.declared.request.Request.TheVariants as request
 use Rattle.dk_base.specs.declared.answer.Answer.TheVariants as answer
 use Rattle.kernel_records.specs.Words.{Test, info_in, param_in, pid, refused_where, set_param, set_param_tests}
 use Rattle.written_kernel.specs.State.{State, client_call, door_of, object_at, process_of}
 use Rattle.written_kernel.specs.References.{refs}
-use Rattle.written_kernel.specs.Acts.{ActResult}
+use Rattle.written_kernel.specs.Acts.{ActResult, no_act}
 use Rattle.written_kernel.specs.Descriptors.{door_named, is_door}
 
 -- the number of the door that a descriptor names, 0 for none
@@ -54,3 +55,19 @@ client_process m (Some r) = process_of m r.caller.0
 
 abbrev pub credentials : State → ℕ → ActResult
 credentials m t = record { state = m; answer = answer.Client (pid (client_process m (client_call m t))) }
+
+-- the tests and the effect of an entry of this file
+
+abbrev pub tests_of_information : State → ℕ → ℕ → Request → List Test
+tests_of_information m t p (request.Info fd) = door_tests m p fd
+tests_of_information m t p (request.GetParam fd x) = door_tests m p fd
+tests_of_information m t p (request.SetParam fd x value) = set_parameter_tests m p fd x value
+tests_of_information m t p request.Cred = credentials_tests m t
+tests_of_information m t p _ = []
+
+abbrev pub effect_of_information : State → ℕ → ℕ → Request → ActResult
+effect_of_information m t p (request.Info fd) = information m p fd
+effect_of_information m t p (request.GetParam fd x) = parameter m p fd x
+effect_of_information m t p (request.SetParam fd x value) = set_parameter m p fd x value
+effect_of_information m t p request.Cred = credentials m t
+effect_of_information m t p _ = no_act m

@@ -1,14 +1,15 @@
 -- The acts of leaving: interrupts, the ends of threads and of processes, and door_revoke(3C); and how a server learns that its
 -- client has left. What becomes of calls, threads and notices is one word for all of them, `leave`, which takes each record from
 -- what stands before the event.
-use Rattle.std.specs.Prelude.{ℕ, List, Option, Bool, false, Some, None, if◌then◌else◌}
-use Rattle.written_kernel.specs.Types.{Fd, Inv}
+use Rattle.std.specs.Prelude.{ℕ, List, [], Option, Bool, false, Some, None, if◌then◌else◌}
+use Rattle.written_kernel.specs.Types.{Fd, Inv, Request}
 use Rattle.dk_base.specs.declared.error.Errno.TheVariants.{EINVAL}
+use Rattle.dk_base.specs.declared.request.Request.TheVariants as request
 use Rattle.dk_base.specs.declared.answer.Answer.TheVariants as answer
 use Rattle.kernel_records.specs.declared.record.ThreadState.TheVariants as is
 use Rattle.kernel_records.specs.Words.{Leaving, Test, close_row, close_table, end_owner, end_process, interruption, is_last, left_calls, left_notices, left_threads, process_end, revocation, revoke_door, revoke_tests, thread_end, with_table}
 use Rattle.written_kernel.specs.State.{State, door_of, invocation_of, is_live_process, now, table_of, with_state}
-use Rattle.written_kernel.specs.Acts.{ActResult}
+use Rattle.written_kernel.specs.Acts.{ActResult, no_act}
 use Rattle.written_kernel.specs.Information.{door_at}
 
 abbrev pub leave : State → Leaving → State
@@ -72,3 +73,17 @@ test_cancel m t = record { state = m; answer = answer.Cancel (is_cancelled (invo
 -- a thread whose door became invalid while it was parked goes on, and is told EINVAL
 abbrev pub wake : State → ℕ → ActResult
 wake m t = record { state = with_state m t is.Running; answer = answer.Failure EINVAL }
+
+-- the tests and the effect of an entry of this file
+
+abbrev pub tests_of_leaving : State → ℕ → ℕ → Request → List Test
+tests_of_leaving m t p (request.Revoke fd) = revoking_tests m p fd
+tests_of_leaving m t p _ = []
+
+abbrev pub effect_of_leaving : State → ℕ → ℕ → Request → ActResult
+effect_of_leaving m t p (request.Revoke fd) = revoke m p fd
+effect_of_leaving m t p (request.Interrupt thread) = interrupt m thread.0
+effect_of_leaving m t p (request.Kill process) = kill m process.0
+effect_of_leaving m t p request.Exit = exit m t p
+effect_of_leaving m t p request.TestCancel = test_cancel m t
+effect_of_leaving m t p _ = no_act m

@@ -4,7 +4,7 @@ pub mod References
 pub mod Walks
 pub mod Turns
 pub mod Acts
-pub mod Answers
+pub mod Subjects
 pub mod Doors
 pub mod Descriptors
 pub mod Information

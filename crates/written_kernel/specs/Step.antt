@@ -8,63 +8,45 @@ use Rattle.kernel_records.specs.declared.record.ThreadState.TheVariants as is
 use Rattle.kernel_records.specs.Words.{Test, first_refusal, tid}
 use Rattle.written_kernel.specs.State.{State, process_of, state_of, with_state}
 use Rattle.written_kernel.specs.Acts.{ActResult, no_act, unless_refused}
-use Rattle.written_kernel.specs.Doors.{accept, call, call_tests, collect, create, create_tests, return, return_tests}
-use Rattle.written_kernel.specs.Descriptors.{attach, attach_tests, await, close, close_tests, detach, detach_tests, dup, dup_tests, end_await, open_path, open_tests}
-use Rattle.written_kernel.specs.Binding.{bind, binding_tests, bound_tests, information_of_bound, unbind}
-use Rattle.written_kernel.specs.Information.{credentials, credentials_tests, door_tests, information, parameter, set_parameter, set_parameter_tests}
-use Rattle.written_kernel.specs.Leaving.{exit, interrupt, kill, revoke, revoking_tests, test_cancel, wake}
+use Rattle.written_kernel.specs.Subjects.{Subject, subject_of}
+use Rattle.written_kernel.specs.Doors.{accept, collect, effect_of_doors, tests_of_doors}
+use Rattle.written_kernel.specs.Descriptors.{effect_of_descriptors, end_await, tests_of_descriptors}
+use Rattle.written_kernel.specs.Binding.{effect_of_bindings, tests_of_bindings}
+use Rattle.written_kernel.specs.Information.{effect_of_information, tests_of_information}
+use Rattle.written_kernel.specs.Leaving.{effect_of_leaving, tests_of_leaving, wake}
 use Rattle.written_kernel.specs.Settle.{settle}
 use Rattle.written_kernel.specs.Turns.{woken_threads}
 use Rattle.written_kernel.specs.Walks.{root}
 
--- what an entry of thread t of process p is tested for, in this order
+-- what an entry of thread t of process p is tested for, in this order, in the file of its subject
+
+abbrev pub tests_about : Subject → State → ℕ → ℕ → Request → List Test
+tests_about Subject.doors m t p r = tests_of_doors m t p r
+tests_about Subject.bindings m t p r = tests_of_bindings m t p r
+tests_about Subject.information m t p r = tests_of_information m t p r
+tests_about Subject.descriptors m t p r = tests_of_descriptors m t p r
+tests_about Subject.leaving m t p r = tests_of_leaving m t p r
+tests_about Subject.unbuilt m t p r = []
+
 abbrev pub tests_of : State → ℕ → ℕ → Request → List Test
-tests_of m t p (request.Create entry cookie attrs) = create_tests m p attrs
-tests_of m t p (request.Call fd bytes pass rsize) = call_tests m p fd bytes pass
-tests_of m t p (request.Return bytes pass) = return_tests m t p bytes pass
-tests_of m t p (request.Revoke fd) = revoking_tests m p fd
-tests_of m t p (request.Bind fd) = binding_tests m p fd
-tests_of m t p request.Unbind = bound_tests m t
-tests_of m t p (request.Info fd) = door_tests m p fd
-tests_of m t p request.InfoQuery = bound_tests m t
-tests_of m t p (request.GetParam fd param) = door_tests m p fd
-tests_of m t p (request.SetParam fd param value) = set_parameter_tests m p fd param value
-tests_of m t p request.Cred = credentials_tests m t
-tests_of m t p (request.Close fd) = close_tests m p fd
-tests_of m t p (request.Dup fd) = dup_tests m p fd
-tests_of m t p (request.Attach fd path) = attach_tests m p fd path
-tests_of m t p (request.Detach path) = detach_tests m path
-tests_of m t p (request.Open path) = open_tests m p path
-tests_of m t p _ = []
+tests_of m t p r = tests_about (subject_of r) m t p r
 
 -- what an entry is refused with, if it is
 abbrev pub refusal_of : State → ℕ → ℕ → Request → Option Errno
 refusal_of m t p r = first_refusal (tests_of m t p r)
 
 -- what an entry does that is not refused
+
+abbrev pub effect_about : Subject → State → ℕ → ℕ → Request → ActResult
+effect_about Subject.doors m t p r = effect_of_doors m t p r
+effect_about Subject.bindings m t p r = effect_of_bindings m t p r
+effect_about Subject.information m t p r = effect_of_information m t p r
+effect_about Subject.descriptors m t p r = effect_of_descriptors m t p r
+effect_about Subject.leaving m t p r = effect_of_leaving m t p r
+effect_about Subject.unbuilt m t p r = no_act m
+
 abbrev pub effect : State → ℕ → ℕ → Request → ActResult
-effect m t p (request.Create entry cookie attrs) = create m p entry cookie attrs
-effect m t p (request.Call fd bytes pass rsize) = call m t p fd bytes pass rsize
-effect m t p (request.Return bytes pass) = return m t p bytes pass
-effect m t p (request.Revoke fd) = revoke m p fd
-effect m t p (request.Bind fd) = bind m t p fd
-effect m t p request.Unbind = unbind m t
-effect m t p (request.Info fd) = information m p fd
-effect m t p request.InfoQuery = information_of_bound m t p
-effect m t p (request.GetParam fd param) = parameter m p fd param
-effect m t p (request.SetParam fd param value) = set_parameter m p fd param value
-effect m t p request.Cred = credentials m t
-effect m t p request.TestCancel = test_cancel m t
-effect m t p (request.Close fd) = close m p fd
-effect m t p (request.Dup fd) = dup m p fd
-effect m t p (request.Attach fd path) = attach m p fd path
-effect m t p (request.Detach path) = detach m path
-effect m t p (request.Open path) = open_path m p path
-effect m t p (request.Await path) = await m t path
-effect m t p (request.Interrupt thread) = interrupt m thread.0
-effect m t p (request.Kill process) = kill m process.0
-effect m t p request.Exit = exit m t p
-effect m t p _ = no_act m
+effect m t p r = effect_about (subject_of r) m t p r
 
 -- a kernel entry of thread t of process p
 abbrev pub enter : State → ℕ → ℕ → Request → ActResult

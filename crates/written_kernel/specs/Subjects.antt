@@ -1,0 +1,36 @@
+-- What an entry is about: the file of this folder that has its tests and its effect.
+use Rattle.written_kernel.specs.Types.{Request}
+use Rattle.dk_base.specs.declared.request.Request.TheVariants as request
+
+pub data Subject : Type 0 where
+  doors : Subject
+  bindings : Subject
+  information : Subject
+  descriptors : Subject
+  leaving : Subject
+  -- of a capability that is not built: it goes as the capabilities come
+  unbuilt : Subject
+
+abbrev pub subject_of : Request → Subject
+subject_of (request.Create entry cookie attrs) = Subject.doors
+subject_of (request.Call fd bytes pass rsize) = Subject.doors
+subject_of (request.Return bytes pass) = Subject.doors
+subject_of (request.Bind fd) = Subject.bindings
+subject_of request.Unbind = Subject.bindings
+subject_of request.InfoQuery = Subject.bindings
+subject_of (request.Info fd) = Subject.information
+subject_of (request.GetParam fd param) = Subject.information
+subject_of (request.SetParam fd param value) = Subject.information
+subject_of request.Cred = Subject.information
+subject_of (request.Close fd) = Subject.descriptors
+subject_of (request.Dup fd) = Subject.descriptors
+subject_of (request.Attach fd path) = Subject.descriptors
+subject_of (request.Detach path) = Subject.descriptors
+subject_of (request.Open path) = Subject.descriptors
+subject_of (request.Await path) = Subject.descriptors
+subject_of (request.Revoke fd) = Subject.leaving
+subject_of (request.Interrupt thread) = Subject.leaving
+subject_of (request.Kill process) = Subject.leaving
+subject_of request.Exit = Subject.leaving
+subject_of request.TestCancel = Subject.leaving
+subject_of _ = Subject.unbuilt
