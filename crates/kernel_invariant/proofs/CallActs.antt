@@ -1,13 +1,13 @@
 -- The acts that change a call: door_call, accept, door_return and collect.
-use Rattle.std.specs.Prelude.{ℕ, ◌≡◌, List, [], ◌∷◌, Option, Bool, true, false, not, if◌then◌else◌, Some, None, is_some, length, nat_lt}
+use Rattle.std.specs.Prelude.{ℕ, ◌≡◌, List, Option, Bool, true, false, if◌then◌else◌, Some, None, is_some, length, nat_lt}
 use Rattle.std.proofs.Common.{refl, sym, ap, subst, ◌∙◌}
 use native.Mathlib.Omega.{arith}
-use Rattle.std.proofs.Common.{length-append}
 use Rattle.std.proofs.lemmas.Bool.Decides.{nat_tests}
-use Rattle.written_kernel.specs.Types.{Answer, Call, CallStage, Errno, Fd, Item, Notice, Obj, Pass, Request, ThreadState}
-use Rattle.kernel_records.specs.Words.{CallTree, NoticeList, collect_call, end_invocation, end_notice, first_refusal, is_client_call_of, is_entered_by, is_given_as, is_given_to, is_notice_entered_by, is_to_collect, is_to_collect_as, new_descriptors, notice_at, objects_passed, open_call, park_thread, return_call, ProcessTable, set_thread_state, tid, without_arguments_at}
-use Rattle.written_kernel.specs.Words.{ActResult, State, accept, accept_call, begin_call, call, call_tests, client_call, collect, collect_answer, collect_answer_in, door_named, fail_begin, find_call, find_notice, has_invalid_door, has_room, invocation_of, is_valid, make_call, new_call, now, object_at, objects_collected, objects_collected_in, process_of, return, return_answer, return_parked, return_tests, return_unbound, state_of, table_of, tables_after_collect, tables_after_pass, tables_with}
-use Rattle.dk_base.specs.declared.error.Errno.TheVariants.{EBADF, EINVAL, EMFILE}
+use Rattle.kernel_records.proofs.NumberedLists.{find-found, find-none, find-passes, find-past, find-push}
+use Rattle.written_kernel.specs.Types.{Answer, Call, CallStage, Fd, Notice, Obj, Pass, Request, ThreadState}
+use Rattle.kernel_records.specs.Words.{CallTree, NoticeList, ProcessTable, call_number, collect_call, end_invocation, end_notice, first_refusal, is_client_call_of, is_given_as, is_notice_entered_by, is_to_collect, is_to_collect_as, new_descriptors, notice_at, objects_passed, open_call, park_thread, return_call, set_thread_state, tid, without_arguments_at}
+use Rattle.written_kernel.specs.Words.{ActResult, State, begin_call, call, call_tests, client_call, collect, collect_answer, collect_answer_in, door_named, fail_begin, find_call, find_notice, has_invalid_door, has_room, invocation_of, is_valid, make_call, new_call, now, object_at, objects_collected, objects_collected_in, process_of, return_answer, return_parked, return_tests, return_unbound, state_of, table_of, tables_after_collect, tables_after_pass, tables_with}
+use Rattle.dk_base.specs.declared.error.Errno.TheVariants.{EINVAL, EMFILE}
 use Rattle.dk_base.specs.declared.object.Obj.TheVariants as obj
 use Rattle.dk_base.specs.declared.object.Item.TheVariants as item
 use Rattle.dk_base.specs.declared.request.Request.TheVariants as request
@@ -20,37 +20,32 @@ use Rattle.kernel_invariant.specs.Core.{core, abandoned_in, notice_in}
 use Rattle.kernel_invariant.specs.Coherent.{IsCoherent}
 use Rattle.kernel_invariant.specs.Invariant.{IsConsistent}
 use Rattle.kernel_invariant.specs.Arrows.{ByAct}
-use Rattle.kernel_invariant.specs.Arrows.ByAct.{makes, returns, ends, collects_results, collects_nothing, collects_error, enters}
+use Rattle.kernel_invariant.specs.Arrows.ByAct.{stays, makes, returns, ends, collects_results, collects_nothing, collects_error, enters}
 use Rattle.kernel_invariant.specs.Arrows.NoticeByAct.{stays as notice_stays, returns as notice_returns}
 use Rattle.kernel_invariant.specs.Arrows.EndsBy.{server_full}
-use Rattle.kernel_invariant.proofs.Calls.{IsInOrder-push, find-found, find-none, find-passes, find-past, find-push}
 use Rattle.kernel_records.proofs.Places.{change_first-none}
-use Rattle.kernel_invariant.proofs.Notices.{notice-passes}
 use Rattle.kernel_invariant.proofs.NoticeMoves.{end_notice_keeps}
-use Rattle.kernel_invariant.proofs.NoticeActs.{accept_notice_does, does_notice, entered_notice_is, no_entered, none_entered, notice_found}
-use Rattle.kernel_invariant.proofs.Cores.{Turns, act-core, end_invocation-turns, enter_thread-turns, park_thread-turns, set_thread_state-turns, upd}
+pub use Rattle.written_kernel.proofs.Moves.{given_is}
+use Rattle.written_kernel.proofs.Moves.{Accepts}
+use Rattle.kernel_invariant.proofs.NoticeActs.{does_notice, entered_notice_is, no_entered, none_entered}
+use Rattle.kernel_invariant.proofs.Cores.{Turns, act-core, at_one, end_invocation-turns, enter_thread-turns, park_thread-turns, set_thread_state-turns, upd}
 use Rattle.kernel_invariant.proofs.CallMoves.{call_keeps, enter_keeps, fail_keeps, is_after_return, return_keeps, park_keeps, collect_keeps}
-use Rattle.kernel_invariant.proofs.Acts.{AreTables, Does, act_consistent, act_result, after_act, arrow_at, does_call, does_nothing, does_thread, own_tables, same_list, same_tables, there, unbound_does}
+use Rattle.kernel_invariant.proofs.Acts.{Does, act_result, does_call, does_thread, same_list, unbound_does}
+use Rattle.kernel_invariant.proofs.Consistent.{AreTables, act_consistent, after_act, calls_counted, notice_found, notices_counted, own_tables, push_counted, same_tables, there}
 
 -- what a test finds is what its number finds
 pub record_found : (m : State) (test : Call → Bool) (r : Call) → IsConsistent m → find_call m test ≡ Some r → record_of m r.number ≡ Some r
-record_found m test r h f = find-found test m.call_tree.calls 0 r h.in_order f
+record_found m test r h f = find-found call_number test m.call_tree.calls 0 r h.in_order f
 
 -- door_call
 
 call_is_valid :
     (m : State) (p : ℕ) (fd : Fd) (bytes : List ℕ) (pass : List Pass) → first_refusal (call_tests m p fd bytes pass) ≡ None →
     is_valid m (door_named (object_at m p fd)) ≡ true
-call_is_valid m p fd bytes pass e = first (is_valid m (door_named (object_at m p fd))) _ e
-  where
-    first : (valid : Bool) (others : Option Errno) → (if not valid then Some EBADF else others) ≡ None → valid ≡ true
-    first true others f = refl
-    first false others f = cc
+call_is_valid m p fd bytes pass e = grind arith
 
 pub names_door : (m : State) (o : Option Obj) → is_valid m (door_named o) ≡ true → o ≡ Some (obj.Door (door_named o))
-names_door m None e = grind (arith, nat_tests)
-names_door m (Some (obj.Door d)) e = refl
-names_door m (Some _) e = grind (arith, nat_tests)
+names_door m o e = grind (arith, nat_tests)
 
 pub call_does :
     (m : State) (t rsize : ℕ) (fd : Fd) (bytes : List ℕ) (pass : List Pass) → IsConsistent m → state_of m t ≡ is.Running →
@@ -59,17 +54,15 @@ pub call_does :
 call_does m t rsize fd bytes pass h e f =
     record {
       consistent =
-          act_consistent m _ _ (open_call m.call_tree r) h (own_tables m t _ h (λ z. grind arith)) turns.processes
-          (IsInOrder-push m.call_tree.calls 0 r h.in_order (grind (arith, h.counted)))
-          (grind (arith, length-append m.call_tree.calls (r ∷ []), h.counted))
-          (subst IsCoherent (sym (act-core m _ (open_call m.call_tree r) t _ _ _ turns found))
+          act_consistent m _ _ (open_call m.call_tree r) m.notice_list (own_tables m t _ h (λ z. grind arith)) turns.processes
+          (push_counted r (calls_counted h) refl) (notices_counted h)
+          (subst IsCoherent (sym (act-core m _ (open_call m.call_tree r) m.notice_list t _ _ _ _ turns found (λ n. refl) (λ n. refl)))
           (call_keeps (core m) t r h.coherent
           (record { running = e; number = refl; caller = refl; kept = refl; queued = refl; no_cancel = refl; valid = valid })));
       arrows =
-          arrow_at m t q _ _ r.number r (λ c. record_of m c) _ found
-          (subst (λ o. ByAct m t q (answer.WaitCall r.number) n o (Some r))
-          (sym (find-past m.call_tree.calls 0 r.number h.in_order (grind (arith, h.counted))))
-          (makes d rsize fd bytes pass refl (names_door m (object_at m (process_of m t) fd) valid) f refl));
+          at_one (ByAct m t q (answer.WaitCall r.number) n) (λ o. stays) r.number r None (λ c. record_of m c) _ found
+          (find-past call_number m.call_tree.calls 0 r.number h.in_order (grind (arith, h.counted)))
+          (makes d rsize fd bytes pass refl (names_door m (object_at m (process_of m t) fd) valid) f refl);
       notices = λ c. notice_stays;
       kept = same_list m.notice_list;
     }
@@ -93,68 +86,37 @@ call_does m t rsize fd bytes pass h e f =
     turns = set_thread_state-turns m.process_table t (is.Calling r.number) (there m t (λ z. grind arith))
 
     found : (c : ℕ) → record_of n c ≡ upd (core m).call r.number (Some r) c
-    found c = find-push m.call_tree.calls 0 r c h.in_order (grind (arith, h.counted))
+    found c = find-push call_number m.call_tree.calls 0 r c h.in_order (grind (arith, h.counted))
 
 -- accept
 
-pub given_is : (c t : ℕ) (r : Call) → is_given_as c t r ≡ true → (r.number ≡ c) × (r.stage ≡ stage.Given (tid t))
-given_is c t r e = (grind (arith, nat_tests), go r.stage (grind (arith, nat_tests)))
-  where
-    go : (s : CallStage) → is_given_to t s ≡ true → s ≡ stage.Given (tid t)
-    go (stage.Given u) f = ap (λ (n : ℕ). stage.Given (tid n)) (grind (arith, nat_tests))
-    go s f = grind arith
-
 -- the call is entered, with its descriptors
-begin_does :
-    (m : State) (t : ℕ) (r : Call) → IsConsistent m → find_call m (is_given_as r.number t) ≡ Some r →
-    state_of m t ≡ is.Given (item.Call r.number) → has_room m (process_of m t) r.objects ≡ true →
+pub begin_does :
+    (m : State) (t : ℕ) (r : Call) → IsConsistent m → Accepts m t r → has_room m (process_of m t) r.objects ≡ true →
     Does m t None (begin_call m t (process_of m t) r.number r)
-begin_does m t r h f g room =
+begin_does m t r h a room =
+    let g : state_of m t ≡ is.Given (item.Call r.number) = a.given in
     does_call (is_given_as r.number t) (without_arguments_at (stage.Entered (tid t))) (λ x. refl)
     m t None _ _ _ is.Running _ r h
     (own_tables m t _ h (λ z. grind arith))
     (enter_thread-turns m.process_table t (item.Call r.number) (there m t (λ z. grind arith)))
-    f
-    (enter_keeps (core m) t r h.coherent (record_found m _ r h f) g)
-    (enters r refl g (given_is r.number t r (find-passes (is_given_as r.number t) m.call_tree.calls r f)).1 room refl)
+    a.found
+    (enter_keeps (core m) t r h.coherent (record_found m _ r h a.found) g)
+    (enters r refl g a.stage room refl)
 
 -- too few descriptors are free: the call ends
-fail_does :
-    (m : State) (t : ℕ) (r : Call) → IsConsistent m → find_call m (is_given_as r.number t) ≡ Some r →
-    state_of m t ≡ is.Given (item.Call r.number) → has_room m (process_of m t) r.objects ≡ false →
+pub fail_does :
+    (m : State) (t : ℕ) (r : Call) → IsConsistent m → Accepts m t r → has_room m (process_of m t) r.objects ≡ false →
     Does m t None (fail_begin m t r.number r)
-fail_does m t r h f g full =
+fail_does m t r h a full =
+    let g : state_of m t ≡ is.Given (item.Call r.number) = a.given in
     does_call (is_given_as r.number t) (without_arguments_at (stage.Ended EMFILE)) (λ x. refl)
     m t None _ _ _ (is.Idle (now m)) _ r h
     (same_tables m h)
     (park_thread-turns m.process_table t (now m) (there m t (λ z. grind arith)))
-    f
-    (fail_keeps (core m) t r EMFILE (now m) h.coherent (record_found m _ r h f) g)
-    (ends r EMFILE
-    (server_full refl g (given_is r.number t r (find-passes (is_given_as r.number t) m.call_tree.calls r f)).1 full refl))
-
-pub accept_does :
-    (m : State) (t : ℕ) (i : Item) → IsConsistent m → state_of m t ≡ is.Given i → Does m t None (accept m t (process_of m t) i)
-accept_does m t (item.Notice n) h e = accept_notice_does m t n h e
-accept_does m t (item.Call c) h e = go (find_call m (is_given_as c t)) refl
-  where
-    p : ℕ
-    p = process_of m t
-
-    at : (r : Call) → find_call m (is_given_as r.number t) ≡ Some r → state_of m t ≡ is.Given (item.Call r.number) → Does m t None (accept_call m t p r.number (Some r))
-    at r f g = by_room (has_room m p r.objects) refl
-      where
-        by_room : (b : Bool) → has_room m p r.objects ≡ b → Does m t None (if b then begin_call m t p r.number r else fail_begin m t r.number r)
-        by_room true room = begin_does m t r h f g room
-        by_room false full = fail_does m t r h f g full
-
-    go : (o : Option Call) → find_call m (is_given_as c t) ≡ o → Does m t None (accept_call m t p c o)
-    go None f = does_nothing m t None _ h
-    go (Some r) f =
-        let n : r.number ≡ c = (given_is c t r (find-passes (is_given_as c t) m.call_tree.calls r f)).0 in
-        subst (λ (d : ℕ). Does m t None (accept_call m t p d (Some r))) n
-        (at r (subst (λ (d : ℕ). find_call m (is_given_as d t) ≡ Some r) (sym n) f)
-        (subst (λ (d : ℕ). state_of m t ≡ is.Given (item.Call d)) (sym n) e))
+    a.found
+    (fail_keeps (core m) t r EMFILE (now m) h.coherent (record_found m _ r h a.found) g)
+    (ends r EMFILE (server_full refl g a.stage full refl))
 
 -- collect
 
@@ -197,7 +159,7 @@ abbrev collect_found : State → ℕ → ℕ → ℕ → Option Call → ActResu
 collect_found m t p c o =
     act_result
     (after_act m (set_thread_state m.process_table t is.Running) (tables_after_collect m p (objects_collected_in o))
-    (collect_call m.call_tree c (now m)))
+    (collect_call m.call_tree c (now m)) m.notice_list)
     (collect_answer_in m p o)
 
 pub collect_does :
@@ -232,11 +194,7 @@ collect_does m t c h e s = go (find_call m (is_to_collect_as c)) refl s
 -- door_return
 
 pub client_is : (t : ℕ) (r : Call) → is_client_call_of t r ≡ true → (r.abandoned ≡ false) × (r.stage ≡ stage.Entered (tid t))
-client_is t r e = (grind arith, go r.stage (grind arith))
-  where
-    go : (s : CallStage) → is_entered_by t s ≡ true → s ≡ stage.Entered (tid t)
-    go (stage.Entered u) f = ap (λ (n : ℕ). stage.Entered (tid n)) (grind (arith, nat_tests))
-    go s f = grind arith
+client_is t r e = (grind arith, grind (arith, nat_tests))
 
 -- a thread without a client serves no call whose caller has not left
 no_client :
@@ -246,7 +204,7 @@ no_client m t c h e f = go (record_of m c) refl
   where
     go : (o : Option Call) → record_of m c ≡ o → abandoned_in o ≡ true
     go None g = grind (arith, h.coherent.invocations.entered_back c t f)
-    go (Some r) g = grind (arith, nat_tests, h.coherent.invocations.entered_back c t f, find-none (is_client_call_of t) m.call_tree.calls c r e g)
+    go (Some r) g = grind (arith, nat_tests, h.coherent.invocations.entered_back c t f, find-none call_number (is_client_call_of t) m.call_tree.calls c r e g)
 
 -- What a Return leaves but for bindings, where its thread turns to a state after it. It ends the call that the thread has entered and whose
 -- caller has not left, or the notice that the thread has entered, or neither.
@@ -300,7 +258,7 @@ module _ (m : State) (t : ℕ) (bytes : List ℕ) (pass : List Pass) (h : IsCons
           (does_thread m t q a _ tables s _ h rows turns
           (park_keeps (core m) t s h.coherent e w (λ c i. no_client m t c h f i) (λ n i. no_entered m t n h g i)))
       of_notice f (Some x) g =
-          let entered : x.stage ≡ notice.Entered (tid t) = entered_notice_is t x (notice-passes (is_notice_entered_by t) m.notice_list.notices x g) in
+          let entered : x.stage ≡ notice.Entered (tid t) = entered_notice_is t x (find-passes (is_notice_entered_by t) m.notice_list.notices x g) in
           does_notice (is_notice_entered_by t) notice.Over m t q a table tables s _ x h rows turns g
           (end_notice_keeps (core m) t x.number s h.coherent e w (ap notice_in (notice_found m (is_notice_entered_by t) x h g) ∙ ap (λ z. Some z) entered))
           (notice_returns x bytes pass refl free entered)
@@ -312,16 +270,13 @@ module _ (m : State) (t : ℕ) (bytes : List ℕ) (pass : List Pass) (h : IsCons
           (sym (change_first-none (is_client_call_of t) (without_arguments_at (stage.Returned bytes objects)) m.call_tree.calls f))
           (of_notice f (find_notice m (is_notice_entered_by t)) refl)
 
-  pub return_does : Does m t (Some (request.Return bytes pass)) (return m t (process_of m t) bytes pass)
-  return_does = go (has_invalid_door m t) refl
-    where
-      go :
-          (b : Bool) → has_invalid_door m t ≡ b →
-          Does m t (Some (request.Return bytes pass)) (if b then return_unbound m t (process_of m t) bytes pass else return_parked m t (process_of m t) bytes pass)
-      go true f =
-          unbound_does m t _ _ (answer.Failure EINVAL)
-          (return_turns (end_invocation m.process_table t) is.Running (answer.Failure EINVAL) refl
-          (sym (ap (λ (b : Bool). if b then answer.Failure EINVAL else answer.Wait) f)) (end_invocation-turns m.process_table t e))
-      go false f =
-          return_turns (park_thread m.process_table t (now m)) (is.Idle (now m)) answer.Wait refl
-          (sym (ap (λ (b : Bool). if b then answer.Failure EINVAL else answer.Wait) f)) (park_thread-turns m.process_table t (now m) (there m t (λ z. grind arith)))
+  pub unbound_return_does : has_invalid_door m t ≡ true → Does m t (Some (request.Return bytes pass)) (return_unbound m t (process_of m t) bytes pass)
+  unbound_return_does f =
+      unbound_does m t _ _ (answer.Failure EINVAL)
+      (return_turns (end_invocation m.process_table t) is.Running (answer.Failure EINVAL) refl
+      (sym (ap (λ (b : Bool). if b then answer.Failure EINVAL else answer.Wait) f)) (end_invocation-turns m.process_table t e))
+
+  pub parked_return_does : has_invalid_door m t ≡ false → Does m t (Some (request.Return bytes pass)) (return_parked m t (process_of m t) bytes pass)
+  parked_return_does f =
+      return_turns (park_thread m.process_table t (now m)) (is.Idle (now m)) answer.Wait refl
+      (sym (ap (λ (b : Bool). if b then answer.Failure EINVAL else answer.Wait) f)) (park_thread-turns m.process_table t (now m) (there m t (λ z. grind arith)))

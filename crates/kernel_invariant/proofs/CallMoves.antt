@@ -1,4 +1,5 @@
--- The atomic changes of the core that acts of doors make: each keeps what holds of a core.
+-- The atomic changes of the core that concern a call: it is made, given, entered, ended, returned and collected, and its thread may
+-- return without it. Each keeps what holds of a core.
 use Rattle.std.specs.Prelude.{ℕ, ◌≡◌, ◌+◌, List, Bool, true, false, Some, None}
 use Rattle.std.proofs.Common.{refl}
 use native.Mathlib.Omega.{arith}
@@ -7,12 +8,12 @@ use Rattle.dk_base.specs.declared.object.Item.TheVariants as item
 use Rattle.kernel_records.specs.declared.record.ThreadState.TheVariants as is
 use Rattle.written_kernel.specs.Types.{Call, Errno, Obj, ThreadState}
 use Rattle.kernel_records.specs.declared.record.CallStage.TheVariants as stage
-use Rattle.kernel_records.specs.Words.{is_to_collect, is_valid_in, new_invocation, no_cancel_of, tid, without_arguments_at}
-use Rattle.kernel_invariant.specs.Records.{item_in}
+use Rattle.kernel_records.specs.Words.{at_stage, is_to_collect, is_valid_in, new_invocation, no_cancel_of, tid, without_arguments_at}
+use Rattle.kernel_invariant.specs.Records.{item_in, owner_in}
 use Rattle.kernel_invariant.specs.Core.{Core, abandoned_in}
 use Rattle.kernel_invariant.specs.Coherent.{IsCoherent}
 use Rattle.kernel_invariant.proofs.Cores.{set_role, set_serves, set_call, set_new_call}
-use Rattle.kernel_invariant.proofs.Parts.{at_doors_move, calls_move, notices_serve, notices_turn, processes_turn}
+use Rattle.kernel_invariant.proofs.Parts.{at_doors_move, at_doors_set, built_turn, calls_move, calls_set, notices_serve, notices_turn, processes_turn, servers_move, servers_turn, waits_turn}
 
 -- a new call of a running thread waits at a valid door
 abbrev pub with_call_of : Core → ℕ → Call → Core
@@ -44,7 +45,7 @@ call_keeps k t r h p =
             entered_back = λ c v e f. grind (arith, nat_tests, h.invocations.entered_back c v, h.servers.served_made c v);
             kept = λ c e. grind (arith, nat_tests, h.invocations.kept c);
           };
-      notices_given = notices_turn k.role k.notice t _ h.notices_given (grind arith) refl;
+      notices_given = notices_turn t _ h.notices_given (grind arith) refl;
       notices_entered = h.notices_entered;
       notices_at_doors = h.notices_at_doors;
       servers =
@@ -60,18 +61,56 @@ call_keeps k t r h p =
             unmade = λ c e. grind (arith, nat_tests, h.calls.unmade c);
           };
       at_doors =
-          record {
-            door_there = λ c x e. grind (arith, nat_tests, h.at_doors.door_there c x);
-            no_cancel = λ c x e. grind (arith, nat_tests, h.at_doors.no_cancel c x);
-            waiting_valid = λ c e. grind (arith, nat_tests, h.at_doors.waiting_valid c);
-            given_owner = λ c v e. grind (arith, nat_tests, h.at_doors.given_owner c v);
-            entered_owner = λ c v e. grind (arith, nat_tests, h.at_doors.entered_owner c v);
-          };
+          at_doors_set r.number r h.at_doors (grind (arith, p.valid)) p.no_cancel (λ e. p.valid) (λ u e. grind (arith, p.queued))
+          (λ u e. grind (arith, p.queued));
       doors = h.doors;
       bindings = h.bindings;
-      processes = processes_turn k.role k.process k.proc t _ h.processes (grind arith);
+      processes = processes_turn t _ h.processes (grind arith);
       threads = h.threads;
-      has_built_state = λ v. grind (arith, nat_tests, h.has_built_state v);
+      has_built_state = built_turn t _ h refl;
+    }
+
+-- a waiting call is given to an idle thread of the process that made its door
+abbrev pub given_core : Core → Call → ℕ → Core
+given_core k r u = set_role (set_call k r.number (at_stage (stage.Given (tid u)) r)) u (is.Given (item.Call r.number))
+
+pub record Gives (k : Core) (r : Call) (u : ℕ) : Type 0 where
+  pub since : ℕ
+  pub idle : k.role u ≡ is.Idle since
+  pub found : k.call r.number ≡ Some r
+  pub queued : r.stage ≡ stage.Queued
+  pub owner : owner_in (k.door r.door) ≡ Some (k.process u)
+
+pub give_keeps : (k : Core) (r : Call) (u : ℕ) → IsCoherent k → Gives k r u → IsCoherent (given_core k r u)
+give_keeps k r u h p =
+    record {
+      waits =
+          record {
+            given = λ c v e. grind (arith, nat_tests, h.waits.given c v);
+            given_back = λ c v e. grind (arith, nat_tests, h.waits.given_back c v);
+            caller = λ c v e. grind (arith, nat_tests, h.waits.caller c v);
+            live = λ c v e. grind (arith, nat_tests, h.waits.live c v);
+            calling = λ c e. grind (arith, nat_tests, h.waits.calling c);
+          };
+      invocations =
+          record {
+            entered = λ c v e. grind (arith, nat_tests, h.invocations.entered c v);
+            entered_back = λ c v e f. grind (arith, nat_tests, h.invocations.entered_back c v);
+            kept = λ c e. grind (arith, nat_tests, h.invocations.kept c);
+          };
+      notices_given = notices_turn u _ h.notices_given (grind (arith, p.idle)) refl;
+      notices_entered = h.notices_entered;
+      notices_at_doors = h.notices_at_doors;
+      servers = servers_turn u _ h.servers (λ e. h.servers.outside u (grind (arith, p.idle))) refl;
+      calls = calls_set r _ h.calls p.found refl (λ e. grind arith);
+      at_doors =
+          at_doors_set r.number _ h.at_doors (h.at_doors.door_there r.number r p.found) (h.at_doors.no_cancel r.number r p.found)
+          (λ e. grind arith) (λ v e. grind (arith, p.owner)) (λ v e. grind arith);
+      doors = h.doors;
+      bindings = h.bindings;
+      processes = processes_turn u _ h.processes (grind (arith, p.idle));
+      threads = h.threads;
+      has_built_state = built_turn u _ h refl;
     }
 
 -- a thread enters the call that it was given
@@ -98,31 +137,21 @@ enter_keeps k t r h q g =
             entered_back = λ c v e f. grind (arith, nat_tests, h.invocations.entered_back c v, h.waits.given_back r.number t);
             kept = λ c e. grind (arith, nat_tests, h.invocations.kept c, h.waits.given_back r.number t);
           };
-      notices_given = notices_turn k.role k.notice t _ h.notices_given (grind arith) refl;
+      notices_given = notices_turn t _ h.notices_given (grind arith) refl;
       notices_entered =
-          notices_serve k.serves k.notice t _ h.notices_entered (λ n e. grind (arith, h.servers.outside t)) (λ n e. grind arith);
+          notices_serve t _ h.notices_entered (λ n e. grind (arith, h.servers.outside t)) (λ n e. grind arith);
       notices_at_doors = h.notices_at_doors;
-      servers =
-          record {
-            outside = λ v e. grind (arith, nat_tests, h.servers.outside v);
-            below = λ c d v e f. grind (arith, nat_tests, h.servers.below c d v);
-            served_made = λ c v e. grind (arith, nat_tests, h.servers.served_made c v, h.calls.unmade r.number);
-          };
-      calls = calls_move k.call k.made r _ h.calls q;
+      servers = servers_move t _ _ h.servers (λ e. grind arith) refl (λ c e. grind (arith, h.calls.unmade r.number));
+      calls = calls_move r _ h.calls q;
       at_doors =
-          record {
-            door_there = λ c x e. grind (arith, nat_tests, h.at_doors.door_there c x, h.at_doors.door_there r.number r);
-            no_cancel = λ c x e. grind (arith, nat_tests, h.at_doors.no_cancel c x, h.at_doors.no_cancel r.number r);
-            waiting_valid = λ c e. grind (arith, nat_tests, h.at_doors.waiting_valid c);
-            given_owner = λ c v e. grind (arith, nat_tests, h.at_doors.given_owner c v);
-            entered_owner =
-                λ c v e. grind (arith, nat_tests, h.at_doors.entered_owner c v, h.at_doors.given_owner c v, h.waits.given_back r.number t);
-          };
+          at_doors_set r.number _ h.at_doors (h.at_doors.door_there r.number r q) (h.at_doors.no_cancel r.number r q) (λ e. grind arith)
+          (λ u e. grind arith)
+          (λ u e. grind (arith, h.at_doors.given_owner r.number t, h.waits.given_back r.number t));
       doors = h.doors;
       bindings = h.bindings;
-      processes = processes_turn k.role k.process k.proc t _ h.processes (grind arith);
+      processes = processes_turn t _ h.processes (grind arith);
       threads = h.threads;
-      has_built_state = λ v. grind (arith, nat_tests, h.has_built_state v);
+      has_built_state = built_turn t _ h refl;
     }
 
 -- a thread cannot enter the call that it was given: the call ends, and the thread is parked
@@ -149,23 +178,18 @@ fail_keeps k t r x since h q g =
             entered_back = λ c v e f. grind (arith, nat_tests, h.invocations.entered_back c v, h.waits.given_back r.number t);
             kept = λ c e. grind (arith, nat_tests, h.invocations.kept c);
           };
-      notices_given = notices_turn k.role k.notice t _ h.notices_given (grind arith) refl;
+      notices_given = notices_turn t _ h.notices_given (grind arith) refl;
       notices_entered =
-          notices_serve k.serves k.notice t _ h.notices_entered (λ n e. grind (arith, h.servers.outside t)) (λ n e. grind arith);
+          notices_serve t _ h.notices_entered (λ n e. grind (arith, h.servers.outside t)) (λ n e. grind arith);
       notices_at_doors = h.notices_at_doors;
-      servers =
-          record {
-            outside = λ v e. grind (arith, nat_tests, h.servers.outside v);
-            below = λ c d v e f. grind (arith, nat_tests, h.servers.below c d v);
-            served_made = λ c v e. grind (arith, nat_tests, h.servers.served_made c v);
-          };
-      calls = calls_move k.call k.made r _ h.calls q;
-      at_doors = at_doors_move k.call k.door k.process r _ h.at_doors q refl;
+      servers = servers_move t _ None h.servers (λ e. refl) refl (λ c e. grind arith);
+      calls = calls_move r _ h.calls q;
+      at_doors = at_doors_move r _ h.at_doors q refl;
       doors = h.doors;
       bindings = h.bindings;
-      processes = processes_turn k.role k.process k.proc t _ h.processes (grind arith);
+      processes = processes_turn t _ h.processes (grind arith);
       threads = h.threads;
-      has_built_state = λ v. grind (arith, nat_tests, h.has_built_state v);
+      has_built_state = built_turn t _ h refl;
     }
 
 -- a thread that returns is parked, or goes on
@@ -199,22 +223,17 @@ return_keeps k t r bytes objects s h p z q i a =
             entered_back = λ c v e f. grind (arith, nat_tests, h.invocations.entered_back c v, h.invocations.entered_back r.number t);
             kept = λ c e. grind (arith, nat_tests, h.invocations.kept c);
           };
-      notices_given = notices_turn k.role k.notice t _ h.notices_given (grind arith) (grind arith);
-      notices_entered = notices_serve k.serves k.notice t _ h.notices_entered (λ n e. grind arith) (λ n e. grind arith);
+      notices_given = notices_turn t _ h.notices_given (grind arith) (grind arith);
+      notices_entered = notices_serve t _ h.notices_entered (λ n e. grind arith) (λ n e. grind arith);
       notices_at_doors = h.notices_at_doors;
-      servers =
-          record {
-            outside = λ v e. grind (arith, nat_tests, h.servers.outside v);
-            below = λ c d v e f. grind (arith, nat_tests, h.servers.below c d v);
-            served_made = λ c v e. grind (arith, nat_tests, h.servers.served_made c v);
-          };
-      calls = calls_move k.call k.made r _ h.calls q;
-      at_doors = at_doors_move k.call k.door k.process r _ h.at_doors q refl;
+      servers = servers_move t s None h.servers (λ e. refl) (grind arith) (λ c e. grind arith);
+      calls = calls_move r _ h.calls q;
+      at_doors = at_doors_move r _ h.at_doors q refl;
       doors = h.doors;
       bindings = h.bindings;
-      processes = processes_turn k.role k.process k.proc t _ h.processes (grind arith);
+      processes = processes_turn t _ h.processes (grind arith);
       threads = h.threads;
-      has_built_state = λ v. grind (arith, nat_tests, h.has_built_state v);
+      has_built_state = built_turn t s h (grind arith);
     }
 
 -- a thread without a client returns
@@ -227,36 +246,24 @@ pub park_keeps :
     ((n : ℕ) → item_in (k.serves t) ≡ Some (item.Notice n) → ⊥) → IsCoherent (parked_core k t s)
 park_keeps k t s h p w q z =
     record {
-      waits =
-          record {
-            given = λ c v e. grind (arith, nat_tests, h.waits.given c v);
-            given_back = λ c v e. grind (arith, nat_tests, h.waits.given_back c v);
-            caller = λ c v e. grind (arith, nat_tests, h.waits.caller c v);
-            live = λ c v e. grind (arith, nat_tests, h.waits.live c v);
-            calling = λ c e. grind (arith, nat_tests, h.waits.calling c);
-          };
+      waits = waits_turn t s h.waits (grind arith) (grind arith);
       invocations =
           record {
             entered = λ c v e. grind (arith, nat_tests, h.invocations.entered c v, h.invocations.kept c, q c);
             entered_back = λ c v e f. grind (arith, nat_tests, h.invocations.entered_back c v);
             kept = h.invocations.kept;
           };
-      notices_given = notices_turn k.role k.notice t _ h.notices_given (grind arith) (grind arith);
-      notices_entered = notices_serve k.serves k.notice t _ h.notices_entered z (λ n e. grind arith);
+      notices_given = notices_turn t _ h.notices_given (grind arith) (grind arith);
+      notices_entered = notices_serve t _ h.notices_entered z (λ n e. grind arith);
       notices_at_doors = h.notices_at_doors;
-      servers =
-          record {
-            outside = λ v e. grind (arith, nat_tests, h.servers.outside v);
-            below = λ c d v e f. grind (arith, nat_tests, h.servers.below c d v);
-            served_made = λ c v e. grind (arith, nat_tests, h.servers.served_made c v);
-          };
+      servers = servers_move t s None h.servers (λ e. refl) (grind arith) (λ c e. grind arith);
       calls = h.calls;
       at_doors = h.at_doors;
       doors = h.doors;
       bindings = h.bindings;
-      processes = processes_turn k.role k.process k.proc t _ h.processes (grind arith);
+      processes = processes_turn t _ h.processes (grind arith);
       threads = h.threads;
-      has_built_state = λ v. grind (arith, nat_tests, h.has_built_state v);
+      has_built_state = built_turn t s h (grind arith);
     }
 
 -- a caller collects the answer of its call
@@ -282,20 +289,15 @@ collect_keeps k t r at h q g z =
             entered_back = λ c v e f. grind (arith, nat_tests, h.invocations.entered_back c v);
             kept = λ c e. grind (arith, nat_tests, h.invocations.kept c);
           };
-      notices_given = notices_turn k.role k.notice t _ h.notices_given (grind arith) refl;
+      notices_given = notices_turn t _ h.notices_given (grind arith) refl;
       notices_entered = h.notices_entered;
       notices_at_doors = h.notices_at_doors;
-      servers =
-          record {
-            outside = λ v e. grind (arith, nat_tests, h.servers.outside v);
-            below = λ c d v e f. grind (arith, nat_tests, h.servers.below c d v);
-            served_made = h.servers.served_made;
-          };
-      calls = calls_move k.call k.made r _ h.calls q;
-      at_doors = at_doors_move k.call k.door k.process r _ h.at_doors q refl;
+      servers = servers_turn t _ h.servers (λ e. grind arith) refl;
+      calls = calls_move r _ h.calls q;
+      at_doors = at_doors_move r _ h.at_doors q refl;
       doors = h.doors;
       bindings = h.bindings;
-      processes = processes_turn k.role k.process k.proc t _ h.processes (grind arith);
+      processes = processes_turn t _ h.processes (grind arith);
       threads = h.threads;
-      has_built_state = λ v. grind (arith, nat_tests, h.has_built_state v);
+      has_built_state = built_turn t _ h refl;
     }

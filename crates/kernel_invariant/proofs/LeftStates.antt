@@ -10,14 +10,15 @@ use Rattle.dk_base.specs.ByNumber.{at_number}
 use Rattle.dk_base.specs.declared.error.Errno.TheVariants.{EBADF, EINTR}
 use Rattle.dk_base.specs.declared.object.Item.TheVariants as item
 use Rattle.dk_base.specs.declared.request.Request.TheVariants as request
-use Rattle.written_kernel.specs.Types.{Answer, Call, CallStage, Door, Fd, Inv, Notice, NoticeStage, Obj, Process, Request, Thread, ThreadState}
+use Rattle.kernel_records.proofs.NumberedLists.{counted-map, find-found, find-map, find-none, find-passes}
+use Rattle.written_kernel.specs.Types.{Answer, Call, CallStage, Door, Fd, Inv, Item, Notice, NoticeStage, Obj, Process, Request, Thread, ThreadState}
 use Rattle.kernel_records.specs.declared.record.ThreadState.TheVariants as is
 use Rattle.kernel_records.specs.declared.record.CallStage.TheVariants as stage
 use Rattle.kernel_records.specs.declared.record.NoticeStage.TheVariants as notice
-use Rattle.kernel_records.specs.Words.{Leaving, abandoned_at, broken_call_at, cancelled_invocation, without_arguments_at, deserted_at, deserted_in, ended_thread, ended_where, gone_call_at, interrupted_state, interrupted_thread, interrupted_where, invocation_in, is_entered_by, is_given_to, is_left, is_live, is_notice_of, is_private_in, is_served_by, is_valid_in, left_call, left_notice, left_notice_at, left_thread, left_thread_of, left_threads, no_cancel_of, notice_at, object_named, process_in, state_in, table_in, tid}
+use Rattle.kernel_records.specs.Words.{Leaving, abandoned_at, broken_call_at, call_number, cancelled_invocation, deserted_at, deserted_in, ended_thread, ended_where, gone_call_at, interrupted_where, invocation_in, is_entered_by, is_given_to, is_left, is_live, is_notice_of, is_private_in, is_served_by, is_valid_in, left_call, left_notice, left_notice_at, left_thread_of, left_threads, no_cancel_of, notice_at, notice_number, object_named, process_in, state_in, table_in, tid, without_arguments_at}
 use Rattle.written_kernel.specs.Words.{State, door_of, invocation_of, is_valid, leave, now, process_of, state_of, thread_of}
 use Rattle.kernel_invariant.specs.Records.{item_in, notice_of, owner_in, record_of, stage_in}
-use Rattle.kernel_invariant.specs.Core.{abandoned_in, caller_number, core, door_in, ended_in, has_arguments, is_outside, is_underway, live_in, notice_in, noticed_door_in, number_in, underway_in}
+use Rattle.kernel_invariant.specs.Core.{abandoned_in, caller_number, core, ended_in, has_arguments, is_outside, is_underway, live_in, notice_in, number_in, underway_in}
 use Rattle.kernel_invariant.specs.Coherent.{AreDoors, is_unbuilt}
 use Rattle.kernel_invariant.specs.Invariant.{IsConsistent}
 use Rattle.kernel_invariant.specs.Arrows.{ByAct, EndsNow, NoticeByAct}
@@ -28,9 +29,7 @@ use Rattle.kernel_invariant.specs.Events.{InvocationArrow, IsLeft}
 use Rattle.kernel_invariant.specs.Events.InvocationArrow.{stays as invocation_stays, cancels as invocation_cancels, leaves as invocation_leaves}
 use Rattle.kernel_invariant.specs.Events.IsLeft.{interrupted as is_interrupted, caller_ends}
 use Rattle.kernel_records.proofs.Lists.{at_number-map}
-use Rattle.kernel_invariant.proofs.Calls.{IsInOrder-map, find-found, find-map, find-none, find-passes}
-use Rattle.kernel_invariant.proofs.Notices.{AreNoticesInOrder-map, notice-map}
-use Rattle.kernel_invariant.proofs.LeftCores.{LeftCore, LeftThread, ended_now, leaving_keeps, left_fields, left_notice_stage, still_calling}
+use Rattle.kernel_invariant.proofs.LeftCores.{LeftCore, LeftThread, ended_now, entered_item, given_role, leaving_keeps, left, left_fields, left_notice_stage, still_calling}
 use Rattle.kernel_invariant.proofs.LeftCores.LeftThread.{ends as thread_ends, parks as thread_parks, cancels as thread_cancels, stays as thread_stays}
 use Rattle.kernel_invariant.proofs.Acts.{Does, act_result}
 
@@ -66,11 +65,7 @@ pub record MayLeave (m : State) (q : Option Request) (who : Leaving) (processes 
 -- a thread that waits for no events is as an interrupt leaves it
 not_interrupted : (b : Bool) (x : Thread) → is_unbuilt x.state ≡ false → interrupted_where b x ≡ x
 not_interrupted false x e = refl
-not_interrupted true x e = ap (λ s. record x { state = s }) (go x.state e)
-  where
-    go : (s : ThreadState) → is_unbuilt s ≡ false → interrupted_state s ≡ s
-    go (is.Getting port max nget one told) e = absurd (grind arith)
-    go s e = refl
+not_interrupted true x e = ap (λ s. record x { state = s }) (grind arith)
 
 -- a call that a thread serves
 record Serves (m : State) (u : ℕ) (r : Call) : Type 0 where
@@ -78,8 +73,8 @@ record Serves (m : State) (u : ℕ) (r : Call) : Type 0 where
   stage : (r.stage ≡ stage.Given (tid u)) ⊎ (r.stage ≡ stage.Entered (tid u))
 
 served_stage : (u : ℕ) (s : CallStage) → (is_given_to u s || is_entered_by u s) ≡ true → (s ≡ stage.Given (tid u)) ⊎ (s ≡ stage.Entered (tid u))
-served_stage u (stage.Given v) e = inl (ap (λ (n : ℕ). stage.Given (tid n)) (grind (arith, nat_tests)))
-served_stage u (stage.Entered v) e = inr (ap (λ (n : ℕ). stage.Entered (tid n)) (grind (arith, nat_tests)))
+served_stage u (stage.Given v) e = inl (grind (arith, nat_tests))
+served_stage u (stage.Entered v) e = inr (grind (arith, nat_tests))
 served_stage u s e = absurd (grind arith)
 
 given_is_served : (u : ℕ) (r : Call) → r.abandoned ≡ false → r.stage ≡ stage.Given (tid u) → is_served_by u r ≡ true
@@ -90,29 +85,19 @@ module _ (m : State) (who : Leaving) (h : IsConsistent m) where
   does_serve u r f =
       let passes : is_served_by u r ≡ true = find-passes (is_served_by u) m.call_tree.calls r f in
       record {
-        there = find-found (is_served_by u) m.call_tree.calls 0 r h.in_order f;
+        there = find-found call_number (is_served_by u) m.call_tree.calls 0 r h.in_order f;
         stage = served_stage u r.stage (grind arith);
       }
-
-  given_to : (u : ℕ) (r : Call) → record_of m r.number ≡ Some r → r.stage ≡ stage.Given (tid u) → state_of m u ≡ is.Given (item.Call r.number)
-  given_to u r e f = h.coherent.waits.given r.number u (ap stage_in e ∙ ap (λ s. Some s) f)
-
-  entered_by : (u : ℕ) (r : Call) → record_of m r.number ≡ Some r → r.stage ≡ stage.Entered (tid u) → item_in (invocation_of m u) ≡ Some (item.Call r.number)
-  entered_by u r e f = h.coherent.invocations.entered r.number u (ap stage_in e ∙ ap (λ s. Some s) f)
 
   -- a thread that has an invocation was given no call
   not_both : (u : ℕ) (r x : Call) → record_of m r.number ≡ Some r → r.stage ≡ stage.Given (tid u) → record_of m x.number ≡ Some x → x.stage ≡ stage.Entered (tid u) → ⊥
   not_both u r x e f g i =
-      let none : invocation_of m u ≡ None = h.coherent.servers.outside u (ap is_outside (given_to u r e f)) in
-      let some : item_in (invocation_of m u) ≡ Some (item.Call x.number) = entered_by u x g i in
-      grind arith
+      absurd (grind (arith, h.coherent.servers.outside u (ap is_outside (given_role (core m) h.coherent u r e f)), entered_item (core m) h.coherent u x g i))
 
   -- only one call is given to a thread
   one_given : (u : ℕ) (r x : Call) → record_of m r.number ≡ Some r → r.stage ≡ stage.Given (tid u) → record_of m x.number ≡ Some x → x.stage ≡ stage.Given (tid u) → r ≡ x
   one_given u r x e f g i =
-      let a : state_of m u ≡ is.Given (item.Call r.number) = given_to u r e f in
-      let b : state_of m u ≡ is.Given (item.Call x.number) = given_to u x g i in
-      let same : r.number ≡ x.number = grind arith in
+      let same : r.number ≡ x.number = grind (arith, given_role (core m) h.coherent u r e f, given_role (core m) h.coherent u x g i) in
       let there : record_of m x.number ≡ Some r = ap (λ c. record_of m c) (sym same) ∙ e in
       cc
 
@@ -149,7 +134,7 @@ module _ (m : State) (who : Leaving) (h : IsConsistent m) where
           thread_stays e
           (λ r i j.
           let kept : r.abandoned ≡ false = sym (ap abandoned_in i) ∙ h.coherent.invocations.kept r.number (ap underway_in i ∙ ap is_underway j) in
-          absurd (grind (arith, find-none (is_served_by u) m.call_tree.calls r.number r f i, given_is_served u r kept j)))
+          absurd (grind (arith, find-none call_number (is_served_by u) m.call_tree.calls r.number r f i, given_is_served u r kept j)))
           role invocation
       served (Some r) f e = by_left (is_left who r) refl
         where
@@ -173,51 +158,15 @@ module _ (m : State) (who : Leaving) (h : IsConsistent m) where
           (sym (not_interrupted (who.interrupts u) x (ap is_unbuilt role ∙ h.coherent.has_built_state u)))
           (served (find (is_served_by u) m.call_tree.calls) refl e)
 
--- the number and the process of a thread stay
-
-record KeepsThread (x y : Thread) : Type 0 where
-  number : y.number ≡ x.number
-  process : y.process ≡ x.process
-
-deserted_at_fields : (now : ℕ) (b : Bool) (s : CallStage) (x : Thread) → KeepsThread x (deserted_at now b s x)
-deserted_at_fields now b (stage.Given u) x = record { number = refl; process = refl }
-deserted_at_fields now true (stage.Entered u) x = record { number = refl; process = refl }
-deserted_at_fields now false (stage.Entered u) x = record { number = refl; process = refl }
-deserted_at_fields now b s x = record { number = refl; process = refl }
-
-deserted_fields : (who : Leaving) (now : ℕ) (o : Option Call) (x : Thread) → KeepsThread x (deserted_in who now o x)
-deserted_fields who now None x = record { number = refl; process = refl }
-deserted_fields who now (Some r) x = go (is_left who r)
-  where
-    go : (b : Bool) → KeepsThread x (if b then deserted_at now r.no_cancel r.stage x else x)
-    go true = deserted_at_fields now r.no_cancel r.stage x
-    go false = record { number = refl; process = refl }
-
-left_thread_fields : (who : Leaving) (now : ℕ) (o : Option Call) (x : Thread) → KeepsThread x (left_thread who now o x)
-left_thread_fields who now o x = go (who.ends x.number)
-  where
-    at_interrupt : (b : Bool) → KeepsThread x (deserted_in who now o (interrupted_where b x))
-    at_interrupt true =
-        let d : KeepsThread (interrupted_thread x) (deserted_in who now o (interrupted_thread x)) = deserted_fields who now o (interrupted_thread x) in
-        record { number = d.number; process = d.process }
-    at_interrupt false = deserted_fields who now o x
-
-    go : (b : Bool) → KeepsThread x (if b then ended_thread x else deserted_in who now o (interrupted_where (who.interrupts x.number) x))
-    go true = record { number = refl; process = refl }
-    go false = at_interrupt (who.interrupts x.number)
-
 -- the number and the door of a notice stay
 
-record LeavesNotice (who : Leaving) (s : NoticeStage) (x y : Notice) : Type 0 where
+record LeavesNotice (who : Leaving) (x y : Notice) : Type 0 where
   number : y.number ≡ x.number
   door : y.door ≡ x.door
-  stage : y.stage ≡ left_notice_stage who x.door s
+  stage : y.stage ≡ left_notice_stage who x.door x.stage
 
-left_notice_fields : (who : Leaving) (s : NoticeStage) (x : Notice) → x.stage ≡ s → LeavesNotice who s x (left_notice_at who s x)
-left_notice_fields who notice.Waiting x e = record { number = grind arith; door = grind arith; stage = grind arith }
-left_notice_fields who (notice.Given u) x e = record { number = grind arith; door = grind arith; stage = grind arith }
-left_notice_fields who (notice.Entered u) x e = record { number = grind arith; door = grind arith; stage = grind arith }
-left_notice_fields who s x e = record { number = refl; door = refl; stage = e }
+left_notice_fields : (who : Leaving) (x : Notice) → LeavesNotice who x (left_notice who x)
+left_notice_fields who x = record { number = grind arith; door = grind arith; stage = grind arith }
 
 -- the whole
 
@@ -232,32 +181,20 @@ module _ (m : State) (q : Option Request) (who : Leaving) (processes : List Proc
   left_number r = (left_fields who r).number
 
   pub calls_after : (c : ℕ) → record_of after c ≡ option_map (left_call who) (record_of m c)
-  calls_after c = find-map (left_call who) left_number m.call_tree.calls c
+  calls_after c = find-map call_number (left_call who) left_number m.call_tree.calls c
 
   -- notices
 
   left_notice_number : (x : Notice) → (left_notice who x).number ≡ x.number
-  left_notice_number x = (left_notice_fields who x.stage x refl).number
+  left_notice_number x = (left_notice_fields who x).number
 
   pub notices_after : (n : ℕ) → notice_of after n ≡ option_map (left_notice who) (notice_of m n)
-  notices_after n = notice-map (left_notice who) left_notice_number m.notice_list.notices n
-
-  stage_after : (o : Option Notice) → notice_in (option_map (left_notice who) o) ≡ option_map (left_notice_stage who (noticed_door_in o)) (notice_in o)
-  stage_after None = refl
-  stage_after (Some x) = ap (λ s. Some s) (left_notice_fields who x.stage x refl).stage
-
-  door_after : (o : Option Notice) → noticed_door_in (option_map (left_notice who) o) ≡ noticed_door_in o
-  door_after None = refl
-  door_after (Some x) = (left_notice_fields who x.stage x refl).door
+  notices_after n = find-map notice_number (left_notice who) left_notice_number m.notice_list.notices n
 
   -- an event of leaving keeps of a thread what it is
   kept_process : (o : Option Thread) → process_in (option_map (left_thread_of who (now m) m.call_tree.calls) o) ≡ process_in o
   kept_process None = refl
-  kept_process (Some x) = ap (λ p. p.0) (left_thread_fields who (now m) (find (is_served_by x.number) m.call_tree.calls) x).process
-
-  kept_number : (o : Option Thread) → number_in (option_map (left_thread_of who (now m) m.call_tree.calls) o) ≡ number_in o
-  kept_number None = refl
-  kept_number (Some x) = ap (λ n. Some n) (left_thread_fields who (now m) (find (is_served_by x.number) m.call_tree.calls) x).number
+  kept_process (Some x) = grind arith
 
   module _ (h : IsConsistent m) (may : MayLeave m q who processes tables doors) where
     -- what an event of leaving makes of a thread
@@ -270,7 +207,7 @@ module _ (m : State) (q : Option Request) (who : Leaving) (processes : List Proc
             by_end : (b : Bool) → who.ends u ≡ b → LeftThread (core m) who (now m) u is.Done None
             by_end true f = thread_ends f refl refl
             by_end false f =
-                thread_stays f (λ r i j. absurd (grind (arith, given_to m who h u r i j, ap state_in e))) (sym (ap state_in e)) (sym (ap invocation_in e))
+                thread_stays f (λ r i j. absurd (grind (arith, given_role (core m) h.coherent u r i j, ap state_in e))) (sym (ap state_in e)) (sym (ap invocation_in e))
 
         go : (o : Option Thread) → thread_of m u ≡ o → LeftThread (core m) who (now m) u (state_of after u) (invocation_of after u)
         go None e =
@@ -286,16 +223,17 @@ module _ (m : State) (q : Option Request) (who : Leaving) (processes : List Proc
             (left_thread_is m who h x (ap (λ j. thread_of m j) number ∙ e)))
 
     left_core : LeftCore (core m) who (now m) (core after)
+    unfolding left
     left_core =
         record {
           thread = thread_after;
           process = λ u. ap process_in (threads_after u) ∙ kept_process (thread_of m u);
-          number = λ u. ap number_in (threads_after u) ∙ kept_number (thread_of m u);
+          number = λ u. grind (arith, threads_after u);
           bound = λ u. refl;
           call = calls_after;
           made = refl;
-          notice = λ n. ap notice_in (notices_after n) ∙ stage_after (notice_of m n);
-          noticed_door = λ n. ap noticed_door_in (notices_after n) ∙ door_after (notice_of m n);
+          notice = λ n. grind (arith, notices_after n);
+          noticed_door = λ n. grind (arith, notices_after n);
           door_there = may.door_there;
           door_owner = may.door_owner;
           door_no_cancel = may.door_no_cancel;
@@ -309,14 +247,21 @@ module _ (m : State) (q : Option Request) (who : Leaving) (processes : List Proc
     left_consistent : IsConsistent after
     left_consistent =
         record {
-          in_order = IsInOrder-map (left_call who) left_number m.call_tree.calls 0 h.in_order;
+          in_order = counted-map call_number (left_call who) left_number m.call_tree.calls 0 h.in_order;
           counted = length-map m.call_tree.calls (left_call who) ∙ h.counted;
           coherent = leaving_keeps (core m) who (now m) (core after) h.coherent left_core;
           tables = may.counted;
           no_rows = may.no_rows;
-          notices_in_order = AreNoticesInOrder-map (left_notice who) left_notice_number m.notice_list.notices 0 h.notices_in_order;
+          notices_in_order = counted-map notice_number (left_notice who) left_notice_number m.notice_list.notices 0 h.notices_in_order;
           notices_counted = length-map m.notice_list.notices (left_notice who) ∙ h.notices_counted;
         }
+
+    ends_now : (u : ℕ) → who.ends u ≡ true → (state_of m u ≡ is.Done → ⊥) → EndsNow m after u
+    ends_now u e f = record { before = f; after = ended_now (core m) who (now m) u _ _ h.coherent (thread_after u) e }
+
+    -- a thread that serves an item has not ended
+    serves_not_done : (u : ℕ) (i : Item) → item_in (invocation_of m u) ≡ Some i → state_of m u ≡ is.Done → ⊥
+    serves_not_done u i e f = absurd (grind (arith, h.coherent.servers.outside u (ap is_outside f)))
 
     -- calls
 
@@ -325,75 +270,58 @@ module _ (m : State) (q : Option Request) (who : Leaving) (processes : List Proc
       caller_waits : is_live r.stage ≡ true → state_of m r.caller.0 ≡ is.Calling c
       caller_waits e = ap (λ o. state_of m (caller_number o)) (sym there) ∙ h.coherent.waits.calling c (ap live_in there ∙ e)
 
-      ends_now : (u : ℕ) → who.ends u ≡ true → (state_of m u ≡ is.Done → ⊥) → EndsNow m after u
-      ends_now u e f = record { before = f; after = ended_now (core m) who (now m) u _ _ h.coherent (thread_after u) e }
-
       caller_stays : is_live r.stage ≡ true → who.ends r.caller.0 ≡ false → state_of after r.caller.0 ≡ is.Done → ⊥
       caller_stays e f g =
-          let still : state_of after r.caller.0 ≡ is.Calling c =
-          still_calling (core m) who (now m) r.caller.0 _ _ h.coherent (thread_after r.caller.0) c (caller_waits e) f
-          in
-          grind arith
+          absurd (grind (arith, still_calling (core m) who (now m) r.caller.0 _ _ h.coherent (thread_after r.caller.0) c (caller_waits e) f))
 
-      server_was_given : (u : ℕ) → r.stage ≡ stage.Given (tid u) → state_of m u ≡ is.Done → ⊥
-      server_was_given u e f =
-          let given : state_of m u ≡ is.Given (item.Call c) = h.coherent.waits.given c u (ap stage_in there ∙ ap (λ s. Some s) e) in
-          grind arith
-
-      server_had_entered : (u : ℕ) → r.stage ≡ stage.Entered (tid u) → state_of m u ≡ is.Done → ⊥
-      server_had_entered u e f =
-          let entered : item_in (invocation_of m u) ≡ Some (item.Call c) = h.coherent.invocations.entered c u (ap stage_in there ∙ ap (λ s. Some s) e) in
-          let none : invocation_of m u ≡ None = h.coherent.servers.outside u (ap is_outside f) in
-          grind arith
+      -- the thread that serves it has not ended
+      server_is : (u : ℕ) → (r.stage ≡ stage.Given (tid u)) ⊎ (r.stage ≡ stage.Entered (tid u)) → state_of m u ≡ is.Done → ⊥
+      server_is u (inl e) f = absurd (grind (arith, h.coherent.waits.given c u (ap stage_in there ∙ ap (λ s. Some s) e)))
+      server_is u (inr e) f = serves_not_done u (item.Call c) (h.coherent.invocations.entered c u (ap stage_in there ∙ ap (λ s. Some s) e)) f
 
       gone_arrow : (s : CallStage) → r.stage ≡ s → who.ends r.caller.0 ≡ true → ByAct m t q a after (Some r) (Some (gone_call_at s r))
       gone_arrow (stage.Answered k) f e = stays
       gone_arrow stage.Gone f e = stays
       gone_arrow s f e =
-          let alive : is_live r.stage ≡ true = ap is_live f in
-          let waits : state_of m r.caller.0 ≡ is.Calling c = caller_waits alive in
           subst (λ z. ByAct m t q a after (Some r) (Some (gone_call_at z r))) f
-          (leaves r alive (ends_now r.caller.0 e (λ d. grind arith)))
+          (leaves r (ap is_live f) (ends_now r.caller.0 e (λ d. grind (arith, caller_waits (ap is_live f)))))
+
+      -- a call that waits for a thread, or for its server, of an interrupted caller
+      interrupted_arrow :
+          has_arguments r.stage ≡ true → is_live r.stage ≡ true → who.ends r.caller.0 ≡ false → who.interrupts r.caller.0 ≡ true →
+          ByAct m t q a after (Some r) (Some (without_arguments_at (stage.Ended EINTR) r))
+      interrupted_arrow w f e g = ends r EINTR (interrupted (may.interrupts r.caller.0 g) w (caller_stays f e))
+
+      -- one whose server ends
+      deserted_arrow :
+          (u : ℕ) (b : Bool) → (r.stage ≡ stage.Given (tid u)) ⊎ (r.stage ≡ stage.Entered (tid u)) → is_live r.stage ≡ true →
+          who.ends r.caller.0 ≡ false → who.ends u ≡ b → ByAct m t q a after (Some r) (Some (ended_where b EINTR r))
+      deserted_arrow u true w f e g = ends r EINTR (server_ended u w (ends_now u g (server_is u w)) (caller_stays f e))
+      deserted_arrow u false w f e g = stays
 
       broken_arrow : (s : CallStage) → r.stage ≡ s → who.ends r.caller.0 ≡ false → ByAct m t q a after (Some r) (Some (broken_call_at who s r))
-      broken_arrow stage.Queued f e = by_interrupt (who.interrupts r.caller.0) refl
+      broken_arrow stage.Queued f e = go (who.interrupts r.caller.0) (who.loses r.door) refl refl
         where
-          alive : is_live r.stage ≡ true
-          alive = ap is_live f
-
-          by_door : (b : Bool) → who.loses r.door ≡ b → ByAct m t q a after (Some r) (Some (ended_where b EBADF r))
-          by_door true g =
-              let valid : is_valid m r.door ≡ true =
-              ap (λ o. is_valid m (door_in o)) (sym there) ∙ h.coherent.at_doors.waiting_valid c (ap stage_in there ∙ ap (λ s. Some s) f)
-              in
-              ends r EBADF (door_invalid f valid (may.door_lost r.door g) (caller_stays alive e))
-          by_door false g = stays
-
-          by_interrupt :
-              (b : Bool) → who.interrupts r.caller.0 ≡ b →
-              ByAct m t q a after (Some r) (Some (if b then without_arguments_at (stage.Ended EINTR) r else ended_where (who.loses r.door) EBADF r))
-          by_interrupt true g = ends r EINTR (interrupted (may.interrupts r.caller.0 g) (ap has_arguments f) (caller_stays alive e))
-          by_interrupt false g = by_door (who.loses r.door) refl
-      broken_arrow (stage.Given u) f e = go (who.interrupts r.caller.0) (who.ends u.0) refl refl
-        where
-          alive : is_live r.stage ≡ true
-          alive = ap is_live f
-
-          go : (b d : Bool) → who.interrupts r.caller.0 ≡ b → who.ends u.0 ≡ d → ByAct m t q a after (Some r) (Some (ended_where (b || d) EINTR r))
-          go true d g i = ends r EINTR (interrupted (may.interrupts r.caller.0 g) (ap has_arguments f) (caller_stays alive e))
-          go false true g i = ends r EINTR (server_ended u.0 (inl f) (ends_now u.0 i (server_was_given u.0 f)) (caller_stays alive e))
-          go false false g i = stays
-      broken_arrow (stage.Entered u) f e = go (who.interrupts r.caller.0) (who.ends u.0) refl refl
-        where
-          alive : is_live r.stage ≡ true
-          alive = ap is_live f
-
           go :
-              (b d : Bool) → who.interrupts r.caller.0 ≡ b → who.ends u.0 ≡ d →
-              ByAct m t q a after (Some r) (Some (if b then abandoned_at (stage.Ended EINTR) r else ended_where d EINTR r))
-          go true d g i = breaks_off r u.0 (may.interrupts r.caller.0 g) f (caller_stays alive e)
-          go false true g i = ends r EINTR (server_ended u.0 (inr f) (ends_now u.0 i (server_had_entered u.0 f)) (caller_stays alive e))
+              (b d : Bool) → who.interrupts r.caller.0 ≡ b → who.loses r.door ≡ d →
+              ByAct m t q a after (Some r) (Some (if b then without_arguments_at (stage.Ended EINTR) r else ended_where d EBADF r))
+          go true d g i = interrupted_arrow (ap has_arguments f) (ap is_live f) e g
+          go false true g i =
+              ends r EBADF
+              (door_invalid f (grind (arith, there, h.coherent.at_doors.waiting_valid c)) (may.door_lost r.door i) (caller_stays (ap is_live f) e))
           go false false g i = stays
+      broken_arrow (stage.Given u) f e = go (who.interrupts r.caller.0) refl
+        where
+          go : (b : Bool) → who.interrupts r.caller.0 ≡ b → ByAct m t q a after (Some r) (Some (ended_where (b || who.ends u.0) EINTR r))
+          go true g = interrupted_arrow (ap has_arguments f) (ap is_live f) e g
+          go false g = deserted_arrow u.0 (who.ends u.0) (inl f) (ap is_live f) e refl
+      broken_arrow (stage.Entered u) f e = go (who.interrupts r.caller.0) refl
+        where
+          go :
+              (b : Bool) → who.interrupts r.caller.0 ≡ b →
+              ByAct m t q a after (Some r) (Some (if b then abandoned_at (stage.Ended EINTR) r else ended_where (who.ends u.0) EINTR r))
+          go true g = breaks_off r u.0 (may.interrupts r.caller.0 g) f (caller_stays (ap is_live f) e)
+          go false g = deserted_arrow u.0 (who.ends u.0) (inr f) (ap is_live f) e refl
       broken_arrow s f e = stays
 
       left_arrow : ByAct m t q a after (Some r) (Some (left_call who r))
@@ -406,43 +334,24 @@ module _ (m : State) (q : Option Request) (who : Leaving) (processes : List Proc
     -- notices
 
     module _ (t : ℕ) (a : Answer) (c : ℕ) (x : Notice) (there : notice_of m c ≡ Some x) where
-      stage_is : (s : NoticeStage) → x.stage ≡ s → (core m).notice c ≡ Some s
-      stage_is s e = ap notice_in there ∙ ap (λ z. Some z) e
+      holder_is : (u : ℕ) → (x.stage ≡ notice.Given (tid u)) ⊎ (x.stage ≡ notice.Entered (tid u)) → state_of m u ≡ is.Done → ⊥
+      holder_is u (inl e) f = absurd (grind (arith, h.coherent.notices_given.notice_given c u (ap notice_in there ∙ ap (λ z. Some z) e)))
+      holder_is u (inr e) f = serves_not_done u (item.Notice c) (h.coherent.notices_entered.notice_entered c u (ap notice_in there ∙ ap (λ z. Some z) e)) f
 
-      notice_ends_now : (u : ℕ) → who.ends u ≡ true → (state_of m u ≡ is.Done → ⊥) → EndsNow m after u
-      notice_ends_now u e f = record { before = f; after = ended_now (core m) who (now m) u _ _ h.coherent (thread_after u) e }
-
-      was_given_notice : (u : ℕ) → x.stage ≡ notice.Given (tid u) → state_of m u ≡ is.Done → ⊥
-      was_given_notice u e f =
-          let given : state_of m u ≡ is.Given (item.Notice c) = h.coherent.notices_given.notice_given c u (stage_is _ e) in
-          grind arith
-
-      had_entered_notice : (u : ℕ) → x.stage ≡ notice.Entered (tid u) → state_of m u ≡ is.Done → ⊥
-      had_entered_notice u e f =
-          let entered : item_in (invocation_of m u) ≡ Some (item.Notice c) = h.coherent.notices_entered.notice_entered c u (stage_is _ e) in
-          let none : invocation_of m u ≡ None = h.coherent.servers.outside u (ap is_outside f) in
-          grind arith
+      over_arrow :
+          (u : ℕ) (b : Bool) → (x.stage ≡ notice.Given (tid u)) ⊎ (x.stage ≡ notice.Entered (tid u)) → who.ends u ≡ b →
+          NoticeByAct m t q a after (Some x) (Some (if b then notice_at notice.Over x else x))
+      over_arrow u true w g = notice_ends x u w (ends_now u g (holder_is u w))
+      over_arrow u false w g = notice_stays
 
       notice_arrow : (s : NoticeStage) → x.stage ≡ s → NoticeByAct m t q a after (Some x) (Some (left_notice_at who s x))
       notice_arrow notice.Waiting e = go (who.loses x.door) refl
         where
           go : (b : Bool) → who.loses x.door ≡ b → NoticeByAct m t q a after (Some x) (Some (if b then notice_at notice.Dropped x else x))
-          go true g =
-              let valid : is_valid m x.door ≡ true =
-              ap (λ o. is_valid m (noticed_door_in o)) (sym there) ∙ h.coherent.notices_at_doors.notice_valid c (stage_is _ e)
-              in
-              notice_drops x e valid (may.door_lost x.door g)
+          go true g = notice_drops x e (grind (arith, there, h.coherent.notices_at_doors.notice_valid c)) (may.door_lost x.door g)
           go false g = notice_stays
-      notice_arrow (notice.Given u) e = go (who.ends u.0) refl
-        where
-          go : (b : Bool) → who.ends u.0 ≡ b → NoticeByAct m t q a after (Some x) (Some (if b then notice_at notice.Over x else x))
-          go true g = notice_ends x u.0 (inl e) (notice_ends_now u.0 g (was_given_notice u.0 e))
-          go false g = notice_stays
-      notice_arrow (notice.Entered u) e = go (who.ends u.0) refl
-        where
-          go : (b : Bool) → who.ends u.0 ≡ b → NoticeByAct m t q a after (Some x) (Some (if b then notice_at notice.Over x else x))
-          go true g = notice_ends x u.0 (inr e) (notice_ends_now u.0 g (had_entered_notice u.0 e))
-          go false g = notice_stays
+      notice_arrow (notice.Given u) e = over_arrow u.0 (who.ends u.0) (inl e) refl
+      notice_arrow (notice.Entered u) e = over_arrow u.0 (who.ends u.0) (inr e) refl
       notice_arrow s e = notice_stays
 
     pub leaving_does : (t : ℕ) (a : Answer) → Does m t q (act_result after a)
@@ -460,7 +369,7 @@ module _ (m : State) (q : Option Request) (who : Leaving) (processes : List Proc
 
         had : (d : ℕ) (xs : List Notice) → list_any (is_notice_of d) (map (left_notice who) xs) ≡ list_any (is_notice_of d) xs
         had d [] = refl
-        had d (x ∷ xs) = ap₂ (λ (e : ℕ) (b : Bool). (e == d) || b) (left_notice_fields who x.stage x refl).door (had d xs)
+        had d (x ∷ xs) = ap₂ (λ (e : ℕ) (b : Bool). (e == d) || b) (left_notice_fields who x).door (had d xs)
 
         at_notice : (c : ℕ) (o : Option Notice) → notice_of m c ≡ o → NoticeByAct m t q a after o (option_map (left_notice who) o)
         at_notice c None e = notice_stays
@@ -481,8 +390,7 @@ module _ (m : State) (q : Option Request) (who : Leaving) (processes : List Proc
         -- its caller has left it
         leaves_by : (r : Call) (b : Bool) → record_of m r.number ≡ Some r → r.stage ≡ stage.Entered (tid u) → who.ends r.caller.0 ≡ b → (b || who.interrupts r.caller.0) ≡ true → IsLeft m q after r
         leaves_by r true f g e l =
-            let waits : state_of m r.caller.0 ≡ is.Calling r.number = caller_waits t a r.number r f (ap is_live g) in
-            caller_ends (ends_now t a r.number r f r.caller.0 e (λ d. grind arith))
+            caller_ends (ends_now r.caller.0 e (λ d. grind (arith, caller_waits t a r.number r f (ap is_live g))))
         leaves_by r false f g e l = is_interrupted (may.interrupts r.caller.0 l)
 
         cancelled_takes :
@@ -493,7 +401,7 @@ module _ (m : State) (q : Option Request) (who : Leaving) (processes : List Proc
             invocation_cancels v
             (record {
               call = r;
-              item = grind (arith, ap item_in e, entered_by m who h u r f g);
+              item = grind (arith, ap item_in e, entered_item (core m) h.coherent u r f g);
               there = f;
               entered = g;
               may_cancel = sym (h.coherent.at_doors.no_cancel r.number r f) ∙ n;
@@ -505,7 +413,7 @@ module _ (m : State) (q : Option Request) (who : Leaving) (processes : List Proc
             Takes (invocation_of m u) w
         go s w e (thread_ends f g i) = subst (λ w. Takes (invocation_of m u) w) (sym i) (ended_takes (invocation_of m u) (e ∙ g))
         go s w e (thread_parks r f g i l j z) =
-            let none : invocation_of m u ≡ None = h.coherent.servers.outside u (ap is_outside (given_to m who h u r g i)) in
+            let none : invocation_of m u ≡ None = h.coherent.servers.outside u (ap is_outside (given_role (core m) h.coherent u r g i)) in
             subst (λ w. Takes (invocation_of m u) w) (none ∙ sym z) invocation_stays
         go s w e (thread_cancels r f g i l n j z) =
             subst (λ w. Takes (invocation_of m u) w) (sym z) (cancelled_takes r (invocation_of m u) refl g i l n)

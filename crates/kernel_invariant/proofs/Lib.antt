@@ -1,11 +1,10 @@
-pub mod Calls
-pub mod Notices
 pub mod Cores
 pub mod Parts
 pub mod CallMoves
 pub mod NoticeMoves
-pub mod ThreadMoves
+pub mod DoorMoves
 pub mod Later
+pub mod Consistent
 pub mod Acts
 pub mod NoticeActs
 pub mod CallActs
@@ -14,6 +13,7 @@ pub mod LeftStates
 pub mod Leaving
 pub mod Failing
 pub mod Picks
+pub mod Pending
 pub mod Settling
 pub mod Steps
 pub mod NoticeSteps

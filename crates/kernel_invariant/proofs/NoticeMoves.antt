@@ -1,5 +1,6 @@
 -- The atomic changes of the core that concern a notice: it is made, is given, is entered, and is over. Each keeps what holds of a core.
-use Rattle.std.specs.Prelude.{ℕ, ◌≡◌, true, Some, None}
+use Rattle.std.specs.Prelude.{ℕ, ◌≡◌, Option, true, Some, None}
+use Rattle.std.proofs.Common.{refl}
 use native.Mathlib.Omega.{arith}
 use Rattle.std.proofs.lemmas.Bool.Decides.{nat_tests}
 use Rattle.dk_base.specs.declared.object.Item.TheVariants as item
@@ -12,37 +13,36 @@ use Rattle.kernel_invariant.specs.Coherent.{IsCoherent}
 use Rattle.kernel_invariant.specs.Records.{owner_in}
 use Rattle.kernel_invariant.proofs.Cores.{set_role, set_serves, upd}
 use Rattle.kernel_invariant.proofs.CallMoves.{is_after_return}
-use Rattle.kernel_invariant.proofs.Parts.{processes_turn}
+use Rattle.kernel_invariant.proofs.Parts.{built_turn, notices_at_doors_move, processes_turn, servers_move, servers_turn, waits_turn}
 
 abbrev pub set_notice : Core → ℕ → NoticeStage → Core
 set_notice k n s = record k { notice = upd k.notice n (Some s) }
 
 -- a new notice of a valid door waits
-abbrev pub made_notice_core : Core → ℕ → ℕ → Core
-made_notice_core k n d = record (set_notice k n notice.Waiting) { noticed_door = upd k.noticed_door n d }
-
 pub make_notice_keeps :
-    (k : Core) (n d : ℕ) → IsCoherent k → k.notice n ≡ None → is_valid_in (k.door d) ≡ true → IsCoherent (made_notice_core k n d)
-make_notice_keeps k n d h p v =
+    (k : Core) (n d : ℕ) (notices : ℕ → Option NoticeStage) (doors : ℕ → ℕ) → IsCoherent k → k.notice n ≡ None → is_valid_in (k.door d) ≡ true →
+    ((c : ℕ) → notices c ≡ upd k.notice n (Some notice.Waiting) c) → ((c : ℕ) → doors c ≡ upd k.noticed_door n d c) →
+    IsCoherent (record k { notice = notices; noticed_door = doors })
+make_notice_keeps k n d notices doors h p v s o =
     record {
       waits = h.waits;
       invocations = h.invocations;
       notices_given =
           record {
-            notice_given = λ c u e. grind (arith, nat_tests, h.notices_given.notice_given c u);
-            notice_given_back = λ c u e. grind (arith, nat_tests, h.notices_given.notice_given_back c u);
+            notice_given = λ c u e. grind (arith, nat_tests, s c, h.notices_given.notice_given c u);
+            notice_given_back = λ c u e. grind (arith, nat_tests, s c, h.notices_given.notice_given_back c u);
           };
       notices_entered =
           record {
-            notice_entered = λ c u e. grind (arith, nat_tests, h.notices_entered.notice_entered c u);
-            notice_entered_back = λ c u e. grind (arith, nat_tests, h.notices_entered.notice_entered_back c u);
+            notice_entered = λ c u e. grind (arith, nat_tests, s c, h.notices_entered.notice_entered c u);
+            notice_entered_back = λ c u e. grind (arith, nat_tests, s c, h.notices_entered.notice_entered_back c u);
           };
       notices_at_doors =
           record {
-            notice_door = λ c e. grind (arith, nat_tests, h.notices_at_doors.notice_door c);
-            notice_valid = λ c e. grind (arith, nat_tests, h.notices_at_doors.notice_valid c);
-            notice_given_owner = λ c u e. grind (arith, nat_tests, h.notices_at_doors.notice_given_owner c u);
-            notice_entered_owner = λ c u e. grind (arith, nat_tests, h.notices_at_doors.notice_entered_owner c u);
+            notice_door = λ c e. grind (arith, nat_tests, s c, o c, h.notices_at_doors.notice_door c);
+            notice_valid = λ c e. grind (arith, nat_tests, s c, o c, h.notices_at_doors.notice_valid c);
+            notice_given_owner = λ c u e. grind (arith, nat_tests, s c, o c, h.notices_at_doors.notice_given_owner c u);
+            notice_entered_owner = λ c u e. grind (arith, nat_tests, s c, o c, h.notices_at_doors.notice_entered_owner c u);
           };
       servers = h.servers;
       calls = h.calls;
@@ -67,14 +67,7 @@ pub record GivesNotice (k : Core) (n u : ℕ) : Type 0 where
 pub give_notice_keeps : (k : Core) (n u : ℕ) → IsCoherent k → GivesNotice k n u → IsCoherent (given_notice_core k n u)
 give_notice_keeps k n u h p =
     record {
-      waits =
-          record {
-            given = λ c v e. grind (arith, nat_tests, h.waits.given c v);
-            given_back = λ c v e. grind (arith, nat_tests, h.waits.given_back c v);
-            caller = λ c v e. grind (arith, nat_tests, h.waits.caller c v);
-            live = λ c v e. grind (arith, nat_tests, h.waits.live c v);
-            calling = λ c e. grind (arith, nat_tests, h.waits.calling c);
-          };
+      waits = waits_turn u _ h.waits (grind (arith, p.idle)) refl;
       invocations = h.invocations;
       notices_given =
           record {
@@ -87,25 +80,16 @@ give_notice_keeps k n u h p =
             notice_entered_back = λ c v e. grind (arith, nat_tests, h.notices_entered.notice_entered_back c v);
           };
       notices_at_doors =
-          record {
-            notice_door = λ c e. grind (arith, nat_tests, h.notices_at_doors.notice_door c);
-            notice_valid = λ c e. grind (arith, nat_tests, h.notices_at_doors.notice_valid c);
-            notice_given_owner = λ c v e. grind (arith, nat_tests, h.notices_at_doors.notice_given_owner c v);
-            notice_entered_owner = λ c v e. grind (arith, nat_tests, h.notices_at_doors.notice_entered_owner c v);
-          };
-      servers =
-          record {
-            outside = λ v e. grind (arith, nat_tests, h.servers.outside v);
-            below = λ c d v e f. grind (arith, nat_tests, h.servers.below c d v);
-            served_made = h.servers.served_made;
-          };
+          notices_at_doors_move n _ h.notices_at_doors (grind (arith, p.waiting)) (λ e. grind arith) (λ v e. grind (arith, p.owner))
+          (λ v e. grind arith);
+      servers = servers_turn u _ h.servers (λ e. h.servers.outside u (grind (arith, p.idle))) refl;
       calls = h.calls;
       at_doors = h.at_doors;
       doors = h.doors;
       bindings = h.bindings;
-      processes = processes_turn k.role k.process k.proc u _ h.processes (grind (arith, p.idle));
+      processes = processes_turn u _ h.processes (grind (arith, p.idle));
       threads = h.threads;
-      has_built_state = λ v. grind (arith, nat_tests, h.has_built_state v);
+      has_built_state = built_turn u _ h refl;
     }
 
 -- a thread enters the notice that it was given
@@ -117,14 +101,7 @@ pub enter_notice_keeps :
     (k : Core) (t n : ℕ) → IsCoherent k → k.role t ≡ is.Given (item.Notice n) → IsCoherent (entered_notice_core k t n)
 enter_notice_keeps k t n h g =
     record {
-      waits =
-          record {
-            given = λ c v e. grind (arith, nat_tests, h.waits.given c v);
-            given_back = λ c v e. grind (arith, nat_tests, h.waits.given_back c v);
-            caller = λ c v e. grind (arith, nat_tests, h.waits.caller c v);
-            live = λ c v e. grind (arith, nat_tests, h.waits.live c v);
-            calling = λ c e. grind (arith, nat_tests, h.waits.calling c);
-          };
+      waits = waits_turn t _ h.waits (grind arith) refl;
       invocations =
           record {
             entered = λ c v e. grind (arith, nat_tests, h.invocations.entered c v, h.servers.outside t);
@@ -144,26 +121,17 @@ enter_notice_keeps k t n h g =
                 λ c v e. grind (arith, nat_tests, h.notices_entered.notice_entered_back c v, h.notices_given.notice_given_back n t);
           };
       notices_at_doors =
-          record {
-            notice_door = λ c e. grind (arith, nat_tests, h.notices_at_doors.notice_door c, h.notices_given.notice_given_back n t);
-            notice_valid = λ c e. grind (arith, nat_tests, h.notices_at_doors.notice_valid c);
-            notice_given_owner = λ c v e. grind (arith, nat_tests, h.notices_at_doors.notice_given_owner c v);
-            notice_entered_owner =
-                λ c v e. grind (arith, nat_tests, h.notices_at_doors.notice_entered_owner c v, h.notices_at_doors.notice_given_owner c v, h.notices_given.notice_given_back n t);
-          };
-      servers =
-          record {
-            outside = λ v e. grind (arith, nat_tests, h.servers.outside v);
-            below = λ c d v e f. grind (arith, nat_tests, h.servers.below c d v);
-            served_made = λ c v e. grind (arith, nat_tests, h.servers.served_made c v);
-          };
+          notices_at_doors_move n _ h.notices_at_doors (grind (arith, h.notices_given.notice_given_back n t)) (λ e. grind arith)
+          (λ u e. grind arith)
+          (λ u e. grind (arith, h.notices_at_doors.notice_given_owner n t, h.notices_given.notice_given_back n t));
+      servers = servers_move t _ _ h.servers (λ e. grind arith) refl (λ c e. grind arith);
       calls = h.calls;
       at_doors = h.at_doors;
       doors = h.doors;
       bindings = h.bindings;
-      processes = processes_turn k.role k.process k.proc t _ h.processes (grind arith);
+      processes = processes_turn t _ h.processes (grind arith);
       threads = h.threads;
-      has_built_state = λ v. grind (arith, nat_tests, h.has_built_state v);
+      has_built_state = built_turn t _ h refl;
     }
 
 -- a thread returns from the notice that it has entered
@@ -175,14 +143,7 @@ pub end_notice_keeps :
     k.notice n ≡ Some (notice.Entered (tid t)) → IsCoherent (over_notice_core k t n s)
 end_notice_keeps k t n s h p w i =
     record {
-      waits =
-          record {
-            given = λ c v e. grind (arith, nat_tests, h.waits.given c v);
-            given_back = λ c v e. grind (arith, nat_tests, h.waits.given_back c v);
-            caller = λ c v e. grind (arith, nat_tests, h.waits.caller c v);
-            live = λ c v e. grind (arith, nat_tests, h.waits.live c v);
-            calling = λ c e. grind (arith, nat_tests, h.waits.calling c);
-          };
+      waits = waits_turn t _ h.waits (grind arith) (grind arith);
       invocations =
           record {
             entered = λ c v e. grind (arith, nat_tests, h.invocations.entered c v, h.notices_entered.notice_entered n t);
@@ -201,23 +162,13 @@ end_notice_keeps k t n s h p w i =
             notice_entered_back = λ c v e. grind (arith, nat_tests, h.notices_entered.notice_entered_back c v);
           };
       notices_at_doors =
-          record {
-            notice_door = λ c e. grind (arith, nat_tests, h.notices_at_doors.notice_door c);
-            notice_valid = λ c e. grind (arith, nat_tests, h.notices_at_doors.notice_valid c);
-            notice_given_owner = λ c v e. grind (arith, nat_tests, h.notices_at_doors.notice_given_owner c v);
-            notice_entered_owner = λ c v e. grind (arith, nat_tests, h.notices_at_doors.notice_entered_owner c v);
-          };
-      servers =
-          record {
-            outside = λ v e. grind (arith, nat_tests, h.servers.outside v);
-            below = λ c d v e f. grind (arith, nat_tests, h.servers.below c d v);
-            served_made = λ c v e. grind (arith, nat_tests, h.servers.served_made c v);
-          };
+          notices_at_doors_move n _ h.notices_at_doors (grind arith) (λ e. grind arith) (λ u e. grind arith) (λ u e. grind arith);
+      servers = servers_move t _ None h.servers (λ e. refl) (grind arith) (λ c e. grind arith);
       calls = h.calls;
       at_doors = h.at_doors;
       doors = h.doors;
       bindings = h.bindings;
-      processes = processes_turn k.role k.process k.proc t _ h.processes (grind arith);
+      processes = processes_turn t _ h.processes (grind arith);
       threads = h.threads;
-      has_built_state = λ v. grind (arith, nat_tests, h.has_built_state v);
+      has_built_state = built_turn t _ h (grind arith);
     }

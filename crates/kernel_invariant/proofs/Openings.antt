@@ -1,19 +1,19 @@
 -- An opening state meets the invariant.
-use Rattle.std.specs.Prelude.{ℕ, ◌≡◌, ◌≤◌, Option, Bool, true, false, Some, None, is_some, length, All}
+use Rattle.std.specs.Prelude.{ℕ, ◌≡◌, Bool, true, false, Some, None, is_some, length, All}
 use Rattle.std.proofs.Common.{refl, sym, ap, subst, ⊎_elim}
 use native.Mathlib.Omega.{arith}
 use Rattle.std.proofs.lemmas.Bool.Decides.{nat_tests}
 use Rattle.std.proofs.lemmas.List.Elements.{All-nil}
-use Rattle.written_kernel.specs.Types.{Process, Thread, ThreadState}
+use Rattle.written_kernel.specs.Types.{ThreadState}
 use Rattle.kernel_records.specs.declared.record.ThreadState.TheVariants as is
 use Rattle.dk_base.specs.ByNumber.{at_number}
-use Rattle.kernel_records.specs.Words.{CallTree, NoticeList, process_in}
+use Rattle.kernel_records.specs.Words.{CallTree, IsCounted, NoticeList, call_number, notice_number}
 use Rattle.written_kernel.specs.Words.{IsOpening, State, pick, pool_of, process_of, state_of, thread_of}
 use Rattle.kernel_records.proofs.Lists.{numbered_there}
 use Rattle.written_kernel.proofs.Opening.{bound_of-opening, invocation_of-opening, length-tables_opening, object_at-opening, opened, state_of-opening, waiting_items-opening}
 use Rattle.kernel_invariant.specs.Core.{Core, core, number_in, ended_in}
 use Rattle.kernel_invariant.specs.Coherent.{IsCoherent}
-use Rattle.kernel_invariant.specs.Invariant.{AreNoticesInOrder, IsInOrder, Invariant}
+use Rattle.kernel_invariant.specs.Invariant.{Invariant}
 
 abbrev may_open : ThreadState → Bool
 may_open is.Dormant = true
@@ -86,29 +86,13 @@ module _ (m : State) (o : IsOpening m) where
       ⊎_elim (λ e. ap may_open e) (⊎_elim (λ e. ap may_open e) (λ e. ap may_open e)) (state_of-opening o t)
 
   numbers : (t n : ℕ) → number_in (thread_of m t) ≡ Some n → n ≡ t
-  numbers t n = go (thread_of m t) refl
-    where
-      go : (x : Option Thread) → thread_of m t ≡ x → number_in x ≡ Some n → n ≡ t
-      go None e f = grind arith
-      go (Some x) e f = grind (arith, ((opened o).threads t x e).number)
+  numbers t n e = grind (arith, (opened o).threads t)
 
   living : (p : ℕ) → ended_in (at_number m.process_table.processes p) ≡ false
-  living p = go (at_number m.process_table.processes p) refl
-    where
-      go : (x : Option Process) → at_number m.process_table.processes p ≡ x → ended_in x ≡ false
-      go None e = refl
-      go (Some x) e = grind (arith, ((opened o).processes p x e).stage)
+  living p = grind (arith, (opened o).processes p)
 
   there : (t n : ℕ) → number_in (thread_of m t) ≡ Some n → is_some (at_number m.process_table.processes (process_of m t)) ≡ true
-  there t n = go (thread_of m t) refl
-    where
-      go :
-          (x : Option Thread) → thread_of m t ≡ x → number_in x ≡ Some n →
-          is_some (at_number m.process_table.processes (process_in x)) ≡ true
-      go None e f = grind arith
-      go (Some x) e f =
-          let within : (1 ≤ x.process.0) × (x.process.0 ≤ length m.process_table.processes) = (opened o).declared t x e in
-          numbered_there m.process_table.processes x.process.0 within.0 within.1
+  there t n e = grind (arith, (opened o).declared t, numbered_there m.process_table.processes (process_of m t))
 
   pub no_call_at_first : (c : ℕ) → (core m).call c ≡ None
   no_call_at_first c = grind (arith, (opened o).call_tree)
@@ -124,13 +108,13 @@ module _ (m : State) (o : IsOpening m) where
       record {
         consistent =
             record {
-              in_order = subst (λ (tree : CallTree). IsInOrder 0 tree.calls) (sym (opened o).call_tree) tt;
+              in_order = subst (λ (tree : CallTree). IsCounted call_number 0 tree.calls) (sym (opened o).call_tree) tt;
               counted = subst (λ (tree : CallTree). length tree.calls ≡ tree.made) (sym (opened o).call_tree) refl;
               coherent =
                   coherent_of (core m) no_call_at_first no_door no_notice states (invocation_of-opening o) numbers (bound_of-opening o) living there;
               tables = length-tables_opening o;
               no_rows = λ p fd e. object_at-opening o p fd;
-              notices_in_order = subst (λ (list : NoticeList). AreNoticesInOrder 0 list.notices) (sym (opened o).notice_list) tt;
+              notices_in_order = subst (λ (list : NoticeList). IsCounted notice_number 0 list.notices) (sym (opened o).notice_list) tt;
               notices_counted = subst (λ (list : NoticeList). length list.notices ≡ list.made) (sym (opened o).notice_list) refl;
             };
         idle_valid = λ t d since e f. grind (arith, states t);

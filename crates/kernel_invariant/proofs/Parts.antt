@@ -1,72 +1,184 @@
--- What a change of one thread, or of the stage of one call, keeps of the parts that hold of a core.
-use Rattle.std.specs.Prelude.{ℕ, ◌≡◌, Option, Bool, true, false, Some}
+-- What a change of one thread, or of one call or notice, keeps of the parts that hold of a core.
+use Rattle.std.specs.Prelude.{ℕ, ◌≡◌, ◌≤◌, [], Option, Bool, true, false, Some, None, is_some}
+use Rattle.std.proofs.Common.{refl}
 use native.Mathlib.Omega.{arith}
 use Rattle.std.proofs.lemmas.Bool.Decides.{nat_tests}
 use Rattle.dk_base.specs.declared.object.Item.TheVariants as item
 use Rattle.written_kernel.specs.Types.{Call, CallStage, Door, Inv, NoticeStage, Process, ThreadState}
 use Rattle.kernel_records.specs.declared.record.ThreadState.TheVariants as is
-use Rattle.kernel_records.specs.Words.{without_arguments_at}
-use Rattle.kernel_invariant.specs.Records.{item_in}
-use Rattle.kernel_invariant.specs.Core.{is_underway}
-use Rattle.kernel_invariant.specs.Coherent.{AreAtDoors, AreCalls, AreNoticesEntered, AreNoticesGiven, AreProcesses}
-use Rattle.kernel_invariant.proofs.Cores.{upd}
+use Rattle.kernel_records.specs.declared.record.CallStage.TheVariants as stage
+use Rattle.kernel_records.specs.declared.record.NoticeStage.TheVariants as notice
+use Rattle.kernel_records.specs.Words.{is_valid_in, no_cancel_of, tid, without_arguments_at}
+use Rattle.kernel_invariant.specs.Records.{item_in, owner_in}
+use Rattle.kernel_invariant.specs.Core.{Core, has_arguments, is_outside, is_underway}
+use Rattle.kernel_invariant.specs.Coherent.{AreAtDoors, AreCalls, AreNoticesAtDoors, AreNoticesEntered, AreNoticesGiven, AreProcesses, AreServers, AreWaits, IsCoherent, is_unbuilt}
+use Rattle.kernel_invariant.proofs.Cores.{set_role, upd}
 
 -- a thread turns from one state to another
+
+-- a state in which a thread waits for a call, of its own or to enter it
+abbrev pub is_of_call : ThreadState → Bool
+is_of_call (is.Given (item.Call c)) = true
+is_of_call (is.Calling c) = true
+is_of_call _ = false
 
 abbrev pub is_given_notice : ThreadState → Bool
 is_given_notice (is.Given (item.Notice n)) = true
 is_given_notice _ = false
 
+abbrev pub is_calling : ThreadState → Bool
+is_calling (is.Calling c) = true
+is_calling _ = false
+
 abbrev pub is_done : ThreadState → Bool
 is_done is.Done = true
 is_done _ = false
 
+pub waits_turn :
+    {role : ℕ → ThreadState} {call : ℕ → Option Call} (t : ℕ) (s : ThreadState) → AreWaits role call → is_of_call (role t) ≡ false →
+    is_of_call s ≡ false → AreWaits (upd role t s) call
+waits_turn t s h p q =
+    record {
+      given = λ c v e. grind (arith, nat_tests, h.given c v);
+      given_back = λ c v e. grind (arith, nat_tests, h.given_back c v);
+      caller = λ c v e. grind (arith, nat_tests, h.caller c v);
+      live = λ c v e. grind (arith, nat_tests, h.live c v);
+      calling = λ c e. grind (arith, nat_tests, h.calling c);
+    }
+
+pub servers_turn :
+    {role : ℕ → ThreadState} {serves : ℕ → Option Inv} {made : ℕ} (t : ℕ) (s : ThreadState) → AreServers role serves made →
+    (is_outside s ≡ true → serves t ≡ None) → is_calling s ≡ false → AreServers (upd role t s) serves made
+servers_turn t s h p q =
+    record {
+      outside = λ v e. grind (arith, nat_tests, h.outside v);
+      below = λ c d v e f. grind (arith, nat_tests, h.below c d v);
+      served_made = h.served_made;
+    }
+
 pub notices_turn :
-    (role : ℕ → ThreadState) (notices : ℕ → Option NoticeStage) (t : ℕ) (s : ThreadState) → AreNoticesGiven role notices →
+    {role : ℕ → ThreadState} {notices : ℕ → Option NoticeStage} (t : ℕ) (s : ThreadState) → AreNoticesGiven role notices →
     is_given_notice (role t) ≡ false → is_given_notice s ≡ false → AreNoticesGiven (upd role t s) notices
-notices_turn role notices t s h p q =
+notices_turn t s h p q =
     record {
       notice_given = λ n v e. grind (arith, nat_tests, h.notice_given n v);
       notice_given_back = λ n v e. grind (arith, nat_tests, h.notice_given_back n v);
     }
 
 pub processes_turn :
-    (role : ℕ → ThreadState) (process : ℕ → ℕ) (proc : ℕ → Option Process) (t : ℕ) (s : ThreadState) →
+    {role : ℕ → ThreadState} {process : ℕ → ℕ} {proc : ℕ → Option Process} (t : ℕ) (s : ThreadState) →
     AreProcesses role process proc → is_done (role t) ≡ false → AreProcesses (upd role t s) process proc
-processes_turn role process proc t s h p = record { ended_done = λ v e. grind (arith, nat_tests, h.ended_done v) }
+processes_turn t s h p = record { ended_done = λ v e. grind (arith, nat_tests, h.ended_done v) }
 
--- a thread's invocation begins or ends, and is of no notice
+pub built_turn :
+    {k : Core} (t : ℕ) (s : ThreadState) → IsCoherent k → is_unbuilt s ≡ false → (u : ℕ) → is_unbuilt (upd k.role t s u) ≡ false
+built_turn t s h p u = grind (arith, nat_tests, h.has_built_state u)
+
+-- the states of a thread that has not ended and holds no item
+abbrev pub is_free : ThreadState → Bool
+is_free (is.Given i) = false
+is_free (is.Calling c) = false
+is_free is.Done = false
+is_free _ = true
+
+-- a thread turns between states that hold no item
+pub role_keeps :
+    (k : Core) (t : ℕ) (s : ThreadState) → IsCoherent k → is_free (k.role t) ≡ true → is_free s ≡ true → is_unbuilt s ≡ false →
+    (is_outside s ≡ true → k.serves t ≡ None) → IsCoherent (set_role k t s)
+role_keeps k t s h p q u o =
+    record {
+      waits = waits_turn t s h.waits (grind arith) (grind arith);
+      invocations = h.invocations;
+      notices_given = notices_turn t s h.notices_given (grind arith) (grind arith);
+      notices_entered = h.notices_entered;
+      notices_at_doors = h.notices_at_doors;
+      servers = servers_turn t s h.servers o (grind arith);
+      calls = h.calls;
+      at_doors = h.at_doors;
+      doors = h.doors;
+      bindings = h.bindings;
+      processes = processes_turn t s h.processes (grind arith);
+      threads = h.threads;
+      has_built_state = built_turn t s h u;
+    }
+
+-- a thread's invocation begins or ends
+
+pub servers_move :
+    {role : ℕ → ThreadState} {serves : ℕ → Option Inv} {made : ℕ} (t : ℕ) (s : ThreadState) (v : Option Inv) → AreServers role serves made →
+    (is_outside s ≡ true → v ≡ None) → is_calling s ≡ false → ((c : ℕ) → item_in v ≡ Some (item.Call c) → c ≤ made) →
+    AreServers (upd role t s) (upd serves t v) made
+servers_move t s v h p q n =
+    record {
+      outside = λ u e. grind (arith, nat_tests, h.outside u);
+      below = λ c d u e f. grind (arith, nat_tests, h.below c d u);
+      served_made = λ c u e. grind (arith, nat_tests, h.served_made c u, n c);
+    }
+
+-- and is of no notice
 pub notices_serve :
-    (serves : ℕ → Option Inv) (notices : ℕ → Option NoticeStage) (t : ℕ) (v : Option Inv) → AreNoticesEntered serves notices →
+    {serves : ℕ → Option Inv} {notices : ℕ → Option NoticeStage} (t : ℕ) (v : Option Inv) → AreNoticesEntered serves notices →
     ((n : ℕ) → item_in (serves t) ≡ Some (item.Notice n) → ⊥) → ((n : ℕ) → item_in v ≡ Some (item.Notice n) → ⊥) →
     AreNoticesEntered (upd serves t v) notices
-notices_serve serves notices t v h p q =
+notices_serve t v h p q =
     record {
       notice_entered = λ n u e. grind (arith, nat_tests, h.notice_entered n u, p n);
       notice_entered_back = λ n u e. grind (arith, nat_tests, h.notice_entered_back n u, q n);
     }
 
--- a call moves to another stage, where it has no arguments
+-- the record of one call changes
 
-pub calls_move :
-    (call : ℕ → Option Call) (made : ℕ) (r : Call) (s : CallStage) → AreCalls call made → call r.number ≡ Some r →
-    AreCalls (upd call r.number (Some (without_arguments_at s r))) made
-calls_move call made r s h f =
+pub calls_set :
+    {call : ℕ → Option Call} {made : ℕ} (r x : Call) → AreCalls call made → call r.number ≡ Some r → x.number ≡ r.number →
+    (has_arguments x.stage ≡ false → (x.bytes ≡ []) × (x.objects ≡ [])) → AreCalls (upd call r.number (Some x)) made
+calls_set r x h f n a =
     record {
-      arguments = λ c x e g. grind (arith, nat_tests, h.arguments c x);
-      call_number = λ c x e. grind (arith, nat_tests, h.call_number c x);
+      arguments = λ c y e g. grind (arith, nat_tests, h.arguments c y, a);
+      call_number = λ c y e. grind (arith, nat_tests, h.call_number c y);
       unmade = λ c e. grind (arith, nat_tests, h.unmade c);
     }
 
+pub at_doors_set :
+    {call : ℕ → Option Call} {door : ℕ → Option Door} {process : ℕ → ℕ} (n : ℕ) (x : Call) → AreAtDoors call door process →
+    is_some (door x.door) ≡ true → x.no_cancel ≡ no_cancel_of (door x.door) →
+    (x.stage ≡ stage.Queued → is_valid_in (door x.door) ≡ true) →
+    ((u : ℕ) → x.stage ≡ stage.Given (tid u) → owner_in (door x.door) ≡ Some (process u)) →
+    ((u : ℕ) → x.stage ≡ stage.Entered (tid u) → owner_in (door x.door) ≡ Some (process u)) →
+    AreAtDoors (upd call n (Some x)) door process
+at_doors_set n x h there no_cancel queued given entered =
+    record {
+      door_there = λ c y e. grind (arith, nat_tests, h.door_there c y, there);
+      no_cancel = λ c y e. grind (arith, nat_tests, h.no_cancel c y, no_cancel);
+      waiting_valid = λ c e. grind (arith, nat_tests, h.waiting_valid c, queued);
+      given_owner = λ c u e. grind (arith, nat_tests, h.given_owner c u, given u);
+      entered_owner = λ c u e. grind (arith, nat_tests, h.entered_owner c u, entered u);
+    }
+
+-- it moves to another stage, where it has no arguments
+pub calls_move :
+    {call : ℕ → Option Call} {made : ℕ} (r : Call) (s : CallStage) → AreCalls call made → call r.number ≡ Some r →
+    AreCalls (upd call r.number (Some (without_arguments_at s r))) made
+calls_move r s h f = calls_set r (without_arguments_at s r) h f refl (λ e. (refl, refl))
+
 -- the same, to a stage after its server's
 pub at_doors_move :
-    (call : ℕ → Option Call) (door : ℕ → Option Door) (process : ℕ → ℕ) (r : Call) (s : CallStage) → AreAtDoors call door process →
+    {call : ℕ → Option Call} {door : ℕ → Option Door} {process : ℕ → ℕ} (r : Call) (s : CallStage) → AreAtDoors call door process →
     call r.number ≡ Some r → is_underway s ≡ false → AreAtDoors (upd call r.number (Some (without_arguments_at s r))) door process
-at_doors_move call door process r s h f g =
+at_doors_move r s h f g =
+    at_doors_set r.number (without_arguments_at s r) h (h.door_there r.number r f) (h.no_cancel r.number r f)
+    (λ e. grind arith) (λ u e. grind arith) (λ u e. grind arith)
+
+-- a notice moves to a stage after it waited
+pub notices_at_doors_move :
+    {notices : ℕ → Option NoticeStage} {noticed_door : ℕ → ℕ} {door : ℕ → Option Door} {process : ℕ → ℕ} (n : ℕ) (s : NoticeStage) →
+    AreNoticesAtDoors notices noticed_door door process → is_some (notices n) ≡ true → (s ≡ notice.Waiting → ⊥) →
+    ((u : ℕ) → s ≡ notice.Given (tid u) → owner_in (door (noticed_door n)) ≡ Some (process u)) →
+    ((u : ℕ) → s ≡ notice.Entered (tid u) → owner_in (door (noticed_door n)) ≡ Some (process u)) →
+    AreNoticesAtDoors (upd notices n (Some s)) noticed_door door process
+notices_at_doors_move n s h there waiting given entered =
     record {
-      door_there = λ c x e. grind (arith, nat_tests, h.door_there c x, h.door_there r.number r);
-      no_cancel = λ c x e. grind (arith, nat_tests, h.no_cancel c x, h.no_cancel r.number r);
-      waiting_valid = λ c e. grind (arith, nat_tests, h.waiting_valid c);
-      given_owner = λ c v e. grind (arith, nat_tests, h.given_owner c v);
-      entered_owner = λ c v e. grind (arith, nat_tests, h.entered_owner c v);
+      notice_door = λ c e. grind (arith, nat_tests, h.notice_door c);
+      notice_valid = λ c e. grind (arith, nat_tests, h.notice_valid c, waiting);
+      notice_given_owner = λ c u e. grind (arith, nat_tests, h.notice_given_owner c u, given u);
+      notice_entered_owner = λ c u e. grind (arith, nat_tests, h.notice_entered_owner c u, entered u);
     }

@@ -1,12 +1,12 @@
 -- The pick of a pool is an idle thread of the process that made the pool's door.
-use Rattle.std.specs.Prelude.{ℕ, ◌≡◌, Option, Bool, true, false, if◌then◌else◌, Some, None, zero, suc, length, nat_le}
-use Rattle.std.proofs.Common.{refl, sym, ap, subst, ◌∙◌}
+use Rattle.std.specs.Prelude.{ℕ, ◌≡◌, Option, true, Some, None, zero, suc, length}
+use Rattle.std.proofs.Common.{refl, sym, ap, ◌∙◌}
 use native.Mathlib.Omega.{arith}
 use Rattle.std.proofs.lemmas.Bool.Decides.{nat_tests}
 use Rattle.written_kernel.specs.Types.{Door, Parked, Pool, Thread, ThreadState}
 use Rattle.kernel_records.specs.declared.record.ThreadState.TheVariants as is
 use Rattle.kernel_records.specs.declared.pool.Pool.TheVariants.{Common, Private}
-use Rattle.kernel_records.specs.Words.{better_parked, is_pool, is_valid_in, later_parked, parked_at, parked_in, parked_thread, pick_among, pid, pool_in, pool_of_door, pool_of_thread}
+use Rattle.kernel_records.specs.Words.{better_parked, is_pool, is_valid_in, parked_at, parked_in, parked_thread, pick_among, pid, pool_in, pool_of_door, pool_of_thread}
 use Rattle.written_kernel.specs.Words.{State, bound_of, door_of, pick, pool_of, process_of, state_of, thread_of}
 use Rattle.kernel_invariant.specs.Records.{owner_in}
 use Rattle.kernel_invariant.specs.Core.{Core, core}
@@ -28,8 +28,7 @@ pool_of_thread_by x (Some d) = refl
 parked_in_is :
     (t : ℕ) (pool : Pool) (s : ThreadState) (y : Parked) → parked_in t pool s ≡ Some y →
     (y.thread.0 ≡ t) × (y.pool ≡ pool) × (s ≡ is.Idle y.since)
-parked_in_is t pool (is.Idle since) y e = (grind arith, grind arith, grind arith)
-parked_in_is t pool _ y e = (grind arith, grind arith, grind arith)
+parked_in_is t pool s y e = (grind arith, grind arith, grind arith)
 
 pub parked_is : (m : State) (t : ℕ) (y : Parked) → parked_at m.process_table m.bindings t ≡ Some y → IsParked m t y
 parked_is m t y = go (thread_of m t) refl
@@ -47,32 +46,12 @@ pub record IsPick (m : State) (pool : Pool) (y : Parked) : Type 0 where
 better_is :
     (m : State) (pool : Pool) (t : ℕ) (best : Option Parked) (y : Parked) → ((x : Parked) → best ≡ Some x → IsPick m pool x) →
     better_parked pool best (parked_at m.process_table m.bindings t) ≡ Some y → IsPick m pool y
-better_is m pool t best y h = go (parked_at m.process_table m.bindings t) refl
-  where
-    here : (x : Parked) → parked_at m.process_table m.bindings t ≡ Some x → is_pool pool x.pool ≡ true → IsPick m pool x
-    here x e f =
-        let same : x.thread.0 ≡ t = (parked_is m t x e).thread in
-        record { parked = subst (λ (u : ℕ). parked_at m.process_table m.bindings u ≡ Some x) (sym same) e; of_pool = f }
-
-    later_is :
-        (b : Option Parked) (x : Parked) → best ≡ b → parked_at m.process_table m.bindings t ≡ Some x → is_pool pool x.pool ≡ true → later_parked b x ≡ Some y →
-        IsPick m pool y
-    later_is None x e f g l = subst (λ z. IsPick m pool z) (grind arith) (here x f g)
-    later_is (Some z) x e f g l = newer (nat_le z.since x.since) l
-      where
-        newer : (c : Bool) → (if c then Some x else Some z) ≡ Some y → IsPick m pool y
-        newer true l = subst (λ w. IsPick m pool w) (grind arith) (here x f g)
-        newer false l = h y (grind arith)
-
-    in_pool :
-        (x : Parked) (c : Bool) → parked_at m.process_table m.bindings t ≡ Some x → is_pool pool x.pool ≡ c → (if c then later_parked best x else best) ≡ Some y →
-        IsPick m pool y
-    in_pool x true f g l = later_is best x refl f g l
-    in_pool x false f g l = h y l
-
-    go : (o : Option Parked) → parked_at m.process_table m.bindings t ≡ o → better_parked pool best o ≡ Some y → IsPick m pool y
-    go None f l = h y l
-    go (Some x) f l = in_pool x (is_pool pool x.pool) f refl l
+better_is m pool t best y h e =
+    record {
+      parked =
+          grind (arith, λ (x : Parked) (f : best ≡ Some x). (h x f).parked, λ (x : Parked) (f : parked_at m.process_table m.bindings t ≡ Some x). (parked_is m t x f).thread);
+      of_pool = grind (arith, λ (x : Parked) (f : best ≡ Some x). (h x f).of_pool);
+    }
 
 pick_among_is : (m : State) (pool : Pool) (n : ℕ) (y : Parked) → pick_among m.process_table m.bindings pool n ≡ Some y → IsPick m pool y
 pick_among_is m pool zero y e = grind arith
@@ -84,8 +63,7 @@ pick_is m pool y e = pick_among_is m pool (length m.process_table.threads) y e
 owner_of_pick :
     (k : Core) (d t : ℕ) (x : Door) (b : Option ℕ) → IsCoherent k → k.door d ≡ Some x → k.bound t ≡ b →
     is_pool (pool_of_door x) (pool_by (k.process t) b) ≡ true → owner_in (k.door d) ≡ Some (k.process t)
-owner_of_pick k d t x None h e f g = grind (arith, nat_tests)
-owner_of_pick k d t x (Some c) h e f g = grind (arith, nat_tests, h.bindings.bound_own t c, h.doors.door_number d x)
+owner_of_pick k d t x b h e f g = grind (arith, nat_tests, h.bindings.bound_own t, h.doors.door_number d x)
 
 -- a thread of the pool of a valid door is of the process that made the door
 pub pick_owner :

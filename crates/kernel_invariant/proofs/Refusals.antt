@@ -1,11 +1,10 @@
 -- What the kernel does after an act changes nothing of a state in which no pool has both a waiting item and an idle thread, and
 -- no idle thread is bound to a door that is not valid.
-use Rattle.std.specs.Prelude.{ℕ, ◌≡◌, List, [], ◌∷◌, Bool, true, false, not, ◌&&◌, ◌||◌, Option, Some, None, is_none, is_some, length, zero, suc, All}
+use Rattle.std.specs.Prelude.{ℕ, ◌≡◌, List, [], ◌∷◌, false, Option, Some, None, length, zero, suc, All}
 use Rattle.std.proofs.Common.{refl, sym, ap, subst, ◌∙◌}
+use native.Mathlib.Omega.{arith}
 use Rattle.std.proofs.lemmas.List.Elements.{All-head, All-tail}
-use Rattle.written_kernel.specs.Types.{Errno, Parked, Request, Waiting}
-use Rattle.kernel_records.specs.declared.pool.Pool.TheVariants.{Common}
-use Rattle.kernel_records.specs.Words.{has_common_door, pid}
+use Rattle.written_kernel.specs.Types.{Errno, Request, Waiting}
 use Rattle.written_kernel.specs.Words.{State, effect, give_each, give_to, has_lost_door, needs_spare, pick, pool_of, process_of, refusal_of, settle, start_each, start_one, start_spares, step, unless_refused, waiting_items, with_event_counted}
 use Rattle.written_kernel.proofs.Notices.{make_notices-same}
 use Rattle.written_kernel.proofs.Settling.{settle-none}
@@ -20,13 +19,7 @@ gives_nothing m (w ∷ ws) h =
 
 -- no process comes to need a spare, where neither its doors nor its pool change
 needs_none : (m : State) (p : ℕ) → needs_spare m m m p ≡ false
-needs_none m p = either (has_common_door m.doors p) (pick m (Common (pid p)))
-  where
-    either : (b : Bool) (o : Option Parked) → (not b && b) || (is_some o && is_none o) ≡ false
-    either true None = refl
-    either true (Some x) = refl
-    either false None = refl
-    either false (Some x) = refl
+needs_none m p = grind arith
 
 starts_nothing : (m : State) (n : ℕ) → start_each m m m n ≡ m
 starts_nothing m zero = refl
@@ -40,9 +33,6 @@ settles_nothing m lost h =
     settle-none m m lost (make_notices-same m)
     ∙ ap (start_spares m m) (gives_nothing m (waiting_items m) h)
     ∙ starts_nothing m (length m.process_table.processes)
-
-pub settles_to_itself : (m : State) → Invariant m → settle m m ≡ m
-settles_to_itself m h = settles_nothing m (no_lost_door m h) h.given_out
 
 -- a refused entry, where no idle thread has lost its door and giving gives nothing
 pub refused_gives :

@@ -4,26 +4,24 @@ use Rattle.std.specs.Prelude.{ℕ, ◌≡◌, ◌&&◌, List, Option, Bool, true
 use Rattle.std.proofs.Common.{refl, sym, ap, subst, ◌∙◌}
 use native.Mathlib.Omega.{arith}
 use Rattle.std.proofs.lemmas.Bool.Decides.{nat_tests}
-use Rattle.written_kernel.specs.Types.{Answer, Call, Errno, Inv, Item, Name, Notice, Pass, PathId, Request, ThreadState}
+use Rattle.written_kernel.specs.Types.{Answer, Call, Inv, Item, Pass, Request}
 use Rattle.dk_base.specs.declared.error.Errno.TheVariants.{EINVAL}
 use Rattle.dk_base.specs.declared.object.Item.TheVariants as item
 use Rattle.dk_base.specs.declared.request.Request.TheVariants as request
 use Rattle.dk_base.specs.declared.answer.Answer.TheVariants as answer
 use Rattle.kernel_records.specs.declared.record.ThreadState.TheVariants as is
-use Rattle.kernel_records.specs.Words.{first_refusal, invocation_in, is_given_as, is_given_notice_as, new_invocation, thread_at, thread_outside, enter_thread}
-use Rattle.written_kernel.specs.Words.{ActResult, MayTurn, State, accept, accept_call, accept_notice, act, await, await_name, begin_call, effect, enter, fail_begin, find_call, find_notice, go_on, has_invalid_door, has_room, invocation_of, name_of, now, process_of, refusal_of, return, return_answer, return_parked, return_tests, return_unbound, settle, state_of, step, unless_refused, with_event_counted}
+use Rattle.kernel_records.specs.Words.{first_refusal, invocation_in, new_invocation, thread_at, thread_outside, enter_thread}
+use Rattle.written_kernel.specs.Words.{ActResult, MayTurn, State, act, fail_begin, invocation_of, now, process_of, return_answer, return_tests, settle, state_of, step, with_event_counted}
 use Rattle.written_kernel.proofs.Invocations.{invocation-enter_thread, invocation-park_thread, invocation-set_thread_state, invocation-without}
+use Rattle.written_kernel.proofs.Moves.{Moves, act_moves}
+use Rattle.written_kernel.proofs.Moves.IsLeaving.{interrupts, exits}
 use Rattle.kernel_invariant.specs.Core.{is_outside}
 use Rattle.kernel_invariant.specs.Invariant.{IsConsistent, Invariant}
 use Rattle.kernel_invariant.specs.Events.{Begins, InvocationArrow, IsCancelled, IsLeft}
 use Rattle.kernel_invariant.specs.Events.InvocationArrow.{stays, begins, cancels, ends, leaves}
 use Rattle.kernel_invariant.specs.Events.IsLeft.{interrupted, caller_ends}
-use Rattle.kernel_invariant.proofs.Acts.{there}
-use Rattle.kernel_invariant.proofs.Calls.{find-passes}
-use Rattle.kernel_invariant.proofs.CallActs.{given_is}
-use Rattle.kernel_invariant.proofs.Notices.{notice-passes}
-use Rattle.kernel_invariant.proofs.NoticeActs.{given_notice_is}
-use Rattle.kernel_invariant.proofs.Leaving.{exit_leaves, interrupt_leaves, kill_leaves, revoke_leaves}
+use Rattle.kernel_invariant.proofs.Consistent.{there}
+use Rattle.kernel_invariant.proofs.Leaving.{interrupt_leaves, thread_leaves, revoke_leaves, process_leaves}
 use Rattle.kernel_invariant.proofs.Later.{AreSameDone, ends_now_later}
 use Rattle.kernel_invariant.proofs.Steps.{StepDoes, step_does, running_is, same_done}
 
@@ -37,72 +35,29 @@ kept :
 kept m t q a u e =
     subst (λ o. InvocationArrow m t q a.answer a.state u (invocation_of m u) o) (sym e) stays
 
--- entries
-
-await_serves : (m : State) (t : ℕ) (q : Option Request) (path : PathId) (u : ℕ) → Serves m t q (await m t path) u
-await_serves m t q path u = go (name_of m path)
+-- the invocation of the thread whose act it is becomes this one
+one_serves :
+    (m : State) (t : ℕ) (q : Option Request) (a : ActResult) (v : Option Inv) →
+    ((u : ℕ) → invocation_of a.state u ≡ (if u == t then v else invocation_of m u)) →
+    InvocationArrow m t q a.answer a.state t (invocation_of m t) v → (u : ℕ) → Serves m t q a u
+one_serves m t q a v after own u = subst (InvocationArrow m t q a.answer a.state u (invocation_of m u)) (sym (after u)) (go (u == t) refl)
   where
-    go : (o : Option Name) → Serves m t q (await_name m t path o) u
-    go None = kept m t q (await_name m t path None) u (invocation-set_thread_state m.process_table t u (is.Awaiting path))
-    go (Some n) = stays
+    go : (b : Bool) → (u == t) ≡ b → InvocationArrow m t q a.answer a.state u (invocation_of m u) (if b then v else invocation_of m u)
+    go true e =
+        let same : t ≡ u = grind (arith, nat_tests) in
+        subst (λ (j : ℕ). InvocationArrow m t q a.answer a.state j (invocation_of m j) v) same own
+    go false e = stays
 
 -- a Return ends an invocation
 return_serves :
-    (m : State) (t : ℕ) (bytes : List ℕ) (pass : List Pass) (u : ℕ) → first_refusal (return_tests m t (process_of m t) bytes pass) ≡ None →
-    Serves m t (Some (request.Return bytes pass)) (return m t (process_of m t) bytes pass) u
-return_serves m t bytes pass u free = go (has_invalid_door m t) refl
+    (m : State) (t : ℕ) (bytes : List ℕ) (pass : List Pass) (a : ActResult) →
+    first_refusal (return_tests m t (process_of m t) bytes pass) ≡ None → a.answer ≡ return_answer m t →
+    ((u : ℕ) → invocation_of a.state u ≡ (if u == t then None else invocation_of m u)) → (u : ℕ) → Serves m t (Some (request.Return bytes pass)) a u
+return_serves m t bytes pass a free e left = one_serves m t (Some (request.Return bytes pass)) a None left (own (invocation_of m t))
   where
-    q : Option Request
-    q = Some (request.Return bytes pass)
-
-    -- where the act answers so
-    ended :
-        (a : ActResult) → a.answer ≡ return_answer m t → invocation_of a.state u ≡ (if u == t then None else invocation_of m u) →
-        Serves m t q a u
-    ended a e left = at (u == t) refl
-      where
-        own : u ≡ t → (v : Option Inv) → InvocationArrow m t q a.answer a.state u v None
-        own same None = stays
-        own same (Some v) = ends v bytes pass same refl free e
-
-        at : (b : Bool) → (u == t) ≡ b → Serves m t q a u
-        at true g =
-            let gone : invocation_of a.state u ≡ None = left ∙ ap (λ (b : Bool). if b then None else invocation_of m u) g in
-            subst (λ o. InvocationArrow m t q a.answer a.state u (invocation_of m u) o) (sym gone)
-            (own (grind (arith, nat_tests)) (invocation_of m u))
-        at false g = kept m t q a u (left ∙ ap (λ (b : Bool). if b then None else invocation_of m u) g)
-
-    go :
-        (b : Bool) → has_invalid_door m t ≡ b →
-        Serves m t q (if b then return_unbound m t (process_of m t) bytes pass else return_parked m t (process_of m t) bytes pass) u
-    go true f =
-        ended (return_unbound m t (process_of m t) bytes pass) (sym (ap (λ (b : Bool). if b then answer.Failure EINVAL else answer.Wait) f))
-        (invocation-without m.process_table t u thread_outside (λ x. refl))
-    go false f =
-        ended (return_parked m t (process_of m t) bytes pass) (sym (ap (λ (b : Bool). if b then answer.Failure EINVAL else answer.Wait) f))
-        (invocation-park_thread m.process_table t (now m) u)
-
-effect_serves :
-    (m : State) (t : ℕ) (r : Request) (u : ℕ) → IsConsistent m → state_of m t ≡ is.Running →
-    refusal_of m t (process_of m t) r ≡ None → Serves m t (Some r) (effect m t (process_of m t) r) u
-effect_serves m t (request.Call fd bytes pass rsize) u h e f =
-    kept m t _ (effect m t (process_of m t) (request.Call fd bytes pass rsize)) u (invocation-set_thread_state m.process_table t u _)
-effect_serves m t (request.Return bytes pass) u h e f = return_serves m t bytes pass u f
-effect_serves m t (request.Revoke fd) u h e f = (revoke_leaves m _ t fd h e).serves u
-effect_serves m t (request.Await path) u h e f = await_serves m t _ path u
-effect_serves m t (request.Interrupt thread) u h e f = (interrupt_leaves m t thread.0 h).serves u
-effect_serves m t (request.Kill process) u h e f = (kill_leaves m t _ process.0 h).serves u
-effect_serves m t request.Exit u h e f = (exit_leaves m t _ (process_of m t) h).serves u
-effect_serves m t r u h e f = stays
-
-enter_serves :
-    (m : State) (t : ℕ) (r : Request) (u : ℕ) → IsConsistent m → state_of m t ≡ is.Running →
-    Serves m t (Some r) (enter m t (process_of m t) r) u
-enter_serves m t r u h e = go (refusal_of m t (process_of m t) r) refl
-  where
-    go : (o : Option Errno) → refusal_of m t (process_of m t) r ≡ o → Serves m t (Some r) (unless_refused m o (effect m t (process_of m t) r)) u
-    go (Some x) f = stays
-    go None f = effect_serves m t r u h e f
+    own : (v : Option Inv) → InvocationArrow m t (Some (request.Return bytes pass)) a.answer a.state t v None
+    own None = stays
+    own (Some v) = ends v bytes pass refl refl free e
 
 -- the accept of a call or of a notice begins an invocation
 
@@ -115,67 +70,49 @@ serves_after_accept m t u i e =
     ∙ ap (λ (b : Bool). if (u == t) && b then Some (new_invocation i) else invocation_of m u) (there m t (λ z. grind arith))
     ∙ grind arith
 
--- a thread that was given an item has no invocation before it, and that of the item after it
+-- a thread that was given an item has no invocation before it
+free_of : (m : State) (t : ℕ) (i : Item) → IsConsistent m → state_of m t ≡ is.Given i → invocation_of m t ≡ None
+free_of m t i h e = h.coherent.servers.outside t (ap is_outside e)
+
+-- and that of the item after it
 begun_serves :
-    (m : State) (t u : ℕ) (i : Item) (a : ActResult) → IsConsistent m → state_of m t ≡ is.Given i → Begins a.answer i →
-    ((v : ℕ) → invocation_of a.state v ≡ (if v == t then Some (new_invocation i) else invocation_of m v)) → Serves m t None a u
-begun_serves m t u i a h e b after = go (u == t) refl
-  where
-    go : (c : Bool) → (u == t) ≡ c → Serves m t None a u
-    go true g =
-        let same : u ≡ t = grind (arith, nat_tests) in
-        let now : invocation_of a.state u ≡ Some (new_invocation i) =
-        after u ∙ ap (λ (c : Bool). if c then Some (new_invocation i) else invocation_of m u) g
-        in
-        let free : invocation_of m u ≡ None = ap (λ (v : ℕ). invocation_of m v) same ∙ h.coherent.servers.outside t (ap is_outside e) in
-        subst (λ o. InvocationArrow m t None a.answer a.state u o (invocation_of a.state u)) (sym free)
-        (subst (λ o. InvocationArrow m t None a.answer a.state u None o) (sym now) (begins i same refl e b))
-    go false g = kept m t None a u (after u ∙ ap (λ (c : Bool). if c then Some (new_invocation i) else invocation_of m u) g)
+    (m : State) (t : ℕ) (i : Item) (a : ActResult) → IsConsistent m → state_of m t ≡ is.Given i → Begins a.answer i →
+    ((u : ℕ) → invocation_of a.state u ≡ (if u == t then Some (new_invocation i) else invocation_of m u)) → (u : ℕ) → Serves m t None a u
+begun_serves m t i a h e b after =
+    one_serves m t None a (Some (new_invocation i)) after
+    (subst (λ o. InvocationArrow m t None a.answer a.state t o (Some (new_invocation i))) (sym (free_of m t i h e)) (begins i refl refl e b))
 
-accept_serves : (m : State) (t p : ℕ) (i : Item) (u : ℕ) → IsConsistent m → state_of m t ≡ is.Given i → Serves m t None (accept m t p i) u
-accept_serves m t p (item.Notice c) u h e = go (find_notice m (is_given_notice_as c t)) refl
-  where
-    go : (o : Option Notice) → find_notice m (is_given_notice_as c t) ≡ o → Serves m t None (accept_notice m t c o) u
-    go None f = stays
-    go (Some x) f =
-        begun_serves m t u (item.Notice c) (accept_notice m t c (Some x)) h e
-        (ap (λ (n : ℕ). item.Notice n) (sym (given_notice_is c t x (notice-passes (is_given_notice_as c t) m.notice_list.notices x f)).0))
-        (λ v. serves_after_accept m t v (item.Notice c) e)
-accept_serves m t p (item.Call c) u h e = go (find_call m (is_given_as c t)) refl
-  where
-    -- a thread that was given a call has no invocation
-    free : u ≡ t → invocation_of m u ≡ None
-    free same = ap (λ (v : ℕ). invocation_of m v) same ∙ h.coherent.servers.outside t (ap is_outside e)
+-- where an accept fails a thread has none, as before
+failed_serves :
+    (m : State) (t : ℕ) (r : Call) → IsConsistent m → state_of m t ≡ is.Given (item.Call r.number) → (u : ℕ) → Serves m t None (fail_begin m t r.number r) u
+failed_serves m t r h e =
+    one_serves m t None _ None (invocation-park_thread m.process_table t (now m))
+    (subst (λ o. InvocationArrow m t None (fail_begin m t r.number r).answer (fail_begin m t r.number r).state t o None) (sym (free_of m t _ h e)) stays)
 
-    -- where the accept fails it has none as before
-    failed : (r : Call) → Serves m t None (fail_begin m t c r) u
-    failed r = kept m t None (fail_begin m t c r) u (invocation-park_thread m.process_table t (now m) u ∙ grind (arith, nat_tests, free))
-
-    by_room : (r : Call) → r.number ≡ c → (b : Bool) → Serves m t None (if b then begin_call m t p c r else fail_begin m t c r) u
-    by_room r n true =
-        begun_serves m t u (item.Call c) (begin_call m t p c r) h e (ap (λ (x : ℕ). item.Call x) (sym n))
-        (λ v. serves_after_accept m t v (item.Call c) e)
-    by_room r n false = failed r
-
-    go : (o : Option Call) → find_call m (is_given_as c t) ≡ o → Serves m t None (accept_call m t p c o) u
-    go None f = stays
-    go (Some r) f = by_room r (given_is c t r (find-passes (is_given_as c t) m.call_tree.calls r f)).0 (has_room m p r.objects)
-
-go_on_serves : (m : State) (t p : ℕ) (s : ThreadState) (u : ℕ) → IsConsistent m → state_of m t ≡ s → Serves m t None (go_on m t p s) u
-go_on_serves m t p (is.Given i) u h e = accept_serves m t p i u h e
-go_on_serves m t p (is.Calling c) u h e =
-    kept m t None (go_on m t p (is.Calling c)) u (invocation-set_thread_state m.process_table t u is.Running)
-go_on_serves m t p (is.Awaiting path) u h e =
-    kept m t None (go_on m t p (is.Awaiting path)) u (invocation-set_thread_state m.process_table t u is.Running)
-go_on_serves m t p (is.Working op input) u h e =
-    kept m t None (go_on m t p (is.Working op input)) u (invocation-set_thread_state m.process_table t u is.Running)
-go_on_serves m t p is.FailedReturn u h e =
-    kept m t None (go_on m t p is.FailedReturn) u (invocation-set_thread_state m.process_table t u is.Running)
-go_on_serves m t p s u h e = stays
+move_serves :
+    (m : State) (t : ℕ) (q : Option Request) (a : ActResult) → IsConsistent m → MayTurn m t q → Moves m t q a → (u : ℕ) → Serves m t q a u
+move_serves m t q a h may (Moves.turns s x _ _) u = kept m t q a u (invocation-set_thread_state m.process_table t u s)
+move_serves m t q a h may (Moves.calls fd bytes pass rsize f) u = kept m t q a u (invocation-set_thread_state m.process_table t u _)
+move_serves m t q a h may (Moves.returns bytes pass f e) u =
+    return_serves m t bytes pass a f (sym (ap (λ (b : Bool). if b then answer.Failure EINVAL else answer.Wait) e))
+    (invocation-park_thread m.process_table t (now m)) u
+move_serves m t q a h may (Moves.returns_unbound bytes pass f e) u =
+    return_serves m t bytes pass a f (sym (ap (λ (b : Bool). if b then answer.Failure EINVAL else answer.Wait) e))
+    (λ v. invocation-without m.process_table t v thread_outside (λ x. refl)) u
+move_serves m t q a h may (Moves.enters r e room) u =
+    begun_serves m t (item.Call r.number) a h e.given refl (λ v. serves_after_accept m t v (item.Call r.number) e.given) u
+move_serves m t q a h may (Moves.fails r e full) u = failed_serves m t r h e.given u
+move_serves m t q a h may (Moves.enters_notice n e) u =
+    begun_serves m t (item.Notice n.number) a h e.given refl (λ v. serves_after_accept m t v (item.Notice n.number) e.given) u
+move_serves m t q a h may (Moves.collects c e) u = kept m t q a u (invocation-set_thread_state m.process_table t u is.Running)
+move_serves m t q a h may (Moves.leaves r who (interrupts v)) u = (interrupt_leaves m t v.0 h).serves u
+move_serves m t q a h may (Moves.leaves r who (exits e)) u = (thread_leaves m t q t h).serves u
+move_serves m t q a h may (Moves.revokes fd f) u = (revoke_leaves m q t fd h (running_is m t may.running)).serves u
+move_serves m t q a h may (Moves.ends r p _) u = (process_leaves m q p h t).serves u
+move_serves m t q a h may _ u = stays
 
 act_serves : (m : State) (t : ℕ) (q : Option Request) (u : ℕ) → IsConsistent m → MayTurn m t q → Serves m t q (act m t q) u
-act_serves m t (Some r) u h may = enter_serves m t r u h (running_is m t may.running)
-act_serves m t None u h may = go_on_serves m t (process_of m t) (state_of m t) u h refl
+act_serves m t q u h may = move_serves m t q (act m t q) h may (act_moves m t q) u
 
 -- what the kernel does after an act leaves every invocation as it is, and the threads that are done as well
 

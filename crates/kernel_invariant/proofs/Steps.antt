@@ -1,88 +1,65 @@
 -- What an act does, and what the kernel does after it.
-use Rattle.std.specs.Prelude.{ℕ, ◌≡◌, Option, true, Some, None}
-use Rattle.std.proofs.Common.{refl, ◌∙◌, ap}
+use Rattle.std.specs.Prelude.{ℕ, ◌≡◌, ◌+◌, Option, true}
+use Rattle.std.proofs.Common.{refl, sym, ◌∙◌, ap}
 use native.Mathlib.Omega.{arith}
-use Rattle.written_kernel.specs.Types.{Errno, Request, ThreadState}
-use Rattle.dk_base.specs.declared.request.Request.TheVariants as request
+use Rattle.written_kernel.specs.Types.{Request}
 use Rattle.kernel_records.specs.declared.record.ThreadState.TheVariants as is
 use Rattle.kernel_records.specs.Words.{is_valid_in}
-use Rattle.written_kernel.specs.Words.{MayTurn, State, act, can_go_on, effect, enter, go_on, is_running, is_running_state, process_of, refusal_of, settle, state_of, step, unless_refused, with_event_counted}
+use Rattle.written_kernel.specs.Words.{ActResult, MayTurn, State, act, can_go_on, is_running, settle, state_of, step, with_event_counted}
 use Rattle.kernel_invariant.specs.Records.{record_of}
 use Rattle.kernel_invariant.specs.Invariant.{IsConsistent, Invariant}
 use Rattle.kernel_invariant.specs.Arrows.{Arrow}
 use Rattle.kernel_invariant.proofs.Later.{AreSameDone, by_act_later}
-use Rattle.kernel_invariant.proofs.Acts.{Does, bind_does, does_nothing, create_does, names_does, rows_does, set_param_does, await_does, turned_to, unbind_does}
-use Rattle.kernel_invariant.proofs.CallActs.{call_does, return_does, accept_does, collect_does}
+use Rattle.written_kernel.proofs.Moves.{Moves, act_moves}
+use Rattle.written_kernel.proofs.Moves.IsBinding.{binds, unbinds}
+use Rattle.written_kernel.proofs.Moves.IsTurn.{awaits, finds, works, wakes}
+use Rattle.written_kernel.proofs.Moves.IsLeaving.{interrupts, exits}
+use Rattle.written_kernel.proofs.Moves.{is_quiet}
+use Rattle.kernel_invariant.proofs.Acts.{Does, bind_does, does_nothing, create_does, names_does, rows_does, set_param_does, turned_to, unbind_does}
+use Rattle.kernel_invariant.proofs.CallActs.{call_does, parked_return_does, unbound_return_does, begin_does, fail_does, collect_does}
+use Rattle.kernel_invariant.proofs.NoticeActs.{begin_notice_does}
+use Rattle.kernel_invariant.proofs.Consistent.{beside_consistent}
 use Rattle.kernel_invariant.proofs.Failing.{wake_does}
-use Rattle.kernel_invariant.proofs.Leaving.{exit_does, interrupt_does, kill_does, revoke_does}
+use Rattle.kernel_invariant.proofs.Leaving.{interrupt_leaves, thread_leaves, revoke_leaves, process_leaves}
 use Rattle.kernel_invariant.proofs.Settling.{Settles, idle_valid_of, is_at_rest, settle_does}
 
 pub running_is : (m : State) (t : ℕ) → is_running m t ≡ true → state_of m t ≡ is.Running
-running_is m t e = go (state_of m t) e
-  where
-    go : (s : ThreadState) → is_running_state s ≡ true → s ≡ is.Running
-    go is.Running e = refl
-    go s e = grind arith
+running_is m t e = grind arith
 
-effect_does :
-    (m : State) (t : ℕ) (r : Request) → IsConsistent m → state_of m t ≡ is.Running →
-    refusal_of m t (process_of m t) r ≡ None → Does m t (Some r) (effect m t (process_of m t) r)
-effect_does m t (request.Create entry cookie attrs) h e f = create_does m t _ entry cookie attrs h e f
-effect_does m t (request.Call fd bytes pass rsize) h e f = call_does m t rsize fd bytes pass h e f
-effect_does m t (request.Return bytes pass) h e f = return_does m t bytes pass h e f
-effect_does m t (request.Revoke fd) h e f = revoke_does m t _ fd h e
-effect_does m t (request.Bind fd) h e f = bind_does m t _ fd h f
-effect_does m t request.Unbind h e f = unbind_does m t _ h
-effect_does m t (request.SetParam fd x value) h e f = set_param_does m t _ _ x value _ h
-effect_does m t (request.Close fd) h e f = rows_does m t _ _ _ h e
-effect_does m t (request.Dup fd) h e f = rows_does m t _ _ _ h e
-effect_does m t (request.Attach fd path) h e f = names_does m t _ _ _ h
-effect_does m t (request.Detach path) h e f = names_does m t _ _ _ h
-effect_does m t (request.Open path) h e f = rows_does m t _ _ _ h e
-effect_does m t (request.Await path) h e f = await_does m t _ path h e
-effect_does m t (request.Interrupt thread) h e f = interrupt_does m t thread.0 h
-effect_does m t (request.Kill process) h e f = kill_does m t _ process.0 h
-effect_does m t request.Exit h e f = exit_does m t _ h
-effect_does m t r h e f = does_nothing m t _ _ h
-
-enter_does :
-    (m : State) (t : ℕ) (r : Request) → IsConsistent m → state_of m t ≡ is.Running → Does m t (Some r) (enter m t (process_of m t) r)
-enter_does m t r h e = go (refusal_of m t (process_of m t) r) refl
-  where
-    go : (o : Option Errno) → refusal_of m t (process_of m t) r ≡ o → Does m t (Some r) (unless_refused m o (effect m t (process_of m t) r))
-    go (Some x) f = does_nothing m t _ _ h
-    go None f = effect_does m t r h e f
-
-go_on_does :
-    (m : State) (t : ℕ) (s : ThreadState) → IsConsistent m → state_of m t ≡ s → can_go_on m s ≡ true →
-    Does m t None (go_on m t (process_of m t) s)
-go_on_does m t (is.Given i) h e f = accept_does m t i h e
-go_on_does m t (is.Calling c) h e f = collect_does m t c h e f
-go_on_does m t (is.Awaiting path) h e f = turned_to m t None is.Running _ h (grind arith) refl refl
-go_on_does m t (is.Working op input) h e f = turned_to m t None is.Running _ h (grind arith) refl refl
-go_on_does m t is.FailedReturn h e f = wake_does m t None h e
-go_on_does m t s h e f = does_nothing m t None _ h
+move_does : (m : State) (t : ℕ) (q : Option Request) (a : ActResult) → IsConsistent m → MayTurn m t q → Moves m t q a → Does m t q a
+move_does m t q a h may (Moves.nothing x _) = does_nothing m t q x h
+move_does m t q a h may (Moves.rows r place o x _) = rows_does m t q _ x h (running_is m t may.running)
+move_does m t q a h may (Moves.names r names _) = names_does m t q names _ h
+move_does m t q a h may (Moves.bound r o (binds fd f)) = bind_does m t q fd h f
+move_does m t q a h may (Moves.bound r o (unbinds f)) = unbind_does m t q h
+move_does m t q a h may (Moves.parameter fd x value f) = set_param_does m t q _ x value _ h
+move_does m t q a h may (Moves.makes entry cookie attrs f) = create_does m t q entry cookie attrs h (running_is m t may.running) f
+move_does m t q a h may (Moves.turns s x w (awaits path e)) = turned_to m t q s x h (ap is_quiet (running_is m t may.running)) w refl
+move_does m t q a h may (Moves.turns s x w (finds path e)) = turned_to m t q s x h (ap is_quiet e) w refl
+move_does m t q a h may (Moves.turns s x w (works op input e)) = turned_to m t q s x h (ap is_quiet e) w refl
+move_does m t q a h may (Moves.turns s x w (wakes e)) = wake_does m t q h e
+move_does m t q a h may (Moves.calls fd bytes pass rsize f) = call_does m t rsize fd bytes pass h (running_is m t may.running) f
+move_does m t q a h may (Moves.returns bytes pass f e) = parked_return_does m t bytes pass h (running_is m t may.running) f e
+move_does m t q a h may (Moves.returns_unbound bytes pass f e) = unbound_return_does m t bytes pass h (running_is m t may.running) f e
+move_does m t q a h may (Moves.enters r e room) = begin_does m t r h e room
+move_does m t q a h may (Moves.fails r e full) = fail_does m t r h e full
+move_does m t q a h may (Moves.enters_notice n e) = begin_notice_does m t n h e
+move_does m t q a h may (Moves.collects c e) = collect_does m t c h e (sym (ap (can_go_on m) e) ∙ may.runnable)
+move_does m t q a h may (Moves.leaves r who (interrupts u)) = (interrupt_leaves m t u.0 h).does
+move_does m t q a h may (Moves.leaves r who (exits e)) = (thread_leaves m t q t h).does
+move_does m t q a h may (Moves.revokes fd f) = (revoke_leaves m q t fd h (running_is m t may.running)).does
+move_does m t q a h may (Moves.ends r p _) = (process_leaves m q p h t).does
 
 pub act_does : (m : State) (t : ℕ) (q : Option Request) → IsConsistent m → MayTurn m t q → Does m t q (act m t q)
-act_does m t (Some r) h may = enter_does m t r h (running_is m t may.running)
-act_does m t None h may = go_on_does m t (state_of m t) h refl may.runnable
+act_does m t q h may = move_does m t q (act m t q) h may (act_moves m t q)
 
 counted_keeps : (m : State) → IsConsistent m → IsConsistent (with_event_counted m)
-counted_keeps m h =
-    record {
-      in_order = h.in_order;
-      counted = h.counted;
-      coherent = h.coherent;
-      tables = h.tables;
-      no_rows = h.no_rows;
-      notices_in_order = h.notices_in_order;
-      notices_counted = h.notices_counted;
-    }
+counted_keeps m h = beside_consistent m m.doors m.bindings m.names (m.events + 1) h h.coherent
 
 -- what an act and the kernel after it do
 pub record StepDoes (m : State) (t : ℕ) (q : Option Request) : Type 0 where
   pub acted : Does m t q (act m t q)
-  pub settled : Settles (act m t q).state (settle m (act m t q).state)
+  pub settled : Settles m (act m t q).state (settle m (act m t q).state)
 
 pub step_does : (m : State) (t : ℕ) (q : Option Request) → Invariant m → MayTurn m t q → StepDoes m t q
 step_does m t q h may =

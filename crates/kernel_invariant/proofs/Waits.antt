@@ -6,22 +6,19 @@ use native.Mathlib.Omega.{arith}
 use Rattle.std.proofs.lemmas.Bool.Decides.{nat_tests}
 use Rattle.dk_base.specs.declared.error.Errno.TheVariants.{EMFILE}
 use Rattle.dk_base.specs.declared.object.Item.TheVariants as item
-use Rattle.dk_base.specs.declared.answer.Answer.TheVariants as answer
+use Rattle.kernel_records.proofs.NumberedLists.{find-as, find-passes}
 use Rattle.written_kernel.specs.Types.{Call, CallStage, Request}
 use Rattle.kernel_records.specs.declared.record.ThreadState.TheVariants as is
 use Rattle.kernel_records.specs.declared.record.CallStage.TheVariants as stage
-use Rattle.kernel_records.specs.Words.{is_given_as, is_to_collect_as, tid, without_arguments_at}
+use Rattle.kernel_records.specs.Words.{call_number, is_given_as, is_to_collect_as, tid, without_arguments_at}
 use Rattle.written_kernel.specs.Words.{MayTurn, State, accept, accept_call, act, begin_call, can_go_on, fail_begin, find_call, go_on, has_room, now, process_of, state_of, step}
-use Rattle.kernel_invariant.specs.Records.{has_number, record_of, stage_in, stage_of}
+use Rattle.kernel_invariant.specs.Records.{has_number, stage_in, stage_of}
 use Rattle.kernel_invariant.specs.Invariant.{IsConsistent, Invariant}
 use Rattle.kernel_invariant.specs.Arrows.{ByGiving}
 use Rattle.kernel_invariant.specs.Arrows.ByGiving.{stays, gives}
 use Rattle.kernel_invariant.specs.Events.{IsAcceptedNow, IsAnsweredNow}
-use Rattle.kernel_invariant.proofs.Calls.{find-as, find-number, find-passes}
-use Rattle.kernel_invariant.proofs.Cores.{IsThere, park_thread-turns}
-use Rattle.kernel_invariant.proofs.Acts.{change-call, changed_tree, there}
+use Rattle.kernel_invariant.proofs.Consistent.{change-call, changed_tree}
 use Rattle.kernel_invariant.proofs.CallActs.{collects_is, given_is}
-use Rattle.kernel_invariant.proofs.Settling.{IsIdleOrGiven}
 use Rattle.kernel_invariant.proofs.Steps.{StepDoes, step_does}
 
 -- giving changes only what is Queued
@@ -41,14 +38,9 @@ stage_stays m t q c s d e f =
 
 -- the call that a thread was given is found
 pub given_found : (m : State) (t c : ℕ) → IsConsistent m → state_of m t ≡ is.Given (item.Call c) → is_some (find_call m (is_given_as c t)) ≡ true
-given_found m t c h e = go (record_of m c) refl
-  where
-    go : (o : Option Call) → record_of m c ≡ o → is_some (find_call m (is_given_as c t)) ≡ true
-    go None f = grind (arith, h.coherent.waits.given_back c t e)
-    go (Some r) f =
-        let n : r.number ≡ c = find-number m.call_tree.calls c r f in
-        let given : r.stage ≡ stage.Given (tid t) = grind (arith, h.coherent.waits.given_back c t e) in
-        ap is_some (find-as (is_given_as c t) m.call_tree.calls c r (λ y g. grind (arith, nat_tests)) f (grind (arith, nat_tests)))
+given_found m t c h e =
+    let found = λ (r : Call). find-as call_number (is_given_as c t) m.call_tree.calls c r (λ y g. grind (arith, nat_tests)) in
+    grind (arith, nat_tests, h.coherent.waits.given_back c t e, found)
 
 -- and after the accept is at the stage that it moves it to
 stage_accepted :
@@ -56,7 +48,7 @@ stage_accepted :
     stage_in (find (has_number c) (changed_tree m.call_tree (is_given_as c t) (without_arguments_at s)).calls) ≡ Some s
 stage_accepted m t c r s h g =
     let n : r.number ≡ c = (given_is c t r (find-passes (is_given_as c t) m.call_tree.calls r g)).0 in
-    ap stage_in (change-call (is_given_as c t) (without_arguments_at s) (λ x. refl) m r c h g) ∙ grind (arith, nat_tests)
+    ap stage_in (change-call (is_given_as c t) (without_arguments_at s) (λ x. refl) m r h g c) ∙ grind (arith, nat_tests)
 
 accepted : (m : State) (t p c : ℕ) → IsConsistent m → state_of m t ≡ is.Given (item.Call c) → IsAcceptedNow (accept m t p (item.Call c)).state t c
 accepted m t p c h e = go (find_call m (is_given_as c t)) refl (given_found m t c h e)
@@ -82,34 +74,6 @@ step_accepted m t q c h may e f =
     (subst (λ s. IsAcceptedNow (go_on m t (process_of m t) s).state t c) (sym f) (accepted m t (process_of m t) c h.consistent f)))
     may
 
--- a thread whose accept fails is parked
-parked :
-    (m : State) (t p c d : ℕ) (o : Option Call) → IsThere m.process_table t → (accept_call m t p c o).answer ≡ answer.EnterFailed d →
-    state_of (accept_call m t p c o).state t ≡ is.Idle (now m)
-parked m t p c d None h e = absurd (cc e)
-parked m t p c d (Some r) h e = go (has_room m p r.objects) e
-  where
-    go :
-        (b : Bool) → (if b then begin_call m t p c r else fail_begin m t c r).answer ≡ answer.EnterFailed d →
-        state_of (if b then begin_call m t p c r else fail_begin m t c r).state t ≡ is.Idle (now m)
-    go true f = absurd (cc f)
-    go false f = (park_thread-turns m.process_table t (now m) h).role t ∙ grind (arith, nat_tests)
-
--- and after the event is idle since then, or was given another item, or has failed if it has lost its door
-pub step_parked :
-    (m : State) (t c d : ℕ) (q : Option Request) → Invariant m → MayTurn m t q → q ≡ None → state_of m t ≡ is.Given (item.Call c) →
-    (step m t q).answer ≡ answer.EnterFailed d → IsIdleOrGiven (act m t q).state t (now m) (state_of (step m t q).state t)
-unfolding step
-step_parked m t c d q h may e f a = (step_does m t q h may).settled.gave.idle t (now m) (acted a)
-  where
-    at_end : (go_on m t (process_of m t) (state_of m t)).answer ≡ answer.EnterFailed d → state_of (go_on m t (process_of m t) (state_of m t)).state t ≡ is.Idle (now m)
-    at_end =
-        subst (λ s. (go_on m t (process_of m t) s).answer ≡ answer.EnterFailed d → state_of (go_on m t (process_of m t) s).state t ≡ is.Idle (now m)) (sym f)
-        (parked m t (process_of m t) c d (find_call m (is_given_as c t)) (there m t (λ z. grind arith)))
-
-    acted : (act m t q).answer ≡ answer.EnterFailed d → state_of (act m t q).state t ≡ is.Idle (now m)
-    acted = subst (λ o. (act m t o).answer ≡ answer.EnterFailed d → state_of (act m t o).state t ≡ is.Idle (now m)) (sym e) at_end
-
 -- collect
 
 -- a turn of a thread that is Calling c is taken only where c can be collected
@@ -130,5 +94,5 @@ step_collected m t q c h may e f =
     go None g s = grind arith
     go (Some r) g s =
         let n : r.number ≡ c = (collects_is c r (find-passes (is_to_collect_as c) m.call_tree.calls r g)).0 in
-        ap stage_in (change-call (is_to_collect_as c) (without_arguments_at (stage.Answered (now m))) (λ x. refl) m r c h.consistent g)
+        ap stage_in (change-call (is_to_collect_as c) (without_arguments_at (stage.Answered (now m))) (λ x. refl) m r h.consistent g c)
         ∙ grind (arith, nat_tests)

@@ -1,33 +1,23 @@
 -- The invariant of every run: what holds of each state between two events.
-use Rattle.std.specs.Prelude.{ℕ, ◌≡◌, ◌+◌, List, [], ◌∷◌, true, Some, None, length, All}
-use Rattle.written_kernel.specs.Types.{Call, Fd, Notice}
+use Rattle.std.specs.Prelude.{ℕ, ◌≡◌, true, Some, None, length, All}
+use Rattle.written_kernel.specs.Types.{Fd}
 use Rattle.kernel_records.specs.declared.record.ThreadState.TheVariants as is
-use Rattle.kernel_records.specs.Words.{is_valid_in}
+use Rattle.kernel_records.specs.Words.{IsCounted, call_number, is_valid_in, notice_number}
 use Rattle.written_kernel.specs.Words.{State, object_at, pick, pool_of, waiting_items}
 use Rattle.kernel_invariant.specs.Core.{core, ended_in}
 use Rattle.kernel_invariant.specs.Coherent.{IsCoherent}
 
--- the calls of a list have the numbers from n + 1 on, in order
-abbrev pub IsInOrder : ℕ → List Call → Type 0
-IsInOrder n [] = Unit {0}
-IsInOrder n (r ∷ rs) = (r.number ≡ n + 1) × IsInOrder (n + 1) rs
-
--- the same of notices
-abbrev pub AreNoticesInOrder : ℕ → List Notice → Type 0
-AreNoticesInOrder n [] = Unit {0}
-AreNoticesInOrder n (x ∷ xs) = (x.number ≡ n + 1) × AreNoticesInOrder (n + 1) xs
-
 -- what holds at each time: also between an act and what the kernel does after it
 pub record IsConsistent (m : State) : Type 0 where
   -- the calls have the numbers from 1 to the number of calls made, in order
-  pub in_order : IsInOrder 0 m.call_tree.calls
+  pub in_order : IsCounted call_number 0 m.call_tree.calls
   pub counted : length m.call_tree.calls ≡ m.call_tree.made
   pub coherent : IsCoherent (core m)
   -- each process has a table, and an ended one has no row
   pub tables : length m.tables ≡ length m.process_table.processes
   pub no_rows : (p : ℕ) (fd : Fd) → ended_in ((core m).proc p) ≡ true → object_at m p fd ≡ None
   -- so do notices
-  pub notices_in_order : AreNoticesInOrder 0 m.notice_list.notices
+  pub notices_in_order : IsCounted notice_number 0 m.notice_list.notices
   pub notices_counted : length m.notice_list.notices ≡ m.notice_list.made
 
 pub record Invariant (m : State) : Type 0 where

@@ -1,0 +1,98 @@
+-- The changes of the core that concern doors alone: a door is made, or its parameters change. Each keeps what holds of a core.
+use Rattle.std.specs.Prelude.{ℕ, ◌≡◌, Option, not, true, Some, None, is_some, option_map}
+use Rattle.std.proofs.Common.{sym, ◌∙◌}
+use native.Mathlib.Omega.{arith}
+use Rattle.std.proofs.lemmas.Bool.Decides.{nat_tests}
+use Rattle.written_kernel.specs.Types.{Door}
+use Rattle.kernel_records.specs.Words.{is_live_in, is_private_in, is_valid_in, no_cancel_of}
+use Rattle.kernel_invariant.specs.Core.{Core, door_in}
+use Rattle.kernel_invariant.specs.Coherent.{AreDoors, IsCoherent}
+use Rattle.kernel_invariant.specs.Records.{owner_in}
+use Rattle.kernel_invariant.proofs.Cores.{upd}
+
+-- what calls, notices and bindings read of doors holds as before
+pub record KeepsDoors (door after : ℕ → Option Door) : Type 0 where
+  pub there : (d : ℕ) → is_some (door d) ≡ true → is_some (after d) ≡ true
+  pub valid : (d : ℕ) → is_valid_in (door d) ≡ true → is_valid_in (after d) ≡ true
+  pub owner : (d p : ℕ) → owner_in (door d) ≡ Some p → owner_in (after d) ≡ Some p
+  pub private : (d : ℕ) → is_private_in (door d) ≡ true → is_private_in (after d) ≡ true
+  pub no_cancel : (d : ℕ) → is_some (door d) ≡ true → no_cancel_of (after d) ≡ no_cancel_of (door d)
+
+pub doors_keep :
+    (k : Core) (after : ℕ → Option Door) → IsCoherent k → KeepsDoors k.door after → AreDoors after k.proc →
+    IsCoherent (record k { door = after })
+doors_keep k after h s doors =
+    record {
+      waits = h.waits;
+      invocations = h.invocations;
+      notices_given = h.notices_given;
+      notices_entered = h.notices_entered;
+      notices_at_doors =
+          record {
+            notice_door = λ n e. s.there (k.noticed_door n) (h.notices_at_doors.notice_door n e);
+            notice_valid = λ n e. s.valid (k.noticed_door n) (h.notices_at_doors.notice_valid n e);
+            notice_given_owner = λ n u e. s.owner (k.noticed_door n) _ (h.notices_at_doors.notice_given_owner n u e);
+            notice_entered_owner = λ n u e. s.owner (k.noticed_door n) _ (h.notices_at_doors.notice_entered_owner n u e);
+          };
+      servers = h.servers;
+      calls = h.calls;
+      at_doors =
+          record {
+            door_there = λ c r e. s.there r.door (h.at_doors.door_there c r e);
+            no_cancel = λ c r e. h.at_doors.no_cancel c r e ∙ sym (s.no_cancel r.door (h.at_doors.door_there c r e));
+            waiting_valid = λ c e. s.valid (door_in (k.call c)) (h.at_doors.waiting_valid c e);
+            given_owner = λ c v e. s.owner (door_in (k.call c)) _ (h.at_doors.given_owner c v e);
+            entered_owner = λ c v e. s.owner (door_in (k.call c)) _ (h.at_doors.entered_owner c v e);
+          };
+      doors = doors;
+      bindings =
+          record { bound_own = λ v d e. s.owner d _ (h.bindings.bound_own v d e); bound_private = λ v d e. s.private d (h.bindings.bound_private v d e) };
+      processes = h.processes;
+      threads = h.threads;
+      has_built_state = h.has_built_state;
+    }
+
+-- one door more
+pub door_keeps :
+    (k : Core) (d : Door) (after : ℕ → Option Door) → IsCoherent k → k.door d.number ≡ None →
+    d.owner_ended ≡ not (is_live_in (k.proc d.owner.0)) → ((e : ℕ) → after e ≡ upd k.door d.number (Some d) e) →
+    IsCoherent (record k { door = after })
+door_keeps k d after h p q a =
+    doors_keep k after h
+    (record {
+      there = λ e f. grind (arith, nat_tests, a e);
+      valid = λ e f. grind (arith, nat_tests, a e);
+      owner = λ e u f. grind (arith, nat_tests, a e);
+      private = λ e f. grind (arith, nat_tests, a e);
+      no_cancel = λ e f. grind (arith, nat_tests, a e);
+    })
+    (record {
+      door_number = λ e x f. grind (arith, nat_tests, a e, h.doors.door_number e x);
+      owner_ended = λ e x f. grind (arith, nat_tests, a e, h.doors.owner_ended e x);
+    })
+
+-- what a change of a door's parameters leaves
+pub record IsSameButLimits (x y : Door) : Type 0 where
+  pub number : y.number ≡ x.number
+  pub owner : y.owner ≡ x.owner
+  pub attrs : y.attrs ≡ x.attrs
+  pub revoked : y.revoked ≡ x.revoked
+  pub owner_ended : y.owner_ended ≡ x.owner_ended
+
+pub limits_keep :
+    (k : Core) (d : ℕ) (change : Door → Door) (after : ℕ → Option Door) → IsCoherent k → ((x : Door) → IsSameButLimits x (change x)) →
+    ((e : ℕ) → after e ≡ upd k.door d (option_map change (k.door d)) e) → IsCoherent (record k { door = after })
+limits_keep k d change after h s a =
+    doors_keep k after h
+    (record {
+      there = λ e f. grind (arith, nat_tests, a e);
+      valid = λ e f. grind (arith, nat_tests, a e, λ (x : Door). (s x).revoked, λ (x : Door). (s x).owner_ended);
+      owner = λ e u f. grind (arith, nat_tests, a e, λ (x : Door). (s x).owner);
+      private = λ e f. grind (arith, nat_tests, a e, λ (x : Door). (s x).attrs);
+      no_cancel = λ e f. grind (arith, nat_tests, a e, λ (x : Door). (s x).attrs);
+    })
+    (record {
+      door_number = λ e z f. grind (arith, nat_tests, a e, h.doors.door_number e, λ (x : Door). (s x).number);
+      owner_ended =
+          λ e z f. grind (arith, nat_tests, a e, h.doors.owner_ended e, λ (x : Door). (s x).owner, λ (x : Door). (s x).owner_ended);
+    })
