@@ -6,19 +6,20 @@ use Rattle.std.proofs.lemmas.Bool.Decides.{nat_tests}
 use Rattle.dk_base.specs.declared.object.Item.TheVariants as item
 use Rattle.kernel_records.specs.declared.record.CallStage.TheVariants as stage
 use Rattle.kernel_records.specs.declared.record.NoticeStage.TheVariants as notice
-use Rattle.kernel_records.specs.Words.{CallTree, NoticeList, at_stage, change_first, give_call, give_notice, is_queued, is_queued_as, is_queued_call, is_waiting_notice, is_waiting_notice_as, is_waiting_stage, items_in_order, notice_at, pick_parked, tid, waiting_call, waiting_notice, with_notice, with_notices}
+use Rattle.kernel_records.specs.Words.{CallTree, IsAscending, NoticeList, at_stage, call_number, change_first, give_call, give_notice, is_queued_as, is_queued_call, is_waiting_notice, is_waiting_notice_as, items_in_order, notice_at, notice_number, pick_parked, tid, waiting_call, waiting_notice, with_notice, with_notices}
 use Rattle.written_kernel.specs.Types.{Call, Item, Notice, Parked, Pool, Waiting}
 use Rattle.written_kernel.specs.Words.{State, give, give_each, give_one, give_to, pick, pool_of, waiting_items}
 use Rattle.kernel_records.proofs.Places.{map-change_first}
 use Rattle.written_kernel.proofs.Places.{IsIn}
 use Rattle.server_pool.specs.Words.{IsOrderedBy, PoolsValue, is_item, is_waiting_call, is_waiting_otherwise, pick_of, queue_in, stack_in, without_item}
 use Rattle.server_pool.proofs.Order.{ordered_filter}
-use Rattle.pool_agreement.specs.Words.{Agrees, AreDated, AreInOrder, AreNoticesAscending, IsGivenOut, WaitsBefore, date_of_call, date_of_notice, is_notice_waiting}
+use Rattle.pool_agreement.specs.Words.{Agrees, AreDated, IsGivenOut, WaitsBefore, date_of_call, date_of_notice, is_notice_waiting}
 use Rattle.pool_agreement.proofs.Merged.{all_map, all_with_notice, calls_in_order, filter_both, is_served_in, notices_in_order, queue_in_order, queue_is, same_queue, waiting_calls, waiting_notices}
 use Rattle.pool_agreement.proofs.Parked.{all_in, pick_of_stack}
 use Rattle.pool_agreement.proofs.Parking.{to_filter}
 use Rattle.pool_agreement.proofs.Readers.{is_pool-self}
 use Rattle.pool_agreement.proofs.Swaps.{AreOthers, give_out_of_turn}
+use Rattle.pool_agreement.proofs.WaitingLists.{Kind, call_kind, every_waiting, notice_kind, waiting, waits_as}
 
 -- lists
 
@@ -88,56 +89,34 @@ apart-with_notices (n ∷ ns) ws p o a =
     (all_zip (IsApart n) (λ k. AllByRecursion (λ w. IsApart w k) ws) (λ k. AllByRecursion (λ w. IsApart w k) (with_notice ws n))
     (λ k e b. all_with_notice (λ w. IsApart w k) n ws e b) ns p.0 a.1)
 
--- calls and notices of numbers that go up
+-- records of numbers that go up
 
-call_above : (c low made : ℕ) (rs : List Call) → AreInOrder low made rs → c ≤ low → AllByRecursion (λ v. is_item (item.Call c) v.item ≡ false) (waiting_calls rs)
-call_above c low made [] o h = tt
-call_above c low made (r ∷ rs) o h =
-    let above : low < r.number = o.0 in
-    go (is_queued r.stage) (grind (arith, nat_tests)) (call_above c r.number made rs o.2 (omega arith))
-  where
-    go :
-        (b : Bool) → (c == r.number) ≡ false → AllByRecursion (λ v. is_item (item.Call c) v.item ≡ false) (waiting_calls rs) →
-        AllByRecursion (λ v. is_item (item.Call c) v.item ≡ false) (map waiting_call (if b then r ∷ filter is_queued_call rs else filter is_queued_call rs))
-    go true e rest = (e, rest)
-    go false e rest = rest
+module _ {X : Type 0} (kind : Kind X) (made : ℕ) where
+  above :
+      (c low : ℕ) (xs : List X) → IsAscending kind.number low made xs → c ≤ low →
+      AllByRecursion (λ v. is_item (kind.item c) v.item ≡ false) (every_waiting kind xs)
+  above c low [] o h = tt
+  above c low (x ∷ xs) o h =
+      let more : low < kind.number x = o.0 in
+      go (kind.waits x) (kind.same_item c (kind.number x) ∙ grind (arith, nat_tests)) (above c (kind.number x) xs o.2 (omega arith))
+    where
+      go :
+          (b : Bool) → is_item (kind.item c) (kind.item (kind.number x)) ≡ false →
+          AllByRecursion (λ v. is_item (kind.item c) v.item ≡ false) (every_waiting kind xs) →
+          AllByRecursion (λ v. is_item (kind.item c) v.item ≡ false) (map (waiting kind) (if b then x ∷ filter kind.waits xs else filter kind.waits xs))
+      go true e rest = (e, rest)
+      go false e rest = rest
 
-notice_above :
-    (c low made : ℕ) (ns : List Notice) → AreNoticesAscending low made ns → c ≤ low →
-    AllByRecursion (λ v. is_item (item.Notice c) v.item ≡ false) (waiting_notices ns)
-notice_above c low made [] o h = tt
-notice_above c low made (n ∷ ns) o h =
-    let above : low < n.number = o.0 in
-    go (is_waiting_stage n.stage) (grind (arith, nat_tests)) (notice_above c n.number made ns o.2 (omega arith))
-  where
-    go :
-        (b : Bool) → (c == n.number) ≡ false → AllByRecursion (λ v. is_item (item.Notice c) v.item ≡ false) (waiting_notices ns) →
-        AllByRecursion (λ v. is_item (item.Notice c) v.item ≡ false)
-        (map waiting_notice (if b then n ∷ filter is_waiting_notice ns else filter is_waiting_notice ns))
-    go true e rest = (e, rest)
-    go false e rest = rest
-
-apart_calls : (low made : ℕ) (rs : List Call) → AreInOrder low made rs → IsOrderedBy IsApart (waiting_calls rs)
-apart_calls low made [] o = tt
-apart_calls low made (r ∷ rs) o = go (is_queued r.stage) (call_above r.number r.number made rs o.2 (omega arith)) (apart_calls r.number made rs o.2)
-  where
-    go :
-        (b : Bool) → AllByRecursion (λ v. is_item (item.Call r.number) v.item ≡ false) (waiting_calls rs) → IsOrderedBy IsApart (waiting_calls rs) →
-        IsOrderedBy IsApart (map waiting_call (if b then r ∷ filter is_queued_call rs else filter is_queued_call rs))
-    go true a rest = (a, rest)
-    go false a rest = rest
-
-apart_notices : (low made : ℕ) (ns : List Notice) → AreNoticesAscending low made ns → IsOrderedBy IsApart (waiting_notices ns)
-apart_notices low made [] o = tt
-apart_notices low made (n ∷ ns) o =
-    go (is_waiting_stage n.stage) (notice_above n.number n.number made ns o.2 (omega arith)) (apart_notices n.number made ns o.2)
-  where
-    go :
-        (b : Bool) → AllByRecursion (λ v. is_item (item.Notice n.number) v.item ≡ false) (waiting_notices ns) →
-        IsOrderedBy IsApart (waiting_notices ns) →
-        IsOrderedBy IsApart (map waiting_notice (if b then n ∷ filter is_waiting_notice ns else filter is_waiting_notice ns))
-    go true a rest = (a, rest)
-    go false a rest = rest
+  apart : (low : ℕ) (xs : List X) → IsAscending kind.number low made xs → IsOrderedBy IsApart (every_waiting kind xs)
+  apart low [] o = tt
+  apart low (x ∷ xs) o = go (kind.waits x) (above (kind.number x) (kind.number x) xs o.2 (omega arith)) (apart (kind.number x) xs o.2)
+    where
+      go :
+          (b : Bool) → AllByRecursion (λ v. is_item (kind.item (kind.number x)) v.item ≡ false) (every_waiting kind xs) →
+          IsOrderedBy IsApart (every_waiting kind xs) →
+          IsOrderedBy IsApart (map (waiting kind) (if b then x ∷ filter kind.waits xs else filter kind.waits xs))
+      go true a rest = (a, rest)
+      go false a rest = rest
 
 notice_from_calls : (n : Notice) (rs : List Call) → AllByRecursion (λ w. IsApart w (waiting_notice n)) (map waiting_call rs)
 notice_from_calls n [] = tt
@@ -148,11 +127,11 @@ notices_from_calls rs [] = tt
 notices_from_calls rs (n ∷ ns) = (notice_from_calls n rs, notices_from_calls rs ns)
 
 apart_in_order :
-    (tree : CallTree) (list : NoticeList) → AreInOrder 0 tree.made tree.calls → AreNoticesAscending 0 list.made list.notices →
+    (tree : CallTree) (list : NoticeList) → IsAscending call_number 0 tree.made tree.calls → IsAscending notice_number 0 list.made list.notices →
     IsOrderedBy IsApart (items_in_order tree.calls list.notices)
 apart_in_order tree list o p =
-    apart-with_notices (waiting_notices list.notices) (waiting_calls tree.calls) (apart_notices 0 list.made list.notices p)
-    (apart_calls 0 tree.made tree.calls o) (notices_from_calls (filter is_queued_call tree.calls) (filter is_waiting_notice list.notices))
+    apart-with_notices (waiting_notices list.notices) (waiting_calls tree.calls) (apart notice_kind list.made 0 list.notices p)
+    (apart call_kind tree.made 0 tree.calls o) (notices_from_calls (filter is_queued_call tree.calls) (filter is_waiting_notice list.notices))
 
 -- an item in the midst of those that wait: no other is the same, so without it all others are left
 
@@ -182,89 +161,43 @@ without_one (v ∷ vs) later w o =
 
 -- what waits after an item was given: all others
 
--- a call that was given waits no more, and calls of other numbers do
-calls_given :
-    (c t low made : ℕ) (rs : List Call) → AreInOrder low made rs →
-    waiting_calls (change_first (is_queued_as c) (at_stage (stage.Given (tid t))) rs) ≡ without_item (item.Call c) (waiting_calls rs)
-calls_given c t low made [] o = refl
-calls_given c t low made (r ∷ rs) o =
-    go (r.number == c) refl (is_queued r.stage) refl (calls_given c t r.number made rs o.2)
-  where
-    given : Call
-    given = at_stage (stage.Given (tid t)) r
+-- a record that was given waits no more, and those of other numbers do
+module _ {X : Type 0} (kind : Kind X) (give : X → X) (over : (x : X) → kind.waits (give x) ≡ false) (c made : ℕ) where
+  those_given :
+      (low : ℕ) (xs : List X) → IsAscending kind.number low made xs →
+      every_waiting kind (change_first (waits_as kind c) give xs) ≡ without_item (kind.item c) (every_waiting kind xs)
+  those_given low [] o = refl
+  those_given low (x ∷ xs) o = go (kind.number x == c) refl (kind.waits x) refl (those_given (kind.number x) xs o.2)
+    where
+      after : List X
+      after = change_first (waits_as kind c) give xs
 
-    after : List Call
-    after = change_first (is_queued_as c) (at_stage (stage.Given (tid t))) rs
+      left : List Waiting
+      left = without_item (kind.item c) (every_waiting kind xs)
 
-    left : List Waiting
-    left = without_item (item.Call c) (waiting_calls rs)
+      none : (kind.number x == c) ≡ true → every_waiting kind xs ≡ left
+      none e =
+          sym
+          (filter_none_left (is_waiting_otherwise (kind.item c)) (every_waiting kind xs)
+          (all_map (λ v. is_item (kind.item c) v.item ≡ false) (λ v. is_waiting_otherwise (kind.item c) v ≡ true) (λ v a. ap not a)
+          (every_waiting kind xs) (above kind made c (kind.number x) xs o.2 (grind (arith, nat_tests)))))
 
-    none : (r.number == c) ≡ true → waiting_calls rs ≡ left
-    none e =
-        sym
-        (filter_none_left (is_waiting_otherwise (item.Call c)) (waiting_calls rs)
-        (all_map (λ v. is_item (item.Call c) v.item ≡ false) (λ v. is_waiting_otherwise (item.Call c) v ≡ true) (λ v a. ap not a) (waiting_calls rs)
-        (call_above c r.number made rs o.2 (grind (arith, nat_tests)))))
+      same_test : (b : Bool) → (kind.number x == c) ≡ b → is_item (kind.item c) (kind.item (kind.number x)) ≡ b
+      same_test b e = kind.same_item c (kind.number x) ∙ grind (arith, nat_tests)
 
-    same_test : (b : Bool) → (r.number == c) ≡ b → is_item (item.Call c) (item.Call r.number) ≡ b
-    same_test b e = grind (arith, nat_tests)
-
-    go :
-        (b : Bool) → (r.number == c) ≡ b → (q : Bool) → is_queued r.stage ≡ q → waiting_calls after ≡ left →
-        waiting_calls (if b && q then given ∷ rs else r ∷ after)
-        ≡ without_item (item.Call c) (map waiting_call (if q then r ∷ filter is_queued_call rs else filter is_queued_call rs))
-    go true e true f ih =
-        none e ∙ sym (ap (λ b. if not b then waiting_call r ∷ left else left) (same_test true e))
-    go false e true f ih =
-        ap (λ b. map waiting_call (if b then r ∷ filter is_queued_call after else filter is_queued_call after)) f
-        ∙ ap (λ ws. waiting_call r ∷ ws) ih
-        ∙ sym (ap (λ b. if not b then waiting_call r ∷ left else left) (same_test false e))
-    go true e false f ih =
-        ap (λ b. map waiting_call (if b then r ∷ filter is_queued_call after else filter is_queued_call after)) f ∙ ih
-    go false e false f ih =
-        ap (λ b. map waiting_call (if b then r ∷ filter is_queued_call after else filter is_queued_call after)) f ∙ ih
-
-notices_given :
-    (c t low made : ℕ) (ns : List Notice) → AreNoticesAscending low made ns →
-    waiting_notices (change_first (is_waiting_notice_as c) (notice_at (notice.Given (tid t))) ns)
-    ≡ without_item (item.Notice c) (waiting_notices ns)
-notices_given c t low made [] o = refl
-notices_given c t low made (n ∷ ns) o =
-    go (n.number == c) refl (is_waiting_stage n.stage) refl (notices_given c t n.number made ns o.2)
-  where
-    given : Notice
-    given = notice_at (notice.Given (tid t)) n
-
-    after : List Notice
-    after = change_first (is_waiting_notice_as c) (notice_at (notice.Given (tid t))) ns
-
-    left : List Waiting
-    left = without_item (item.Notice c) (waiting_notices ns)
-
-    none : (n.number == c) ≡ true → waiting_notices ns ≡ left
-    none e =
-        sym
-        (filter_none_left (is_waiting_otherwise (item.Notice c)) (waiting_notices ns)
-        (all_map (λ v. is_item (item.Notice c) v.item ≡ false) (λ v. is_waiting_otherwise (item.Notice c) v ≡ true) (λ v a. ap not a)
-        (waiting_notices ns) (notice_above c n.number made ns o.2 (grind (arith, nat_tests)))))
-
-    same_test : (b : Bool) → (n.number == c) ≡ b → is_item (item.Notice c) (item.Notice n.number) ≡ b
-    same_test b e = grind (arith, nat_tests)
-
-    go :
-        (b : Bool) → (n.number == c) ≡ b → (q : Bool) → is_waiting_stage n.stage ≡ q → waiting_notices after ≡ left →
-        waiting_notices (if b && q then given ∷ ns else n ∷ after)
-        ≡ without_item (item.Notice c) (map waiting_notice (if q then n ∷ filter is_waiting_notice ns else filter is_waiting_notice ns))
-    go true e true f ih =
-        none e ∙ sym (ap (λ b. if not b then waiting_notice n ∷ left else left) (same_test true e))
-    go false e true f ih =
-        ap (λ b. map waiting_notice (if b then n ∷ filter is_waiting_notice after else filter is_waiting_notice after)) f
-        ∙ ap (λ ws. waiting_notice n ∷ ws) ih
-        ∙ sym (ap (λ b. if not b then waiting_notice n ∷ left else left) (same_test false e))
-    go true e false f ih =
-        ap (λ b. map waiting_notice (if b then n ∷ filter is_waiting_notice after else filter is_waiting_notice after)) f ∙ ih
-    go false e false f ih =
-        ap (λ b. map waiting_notice (if b then n ∷ filter is_waiting_notice after else filter is_waiting_notice after)) f ∙ ih
+      go :
+          (b : Bool) → (kind.number x == c) ≡ b → (q : Bool) → kind.waits x ≡ q → every_waiting kind after ≡ left →
+          every_waiting kind (if b && q then give x ∷ xs else x ∷ after)
+          ≡ without_item (kind.item c) (map (waiting kind) (if q then x ∷ filter kind.waits xs else filter kind.waits xs))
+      go true e true f ih =
+          ap (λ b. map (waiting kind) (if b then give x ∷ filter kind.waits xs else filter kind.waits xs)) (over x)
+          ∙ none e ∙ sym (ap (λ b. if not b then waiting kind x ∷ left else left) (same_test true e))
+      go false e true f ih =
+          ap (λ b. map (waiting kind) (if b then x ∷ filter kind.waits after else filter kind.waits after)) f
+          ∙ ap (λ ws. waiting kind x ∷ ws) ih
+          ∙ sym (ap (λ b. if not b then waiting kind x ∷ left else left) (same_test false e))
+      go true e false f ih = ap (λ b. map (waiting kind) (if b then x ∷ filter kind.waits after else filter kind.waits after)) f ∙ ih
+      go false e false f ih = ap (λ b. map (waiting kind) (if b then x ∷ filter kind.waits after else filter kind.waits after)) f ∙ ih
 
 calls_stay : (c : ℕ) (ns : List Notice) → without_item (item.Call c) (map waiting_notice ns) ≡ map waiting_notice ns
 calls_stay c [] = refl
@@ -275,7 +208,7 @@ notices_stay c [] = refl
 notices_stay c (r ∷ rs) = ap (λ ws. waiting_call r ∷ ws) (notices_stay c rs)
 
 module _
-    (latest : ℕ) (tree : CallTree) (list : NoticeList) (o : AreInOrder 0 tree.made tree.calls) (p : AreNoticesAscending 0 list.made list.notices)
+    (latest : ℕ) (tree : CallTree) (list : NoticeList) (o : IsAscending call_number 0 tree.made tree.calls) (p : IsAscending notice_number 0 list.made list.notices)
     (d : AreDated 0 latest (map date_of_call tree.calls)) (e : AreDated 0 latest (map date_of_notice list.notices)) where
   abbrev items : List Waiting
   items = items_in_order tree.calls list.notices
@@ -302,13 +235,13 @@ module _
   without_call c t =
       all_but (item.Call c) (give_call tree c t).calls list.notices
       (map-change_first date_of_call (is_queued_as c) (at_stage (stage.Given (tid t))) (λ r. refl) tree.calls) refl
-      (calls_given c t 0 tree.made tree.calls o) (sym (calls_stay c (filter is_waiting_notice list.notices)))
+      (those_given call_kind (at_stage (stage.Given (tid t))) (λ r. refl) c tree.made 0 tree.calls o) (sym (calls_stay c (filter is_waiting_notice list.notices)))
 
   without_notice : (c t : ℕ) → items_in_order tree.calls (give_notice list c t).notices ≡ without_item (item.Notice c) items
   without_notice c t =
       all_but (item.Notice c) tree.calls (give_notice list c t).notices refl
       (map-change_first date_of_notice (is_waiting_notice_as c) (notice_at (notice.Given (tid t))) (λ n. refl) list.notices)
-      (sym (notices_stay c (filter is_queued_call tree.calls))) (notices_given c t 0 list.made list.notices p)
+      (sym (notices_stay c (filter is_queued_call tree.calls))) (those_given notice_kind (notice_at (notice.Given (tid t))) (λ n. refl) c list.made 0 list.notices p)
 
 -- where pools agree with the state
 
@@ -333,17 +266,17 @@ module _
   give_first pool w ws x e f =
       ap (give_each m) k.same
       ∙ give_out_of_turn m pool w x k.earlier k.later (pick_agrees_in n m v b h pool ∙ f) k.passes k.none
-      (apart_earlier k.earlier k.later w apart)
+      (apart_earlier k.earlier k.later w are_apart)
       ∙ ap (give_each (give_one m w.item x.thread.0)) (sym left)
     where
       k : IsFirst (is_served_in m.doors pool) (waiting_items m) w
       k = first_is (is_served_in m.doors pool) (waiting_items m) w ws (queue_is h pool ∙ e)
 
-      apart : IsOrderedBy IsApart (k.earlier ++ w ∷ k.later)
-      apart = subst (IsOrderedBy IsApart) k.same (apart_in_order m.call_tree m.notice_list h.calls h.notices)
+      are_apart : IsOrderedBy IsApart (k.earlier ++ w ∷ k.later)
+      are_apart = subst (IsOrderedBy IsApart) k.same (apart_in_order m.call_tree m.notice_list h.calls h.notices)
 
       left : waiting_items (give_one m w.item x.thread.0) ≡ k.earlier ++ k.later
-      left = waiting_given w.item x.thread.0 ∙ ap (without_item w.item) k.same ∙ without_one k.earlier k.later w apart
+      left = waiting_given w.item x.thread.0 ∙ ap (without_item w.item) k.same ∙ without_one k.earlier k.later w are_apart
 
   -- where no pool has both, nothing is given
   pub given_out_gives_nothing : IsGivenOut v → give m ≡ m

@@ -1,24 +1,24 @@
 -- The queues where calls leave them, and what waits where a process ends or a door is revoked.
-use Rattle.std.proofs.Common.{◌≡◌, ℕ, zero, suc, ◌+◌, ◌<◌, ◌≤◌, ◌&&◌, ◌||◌, ◌==◌, Bool, true, false, not, if◌then◌else◌, List, [], ◌∷◌, ◌++◌, Option, Some, None, option_map, length, map, filter, slice_get, refl, sym, subst, ap, ap₂, ◌∙◌, add-one, arith}
-use Rattle.std.proofs.lemmas.Bool.Decides.{nat_tests}
+use Rattle.std.proofs.Common.{◌≡◌, ℕ, zero, suc, ◌+◌, ◌≤◌, ◌&&◌, ◌||◌, ◌==◌, Bool, true, false, not, if◌then◌else◌, List, [], ◌++◌, Option, Some, None, option_map, length, map, filter, slice_get, refl, sym, subst, ap, ap₂, ◌∙◌, add-one}
 use Rattle.std.proofs.lemmas.List.{length-map}
 use Rattle.dk_base.specs.ByNumber.{at_number}
 use Rattle.dk_base.specs.declared.object.Item.TheVariants as item
 use Rattle.dk_base.specs.declared.error.Errno.TheVariants.{EBADF, EINTR}
 use Rattle.kernel_records.specs.declared.record.CallStage.TheVariants as stage
-use Rattle.kernel_records.specs.Words.{CallTree, Leaving, NoticeList, ProcessTable, abandoned_at, broken_call_at, end_owner, end_process, ended_process, ended_where, gone_call_at, has_many, is_kept_notice, is_live_call, is_past_stage, is_pool, is_queued, is_queued_in, kept_notices, left_call, left_calls, live_calls, pool_in, revoke_door, revoked_door, waiting_call, with_ended, with_owner_ended, without_arguments_at}
-use Rattle.written_kernel.specs.Types.{Call, CallStage, Door, Errno, Notice, Pool, Process, Waiting}
+use Rattle.kernel_records.specs.Words.{CallTree, IsAscending, Leaving, NoticeList, ProcessTable, abandoned_at, broken_call_at, call_number, end_owner, end_process, ended_process, ended_where, gone_call_at, has_many, is_live_call, is_pool, is_queued, is_queued_in, left_call, left_calls, live_calls, pool_in, revoke_door, revoked_door, waiting_call, with_ended, with_owner_ended, without_arguments_at}
+use Rattle.kernel_records.proofs.NumberedLists.{ascending-filter, ascending-map_first, map-map_first, map_first, map_first-all}
+use Rattle.written_kernel.specs.Types.{Call, CallStage, Door, Errno, Pool, Process}
 use Rattle.written_kernel.proofs.Doors.{at_number-change_door, map-change_door}
 use Rattle.kernel_records.proofs.Lists.{at_number-map, length-with_at_number, same_length}
-use Rattle.server_pool.specs.Words.{PoolValue, PoolsValue, change_pool, empty_pool, is_waiting_otherwise, pool_at, pool_or_empty, queue_in, spares_or_none, stack_in, withdraw_in, without_item}
+use Rattle.server_pool.specs.Words.{PoolValue, PoolsValue, change_pool, empty_pool, pool_at, pool_or_empty, queue_in, spares_or_none, stack_in, withdraw_in, without_item}
 use Rattle.server_pool.proofs.Changed.{pool_changed, pool_kept}
-use Rattle.pool_agreement.specs.Words.{Agrees, AreDated, AreInOrder, IsQueueOf, date_of_call, leaves_queue, spare_at, spares_among, waiting_in}
+use Rattle.pool_agreement.specs.Words.{Agrees, AreDated, IsQueueOf, date_of_call, leaves_queue, spare_at, spares_among, waiting_in}
 use Rattle.pool_agreement.proofs.Dated.{dated_filter}
 use Rattle.pool_agreement.proofs.Noticed.{kept_doors}
-use Rattle.pool_agreement.proofs.Queued.{order_filter, waiting_live}
-use Rattle.pool_agreement.proofs.Queues.{ServesAlike, queue_doors, stack_same}
+use Rattle.pool_agreement.proofs.Queues.{ServesAlike, queue_doors, stack_same, waiting_live}
 use Rattle.pool_agreement.proofs.Readers.{bindings-change_pool, common-change_pool, is_pool-sym, private-change_pool, same_number, spares-change_pool}
 use Rattle.pool_agreement.proofs.Waits.{call_withdrawn, queue_kept}
+use Rattle.pool_agreement.proofs.WaitingLists.{call_kind, waiting_stays, waiting_withdrawn}
 
 -- a field of the pools, read after one of them changed, which may not be there
 module _
@@ -149,168 +149,18 @@ module _ (who : Leaving) where
       go true false false = refl
       go false b c = refl
 
--- the list of calls, of which the first ones are left
-
-abbrev pub left_first : Leaving → ℕ → List Call → List Call
-left_first who zero rs = rs
-left_first who (suc n) [] = []
-left_first who (suc n) (r ∷ rs) = left_call who r ∷ left_first who n rs
-
-left_all : (who : Leaving) (n : ℕ) (rs : List Call) → length rs ≤ n → left_first who n rs ≡ map (left_call who) rs
-left_all who zero [] l = refl
-left_all who zero (r ∷ rs) l = absurd (omega arith)
-left_all who (suc n) [] l = refl
-left_all who (suc n) (r ∷ rs) l = ap (λ xs. left_call who r ∷ xs) (left_all who n rs (omega arith))
-
-order_first : (who : Leaving) (n : ℕ) (rs : List Call) (low made : ℕ) → AreInOrder low made rs → AreInOrder low made (left_first who n rs)
-order_first who zero rs low made h = h
-order_first who (suc n) [] low made h = h
-order_first who (suc n) (r ∷ rs) low made h =
-    subst (λ k. (low < k) × (k ≤ made) × AreInOrder k made (left_first who n rs)) (sym (left_number who r))
-    (h.0, h.1, order_first who n rs r.number made h.2)
-
-dates_first : (who : Leaving) (i : ℕ) (rs : List Call) → map date_of_call (left_first who i rs) ≡ map date_of_call rs
-dates_first who zero rs = refl
-dates_first who (suc i) [] = refl
-dates_first who (suc i) (r ∷ rs) = ap₂ (λ k ks. k ∷ ks) (left_reads who date_of_call (λ s x. refl) (λ s x. refl) r) (dates_first who i rs)
+dates_first : (who : Leaving) (i : ℕ) (rs : List Call) → map date_of_call (map_first (left_call who) i rs) ≡ map date_of_call rs
+dates_first who i rs = map-map_first date_of_call (left_call who) (left_reads who date_of_call (λ s x. refl) (λ s x. refl)) i rs
 
 dates_next :
-    (who : Leaving) (n i : ℕ) (rs : List Call) → AreDated 0 n (map date_of_call (left_first who i rs)) →
-    AreDated 0 n (map date_of_call (left_first who (suc i) rs))
+    (who : Leaving) (n i : ℕ) (rs : List Call) → AreDated 0 n (map date_of_call (map_first (left_call who) i rs)) →
+    AreDated 0 n (map date_of_call (map_first (left_call who) (suc i) rs))
 dates_next who n i rs = subst (AreDated 0 n) (dates_first who i rs ∙ sym (dates_first who (suc i) rs))
-
--- the numbers of a list are above those before it
-number_above : (rs : List Call) (low made i : ℕ) (r : Call) → AreInOrder low made rs → slice_get rs i ≡ Some r → low < r.number
-number_above [] low made i r h e = cc
-number_above (x ∷ xs) low made zero r h e = let same : x ≡ r = cc in subst (λ (y : Call). low < y.number) same h.0
-number_above (x ∷ xs) low made (suc i) r h e =
-    let a : low < x.number = h.0 in
-    let b : x.number < r.number = number_above xs x.number made i r h.2 e in omega arith
-
-waiting_cons :
-    (doors : List Door) (pool : Pool) (r : Call) (rs : List Call) (b : Bool) → is_queued_in doors pool r ≡ b →
-    waiting_in doors (r ∷ rs) pool ≡ (if b then waiting_call r ∷ waiting_in doors rs pool else waiting_in doors rs pool)
-waiting_cons doors pool r rs b e =
-    ap (λ c. map waiting_call (if c then r ∷ filter (is_queued_in doors pool) rs else filter (is_queued_in doors pool) rs)) e ∙ go b
-  where
-    go :
-        (c : Bool) →
-        map waiting_call (if c then r ∷ filter (is_queued_in doors pool) rs else filter (is_queued_in doors pool) rs)
-        ≡ (if c then waiting_call r ∷ waiting_in doors rs pool else waiting_in doors rs pool)
-    go true = refl
-    go false = refl
-
--- a number that is none of theirs
-without_cons :
-    (c : ℕ) (w : Waiting) (ws : List Waiting) (k : ℕ) → w.item ≡ item.Call k → (c == k) ≡ false →
-    without_item (item.Call c) (w ∷ ws) ≡ w ∷ without_item (item.Call c) ws
-without_cons c w ws k e f = ap (λ b. if b then w ∷ without_item (item.Call c) ws else without_item (item.Call c) ws) kept
-  where
-    kept : is_waiting_otherwise (item.Call c) w ≡ true
-    kept = ap (λ i. is_waiting_otherwise (item.Call c) (record w { item = i })) e ∙ ap not f
-
-none_of_them :
-    (doors : List Door) (pool : Pool) (rs : List Call) (c low made : ℕ) → c ≤ low → AreInOrder low made rs →
-    without_item (item.Call c) (waiting_in doors rs pool) ≡ waiting_in doors rs pool
-none_of_them doors pool [] c low made l h = refl
-none_of_them doors pool (r ∷ rs) c low made l h =
-    let above : low < r.number = h.0 in
-    let rest : without_item (item.Call c) (waiting_in doors rs pool) ≡ waiting_in doors rs pool =
-    none_of_them doors pool rs c r.number made (omega arith) h.2 in
-    go (is_queued_in doors pool r) refl (grind (arith, nat_tests)) rest
-  where
-    go :
-        (b : Bool) → is_queued_in doors pool r ≡ b → (c == r.number) ≡ false →
-        without_item (item.Call c) (waiting_in doors rs pool) ≡ waiting_in doors rs pool →
-        without_item (item.Call c) (waiting_in doors (r ∷ rs) pool) ≡ waiting_in doors (r ∷ rs) pool
-    go true e f ih =
-        ap (without_item (item.Call c)) (waiting_cons doors pool r rs true e)
-        ∙ without_cons c (waiting_call r) (waiting_in doors rs pool) r.number refl f
-        ∙ ap (λ ws. waiting_call r ∷ ws) ih
-        ∙ sym (waiting_cons doors pool r rs true e)
-    go false e f ih =
-        ap (without_item (item.Call c)) (waiting_cons doors pool r rs false e) ∙ ih ∙ sym (waiting_cons doors pool r rs false e)
-
--- the item itself
-without_same : (c : ℕ) (w : Waiting) (ws : List Waiting) → w.item ≡ item.Call c → without_item (item.Call c) (w ∷ ws) ≡ without_item (item.Call c) ws
-without_same c w ws e = ap (λ b. if b then w ∷ without_item (item.Call c) ws else without_item (item.Call c) ws) dropped
-  where
-    dropped : is_waiting_otherwise (item.Call c) w ≡ false
-    dropped = ap (λ i. is_waiting_otherwise (item.Call c) (record w { item = i })) e ∙ grind (arith, nat_tests)
-
-module _ (who : Leaving) (doors : List Door) (pool : Pool) where
-  -- where the next call leaves the pool, it is withdrawn
-  queue_withdrawn :
-      (i : ℕ) (rs : List Call) (low made : ℕ) (r : Call) → AreInOrder low made rs → slice_get rs i ≡ Some r → is_queued_in doors pool r ≡ true →
-      leaves_queue who r ≡ true →
-      without_item (item.Call r.number) (waiting_in doors (left_first who i rs) pool) ≡ waiting_in doors (left_first who (suc i) rs) pool
-  queue_withdrawn i [] low made r h e q l = cc
-  queue_withdrawn zero (x ∷ xs) low made r h e q l =
-      let same : x ≡ r = cc in
-      let number : x.number ≡ r.number = ap (λ (y : Call). y.number) same in
-      let waits : is_queued_in doors pool x ≡ true = ap (is_queued_in doors pool) same ∙ q in
-      ap (without_item (item.Call r.number)) (waiting_cons doors pool x xs true waits)
-      ∙ without_same r.number (waiting_call x) (waiting_in doors xs pool) (ap item.Call number)
-      ∙ none_of_them doors pool xs r.number x.number made (omega arith) h.2
-      ∙ sym (waiting_cons doors pool (left_call who x) xs false
-      (left_queued_in who doors pool x ∙ ap₂ (λ a b. a && not b) waits (ap (leaves_queue who) same ∙ l)))
-  queue_withdrawn (suc i) (x ∷ xs) low made r h e q l =
-      let above : x.number < r.number = number_above xs x.number made i r h.2 e in
-      go (is_queued_in doors pool (left_call who x)) refl (grind (arith, nat_tests)) (queue_withdrawn i xs x.number made r h.2 e q l)
-    where
-      go :
-          (b : Bool) → is_queued_in doors pool (left_call who x) ≡ b → (r.number == x.number) ≡ false →
-          without_item (item.Call r.number) (waiting_in doors (left_first who i xs) pool) ≡ waiting_in doors (left_first who (suc i) xs) pool →
-          without_item (item.Call r.number) (waiting_in doors (left_call who x ∷ left_first who i xs) pool)
-          ≡ waiting_in doors (left_call who x ∷ left_first who (suc i) xs) pool
-      go true f g ih =
-          ap (without_item (item.Call r.number)) (waiting_cons doors pool (left_call who x) (left_first who i xs) true f)
-          ∙ without_cons r.number (waiting_call (left_call who x)) (waiting_in doors (left_first who i xs) pool) (left_call who x).number refl
-          (ap (λ k. r.number == k) (left_number who x) ∙ g)
-          ∙ ap (λ ws. waiting_call (left_call who x) ∷ ws) ih
-          ∙ sym (waiting_cons doors pool (left_call who x) (left_first who (suc i) xs) true f)
-      go false f g ih =
-          ap (without_item (item.Call r.number)) (waiting_cons doors pool (left_call who x) (left_first who i xs) false f) ∙ ih
-          ∙ sym (waiting_cons doors pool (left_call who x) (left_first who (suc i) xs) false f)
-
-  -- and else what waits in the pool stays
-  queue_stays :
-      (i : ℕ) (rs : List Call) (r : Call) → slice_get rs i ≡ Some r → (is_queued_in doors pool r && leaves_queue who r) ≡ false →
-      waiting_in doors (left_first who (suc i) rs) pool ≡ waiting_in doors (left_first who i rs) pool
-  queue_stays i [] r e s = cc
-  queue_stays zero (x ∷ xs) r e s =
-      let same : x ≡ r = cc in
-      go (is_queued_in doors pool x) (leaves_queue who x) refl refl (ap (λ y. is_queued_in doors pool y && leaves_queue who y) same ∙ s)
-    where
-      go :
-          (a b : Bool) → is_queued_in doors pool x ≡ a → leaves_queue who x ≡ b → (a && b) ≡ false →
-          waiting_in doors (left_call who x ∷ xs) pool ≡ waiting_in doors (x ∷ xs) pool
-      go true true f g k = cc
-      go true false f g k =
-          waiting_cons doors pool (left_call who x) xs true (left_queued_in who doors pool x ∙ ap₂ (λ a b. a && not b) f g)
-          ∙ ap (λ w. w ∷ waiting_in doors xs pool) (left_waiting who x)
-          ∙ sym (waiting_cons doors pool x xs true f)
-      go false b f g k =
-          waiting_cons doors pool (left_call who x) xs false (left_queued_in who doors pool x ∙ ap (λ a. a && not (leaves_queue who x)) f)
-          ∙ sym (waiting_cons doors pool x xs false f)
-  queue_stays (suc i) (x ∷ xs) r e s = go (is_queued_in doors pool (left_call who x)) refl (queue_stays i xs r e s)
-    where
-      go :
-          (b : Bool) → is_queued_in doors pool (left_call who x) ≡ b →
-          waiting_in doors (left_first who (suc i) xs) pool ≡ waiting_in doors (left_first who i xs) pool →
-          waiting_in doors (left_call who x ∷ left_first who (suc i) xs) pool ≡ waiting_in doors (left_call who x ∷ left_first who i xs) pool
-      go true f ih =
-          waiting_cons doors pool (left_call who x) (left_first who (suc i) xs) true f
-          ∙ ap (λ ws. waiting_call (left_call who x) ∷ ws) ih
-          ∙ sym (waiting_cons doors pool (left_call who x) (left_first who i xs) true f)
-      go false f ih =
-          waiting_cons doors pool (left_call who x) (left_first who (suc i) xs) false f ∙ ih
-          ∙ sym (waiting_cons doors pool (left_call who x) (left_first who i xs) false f)
 
 -- the pools, after the first so many calls were left
 
 abbrev pub tree_left : Leaving → ℕ → CallTree → CallTree
-tree_left who i tree = record tree { calls = left_first who i tree.calls }
+tree_left who i tree = record tree { calls = map_first (left_call who) i tree.calls }
 
 module _
     {n : ℕ} {table : ProcessTable} {doors : List Door} {list : NoticeList} {v : PoolsValue} (tree : CallTree) (who : Leaving) (i : ℕ) where
@@ -318,7 +168,7 @@ module _
   next_is h = subst (λ k. Agrees n table doors (tree_left who k tree) list v) (sym (add-one i)) h
 
   pub agrees_withdrawn :
-      (r : Call) → AreInOrder 0 tree.made tree.calls → slice_get tree.calls i ≡ Some r → (is_queued r.stage && leaves_queue who r) ≡ true →
+      (r : Call) → IsAscending call_number 0 tree.made tree.calls → slice_get tree.calls i ≡ Some r → (is_queued r.stage && leaves_queue who r) ≡ true →
       Agrees n table doors (tree_left who i tree) list v →
       Agrees n table doors (tree_left who (suc i) tree) list (change_pool v (pool_in (at_number doors r.door)) (withdraw_in (item.Call r.number)))
   agrees_withdrawn r order at leaves h =
@@ -327,11 +177,11 @@ module _
             λ q. stack_same table n q v.bindings w.bindings (stack_in v q) (stack_in w q) (bindings-change_pool v pool change)
             (read_kept (λ (x : PoolValue). x.parked) change (λ x. refl) v pool q) (h.stacks q);
         queues =
-            λ q. subst (IsQueueOf doors (left_first who (suc i) tree.calls) list.notices q)
+            λ q. subst (IsQueueOf doors (map_first (left_call who) (suc i) tree.calls) list.notices q)
             (sym (read_change (λ (x : PoolValue). x.waiting) (without_item (item.Call r.number)) change (λ x. refl) refl v pool q))
             (queue q (is_pool pool q) refl (both (is_queued r.stage) (leaves_queue who r) leaves));
         spares = λ p. ap (λ xs. spares_or_none (at_number xs p)) (spares-change_pool v pool change) ∙ h.spares p;
-        calls = order_first who (suc i) tree.calls 0 tree.made order;
+        calls = ascending-map_first call_number (left_call who) (left_number who) (suc i) tree.calls 0 tree.made order;
         call_dates = dates_next who n i tree.calls h.call_dates;
         notices = h.notices;
         notice_dates = h.notice_dates;
@@ -356,29 +206,29 @@ module _
 
       queue :
           (q : Pool) (b : Bool) → is_pool pool q ≡ b → (is_queued r.stage ≡ true) × (leaves_queue who r ≡ true) →
-          IsQueueOf doors (left_first who (suc i) tree.calls) list.notices q
+          IsQueueOf doors (map_first (left_call who) (suc i) tree.calls) list.notices q
           (if b then without_item (item.Call r.number) (queue_in v q) else queue_in v q)
       queue q true e k =
-          call_withdrawn (h.queues q) r.number (left_first who (suc i) tree.calls)
-          (queue_withdrawn who doors q i tree.calls 0 tree.made r order at (ap₂ (λ a b. a && b) k.0 (is_pool-sym q pool ∙ e)) k.1)
+          call_withdrawn (h.queues q) r.number (map_first (left_call who) (suc i) tree.calls)
+          (waiting_withdrawn call_kind doors q (left_call who) (leaves_queue who) (left_waiting who) (left_number who) (left_queued_in who doors q) i tree.calls 0 tree.made r order at (ap₂ (λ a b. a && b) k.0 (is_pool-sym q pool ∙ e)) k.1)
       queue q false e k =
-          queue_kept doors (left_first who (suc i) tree.calls) list.notices
-          (queue_stays who doors q i tree.calls r at (ap₂ (λ a b. (a && b) && leaves_queue who r) k.0 (is_pool-sym q pool ∙ e))) refl
+          queue_kept doors (map_first (left_call who) (suc i) tree.calls) list.notices
+          (waiting_stays call_kind doors q (left_call who) (leaves_queue who) (left_waiting who) (left_number who) (left_queued_in who doors q) i tree.calls r at (ap₂ (λ a b. (a && b) && leaves_queue who r) k.0 (is_pool-sym q pool ∙ e))) refl
           (h.queues q)
 
   pub agrees_stays :
-      (r : Call) → AreInOrder 0 tree.made tree.calls → slice_get tree.calls i ≡ Some r → (is_queued r.stage && leaves_queue who r) ≡ false →
+      (r : Call) → IsAscending call_number 0 tree.made tree.calls → slice_get tree.calls i ≡ Some r → (is_queued r.stage && leaves_queue who r) ≡ false →
       Agrees n table doors (tree_left who i tree) list v → Agrees n table doors (tree_left who (suc i) tree) list v
   agrees_stays r order at stays h =
       record {
         stacks = h.stacks;
         queues =
-            λ q. queue_kept doors (left_first who (suc i) tree.calls) list.notices
-            (queue_stays who doors q i tree.calls r at
+            λ q. queue_kept doors (map_first (left_call who) (suc i) tree.calls) list.notices
+            (waiting_stays call_kind doors q (left_call who) (leaves_queue who) (left_waiting who) (left_number who) (left_queued_in who doors q) i tree.calls r at
             (neither (is_queued r.stage) (is_pool q (pool_in (at_number doors r.door))) (leaves_queue who r) stays)) refl
             (h.queues q);
         spares = h.spares;
-        calls = order_first who (suc i) tree.calls 0 tree.made order;
+        calls = ascending-map_first call_number (left_call who) (left_number who) (suc i) tree.calls 0 tree.made order;
         call_dates = dates_next who n i tree.calls h.call_dates;
         notices = h.notices;
         notice_dates = h.notice_dates;
@@ -404,7 +254,7 @@ module _
             (waiting_live doors (map (left_call who) tree.calls) q ∙ ap (λ rs. waiting_in doors rs q) (sym all)) refl (h.queues q);
         spares = h.spares;
         calls =
-            order_filter is_live_call (map (left_call who) tree.calls) 0 tree.made (subst (AreInOrder 0 tree.made) all h.calls);
+            ascending-filter call_number is_live_call (map (left_call who) tree.calls) 0 tree.made (subst (IsAscending call_number 0 tree.made) all h.calls);
         call_dates =
             dated_filter date_of_call is_live_call (map (left_call who) tree.calls) 0 n
             (subst (λ rs. AreDated 0 n (map date_of_call rs)) all h.call_dates);
@@ -416,8 +266,8 @@ module _
         private = h.private;
       }
     where
-      all : left_first who i tree.calls ≡ map (left_call who) tree.calls
-      all = left_all who i tree.calls l
+      all : map_first (left_call who) i tree.calls ≡ map (left_call who) tree.calls
+      all = map_first-all (left_call who) i tree.calls l
 
 -- doors that are invalid serve what they served
 
@@ -457,20 +307,6 @@ revoked_serves doors d k =
     record { same_pool = read_revoked pool_in (λ x. refl) doors d k; same_many = read_revoked has_many (λ x. refl) doors d k }
 
 -- so they keep the same notices
-
-kept_notices-alike :
-    (others doors : List Door) (list : NoticeList) → ((k : ℕ) → ServesAlike others doors k) → kept_notices others list ≡ kept_notices doors list
-kept_notices-alike others doors list same = ap (λ ns. record list { notices = ns }) (go list.notices)
-  where
-    go : (ns : List Notice) → filter (is_kept_notice others) ns ≡ filter (is_kept_notice doors) ns
-    go [] = refl
-    go (x ∷ xs) = ap₂ (λ b ys. if not (is_past_stage x.stage && b) then x ∷ ys else ys) (same x.door).same_many (go xs)
-
-pub kept_notices-ended : (doors : List Door) (p : ℕ) (list : NoticeList) → kept_notices (end_owner doors p) list ≡ kept_notices doors list
-kept_notices-ended doors p list = kept_notices-alike (end_owner doors p) doors list (ended_serves doors p)
-
-pub kept_notices-revoked : (doors : List Door) (d : ℕ) (list : NoticeList) → kept_notices (revoke_door doors d) list ≡ kept_notices doors list
-kept_notices-revoked doors d list = kept_notices-alike (revoke_door doors d) doors list (revoked_serves doors d)
 
 processes-end_process : (table : ProcessTable) (p : ℕ) → length (end_process table p).processes ≡ length table.processes
 processes-end_process table p = go (at_number table.processes p)

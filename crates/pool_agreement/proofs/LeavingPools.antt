@@ -1,5 +1,5 @@
 -- What pools hold agrees with the records where a thread leaves its pool from any place of it; and which threads stand in a pool.
-use Rattle.std.proofs.Common.{◌≡◌, ℕ, ◌≤◌, ◌==◌, ◌&&◌, Bool, true, false, if◌then◌else◌, List, Option, Some, None, is_some, length, slice_get, refl, sym, ap, subst, le_refl, ◌∙◌, arith}
+use Rattle.std.proofs.Common.{◌≡◌, ℕ, ◌==◌, ◌&&◌, Bool, true, false, if◌then◌else◌, List, Option, Some, None, is_some, length, slice_get, refl, sym, ap, subst, le_refl, ◌∙◌, arith}
 use Rattle.std.proofs.lemmas.Bool.Decides.{nat_tests}
 use Rattle.dk_base.specs.ByNumber.{at_number}
 use Rattle.kernel_records.specs.declared.record.ThreadState.TheVariants as is
@@ -7,15 +7,13 @@ use Rattle.kernel_records.specs.declared.pool.Pool.TheVariants.{Common, Private}
 use Rattle.kernel_records.specs.Words.{CallTree, NoticeList, ProcessTable, bound_at, bound_in, change_thread, is_dormant, is_idle, is_pool, parked_at, parked_in, parked_thread, pool_of_thread, process_in, set_thread_state, state_in, thread_at, thread_at_state, tid, unbind_thread}
 use Rattle.written_kernel.specs.Types.{Door, Parked, Pool, Thread, ThreadState}
 use Rattle.written_kernel.proofs.Giving.{same_pool}
-use Rattle.kernel_records.proofs.Lists.{at_number-with_at_number, numbered_within}
-use Rattle.written_kernel.proofs.Places.{IsIn, place_of}
+use Rattle.kernel_records.proofs.Lists.{at_number-with_at_number}
 use Rattle.written_kernel.proofs.Threads.{processes-change_thread}
 use Rattle.server_pool.specs.Words.{PoolValue, PoolsValue, change_pool, pool_at, pool_or_empty, queue_in, spares_or_none, stack_in, unpark_in}
-use Rattle.pool_agreement.specs.Words.{Agrees, IsListed, IsParkedIn, IsQueueOf, IsStackOf, pool_by}
+use Rattle.pool_agreement.specs.Words.{Agrees, IsListed, IsQueueOf, IsStackOf, pool_by}
 use Rattle.pool_agreement.proofs.Parking.{IsParkedAlikeBut, nowhere, stack_kept, stack_without}
 use Rattle.pool_agreement.proofs.Readers.{common-change_pool, is_pool-self, is_pool-sym, private-change_pool, queue-change_other, queue-change_same, spares-change_pool, stack-change_other, stack-change_same}
 use Rattle.pool_agreement.proofs.Stacks.{changed_spares, not_parked, state_changed, thread_elsewhere}
-use Rattle.pool_agreement.proofs.Unparking.{parked_in_own}
 
 -- a thread that is parked is no spare
 parked_not_dormant :
@@ -142,24 +140,6 @@ module _ {n : ℕ} {table : ProcessTable} {doors : List Door} {tree : CallTree} 
           ap bound_in
           (at_number-with_at_number v.bindings t u None
           ∙ ap (λ c. if c && is_some (at_number v.bindings t) then Some None else at_number v.bindings u) e)
-
--- the threads of a pool park there, and are among all threads
-module _
-    {n : ℕ} {table : ProcessTable} {doors : List Door} {tree : CallTree} {list : NoticeList} {v : PoolsValue} (h : Agrees n table doors tree list v)
-    (pool : Pool) (x : Parked) (i : IsIn x (stack_in v pool)) where
-  stands_there : IsParkedIn table v.bindings n pool x
-  stands_there = let p : (k : ℕ) × (slice_get (stack_in v pool) k ≡ Some x) = place_of x (stack_in v pool) i in (h.stacks pool).parked p.0 x p.1
-
-  pub stands_in_own : is_pool pool (pool_by (process_in (thread_at table x.thread.0)) (bound_at v.bindings x.thread.0)) ≡ true
-  stands_in_own =
-      ap (is_pool pool) (sym (parked_in_own table v.bindings x.thread.0 x stands_there.parked)) ∙ stands_there.same_pool
-
-  pub stands_within : (1 ≤ x.thread.0) × (x.thread.0 ≤ length table.threads)
-  stands_within = go (thread_at table x.thread.0) refl stands_there.parked
-    where
-      go : (o : Option Thread) → thread_at table x.thread.0 ≡ o → parked_thread v.bindings x.thread.0 o ≡ Some x → (1 ≤ x.thread.0) × (x.thread.0 ≤ length table.threads)
-      go None e f = cc
-      go (Some y) e f = numbered_within table.threads x.thread.0 y e
 
 -- where an idle thread is parked
 

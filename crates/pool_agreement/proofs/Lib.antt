@@ -4,7 +4,7 @@ pub mod Parking
 pub mod Spares
 pub mod Stacks
 pub mod Starting
-pub mod Queued
+pub mod WaitingLists
 pub mod Queues
 pub mod Leaving
 pub mod Unparking

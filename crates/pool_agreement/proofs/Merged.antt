@@ -4,12 +4,13 @@ use Rattle.std.proofs.Common.{◌≡◌, ℕ, ◌<◌, ◌≤◌, ◌&&◌, not,
 use Rattle.std.specs.List.{AllByRecursion}
 use Rattle.std.proofs.lemmas.Bool.Decides.{nat_tests}
 use Rattle.dk_base.specs.ByNumber.{at_number}
-use Rattle.kernel_records.specs.Words.{CallTree, NoticeList, ProcessTable, is_pool, is_queued, is_queued_call, is_queued_in, is_waiting_notice, is_waiting_stage, items_in_order, pool_in, waiting_call, waiting_notice, with_notice, with_notices}
+use Rattle.kernel_records.specs.Words.{CallTree, NoticeList, ProcessTable, is_pool, is_queued_call, is_waiting_notice, items_in_order, pool_in, waiting_call, waiting_notice, with_notice, with_notices}
 use Rattle.written_kernel.specs.Types.{Call, Door, Notice, Pool, Waiting}
 use Rattle.server_pool.specs.Words.{PoolsValue, is_waiting_call, queue_in}
 use Rattle.server_pool.proofs.Order.{ordered_filter}
-use Rattle.pool_agreement.specs.Words.{Agrees, AreDated, IsQueue, WaitsBefore, date_of_call, date_of_notice, is_notice_waiting, is_waiting_notice_in, notices_waiting_in, waiting_in}
+use Rattle.pool_agreement.specs.Words.{Agrees, AreDated, IsQueue, WaitsBefore, date_of_call, date_of_notice, is_notice_waiting}
 use Rattle.pool_agreement.proofs.Dated.{dated_filter, dated_lower}
+use Rattle.pool_agreement.proofs.WaitingLists.{Kind, all_waiting, call_kind, every_waiting, notice_kind, waiting, waits_in}
 
 -- all items of a list
 
@@ -36,11 +37,8 @@ AreCalls cs = AllByRecursion (λ c. is_waiting_call c ≡ true) cs
 abbrev IsNoLater : ℕ → Waiting → Type 0
 IsNoLater k w = k ≤ w.made
 
-call_kind : (w : Waiting) → is_waiting_call w ≡ true → is_notice_waiting w ≡ false
-call_kind w e = ap not e
-
-notice_kind : (w : Waiting) → is_notice_waiting w ≡ true → is_waiting_call w ≡ false
-notice_kind w e = go (is_waiting_call w) e
+kind_of_notice : (w : Waiting) → is_notice_waiting w ≡ true → is_waiting_call w ≡ false
+kind_of_notice w e = go (is_waiting_call w) e
   where
     go : (b : Bool) → not b ≡ true → b ≡ false
     go true f = absurd (true≢false (sym f))
@@ -157,7 +155,7 @@ queue-with_notices (n ∷ ns) ws a o = queue-with_notices ns (with_notice ws n) 
 
 pub calls-with_notices : (ns ws : List Waiting) → AreNotices ns → filter is_waiting_call (with_notices ws ns) ≡ filter is_waiting_call ws
 calls-with_notices [] ws a = refl
-calls-with_notices (n ∷ ns) ws a = calls-with_notices ns (with_notice ws n) a.1 ∙ calls-with_notice n ws (notice_kind n a.0)
+calls-with_notices (n ∷ ns) ws a = calls-with_notices ns (with_notice ws n) a.1 ∙ calls-with_notice n ws (kind_of_notice n a.0)
 
 pub notices-with_notices :
     (low high : ℕ) (ns ws : List Waiting) → AreNotices ns → AreDated low high (map made_at ns) → IsQueue ws → HasNoticesUpTo low ws →
@@ -301,40 +299,23 @@ filter_both p q (x ∷ xs) = go (p x) refl (q x) refl (filter_both p q xs)
     go false e true f ih = ap (λ b. if b then x ∷ filter p (filter q xs) else filter p (filter q xs)) e ∙ ih
     go false e false f ih = ih
 
-module _ (doors : List Door) (pool : Pool) where
-  calls_of_pool : (rs : List Call) → filter (is_served_in doors pool) (waiting_calls rs) ≡ waiting_in doors rs pool
-  calls_of_pool [] = refl
-  calls_of_pool (r ∷ rs) = go (is_queued r.stage) (is_pool pool (pool_in (at_number doors r.door))) refl (calls_of_pool rs)
-    where
-      go :
-          (b c : Bool) → is_pool pool (pool_in (at_number doors r.door)) ≡ c →
-          filter (is_served_in doors pool) (waiting_calls rs) ≡ waiting_in doors rs pool →
-          filter (is_served_in doors pool) (map waiting_call (if b then r ∷ filter is_queued_call rs else filter is_queued_call rs))
-          ≡ map waiting_call (if b && c then r ∷ filter (is_queued_in doors pool) rs else filter (is_queued_in doors pool) rs)
-      go false c e ih = ih
-      go true true e ih =
-          ap (λ (b : Bool). if b then waiting_call r ∷ filter (is_served_in doors pool) (waiting_calls rs) else filter (is_served_in doors pool) (waiting_calls rs)) e
-          ∙ ap (λ ws. waiting_call r ∷ ws) ih
-      go true false e ih =
-          ap (λ (b : Bool). if b then waiting_call r ∷ filter (is_served_in doors pool) (waiting_calls rs) else filter (is_served_in doors pool) (waiting_calls rs)) e
-          ∙ ih
+of_pool :
+    {X : Type 0} (kind : Kind X) (doors : List Door) (pool : Pool) (xs : List X) →
+    filter (is_served_in doors pool) (every_waiting kind xs) ≡ all_waiting kind doors pool xs
+of_pool kind doors pool [] = refl
+of_pool kind doors pool (x ∷ xs) =
+    go (kind.waits x) (is_pool pool (pool_in (at_number doors (kind.door x)))) refl (of_pool kind doors pool xs)
+  where
+    served : List Waiting
+    served = filter (is_served_in doors pool) (every_waiting kind xs)
 
-  notices_of_pool : (ns : List Notice) → filter (is_served_in doors pool) (waiting_notices ns) ≡ notices_waiting_in doors ns pool
-  notices_of_pool [] = refl
-  notices_of_pool (n ∷ ns) = go (is_waiting_stage n.stage) (is_pool pool (pool_in (at_number doors n.door))) refl (notices_of_pool ns)
-    where
-      go :
-          (b c : Bool) → is_pool pool (pool_in (at_number doors n.door)) ≡ c →
-          filter (is_served_in doors pool) (waiting_notices ns) ≡ notices_waiting_in doors ns pool →
-          filter (is_served_in doors pool) (map waiting_notice (if b then n ∷ filter is_waiting_notice ns else filter is_waiting_notice ns))
-          ≡ map waiting_notice (if b && c then n ∷ filter (is_waiting_notice_in doors pool) ns else filter (is_waiting_notice_in doors pool) ns)
-      go false c e ih = ih
-      go true true e ih =
-          ap (λ (b : Bool). if b then waiting_notice n ∷ filter (is_served_in doors pool) (waiting_notices ns) else filter (is_served_in doors pool) (waiting_notices ns)) e
-          ∙ ap (λ ws. waiting_notice n ∷ ws) ih
-      go true false e ih =
-          ap (λ (b : Bool). if b then waiting_notice n ∷ filter (is_served_in doors pool) (waiting_notices ns) else filter (is_served_in doors pool) (waiting_notices ns)) e
-          ∙ ih
+    go :
+        (b c : Bool) → is_pool pool (pool_in (at_number doors (kind.door x))) ≡ c → served ≡ all_waiting kind doors pool xs →
+        filter (is_served_in doors pool) (map (waiting kind) (if b then x ∷ filter kind.waits xs else filter kind.waits xs))
+        ≡ map (waiting kind) (if b && c then x ∷ filter (waits_in kind doors pool) xs else filter (waits_in kind doors pool) xs)
+    go false c e ih = ih
+    go true true e ih = ap (λ b. if b then waiting kind x ∷ served else served) e ∙ ap (λ ws. waiting kind x ∷ ws) ih
+    go true false e ih = ap (λ b. if b then waiting kind x ∷ served else served) e ∙ ih
 
 -- a pool holds what waits at the doors that it serves, in order
 pub queue_is :
@@ -348,9 +329,9 @@ queue_is {k} {table} {doors} {tree} {list} {v} h pool =
     (h.queues pool).in_order
     (filter_both is_waiting_call (is_served_in doors pool) (items_in_order tree.calls list.notices)
     ∙ ap (filter (is_served_in doors pool)) (calls_in_order tree.calls list.notices)
-    ∙ calls_of_pool doors pool tree.calls
+    ∙ of_pool call_kind doors pool tree.calls
     ∙ sym (h.queues pool).calls_wait)
     (filter_both is_notice_waiting (is_served_in doors pool) (items_in_order tree.calls list.notices)
     ∙ ap (filter (is_served_in doors pool)) (notices_in_order tree.calls list.notices k h.call_dates h.notice_dates)
-    ∙ notices_of_pool doors pool list.notices
+    ∙ of_pool notice_kind doors pool list.notices
     ∙ sym (h.queues pool).notices_wait)

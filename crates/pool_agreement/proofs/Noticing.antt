@@ -5,20 +5,21 @@ use Rattle.dk_base.specs.ByNumber.{at_number}
 use Rattle.dk_base.specs.declared.object.Item.TheVariants as item
 use Rattle.kernel_records.specs.declared.record.NoticeStage.TheVariants as notice
 use Rattle.kernel_records.specs.declared.record.ThreadState.TheVariants as is
-use Rattle.kernel_records.specs.Words.{CallTree, NoticeList, ProcessTable, change_first, end_notice, enter_notice, give_notice, give_thread, is_entered_stage, is_given_notice_as, is_given_stage, is_kept_notice, is_notice_entered_by, is_pool, is_waiting_notice_as, is_waiting_stage, kept_notices, make_notice, new_notice, notice_at, pool_in, thread_at_state, tid, waiting_notice}
+use Rattle.kernel_records.specs.Words.{CallTree, IsAscending, NoticeList, ProcessTable, change_first, end_notice, enter_notice, give_notice, give_thread, is_entered_stage, is_given_notice_as, is_given_stage, is_kept_notice, is_notice_entered_by, is_pool, is_waiting_notice_as, is_waiting_stage, kept_notices, make_notice, new_notice, notice_at, notice_number, pool_in, thread_at_state, tid, waiting_notice}
+use Rattle.kernel_records.proofs.NumberedLists.{ascending-change_first, ascending-filter, ascending-push}
 use Rattle.written_kernel.specs.Types.{Door, Notice, NoticeStage, Parked, Pool, Thread, Waiting}
 use Rattle.kernel_records.proofs.Places.{map-change_first}
 use Rattle.written_kernel.proofs.Threads.{processes-change_thread}
 use Rattle.server_pool.specs.Words.{PoolValue, PoolsValue, change_pool, enqueue_in, match_in, pick_of, pool_at, queue_in, spares_or_none, stack_in}
-use Rattle.pool_agreement.specs.Words.{Agrees, AreDated, AreKept, AreNoticesAscending, IsQueueOf, date_of_call, date_of_notice, notices_waiting_in, spares_among}
+use Rattle.pool_agreement.specs.Words.{Agrees, AreDated, AreKept, IsQueueOf, date_of_call, date_of_notice, notices_waiting_in, spares_among}
 use Rattle.pool_agreement.proofs.Dated.{dated_filter, dated_later, dated_push}
-use Rattle.pool_agreement.proofs.Noticed.{all_kept, given_notices, kept_changed, kept_filter, kept_push, notices_changed, notices_filter, notices_push, waiting-changed, waiting_kept}
+use Rattle.pool_agreement.proofs.Noticed.{all_kept, kept_changed, kept_filter, kept_push, waiting_kept}
 use Rattle.pool_agreement.proofs.Parking.{stack_later}
-use Rattle.pool_agreement.proofs.Queued.{both_true}
 use Rattle.pool_agreement.proofs.Queues.{queues_matched, read_changed, same_both, stack_same}
 use Rattle.pool_agreement.proofs.Readers.{bindings-change_pool, common-change_pool, is_pool-sym, private-change_pool, spares-change_pool}
 use Rattle.pool_agreement.proofs.Stacks.{length-change_thread, spares_given, stack_given}
 use Rattle.pool_agreement.proofs.Waits.{notice_left, notice_left_elsewhere, notice_pushed, queue_kept}
+use Rattle.pool_agreement.proofs.WaitingLists.{both_true, filter-changed, notice_kind}
 
 -- stages that are not that of a notice that waits
 
@@ -62,7 +63,7 @@ module _
         spares = λ p. ap (λ xs. spares_or_none (at_number xs p)) (spares-change_pool v pool enter) ∙ h.spares p;
         calls = h.calls;
         call_dates = dated_later (map date_of_call tree.calls) 0 n now later h.call_dates;
-        notices = notices_push list.notices 0 list.made made (omega arith) refl h.notices;
+        notices = ascending-push notice_number list.notices 0 list.made made (omega arith) refl h.notices;
         notice_dates =
             subst (AreDated 0 now) (sym (map-append date_of_notice list.notices (made ∷ [])))
             (dated_push (map date_of_notice list.notices) 0 n now (omega arith) later h.notice_dates);
@@ -83,7 +84,7 @@ module _
 
   -- other notices, of which the same wait
   with_notices :
-      (notices : List Notice) → AreNoticesAscending 0 list.made notices → AreDated 0 n (map date_of_notice notices) → AreKept doors notices →
+      (notices : List Notice) → IsAscending notice_number 0 list.made notices → AreDated 0 n (map date_of_notice notices) → AreKept doors notices →
       ((pool : Pool) → notices_waiting_in doors notices pool ≡ notices_waiting_in doors list.notices pool) →
       Agrees n table doors tree (record list { notices = notices }) v
   with_notices notices order dates kept same =
@@ -110,12 +111,12 @@ module _
   pub agrees_enter_notice : (c t : ℕ) → Agrees n table doors tree (enter_notice list c t) v
   agrees_enter_notice c t =
       with_notices (change_first (is_given_notice_as c t) (notice_at entered) list.notices)
-      (notices_changed (is_given_notice_as c t) (notice_at entered) (λ x. refl) list.notices 0 list.made h.notices)
+      (ascending-change_first notice_number (notice_at entered) (λ x. refl) (is_given_notice_as c t) list.notices 0 list.made h.notices)
       (changed_dates (is_given_notice_as c t) entered)
       (kept_changed (is_given_notice_as c t) (notice_at entered) doors (λ x. refl) list.notices h.kept)
       (λ pool.
       ap (map waiting_notice)
-      (waiting-changed (is_given_notice_as c t) (notice_at entered) doors pool (given_not_waiting c t) (λ x. refl) list.notices))
+      (filter-changed notice_kind doors pool (is_given_notice_as c t) (notice_at entered) (given_not_waiting c t) (λ x. refl) list.notices))
     where
       entered : NoticeStage
       entered = notice.Entered (tid t)
@@ -124,14 +125,14 @@ module _
   pub agrees_end_notice : (t : ℕ) → Agrees n table doors tree (kept_notices doors (end_notice list t)) v
   agrees_end_notice t =
       with_notices (filter (is_kept_notice doors) ended)
-      (notices_filter (is_kept_notice doors) ended 0 list.made
-      (notices_changed (is_notice_entered_by t) (notice_at notice.Over) (λ x. refl) list.notices 0 list.made h.notices))
+      (ascending-filter notice_number (is_kept_notice doors) ended 0 list.made
+      (ascending-change_first notice_number (notice_at notice.Over) (λ x. refl) (is_notice_entered_by t) list.notices 0 list.made h.notices))
       (dated_filter date_of_notice (is_kept_notice doors) ended 0 n (changed_dates (is_notice_entered_by t) notice.Over))
       (kept_filter doors ended)
       (λ pool.
       waiting_kept doors ended pool
       ∙ ap (map waiting_notice)
-      (waiting-changed (is_notice_entered_by t) (notice_at notice.Over) doors pool (λ x e. entered_stage t x.stage e) (λ x. refl) list.notices))
+      (filter-changed notice_kind doors pool (is_notice_entered_by t) (notice_at notice.Over) (λ x e. entered_stage t x.stage e) (λ x. refl) list.notices))
     where
       ended : List Notice
       ended = change_first (is_notice_entered_by t) (notice_at notice.Over) list.notices
@@ -148,10 +149,10 @@ module _
             stack_same after n q v.bindings rest.bindings (stack_in rest q) (stack_in rest q) (bindings-change_pool v pool match_in) refl
             (stack_given h pool x picked (item.Notice c) q);
         queues =
-            queues_matched h tree.calls (given_notices c x.thread.0 list.notices) pool w ws e
+            queues_matched h tree.calls (give_notice list c x.thread.0).notices pool w ws e
             (notice_left (h.queues pool) w ws e c is_notice x.thread.0 list.made h.notices)
             (λ other f.
-            queue_kept doors tree.calls (given_notices c x.thread.0 list.notices) refl
+            queue_kept doors tree.calls (give_notice list c x.thread.0).notices refl
             (notice_left_elsewhere (h.queues pool) w ws e c is_notice x.thread.0 list.made other h.notices f) (h.queues other));
         spares =
             λ p.
@@ -161,7 +162,7 @@ module _
             ∙ ap (spares_among after p) (sym (length-change_thread table x.thread.0 turn));
         calls = h.calls;
         call_dates = h.call_dates;
-        notices = notices_changed (is_waiting_notice_as c) (notice_at given) (λ y. refl) list.notices 0 list.made h.notices;
+        notices = ascending-change_first notice_number (notice_at given) (λ y. refl) (is_waiting_notice_as c) list.notices 0 list.made h.notices;
         notice_dates = changed_dates (is_waiting_notice_as c) given;
         kept = kept_changed (is_waiting_notice_as c) (notice_at given) doors (λ y. refl) list.notices h.kept;
         common = common-change_pool v pool match_in ∙ h.common ∙ processes;

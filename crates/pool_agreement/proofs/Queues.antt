@@ -1,6 +1,6 @@
 -- What waits in the pools is what the calls and notices say: where calls are opened, given, entered, returned and collected, and where
 -- doors are made and changed.
-use Rattle.std.proofs.Common.{◌≡◌, ◌⊎◌, inl, inr, ℕ, ◌+◌, ◌<◌, ◌≤◌, ◌&&◌, ◌==◌, Bool, true, false, not, nat_le, if◌then◌else◌, List, [], ◌∷◌, ◌++◌, Option, Some, None, option_map, is_some, length, map, filter, drop, slice_get, refl, sym, subst, subst₂, ap, ap₂, ◌∙◌, length-append, arith}
+use Rattle.std.proofs.Common.{◌≡◌, ◌⊎◌, ℕ, ◌+◌, ◌<◌, ◌≤◌, ◌&&◌, ◌==◌, Bool, true, false, not, nat_le, if◌then◌else◌, List, [], ◌∷◌, ◌++◌, Option, Some, None, option_map, is_some, length, map, filter, drop, slice_get, refl, sym, subst, subst₂, ap, ap₂, ◌∙◌, length-append, arith}
 use Rattle.std.proofs.lemmas.List.{length-map, map-append}
 use Rattle.std.proofs.lemmas.List.Sums.{length-filter}
 use Rattle.dk_base.specs.ByNumber.{at_number}
@@ -10,22 +10,29 @@ use Rattle.dk_base.specs.declared.request.Param.TheVariants as param
 use Rattle.kernel_records.specs.declared.pool.Pool.TheVariants.{Common, Private}
 use Rattle.kernel_records.specs.declared.record.CallStage.TheVariants as stage
 use Rattle.kernel_records.specs.declared.record.ThreadState.TheVariants as is
-use Rattle.kernel_records.specs.Words.{CallTree, NoticeList, ProcessTable, at_stage, change_first, collect_call, enter_call, fail_call, give_call, give_thread, has_many, has_unref_multi, is_client_call_of, is_entered_by, is_given_as, is_given_to, is_live_call, is_pool, is_private, is_queued, is_queued_as, is_queued_in, is_to_collect, is_to_collect_as, is_valid_door, live_calls, open_call, pool_in, queue_length, return_call, set_param, thread_at_state, tid, waiting_call, with_param, without_arguments_at}
-use Rattle.written_kernel.specs.Types.{Call, CallStage, Door, Item, Notice, Obj, Param, Parked, Pool, Thread, Waiting}
+use Rattle.kernel_records.specs.Words.{CallTree, IsAscending, NoticeList, ProcessTable, at_stage, call_number, change_first, collect_call, enter_call, fail_call, give_call, give_thread, has_many, has_unref_multi, is_client_call_of, is_entered_by, is_given_as, is_given_to, is_live_call, is_pool, is_private, is_queued, is_queued_as, is_queued_in, is_to_collect, is_to_collect_as, is_valid_door, live_calls, open_call, pool_in, queue_length, return_call, set_param, thread_at_state, tid, waiting_call, with_param, without_arguments_at}
+use Rattle.kernel_records.proofs.NumberedLists.{ascending-change_first, ascending-filter, ascending-push}
+use Rattle.kernel_records.proofs.KeptLists.{filter-kept}
+use Rattle.written_kernel.specs.Types.{Call, CallStage, Door, Notice, Obj, Param, Parked, Pool, Thread, Waiting}
 use Rattle.written_kernel.proofs.Doors.{at_number-change_door, map-change_door}
 use Rattle.written_kernel.proofs.Giving.{same_pool}
 use Rattle.kernel_records.proofs.Lists.{is_some-at_number, numbered_front, numbered_past, numbered_push, numbered_there, numbered_within, same_length}
 use Rattle.kernel_records.proofs.Places.{map-change_first}
 use Rattle.written_kernel.proofs.Threads.{processes-change_thread}
 use Rattle.server_pool.specs.Words.{PoolValue, PoolsValue, change_pool, count_calls, empty_pool, enqueue_in, is_waiting_call, match_in, pick_of, pool_at, pool_or_empty, queue_in, spares_or_none, stack_in}
-use Rattle.pool_agreement.specs.Words.{Agrees, AreDated, AreInOrder, HasPlaces, IsQueueOf, IsStackOf, date_of_call, date_of_notice, spares_among, waiting_in}
+use Rattle.pool_agreement.specs.Words.{Agrees, AreDated, HasPlaces, IsQueueOf, IsStackOf, date_of_call, date_of_notice, spares_among, waiting_in}
 use Rattle.pool_agreement.proofs.Dated.{dated_filter, dated_later, dated_push}
-use Rattle.pool_agreement.proofs.Noticed.{kept_doors, notices_waiting_doors}
-use Rattle.pool_agreement.proofs.Queued.{both_true, filter-changed, given_calls, order_changed, order_filter, order_push, waiting_doors, waiting_live}
+use Rattle.pool_agreement.proofs.Noticed.{kept_doors}
 use Rattle.pool_agreement.proofs.Readers.{bindings-change_pool, common-change_pool, is_pool-sym, pool-change_other, pool-change_same, pool_there-queue, private-change_pool, same_number, spares-change_pool, there_is}
 use Rattle.pool_agreement.proofs.Parking.{stack_later}
 use Rattle.pool_agreement.proofs.Stacks.{length-change_thread, spares_given, stack_given}
-use Rattle.pool_agreement.proofs.Waits.{call_left, call_left_elsewhere, call_pushed, first_served, queue_kept}
+use Rattle.pool_agreement.proofs.Waits.{call_left, call_left_elsewhere, call_pushed, queue_kept}
+use Rattle.pool_agreement.proofs.WaitingLists.{both_true, call_kind, filter-changed, notice_kind, waiting_doors}
+use Rattle.written_kernel.proofs.CallLists.{queued_in_is_live}
+
+-- calls that wait are live
+pub waiting_live : (doors : List Door) (calls : List Call) (pool : Pool) → waiting_in doors (filter is_live_call calls) pool ≡ waiting_in doors calls pool
+waiting_live doors calls pool = ap (map waiting_call) (filter-kept is_live_call (is_queued_in doors pool) (queued_in_is_live doors pool) calls)
 
 -- a field of the pools, read after a pool that is there changed
 module _ {Y : Type 0} (read : PoolValue → Y) (next : Y → Y) (change : PoolValue → PoolValue) (reads : (x : PoolValue) → read (change x) ≡ next (read x)) where
@@ -120,10 +127,6 @@ pub record IsNextItem (doors : List Door) (pool : Pool) (w : Waiting) : Type 0 w
   pub is_either : (w.item ≡ item.Call number) ⊎ (w.item ≡ item.Notice number)
   pub served : is_pool pool (pool_in (at_number doors w.door)) ≡ true
 
-either_item : (i : Item) → (k : ℕ) × ((i ≡ item.Call k) ⊎ (i ≡ item.Notice k))
-either_item (item.Call k) = (k, inl refl)
-either_item (item.Notice k) = (k, inr refl)
-
 module _ {n : ℕ} {table : ProcessTable} {doors : List Door} {tree : CallTree} {list : NoticeList} {v : PoolsValue} (h : Agrees n table doors tree list v) where
   -- as many calls wait in a pool as the pool counts
   pub queue_length_agrees : (pool : Pool) → queue_length doors tree.calls pool ≡ count_calls (queue_in v pool)
@@ -170,7 +173,7 @@ module _ {n : ℕ} {table : ProcessTable} {doors : List Door} {tree : CallTree} 
             (call_pushed (h.queues q) r n h.call_dates h.notice_dates later queued (is_pool pool q)
             (sym (is_pool-sym pool q ∙ ap (is_pool q) served)));
         spares = λ p. ap (λ xs. spares_or_none (at_number xs p)) (spares-change_pool v pool enter) ∙ h.spares p;
-        calls = order_push tree.calls 0 tree.made r (omega arith) number h.calls;
+        calls = ascending-push call_number tree.calls 0 tree.made r (omega arith) number h.calls;
         call_dates =
             subst (AreDated 0 r.made) (sym (map-append date_of_call tree.calls (r ∷ [])))
             (dated_push (map date_of_call tree.calls) 0 n r.made (omega arith) (omega arith) h.call_dates);
@@ -190,7 +193,7 @@ module _ {n : ℕ} {table : ProcessTable} {doors : List Door} {tree : CallTree} 
 
   -- other calls, of which the same wait
   with_calls :
-      (calls : List Call) → AreInOrder 0 tree.made calls → AreDated 0 n (map date_of_call calls) → ((pool : Pool) → waiting_in doors calls pool ≡ waiting_in doors tree.calls pool) →
+      (calls : List Call) → IsAscending call_number 0 tree.made calls → AreDated 0 n (map date_of_call calls) → ((pool : Pool) → waiting_in doors calls pool ≡ waiting_in doors tree.calls pool) →
       Agrees n table doors (record tree { calls = calls }) list v
   with_calls calls order dates same =
       record {
@@ -212,12 +215,11 @@ module _ {n : ℕ} {table : ProcessTable} {doors : List Door} {tree : CallTree} 
       ((r : Call) → is_queued (change r).stage ≡ false) → ((r : Call) → (change r).number ≡ r.number) →
       ((r : Call) → (change r).made ≡ r.made) → Agrees n table doors (record tree { calls = change_first test change tree.calls }) list v
   agrees_stage test change before after same same_date =
-      with_calls (change_first test change tree.calls) (order_changed test change same tree.calls 0 tree.made h.calls)
+      with_calls (change_first test change tree.calls) (ascending-change_first call_number change same test tree.calls 0 tree.made h.calls)
       (subst (AreDated 0 n) (sym (map-change_first date_of_call test change same_date tree.calls)) h.call_dates)
       (λ pool.
       ap (map waiting_call)
-      (filter-changed test change doors pool
-      (λ r e. ap (λ b. b && is_pool pool (pool_in (at_number doors r.door))) (before r e)) after tree.calls))
+      (filter-changed call_kind doors pool test change before after tree.calls))
 
   -- a thread enters the call that it was given, has no room for its descriptors, or returns it
 
@@ -239,22 +241,19 @@ module _ {n : ℕ} {table : ProcessTable} {doors : List Door} {tree : CallTree} 
   pub agrees_collect : (c at : ℕ) → Agrees n table doors (live_calls (collect_call tree c at)) list v
   agrees_collect c at =
       with_calls (filter is_live_call (change_first collected answered tree.calls))
-      (order_filter is_live_call (change_first collected answered tree.calls) 0 tree.made
-      (order_changed collected answered (λ r. refl) tree.calls 0 tree.made h.calls))
+      (ascending-filter call_number is_live_call (change_first collected answered tree.calls) 0 tree.made
+      (ascending-change_first call_number answered (λ r. refl) collected tree.calls 0 tree.made h.calls))
       (dated_filter date_of_call is_live_call (change_first collected answered tree.calls) 0 n
       (subst (AreDated 0 n) (sym (map-change_first date_of_call collected answered (λ r. refl) tree.calls)) h.call_dates))
       (λ pool.
       waiting_live doors (change_first collected answered tree.calls) pool
-      ∙ ap (map waiting_call) (filter-changed collected answered doors pool (λ r e. not_waiting r pool e) (λ r. refl) tree.calls))
+      ∙ ap (map waiting_call) (filter-changed call_kind doors pool collected answered (collected_not_queued c) (λ r. refl) tree.calls))
     where
       collected : Call → Bool
       collected = is_to_collect_as c
 
       answered : Call → Call
       answered = without_arguments_at (stage.Answered at)
-
-      not_waiting : (r : Call) (pool : Pool) → is_to_collect_as c r ≡ true → is_queued_in doors pool r ≡ false
-      not_waiting r pool e = ap (λ b. b && is_pool pool (pool_in (at_number doors r.door))) (collected_not_queued c r e)
 
   -- doors that serve what waits alike
 
@@ -264,8 +263,8 @@ module _ {n : ℕ} {table : ProcessTable} {doors : List Door} {tree : CallTree} 
       ((i : ℕ) (x : Notice) → slice_get list.notices i ≡ Some x → ServesAlike others doors x.door) → (pool : Pool) →
       IsQueueOf others tree.calls list.notices pool (queue_in v pool)
   queue_doors others same alike pool =
-      queue_kept others tree.calls list.notices (waiting_doors doors others tree.calls pool same)
-      (notices_waiting_doors doors others list.notices pool (λ i x e. (alike i x e).same_pool)) (h.queues pool)
+      queue_kept others tree.calls list.notices (waiting_doors call_kind doors others pool tree.calls same)
+      (waiting_doors notice_kind doors others pool list.notices (λ i x e q. (alike i x e).same_pool)) (h.queues pool)
 
   with_doors :
       (others : List Door) → length others ≡ length doors →
@@ -348,11 +347,6 @@ module _ {n : ℕ} {table : ProcessTable} {doors : List Door} {tree : CallTree} 
 
   -- the oldest item of a pool
 
-  pub next_is_item : (pool : Pool) (w : Waiting) (ws : List Waiting) → queue_in v pool ≡ w ∷ ws → IsNextItem doors pool w
-  next_is_item pool w ws e =
-      let k : (k : ℕ) × ((w.item ≡ item.Call k) ⊎ (w.item ≡ item.Notice k)) = either_item w.item in
-      record { number = k.0; is_either = k.1; served = first_served (h.queues pool) w ws e }
-
   -- it leaves the queue of its pool, and every other queue stays
   pub queues_matched :
       (calls : List Call) (notices : List Notice) (pool : Pool) (w : Waiting) (ws : List Waiting) → queue_in v pool ≡ w ∷ ws →
@@ -385,10 +379,10 @@ module _ {n : ℕ} {table : ProcessTable} {doors : List Door} {tree : CallTree} 
             stack_same after n q v.bindings rest.bindings (stack_in rest q) (stack_in rest q) (bindings-change_pool v pool match_in) refl
             (stack_given h pool x picked (item.Call c) q);
         queues =
-            queues_matched (given_calls c x.thread.0 tree.calls) list.notices pool w ws e
+            queues_matched (give_call tree c x.thread.0).calls list.notices pool w ws e
             (call_left (h.queues pool) w ws e c is_call x.thread.0 tree.made h.calls)
             (λ other f.
-            queue_kept doors (given_calls c x.thread.0 tree.calls) list.notices
+            queue_kept doors (give_call tree c x.thread.0).calls list.notices
             (call_left_elsewhere (h.queues pool) w ws e c is_call x.thread.0 tree.made other h.calls f) refl (h.queues other));
         spares =
             λ p.
@@ -397,7 +391,7 @@ module _ {n : ℕ} {table : ProcessTable} {doors : List Door} {tree : CallTree} 
             ∙ sym (spares_given h pool x picked (item.Call c) p (length table.threads))
             ∙ ap (spares_among after p) (sym (length-change_thread table x.thread.0 turn));
         calls =
-            order_changed (is_queued_as c) (at_stage (stage.Given (tid x.thread.0))) (λ r. refl) tree.calls 0 tree.made h.calls;
+            ascending-change_first call_number (at_stage (stage.Given (tid x.thread.0))) (λ r. refl) (is_queued_as c) tree.calls 0 tree.made h.calls;
         call_dates =
             subst (AreDated 0 n)
             (sym (map-change_first date_of_call (is_queued_as c) (at_stage (stage.Given (tid x.thread.0))) (λ r. refl) tree.calls)) h.call_dates;

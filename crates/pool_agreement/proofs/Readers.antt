@@ -1,7 +1,6 @@
 -- The readers of pools after one of them changed, or the spare threads of one process.
 use Rattle.std.proofs.Common.{◌≡◌, ℕ, ◌==◌, true, false, List, ◌∷◌, Option, None, Some, is_some, length, refl, sym, ap, ◌∙◌, arith}
 use Rattle.std.proofs.lemmas.Bool.Decides.{nat_tests}
-use Rattle.kernel_records.specs.declared.pool.Parked.{Parked}
 use Rattle.kernel_records.specs.declared.pool.Pool.{Pool}
 use Rattle.kernel_records.specs.declared.pool.Pool.TheVariants.{Common, Private}
 use Rattle.kernel_records.specs.declared.pool.Waiting.{Waiting}
@@ -52,14 +51,6 @@ is_pool-sym (Private d) (Common q) = refl
 pub there_is : {X : Type 0} (o : Option X) → is_some o ≡ true → (x : X) × (o ≡ Some x)
 there_is None e = cc
 there_is (Some x) e = (x, refl)
-
--- a pool where a thread is parked is there
-pub pool_there-stack : (v : PoolsValue) (p : Pool) (x : Parked) (xs : List Parked) → stack_in v p ≡ x ∷ xs → is_some (pool_at v p) ≡ true
-pool_there-stack v p x xs e = go (pool_at v p) e
-  where
-    go : (o : Option PoolValue) → (pool_or_empty o).parked ≡ x ∷ xs → is_some o ≡ true
-    go None f = cc
-    go (Some pool) f = refl
 
 -- and one where something waits
 pub pool_there-queue : (v : PoolsValue) (p : Pool) (x : Waiting) (xs : List Waiting) → queue_in v p ≡ x ∷ xs → is_some (pool_at v p) ≡ true

@@ -7,8 +7,9 @@ use Rattle.dk_base.specs.declared.object.Item.TheVariants as item
 use Rattle.kernel_records.specs.declared.record.CallStage.TheVariants as stage
 use Rattle.kernel_records.specs.declared.record.NoticeStage.TheVariants as notice
 use Rattle.kernel_records.specs.declared.record.ThreadState.TheVariants as is
-use Rattle.kernel_records.specs.Words.{CallTree, NoticeList, ProcessTable, at_stage, better_parked, change_first, change_thread, change_thread_in, give_call, give_notice, give_thread, is_pool, is_queued, is_queued_as, is_waiting_notice_as, is_waiting_stage, later_parked, notice_at, parked_at, parked_thread, pick_among, pick_parked, pool_in, thread_at, thread_at_state, tid}
-use Rattle.written_kernel.specs.Types.{Call, Door, Item, Notice, Parked, Pool, Thread, Waiting}
+use Rattle.kernel_records.specs.Words.{CallTree, NoticeList, ProcessTable, at_stage, better_parked, change_thread, change_thread_in, give_call, give_notice, give_thread, is_pool, is_queued, is_queued_as, is_waiting_notice_as, is_waiting_stage, later_parked, notice_at, parked_at, parked_thread, pick_among, pick_parked, pool_in, thread_at, thread_at_state, tid}
+use Rattle.kernel_records.proofs.NumberedLists.{change_first-swap}
+use Rattle.written_kernel.specs.Types.{Door, Item, Parked, Pool, Thread, Waiting}
 use Rattle.written_kernel.specs.Words.{State, give_each, give_one, give_to, pick, pool_of}
 use Rattle.written_kernel.proofs.Giving.{same_pool}
 use Rattle.kernel_records.proofs.Lists.{same_length, with_at_number-suc}
@@ -189,53 +190,6 @@ two_threads table t u f g ne =
     go (Some x) None = refl
     go (Some x) (Some y) = ap (λ xs. record table { threads = xs }) (two_numbers table.threads t u (f x) (g y) ne)
 
-module _
-    (p q : Call → Bool) (f g : Call → Call) (apart : (r : Call) → p r ≡ true → q r ≡ false)
-    (after_f : (r : Call) → p r ≡ true → q (f r) ≡ false) (after_g : (r : Call) → q r ≡ true → p (g r) ≡ false) where
-  two_calls : (rs : List Call) → change_first p f (change_first q g rs) ≡ change_first q g (change_first p f rs)
-  two_calls [] = refl
-  two_calls (r ∷ rs) = go (p r) refl (q r) refl (two_calls rs)
-    where
-      go :
-          (b : Bool) → p r ≡ b → (c : Bool) → q r ≡ c → change_first p f (change_first q g rs) ≡ change_first q g (change_first p f rs) →
-          change_first p f (if c then g r ∷ rs else r ∷ change_first q g rs)
-          ≡ change_first q g (if b then f r ∷ rs else r ∷ change_first p f rs)
-      go true e true h ih = absurd (true≢false (sym h ∙ apart r e))
-      go true e false h ih =
-          ap (λ b. if b then f r ∷ change_first q g rs else r ∷ change_first p f (change_first q g rs)) e
-          ∙ sym (ap (λ b. if b then g (f r) ∷ rs else f r ∷ change_first q g rs) (after_f r e))
-      go false e true h ih =
-          ap (λ b. if b then f (g r) ∷ rs else g r ∷ change_first p f rs) (after_g r h)
-          ∙ sym (ap (λ b. if b then g r ∷ change_first p f rs else r ∷ change_first q g (change_first p f rs)) h)
-      go false e false h ih =
-          ap (λ b. if b then f r ∷ change_first q g rs else r ∷ change_first p f (change_first q g rs)) e
-          ∙ ap (λ us. r ∷ us) ih
-          ∙ sym (ap (λ b. if b then g r ∷ change_first p f rs else r ∷ change_first q g (change_first p f rs)) h)
-
-module _
-    (p q : Notice → Bool) (f g : Notice → Notice) (apart : (n : Notice) → p n ≡ true → q n ≡ false)
-    (after_f : (n : Notice) → p n ≡ true → q (f n) ≡ false) (after_g : (n : Notice) → q n ≡ true → p (g n) ≡ false) where
-  two_notices : (ns : List Notice) → change_first p f (change_first q g ns) ≡ change_first q g (change_first p f ns)
-  two_notices [] = refl
-  two_notices (n ∷ ns) = go (p n) refl (q n) refl (two_notices ns)
-    where
-      go :
-          (b : Bool) → p n ≡ b → (c : Bool) → q n ≡ c →
-          change_first p f (change_first q g ns) ≡ change_first q g (change_first p f ns) →
-          change_first p f (if c then g n ∷ ns else n ∷ change_first q g ns)
-          ≡ change_first q g (if b then f n ∷ ns else n ∷ change_first p f ns)
-      go true e true h ih = absurd (true≢false (sym h ∙ apart n e))
-      go true e false h ih =
-          ap (λ b. if b then f n ∷ change_first q g ns else n ∷ change_first p f (change_first q g ns)) e
-          ∙ sym (ap (λ b. if b then g (f n) ∷ ns else f n ∷ change_first q g ns) (after_f n e))
-      go false e true h ih =
-          ap (λ b. if b then f (g n) ∷ ns else g n ∷ change_first p f ns) (after_g n h)
-          ∙ sym (ap (λ b. if b then g n ∷ change_first p f ns else n ∷ change_first q g (change_first p f ns)) h)
-      go false e false h ih =
-          ap (λ b. if b then f n ∷ change_first q g ns else n ∷ change_first p f (change_first q g ns)) e
-          ∙ ap (λ us. n ∷ us) ih
-          ∙ sym (ap (λ b. if b then g n ∷ change_first p f ns else n ∷ change_first q g (change_first p f ns)) h)
-
 and_false : (b : Bool) → b && false ≡ false
 and_false true = refl
 and_false false = refl
@@ -248,7 +202,7 @@ two_calls_given :
     (tree : CallTree) (c d t u : ℕ) → (c == d) ≡ false → give_call (give_call tree c t) d u ≡ give_call (give_call tree d u) c t
 two_calls_given tree c d t u ne =
     ap (λ rs. record tree { calls = rs })
-    (two_calls (is_queued_as d) (is_queued_as c) (at_stage (stage.Given (tid u))) (at_stage (stage.Given (tid t)))
+    (change_first-swap (is_queued_as d) (is_queued_as c) (at_stage (stage.Given (tid u))) (at_stage (stage.Given (tid t)))
     (λ r e. one_number r.number d c (is_queued r.stage) (grind (arith, nat_tests)) e) (λ r e. and_false (r.number == c))
     (λ r e. and_false (r.number == d)) tree.calls)
 
@@ -256,7 +210,7 @@ two_notices_given :
     (list : NoticeList) (c d t u : ℕ) → (c == d) ≡ false → give_notice (give_notice list c t) d u ≡ give_notice (give_notice list d u) c t
 two_notices_given list c d t u ne =
     ap (λ ns. record list { notices = ns })
-    (two_notices (is_waiting_notice_as d) (is_waiting_notice_as c) (notice_at (notice.Given (tid u))) (notice_at (notice.Given (tid t)))
+    (change_first-swap (is_waiting_notice_as d) (is_waiting_notice_as c) (notice_at (notice.Given (tid u))) (notice_at (notice.Given (tid t)))
     (λ n e. one_number n.number d c (is_waiting_stage n.stage) (grind (arith, nat_tests)) e) (λ n e. and_false (n.number == c))
     (λ n e. and_false (n.number == d)) list.notices)
 

@@ -107,9 +107,6 @@ parked_in_own table bindings t x e = go (thread_at table t) e
     go None f = cc
     go (Some y) f = at_state (pool_of_thread y (bound_at bindings t)) y.state f ∙ by_pool y (bound_at bindings t)
 
-none_without : (t : ℕ) → without_thread t [] ≡ []
-none_without t = refl
-
 module _ {n : ℕ} {table : ProcessTable} {doors : List Door} {tree : CallTree} {list : NoticeList} {v : PoolsValue} (h : Agrees n table doors tree list v) (t : ℕ) where
   abbrev after : ProcessTable
   after = end_thread table t
@@ -162,9 +159,6 @@ module _ {n : ℕ} {table : ProcessTable} {doors : List Door} {tree : CallTree} 
           (nowhere after v.bindings t q gone)
 
   -- a spare thread leaves those of its process
-
-  without_other : (us : List ℕ) → us ≡ [] → without_spare t us ≡ us
-  without_other us e = ap (without_spare t) e ∙ sym e
 
   spare_without : (p u : ℕ) (b : Bool) → (u == t) ≡ b → spare_at after p u ≡ without_spare t (spare_at table p u)
   spare_without p u true e =

@@ -4,19 +4,20 @@ use Rattle.std.proofs.lemmas.Bool.Decides.{nat_tests}
 use Rattle.std.proofs.lemmas.List.Elements.{filter-append}
 use Rattle.dk_base.specs.ByNumber.{at_number}
 use Rattle.dk_base.specs.declared.object.Item.TheVariants as item
-use Rattle.kernel_records.specs.Words.{is_pool, is_queued, is_queued_in, is_waiting_stage, pool_in, waiting_call, waiting_notice}
+use Rattle.kernel_records.specs.declared.record.CallStage.TheVariants as stage
+use Rattle.kernel_records.specs.declared.record.NoticeStage.TheVariants as notice
+use Rattle.kernel_records.specs.Words.{IsAscending, at_stage, call_number, change_first, is_pool, is_queued, is_queued_as, is_queued_in, is_waiting_notice_as, is_waiting_stage, notice_at, notice_number, pool_in, tid, waiting_call, waiting_notice}
 use Rattle.written_kernel.specs.Types.{Call, Door, Item, Notice, Pool, Waiting}
 use Rattle.written_kernel.proofs.Places.{IsIn}
 use Rattle.written_kernel.proofs.Waits.{Passes, from_filter}
 use Rattle.server_pool.specs.Words.{is_call, is_item, is_waiting_call, is_waiting_otherwise, without_item}
 use Rattle.server_pool.proofs.Order.{ordered_filter, ordered_push}
-use Rattle.pool_agreement.specs.Words.{AreDated, AreInOrder, AreNoticesAscending, IsQueue, IsQueueOf, WaitsBefore, date_of_call, date_of_notice, is_notice_waiting, is_waiting_notice_in, notices_waiting_in, waiting_in}
+use Rattle.pool_agreement.specs.Words.{AreDated, IsQueue, IsQueueOf, WaitsBefore, date_of_call, date_of_notice, is_notice_waiting, is_waiting_notice_in, notices_waiting_in, waiting_in}
 use Rattle.pool_agreement.proofs.Dated.{dated_in}
 use Rattle.pool_agreement.proofs.Merged.{earlier_before, filter_both}
-use Rattle.pool_agreement.proofs.Noticed.{IsOldestNotice, given_notices, notices_waiting_push, oldest_notice, oldest_notice_served, waiting-given, waiting-given_elsewhere}
 use Rattle.pool_agreement.proofs.Parked.{all_in}
 use Rattle.pool_agreement.proofs.Parking.{to_filter}
-use Rattle.pool_agreement.proofs.Queued.{IsOldest, filter-given, filter-given_elsewhere, given_calls, oldest, oldest_served, waiting_push}
+use Rattle.pool_agreement.proofs.WaitingLists.{IsOldest, call_kind, filter-given, filter-given_elsewhere, notice_kind, oldest, waiting_push}
 
 -- items of lists
 
@@ -97,7 +98,7 @@ module _
             filter-append is_waiting_call queue (waiting_call r ∷ [])
             ∙ ap (λ ws. ws ++ waiting_call r ∷ []) h.calls_wait
             ∙ sym
-            (waiting_push doors calls r pool queued
+            (waiting_push call_kind doors pool calls r queued
             ∙ ap (λ b. if b then waiting_in doors calls pool ++ waiting_call r ∷ [] else waiting_in doors calls pool) served);
         notices_wait = filter-append is_notice_waiting queue (waiting_call r ∷ []) ∙ append-nil (filter is_notice_waiting queue) ∙ h.notices_wait;
         in_order =
@@ -107,7 +108,7 @@ module _
       }
   call_pushed r n cs ns l queued false served =
       queue_kept doors (calls ++ r ∷ []) notices
-      (waiting_push doors calls r pool queued
+      (waiting_push call_kind doors pool calls r queued
       ∙ ap (λ b. if b then waiting_in doors calls pool ++ waiting_call r ∷ [] else waiting_in doors calls pool) served) refl h
 
   pub notice_pushed :
@@ -121,7 +122,7 @@ module _
             filter-append is_notice_waiting queue (waiting_notice x ∷ [])
             ∙ ap (λ ws. ws ++ waiting_notice x ∷ []) h.notices_wait
             ∙ sym
-            (notices_waiting_push doors notices x pool waits
+            (waiting_push notice_kind doors pool notices x waits
             ∙ ap (λ b. if b then notices_waiting_in doors notices pool ++ waiting_notice x ∷ [] else notices_waiting_in doors notices pool) served);
         in_order =
             ordered_push WaitsBefore queue (waiting_notice x) h.in_order
@@ -130,7 +131,7 @@ module _
       }
   notice_pushed x n cs ns l waits false served =
       queue_kept doors calls (notices ++ x ∷ []) refl
-      (notices_waiting_push doors notices x pool waits
+      (waiting_push notice_kind doors pool notices x waits
       ∙ ap (λ b. if b then notices_waiting_in doors notices pool ++ waiting_notice x ∷ [] else notices_waiting_in doors notices pool) served) h
 
   -- an item leaves, wherever it stands
@@ -182,71 +183,60 @@ module _
     rest_in_order : IsQueue ws
     rest_in_order = let o : IsQueue (w ∷ ws) = subst IsQueue e h.in_order in o.1
 
-    pub first_served : is_pool pool (pool_in (at_number doors w.door)) ≡ true
-    first_served = go w.item refl
-      where
-        go : (i : Item) → w.item ≡ i → is_pool pool (pool_in (at_number doors w.door)) ≡ true
-        go (item.Call c) f =
-            oldest_served doors calls pool w (filter is_waiting_call ws)
-            (oldest doors calls pool w (filter is_waiting_call ws) (calls_are true (ap (λ i. is_waiting_call (record w { item = i })) f)))
-        go (item.Notice c) f =
-            oldest_notice_served doors notices pool w (filter is_notice_waiting ws)
-            (oldest_notice doors notices pool w (filter is_notice_waiting ws) (notices_are true (ap (λ i. is_notice_waiting (record w { item = i })) f)))
-
     -- a call, given to a thread
     module _ (c : ℕ) (is_call : w.item ≡ item.Call c) where
-      first_call : IsOldest doors calls pool w (filter is_waiting_call ws)
+      first_call : IsOldest call_kind doors pool calls w (filter is_waiting_call ws)
       first_call =
-          oldest doors calls pool w (filter is_waiting_call ws) (calls_are true (ap (λ i. is_waiting_call (record w { item = i })) is_call))
+          oldest call_kind doors pool calls w (filter is_waiting_call ws) (calls_are true (ap (λ i. is_waiting_call (record w { item = i })) is_call))
 
-      its_number : first_call.call.number ≡ c
+      its_number : first_call.oldest.number ≡ c
       its_number =
-          let same : item.Call first_call.call.number ≡ item.Call c = ap (λ (x : Waiting). x.item) first_call.same ∙ is_call in cc
+          let same : item.Call first_call.oldest.number ≡ item.Call c = ap (λ (x : Waiting). x.item) first_call.same ∙ is_call in cc
 
-      pub call_left : (t made : ℕ) → AreInOrder 0 made calls → IsQueueOf doors (given_calls c t calls) notices pool ws
+      pub call_left : (t made : ℕ) → IsAscending call_number 0 made calls → IsQueueOf doors (change_first (is_queued_as c) (at_stage (stage.Given (tid t))) calls) notices pool ws
       call_left t made order =
           record {
             calls_wait =
                 sym first_call.rest
                 ∙ ap (map waiting_call)
-                (sym (filter-given doors pool c t calls 0 made first_call.call first_call.others order first_call.first its_number));
+                (sym (filter-given call_kind doors pool (at_stage (stage.Given (tid t))) (λ r. refl) c made first_call.oldest first_call.others its_number calls 0 order first_call.first));
             notices_wait = sym (notices_are false (ap (λ i. is_notice_waiting (record w { item = i })) is_call));
             in_order = rest_in_order;
           }
 
       -- the other queues stay
       pub call_left_elsewhere :
-          (t made : ℕ) (other : Pool) → AreInOrder 0 made calls → is_pool pool other ≡ false →
-          waiting_in doors (given_calls c t calls) other ≡ waiting_in doors calls other
+          (t made : ℕ) (other : Pool) → IsAscending call_number 0 made calls → is_pool pool other ≡ false →
+          waiting_in doors (change_first (is_queued_as c) (at_stage (stage.Given (tid t))) calls) other ≡ waiting_in doors calls other
       call_left_elsewhere t made other order f =
           ap (map waiting_call)
-          (filter-given_elsewhere doors pool other c t calls 0 made first_call.call first_call.others order first_call.first its_number f)
+          (filter-given_elsewhere call_kind doors pool (at_stage (stage.Given (tid t))) (λ r. refl) c made first_call.oldest first_call.others its_number other f calls 0 order first_call.first)
 
     -- and so a notice
     module _ (c : ℕ) (is_notice : w.item ≡ item.Notice c) where
-      first_notice : IsOldestNotice doors notices pool w (filter is_notice_waiting ws)
+      first_notice : IsOldest notice_kind doors pool notices w (filter is_notice_waiting ws)
       first_notice =
-          oldest_notice doors notices pool w (filter is_notice_waiting ws)
+          oldest notice_kind doors pool notices w (filter is_notice_waiting ws)
           (notices_are true (ap (λ i. is_notice_waiting (record w { item = i })) is_notice))
 
-      notice_number : first_notice.notice.number ≡ c
-      notice_number =
-          let same : item.Notice first_notice.notice.number ≡ item.Notice c = ap (λ (x : Waiting). x.item) first_notice.same ∙ is_notice in cc
+      its_notice_number : first_notice.oldest.number ≡ c
+      its_notice_number =
+          let same : item.Notice first_notice.oldest.number ≡ item.Notice c = ap (λ (x : Waiting). x.item) first_notice.same ∙ is_notice in cc
 
-      pub notice_left : (t made : ℕ) → AreNoticesAscending 0 made notices → IsQueueOf doors calls (given_notices c t notices) pool ws
+      pub notice_left : (t made : ℕ) → IsAscending notice_number 0 made notices → IsQueueOf doors calls (change_first (is_waiting_notice_as c) (notice_at (notice.Given (tid t))) notices) pool ws
       notice_left t made order =
           record {
             calls_wait = sym (calls_are false (ap (λ i. is_waiting_call (record w { item = i })) is_notice));
             notices_wait =
                 sym first_notice.rest
                 ∙ ap (map waiting_notice)
-                (sym (waiting-given doors pool c t notices 0 made first_notice.notice first_notice.others order first_notice.first notice_number));
+                (sym (filter-given notice_kind doors pool (notice_at (notice.Given (tid t))) (λ n. refl) c made first_notice.oldest first_notice.others its_notice_number notices 0 order first_notice.first));
             in_order = rest_in_order;
           }
 
       pub notice_left_elsewhere :
-          (t made : ℕ) (other : Pool) → AreNoticesAscending 0 made notices → is_pool pool other ≡ false →
-          notices_waiting_in doors (given_notices c t notices) other ≡ notices_waiting_in doors notices other
+          (t made : ℕ) (other : Pool) → IsAscending notice_number 0 made notices → is_pool pool other ≡ false →
+          notices_waiting_in doors (change_first (is_waiting_notice_as c) (notice_at (notice.Given (tid t))) notices) other ≡ notices_waiting_in doors notices other
       notice_left_elsewhere t made other order f =
           ap (map waiting_notice)
-          (waiting-given_elsewhere doors pool other c t notices 0 made first_notice.notice first_notice.others order first_notice.first notice_number f)
+          (filter-given_elsewhere notice_kind doors pool (notice_at (notice.Given (tid t))) (λ n. refl) c made first_notice.oldest first_notice.others its_notice_number other f notices 0 order first_notice.first)

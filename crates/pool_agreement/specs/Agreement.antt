@@ -1,10 +1,10 @@
 -- What server pools hold, and what the records of threads, doors, calls and notices say of it. The pools are redundant: each is found
 -- by a search of the records, which the pools save.
-use Rattle.std.specs.Prelude.{ℕ, ◌≡◌, ◌<◌, ◌≤◌, ◌++◌, ◌==◌, ◌&&◌, ◌||◌, not, nat_lt, List, [], ◌∷◌, Option, Bool, true, Some, None, filter, if◌then◌else◌, is_some, length, map, slice_get, suc, zero}
+use Rattle.std.specs.Prelude.{ℕ, ◌≡◌, ◌≤◌, ◌++◌, ◌==◌, ◌&&◌, ◌||◌, not, nat_lt, List, [], ◌∷◌, Option, Bool, true, Some, None, filter, if◌then◌else◌, is_some, length, map, slice_get, suc, zero}
 use Rattle.std.specs.List.{AllByRecursion}
 use Rattle.dk_base.specs.ByNumber.{at_number}
 use Rattle.written_kernel.specs.Types.{Call, Door, Notice, Parked, Pool, Thread, Waiting}
-use Rattle.kernel_records.specs.Words.{CallTree, NoticeList, ProcessTable, bound_at, is_owned_by, is_pool, is_private_in, is_queued, is_queued_in, is_kept_notice, is_spare_of, is_valid_door, is_waiting_stage, parked_at, pool_in, process_in, thread_at, waiting_call, waiting_notice}
+use Rattle.kernel_records.specs.Words.{CallTree, IsAscending, NoticeList, ProcessTable, bound_at, call_number, is_kept_notice, is_owned_by, is_pool, is_private_in, is_queued, is_queued_in, is_spare_of, is_valid_door, is_waiting_stage, notice_number, parked_at, pool_in, process_in, thread_at, waiting_call, waiting_notice}
 use Rattle.server_pool.specs.Words.{IsOrderedBy, IsStack, PoolsValue, is_waiting_call, queue_in, spares_of, stack_in}
 
 -- parked threads
@@ -32,11 +32,6 @@ pub record IsStackOf (table : ProcessTable) (bindings : List (Option ℕ)) (late
 abbrev pub waiting_in : List Door → List Call → Pool → List Waiting
 waiting_in doors calls pool = map waiting_call (filter (is_queued_in doors pool) calls)
 
--- the numbers of the calls go up, and are none above those that were made
-abbrev pub AreInOrder : ℕ → ℕ → List Call → Type 0
-AreInOrder low made [] = Unit {0}
-AreInOrder low made (r ∷ rs) = (low < r.number) × (r.number ≤ made) × AreInOrder r.number made rs
-
 -- the same of notices
 
 abbrev pub is_waiting_notice_in : List Door → Pool → Notice → Bool
@@ -44,10 +39,6 @@ is_waiting_notice_in doors pool n = is_waiting_stage n.stage && is_pool pool (po
 
 abbrev pub notices_waiting_in : List Door → List Notice → Pool → List Waiting
 notices_waiting_in doors notices pool = map waiting_notice (filter (is_waiting_notice_in doors pool) notices)
-
-abbrev pub AreNoticesAscending : ℕ → ℕ → List Notice → Type 0
-AreNoticesAscending low made [] = Unit {0}
-AreNoticesAscending low made (n ∷ ns) = (low < n.number) × (n.number ≤ made) × AreNoticesAscending n.number made ns
 
 -- none is past that no rule asks for again
 abbrev pub AreKept : List Door → List Notice → Type 0
@@ -104,9 +95,10 @@ pub record Agrees (latest : ℕ) (table : ProcessTable) (doors : List Door) (tre
   pub stacks : (pool : Pool) → IsStackOf table pools.bindings latest pool (stack_in pools pool)
   pub queues : (pool : Pool) → IsQueueOf doors tree.calls list.notices pool (queue_in pools pool)
   pub spares : (p : ℕ) → spares_of pools p ≡ spares_among table p (length table.threads)
-  pub calls : AreInOrder 0 tree.made tree.calls
+  -- the numbers of calls and notices go up, and are none above those that were made
+  pub calls : IsAscending call_number 0 tree.made tree.calls
   pub call_dates : AreDated 0 latest (map date_of_call tree.calls)
-  pub notices : AreNoticesAscending 0 list.made list.notices
+  pub notices : IsAscending notice_number 0 list.made list.notices
   pub notice_dates : AreDated 0 latest (map date_of_notice list.notices)
   pub kept : AreKept doors list.notices
   -- there is a pool for each process, and one for each door
