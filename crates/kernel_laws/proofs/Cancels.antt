@@ -17,15 +17,16 @@ use Rattle.kernel_invariant.specs.Coherent.{IsCoherent}
 use Rattle.kernel_invariant.specs.Invariant.{Invariant}
 use Rattle.kernel_invariant.specs.Events.{InvocationArrow, IsCancelled, IsLeft}
 use Rattle.kernel_invariant.specs.Events.InvocationArrow.{stays, begins, cancels, ends, leaves}
-use Rattle.kernel_laws.specs.Places.{HasEntered, answer_at, is_entered_in}
+use Rattle.run_places.specs.Places.{HasEntered, answer_at, is_entered_in}
 use Rattle.kernel_laws.specs.Once.{Enters, FailsToEnter, WasEntered}
 use Rattle.kernel_laws.specs.Cancels.{Cancels, WasLeft}
-use Rattle.kernel_laws.proofs.Known.{Known, TurnAt, invariant_before, next, turn_at}
+use Rattle.run_places.proofs.Known.{Known, TurnAt, invariant_before, next, turn_at, stays as stays_from}
 use Rattle.kernel_laws.proofs.Story.{story}
 use Rattle.kernel_laws.proofs.Readers.{EnteredAt, entered}
-use Rattle.kernel_laws.proofs.Once.{entered_once, given_enters, invocations}
-use Rattle.kernel_laws.proofs.Ends.{stays as stays_from}
+use Rattle.kernel_laws.proofs.Once.{entered_once, given_enters, at_entered}
+use Rattle.run_places.proofs.Invocations.{invocations}
 use Rattle.kernel_laws.proofs.Left.{IsFlag, left_flags}
+use Rattle.run_places.proofs.Rows.{some_stage}
 
 told_now : (m : State) (t : ℕ) → (step m t (Some request.TestCancel)).answer ≡ answer.Cancel (is_cancelled (invocation_of m t))
 unfolding step
@@ -50,14 +51,8 @@ no_flag m h none no_notice u (Some v) e f = by v.item refl
     by (item.Notice n) g =
         absurd (cc (sym (ap notice_in (no_notice n)) ∙ coherent.notices_entered.notice_entered_back n u (ap item_in e ∙ ap (λ (i : Item). Some i) g)))
 
-at_entered : (u : ℕ) (o : Option Call) → stage_in o ≡ Some (stage.Entered (tid u)) → is_entered_in o ≡ true
-at_entered u o e = grind arith
-
 at_given : (u : ℕ) (o : Option Call) (r : Call) → o ≡ Some r → r.stage ≡ stage.Given (tid u) → is_entered_in o ≡ false
 at_given u o r e f = grind arith
-
-some_stage : (s r : CallStage) → Some s ≡ Some r → s ≡ r
-some_stage s r e = cc
 
 some_item : (a b : Item) → Some a ≡ Some b → a ≡ b
 some_item a b e = cc
@@ -204,7 +199,7 @@ module _ (m : State) (xs : List Turn) (k : Known m xs) where
 
   where_left : (i u : ℕ) → i ≤ length xs → WasLeft m xs i u → is_cancelled (invocation_of (state_at m xs i) u) ≡ true
   where_left i u l w =
-      stays_from m xs k (IsFlagged u w.call.number) (w.at + 1)
+      stays_from m xs (IsFlagged u w.call.number) (w.at + 1)
       (λ j x b e ih y. flag_stays w.at j u w.call.number x _ _ (omega (arith, w.earlier, l)) w.entered (omega (arith, b)) e refl
       (invocations m xs k j u x e) ih y)
       i

@@ -15,25 +15,26 @@ use Rattle.written_kernel.specs.Words.{State, Turn, door_named, is_valid, make_c
 use Rattle.written_kernel.proofs.Runs.{state_at_all}
 use Rattle.kernel_invariant.specs.Records.{item_in, record_of, stage_in, stage_of}
 use Rattle.kernel_invariant.specs.Core.{caller_number, has_arguments, is_outside, is_underway, live_in, underway_in}
-use Rattle.kernel_invariant.specs.Arrows.{EndsNow, own_table}
+use Rattle.kernel_invariant.specs.Arrows.{EndsNow, has_own_room, own_table}
 use Rattle.kernel_invariant.specs.Arrows.EndsBy.{door_invalid as invalid, server_full as full, interrupted as by_caller, server_ended as by_server}
-use Rattle.kernel_laws.specs.Places.{IsCollect, IsRefusedBy, ReturnsCall, answer_at, process_at}
+use Rattle.run_places.specs.Places.{IsCollect, IsRefusedBy, ReturnsCall, answer_at, process_at}
 use Rattle.kernel_laws.specs.Once.{FailsToEnter}
-use Rattle.kernel_laws.specs.Cause.{AreOfOneRow, Cause, HasCause, IsCall, IsCaused, Leaves, MakesOne, TellsSame, has_room_at}
+use Rattle.kernel_laws.specs.Cause.{AreOfOneKind, Cause, HasCause, HasRoomAt, HasTooFewAt, IsCall, IsCaused, Leaves, MakesOne, TellsSame}
 use Rattle.kernel_laws.specs.Cause.Cause.{results, caller_full, server_full, door_invalid, interrupted, server_ended}
-use Rattle.kernel_laws.proofs.Refusals.{FailsIn, call_fails, entry_tells, none_of, refusal_at, refusal_of_table, table_of_refusal}
-use Rattle.kernel_laws.proofs.Refusals.FailsIn.{by_test}
-use Rattle.kernel_laws.proofs.Changes.{gone_by_rank, gone_rank, gone_stage, over_rank, rank_in, underway_rank}
-use Rattle.kernel_laws.proofs.Changes.Change.{made, given, entered, returned, ended as has_ended, broken_off, left, results_collected, nothing_collected, error_collected}
-use Rattle.kernel_laws.proofs.Done.{doors_interrupted_at, is_leaving_turn, none_ends_at}
-use Rattle.kernel_laws.proofs.Validity.{step_interrupts, step_loses, step_loses_over}
+use Rattle.run_places.proofs.Refusals.{FailsIn, call_fails, entry_tells, none_of, refusal_at, refusal_of_table, table_of_refusal}
+use Rattle.run_places.proofs.Refusals.FailsIn.{by_test}
+use Rattle.run_places.proofs.Counts.{room_is, too_few_is}
+use Rattle.run_places.proofs.Changes.{gone_by_rank, gone_rank, gone_stage, over_rank, rank_in, underway_rank}
+use Rattle.run_places.proofs.Changes.Change.{made, given, entered, returned, ended as has_ended, broken_off, left, results_collected, nothing_collected, error_collected}
+use Rattle.run_places.proofs.Done.{doors_interrupted_at, is_leaving_turn, none_ends_at}
+use Rattle.run_places.proofs.Validity.{step_interrupts, step_loses, step_loses_over}
 use Rattle.kernel_laws.proofs.Endings.{interrupt_ends_none}
 use Rattle.kernel_laws.proofs.Ends.{keeps_at}
-use Rattle.kernel_laws.proofs.Known.{ChangeAt, Known, TurnAt, invariant_before, never_falls, next, never_less, rises_once, same_turn, stays_or_changes, turn_at}
+use Rattle.run_places.proofs.Known.{ChangeAt, Known, TurnAt, invariant_before, never_falls, next, never_less, rises_once, same_turn, stays_or_changes, turn_at}
 use Rattle.kernel_laws.proofs.Story.{story}
-use Rattle.kernel_laws.proofs.Rows.{Breaks, GoesOn, HandsOver, is_ended_call, is_ended_in}
-use Rattle.kernel_laws.proofs.Rows.Breaks.{by_cause, by_interrupt}
-use Rattle.kernel_laws.proofs.Rows.HandsOver.{results as hands_results, nothing as hands_nothing, error as hands_error}
+use Rattle.run_places.proofs.Rows.{Breaks, GoesOn, HandsOver, is_ended_call, is_ended_in, some_call}
+use Rattle.run_places.proofs.Rows.Breaks.{by_cause, by_interrupt}
+use Rattle.run_places.proofs.Rows.HandsOver.{results as hands_results, nothing as hands_nothing, error as hands_error}
 use Rattle.kernel_laws.proofs.Readers.{AnsweredRowAt, EndedAt, ReturnedAt, ended, number_of, same_record, table_at}
 use Rattle.kernel_laws.proofs.Once.{accept_fails, answered_by, caller_waits, collects, returned_before}
 use Rattle.kernel_laws.proofs.Match.{goes_on, made_by, returns_call, same_objects, same_results}
@@ -133,9 +134,6 @@ not_live o r s c e h d = go (is_live r.stage) refl
 not_calling : (s : ThreadState) (c : ℕ) → s ≡ is.Calling c → s ≡ is.Done → ⊥
 not_calling s c e f = cc
 
-some_call : (a b : Call) → Some a ≡ Some b → a ≡ b
-some_call a b e = cc
-
 not_gone : (o : Option Call) → live_in o ≡ true → stage_in o ≡ Some stage.Gone → ⊥
 not_gone o e f = grind arith
 
@@ -209,13 +207,11 @@ module _ (m : State) (xs : List Turn) (k : Known m xs) where
   -- whether there is room for what a call was returned with is told once
   one_room :
       (c e n : ℕ) (z w v : Turn) (back : ReturnsCall m xs e w c) (more : ReturnsCall m xs e v c) →
-      has_room_at m xs n z.thread back.objects ≡ true → has_room_at m xs n z.thread more.objects ≡ false → ⊥
+      HasRoomAt m xs n z.thread back.objects → HasTooFewAt m xs n z.thread more.objects → ⊥
   one_room c e n z w v back more f g =
-      absurd
-      (cc
-      (sym f
-      ∙ ap (λ (os : List Obj). has_room_at m xs n z.thread os) (same_handed _ back.bytes more.bytes back.objects more.objects back.is_returned more.is_returned)
-      ∙ g))
+      let same : length back.objects ≡ length more.objects =
+      ap (λ (os : List Obj). length os) (same_handed _ back.bytes more.bytes back.objects more.objects back.is_returned more.is_returned) in
+      absurd (omega (arith, f, g, same))
 
   same_asked : (e : ℕ) (w v : Turn) → slice_get xs e ≡ Some w → slice_get xs e ≡ Some v → w.request ≡ v.request
   same_asked e w v f g = ap (λ (y : Turn). y.request) (same_turn xs e w v f g)
@@ -230,7 +226,7 @@ module _ (m : State) (xs : List Turn) (k : Known m xs) where
 
   exact :
       (c e n : ℕ) (z : Turn) (a b : Answer) (p : Cause m xs c e n z a) (q : Cause m xs c e n z b) →
-      TellsSame a b × AreOfOneRow m xs c e n z a b p q
+      TellsSame a b × AreOfOneKind m xs c e n z a b p q
   exact c e n z a b (results r w fds f back room) (results s v fds' g more l) =
       ((same_bytes, ap (λ l. nat_lt r.rsize (length l)) same_bytes ∙ ap (λ (y : Call). nat_lt y.rsize (length more.bytes)) (same_record _ r s f g)), tt)
     where
@@ -396,9 +392,9 @@ module _ (m : State) (xs : List Turn) (k : Known m xs) where
 
   abbrev HandsBackAt : ℕ → Turn → Call → List ℕ → List Obj → Type 0
   HandsBackAt i z r bytes objects =
-      ((has_room_at m xs i z.thread objects ≡ true)
+      ((has_own_room (state_at m xs i) z.thread objects ≡ true)
       × (answer_at m xs i z ≡ answer.Results bytes (new_descriptors (table_at m xs i z) objects) (nat_lt r.rsize (length bytes))))
-      ⊎ ((has_room_at m xs i z.thread objects ≡ false) × (answer_at m xs i z ≡ answer.Failure EMFILE))
+      ⊎ ((has_own_room (state_at m xs i) z.thread objects ≡ false) × (answer_at m xs i z ≡ answer.Failure EMFILE))
 
   -- with what it answers where there is room, and where there is none
   caused_by_return :
@@ -430,8 +426,8 @@ module _ (m : State) (xs : List Turn) (k : Known m xs) where
       same : objects ≡ passed
       same = same_objects bytes b.row.bytes objects passed r.stage s first.stage
 
-      room : (d : Bool) → has_room_at m xs i z.thread objects ≡ d → has_room_at m xs i z.thread back.objects ≡ d
-      room d e = ap (λ (os : List Obj). has_room_at m xs i z.thread os) (sym same) ∙ e
+      room : (d : Bool) → has_own_room (state_at m xs i) z.thread objects ≡ d → has_own_room (state_at m xs i) z.thread back.objects ≡ d
+      room d e = ap (λ (os : List Obj). has_own_room (state_at m xs i) z.thread os) (sym same) ∙ e
 
       cause : HandsBackAt i z r bytes objects → Cause m xs c b.at i z (answer_at m xs i z)
       cause (inl g) =
@@ -439,9 +435,9 @@ module _ (m : State) (xs : List Turn) (k : Known m xs) where
           (same_told b.row.bytes bytes (new_descriptors (table_at m xs i z) objects) b.row.call.rsize r.rsize
           (sym (same_results bytes b.row.bytes objects passed r.stage s first.stage))
           (sym first.rsize) ∙ sym g.1)
-          (results b.row.call b.turn (new_descriptors (table_at m xs i z) objects) (b.was ∙ b.row.before) back (room true g.0))
+          (results b.row.call b.turn (new_descriptors (table_at m xs i z) objects) (b.was ∙ b.row.before) back (room_is (state_at m xs i) _ back.objects (room true g.0)))
       cause (inr g) =
-          subst (Cause m xs c b.at i z) (sym g.1) (caller_full b.row.call b.turn (b.was ∙ b.row.before) back (room false g.0))
+          subst (Cause m xs c b.at i z) (sym g.1) (caller_full b.row.call b.turn (b.was ∙ b.row.before) back (too_few_is (state_at m xs i) _ back.objects (room false g.0)))
 
   cause_of_end :
       (c e n : ℕ) (w z : Turn) (r : Call) (x : Errno) → slice_get xs e ≡ Some w → record_of (state_at m xs e) c ≡ Some r →
@@ -449,7 +445,7 @@ module _ (m : State) (xs : List Turn) (k : Known m xs) where
       Cause m xs c e n z (answer.Failure x)
   cause_of_end c e n w z r x h f (by_cause y (invalid q v b d)) = door_invalid r f q v b d
   cause_of_end c e n w z r x h f (by_cause y (full q v g d a)) =
-      server_full r w h q f g (a ∙ ap (λ (j : ℕ). answer.EnterFailed j) (number_of (state_at m xs e) c r f)) d
+      server_full r w h q f g (a ∙ ap (λ (j : ℕ). answer.EnterFailed j) (number_of (state_at m xs e) c r f)) (too_few_is (state_at m xs e) _ r.objects d)
   cause_of_end c e n w z r x h f (by_cause y (by_caller q v d)) = interrupted r w h f (waiting_underway r.stage v) q d
   cause_of_end c e n w z r x h f (by_cause y (by_server u s v d)) = server_ended r u f s v d
   cause_of_end c e n w z r x h f (by_interrupt u q s d) = interrupted r w h f (ap is_underway s) q d

@@ -1,6 +1,6 @@
 -- A door comes only by a Create, of the process of its thread, and stays the same.
-use Rattle.std.specs.Prelude.{ℕ, ◌≡◌, ◌+◌, ◌<◌, ◌≤◌, ◌⊎◌, List, Option, Some, None, zero, suc, length, slice_get, take}
-use Rattle.std.proofs.Common.{refl, sym, ap, subst, ◌∙◌, add-one, inl, inr}
+use Rattle.std.specs.Prelude.{ℕ, ◌≡◌, ◌+◌, ◌≤◌, List, Option, Some, None, zero, suc, length, slice_get, take}
+use Rattle.std.proofs.Common.{refl, sym, ap, subst, ◌∙◌, add-one}
 use native.Mathlib.Omega.{arith}
 use Rattle.written_kernel.specs.Types.{Door, Fd, Request}
 use Rattle.dk_base.specs.declared.request.Request.TheVariants as request
@@ -10,12 +10,14 @@ use Rattle.written_kernel.proofs.Runs.{process_of-state_after}
 use Rattle.kernel_invariant.specs.Records.{door_at, door_of_call, owner_in, record_of}
 use Rattle.kernel_invariant.specs.Events.{DoorArrow, IsCreated, IsSameDoor}
 use Rattle.kernel_invariant.specs.Events.DoorArrow.{none, kept, created}
-use Rattle.kernel_laws.specs.Places.{IsOf, answer_at}
+use Rattle.run_places.specs.Places.{IsKept, IsOf, answer_at}
 use Rattle.kernel_laws.specs.Once.{Enters}
-use Rattle.kernel_laws.specs.MadeByCreator.{IsCreate, IsKept, MadeByCreator, WasMade}
-use Rattle.kernel_laws.proofs.Known.{Known, TurnAt, invariant_after, next, split, turn_at}
-use Rattle.kernel_laws.proofs.Once.{accepts, entered_by}
-use Rattle.kernel_laws.proofs.Match.{Shows, is_of, shows}
+use Rattle.kernel_laws.specs.MadeByCreator.{IsCreate, MadeByCreator, WasMade}
+use Rattle.run_places.proofs.Known.{Known, TurnAt, invariant_after, turn_at}
+use Rattle.kernel_laws.proofs.Once.{accepts}
+use Rattle.run_places.proofs.Invocations.{entered_by}
+use Rattle.kernel_laws.proofs.Match.{Shows, shows}
+use Rattle.run_places.proofs.DoorPlaces.{arrow_at, is_of, keeps_door, keeps_ever}
 use Rattle.kernel_laws.proofs.Readers.{EnteredRowAt, table_at}
 use Rattle.kernel_records.specs.Words.{new_descriptors}
 
@@ -27,14 +29,6 @@ new_door m t q o p x (kept d y s) e f = absurd (cc)
 new_door m t q o p x (created d h) e f =
     let same : d ≡ x = cc in
     subst (IsCreated m t q) same h
-
-old_door :
-    (m : State) (t : ℕ) (q : Option Request) (o p : Option Door) (x : Door) → DoorArrow m t q o p → o ≡ Some x → IsKept x p
-old_door m t q o p x none e = absurd (cc)
-old_door m t q o p x (kept d y s) e =
-    let same : d ≡ x = cc in
-    record { door = y; there = refl; same = subst (λ (z : Door). IsSameDoor z y) same s }
-old_door m t q o p x (created d h) e = absurd (cc)
 
 same_door : (o : Option Door) (d x : Door) → o ≡ Some d → o ≡ Some x → d ≡ x
 same_door o d x e f = cc
@@ -54,71 +48,15 @@ create_same m xs i d x y z s c =
       number = s.number ∙ c.number;
     }
 
-same_itself : (d : Door) → IsSameDoor d d
-same_itself d = record { number = refl; owner = refl; entry = refl; cookie = refl; attrs = refl }
-
-kept_here : (d : Door) (o : Option Door) → o ≡ Some d → IsKept d o
-kept_here d o e = record { door = d; there = e; same = same_itself d }
-
-kept_then : (d : Door) (o p : Option Door) → IsKept d o → ((y : Door) → o ≡ Some y → IsKept y p) → IsKept d p
-kept_then d o p h f = go (f h.door h.there)
-  where
-    go : IsKept h.door p → IsKept d p
-    go g =
-        record {
-          door = g.door;
-          there = g.there;
-          same =
-              record {
-                number = g.same.number ∙ h.same.number;
-                owner = g.same.owner ∙ h.same.owner;
-                entry = g.same.entry ∙ h.same.entry;
-                cookie = g.same.cookie ∙ h.same.cookie;
-                attrs = g.same.attrs ∙ h.same.attrs;
-              };
-        }
-
 module _ (m : State) (xs : List Turn) (k : Known m xs) where
-  arrow_at :
-      (i d : ℕ) (x : Turn) → slice_get xs i ≡ Some x →
-      DoorArrow (state_at m xs i) x.thread x.request (door_of (state_at m xs i) d) (door_of (state_at m xs (i + 1)) d)
-  arrow_at i d x e =
-      subst (λ n. DoorArrow (state_at m xs i) x.thread x.request (door_of (state_at m xs i) d) (door_of n d)) (sym (next m xs k i x e))
-      ((k.keeps i x e).doors d)
-
-  made :
+  pub made :
       (i d : ℕ) (x : Turn) (door : Door) → slice_get xs i ≡ Some x → door_of (state_at m xs i) d ≡ None →
       door_of (state_at m xs (i + 1)) d ≡ Some door → IsCreate m xs i d x door
   made i d x door e b a =
       record {
-        created = new_door (state_at m xs i) x.thread x.request _ _ door (arrow_at i d x e) b a;
+        created = new_door (state_at m xs i) x.thread x.request _ _ door (arrow_at m xs k i d x e) b a;
         number = (invariant_after m xs k i x e).consistent.coherent.doors.door_number d door a;
       }
-
-  pub keeps_door :
-      (i d : ℕ) (door : Door) → i < length xs → door_of (state_at m xs i) d ≡ Some door →
-      IsKept door (door_of (state_at m xs (i + 1)) d)
-  keeps_door i d door l e = go (turn_at xs i l)
-    where
-      go : TurnAt xs i → IsKept door (door_of (state_at m xs (i + 1)) d)
-      go t = old_door (state_at m xs i) t.turn.thread t.turn.request _ _ door (arrow_at i d t.turn t.found) e
-
-  pub keeps_ever :
-      (i j d : ℕ) (door : Door) → i ≤ j → j ≤ length xs → door_of (state_at m xs i) d ≡ Some door →
-      IsKept door (door_of (state_at m xs j) d)
-  keeps_ever i zero d door l g e =
-      let same : i ≡ 0 = omega (arith, l) in
-      kept_here door _ (subst (λ n. door_of (state_at m xs n) d ≡ Some door) same e)
-  keeps_ever i (suc j) d door l g e =
-      go (split i (suc j) l) (λ (h : i ≤ j). keeps_ever i j d door h (omega (arith, g)) e)
-    where
-      go :
-          (i < suc j) ⊎ (i ≡ suc j) → (i ≤ j → IsKept door (door_of (state_at m xs j) d)) →
-          IsKept door (door_of (state_at m xs (suc j)) d)
-      go (inl h) f =
-          subst (λ n. IsKept door (door_of (state_at m xs n) d)) (add-one j)
-          (kept_then door _ _ (f (omega (arith, h))) (λ y q. keeps_door j d y (omega (arith, g)) q))
-      go (inr h) f = kept_here door _ (subst (λ n. door_of (state_at m xs n) d ≡ Some door) h e)
 
   made_later : (i d : ℕ) (y z : Door) → IsSameDoor y z → WasMade m xs i d y → WasMade m xs (i + 1) d z
   made_later i d y z s w =
@@ -150,7 +88,7 @@ module _ (m : State) (xs : List Turn) (k : Known m xs) where
           ((y : Door) → door_of (state_at m xs i) d ≡ Some y → WasMade m xs i d y) → TurnAt xs i → WasMade m xs (i + 1) d door
       go None f h t =
           record { at = i; turn = t.turn; earlier = omega arith; found = t.found; create = made i d t.turn door t.found f after; none_before = f; there_after = record { made = door; there = after } }
-      go (Some y) f h t = before y (keeps_door i d y (omega arith) f) (h y f)
+      go (Some y) f h t = before y (keeps_door m xs k i d y t.turn t.found f) (h y f)
 
   entered_there :
       (i c entry cookie : ℕ) (x : Turn) (bytes : List ℕ) (fds : List Fd) → slice_get xs i ≡ Some x →
@@ -180,7 +118,7 @@ module _ (m : State) (xs : List Turn) (k : Known m xs) where
         none_at_first = k.no_door;
         made = made;
         was_made = was_made;
-        kept = keeps_ever;
+        kept = keeps_ever m xs k;
         same_process = λ i t. process_of-state_after m (take i xs) t;
         entered_there = entered_there;
       }

@@ -5,77 +5,36 @@ use Rattle.std.specs.Option.{option_map}
 use Rattle.std.proofs.Common.{refl, sym, ap, subst, ◌∙◌, inl, inr}
 use native.Mathlib.Omega.{arith}
 use Rattle.std.proofs.lemmas.Bool.Decides.{nat_tests}
-use Rattle.written_kernel.specs.Types.{Call, Errno, Item, Name, Notice, PathId, Pid, Process, Request, Thread, ThreadState, Tid}
+use Rattle.written_kernel.specs.Types.{Item, Pid, Process, Request, Thread, ThreadState, Tid}
 use Rattle.dk_base.specs.ByNumber.{at_number}
 use Rattle.dk_base.specs.declared.object.Item.TheVariants as item
 use Rattle.dk_base.specs.declared.request.Request.TheVariants as request
 use Rattle.kernel_records.specs.declared.record.ThreadState.TheVariants as is
-use Rattle.kernel_records.specs.Words.{Leaving, change_thread, deserted_in, ended_process, ended_thread, idle_thread, interrupted_where, interruption, is_active, is_given_as, is_given_notice_as, is_last, is_live_in, is_served_by, keeps_alive, left_thread_of, process_end, process_in, revocation, state_in, thread_at_state, thread_end, thread_in_invocation, thread_outside}
-use Rattle.written_kernel.specs.Words.{State, accept_call, accept_notice, act, await, await_name, begin_call, door_at, effect, exit, fail_begin, find_call, find_notice, give_one, go_on, has_invalid_door, has_room, is_live_process, kill, leave, leave_process, leave_thread, name_of, now, process_of, refusal_of, return_parked, return_unbound, settle, state_of, step, thread_of, unless_refused, with_event_counted}
+use Rattle.kernel_records.specs.Words.{Leaving, change_thread, deserted_in, ended_process, ended_thread, idle_thread, interrupted_where, interruption, is_active, is_last, is_live_in, is_served_by, keeps_alive, left_thread_of, process_end, process_in, revocation, state_in, thread_at_state, thread_end, thread_in_invocation, thread_outside}
+use Rattle.written_kernel.specs.Words.{ActResult, State, act, door_at, exit, give_one, is_live_process, kill, leave, leave_process, leave_thread, now, process_of, settle, state_of, step, thread_of, with_event_counted}
 use Rattle.kernel_records.proofs.Lists.{at_number-map, at_number-suc}
 use Rattle.written_kernel.proofs.Settling.{settle-all}
 use Rattle.written_kernel.proofs.Threads.{at_number-end_process, processes-change_thread, thread_at-end_process}
+use Rattle.written_kernel.proofs.Moves.{Moves, act_moves}
+use Rattle.written_kernel.proofs.Moves.IsLeaving.{interrupts as interrupts_one, exits as exits_one}
+use Rattle.written_kernel.proofs.Moves.IsEnding.{kills as kills_one, exits_last}
 use Rattle.kernel_invariant.specs.Arrows.{EndsNow}
 use Rattle.kernel_invariant.specs.Core.{ended_in, number_in}
 use Rattle.kernel_invariant.specs.Invariant.{Invariant}
 use Rattle.kernel_laws.specs.Ends.{IsLast, is_ended}
-use Rattle.kernel_laws.proofs.Done.{effect_none, go_on_none, settle_none}
+use Rattle.run_places.proofs.Done.{move_none, settle_none}
 use Rattle.kernel_laws.proofs.Left.{leave_ends}
 use Rattle.kernel_laws.proofs.Parked.{IsThread, is_thread}
-use Rattle.kernel_laws.proofs.Passed.{Found, any_found, found_any}
+use Rattle.run_places.proofs.Passed.{Found, any_found, found_any}
+use Rattle.run_places.proofs.ReturnRefusals.{not_both}
 
 -- the processes after an act
 
 abbrev SameProcesses : State → State → Type 0
 SameProcesses m n = n.process_table.processes ≡ m.process_table.processes
 
-abbrev ends_processes : Request → Bool
-ends_processes (request.Kill process) = true
-ends_processes request.Exit = true
-ends_processes _ = false
-
 changed : (m : State) (t : ℕ) (change : Thread → Thread) → (change_thread m.process_table t change).processes ≡ m.process_table.processes
 changed m t change = processes-change_thread m.process_table t change
-
-await_same : (m : State) (t : ℕ) (path : PathId) → SameProcesses m (await m t path).state
-await_same m t path = go (name_of m path)
-  where
-    go : (o : Option Name) → (await_name m t path o).state.process_table.processes ≡ m.process_table.processes
-    go (Some n) = refl
-    go None = changed m t (thread_at_state (is.Awaiting path))
-
-effect_same : (m : State) (t p : ℕ) (r : Request) → ends_processes r ≡ false → SameProcesses m (effect m t p r).state
-effect_same m t p (request.Call fd bytes pass rsize) e = changed m t _
-effect_same m t p (request.Return bytes pass) e = go (has_invalid_door m t)
-  where
-    go : (b : Bool) → (if b then return_unbound m t p bytes pass else return_parked m t p bytes pass).state.process_table.processes ≡ m.process_table.processes
-    go true = changed m t thread_outside
-    go false = changed m t (idle_thread (now m))
-effect_same m t p (request.Await path) e = await_same m t path
-effect_same m t p (request.Kill process) e = absurd (cc e)
-effect_same m t p request.Exit e = absurd (cc e)
-effect_same m t p _ e = refl
-
-accept_same : (m : State) (t p c : ℕ) (o : Option Call) → SameProcesses m (accept_call m t p c o).state
-accept_same m t p c None = refl
-accept_same m t p c (Some r) = go (has_room m p r.objects)
-  where
-    go : (b : Bool) → (if b then begin_call m t p c r else fail_begin m t c r).state.process_table.processes ≡ m.process_table.processes
-    go true = changed m t (thread_in_invocation (item.Call c))
-    go false = changed m t (idle_thread (now m))
-
-notice_same : (m : State) (t c : ℕ) (o : Option Notice) → SameProcesses m (accept_notice m t c o).state
-notice_same m t c None = refl
-notice_same m t c (Some n) = changed m t (thread_in_invocation (item.Notice c))
-
-go_on_same : (m : State) (t p : ℕ) (s : ThreadState) → SameProcesses m (go_on m t p s).state
-go_on_same m t p (is.Given (item.Call c)) = accept_same m t p c (find_call m (is_given_as c t))
-go_on_same m t p (is.Given (item.Notice n)) = notice_same m t n (find_notice m (is_given_notice_as n t))
-go_on_same m t p (is.Calling c) = changed m t (thread_at_state is.Running)
-go_on_same m t p (is.Awaiting path) = changed m t (thread_at_state is.Running)
-go_on_same m t p (is.Working op input) = changed m t (thread_at_state is.Running)
-go_on_same m t p is.FailedReturn = changed m t (thread_at_state is.Running)
-go_on_same m t p _ = refl
 
 give_same : (m : State) (i : Item) (u : ℕ) → SameProcesses m (give_one m i u)
 give_same m (item.Call c) u = changed m u _
@@ -83,10 +42,13 @@ give_same m (item.Notice n) u = changed m u _
 
 pub settle_same : (before m : State) → (settle before m).process_table.processes ≡ m.process_table.processes
 settle_same before m =
-    settle-all (λ n. n.process_table.processes ≡ m.process_table.processes) before (λ n d l e. e)
-    (λ n t l e. changed n t (thread_at_state is.FailedReturn) ∙ e)
-    (λ n w x p e. give_same n w.item x.thread.0 ∙ e)
-    (λ n t r e. changed n t (thread_at_state is.Running) ∙ e)
+    settle-all (λ n. n.process_table.processes ≡ m.process_table.processes) before
+    (record {
+      makes = λ n d l e. e;
+      fails = λ n t l e. changed n t (thread_at_state is.FailedReturn) ∙ e;
+      gives = λ n w x p e. give_same n w.item x.thread.0 ∙ e;
+      starts = λ n t r e. changed n t (thread_at_state is.Running) ∙ e;
+    })
     m refl
 
 -- a process that ends
@@ -117,9 +79,6 @@ pub data EndsOne (m : State) (t p : ℕ) : Option Request → Type 0 where
   kills : (process : Pid) → process.0 ≡ p → EndsOne m t p (Some (request.Kill process))
   exits : process_of m t ≡ p → is_last m.process_table t p ≡ true → EndsOne m t p (Some request.Exit)
 
-not_both : (b : Bool) → b ≡ true → b ≡ false → ⊥
-not_both b e f = cc
-
 module _ (m : State) (t p : ℕ) (lives : is_ended m p ≡ false) where
   same_ends : (n : State) → n.process_table.processes ≡ m.process_table.processes → IsEnded n p → ⊥
   same_ends n e f = not_both (is_ended n p) f (ap (λ ps. ended_in (at_number ps p)) e ∙ lives)
@@ -131,35 +90,25 @@ module _ (m : State) (t p : ℕ) (lives : is_ended m p ≡ false) where
       go true g = grind (arith, nat_tests)
       go false g = absurd (not_both (is_ended (leave_process m e) p) f (other_stays m e p g ∙ lives))
 
-  effect_ends_one : (r : Request) → IsEnded (effect m t (process_of m t) r).state p → EndsOne m t p (Some r)
-  effect_ends_one (request.Kill process) f = go (is_live_process m process.0) f
-    where
-      go : (b : Bool) → IsEnded (if b then leave_process m process.0 else m) p → EndsOne m t p (Some (request.Kill process))
-      go true g = kills process (ends_it process.0 g)
-      go false g = absurd (same_ends m refl g)
-  effect_ends_one request.Exit f = go (is_last m.process_table t (process_of m t)) refl f
-    where
-      go :
-          (b : Bool) → is_last m.process_table t (process_of m t) ≡ b →
-          IsEnded (if b then leave_process m (process_of m t) else leave_thread m t) p → EndsOne m t p (Some request.Exit)
-      go true l g =
-          let same : process_of m t ≡ p = ends_it (process_of m t) g in
-          exits same (ap (is_last m.process_table t) (sym same) ∙ l)
-      go false l g = absurd (same_ends (leave_thread m t) refl g)
-  effect_ends_one r f = absurd (same_ends (effect m t (process_of m t) r).state (effect_same m t (process_of m t) r refl) f)
-
-  act_ends_one : (q : Option Request) → IsEnded (act m t q).state p → EndsOne m t p q
-  act_ends_one None f = absurd (same_ends (act m t None).state (go_on_same m t (process_of m t) (state_of m t)) f)
-  act_ends_one (Some r) f = go (refusal_of m t (process_of m t) r) f
-    where
-      go : (o : Option Errno) → IsEnded (unless_refused m o (effect m t (process_of m t) r)).state p → EndsOne m t p (Some r)
-      go None g = effect_ends_one r g
-      go (Some e) g = absurd (same_ends m refl g)
+  move_ends_one : (q : Option Request) (a : ActResult) → Moves m t q a → IsEnded a.state p → EndsOne m t p q
+  move_ends_one q a (Moves.turns s x _ _) f = absurd (same_ends a.state (changed m t _) f)
+  move_ends_one q a (Moves.calls fd bytes pass rsize _) f = absurd (same_ends a.state (changed m t _) f)
+  move_ends_one q a (Moves.returns bytes pass _ _) f = absurd (same_ends a.state (changed m t (idle_thread (now m))) f)
+  move_ends_one q a (Moves.returns_unbound bytes pass _ _) f = absurd (same_ends a.state (changed m t thread_outside) f)
+  move_ends_one q a (Moves.enters r _ _) f = absurd (same_ends a.state (changed m t (thread_in_invocation (item.Call r.number))) f)
+  move_ends_one q a (Moves.fails r _ _) f = absurd (same_ends a.state (changed m t (idle_thread (now m))) f)
+  move_ends_one q a (Moves.enters_notice n _) f = absurd (same_ends a.state (changed m t (thread_in_invocation (item.Notice n.number))) f)
+  move_ends_one q a (Moves.collects c _) f = absurd (same_ends a.state (changed m t (thread_at_state is.Running)) f)
+  move_ends_one q a (Moves.ends r e (kills_one process _)) f = kills process (ends_it process.0 f)
+  move_ends_one q a (Moves.ends r e (exits_last l)) f =
+      let same : process_of m t ≡ p = ends_it (process_of m t) f in
+      exits same (ap (is_last m.process_table t) (sym same) ∙ l)
+  move_ends_one q a _ f = absurd (same_ends a.state refl f)
 
   pub step_ends_one : (q : Option Request) → IsEnded (step m t q).state p → EndsOne m t p q
   unfolding step
   step_ends_one q f =
-      act_ends_one q (sym (ap (λ ps. ended_in (at_number ps p)) (settle_same m (act m t q).state)) ∙ f)
+      move_ends_one q _ (act_moves m t q) (sym (ap (λ ps. ended_in (at_number ps p)) (settle_same m (act m t q).state)) ∙ f)
 
 -- and each of them does
 
@@ -296,35 +245,12 @@ module _ (m : State) (h : Invariant m) (t u : ℕ) (before : state_of m u ≡ is
       let its : process_of m u ≡ p = grind (arith, nat_tests, leave_ends m (process_end m.process_table m.doors p) u h (sym (state_left p) ∙ d) before) in
       with_process (subst (λ j. is_ended (leave_process m p) j ≡ true) (sym its) (process_ended m p (subst (λ j. is_some (at_number m.process_table.processes j) ≡ true) its (process_there m h u before))))
 
-  effect_ends_thread :
-      (r : Request) → state_of (effect m t (process_of m t) r).state u ≡ is.Done → EndsThread m t u (effect m t (process_of m t) r).state (Some r)
-  effect_ends_thread (request.Revoke fd) d = absurd (cc (leave_ends m (revocation (door_at m (process_of m t) fd)) u h d before))
-  effect_ends_thread (request.Interrupt thread) d = absurd (cc (leave_ends m (interruption thread.0) u h d before))
-  effect_ends_thread (request.Kill process) d = go (is_live_process m process.0) d
-    where
-      go :
-          (b : Bool) → state_of (if b then leave_process m process.0 else m) u ≡ is.Done →
-          EndsThread m t u (if b then leave_process m process.0 else m) (Some (request.Kill process))
-      go true e = process_ends process.0 (Some (request.Kill process)) e
-      go false e = absurd (before e)
-  effect_ends_thread request.Exit d = go (is_last m.process_table t (process_of m t)) d
-    where
-      go :
-          (b : Bool) → state_of (if b then leave_process m (process_of m t) else leave_thread m t) u ≡ is.Done →
-          EndsThread m t u (if b then leave_process m (process_of m t) else leave_thread m t) (Some request.Exit)
-      go true e = process_ends (process_of m t) (Some request.Exit) e
-      go false e = exits (grind (arith, nat_tests, leave_ends m (thread_end t) u h e before))
-  effect_ends_thread r d = absurd (before ((effect_none m t (process_of m t) r refl).done u d))
-
-  act_ends_thread : (q : Option Request) → state_of (act m t q).state u ≡ is.Done → EndsThread m t u (act m t q).state q
-  act_ends_thread None d = absurd (before ((go_on_none m t (process_of m t) (state_of m t)).done u d))
-  act_ends_thread (Some r) d = go (refusal_of m t (process_of m t) r) d
-    where
-      go :
-          (o : Option Errno) → state_of (unless_refused m o (effect m t (process_of m t) r)).state u ≡ is.Done →
-          EndsThread m t u (unless_refused m o (effect m t (process_of m t) r)).state (Some r)
-      go None e = effect_ends_thread r e
-      go (Some x) e = absurd (before e)
+  move_ends_thread : (q : Option Request) (a : ActResult) → Moves m t q a → state_of a.state u ≡ is.Done → EndsThread m t u a.state q
+  move_ends_thread q a (Moves.leaves r who (interrupts_one v)) d = absurd (cc (leave_ends m (interruption v.0) u h d before))
+  move_ends_thread q a (Moves.leaves r who (exits_one l)) d = exits (grind (arith, nat_tests, leave_ends m (thread_end t) u h d before))
+  move_ends_thread q a (Moves.revokes fd f) d = absurd (cc (leave_ends m (revocation (door_at m (process_of m t) fd)) u h d before))
+  move_ends_thread q a (Moves.ends r p _) d = process_ends p q d
+  move_ends_thread q a x d = absurd (before ((move_none m t q a x refl).done u d))
 
   settled : (q : Option Request) (n : State) → EndsThread m t u n q → EndsThread m t u (settle m n) q
   settled q n (exits e) = exits e
@@ -332,7 +258,7 @@ module _ (m : State) (h : Invariant m) (t u : ℕ) (before : state_of m u ≡ is
 
 pub step_ends_thread : (m : State) → Invariant m → (t u : ℕ) (q : Option Request) → EndsNow m (step m t q).state u → EndsThread m t u (step m t q).state q
 unfolding step
-step_ends_thread m h t u q e = counted (settled m h t u e.before q (act m t q).state (act_ends_thread m h t u e.before q (settle_none m (act m t q).state u e.after)))
+step_ends_thread m h t u q e = counted (settled m h t u e.before q (act m t q).state (move_ends_thread m h t u e.before q _ (act_moves m t q) (settle_none m (act m t q).state u e.after)))
   where
     counted : {p : Option Request} {n : State} → EndsThread m t u n p → EndsThread m t u (with_event_counted n) p
     counted (exits f) = exits f

@@ -1,22 +1,22 @@
 -- What has ended stays so, and what is left of a process that has ended.
-use Rattle.std.specs.Prelude.{ℕ, ◌≡◌, ◌+◌, ◌<◌, ◌≤◌, ◌==◌, ◌⊎◌, List, Option, Bool, true, false, if◌then◌else◌, Some, None, zero, suc, find, is_some, length, not, slice_get}
+use Rattle.std.specs.Prelude.{ℕ, ◌≡◌, ◌+◌, ◌==◌, ◌⊎◌, List, Option, Bool, true, false, if◌then◌else◌, Some, None, find, is_some, not, slice_get}
 use Rattle.std.specs.Option.{option_map}
-use Rattle.std.proofs.Common.{refl, sym, ap, subst, ◌∙◌, add-one, inl, inr}
+use Rattle.std.proofs.Common.{refl, sym, ap, subst, ◌∙◌, inl, inr}
 use native.Mathlib.Omega.{arith}
 use Rattle.std.proofs.lemmas.Bool.Decides.{nat_tests}
-use Rattle.written_kernel.specs.Types.{Call, Door, Item, Name, Notice, NoticeStage, PathId, Pid, Process, Request, Thread, ThreadState}
+use Rattle.written_kernel.specs.Types.{Call, Door, Item, Notice, NoticeStage, Pid, Process, Request, Thread, ThreadState}
 use Rattle.dk_base.specs.ByNumber.{at_number}
 use Rattle.dk_base.specs.declared.object.Item.TheVariants as item
 use Rattle.dk_base.specs.declared.request.Request.TheVariants as request
 use Rattle.kernel_records.specs.declared.record.ThreadState.TheVariants as is
 use Rattle.kernel_records.specs.declared.record.CallStage.TheVariants as stage
-use Rattle.kernel_records.specs.Words.{Leaving, ProcessTable, change_thread, end_process, ended_process, ended_thread, idle_thread, interrupted_where, interruption, is_given_as, is_given_notice_as, is_last, is_live, is_live_in, is_served_by, is_valid_in, left_thread, left_thread_of, process_end, revocation, state_in, thread_at, thread_at_state, thread_end, thread_in_invocation, thread_outside, tid, with_ended}
-use Rattle.written_kernel.specs.Words.{MayEnter, MayTurn, State, Turn, accept_call, accept_notice, act, await, await_name, begin_call, door_at, door_of, effect, exit, fail_begin, find_call, find_notice, give_one, go_on, has_invalid_door, has_room, is_live_process, is_running_state, can_go_on, is_valid, kill, leave, leave_process, leave_thread, name_of, now, process_of, return_parked, return_unbound, served_by, settle, state_at, state_of, step, thread_of}
-use Rattle.written_kernel.proofs.Entries.{enter_either}
+use Rattle.kernel_records.specs.Words.{Leaving, ProcessTable, change_thread, end_process, ended_process, ended_thread, idle_thread, interrupted_where, is_last, is_live, is_live_in, is_served_by, is_valid_in, left_thread, left_thread_of, process_end, revocation, state_in, thread_at, thread_at_state, thread_end, thread_in_invocation, thread_outside, tid, with_ended}
+use Rattle.written_kernel.specs.Words.{ActResult, MayEnter, MayTurn, State, Turn, act, door_at, door_of, exit, give_one, is_running_state, can_go_on, is_valid, leave, leave_process, leave_thread, now, process_of, served_by, settle, state_at, state_of, step, thread_of}
 use Rattle.kernel_records.proofs.Lists.{at_number-map, at_number-renumbered_there, is_some-at_number}
 use Rattle.written_kernel.proofs.Steps.{process_of-step}
 use Rattle.written_kernel.proofs.Settling.{settle-all}
 use Rattle.written_kernel.proofs.Threads.{processes-change_thread}
+use Rattle.written_kernel.proofs.Moves.{Moves, act_moves}
 use Rattle.kernel_invariant.specs.Records.{item_in, notice_of, owner_in, owner_of_call, record_of, stage_in, stage_of}
 use Rattle.kernel_invariant.specs.Arrows.{EndsNow}
 use Rattle.kernel_invariant.specs.Core.{core, door_in, ended_in, is_outside, notice_in, noticed_door_in, number_in}
@@ -25,12 +25,12 @@ use Rattle.kernel_invariant.specs.Invariant.{Invariant}
 use Rattle.kernel_laws.specs.Ends.{Ends, EndsProcess, HasEnded, HasNoCall, HasNoNotice, IsLast, ServesNoNotice, ThreadEnds, is_ended}
 use Rattle.kernel_laws.specs.Ends.EndsProcess.{kills, exits as exits_process}
 use Rattle.kernel_laws.specs.Ends.ThreadEnds.{exits, with_process}
-use Rattle.kernel_laws.specs.Places.{notice_stage_of, notice_door, owner_of_notice, process_at}
+use Rattle.run_places.specs.Places.{notice_stage_of, notice_door, owner_of_notice, process_at}
 use Rattle.kernel_laws.proofs.Endings.{EndsOne, EndsThread, is_last_thread, last_is, leave_done, process_there, step_ends_one, step_ends_thread, step_exits, step_kills}
 use Rattle.kernel_laws.proofs.Endings.EndsOne.{kills as kills_one, exits as exits_last}
 use Rattle.kernel_laws.proofs.Endings.EndsThread.{exits as own_exit, with_process as process_over}
-use Rattle.kernel_laws.proofs.Held.{IsWith, Serves, serves_of}
-use Rattle.kernel_laws.proofs.Known.{Known, TurnAt, invariant_after, invariant_before, next, split, turn_at}
+use Rattle.kernel_laws.proofs.Held.{IsWith, ServesCall, serves_of}
+use Rattle.run_places.proofs.Known.{Known, invariant_after, invariant_before, next, stays}
 use Rattle.kernel_laws.proofs.Once.{caller_waits, owner_same}
 use Rattle.kernel_laws.proofs.Parked.{loses_idle, picked_idle, state_elsewhere}
 
@@ -86,16 +86,13 @@ end_keeps table p = go (at_number table.processes p) refl
 not_at_both : (s r z : ThreadState) → s ≡ r → s ≡ z → (r ≡ z → ⊥) → ⊥
 not_at_both s r z e f h = h (sym e ∙ f)
 
-some_call : (a : Call) → Some a ≡ None → ⊥
-some_call a e = cc
-
 none_served : (m : State) → Invariant m → (t : ℕ) → state_of m t ≡ is.Done → served_by m t ≡ None
 none_served m h t d = go (served_by m t) refl
   where
     coherent : IsCoherent (core m)
     coherent = h.consistent.coherent
 
-    by : (r : Call) → Serves m t r → IsWith t r.stage → ⊥
+    by : (r : Call) → ServesCall m t r → IsWith t r.stage → ⊥
     by r s (inl f) =
         not_at_both (state_of m t) _ _ (coherent.waits.given r.number t (ap stage_in s.found ∙ ap (λ z. Some z) f)) d (λ z. cc)
     by r s (inr f) =
@@ -104,7 +101,7 @@ none_served m h t d = go (served_by m t) refl
         (sym (ap item_in (coherent.servers.outside t (ap is_outside d)))
         ∙ coherent.invocations.entered r.number t (ap stage_in s.found ∙ ap (λ z. Some z) f)))
 
-    served : (r : Call) → Serves m t r → ⊥
+    served : (r : Call) → ServesCall m t r → ⊥
     served r s = by r s s.with_it
 
     go : (o : Option Call) → served_by m t ≡ o → o ≡ None
@@ -147,71 +144,26 @@ leave_process_keeps m p h =
     (leave_keeps m (process_end m.process_table m.doors p) h)
     (end_keeps (leave m (process_end m.process_table m.doors p)).process_table p)
 
-exit_keeps : (m : State) (t p : ℕ) → Invariant m → KeepsEndsIn m (exit m t p).state
-exit_keeps m t p h = go (is_last m.process_table t p)
-  where
-    go : (b : Bool) → KeepsEndsIn m (if b then leave_process m p else leave_thread m t)
-    go true = leave_process_keeps m p h
-    go false = leave_keeps m (thread_end t) h
-
-kill_keeps : (m : State) (p : ℕ) → Invariant m → KeepsEndsIn m (kill m p).state
-kill_keeps m p h = go (is_live_process m p)
-  where
-    go : (b : Bool) → KeepsEndsIn m (if b then leave_process m p else m)
-    go true = leave_process_keeps m p h
-    go false = same_keeps m.process_table
-
-await_keeps : (m : State) (t : ℕ) (path : PathId) → (state_of m t ≡ is.Done → ⊥) → KeepsEndsIn m (await m t path).state
-await_keeps m t path h = go (name_of m path)
-  where
-    go : (o : Option Name) → KeepsEndsIn m (await_name m t path o).state
-    go (Some n) = same_keeps m.process_table
-    go None = change_keeps m.process_table t (thread_at_state (is.Awaiting path)) h
-
-effect_keeps : (m : State) (t p : ℕ) (r : Request) → Invariant m → (state_of m t ≡ is.Done → ⊥) → KeepsEndsIn m (effect m t p r).state
-effect_keeps m t p (request.Call fd bytes pass rsize) i h = change_keeps m.process_table t _ h
-effect_keeps m t p (request.Return bytes pass) i h = go (has_invalid_door m t)
-  where
-    go : (b : Bool) → KeepsEndsIn m (if b then return_unbound m t p bytes pass else return_parked m t p bytes pass).state
-    go true = change_keeps m.process_table t thread_outside h
-    go false = change_keeps m.process_table t (idle_thread (now m)) h
-effect_keeps m t p (request.Await path) i h = await_keeps m t path h
-effect_keeps m t p (request.Revoke fd) i h = leave_keeps m (revocation (door_at m p fd)) i
-effect_keeps m t p (request.Interrupt thread) i h = leave_keeps m (interruption thread.0) i
-effect_keeps m t p (request.Kill process) i h = kill_keeps m process.0 i
-effect_keeps m t p request.Exit i h = exit_keeps m t p i
-effect_keeps m t p _ i h = same_keeps m.process_table
-
-accept_keeps : (m : State) (t p c : ℕ) (o : Option Call) → (state_of m t ≡ is.Done → ⊥) → KeepsEndsIn m (accept_call m t p c o).state
-accept_keeps m t p c None h = same_keeps m.process_table
-accept_keeps m t p c (Some r) h = go (has_room m p r.objects)
-  where
-    go : (b : Bool) → KeepsEndsIn m (if b then begin_call m t p c r else fail_begin m t c r).state
-    go true = change_keeps m.process_table t (thread_in_invocation (item.Call c)) h
-    go false = change_keeps m.process_table t (idle_thread (now m)) h
-
-notice_keeps : (m : State) (t c : ℕ) (o : Option Notice) → (state_of m t ≡ is.Done → ⊥) → KeepsEndsIn m (accept_notice m t c o).state
-notice_keeps m t c None h = same_keeps m.process_table
-notice_keeps m t c (Some n) h = change_keeps m.process_table t (thread_in_invocation (item.Notice c)) h
-
-go_on_keeps : (m : State) (t p : ℕ) (s : ThreadState) → (state_of m t ≡ is.Done → ⊥) → KeepsEndsIn m (go_on m t p s).state
-go_on_keeps m t p (is.Given (item.Call c)) h = accept_keeps m t p c (find_call m (is_given_as c t)) h
-go_on_keeps m t p (is.Given (item.Notice n)) h = notice_keeps m t n (find_notice m (is_given_notice_as n t)) h
-go_on_keeps m t p (is.Calling c) h = change_keeps m.process_table t _ h
-go_on_keeps m t p (is.Awaiting path) h = change_keeps m.process_table t _ h
-go_on_keeps m t p (is.Working op input) h = change_keeps m.process_table t _ h
-go_on_keeps m t p is.FailedReturn h = change_keeps m.process_table t _ h
-go_on_keeps m t p _ h = same_keeps m.process_table
+move_keeps :
+    (m : State) (t : ℕ) (q : Option Request) (a : ActResult) → Invariant m → (state_of m t ≡ is.Done → ⊥) → Moves m t q a →
+    KeepsEndsIn m a.state
+move_keeps m t q a i h (Moves.turns s x _ _) = change_keeps m.process_table t _ h
+move_keeps m t q a i h (Moves.calls fd bytes pass rsize f) = change_keeps m.process_table t _ h
+move_keeps m t q a i h (Moves.returns bytes pass f e) = change_keeps m.process_table t (idle_thread (now m)) h
+move_keeps m t q a i h (Moves.returns_unbound bytes pass f e) = change_keeps m.process_table t thread_outside h
+move_keeps m t q a i h (Moves.enters r e f) = change_keeps m.process_table t (thread_in_invocation (item.Call r.number)) h
+move_keeps m t q a i h (Moves.fails r e f) = change_keeps m.process_table t (idle_thread (now m)) h
+move_keeps m t q a i h (Moves.enters_notice n e) = change_keeps m.process_table t (thread_in_invocation (item.Notice n.number)) h
+move_keeps m t q a i h (Moves.collects c e) = change_keeps m.process_table t _ h
+move_keeps m t q a i h (Moves.leaves r who _) = leave_keeps m who i
+move_keeps m t q a i h (Moves.revokes fd f) = leave_keeps m (revocation (door_at m (process_of m t) fd)) i
+move_keeps m t q a i h (Moves.ends r p _) = leave_process_keeps m p i
+move_keeps m t q a i h _ = same_keeps m.process_table
 
 -- a thread that takes a turn is not Done
 takes_turn : (m : State) (t : ℕ) (q : Option Request) → MayTurn m t q → state_of m t ≡ is.Done → ⊥
 takes_turn m t (Some r) may d = absurd (cc (sym may.running ∙ ap is_running_state d))
 takes_turn m t None may d = absurd (cc (sym may.runnable ∙ ap (can_go_on m) d))
-
-act_keeps : (m : State) (t : ℕ) (q : Option Request) → Invariant m → (state_of m t ≡ is.Done → ⊥) → KeepsEndsIn m (act m t q).state
-act_keeps m t (Some r) i h =
-    enter_either (λ a. KeepsEndsIn m a.state) m t (process_of m t) r (λ x. same_keeps m.process_table) (effect_keeps m t (process_of m t) r i h)
-act_keeps m t None i h = go_on_keeps m t (process_of m t) (state_of m t) h
 
 -- and what the kernel does after them
 
@@ -221,20 +173,26 @@ give_keeps m (item.Notice n) u h = change_keeps m.process_table u _ h
 
 settle_keeps : (before m : State) → KeepsEndsIn m (settle before m)
 settle_keeps before m =
-    settle-all (λ n. KeepsEndsIn m n) before (λ n d l e. e)
-    (λ n t l e. keeps_then m.process_table n.process_table _ e
-    (change_keeps n.process_table t (thread_at_state is.FailedReturn) (λ d. not_at_both (state_of n t) _ _ (loses_idle n t l).1 d (λ z. cc))))
-    (λ n w x p e. keeps_then m.process_table n.process_table _ e
-    (give_keeps n w.item x.thread.0 (λ d. not_at_both (state_of n x.thread.0) _ _ (picked_idle n _ x p) d (λ z. cc))))
-    (λ n t r e. keeps_then m.process_table n.process_table _ e
-    (change_keeps n.process_table t (thread_at_state is.Running) (λ d. not_at_both (state_of n t) _ _ r d (λ z. cc))))
+    settle-all (λ n. KeepsEndsIn m n) before
+    (record {
+      makes = λ n d l e. e;
+      fails =
+          λ n t l e. keeps_then m.process_table n.process_table _ e
+          (change_keeps n.process_table t (thread_at_state is.FailedReturn) (λ d. not_at_both (state_of n t) _ _ (loses_idle n t l).1 d (λ z. cc)));
+      gives =
+          λ n w x p e. keeps_then m.process_table n.process_table _ e
+          (give_keeps n w.item x.thread.0 (λ d. not_at_both (state_of n x.thread.0) _ _ (picked_idle n _ x p) d (λ z. cc)));
+      starts =
+          λ n t r e. keeps_then m.process_table n.process_table _ e
+          (change_keeps n.process_table t (thread_at_state is.Running) (λ d. not_at_both (state_of n t) _ _ r d (λ z. cc)));
+    })
     m
     (same_keeps m.process_table)
 
 step_keeps_ends : (m : State) (t : ℕ) (q : Option Request) → Invariant m → MayTurn m t q → KeepsEndsIn m (step m t q).state
 unfolding step
 step_keeps_ends m t q i may =
-    keeps_then m.process_table (act m t q).state.process_table _ (act_keeps m t q i (takes_turn m t q may)) (settle_keeps m (act m t q).state)
+    keeps_then m.process_table (act m t q).state.process_table _ (move_keeps m t q _ i (takes_turn m t q may) (act_moves m t q)) (settle_keeps m (act m t q).state)
 
 -- an Exit ends its thread
 step_exits_thread : (m : State) → Invariant m → (t : ℕ) → state_of (step m t (Some request.Exit)).state t ≡ is.Done
@@ -349,21 +307,6 @@ module _ (m : State) (h : Invariant m) (p : ℕ) (e : is_ended m p ≡ true) whe
           go true k = absurd (not_at_both (state_of m r.caller.0) _ _ (own c r f k) (threads_done r.caller.0 g) (λ z. cc))
 
 module _ (m : State) (xs : List Turn) (k : Known m xs) where
-  -- what each turn keeps stays
-  pub stays :
-      (P : State → Type 0) (i : ℕ) →
-      ((a : ℕ) (x : Turn) → i ≤ a → slice_get xs a ≡ Some x → P (state_at m xs a) → P (state_at m xs (a + 1))) → (j : ℕ) →
-      i ≤ j → j ≤ length xs → P (state_at m xs i) → P (state_at m xs j)
-  stays P i one zero l b h = let same : i ≡ zero = omega (arith, l) in subst (λ j. P (state_at m xs j)) same h
-  stays P i one (suc j) l b h = go (split i (suc j) l) (λ f. stays P i one j f (omega (arith, b)) h)
-    where
-      by : TurnAt xs j → i ≤ j → P (state_at m xs j) → P (state_at m xs (suc j))
-      by t f g = subst (λ n. P (state_at m xs n)) (add-one j) (one j t.turn f t.found g)
-
-      go : (i < suc j) ⊎ (i ≡ suc j) → (i ≤ j → P (state_at m xs j)) → P (state_at m xs (suc j))
-      go (inl f) ih = by (turn_at xs j (omega (arith, b))) (omega (arith, f)) (ih (omega (arith, f)))
-      go (inr f) ih = subst (λ n. P (state_at m xs n)) f h
-
   pub keeps_at : (i : ℕ) (x : Turn) → slice_get xs i ≡ Some x → KeepsEndsIn (state_at m xs i) (state_at m xs (i + 1))
   keeps_at i x e =
       subst (λ n. KeepsEndsIn (state_at m xs i) n) (sym (next m xs k i x e))
@@ -432,10 +375,10 @@ module _ (m : State) (xs : List Turn) (k : Known m xs) where
   ends_holds =
       record {
         process = λ i p l e. has_ended (state_at m xs i) (k.invariant i l) p e (λ c r. caller_waits m xs k i c r l);
-        process_stays = λ i j p. stays (λ n. is_ended n p ≡ true) i (λ a x l f. (keeps_at a x f).ended p) j;
+        process_stays = λ i j p. stays m xs (λ n. is_ended n p ≡ true) i (λ a x l f. (keeps_at a x f).ended p) j;
         thread_ends = thread_ends;
         ends_thread = ends_thread;
         process_ends = process_ends;
         ends_process = ends_process;
-        thread_stays = λ i j t. stays (λ n. state_of n t ≡ is.Done) i (λ a x l f. (keeps_at a x f).done t) j;
+        thread_stays = λ i j t. stays m xs (λ n. state_of n t ≡ is.Done) i (λ a x l f. (keeps_at a x f).done t) j;
       }

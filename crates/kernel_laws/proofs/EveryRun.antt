@@ -1,96 +1,124 @@
 -- The laws hold of every run.
-use Rattle.std.specs.Prelude.{ℕ, ◌≡◌, ◌+◌, ◌≤◌, ◌↔◌, List, Some, length}
-use Rattle.std.proofs.Common.{sym, ap, subst, ◌∙◌}
+use Rattle.std.specs.Prelude.{ℕ, ◌≡◌, ◌+◌, ◌↔◌, List, Some, length, slice_get, None, false}
+use Rattle.std.proofs.Common.{sym, ap, subst, ◌∙◌, refl}
 use native.Mathlib.Omega.{arith}
-use Rattle.written_kernel.specs.Types.{Errno, Request}
+use Rattle.written_kernel.specs.Types.{Errno, Request, Pass}
 use Rattle.dk_base.specs.declared.request.Request.TheVariants as request
 use Rattle.dk_base.specs.declared.answer.Answer.TheVariants as answer
-use Rattle.written_kernel.specs.Words.{IsOpening, IsRun, State, Turn, bound_of, refusal_of, state_after, state_at, step, with_event_counted}
+use Rattle.written_kernel.specs.Words.{IsOpening, IsRun, State, Turn, bound_of, refusal_of, state_after, state_at, with_event_counted}
 use Rattle.written_kernel.proofs.Runs.{length-events_of, number-event_of, slice_get-events_of, state_at_all}
 use Rattle.kernel_invariant.specs.Invariant.{Invariant}
 use Rattle.kernel_laws.specs.Laws.{Laws}
 use Rattle.kernel_laws.specs.EventsShown.{EventsShown}
-use Rattle.kernel_laws.specs.Pools.{HasNoneIdle, IsBoundToOwn}
-use Rattle.kernel_laws.specs.Places.{IsBoundToInvalid, IsReturnRefusedBy, answer_at, process_at}
+use Rattle.kernel_laws.specs.Pools.{HasNoneIdle}
+use Rattle.run_places.specs.Places.{IsBoundToInvalid, IsReturnRefusedBy, answer_at, process_at, IsReturn}
 use Rattle.kernel_laws.specs.Once.{ReturnUnbinds}
-use Rattle.kernel_laws.specs.Refused.{Fails, FailsByFirstTest, RefusedChangesNothing, ReturnsByTable}
-use Rattle.kernel_laws.specs.Refused.Fails.{refused, returned_unbound}
-use Rattle.kernel_laws.proofs.Known.{Known, invariant_before, next}
-use Rattle.kernel_laws.proofs.Refusals.{FailsIn, entry_tells}
-use Rattle.kernel_laws.proofs.Refusals.FailsIn.{by_test}
-use Rattle.kernel_laws.proofs.ReturnRefusals.{fails_of, refusal_return, return_refusal}
+use Rattle.kernel_laws.specs.Refused.{IsRefusedWith}
+use Rattle.run_places.proofs.Bound.{invalid_decides}
+use Rattle.run_places.proofs.Known.{Known, invariant_before, next}
+use Rattle.run_places.proofs.Refusals.{FailsIn, entry_tells}
+use Rattle.run_places.proofs.Refusals.FailsIn.{by_test, returned_unbound}
+use Rattle.run_places.proofs.ReturnRefusals.{no_return_refusal, refusal_return, return_refusal}
 use Rattle.kernel_laws.proofs.Returns.{return_unbinds}
-use Rattle.kernel_laws.proofs.Runs.{known}
+use Rattle.run_places.proofs.Runs.{invariant_at, known}
 use Rattle.kernel_laws.proofs.Once.{once_holds}
 use Rattle.kernel_laws.proofs.Match.{match_holds}
 use Rattle.kernel_laws.proofs.Cause.{cause_holds}
 use Rattle.kernel_laws.proofs.NoLoss.{no_loss_holds}
+use Rattle.kernel_laws.proofs.RowChanges.{rows_hold}
+use Rattle.kernel_laws.proofs.Waits.{waits_where_told}
+use Rattle.kernel_laws.proofs.Given.{given_holds}
+use Rattle.kernel_laws.proofs.Names.{names_hold}
+use Rattle.kernel_laws.proofs.Answers.{answers_requests}
 use Rattle.kernel_laws.proofs.Held.{held_holds}
 use Rattle.kernel_laws.proofs.Creators.{made_by_creator}
 use Rattle.kernel_laws.proofs.Ends.{ends_holds}
 use Rattle.kernel_laws.proofs.InvalidDoors.{invalid_doors_hold}
 use Rattle.kernel_laws.proofs.Cancels.{cancels_holds}
-use Rattle.kernel_laws.proofs.Notices.{notices_hold}
+use Rattle.notice_laws.proofs.Notices.{notices_hold}
+use Rattle.kernel_laws.proofs.Pools.{bound_to_own, none_idle_in}
+use Rattle.kernel_laws.specs.Entries.{first_reason, reasons, is_message}
+use Rattle.kernel_laws.proofs.Entries.{refusal_is}
 
-by_first_test : (m : State) (xs : List Turn) → Known m xs → FailsByFirstTest m xs
-by_first_test m xs k i x r e f q = (λ a. both.0 (tells.0 a), λ h. tells.1 (both.1 h))
-  where
-    tells : ((step (state_at m xs i) x.thread x.request).answer ≡ answer.Failure e) ↔ FailsIn (state_at m xs i) x.thread r e
-    tells = entry_tells (state_at m xs i) x.thread x.request r e q
+-- why an entry answers an error
 
-    both : FailsIn (state_at m xs i) x.thread r e ↔ Fails (state_at m xs i) x.thread r e
-    both = fails_of (state_at m xs i) x.thread r e (invariant_before m xs k i x f)
+module _ (m : State) (xs : List Turn) (k : Known m xs) (i : ℕ) (x : Turn) (f : slice_get xs i ≡ Some x) where
+  abbrev own : ℕ
+  own = process_at m xs i x.thread
 
-changes_nothing : (m : State) (xs : List Turn) → Known m xs → RefusedChangesNothing m xs
-changes_nothing m xs k i x r e f q a = next m xs k i x f ∙ (k.keeps i x f).refused r e q a
+  inv : Invariant (state_at m xs i)
+  inv = invariant_before m xs k i x f
 
--- a Return that is not refused does not leave its thread bound to a door that is not valid
-returns_by_table : (m : State) (xs : List Turn) → Known m xs → ReturnsByTable m xs
-returns_by_table m xs k i x bytes pass e f q = (λ a. forth a.0 a.1, λ h. (answers h, changes_nothing m xs k i x (request.Return bytes pass) e f q (tested h)))
-  where
-    before : Invariant (state_at m xs i)
-    before = invariant_before m xs k i x f
+  tells :
+      (r : Request) (e : Errno) → x.request ≡ Some r → (answer_at m xs i x ≡ answer.Failure e) ↔ FailsIn (state_at m xs i) x.thread r e
+  tells r e = entry_tells (state_at m xs i) x.thread x.request r e
 
-    tells : ((step (state_at m xs i) x.thread x.request).answer ≡ answer.Failure e) ↔ FailsIn (state_at m xs i) x.thread (request.Return bytes pass) e
-    tells = entry_tells (state_at m xs i) x.thread x.request (request.Return bytes pass) e q
+  by_table :
+      (r : Request) (e : Errno) → x.request ≡ Some r → is_message r ≡ false →
+      (answer_at m xs i x ≡ answer.Failure e) ↔ (first_reason (reasons (state_at m xs i) x.thread own r) ≡ Some e)
+  by_table r e q n = (λ a. go e ((tells r e q).0 a), λ h. (tells r e q).1 (by_test e (same ∙ h)))
+    where
+      same : refusal_of (state_at m xs i) x.thread own r ≡ first_reason (reasons (state_at m xs i) x.thread own r)
+      same = refusal_is (state_at m xs i) x.thread own r n
 
-    tested :
-        IsReturnRefusedBy m xs i x.thread bytes pass e →
-        refusal_of (state_at m xs i) x.thread (process_at m xs i x.thread) (request.Return bytes pass) ≡ Some e
-    tested h = refusal_return (state_at m xs i) before x.thread (process_at m xs i x.thread) bytes pass e h
+      go : (y : Errno) → FailsIn (state_at m xs i) x.thread r y → first_reason (reasons (state_at m xs i) x.thread own r) ≡ Some y
+      go y (by_test z g) = sym same ∙ g
+      go y (returned_unbound bytes pass g h v) = absurd (cc (sym n ∙ ap is_message g))
 
-    answers : IsReturnRefusedBy m xs i x.thread bytes pass e → answer_at m xs i x ≡ answer.Failure e
-    answers h = tells.1 (by_test e (tested h))
+  refused_same :
+      (r : Request) (e : Errno) → x.request ≡ Some r → refusal_of (state_at m xs i) x.thread own r ≡ Some e →
+      state_at m xs (i + 1) ≡ with_event_counted (state_at m xs i)
+  refused_same r e q a = next m xs k i x f ∙ (k.keeps i x f).refused r e q a
 
-    still_bound : IsBoundToInvalid (state_at m xs i) x.thread → state_at m xs (i + 1) ≡ with_event_counted (state_at m xs i) → ReturnUnbinds m xs i x → ⊥
-    still_bound v same u = absurd (cc (sym u.bound_to_none ∙ ap (λ n. bound_of n x.thread) same ∙ v.bound))
+  is_return :
+      (r : Request) (bytes : List ℕ) (pass : List Pass) → x.request ≡ Some r → r ≡ request.Return bytes pass →
+      refusal_of (state_at m xs i) x.thread own r ≡ None → IsReturn m xs i x bytes pass
+  is_return r bytes pass q g n =
+      record {
+        asked = q ∙ ap (λ (s : Request). Some s) g;
+        not_refused =
+            no_return_refusal (state_at m xs i) inv x.thread own bytes pass (ap (refusal_of (state_at m xs i) x.thread own) (sym g) ∙ n);
+      }
 
-    by :
-        (y : Errno) → state_at m xs (i + 1) ≡ with_event_counted (state_at m xs i) →
-        Fails (state_at m xs i) x.thread (request.Return bytes pass) y → IsReturnRefusedBy m xs i x.thread bytes pass y
-    by y same (refused z g) = return_refusal (state_at m xs i) before x.thread (process_at m xs i x.thread) bytes pass z g
-    by y same (returned_unbound b p g n v) =
-        absurd (still_bound v same (return_unbinds m xs k i x b p f (record { asked = q ∙ ap (λ (r : Request). Some r) g; not_refused = n }) v))
+  changes_nothing :
+      (r : Request) (e : Errno) → x.request ≡ Some r → answer_at m xs i x ≡ answer.Failure e →
+      ((bytes : List ℕ) (pass : List Pass) → IsReturn m xs i x bytes pass → ⊥) → state_at m xs (i + 1) ≡ with_event_counted (state_at m xs i)
+  changes_nothing r e q a n = go e ((tells r e q).0 a)
+    where
+      go : (y : Errno) → FailsIn (state_at m xs i) x.thread r y → state_at m xs (i + 1) ≡ with_event_counted (state_at m xs i)
+      go y (by_test z g) = refused_same r z q g
+      go y (returned_unbound bytes pass g h v) = absurd (n bytes pass (is_return r bytes pass q g h))
 
-    forth :
-        answer_at m xs i x ≡ answer.Failure e → state_at m xs (i + 1) ≡ with_event_counted (state_at m xs i) →
-        IsReturnRefusedBy m xs i x.thread bytes pass e
-    forth a same = by e same ((fails_of (state_at m xs i) x.thread (request.Return bytes pass) e before).0 (tells.0 a))
+  -- a Return that is not refused does not leave its thread bound to a door that is not valid
+  returns_by_table :
+      (bytes : List ℕ) (pass : List Pass) (e : Errno) → x.request ≡ Some (request.Return bytes pass) →
+      IsRefusedWith m xs i x e ↔ IsReturnRefusedBy m xs i x.thread bytes pass e
+  returns_by_table bytes pass e q =
+      (λ a. by e a.1 ((tells (request.Return bytes pass) e q).0 a.0), λ h. ((tells (request.Return bytes pass) e q).1 (by_test e (tested h)), refused_same (request.Return bytes pass) e q (tested h)))
+    where
+      tested : IsReturnRefusedBy m xs i x.thread bytes pass e → refusal_of (state_at m xs i) x.thread own (request.Return bytes pass) ≡ Some e
+      tested h = refusal_return (state_at m xs i) inv x.thread own bytes pass e h
+
+      still_bound : IsBoundToInvalid (state_at m xs i) x.thread → state_at m xs (i + 1) ≡ with_event_counted (state_at m xs i) → ReturnUnbinds m xs i x → ⊥
+      still_bound v same u = absurd (cc (sym u.bound_to_none ∙ ap (λ n. bound_of n x.thread) same ∙ v.bound))
+
+      by :
+          (y : Errno) → state_at m xs (i + 1) ≡ with_event_counted (state_at m xs i) →
+          FailsIn (state_at m xs i) x.thread (request.Return bytes pass) y → IsReturnRefusedBy m xs i x.thread bytes pass y
+      by y same (by_test z g) = return_refusal (state_at m xs i) inv x.thread own bytes pass z g
+      by y same (returned_unbound b p g n v) =
+          let lost : IsBoundToInvalid (state_at m xs i) x.thread = (invalid_decides (state_at m xs i) x.thread).0 v in
+          absurd (still_bound lost same (return_unbinds m xs k i x b p f (is_return (request.Return bytes pass) b p q g n) lost))
 
 events_shown : (m : State) (xs : List Turn) → Known m xs → EventsShown m xs
 events_shown m xs k =
     record {
       one_each = length-events_of m xs;
       event = λ i x e. slice_get-events_of m xs i x e;
+      thread = λ i x. refl;
+      root = λ i x. refl;
+      answer = λ i x. refl;
       number = λ i x e. number-event_of m xs i x e ∙ omega (arith, k.no_event);
-    }
-
-bound_to_own : (m : State) → Invariant m → (t d : ℕ) → bound_of m t ≡ Some d → IsBoundToOwn m t d
-bound_to_own m h t d e =
-    record {
-      is_private = h.consistent.coherent.bindings.bound_private t d e;
-      own = h.consistent.coherent.bindings.bound_own t d e;
-      valid = λ since f. h.idle_valid t d since f e;
     }
 
 all_hold : (m : State) (xs : List Turn) → Known m xs → Laws m xs
@@ -101,16 +129,21 @@ all_hold m xs k =
       match = match_holds m xs k;
       cause = cause_holds m xs k;
       no_loss = no_loss_holds m xs k;
+      rows = rows_hold m xs k;
+      waits = waits_where_told m xs k;
+      given = given_holds m xs k;
+      names = names_hold m xs k;
+      answers = answers_requests m xs k;
       held = held_holds m xs k;
       made_by_creator = made_by_creator m xs k;
       refused =
           record {
-            by_first_test = by_first_test m xs k;
-            changes_nothing = changes_nothing m xs k;
-            returns_by_table = returns_by_table m xs k;
+            by_table = λ i x r e f. by_table m xs k i x f r e;
+            changes_nothing = λ i x r e f. changes_nothing m xs k i x f r e;
+            returns_by_table = λ i x bytes pass e f. returns_by_table m xs k i x f bytes pass e;
           };
-      no_pool_has_both = λ i l. (k.invariant i l).given_out;
-      bound_to_own = λ i t d l e. bound_to_own (state_at m xs i) (k.invariant i l) t d e;
+      no_pool_has_both = λ i l. none_idle_in (state_at m xs i) (k.invariant i l);
+      bound_to_own = λ i t d l. bound_to_own (state_at m xs i) (k.invariant i l) t d;
       ends = ends_holds m xs k;
       invalid_doors = invalid_doors_hold m xs k;
       cancels = cancels_holds m xs k;
@@ -121,9 +154,6 @@ all_hold m xs k =
 pub laws_hold : (m : State) (xs : List Turn) → IsOpening m → IsRun m xs → Laws m xs
 laws_hold m xs opens run = all_hold m xs (known m xs opens run)
 
-pub invariant_at : (m : State) (xs : List Turn) → IsOpening m → IsRun m xs → (i : ℕ) → i ≤ length xs → Invariant (state_at m xs i)
-invariant_at m xs opens run = (known m xs opens run).invariant
-
 pub none_idle_after : (m : State) (xs : List Turn) → IsOpening m → IsRun m xs → HasNoneIdle (state_after m xs)
 none_idle_after m xs opens run =
-    subst HasNoneIdle (state_at_all m xs (length xs) (omega arith)) (invariant_at m xs opens run (length xs) (omega arith)).given_out
+    subst HasNoneIdle (state_at_all m xs (length xs) (omega arith)) (none_idle_in _ (invariant_at m xs opens run (length xs) (omega arith)))

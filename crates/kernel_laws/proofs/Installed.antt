@@ -1,6 +1,6 @@
 -- Objects that are installed in a table at its lowest free descriptors, and descriptors that are released: what each descriptor
 -- names before and after.
-use Rattle.std.specs.Prelude.{ℕ, ◌≡◌, ◌+◌, ◌<◌, ◌≤◌, List, [], ◌∷◌, Option, Bool, true, false, ◌==◌, ◌&&◌, cond, if◌then◌else◌, Some, None, zero, suc, is_none, is_some, length, map, slice_get, slice_set, unwrap_or}
+use Rattle.std.specs.Prelude.{ℕ, ◌≡◌, ◌+◌, ◌<◌, ◌≤◌, List, [], ◌∷◌, Option, Bool, true, false, ◌==◌, ◌&&◌, cond, if◌then◌else◌, Some, None, zero, suc, is_none, is_some, length, map, slice_get, slice_set, take, unwrap_or}
 use Rattle.std.specs.List.{list_any, position_or_len}
 use Rattle.std.proofs.Common.{refl, sym, ap, ap₂, ◌∙◌}
 use native.Mathlib.Omega.{arith}
@@ -12,15 +12,16 @@ use Rattle.written_kernel.specs.Types.{Fd, Obj, Pass}
 use Rattle.kernel_records.specs.Words.{close_row, descriptor, free_place, free_rows, insert_row, insert_rows, new_descriptors, object_in, object_named, release_row, release_rows, table_in, with_table}
 use Rattle.kernel_records.proofs.Lists.{at_number-renumbered_there, at_number-with_at_number, slice_get-slice_set}
 use Rattle.written_kernel.proofs.Steps.{length-insert_rows, length-release_rows}
+use Rattle.run_places.specs.Counts.{free_places}
 use Rattle.kernel_laws.specs.NoLoss.{is_descriptor, is_release_of}
-use Rattle.kernel_laws.proofs.Passed.{Found, found_any}
+use Rattle.run_places.proofs.Passed.{Found, found_any}
 
 -- the lowest free place is free, and is taken
 
 abbrev first_free : List (Option Obj) → ℕ
 first_free t = position_or_len is_none t
 
-first_free-within : (t : List (Option Obj)) → 0 < free_rows t → first_free t < length t
+pub first_free-within : (t : List (Option Obj)) → 0 < free_rows t → first_free t < length t
 first_free-within [] h = absurd (omega arith)
 first_free-within (None ∷ t) h = omega arith
 first_free-within (Some o ∷ t) h = omega (arith, first_free-within t h)
@@ -38,7 +39,7 @@ place_is t h = let w = first_free-within t h in grind (arith, nat_tests)
 pub place_free : (t : List (Option Obj)) → 0 < free_rows t → slice_get t (free_place t) ≡ Some None
 place_free t h = ap (λ n. slice_get t n) (place_is t h) ∙ first_free-none t (first_free-within t h)
 
-taken : (t : List (Option Obj)) (o : Obj) → first_free t < length t → free_rows (slice_set t (first_free t) (Some o)) + 1 ≡ free_rows t
+pub taken : (t : List (Option Obj)) (o : Obj) → first_free t < length t → free_rows (slice_set t (first_free t) (Some o)) + 1 ≡ free_rows t
 taken t o h =
     let e = sum_by-set (λ (row : Option Obj). cond (is_none row) 1 0) t (first_free t) (Some o) None h in
     let f = passes_at_first is_none t None h in
@@ -53,10 +54,10 @@ row_after :
     slice_get (insert_row t o) k ≡ (if k == free_place t then Some (Some o) else slice_get t k)
 row_after t o k h = slice_get-slice_set t (free_place t) k (Some o) ∙ grind (arith, nat_tests, place_free t h)
 
-other_row : (t : List (Option Obj)) (o : Obj) (k : ℕ) → (k == free_place t) ≡ false → slice_get (insert_row t o) k ≡ slice_get t k
+pub other_row : (t : List (Option Obj)) (o : Obj) (k : ℕ) → (k == free_place t) ≡ false → slice_get (insert_row t o) k ≡ slice_get t k
 other_row t o k e = slice_get-slice_set t (free_place t) k (Some o) ∙ grind (arith, nat_tests)
 
-own_row : (t : List (Option Obj)) (o : Obj) → 0 < free_rows t → slice_get (insert_row t o) (free_place t) ≡ Some (Some o)
+pub own_row : (t : List (Option Obj)) (o : Obj) → 0 < free_rows t → slice_get (insert_row t o) (free_place t) ≡ Some (Some o)
 own_row t o h = row_after t o (free_place t) h ∙ grind (arith, nat_tests)
 
 some_room : (t : List (Option Obj)) (o : Obj) (os : List Obj) → length (o ∷ os) ≤ free_rows t → 0 < free_rows t
@@ -131,21 +132,41 @@ pub named_none :
 named_none t os h =
     map_each (λ fd. object_named t fd) (λ fd. None) (new_descriptors t os) (λ a fd e. ap object_in (were_free t os a fd h e))
 
--- each is another one
-pub differ :
-    (t : List (Option Obj)) (os : List Obj) (a b : ℕ) (fd : Fd) → length os ≤ free_rows t →
-    slice_get (new_descriptors t os) a ≡ Some fd → slice_get (new_descriptors t os) b ≡ Some fd → a ≡ b
-differ t [] a b fd h e f = absurd (grind arith)
-differ t (o ∷ os) zero zero fd h e f = refl
-differ t (o ∷ os) zero (suc b) fd h e f =
-    let free : slice_get (insert_row t o) fd.0 ≡ Some None = were_free (insert_row t o) os b fd (room_left t o os h) f in
+-- they are the lowest, in order
+
+-- below the lowest that is free none is
+lowest_first : (t : List (Option Obj)) → free_places (take (first_free t) t) ≡ 0
+lowest_first [] = refl
+lowest_first (None ∷ t) = refl
+lowest_first (Some o ∷ t) = let e : 1 + first_free t ≡ suc (first_free t) = omega arith in rw e (lowest_first t)
+
+pub lowest_place : (t : List (Option Obj)) → 0 < free_rows t → free_places (take (free_place t) t) ≡ 0
+lowest_place t h = ap (λ n. free_places (take n t)) (place_is t h) ∙ lowest_first t
+
+-- one less is free below each that is still free once the lowest is taken
+one_less_below :
+    (t : List (Option Obj)) (o : Obj) (n : ℕ) → slice_get (slice_set t (first_free t) (Some o)) n ≡ Some None →
+    free_places (take n t) ≡ suc (free_places (take n (slice_set t (first_free t) (Some o))))
+one_less_below [] o n e = absurd (grind arith)
+one_less_below (None ∷ t) o zero e = absurd (grind arith)
+one_less_below (None ∷ t) o (suc n) e = omega arith
+one_less_below (Some p ∷ t) o zero e = absurd (grind arith)
+one_less_below (Some p ∷ t) o (suc n) e =
+    let f : 1 + first_free t ≡ suc (first_free t) = omega arith in
+    rw f (one_less_below t o n (rw f at e))
+
+pub new_lowest :
+    (t : List (Option Obj)) (os : List Obj) (a : ℕ) (fd : Fd) → length os ≤ free_rows t →
+    slice_get (new_descriptors t os) a ≡ Some fd → free_places (take fd.0 t) ≡ a
+new_lowest t [] a fd h e = absurd (grind arith)
+new_lowest t (o ∷ os) zero fd h e =
     let same : free_place t ≡ fd.0 = grind arith in
-    absurd (cc (sym (own_row t o (some_room t o os h)) ∙ ap (λ n. slice_get (insert_row t o) n) same ∙ free))
-differ t (o ∷ os) (suc a) zero fd h e f =
-    let free : slice_get (insert_row t o) fd.0 ≡ Some None = were_free (insert_row t o) os a fd (room_left t o os h) e in
-    let same : free_place t ≡ fd.0 = grind arith in
-    absurd (cc (sym (own_row t o (some_room t o os h)) ∙ ap (λ n. slice_get (insert_row t o) n) same ∙ free))
-differ t (o ∷ os) (suc a) (suc b) fd h e f = ap suc (differ (insert_row t o) os a b fd (room_left t o os h) e f)
+    ap (λ n. free_places (take n t)) (sym same) ∙ lowest_place t (some_room t o os h)
+new_lowest t (o ∷ os) (suc a) fd h e =
+    let is : insert_row t o ≡ slice_set t (first_free t) (Some o) = ap (λ n. slice_set t n (Some o)) (place_is t (some_room t o os h)) in
+    one_less_below t o fd.0 (ap (λ u. slice_get u fd.0) (sym is) ∙ were_free (insert_row t o) os a fd (room_left t o os h) e)
+    ∙ ap (λ u. suc (free_places (take fd.0 u))) (sym is)
+    ∙ ap suc (new_lowest (insert_row t o) os a fd (room_left t o os h) e)
 
 -- released descriptors
 
@@ -162,7 +183,7 @@ stays_closed t (x ∷ xs) fd e = stays_closed (release_row t x) xs fd (one x.rel
     one true = closed_row t x.fd.0 fd e
     one false = e
 
-closes : (t : List (Option Obj)) (fd : Fd) → object_named (close_row t fd.0) fd ≡ None
+pub closes : (t : List (Option Obj)) (fd : Fd) → object_named (close_row t fd.0) fd ≡ None
 closes t fd = grind (arith, nat_tests, slice_get-slice_set t fd.0 fd.0 None)
 
 pub released_none :

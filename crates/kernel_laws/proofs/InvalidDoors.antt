@@ -1,34 +1,37 @@
 -- Doors that are not valid stay so, and turn so only by a Revoke or with their owners.
-use Rattle.std.specs.Prelude.{ℕ, ◌≡◌, ◌+◌, ◌≤◌, List, Option, Bool, not, true, false, Some, None, is_some, length, slice_get}
+use Rattle.std.specs.Prelude.{ℕ, ◌≡◌, ◌+◌, ◌≤◌, List, Option, Bool, not, true, false, Some, None, is_some, length, slice_get, if◌then◌else◌}
 use Rattle.std.proofs.Common.{refl, sym, ap, subst, ◌∙◌}
 use native.Mathlib.Omega.{arith}
 use Rattle.std.proofs.lemmas.Bool.Decides.{nat_tests}
 use Rattle.std.proofs.lemmas.Option.{slice_get_within}
-use Rattle.written_kernel.specs.Types.{Call, CallStage, Door, Errno, Fd, Notice, NoticeStage, Obj, Process, Request}
+use Rattle.written_kernel.specs.Types.{Call, CallStage, Door, Errno, Fd, Notice, NoticeStage, Obj, Process, Request, Attrs}
 use Rattle.dk_base.specs.ByNumber.{at_number}
 use Rattle.dk_base.specs.declared.object.Obj.TheVariants as obj
 use Rattle.dk_base.specs.declared.request.Request.TheVariants as request
 use Rattle.dk_base.specs.declared.answer.Answer.TheVariants as answer
 use Rattle.kernel_records.specs.declared.record.CallStage.TheVariants as stage
 use Rattle.kernel_records.specs.declared.record.NoticeStage.TheVariants as notice
-use Rattle.kernel_records.specs.Words.{is_live_in, is_owned_by, is_valid_in}
-use Rattle.written_kernel.specs.Words.{State, Turn, act, door_at, door_named, door_of, is_valid, object_at, process_of, refusal_of, revoke, state_at, step, unless_refused}
+use Rattle.kernel_records.specs.Words.{is_live_in, is_owned_by, is_valid_in, new_door}
+use Rattle.written_kernel.specs.Words.{State, Turn, act, door_at, door_named, door_of, is_valid, object_at, process_of, refusal_of, revoke, state_at, step, unless_refused, create}
 use Rattle.kernel_invariant.specs.Core.{door_in, ended_in, notice_in, noticed_door_in}
 use Rattle.kernel_invariant.specs.Invariant.{Invariant}
 use Rattle.kernel_invariant.specs.Records.{notice_of, owner_in, record_of, stage_in}
 use Rattle.kernel_laws.specs.Ends.{is_ended}
 use Rattle.kernel_laws.specs.InvalidDoors.{InvalidDoors, Invalidates}
 use Rattle.kernel_laws.specs.InvalidDoors.Invalidates.{revoked, owner_ends}
-use Rattle.kernel_laws.specs.MadeByCreator.{IsKept}
-use Rattle.kernel_laws.specs.Places.{process_at}
-use Rattle.kernel_laws.proofs.Creators.{keeps_door, keeps_ever}
+use Rattle.run_places.specs.Places.{IsKept, process_at}
+use Rattle.run_places.proofs.DoorPlaces.{keeps_door, keeps_ever}
 use Rattle.kernel_laws.proofs.Endings.{process_ended, settle_same}
-use Rattle.kernel_laws.proofs.Ends.{no_valid_door, stays}
-use Rattle.kernel_laws.proofs.Known.{Known, invariant_after, invariant_before, next}
-use Rattle.kernel_laws.proofs.Refusals.{entry_tells, none_of}
-use Rattle.kernel_laws.proofs.Refusals.FailsIn.{by_test}
-use Rattle.kernel_laws.proofs.Validity.{Loses, StepLoses, step_invalid, step_loses, step_revokes}
-use Rattle.kernel_laws.proofs.Validity.Loses.{revokes, ends}
+use Rattle.kernel_laws.proofs.Ends.{no_valid_door}
+use Rattle.kernel_laws.proofs.Creators.{made}
+use Rattle.kernel_records.proofs.Lists.{numbered_push}
+use Rattle.written_kernel.proofs.Settling.{doors-settle}
+use Rattle.std.proofs.lemmas.Bool.{false≢true}
+use Rattle.run_places.proofs.Known.{Known, invariant_after, invariant_before, next, stays}
+use Rattle.run_places.proofs.Refusals.{entry_tells, none_of}
+use Rattle.run_places.proofs.Refusals.FailsIn.{by_test}
+use Rattle.run_places.proofs.Validity.{Loses, StepLoses, step_invalid, step_loses, step_revokes}
+use Rattle.run_places.proofs.Validity.Loses.{revokes, ends}
 
 -- the owner of a valid door lives
 
@@ -93,12 +96,39 @@ revoke_done :
 unfolding step
 revoke_done m t fd e = ap (λ o. (unless_refused m o (revoke m (process_of m t) fd)).answer) e
 
+-- a door that a Create makes is valid
+made_valid :
+    (m : State) (t d entry cookie : ℕ) (attrs : Attrs) (p : Option Door) → door_of m d ≡ None →
+    door_of (step m t (Some (request.Create entry cookie attrs))).state d ≡ p → is_some p ≡ true → is_valid_in p ≡ true
+unfolding step
+made_valid m t d entry cookie attrs p e f s =
+    go (refusal_of m t (process_of m t) (request.Create entry cookie attrs))
+    (sym (ap (λ ds. at_number ds d) (doors-settle m (act m t (Some (request.Create entry cookie attrs))).state)) ∙ f)
+  where
+    one : (b : Bool) (y : Door) → is_valid_in (Some y) ≡ true → (if b then Some y else at_number m.doors d) ≡ p → is_valid_in p ≡ true
+    one true y v g = ap is_valid_in (sym g) ∙ v
+    one false y v g = absurd (false≢true (ap is_some (sym e ∙ g) ∙ s))
+
+    go :
+        (r : Option Errno) → door_of (unless_refused m r (create m (process_of m t) entry cookie attrs)).state d ≡ p → is_valid_in p ≡ true
+    go (Some z) g = absurd (false≢true (ap is_some (sym e ∙ g) ∙ s))
+    go None g = one _ (new_door (length m.doors + 1) (process_of m t) entry cookie attrs) refl (sym (numbered_push m.doors _ d) ∙ g)
+
 module _ (m : State) (xs : List Turn) (k : Known m xs) where
+  valid_at_first :
+      (i d : ℕ) (x : Turn) (door : Door) → slice_get xs i ≡ Some x → door_of (state_at m xs i) d ≡ None →
+      door_of (state_at m xs (i + 1)) d ≡ Some door → is_valid (state_at m xs (i + 1)) d ≡ true
+  valid_at_first i d x door e b a =
+      made_valid (state_at m xs i) x.thread d door.entry door.cookie door.attrs _ b
+      (ap (λ q. door_of (step (state_at m xs i) x.thread q).state d) (sym (made m xs k i d x door e b a).created.request)
+      ∙ sym (ap (λ n. door_of n d) (next m xs k i x e)))
+      (ap is_some a)
+
   invalid_stays :
       (i j d : ℕ) (door : Door) → i ≤ j → j ≤ length xs → door_of (state_at m xs i) d ≡ Some door → is_valid (state_at m xs i) d ≡ false →
       is_valid (state_at m xs j) d ≡ false
   invalid_stays i j d door l b e v =
-      stays m xs k (λ n. is_valid n d ≡ false) i one j l b v
+      stays m xs (λ n. is_valid n d ≡ false) i one j l b v
     where
       one : (a : ℕ) (x : Turn) → i ≤ a → slice_get xs a ≡ Some x → is_valid (state_at m xs a) d ≡ false → is_valid (state_at m xs (a + 1)) d ≡ false
       one a x g f w = go (keeps_ever m xs k i a d door g (omega (arith, slice_get_within xs a x f)) e)
@@ -114,7 +144,7 @@ module _ (m : State) (xs : List Turn) (k : Known m xs) where
   only_by i d x e v w = go (step_loses (state_at m xs i) x.thread x.request d v (ap (λ n. is_valid n d) (sym (next m xs k i x e)) ∙ w))
     where
       by :
-          (r : Request) → x.request ≡ Some r → Loses (state_at m xs i) x.thread r d (act (state_at m xs i) x.thread (Some r)).state →
+          (r : Request) → x.request ≡ Some r → Loses (state_at m xs i) x.thread r d (act (state_at m xs i) x.thread x.request).state →
           Invalidates m xs i x d
       by r q (revokes fd f n g s) =
           let asked : x.request ≡ Some (request.Revoke fd) = q ∙ ap (λ (y : Request). Some y) f in
@@ -125,7 +155,7 @@ module _ (m : State) (xs : List Turn) (k : Known m xs) where
           let alive = lives _ (owner_lives (state_at m xs i) (invariant_before m xs k i x e) d p v g) in
           owner_ends p (owner_of p (door_of (state_at m xs i) d) g) alive.1
           (ap (λ n. is_ended n p) (next m xs k i x e ∙ ap (λ y. (step (state_at m xs i) x.thread y).state) q)
-          ∙ ended_after (state_at m xs i) x.thread p r (ap (λ n. is_ended n p) s ∙ process_ended (state_at m xs i) p alive.0))
+          ∙ ended_after (state_at m xs i) x.thread p r (ap (λ n. is_ended n p) (ap (λ y. (act (state_at m xs i) x.thread y).state) (sym q) ∙ s) ∙ process_ended (state_at m xs i) p alive.0))
 
       go : StepLoses (state_at m xs i) x.thread x.request d → Invalidates m xs i x d
       go l = by l.request l.asked l.loses
@@ -138,7 +168,7 @@ module _ (m : State) (xs : List Turn) (k : Known m xs) where
 
       go : (o : Option Door) → door_of (state_at m xs i) d ≡ o → owner_in o ≡ Some p → owner_in (door_of (state_at m xs (i + 1)) d) ≡ Some p
       go None g h = absurd (cc h)
-      go (Some y) g h = kept y h (keeps_door m xs k i d y (slice_get_within xs i x e) g)
+      go (Some y) g h = kept y h (keeps_door m xs k i d y x e g)
 
   by_each : (i d : ℕ) (x : Turn) → slice_get xs i ≡ Some x → Invalidates m xs i x d → is_valid (state_at m xs (i + 1)) d ≡ false
   by_each i d x e (revoked fd q f a) =
@@ -164,4 +194,4 @@ module _ (m : State) (xs : List Turn) (k : Known m xs) where
       ((k.invariant i l).consistent.coherent.notices_at_doors.notice_valid c (ap notice_in e ∙ ap (λ (s : NoticeStage). Some s) f))
 
   pub invalid_doors_hold : InvalidDoors m xs
-  invalid_doors_hold = record { stays = invalid_stays; only_by = only_by; by_each = by_each; call_waits = call_waits; notice_waits = notice_waits }
+  invalid_doors_hold = record { valid_at_first = valid_at_first; stays = invalid_stays; only_by = only_by; by_each = by_each; call_waits = call_waits; notice_waits = notice_waits }

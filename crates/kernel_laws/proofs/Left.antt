@@ -4,26 +4,26 @@ use Rattle.std.specs.Option.{option_map}
 use Rattle.std.proofs.Common.{refl, sym, ap, subst, ◌∙◌, inl, inr}
 use native.Mathlib.Omega.{arith}
 use Rattle.std.proofs.lemmas.Bool.Decides.{nat_tests}
+use Rattle.kernel_records.proofs.NumberedLists.{find-none}
 use Rattle.written_kernel.specs.Types.{Call, CallStage, Inv, Item, Process, Request, Thread, ThreadState}
 use Rattle.dk_base.specs.ByNumber.{at_number}
 use Rattle.dk_base.specs.declared.object.Item.TheVariants as item
 use Rattle.dk_base.specs.declared.request.Request.TheVariants as request
 use Rattle.kernel_records.specs.declared.record.ThreadState.TheVariants as is
 use Rattle.kernel_records.specs.declared.record.CallStage.TheVariants as stage
-use Rattle.kernel_records.specs.Words.{Leaving, ProcessTable, cancelled_invocation, deserted_at, deserted_in, end_process, ended_thread, interrupted_state, interrupted_where, interruption, invocation_in, is_last, is_left, is_served_by, left_thread, left_thread_of, process_end, revocation, state_in, thread_at, thread_end, tid, with_ended}
-use Rattle.written_kernel.specs.Words.{State, act, door_at, effect, exit, invocation_of, is_cancelled, is_live_process, kill, leave, leave_process, leave_thread, now, process_of, served_by, state_of, step, thread_of}
-use Rattle.written_kernel.proofs.Entries.{enter_either}
+use Rattle.kernel_records.specs.Words.{Leaving, ProcessTable, call_number, cancelled_invocation, deserted_at, deserted_in, end_process, ended_thread, interrupted_state, interrupted_where, interruption, invocation_in, is_left, is_served_by, left_thread, left_thread_of, process_end, revocation, state_in, thread_at, tid, with_ended}
+use Rattle.written_kernel.specs.Words.{ActResult, State, act, door_at, invocation_of, is_cancelled, leave, leave_process, now, process_of, served_by, state_of, step, thread_of}
 use Rattle.written_kernel.proofs.Invocations.{invocation_of-settle}
 use Rattle.kernel_records.proofs.Lists.{at_number-map}
+use Rattle.written_kernel.proofs.Moves.{Moves, act_moves}
 use Rattle.kernel_invariant.specs.Records.{item_in, item_of, record_of, stage_in, stage_of}
 use Rattle.kernel_invariant.specs.Core.{abandoned_in, core, is_outside, number_in, underway_in}
 use Rattle.kernel_invariant.specs.Coherent.{IsCoherent}
 use Rattle.kernel_invariant.specs.Invariant.{Invariant}
 use Rattle.kernel_invariant.specs.Events.{IsLeft}
 use Rattle.kernel_invariant.specs.Events.IsLeft.{interrupted, caller_ends}
-use Rattle.kernel_invariant.proofs.Calls.{find-none}
-use Rattle.kernel_laws.proofs.Done.{effect_none, go_on_none, settle_none}
-use Rattle.kernel_laws.proofs.Held.{IsWith, Serves, serves_of}
+use Rattle.run_places.proofs.Done.{move_none, settle_none}
+use Rattle.kernel_laws.proofs.Held.{IsWith, ServesCall, serves_of}
 
 -- no invocation is left, or its flag is set
 abbrev pub IsFlag : Option Inv → Type 0
@@ -62,7 +62,7 @@ module _ (m : State) (h : Invariant m) (u : ℕ) (r : Call) (i : HasIn m u r) wh
   serves_it : served_by m u ≡ Some r
   serves_it = go (served_by m u) refl
     where
-      by : (q : Call) → Serves m u q → IsWith u q.stage → q ≡ r
+      by : (q : Call) → ServesCall m u q → IsWith u q.stage → q ≡ r
       by q s (inl f) =
           absurd
           (cc
@@ -73,14 +73,14 @@ module _ (m : State) (h : Invariant m) (u : ℕ) (r : Call) (i : HasIn m u r) wh
           same_number _ q.number r.number (coherent.invocations.entered q.number u (ap stage_in s.found ∙ ap (λ (z : CallStage). Some z) f)) its_item in
           same_call _ q r s.found (ap (record_of m) same ∙ i.there)
 
-      serves : (q : Call) → Serves m u q → q ≡ r
+      serves : (q : Call) → ServesCall m u q → q ≡ r
       serves q s = by q s s.with_it
 
       go : (o : Option Call) → served_by m u ≡ o → o ≡ Some r
       go None e =
           absurd
           (cc
-          (sym (find-none (is_served_by u) m.call_tree.calls r.number r e i.there)
+          (sym (find-none call_number (is_served_by u) m.call_tree.calls r.number r e i.there)
           ∙ serves_entered u true r r.stage refl i.entered not_abandoned))
       go (Some q) e = ap (λ (z : Call). Some z) (serves q (serves_of m h u q e))
 
@@ -200,9 +200,6 @@ threads_same table p t = go (at_number table.processes p)
     go (Some x) = refl
 
 module _ (m : State) (h : Invariant m) (u : ℕ) (r : Call) (i : HasIn m u r) where
-  none_flags : Flags m m u r
-  none_flags b d = absurd (b d)
-
   ends_flags : (who : Leaving) → Flags m (leave m who) u r
   ends_flags who b d =
       leave_flags m h u r i who (either_left (who.ends r.caller.0) (who.interrupts r.caller.0) (leave_ends m who r.caller.0 h d b))
@@ -218,36 +215,17 @@ module _ (m : State) (h : Invariant m) (u : ℕ) (r : Call) (i : HasIn m u r) wh
       left : ProcessTable
       left = (leave m who).process_table
 
-  exit_flags : (t p : ℕ) → Flags m (exit m t p).state u r
-  exit_flags t p = go (is_last m.process_table t p)
-    where
-      go : (b : Bool) → Flags m (if b then leave_process m p else leave_thread m t) u r
-      go true = process_flags p
-      go false = ends_flags (thread_end t)
-
-  kill_flags : (p : ℕ) → Flags m (kill m p).state u r
-  kill_flags p = go (is_live_process m p)
-    where
-      go : (b : Bool) → Flags m (if b then leave_process m p else m) u r
-      go true = process_flags p
-      go false = none_flags
-
-  effect_flags : (t p : ℕ) (q : Request) → Flags m (effect m t p q).state u r
-  effect_flags t p (request.Revoke fd) = ends_flags (revocation (door_at m p fd))
-  effect_flags t p (request.Interrupt thread) = ends_flags (interruption thread.0)
-  effect_flags t p (request.Kill process) = kill_flags process.0
-  effect_flags t p request.Exit = exit_flags t p
-  effect_flags t p q = λ b d. absurd (b ((effect_none m t p q refl).done r.caller.0 d))
-
-  act_flags : (t : ℕ) (q : Option Request) → Flags m (act m t q).state u r
-  act_flags t (Some q) = enter_either (λ a. Flags m a.state u r) m t (process_of m t) q (λ x. none_flags) (effect_flags t (process_of m t) q)
-  act_flags t None = λ b d. absurd (b ((go_on_none m t (process_of m t) (state_of m t)).done r.caller.0 d))
+  move_flags : (t : ℕ) (q : Option Request) (a : ActResult) → Moves m t q a → Flags m a.state u r
+  move_flags t q a (Moves.leaves x who _) = ends_flags who
+  move_flags t q a (Moves.revokes fd f) = ends_flags (revocation (door_at m (process_of m t) fd))
+  move_flags t q a (Moves.ends x p _) = process_flags p
+  move_flags t q a x = λ b d. absurd (b ((move_none m t q a x refl).done r.caller.0 d))
 
   step_flags : (t : ℕ) (q : Option Request) → Flags m (step m t q).state u r
   unfolding step
   step_flags t q b d =
       subst IsFlag (sym (invocation_of-settle m (act m t q).state u))
-      (act_flags t q b (settle_none m (act m t q).state r.caller.0 d))
+      (move_flags t q _ (act_moves m t q) b (settle_none m (act m t q).state r.caller.0 d))
 
   interrupt_flags : (t : ℕ) → IsFlag (invocation_of (step m t (Some (request.Interrupt r.caller))).state u)
   unfolding step

@@ -1,6 +1,6 @@
 -- Match holds of every run.
-use Rattle.std.specs.Prelude.{ℕ, ◌≡◌, ◌+◌, ◌<◌, ◌≤◌, List, Option, Bool, true, false, Some, None, length, map, nat_lt, slice_get}
-use Rattle.std.proofs.Common.{refl, sym, ap, subst, ◌∙◌}
+use Rattle.std.specs.Prelude.{ℕ, ◌≡◌, ◌+◌, ◌<◌, ◌≤◌, List, Option, Bool, true, false, Some, None, length, map, nat_lt, slice_get, ◌⊎◌}
+use Rattle.std.proofs.Common.{refl, sym, ap, subst, ◌∙◌, inl, inr}
 use native.Mathlib.Omega.{arith}
 use Rattle.std.proofs.lemmas.Option.{slice_get_within}
 use Rattle.written_kernel.specs.Types.{Answer, Call, CallStage, Door, Fd, Obj}
@@ -12,19 +12,21 @@ use Rattle.written_kernel.proofs.Steps.{process_of-step}
 use Rattle.kernel_invariant.specs.Records.{door_at, owner_in, record_of, stage_in}
 use Rattle.kernel_invariant.specs.Core.{abandoned_in, core, has_arguments}
 use Rattle.kernel_invariant.specs.Events.{IsCallOf, IsCaller, IsMade, IsToldBy}
-use Rattle.kernel_laws.specs.Places.{BecomesAnswered, BecomesReturned, IsCollect, IsOf, MakesCall, ReturnsCall, answer_at, is_returned_in, objects_at, process_at}
+use Rattle.run_places.specs.Places.{BecomesAnswered, BecomesReturned, IsCollect, IsOf, MakesCall, ReturnsCall, answer_at, is_returned_in, objects_at, process_at}
 use Rattle.kernel_laws.specs.Once.{Enters}
-use Rattle.kernel_laws.specs.Match.{IsReturned, IsSent, Match}
-use Rattle.kernel_laws.proofs.Changes.{new_rank, rank_in, returned_rank}
-use Rattle.kernel_laws.proofs.Known.{Known, becomes_once, changes, false_not_true, invariant_before, never_less, next, rises_once}
+use Rattle.kernel_laws.specs.Match.{IsReturned, IsSent, Match, IsKeptCall}
+use Rattle.run_places.proofs.Changes.{new_rank, rank_in, returned_rank, change_rises}
+use Rattle.run_places.proofs.Known.{Known, becomes_once, changes, false_not_true, invariant_before, never_less, next, rises_once, ChangeAt, stays, stays_or_changes}
 use Rattle.kernel_laws.proofs.Story.{story}
 use Rattle.kernel_laws.proofs.Tables.{Installs, accept_installs, call_passes, collect_installs, return_passes}
-use Rattle.kernel_laws.proofs.ReturnRefusals.{no_return_refusal}
-use Rattle.kernel_laws.proofs.Returns.{return_hands_over, return_tells}
-use Rattle.kernel_laws.proofs.Rows.{GoesOn, Origin, origin, returned_row}
-use Rattle.kernel_laws.proofs.Rows.Origin.{new, older}
+use Rattle.run_places.proofs.ReturnRefusals.{no_return_refusal}
+use Rattle.kernel_laws.proofs.Returns.{return_hands_over, return_tells, not_returned_yet}
+use Rattle.run_places.proofs.Rows.{GoesOn, Origin, origin, returned_row}
+use Rattle.run_places.proofs.Rows.Origin.{new, older}
 use Rattle.kernel_laws.proofs.Readers.{AnsweredRowAt, EnteredAt, EnteredRowAt, HasObjects, ReturnedAt, ReturnedRowAt, WasMade, accept_of, made, made_here, number_of, table_at}
-use Rattle.kernel_laws.proofs.Once.{HandsBack, accepts, answered_by, caller_of_results, collected_results, collects, entered_by, returned_before}
+use Rattle.kernel_laws.proofs.Once.{HandsBack, accepts, answered_by, caller_of_results, collected_results, collects, returned_before}
+use Rattle.run_places.proofs.DoorPlaces.{is_of}
+use Rattle.run_places.proofs.Invocations.{entered_by}
 
 -- records
 
@@ -60,10 +62,6 @@ pub shows :
     Shows entry cookie bytes fds gets o r
 shows c entry cookie bytes fds gets o r a e f = record { same_entry = cc; same_cookie = cc; same_bytes = cc; descriptors = cc }
 
-pub is_of : (o : Option Door) (entry cookie p : ℕ) → owner_in o ≡ Some p → entry ≡ entry_of o → cookie ≡ cookie_of o → IsOf o entry cookie
-is_of None entry cookie p e f g = absurd (cc)
-is_of (Some d) entry cookie p e f g = record { door = d; there = refl; same_entry = f; same_cookie = g }
-
 is_given : (s : CallStage) (u : ℕ) → s ≡ stage.Given (tid u) → has_arguments s ≡ true
 is_given s u e = ap has_arguments e
 
@@ -74,10 +72,7 @@ server_of _ = 0
 same_server : (u v : ℕ) (s : CallStage) → s ≡ stage.Entered (tid u) → s ≡ stage.Entered (tid v) → u ≡ v
 same_server u v s e f = ap server_of (sym e ∙ f)
 
-not_returned_yet : (o : Option Call) (t : ℕ) → stage_in o ≡ Some (stage.Entered (tid t)) → is_returned_in o ≡ false
-not_returned_yet o t e = grind arith
-
-returned_now : (o : Option Call) (b : List ℕ) (x : List Obj) → stage_in o ≡ Some (stage.Returned b x) → is_returned_in o ≡ true
+pub returned_now : (o : Option Call) (b : List ℕ) (x : List Obj) → stage_in o ≡ Some (stage.Returned b x) → is_returned_in o ≡ true
 returned_now o b x e = grind arith
 
 pub same_results : (b d : List ℕ) (x y : List Obj) (s : CallStage) → s ≡ stage.Returned b x → s ≡ stage.Returned d y → b ≡ d
@@ -335,6 +330,35 @@ module _ (m : State) (xs : List Turn) (k : Known m xs) where
       go : (z.request ≡ None) × IsCaller (state_at m xs i) z.thread → IsReturned m xs i z bytes fds more
       go a = at a.1.call (record { no_request = a.0; calling = a.1.calling })
 
+  kept : (i j c : ℕ) (r : Call) → i ≤ j → j ≤ length xs → record_of (state_at m xs i) c ≡ Some r → IsKeptCall (state_at m xs j) c r
+  kept i j c r l b e =
+      stays m xs (λ n. IsKeptCall n c r) i one j l b (record { later = r; there = e; caller = refl; door = refl; rsize = refl })
+    where
+      one : (a : ℕ) (x : Turn) → i ≤ a → slice_get xs a ≡ Some x → IsKeptCall (state_at m xs a) c r → IsKeptCall (state_at m xs (a + 1)) c r
+      one a x h f g = go (stays_or_changes m xs k c a x f)
+        where
+          by : (y : Call) → record_of (state_at m xs (a + 1)) c ≡ Some y → Origin (state_at m xs a) x.thread x.request (answer_at m xs a x) (record_of (state_at m xs a) c) y → IsKeptCall (state_at m xs (a + 1)) c r
+          by y q (new n w) = absurd (cc (sym g.there ∙ n))
+          by y q (older s n o) =
+              let same : s ≡ g.later = cc (sym n ∙ g.there) in
+              record {
+                later = y;
+                there = q;
+                caller = o.caller ∙ ap (λ (z : Call). z.caller) same ∙ g.caller;
+                door = o.door ∙ ap (λ (z : Call). z.door) same ∙ g.door;
+                rsize = o.rsize ∙ ap (λ (z : Call). z.rsize) same ∙ g.rsize;
+              }
+
+          changed : (p : Option Call) → record_of (state_at m xs (a + 1)) c ≡ p → ChangeAt m xs a x (record_of (state_at m xs a) c) p → IsKeptCall (state_at m xs (a + 1)) c r
+          changed None q w = absurd (omega (arith, change_rises _ _ _ _ _ _ _ w))
+          changed (Some y) q w = by y q (origin _ _ _ _ _ _ _ y w refl)
+
+          go :
+              (record_of (state_at m xs (a + 1)) c ≡ record_of (state_at m xs a) c)
+              ⊎ ChangeAt m xs a x (record_of (state_at m xs a) c) (record_of (state_at m xs (a + 1)) c) → IsKeptCall (state_at m xs (a + 1)) c r
+          go (inl same) = record { later = g.later; there = same ∙ g.there; caller = g.caller; door = g.door; rsize = g.rsize }
+          go (inr w) = changed _ refl w
+
   pub match_holds : Match m xs
   match_holds =
       record {
@@ -342,6 +366,7 @@ module _ (m : State) (xs : List Turn) (k : Known m xs) where
         made = made_by;
         only_by_call = only_by_call;
         made_once = made_once;
+        kept = kept;
         shown = shown;
         only_by_return = only_by_return;
         return_hands_over = return_hands_over m xs k;

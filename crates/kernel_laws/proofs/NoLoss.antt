@@ -1,5 +1,5 @@
 -- No loss holds of every run.
-use Rattle.std.specs.Prelude.{ℕ, ◌≡◌, ◌+◌, ◌⊎◌, List, [], Option, Bool, true, false, if◌then◌else◌, Some, None, is_some, length, nat_lt, slice_get, unwrap_or}
+use Rattle.std.specs.Prelude.{ℕ, ◌≡◌, ◌+◌, ◌⊎◌, List, Option, Bool, true, false, Some, None, is_some, length, nat_lt, slice_get}
 use Rattle.std.proofs.Common.{refl, sym, ap, subst, ◌∙◌, inl, inr}
 use native.Mathlib.Omega.{arith}
 use Rattle.std.proofs.lemmas.Option.{slice_get_within}
@@ -11,28 +11,31 @@ use Rattle.dk_base.specs.declared.answer.Answer.TheVariants as answer
 use Rattle.kernel_records.specs.declared.record.CallStage.TheVariants as stage
 use Rattle.kernel_records.specs.declared.record.ThreadState.TheVariants as is
 use Rattle.kernel_records.specs.Words.{cookie_of, entry_of, gone_call_at, new_descriptors, objects_passed, tid}
-use Rattle.written_kernel.specs.Words.{State, Turn, door_of, object_at, objects_in_call, objects_in_transit, state_at, state_of, step}
+use Rattle.written_kernel.specs.Words.{State, Turn, door_of, object_at, state_at, state_of, step}
 use Rattle.kernel_invariant.specs.Core.{has_arguments}
 use Rattle.kernel_invariant.specs.Records.{record_of, stage_in}
 use Rattle.kernel_invariant.specs.Events.{IsToldBy}
-use Rattle.kernel_laws.specs.Places.{BecomesAnswered, BecomesReturned, IsCollect, MakesCall, ReturnsCall, answer_at, is_answered_in, is_entered_in, is_returned_in, process_at}
+use Rattle.run_places.specs.Places.{BecomesAnswered, BecomesReturned, IsCollect, MakesCall, ReturnsCall, answer_at, is_answered_in, is_entered_in, is_returned_in, process_at}
 use Rattle.kernel_laws.specs.Once.{Enters, FailsToEnter}
-use Rattle.kernel_laws.specs.NoLoss.{AreBrought, AreInstalled, AreReleased, Brings, Fate, IsPut, IsSameTable, NoLoss, Passes, Puts, in_transit, message_in, message_of, results_in_transit}
+use Rattle.kernel_laws.specs.NoLoss.{AreBrought, AreInstalled, AreReleased, Brings, Fate, IsPut, IsSameTable, NoLoss, Passes, Puts}
+use Rattle.run_places.specs.References.{in_transit, message_in, message_of}
 use Rattle.kernel_laws.specs.NoLoss.Brings.{by_accept, by_collect}
 use Rattle.kernel_laws.specs.NoLoss.Fate.{stay, installed, dropped}
 use Rattle.kernel_laws.specs.NoLoss.Passes.{at_call, at_return}
 use Rattle.kernel_laws.specs.NoLoss.Puts.{by_call, by_return}
-use Rattle.kernel_laws.proofs.Changes.{Change, gone_stage}
-use Rattle.kernel_laws.proofs.Changes.Change.{made, given, entered, returned, ended, broken_off, left, results_collected, nothing_collected, error_collected}
-use Rattle.kernel_laws.proofs.Known.{ChangeAt, Known, changes, false_not_true, next, stays_or_changes}
-use Rattle.kernel_laws.proofs.Rows.{HandsOver, Origin, answered_row, ended_row, entered_row, is_ended_in, origin, returned_row}
-use Rattle.kernel_laws.proofs.Rows.HandsOver.{results, nothing, error}
-use Rattle.kernel_laws.proofs.Rows.Origin.{new, older}
-use Rattle.kernel_laws.proofs.ReturnRefusals.{not_refused_at}
+use Rattle.run_places.proofs.Changes.{Change, gone_stage}
+use Rattle.run_places.proofs.Changes.Change.{made, given, entered, returned, ended, broken_off, left, results_collected, nothing_collected, error_collected}
+use Rattle.run_places.proofs.Known.{ChangeAt, Known, changes, false_not_true, next, stays_or_changes}
+use Rattle.run_places.proofs.Rows.{HandsOver, Origin, answered_row, ended_row, entered_row, is_ended_in, origin, returned_row}
+use Rattle.run_places.proofs.Rows.HandsOver.{results, nothing, error}
+use Rattle.run_places.proofs.Rows.Origin.{new, older}
+use Rattle.run_places.proofs.ReturnRefusals.{not_refused_at}
 use Rattle.kernel_laws.proofs.Tables.{Installs, Releases, call_passes, failed_accept_keeps, failed_collect_keeps, notice_accept_keeps, return_passes}
 use Rattle.kernel_laws.proofs.Readers.{AnsweredRowAt, EndedRowAt, EnteredRowAt, HasObjects, ReturnedRowAt, made_here, number_of, table_at}
-use Rattle.kernel_laws.proofs.Once.{HandsBack, accept_fails, accepts, answered_by, collected_results, collects, entered_by}
-use Rattle.kernel_laws.proofs.Match.{installed_at_accept, installed_at_collect, only_by_call, only_by_return}
+use Rattle.kernel_laws.proofs.Once.{HandsBack, accept_fails, accepts, answered_by, collected_results, collects}
+use Rattle.run_places.proofs.Invocations.{entered_by}
+use Rattle.kernel_laws.proofs.Match.{installed_at_accept, installed_at_collect, only_by_call, only_by_return, returned_now}
+use Rattle.kernel_laws.proofs.Returns.{not_returned_yet}
 
 -- messages of records
 
@@ -42,9 +45,6 @@ message_there o r e = ap message_in e
 waits_with : (r : Call) → has_arguments r.stage ≡ true → message_of r ≡ Some r.objects
 waits_with r e = grind arith
 
-returned_with : (o : Option Call) (bytes : List ℕ) (objects : List Obj) → stage_in o ≡ Some (stage.Returned bytes objects) → message_in o ≡ Some objects
-returned_with o bytes objects e = grind arith
-
 same_request :
     (q : Option Request) (fd gd : Fd) (b d : List ℕ) (x y : List Pass) (n l : ℕ) → q ≡ Some (request.Call fd b x n) →
     q ≡ Some (request.Call gd d y l) → x ≡ y
@@ -52,12 +52,6 @@ same_request q fd gd b d x y n l e f = cc
 
 same_return : (q : Option Request) (b d : List ℕ) (x y : List Pass) → q ≡ Some (request.Return b x) → q ≡ Some (request.Return d y) → x ≡ y
 same_return q b d x y e f = cc
-
-entered_not_returned : (o : Option Call) (t : ℕ) → stage_in o ≡ Some (stage.Entered (tid t)) → is_returned_in o ≡ false
-entered_not_returned o t e = grind arith
-
-returned_now : (o : Option Call) (b : List ℕ) (x : List Obj) → stage_in o ≡ Some (stage.Returned b x) → is_returned_in o ≡ true
-returned_now o b x e = grind arith
 
 none_or_some : (o : Option (List Obj)) (objects : List Obj) → o ≡ None → o ≡ Some objects → ⊥
 none_or_some o objects e f = cc
@@ -106,9 +100,6 @@ record_with (Some r) objects e = record { call = r; there = refl }
 not_returned : (o : Option Call) → message_in o ≡ None → is_returned_in o ≡ false
 not_returned o e = grind arith
 
-answered_not_entered : (o : Option Call) (t : ℕ) → is_answered_in o ≡ true → stage_in o ≡ Some (stage.Entered (tid t)) → ⊥
-answered_not_entered o t e f = grind arith
-
 not_at_both : (o : Option Call) (s c : CallStage) → stage_in o ≡ Some s → stage_in o ≡ Some c → (s ≡ c → ⊥) → ⊥
 not_at_both o s c e f h = h (cc)
 
@@ -143,17 +134,6 @@ results_no_failure : (bytes : List ℕ) (fds : List Fd) (grown : Bool) (e : Errn
 results_no_failure bytes fds grown e f = cc
 
 -- a message is the objects that the call's record holds
-counted_at :
-    (r : Call) (s : CallStage) →
-    unwrap_or (if has_arguments s then Some r.objects else results_in_transit s) [] ≡ objects_in_transit r s
-counted_at r stage.Queued = refl
-counted_at r (stage.Given u) = refl
-counted_at r (stage.Entered u) = refl
-counted_at r (stage.Returned bytes objects) = refl
-counted_at r (stage.Ended x) = refl
-counted_at r (stage.Answered k) = refl
-counted_at r stage.Gone = refl
-
 -- what becomes of a message by one change
 fate_row :
     (m : State) (t : ℕ) (q : Option Request) (a : Answer) (n : State) (o p : Option Call) (objects : List Obj) → Change m t q a n o p →
@@ -215,7 +195,7 @@ module _ (m : State) (xs : List Turn) (k : Known m xs) where
   becomes_returned i c x h =
       record {
         within = slice_get_within xs i x h.turn;
-        before = entered_not_returned _ x.thread h.was_entered;
+        before = not_returned_yet _ x.thread h.was_entered;
         after = returned_now _ h.bytes h.objects h.is_returned;
       }
 
@@ -267,11 +247,7 @@ module _ (m : State) (xs : List Turn) (k : Known m xs) where
       (i p : ℕ) (fds : List Fd) (objects : List Obj) → Installs (state_at m xs i) (state_at m xs (i + 1)) p fds objects →
       AreInstalled m xs i p fds objects
   are_installed i p fds objects h =
-      record { were_free = h.were_free; name_them = h.name_them; differ = h.differ; others = h.others; elsewhere = h.elsewhere }
-
-  counted :
-      (i c : ℕ) (r : Call) → record_of (state_at m xs i) c ≡ Some r → unwrap_or (in_transit (state_at m xs i) c) [] ≡ objects_in_call r
-  counted i c r e = ap (λ (o : Option (List Obj)). unwrap_or o []) (message_there _ r e) ∙ counted_at r r.stage
+      record { were_free = h.were_free; name_them = h.name_them; lowest = h.lowest; others = h.others; elsewhere = h.elsewhere }
 
   -- what is entered is installed
   brought_at_accept :
@@ -483,7 +459,6 @@ module _ (m : State) (xs : List Turn) (k : Known m xs) where
   no_loss_holds =
       record {
         none_at_first = λ c. ap message_in (k.no_call c);
-        counted = counted;
         call_puts = call_puts;
         return_puts = return_puts;
         only_put = only_put;

@@ -9,9 +9,9 @@ use Rattle.dk_base.specs.declared.object.Item.TheVariants as item
 use Rattle.dk_base.specs.declared.answer.Answer.TheVariants as answer
 use Rattle.kernel_records.specs.declared.record.ThreadState.TheVariants as is
 use Rattle.kernel_records.specs.declared.record.CallStage.TheVariants as stage
-use Rattle.kernel_records.specs.Words.{is_live, new_descriptors, new_invocation, tid}
-use Rattle.written_kernel.specs.Words.{State, Turn, caller_in, door_of, invocation_of, state_at, state_of}
-use Rattle.kernel_invariant.specs.Records.{door_at, item_in, item_of, owner_in, record_of, stage_in, stage_of}
+use Rattle.kernel_records.specs.Words.{is_live, new_descriptors, tid}
+use Rattle.written_kernel.specs.Words.{State, Turn, caller_in, door_of, invocation_of, state_at, state_of, process_of}
+use Rattle.kernel_invariant.specs.Records.{door_at, item_of, owner_in, record_of, stage_in, stage_of}
 use Rattle.kernel_invariant.specs.Core.{caller_number, door_in, is_outside, live_in}
 use Rattle.kernel_invariant.specs.Coherent.{IsCoherent}
 use Rattle.kernel_invariant.specs.Core.{core}
@@ -19,23 +19,26 @@ use Rattle.kernel_invariant.specs.Events.{Begins, InvocationArrow, IsAcceptedNow
 use Rattle.kernel_invariant.specs.Arrows.{has_own_room, own_table}
 use Rattle.kernel_invariant.specs.Arrows.EndsBy.{door_invalid, server_full, interrupted, server_ended}
 use Rattle.kernel_invariant.specs.Events.InvocationArrow.{stays, begins, cancels, ends, leaves}
-use Rattle.kernel_laws.specs.Places.{BecomesAnswered, BecomesEntered, HasEntered, IsAccept, IsCollect, answer_at, is_answered_in, is_entered_in, is_returned_in, is_returned_stage, process_at}
+use Rattle.run_places.specs.Places.{BecomesAnswered, BecomesEntered, HasEntered, IsAccept, IsCollect, answer_at, is_answered_in, is_entered_in, is_returned_in, is_returned_stage, process_at}
 use Rattle.kernel_laws.specs.Once.{CollectsEntered, Enters, FailsToEnter, InvocationMoves, IsLiveCallOf, Once, WaitsAgain, WasEntered}
 use Rattle.kernel_laws.specs.Once.InvocationMoves.{stays as move_stays, begins as move_begins, cancels as move_cancels, ends as move_ends, leaves as move_leaves}
 use Rattle.kernel_laws.specs.Once.WaitsAgain.{is_idle, is_given, has_failed}
-use Rattle.kernel_laws.proofs.Changes.{answered_rank, entered_rank}
-use Rattle.kernel_laws.proofs.Known.{Known, becomes_once, changes, false_not_true, invariant_after, invariant_before, next}
-use Rattle.kernel_laws.proofs.NoticePlaces.{notice_entered_by}
-use Rattle.kernel_laws.proofs.Bound.{invalid_decides, none_invalid}
-use Rattle.kernel_laws.proofs.ReturnRefusals.{no_return_refusal}
-use Rattle.kernel_laws.proofs.Returns.{return_ends, return_parks, return_unbinds, wakes}
+use Rattle.run_places.proofs.Counts.{too_few_is, room_is}
+use Rattle.run_places.proofs.Changes.{answered_rank, entered_rank}
+use Rattle.run_places.proofs.Known.{Known, becomes_once, changes, false_not_true, invariant_after, invariant_before, next, number_of_event}
+use Rattle.run_places.proofs.Invocations.{MovesAt, begun, entered_by, invocations, return_ends}
+use Rattle.run_places.proofs.NoticePlaces.{notice_entered_by}
+use Rattle.run_places.proofs.Bound.{invalid_decides, none_invalid}
+use Rattle.run_places.proofs.ReturnRefusals.{no_return_refusal}
+use Rattle.kernel_laws.proofs.Returns.{return_parks, return_unbinds, wakes}
 use Rattle.kernel_laws.proofs.Story.{story}
 use Rattle.kernel_laws.proofs.Parked.{Parks, failed_accept_parks}
 use Rattle.kernel_laws.proofs.Parked.Parks.{idle, given, unbound}
-use Rattle.kernel_laws.proofs.Rows.{Breaks, HandsOver, answered_row, ended_row, entered_row, is_ended_in}
-use Rattle.kernel_laws.proofs.Rows.Breaks.{by_cause, by_interrupt}
-use Rattle.kernel_laws.proofs.Rows.HandsOver.{results, nothing, error}
-use Rattle.kernel_laws.proofs.Readers.{AnsweredRowAt, EndedRowAt, EnteredAt, EnteredRowAt, ReturnedAt, accept_of, number_of, returned}
+use Rattle.run_places.proofs.Rows.{Breaks, HandsOver, answered_row, ended_row, is_ended_in, EnteredRow, some_call}
+use Rattle.run_places.proofs.Rows.Breaks.{by_cause, by_interrupt}
+use Rattle.run_places.proofs.Rows.HandsOver.{results, nothing, error}
+use Rattle.kernel_laws.proofs.Readers.{AnsweredRowAt, EndedRowAt, EnteredAt, ReturnedAt, accept_of, number_of, returned}
+use Rattle.run_places.specs.Counts.{free_descriptors}
 
 differs :
     (n c entry cookie entry' cookie' : ℕ) (bytes : List ℕ) (fds : List Fd) →
@@ -58,7 +61,7 @@ same_item c d o e f = cc
 at_given : (u : ℕ) (o : Option Call) → stage_in o ≡ Some (stage.Given (tid u)) → is_entered_in o ≡ false
 at_given u o e = grind arith
 
-at_entered : (u : ℕ) (o : Option Call) → stage_in o ≡ Some (stage.Entered (tid u)) → is_entered_in o ≡ true
+pub at_entered : (u : ℕ) (o : Option Call) → stage_in o ≡ Some (stage.Entered (tid u)) → is_entered_in o ≡ true
 at_entered u o e = grind arith
 
 at_given_not_ended : (u : ℕ) (o : Option Call) → stage_in o ≡ Some (stage.Given (tid u)) → is_ended_in o ≡ false
@@ -87,17 +90,6 @@ pub owner_same : (m : State) (o : Option Call) (s : CallStage) → stage_in o �
 owner_same m None s e = grind arith
 owner_same m (Some r) s e = refl
 
-pub begun :
-    (m : State) (t : ℕ) (q : Option Request) (a : Answer) (n : State) (u : ℕ) (w : Item) (o p : Option Inv) →
-    InvocationArrow m t q a n u o p → o ≡ None → item_in p ≡ Some w → p ≡ Some (new_invocation w)
-begun m t q a n u w o p stays e f = absurd (grind arith)
-begun m t q a n u w o p (begins i g h k b) e f =
-    let same : i ≡ w = cc in
-    ap (λ (z : Item). Some (new_invocation z)) same
-begun m t q a n u w o p (cancels v g) e f = absurd (grind arith)
-begun m t q a n u w o p (ends v bytes pass g h l k) e f = absurd (grind arith)
-begun m t q a n u w o p (leaves v g) e f = absurd (grind arith)
-
 -- an accept that fails begins no invocation
 not_begun :
     (m : State) (t : ℕ) (q : Option Request) (a : Answer) (n : State) (u c : ℕ) (o p : Option Inv) →
@@ -107,10 +99,6 @@ not_begun m t q a n u c o p (begins i g h k b) e f = absurd (subst (λ (z : Answ
 not_begun m t q a n u c o p (cancels v g) e f = absurd (cc e)
 not_begun m t q a n u c o p (ends v bytes pass g h l k) e f = refl
 not_begun m t q a n u c o p (leaves v g) e f = refl
-
--- a call that was given to a thread ends only by an accept that fails
-some_call : (a b : Call) → Some a ≡ Some b → a ≡ b
-some_call a b e = cc
 
 failed :
     (m : State) (t : ℕ) (q : Option Request) (a : Answer) (n : State) (r : Call) (x : Errno) → Breaks m t q a n r x → x ≡ EMFILE →
@@ -157,14 +145,8 @@ module _ (m : State) (xs : List Turn) (k : Known m xs) where
   answered_once : (c i j : ℕ) → BecomesAnswered m xs c i → BecomesAnswered m xs c j → i ≡ j
   answered_once c i j a b = becomes_once m xs k c i j 5 is_answered_in answered_rank a b
 
-  pub entered_by :
-      (i c : ℕ) (x : Turn) → slice_get xs i ≡ Some x → BecomesEntered m xs c i →
-      EnteredRowAt m xs i x (record_of (state_at m xs i) c) (record_of (state_at m xs (i + 1)) c)
-  entered_by i c x e b =
-      entered_row _ _ _ _ _ _ _ (changes m xs k c i x is_entered_in false true e false_not_true b.before b.after) b.after
-
   only_by_accept : (i c : ℕ) (x : Turn) → slice_get xs i ≡ Some x → BecomesEntered m xs c i → IsAccept m xs i x c
-  only_by_accept i c x e b = accept_of m xs i c x _ _ refl (entered_by i c x e b)
+  only_by_accept i c x e b = accept_of m xs i c x _ _ refl (entered_by m xs k i c x e b)
 
   notices_enter_no_call :
       (i n entry cookie c : ℕ) (x : Turn) → slice_get xs i ≡ Some x →
@@ -174,18 +156,7 @@ module _ (m : State) (xs : List Turn) (k : Known m xs) where
       go : IsAccept m xs i x c → ⊥
       go a = differs n c entry cookie a.entry a.cookie a.bytes a.descriptors (sym f ∙ a.answer)
 
-  abbrev pub MovesAt : ℕ → Turn → ℕ → Option Inv → Option Inv → Type 0
-  MovesAt i x t o p = InvocationArrow (state_at m xs i) x.thread x.request (answer_at m xs i x) (state_at m xs (i + 1)) t o p
-
-  pub invocations :
-      (i t : ℕ) (x : Turn) → slice_get xs i ≡ Some x → MovesAt i x t (invocation_of (state_at m xs i) t) (invocation_of (state_at m xs (i + 1)) t)
-  invocations i t x e =
-      subst
-      (λ n. InvocationArrow (state_at m xs i) x.thread x.request (answer_at m xs i x) n t (invocation_of (state_at m xs i) t) (invocation_of n t))
-      (sym (next m xs k i x e))
-      ((k.keeps i x e).invocations t)
-
-  moves : (i t : ℕ) (x : Turn) (o p : Option Inv) → slice_get xs i ≡ Some x → MovesAt i x t o p → InvocationMoves m xs i x t o p
+  moves : (i t : ℕ) (x : Turn) (o p : Option Inv) → slice_get xs i ≡ Some x → MovesAt m xs k i x t o p → InvocationMoves m xs i x t o p
   moves i t x o p e stays = move_stays
   moves i t x o p e (begins y g h l b) = move_begins y g h l b
   moves i t x o p e (cancels v w) = move_cancels v w
@@ -209,12 +180,13 @@ module _ (m : State) (xs : List Turn) (k : Known m xs) where
         was_given = s;
         stage_before = before;
         stage_after = after;
+        room = λ r f. fits r f (entered_by m xs k i c x e becomes);
         entered = becomes;
         no_notice = λ n b. notice_or_call c _ (sym (notice_entered_by m xs k i n x e b).given ∙ s);
-        nothing_else = λ d b. same_given c d (entered_by i d x e b).call (sym (entered_by i d x e b).given ∙ s) (number_of (state_at m xs i) d _ (entered_by i d x e b).before);
+        nothing_else = λ d b. same_given c d (entered_by m xs k i d x e b).call (sym (entered_by m xs k i d x e b).given ∙ s) (number_of (state_at m xs i) d _ (entered_by m xs k i d x e b).before);
         of_the_owner = owner_same (state_at m xs i) (record_of (state_at m xs i) c) _ before ∙ h.at_doors.given_owner c x.thread before;
         free_before = free;
-        invocation_after = begun _ _ _ _ _ x.thread (item.Call c) _ _ (invocations i x.thread x e) free (g.invocations.entered c x.thread after);
+        invocation_after = begun _ _ _ _ _ x.thread (item.Call c) _ _ (invocations m xs k i x.thread x e) free (g.invocations.entered c x.thread after);
       }
     where
       before : stage_of (state_at m xs i) c ≡ Some (stage.Given (tid x.thread))
@@ -222,6 +194,14 @@ module _ (m : State) (xs : List Turn) (k : Known m xs) where
 
       free : invocation_of (state_at m xs i) x.thread ≡ None
       free = h.servers.outside x.thread (ap is_outside s)
+
+      fits :
+          (r : Call) → record_of (state_at m xs i) c ≡ Some r →
+          EnteredRow (state_at m xs i) x.thread x.request (answer_at m xs i x) (record_of (state_at m xs i) c) (record_of (state_at m xs (i + 1)) c) →
+          length r.objects ≤ free_descriptors (state_at m xs i) (process_of (state_at m xs i) x.thread)
+      fits r f w =
+          let same : w.call ≡ r = cc (sym w.before ∙ f) in
+          room_is (state_at m xs i) (process_of (state_at m xs i) x.thread) r.objects (ap (λ (z : Call). has_own_room (state_at m xs i) x.thread z.objects) (sym same) ∙ w.room)
 
       becomes : BecomesEntered m xs c i
       becomes =
@@ -259,11 +239,11 @@ module _ (m : State) (xs : List Turn) (k : Known m xs) where
             answer = a;
             full = λ z f.
                 let same : z ≡ r = some_call z r (sym f ∙ b) in
-                ap (λ (y : Call). has_own_room (state_at m xs i) x.thread y.objects) same ∙ room;
+                too_few_is (state_at m xs i) _ z.objects (ap (λ (y : Call). has_own_room (state_at m xs i) x.thread y.objects) same ∙ room);
             none_entered = λ d b. none (only_by_accept i d x e b);
             no_notice = λ n b. notice_or_call c _ (sym (notice_entered_by m xs k i n x e b).given ∙ s);
             of_the_owner = owner_same (state_at m xs i) (record_of (state_at m xs i) c) _ before ∙ h.at_doors.given_owner c x.thread before;
-            free_after = not_begun _ _ _ _ _ x.thread c _ _ (invocations i x.thread x e) (h.servers.outside x.thread (ap is_outside s)) a;
+            free_after = not_begun _ _ _ _ _ x.thread c _ _ (invocations m xs k i x.thread x e) (h.servers.outside x.thread (ap is_outside s)) a;
             parked =
                 again
                 (subst (λ n. Parks (state_at m xs i) n x.thread) (sym (next m xs k i x e))
@@ -271,7 +251,8 @@ module _ (m : State) (xs : List Turn) (k : Known m xs) where
           }
         where
           again : Parks (state_at m xs i) (state_at m xs (i + 1)) x.thread → WaitsAgain m xs i x c
-          again (idle v b) = is_idle (none_invalid (state_at m xs i) x.thread v) b
+          again (idle v b) =
+              is_idle (none_invalid (state_at m xs i) x.thread v) (b ∙ ap is.Idle (number_of_event m xs k i (slice_get_within xs i x e)))
           again (given v other b) =
               is_given other (none_invalid (state_at m xs i) x.thread v)
               (λ same. ended_not_given EMFILE x.thread _ after (g.waits.given_back c x.thread (b ∙ ap (λ (y : Item). is.Given y) same)))
@@ -465,7 +446,7 @@ module _ (m : State) (xs : List Turn) (k : Known m xs) where
         notices_enter_no_call = notices_enter_no_call;
         in_its_invocation = in_its_invocation;
         one_at_once = one_at_once;
-        invocations = λ i t x e. moves i t x _ _ e (invocations i t x e);
+        invocations = λ i t x e. moves i t x _ _ e (invocations m xs k i t x e);
         return_parks = return_parks m xs k;
         return_unbinds = return_unbinds m xs k;
         wakes = wakes m xs k;

@@ -16,6 +16,7 @@ use Rattle.kernel_records.proofs.Lists.{at_number-with_at_number, numbered_withi
 use Rattle.written_kernel.proofs.Settling.{KeptByFailing, KeptByGiving, KeptByMaking, KeptByStarting, give_and_start-all, make_notices-alone, settle-all, with_notice_of}
 use Rattle.written_kernel.proofs.Threads.{thread_at-change_thread}
 use Rattle.kernel_invariant.proofs.Picks.{parked_is, pick_is}
+use Rattle.run_places.proofs.ReturnRefusals.{not_both}
 
 -- a change of one thread
 
@@ -131,11 +132,9 @@ stays_valid : (m n : State) (t since : ℕ) → Stays m n t since → has_invali
 stays_valid m n t since (still f s) = f
 stays_valid m n t since (got f i s) = f
 
-not_both : (b : Bool) → b ≡ true → b ≡ false → ⊥
-not_both b e f = cc
-
 waits : (before m : State) (t since : ℕ) → has_invalid_door m t ≡ false → state_of m t ≡ is.Idle since → Stays m (settle before m) t since
-waits before m t since v e = settle-all (λ n. Stays m n t since) before makes fails gives starts m (still v e)
+waits before m t since v e =
+    settle-all (λ n. Stays m n t since) before (record { makes = makes; fails = fails; gives = gives; starts = starts }) m (still v e)
   where
     makes : KeptByMaking (λ n. Stays m n t since) before
     makes n d l h = stays_with m n (with_notice_of n d) t since refl refl h

@@ -2,19 +2,19 @@
 use Rattle.std.specs.Prelude.{ℕ, ◌≡◌, ◌+◌, ◌<◌, List, Option, true, Some, None, length, slice_get}
 use Rattle.std.proofs.Common.{sym, ap, ◌∙◌}
 use native.Mathlib.Omega.{arith}
+use Rattle.kernel_records.proofs.NumberedLists.{find-number}
 use Rattle.written_kernel.specs.Types.{Call, CallStage, Obj}
 use Rattle.dk_base.specs.declared.answer.Answer.TheVariants as answer
 use Rattle.kernel_records.specs.declared.record.CallStage.TheVariants as stage
-use Rattle.kernel_records.specs.Words.{at_stage, cookie_of, entry_of, new_descriptors, objects_passed, tid}
+use Rattle.kernel_records.specs.Words.{at_stage, call_number, cookie_of, entry_of, new_descriptors, objects_passed, tid}
 use Rattle.written_kernel.specs.Words.{State, Turn, door_of, new_call, object_at, state_at}
 use Rattle.kernel_invariant.specs.Records.{record_of}
 use Rattle.kernel_invariant.specs.Core.{has_arguments}
 use Rattle.kernel_invariant.specs.Arrows.{own_table}
-use Rattle.kernel_invariant.proofs.Calls.{find-number}
-use Rattle.kernel_laws.specs.Places.{IsAccept, MakesCall, answer_at, is_entered_in, is_entered_stage, is_returned_in, process_at}
-use Rattle.kernel_laws.proofs.Refusals.{no_refusal}
-use Rattle.kernel_laws.proofs.Rows.{AnsweredRow, EndedRow, EnteredRow, IsOlder, MadeRow, Origin, ReturnedRow, ended_row, entered_row, is_ended_in, origin, returned_row}
-use Rattle.kernel_laws.proofs.Rows.Origin.{new, older}
+use Rattle.run_places.specs.Places.{IsAccept, MakesCall, answer_at, is_entered_in, is_entered_stage, is_returned_in, process_at}
+use Rattle.run_places.proofs.Refusals.{no_refusal}
+use Rattle.run_places.proofs.Rows.{AnsweredRow, EndedRow, EnteredRow, IsOlder, MadeRow, Origin, ReturnedRow, ended_row, entered_row, is_ended_in, origin, returned_row}
+use Rattle.run_places.proofs.Rows.Origin.{new, older}
 use Rattle.kernel_laws.proofs.Story.{Story}
 use Rattle.kernel_laws.proofs.Story.Story.{unmade, changed}
 
@@ -43,7 +43,7 @@ abbrev OriginAt : State → List Turn → ℕ → Turn → Option Call → Call 
 OriginAt m xs i x o r = Origin (state_at m xs i) x.thread x.request (answer_at m xs i x) o r
 
 pub number_of : (m : State) (c : ℕ) (r : Call) → record_of m c ≡ Some r → r.number ≡ c
-number_of m c r e = find-number m.call_tree.calls c r e
+number_of m c r e = find-number call_number m.call_tree.calls c r e
 
 pub same_record : (o : Option Call) (r s : Call) → o ≡ Some r → o ≡ Some s → r ≡ s
 same_record o r s e f = cc

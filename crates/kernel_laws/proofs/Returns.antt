@@ -12,42 +12,25 @@ use Rattle.dk_base.specs.declared.request.Request.TheVariants as request
 use Rattle.kernel_records.specs.declared.record.ThreadState.TheVariants as is
 use Rattle.kernel_records.specs.declared.record.CallStage.TheVariants as stage
 use Rattle.kernel_records.specs.Words.{bound_at, idle_thread, state_in, thread_at_state, thread_outside, tid, unbind_thread}
-use Rattle.written_kernel.specs.Words.{MayEnter, MayTurn, State, Turn, act, bound_of, go_on, has_invalid_door, invocation_of, is_running_state, now, process_of, refusal_of, return, return_answer, return_parked, return_unbound, settle, state_at, state_of, step, unless_refused, wake, with_event_counted}
+use Rattle.written_kernel.specs.Words.{MayEnter, MayTurn, State, Turn, bound_of, go_on, has_invalid_door, invocation_of, is_running_state, now, process_of, refusal_of, return, return_answer, return_parked, return_unbound, settle, state_at, state_of, step, unless_refused, wake, with_event_counted}
 use Rattle.written_kernel.proofs.Settling.{settle-all}
-use Rattle.written_kernel.proofs.Invocations.{invocation-park_thread, invocation-without, invocation_of-settle}
 use Rattle.kernel_invariant.specs.Records.{item_in, record_of, stage_in}
 use Rattle.kernel_invariant.specs.Arrows.{EndsNow}
 use Rattle.kernel_invariant.specs.Arrows.EndsBy.{door_invalid, server_full, interrupted, server_ended}
-use Rattle.kernel_laws.specs.Places.{BecomesReturned, HasEntered, IsBoundToInvalid, IsBoundToNoInvalid, IsReturn, ReturnAnswers, answer_at, is_returned_in}
-use Rattle.kernel_laws.specs.Places.ReturnAnswers.{waits, unbound}
+use Rattle.run_places.specs.Places.{BecomesReturned, HasEntered, IsBoundToInvalid, IsBoundToNoInvalid, IsReturn, ReturnAnswers, answer_at, is_returned_in}
+use Rattle.run_places.specs.Places.ReturnAnswers.{waits, unbound}
 use Rattle.kernel_laws.specs.Once.{IsParked, IsWoken, ReturnParks, ReturnUnbinds}
 use Rattle.kernel_laws.specs.Once.IsParked.{is_idle, is_given}
-use Rattle.kernel_laws.proofs.Bound.{invalid_decides, no_invalid, none_invalid}
+use Rattle.run_places.proofs.Bound.{invalid_decides, no_invalid, none_invalid}
+use Rattle.run_places.proofs.Invocations.{return_ends}
 use Rattle.kernel_laws.proofs.Parked.{IsParkedNow, IsThread, Parks, bound_elsewhere, bound_here, is_thread, loses_idle, other_thread, parks, picked_idle, given_bound, given_state, state_elsewhere, state_there}
 use Rattle.kernel_laws.proofs.Parked.Parks.{idle, given as given_other, unbound as has_failed}
-use Rattle.kernel_laws.proofs.ReturnRefusals.{not_refused_at}
-use Rattle.kernel_laws.proofs.Changes.{Change}
-use Rattle.kernel_laws.proofs.Changes.Change.{made, given, entered, returned, ended, broken_off, left, results_collected, nothing_collected, error_collected}
-use Rattle.kernel_laws.proofs.Known.{ChangeAt, Known, next, stays_or_changes}
-use Rattle.kernel_laws.proofs.Done.{is_leaving_turn, none_ends_at}
-use Rattle.kernel_laws.proofs.Refusals.{return_result}
-
-return_leaves : (m : State) (t p : ℕ) (bytes : List ℕ) (pass : List Pass) → invocation_of (return m t p bytes pass).state t ≡ None
-return_leaves m t p bytes pass = go (has_invalid_door m t)
-  where
-    go :
-        (b : Bool) → invocation_of (if b then return_unbound m t p bytes pass else return_parked m t p bytes pass).state t ≡ None
-    go true = invocation-without m.process_table t t thread_outside (λ x. refl) ∙ grind (arith, nat_tests)
-    go false = invocation-park_thread m.process_table t (now m) t ∙ grind (arith, nat_tests)
-
-step_leaves :
-    (m : State) (t : ℕ) (bytes : List ℕ) (pass : List Pass) → refusal_of m t (process_of m t) (request.Return bytes pass) ≡ None →
-    invocation_of (step m t (Some (request.Return bytes pass))).state t ≡ None
-unfolding step
-step_leaves m t bytes pass e =
-    invocation_of-settle m (act m t (Some (request.Return bytes pass))).state t
-    ∙ ap (λ o. invocation_of (unless_refused m o (return m t (process_of m t) bytes pass)).state t) e
-    ∙ return_leaves m t (process_of m t) bytes pass
+use Rattle.run_places.proofs.ReturnRefusals.{not_refused_at}
+use Rattle.run_places.proofs.Changes.{Change}
+use Rattle.run_places.proofs.Changes.Change.{made, given, entered, returned, ended, broken_off, left, results_collected, nothing_collected, error_collected}
+use Rattle.run_places.proofs.Known.{ChangeAt, Known, next, stays_or_changes, number_of_event}
+use Rattle.run_places.proofs.Done.{is_leaving_turn, none_ends_at}
+use Rattle.run_places.proofs.Refusals.{return_result}
 
 step_answers :
     (m : State) (t : ℕ) (bytes : List ℕ) (pass : List Pass) → refusal_of m t (process_of m t) (request.Return bytes pass) ≡ None →
@@ -72,15 +55,25 @@ record GoesOn (n : State) (t : ℕ) : Type 0 where
 
 settle_running : (before m : State) (t : ℕ) → state_of m t ≡ is.Running → state_of (settle before m) t ≡ is.Running
 settle_running before m t =
-    settle-all (λ n. state_of n t ≡ is.Running) before (λ n d l e. e)
-    (λ n u l e. state_elsewhere n.process_table u t _ (other_thread n t u _ _ e (loses_idle n u l).1 (λ z. cc)) ∙ e)
-    (λ n w x p e. given_state n w.item x.thread.0 t (other_thread n t x.thread.0 _ _ e (picked_idle n _ x p) (λ z. cc)) ∙ e)
-    (λ n u d e. state_elsewhere n.process_table u t _ (other_thread n t u _ _ e d (λ z. cc)) ∙ e)
+    settle-all (λ n. state_of n t ≡ is.Running) before
+    (record {
+      makes = λ n d l e. e;
+      fails = λ n u l e. state_elsewhere n.process_table u t _ (other_thread n t u _ _ e (loses_idle n u l).1 (λ z. cc)) ∙ e;
+      gives = λ n w x p e. given_state n w.item x.thread.0 t (other_thread n t x.thread.0 _ _ e (picked_idle n _ x p) (λ z. cc)) ∙ e;
+      starts = λ n u d e. state_elsewhere n.process_table u t _ (other_thread n t u _ _ e d (λ z. cc)) ∙ e;
+    })
     m
 
 settle_unbound : (before m : State) (t : ℕ) → bound_of m t ≡ None → bound_of (settle before m) t ≡ None
 settle_unbound before m t =
-    settle-all (λ n. bound_of n t ≡ None) before (λ n d l e. e) (λ n u l e. fails n u e) (λ n w x p e. given_bound n w.item x.thread.0 t ∙ e) (λ n u d e. e) m
+    settle-all (λ n. bound_of n t ≡ None) before
+    (record {
+      makes = λ n d l e. e;
+      fails = λ n u l e. fails n u e;
+      gives = λ n w x p e. given_bound n w.item x.thread.0 t ∙ e;
+      starts = λ n u d e. e;
+    })
+    m
   where
     fails : (n : State) (u : ℕ) → bound_of n t ≡ None → bound_at (unbind_thread n.bindings u) t ≡ None
     fails n u e = go (t == u) refl
@@ -171,8 +164,8 @@ change_returns m t q a n o p bytes pass (results_collected r b x e f g k l z) no
 change_returns m t q a n o p bytes pass (nothing_collected r b x e f g k l z) none h s = absurd (cc (e, h))
 change_returns m t q a n o p bytes pass (error_collected r x e f g k l) none h s = absurd (cc (e, h))
 
-not_yet : (o : Option Call) (t : ℕ) → stage_in o ≡ Some (stage.Entered (tid t)) → is_returned_in o ≡ false
-not_yet o t e = grind arith
+pub not_returned_yet : (o : Option Call) (t : ℕ) → stage_in o ≡ Some (stage.Entered (tid t)) → is_returned_in o ≡ false
+not_returned_yet o t e = grind arith
 
 module _ (m : State) (xs : List Turn) (k : Known m xs) where
   return_answers :
@@ -204,7 +197,7 @@ module _ (m : State) (xs : List Turn) (k : Known m xs) where
       none = no_invalid (state_at m xs i) x.thread v
 
       go : Parks (state_at m xs i) (state_at m xs (i + 1)) x.thread → IsParked m xs i x
-      go (idle f b) = is_idle b
+      go (idle f b) = is_idle (b ∙ ap is.Idle (number_of_event m xs k i (slice_get_within xs i x e)))
       go (given_other f other b) = is_given other b
       go (has_failed f b d) = absurd (cc (sym f ∙ none))
 
@@ -239,19 +232,11 @@ module _ (m : State) (xs : List Turn) (k : Known m xs) where
       go : Wakes (state_at m xs i) (step (state_at m xs i) x.thread x.request).state x.thread (answer_at m xs i x) → IsWoken m xs i x
       go w = record { answer = w.answer; running = ap (λ n. state_of n x.thread) (next m xs k i x e) ∙ w.running }
 
-  pub return_ends :
-      (i : ℕ) (x : Turn) (bytes : List ℕ) (pass : List Pass) → slice_get xs i ≡ Some x → IsReturn m xs i x bytes pass →
-      invocation_of (state_at m xs (i + 1)) x.thread ≡ None
-  return_ends i x bytes pass e h =
-      ap (λ n. invocation_of n x.thread) (next m xs k i x e)
-      ∙ ap (λ r. invocation_of (step (state_at m xs i) x.thread r).state x.thread) h.asked
-      ∙ step_leaves (state_at m xs i) x.thread bytes pass (not_refused_at m xs k i x bytes pass e h)
-
   pub return_hands_over :
       (i c : ℕ) (x : Turn) (bytes : List ℕ) (pass : List Pass) → slice_get xs i ≡ Some x → IsReturn m xs i x bytes pass →
       HasEntered (state_at m xs i) x.thread c → BecomesReturned m xs c i
   return_hands_over i c x bytes pass e h s =
-      record { within = slice_get_within xs i x e; before = not_yet _ x.thread s; after = go (stays_or_changes m xs k c i x e) }
+      record { within = slice_get_within xs i x e; before = not_returned_yet _ x.thread s; after = go (stays_or_changes m xs k c i x e) }
     where
       go :
           (record_of (state_at m xs (i + 1)) c ≡ record_of (state_at m xs i) c)
@@ -259,6 +244,6 @@ module _ (m : State) (xs : List Turn) (k : Known m xs) where
           is_returned_in (record_of (state_at m xs (i + 1)) c) ≡ true
       go (inl same) =
           absurd
-          (no_item (invocation_of (state_at m xs (i + 1)) x.thread) (item.Call c) (return_ends i x bytes pass e h)
+          (no_item (invocation_of (state_at m xs (i + 1)) x.thread) (item.Call c) (return_ends m xs k i x bytes pass e h)
           ((k.invariant (i + 1) (omega (arith, slice_get_within xs i x e))).consistent.coherent.invocations.entered c x.thread (ap stage_in same ∙ s)))
       go (inr w) = change_returns _ _ _ _ _ _ _ bytes pass w (none_ends_at m xs k i x e (ap is_leaving_turn h.asked)) h.asked s

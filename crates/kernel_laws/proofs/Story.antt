@@ -5,7 +5,7 @@ use native.Mathlib.Omega.{arith}
 use Rattle.written_kernel.specs.Types.{Call}
 use Rattle.written_kernel.specs.Words.{State, Turn, state_at}
 use Rattle.kernel_invariant.specs.Records.{record_of}
-use Rattle.kernel_laws.proofs.Known.{ChangeAt, Known, TurnAt, stays_or_changes, turn_at}
+use Rattle.run_places.proofs.Known.{ChangeAt, Known, TurnAt, stays_or_changes, turn_at}
 
 pub data Story (m : State) (xs : List Turn) (c : ℕ) : ℕ → Option Call → Type 0 where
   unmade : (i : ℕ) → Story m xs c i None

@@ -5,6 +5,7 @@ use Rattle.std.specs.List.{list_any}
 use Rattle.std.proofs.Common.{refl, sym, ap, ◌∙◌}
 use native.Mathlib.Omega.{arith}
 use Rattle.std.proofs.lemmas.Bool.Decides.{nat_tests}
+use Rattle.kernel_records.proofs.NumberedLists.{find-as}
 use Rattle.written_kernel.specs.Types.{Answer, Call, CallStage, Errno, Fd, Notice, Obj, Pass, Request, ThreadState}
 use Rattle.dk_base.specs.declared.error.Errno.TheVariants.{E2BIG, EINVAL, EMFILE}
 use Rattle.dk_base.specs.declared.limits.TheConstants.{DATA_MAX, PASS_MAX}
@@ -13,17 +14,17 @@ use Rattle.dk_base.specs.declared.request.Request.TheVariants as request
 use Rattle.dk_base.specs.declared.answer.Answer.TheVariants as answer
 use Rattle.kernel_records.specs.declared.record.ThreadState.TheVariants as is
 use Rattle.kernel_records.specs.declared.record.CallStage.TheVariants as stage
-use Rattle.kernel_records.specs.Words.{Test, first_refusal, free_rows, insert_rows, is_bad_pass, is_given_as, is_given_notice_as, is_not_open, is_to_collect_as, limit_tests, new_descriptors, object_in, object_named, objects_passed, refused_where, release_rows, table_in, tid, with_table}
+use Rattle.kernel_records.specs.Words.{Test, call_number, first_refusal, free_rows, insert_rows, is_bad_pass, is_given_as, is_given_notice_as, is_not_open, is_to_collect_as, limit_tests, new_descriptors, object_in, object_named, objects_passed, refused_where, release_rows, table_in, tid, with_table}
 use Rattle.written_kernel.specs.Words.{State, accept_call, accept_notice, act, begin_call, client_call, collect_answer, collect_answer_in, door_named, door_of, effect, fail_begin, find_call, find_notice, go_on, has_room, object_at, objects_collected, objects_collected_in, pool_tests, process_of, refusal_of, return, return_parked, return_unbound, has_invalid_door, state_of, step, table_of, tables_after_collect, tables_after_pass, tables_with, unless_refused}
 use Rattle.written_kernel.proofs.Settling.{tables-settle}
 use Rattle.kernel_invariant.specs.Records.{record_of}
 use Rattle.kernel_invariant.specs.Arrows.{has_own_room, own_table}
-use Rattle.kernel_invariant.proofs.Calls.{find-as}
+use Rattle.run_places.specs.Counts.{free_below}
 use Rattle.kernel_laws.specs.NoLoss.{is_descriptor, is_release_of}
-use Rattle.kernel_laws.proofs.Installed.{differ, installed_then, named_none, names_new, not_released, others_stay, released_none, released_then, table_elsewhere, table_put_back}
-use Rattle.kernel_laws.proofs.Passed.{names_each}
-use Rattle.kernel_laws.proofs.Refusals.{entry_tells, none_of}
-use Rattle.kernel_laws.proofs.Refusals.FailsIn.{by_test}
+use Rattle.kernel_laws.proofs.Installed.{installed_then, named_none, names_new, new_lowest, not_released, others_stay, released_none, released_then, table_elsewhere, table_put_back}
+use Rattle.run_places.proofs.Passed.{names_each}
+use Rattle.run_places.proofs.Refusals.{entry_tells, none_of}
+use Rattle.run_places.proofs.Refusals.FailsIn.{by_test}
 
 -- after an act
 
@@ -35,7 +36,7 @@ tables-go_on m t s e =
     ∙ ap (λ z. (go_on m t (process_of m t) z).state.tables) e
 
 -- an entry that is not refused
-tables-effect :
+pub tables-effect :
     (m : State) (t : ℕ) (r : Request) → refusal_of m t (process_of m t) r ≡ None →
     (step m t (Some r)).state.tables ≡ (effect m t (process_of m t) r).state.tables
 unfolding step
@@ -49,13 +50,13 @@ given_found :
     (m : State) (t : ℕ) (r : Call) → record_of m r.number ≡ Some r → r.stage ≡ stage.Given (tid t) →
     find_call m (is_given_as r.number t) ≡ Some r
 given_found m t r e f =
-    find-as (is_given_as r.number t) m.call_tree.calls r.number r (λ y g. grind (arith, nat_tests)) e (grind (arith, nat_tests))
+    find-as call_number (is_given_as r.number t) m.call_tree.calls r.number r (λ y g. grind (arith, nat_tests)) e (grind (arith, nat_tests))
 
 returned_found :
     (m : State) (r : Call) (bytes : List ℕ) (objects : List Obj) → record_of m r.number ≡ Some r → r.stage ≡ stage.Returned bytes objects →
     find_call m (is_to_collect_as r.number) ≡ Some r
 returned_found m r bytes objects e f =
-    find-as (is_to_collect_as r.number) m.call_tree.calls r.number r (λ y g. grind (arith, nat_tests)) e (grind (arith, nat_tests))
+    find-as call_number (is_to_collect_as r.number) m.call_tree.calls r.number r (λ y g. grind (arith, nat_tests)) e (grind (arith, nat_tests))
 
 tables-accept :
     (m : State) (t : ℕ) (q : Option Request) (r : Call) → q ≡ None → state_of m t ≡ is.Given (item.Call r.number) →
@@ -84,7 +85,7 @@ tables-collect m t q r bytes objects e s f g room =
 pub record Installs (m n : State) (p : ℕ) (fds : List Fd) (objects : List Obj) : Type 0 where
   pub were_free : map (λ fd. object_at m p fd) fds ≡ map (λ o. None) fds
   pub name_them : map (λ fd. object_at n p fd) fds ≡ map (λ o. Some o) objects
-  pub differ : (a b : ℕ) (fd : Fd) → slice_get fds a ≡ Some fd → slice_get fds b ≡ Some fd → a ≡ b
+  pub lowest : (a : ℕ) (fd : Fd) → slice_get fds a ≡ Some fd → free_below m p fd ≡ a
   pub others : (fd : Fd) → list_any (is_descriptor fd) fds ≡ false → object_at n p fd ≡ object_at m p fd
   pub elsewhere : (q : ℕ) → (q ≡ p → ⊥) → (fd : Fd) → object_at n q fd ≡ object_at m q fd
 
@@ -102,7 +103,7 @@ installs m n p objects room e =
     record {
       were_free = named_none (table_of m p) objects fits;
       name_them = ap (λ t. map (λ fd. object_named t fd) (new_descriptors (table_of m p) objects)) after ∙ names_new (table_of m p) objects fits;
-      differ = λ a b fd f g. differ (table_of m p) objects a b fd fits f g;
+      lowest = λ a fd f. new_lowest (table_of m p) objects a fd fits f;
       others = λ fd f. ap (λ t. object_named t fd) after ∙ ap object_in (others_stay (table_of m p) objects fd f);
       elsewhere = same_elsewhere m n p (insert_rows (table_of m p) objects) e;
     }
@@ -173,7 +174,7 @@ notice_accept_keeps m t c q e s p fd =
     go (Some x) = refl
 
 -- with no object the table is put back
-nothing_installed : (m : State) (p q : ℕ) (fd : Fd) → object_named (table_in (tables_after_collect m p []) q) fd ≡ object_at m q fd
+pub nothing_installed : (m : State) (p q : ℕ) (fd : Fd) → object_named (table_in (tables_after_collect m p []) q) fd ≡ object_at m q fd
 nothing_installed m p q fd =
     ap (λ (b : Bool). object_named (table_in (if b then tables_with m p [] else m.tables) q) fd) room
     ∙ ap (λ t. object_named t fd) (table_put_back m.tables p q)
@@ -235,12 +236,12 @@ releases m n p pass e =
 
 -- an entry that answers no error is not refused
 
-not_refused :
+pub not_refused :
     (m : State) (t : ℕ) (q : Option Request) (r : Request) (a : Answer) → q ≡ Some r → (step m t q).answer ≡ a →
     ((e : Errno) → a ≡ answer.Failure e → ⊥) → refusal_of m t (process_of m t) r ≡ None
 not_refused m t q r a e f h = none_of _ (λ x g. h x (sym f ∙ (entry_tells m t q r x e).1 (by_test x g)))
 
-not_held : (xs : List Test) (x : Test) (ys : List Test) → first_refusal (xs ++ x ∷ ys) ≡ None → x.holds ≡ false
+pub not_held : (xs : List Test) (x : Test) (ys : List Test) → first_refusal (xs ++ x ∷ ys) ≡ None → x.holds ≡ false
 not_held [] x ys e = grind arith
 not_held (y ∷ xs) x ys e = grind (arith, not_held xs x ys)
 

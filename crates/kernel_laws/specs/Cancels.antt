@@ -1,15 +1,20 @@
 -- Cancels: a server that asks is told the flag of its invocation, and the flag is set exactly where the client of its call left
 -- while the server was in it, and the call's door does not have DOOR_NO_CANCEL.
-use Rattle.std.specs.Prelude.{ℕ, ◌≡◌, ◌+◌, ◌<◌, ◌≤◌, ◌↔◌, List, true, false, Some, length, slice_get}
-use Rattle.written_kernel.specs.Types.{Call}
+use Rattle.std.specs.Prelude.{ℕ, ◌≡◌, ◌+◌, ◌<◌, ◌≤◌, ◌↔◌, List, Option, Bool, true, false, Some, None, length, slice_get}
+use Rattle.written_kernel.specs.Types.{Call, Door}
 use Rattle.dk_base.specs.declared.object.Item.TheVariants as item
 use Rattle.dk_base.specs.declared.request.Request.TheVariants as request
 use Rattle.dk_base.specs.declared.answer.Answer.TheVariants as answer
-use Rattle.kernel_records.specs.Words.{no_cancel_of}
 use Rattle.written_kernel.specs.Words.{State, Turn, door_of, invocation_of, is_cancelled, state_at}
 use Rattle.kernel_invariant.specs.Records.{item_of, record_of}
 use Rattle.kernel_invariant.specs.Events.{IsLeft}
-use Rattle.kernel_laws.specs.Places.{HasEntered, answer_at}
+use Rattle.run_places.specs.Counts.{has_attribute}
+use Rattle.run_places.specs.Places.{HasEntered, answer_at}
+
+-- a door has DOOR_NO_CANCEL, 128
+abbrev pub bars_cancels : Option Door → Bool
+bars_cancels None = false
+bars_cancels (Some d) = has_attribute 128 d.attrs
 
 -- At the turn of an earlier place thread u had entered the call of its invocation of place i, whose door does not bar cancels, and
 -- the caller of this call was interrupted, or ended.
@@ -21,7 +26,7 @@ pub record WasLeft (m : State) (xs : List Turn) (i u : ℕ) : Type 0 where
   pub call : Call
   pub there : record_of (state_at m xs at) call.number ≡ Some call
   pub entered : HasEntered (state_at m xs at) u call.number
-  pub may_cancel : no_cancel_of (door_of (state_at m xs at) call.door) ≡ false
+  pub may_cancel : bars_cancels (door_of (state_at m xs at) call.door) ≡ false
   pub is_left : IsLeft (state_at m xs at) turn.request (state_at m xs (at + 1)) call
   pub same : item_of (state_at m xs i) u ≡ Some (item.Call call.number)
 

@@ -1,7 +1,7 @@
 -- Cause: a Call is refused exactly where the first of its tests that holds says so; what a caller collects has its cause at the
 -- one place where its call left the queue or its server, and each cause has its effect there; and a call that is live when its
 -- caller ends is Gone for ever.
-use Rattle.std.specs.Prelude.{ℕ, ◌≡◌, ◌+◌, ◌<◌, ◌≤◌, ◌↔◌, ◌⊎◌, List, Bool, true, false, Some, None, length, nat_lt, slice_get}
+use Rattle.std.specs.Prelude.{ℕ, ◌≡◌, ◌+◌, ◌<◌, ◌≤◌, ◌↔◌, ◌⊎◌, List, true, false, Some, None, length, nat_lt, slice_get}
 use Rattle.written_kernel.specs.Types.{Answer, Call, Errno, Fd, Obj, Pass}
 use Rattle.dk_base.specs.declared.error.Errno.TheVariants.{EBADF, EINTR, EMFILE}
 use Rattle.dk_base.specs.declared.request.Request.TheVariants as request
@@ -9,11 +9,12 @@ use Rattle.dk_base.specs.declared.answer.Answer.TheVariants as answer
 use Rattle.kernel_records.specs.declared.record.CallStage.TheVariants as stage
 use Rattle.kernel_records.specs.declared.record.ThreadState.TheVariants as is
 use Rattle.kernel_records.specs.Words.{is_live, tid}
-use Rattle.written_kernel.specs.Words.{State, Turn, has_room, is_valid, state_at, state_of}
+use Rattle.written_kernel.specs.Words.{State, Turn, is_valid, state_at, state_of}
 use Rattle.kernel_invariant.specs.Records.{record_of, stage_of}
 use Rattle.kernel_invariant.specs.Core.{is_underway, underway_in}
 use Rattle.kernel_invariant.specs.Arrows.{EndsNow}
-use Rattle.kernel_laws.specs.Places.{IsCollect, IsRefusedBy, MakesCall, ReturnsCall, answer_at, process_at}
+use Rattle.run_places.specs.Counts.{free_descriptors}
+use Rattle.run_places.specs.Places.{IsCollect, IsRefusedBy, MakesCall, ReturnsCall, answer_at, process_at}
 
 -- the turn of place i is this Call
 pub record IsCall (m : State) (xs : List Turn) (i : ℕ) (x : Turn) (fd : Fd) (bytes : List ℕ) : Type 0 where
@@ -34,8 +35,12 @@ pub record Leaves (m : State) (xs : List Turn) (c e : ℕ) : Type 0 where
   pub over : underway_in (record_of (state_at m xs (e + 1)) c) ≡ false
 
 -- the process of a thread has a free descriptor for each of these at place i
-abbrev pub has_room_at : State → List Turn → ℕ → ℕ → List Obj → Bool
-has_room_at m xs i t objects = has_room (state_at m xs i) (process_at m xs i t) objects
+abbrev pub HasRoomAt : State → List Turn → ℕ → ℕ → List Obj → Type 0
+HasRoomAt m xs i t objects = length objects ≤ free_descriptors (state_at m xs i) (process_at m xs i t)
+
+-- or it has fewer
+abbrev pub HasTooFewAt : State → List Turn → ℕ → ℕ → List Obj → Type 0
+HasTooFewAt m xs i t objects = free_descriptors (state_at m xs i) (process_at m xs i t) < length objects
 
 -- The causes of what is collected at place k, by the turn z, of call c, which left at place e: a constructor for each. Which
 -- numbers descriptors get is told by the law of what matches.
@@ -44,16 +49,16 @@ pub data Cause (m : State) (xs : List Turn) (c e k : ℕ) (z : Turn) : Answer �
   -- where they are more than the caller had room for
   results :
       (r : Call) (w : Turn) (fds : List Fd) → record_of (state_at m xs e) c ≡ Some r → (back : ReturnsCall m xs e w c) →
-      has_room_at m xs k z.thread back.objects ≡ true → Cause m xs c e k z (answer.Results back.bytes fds (nat_lt r.rsize (length back.bytes)))
+      HasRoomAt m xs k z.thread back.objects → Cause m xs c e k z (answer.Results back.bytes fds (nat_lt r.rsize (length back.bytes)))
   -- it was returned, and its caller's process has too few descriptors free at the collect
   caller_full :
       (r : Call) (w : Turn) → record_of (state_at m xs e) c ≡ Some r → (back : ReturnsCall m xs e w c) →
-      has_room_at m xs k z.thread back.objects ≡ false → Cause m xs c e k z (answer.Failure EMFILE)
+      HasTooFewAt m xs k z.thread back.objects → Cause m xs c e k z (answer.Failure EMFILE)
   -- the thread that it was given to accepted it, and its process had too few descriptors free
   server_full :
       (r : Call) (w : Turn) → slice_get xs e ≡ Some w → w.request ≡ None → record_of (state_at m xs e) c ≡ Some r →
       r.stage ≡ stage.Given (tid w.thread) →
-      answer_at m xs e w ≡ answer.EnterFailed c → has_room_at m xs e w.thread r.objects ≡ false →
+      answer_at m xs e w ≡ answer.EnterFailed c → HasTooFewAt m xs e w.thread r.objects →
       Cause m xs c e k z (answer.Failure EMFILE)
   -- it waited, its door became invalid, and its caller did not end
   door_invalid :
@@ -71,16 +76,16 @@ pub data Cause (m : State) (xs : List Turn) (c e k : ℕ) (z : Turn) : Answer �
       (r.stage ≡ stage.Given (tid u)) ⊎ (r.stage ≡ stage.Entered (tid u)) → EndsNow (state_at m xs e) (state_at m xs (e + 1)) u →
       (state_of (state_at m xs (e + 1)) r.caller.0 ≡ is.Done → ⊥) → Cause m xs c e k z (answer.Failure EINTR)
 
--- two causes are of one row
-abbrev pub AreOfOneRow :
+-- two causes are of one kind
+abbrev pub AreOfOneKind :
     (m : State) (xs : List Turn) (c e k : ℕ) (z : Turn) (a b : Answer) → Cause m xs c e k z a → Cause m xs c e k z b → Type 0
-AreOfOneRow m xs c e k z a b (Cause.results r w fds f back room) (Cause.results r' w' fds' f' back' room') = Unit {0}
-AreOfOneRow m xs c e k z a b (Cause.caller_full r w f back room) (Cause.caller_full r' w' f' back' room') = Unit {0}
-AreOfOneRow m xs c e k z a b (Cause.server_full r w h q f g y d) (Cause.server_full r' w' h' q' f' g' y' d') = Unit {0}
-AreOfOneRow m xs c e k z a b (Cause.door_invalid r f g v x d) (Cause.door_invalid r' f' g' v' x' d') = Unit {0}
-AreOfOneRow m xs c e k z a b (Cause.interrupted r w h f u q d) (Cause.interrupted r' w' h' f' u' q' d') = Unit {0}
-AreOfOneRow m xs c e k z a b (Cause.server_ended r u f g h d) (Cause.server_ended r' u' f' g' h' d') = Unit {0}
-AreOfOneRow m xs c e k z a b p q = ⊥
+AreOfOneKind m xs c e k z a b (Cause.results r w fds f back room) (Cause.results r' w' fds' f' back' room') = Unit {0}
+AreOfOneKind m xs c e k z a b (Cause.caller_full r w f back room) (Cause.caller_full r' w' f' back' room') = Unit {0}
+AreOfOneKind m xs c e k z a b (Cause.server_full r w h q f g y d) (Cause.server_full r' w' h' q' f' g' y' d') = Unit {0}
+AreOfOneKind m xs c e k z a b (Cause.door_invalid r f g v x d) (Cause.door_invalid r' f' g' v' x' d') = Unit {0}
+AreOfOneKind m xs c e k z a b (Cause.interrupted r w h f u q d) (Cause.interrupted r' w' h' f' u' q' d') = Unit {0}
+AreOfOneKind m xs c e k z a b (Cause.server_ended r u f g h d) (Cause.server_ended r' u' f' g' h' d') = Unit {0}
+AreOfOneKind m xs c e k z a b p q = ⊥
 
 -- two answers of collects tell the same, but for the numbers of descriptors
 abbrev pub TellsSame : Answer → Answer → Type 0
@@ -106,7 +111,7 @@ pub record HasCause (m : State) (xs : List Turn) : Type 0 where
   -- it has one cause
   pub exact :
       (c e k : ℕ) (z : Turn) (a b : Answer) (p : Cause m xs c e k z a) (q : Cause m xs c e k z b) →
-      TellsSame a b × AreOfOneRow m xs c e k z a b p q
+      TellsSame a b × AreOfOneKind m xs c e k z a b p q
   -- where there is a cause the call leaves, whatever is collected of it later
   pub at_once : (c e k : ℕ) (z : Turn) (a : Answer) → Cause m xs c e k z a → Leaves m xs c e
   -- a call whose caller ended is Gone, or was answered before; one that is live when its caller ends is Gone from then on; and a

@@ -12,7 +12,7 @@ use Rattle.written_kernel.specs.Words.{State, Turn, door_of, is_valid, object_at
 use Rattle.kernel_invariant.specs.Arrows.{EndsNow}
 use Rattle.kernel_invariant.specs.Core.{ended_in}
 use Rattle.kernel_invariant.specs.Records.{owner_in, owner_of_call, record_of, stage_of}
-use Rattle.kernel_laws.specs.Places.{notice_stage_of, owner_of_notice, process_at}
+use Rattle.run_places.specs.Places.{notice_stage_of, owner_of_notice, process_at}
 
 abbrev pub is_ended : State → ℕ → Bool
 is_ended m p = ended_in (at_number m.process_table.processes p)

@@ -1,15 +1,32 @@
--- Held: every shuttle has one holder. The walk from a thread to the caller of the call that it serves, and so on, ends at its
--- root; the walk the other way, to the thread that serves its call, and so on, ends at its lead, which holds the root's shuttle.
-use Rattle.std.specs.Prelude.{ℕ, ◌≡◌, ◌≤◌, List, true, Some, None, length, slice_get}
-use Rattle.written_kernel.specs.Words.{State, Turn, caller_of, is_runnable, lead, root, server_of, state_at}
+-- Held: every shuttle has one holder. The walk from a thread to the thread that it serves, and so on, ends at its root; the walk the
+-- other way, to the thread that serves it, and so on, ends at its lead, which holds the root's shuttle.
+use Rattle.std.specs.Prelude.{ℕ, ◌≡◌, ◌≤◌, ◌⊎◌, List, true, Some, length, slice_get}
+use Rattle.written_kernel.specs.Types.{Call}
+use Rattle.kernel_records.specs.declared.record.CallStage.TheVariants as stage
+use Rattle.kernel_records.specs.Words.{tid}
+use Rattle.written_kernel.specs.Words.{State, Turn, is_runnable, lead, root, state_at}
+use Rattle.kernel_invariant.specs.Records.{record_of}
+
+-- thread t serves thread u: a call of u was given to t, or t has entered it
+pub record Serves (m : State) (t u : ℕ) : Type 0 where
+  pub number : ℕ
+  pub call : Call
+  pub there : record_of m number ≡ Some call
+  pub with_it : (call.stage ≡ stage.Given (tid t)) ⊎ (call.stage ≡ stage.Entered (tid t))
+  pub caller : call.caller.0 ≡ u
 
 -- of each state
 pub record HasHolders (m : State) : Type 0 where
-  -- a root serves no call, and no thread serves a lead's
-  pub root_ends : (t : ℕ) → caller_of m (root m t) ≡ None
-  pub lead_ends : (t : ℕ) → server_of m (lead m t) ≡ None
-  -- the one walk is the other turned round
-  pub serves_back : (t u : ℕ) → caller_of m t ≡ Some u → server_of m u ≡ Some t
+  -- a thread serves at most one thread at a time, and at most one serves it
+  pub one_served : (t u v : ℕ) → Serves m t u → Serves m t v → u ≡ v
+  pub one_server : (t u v : ℕ) → Serves m t v → Serves m u v → t ≡ u
+  -- the walks
+  pub root_goes_on : (t u : ℕ) → Serves m t u → root m t ≡ root m u
+  pub root_stays : (t : ℕ) → ((u : ℕ) → Serves m t u → ⊥) → root m t ≡ t
+  pub root_ends : (t u : ℕ) → Serves m (root m t) u → ⊥
+  pub lead_goes_on : (t u : ℕ) → Serves m t u → lead m u ≡ lead m t
+  pub lead_stays : (t : ℕ) → ((u : ℕ) → Serves m u t → ⊥) → lead m t ≡ t
+  pub lead_ends : (t u : ℕ) → Serves m u (lead m t) → ⊥
   -- a thread that can take a turn holds the shuttle of its root, so two of them have different roots
   pub holds : (t : ℕ) → is_runnable m t ≡ true → lead m (root m t) ≡ t
   pub apart : (t u : ℕ) → is_runnable m t ≡ true → is_runnable m u ≡ true → root m t ≡ root m u → t ≡ u

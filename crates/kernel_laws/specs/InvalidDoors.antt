@@ -1,6 +1,7 @@
--- Invalid doors: a door that is not valid stays so; and a door turns so only by a Revoke that is not refused and whose descriptor
--- names it, or as the process that made it ends, and by each of the two. No call and no notice waits at one.
-use Rattle.std.specs.Prelude.{ℕ, ◌≡◌, ◌+◌, ◌≤◌, List, true, false, Some, length, slice_get}
+-- Invalid doors: a door is valid as it is made; one that is not valid stays so; and a door turns so only by a Revoke that is not
+-- refused and whose descriptor names it, or as the process that made it ends, and by each of the two. No call and no notice waits at
+-- one.
+use Rattle.std.specs.Prelude.{ℕ, ◌≡◌, ◌+◌, ◌≤◌, List, true, false, Some, None, length, slice_get}
 use Rattle.written_kernel.specs.Types.{Call, Door, Fd, Notice}
 use Rattle.dk_base.specs.declared.object.Obj.TheVariants as obj
 use Rattle.dk_base.specs.declared.request.Request.TheVariants as request
@@ -9,7 +10,7 @@ use Rattle.kernel_records.specs.declared.record.CallStage.TheVariants as stage
 use Rattle.kernel_records.specs.declared.record.NoticeStage.TheVariants as notice
 use Rattle.written_kernel.specs.Words.{State, Turn, door_of, is_valid, object_at, state_at}
 use Rattle.kernel_invariant.specs.Records.{notice_of, owner_in, record_of}
-use Rattle.kernel_laws.specs.Places.{answer_at, process_at}
+use Rattle.run_places.specs.Places.{answer_at, process_at}
 use Rattle.kernel_laws.specs.Ends.{is_ended}
 
 -- why door d is not valid any more after the turn of place i
@@ -23,6 +24,9 @@ pub data Invalidates (m : State) (xs : List Turn) (i : ℕ) (x : Turn) (d : ℕ)
       is_ended (state_at m xs (i + 1)) p ≡ true → Invalidates m xs i x d
 
 pub record InvalidDoors (m : State) (xs : List Turn) : Type 0 where
+  pub valid_at_first :
+      (i d : ℕ) (x : Turn) (door : Door) → slice_get xs i ≡ Some x → door_of (state_at m xs i) d ≡ None →
+      door_of (state_at m xs (i + 1)) d ≡ Some door → is_valid (state_at m xs (i + 1)) d ≡ true
   pub stays :
       (i j d : ℕ) (door : Door) → i ≤ j → j ≤ length xs → door_of (state_at m xs i) d ≡ Some door → is_valid (state_at m xs i) d ≡ false →
       is_valid (state_at m xs j) d ≡ false

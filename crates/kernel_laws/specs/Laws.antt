@@ -5,6 +5,11 @@ use Rattle.kernel_laws.specs.Once.{Once}
 use Rattle.kernel_laws.specs.Match.{Match}
 use Rattle.kernel_laws.specs.Cause.{HasCause}
 use Rattle.kernel_laws.specs.NoLoss.{NoLoss}
+use Rattle.kernel_laws.specs.Rows.{Rows}
+use Rattle.kernel_laws.specs.Waits.{WaitsWhereToldSo}
+use Rattle.kernel_laws.specs.Given.{StaysGiven}
+use Rattle.kernel_laws.specs.Names.{Names}
+use Rattle.kernel_laws.specs.Answers.{AnswersRequests}
 use Rattle.kernel_laws.specs.MadeByCreator.{MadeByCreator}
 use Rattle.kernel_laws.specs.Refused.{Refused}
 use Rattle.kernel_laws.specs.Held.{Held}
@@ -12,7 +17,7 @@ use Rattle.kernel_laws.specs.Pools.{AreBoundToOwn, NoPoolHasBoth}
 use Rattle.kernel_laws.specs.Ends.{Ends}
 use Rattle.kernel_laws.specs.InvalidDoors.{InvalidDoors}
 use Rattle.kernel_laws.specs.Cancels.{Cancels}
-use Rattle.kernel_laws.specs.Notices.{Notices}
+use Rattle.notice_laws.specs.Notices.{Notices}
 use Rattle.kernel_laws.specs.EventsShown.{EventsShown}
 
 pub record AllLaws (m : State) (xs : List Turn) : Type 0 where
@@ -20,6 +25,11 @@ pub record AllLaws (m : State) (xs : List Turn) : Type 0 where
   pub match : Match m xs
   pub cause : HasCause m xs
   pub no_loss : NoLoss m xs
+  pub rows : Rows m xs
+  pub waits : WaitsWhereToldSo m xs
+  pub given : StaysGiven m xs
+  pub names : Names m xs
+  pub answers : AnswersRequests m xs
   pub held : Held m xs
   pub made_by_creator : MadeByCreator m xs
   pub refused : Refused m xs

@@ -1,9 +1,8 @@
-pub mod Refusals
-pub mod Places
 pub mod Once
 pub mod Match
 pub mod Cause
 pub mod MadeByCreator
+pub mod Entries
 pub mod Refused
 pub mod Pools
 pub mod Ends
@@ -11,7 +10,11 @@ pub mod InvalidDoors
 pub mod Cancels
 pub mod EventsShown
 pub mod NoLoss
+pub mod Rows
+pub mod Given
+pub mod Waits
 pub mod Held
-pub mod Notices
+pub mod Answers
+pub mod Names
 pub mod Laws
 pub mod Words

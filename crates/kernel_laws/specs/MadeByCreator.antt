@@ -1,24 +1,18 @@
 -- Who made a door: a door comes only by a Create, belongs to the process of the thread that asked for it, and keeps that
 -- owner, its number, its procedure, its cookie and its attributes; and a call of it is entered at that procedure, with that
 -- cookie.
-use Rattle.std.specs.Prelude.{ℕ, ◌≡◌, ◌+◌, ◌<◌, ◌≤◌, List, Option, Some, None, length, slice_get}
+use Rattle.std.specs.Prelude.{ℕ, ◌≡◌, ◌+◌, ◌<◌, ◌≤◌, List, Some, None, length, slice_get}
 use Rattle.written_kernel.specs.Types.{Door, Fd}
 use Rattle.dk_base.specs.declared.answer.Answer.TheVariants as answer
 use Rattle.written_kernel.specs.Words.{State, Turn, door_of, process_of, state_at}
 use Rattle.kernel_invariant.specs.Records.{door_of_call}
-use Rattle.kernel_invariant.specs.Events.{IsCreated, IsMade, IsSameDoor}
-use Rattle.kernel_laws.specs.Places.{IsOf, answer_at}
+use Rattle.kernel_invariant.specs.Events.{IsCreated, IsMade}
+use Rattle.run_places.specs.Places.{IsKept, IsOf, answer_at}
 
 -- the turn of place i asks for door d, in the name of its thread's process
 pub record IsCreate (m : State) (xs : List Turn) (i d : ℕ) (x : Turn) (made : Door) : Type 0 where
   pub created : IsCreated (state_at m xs i) x.thread x.request made
   pub number : made.number ≡ d
-
--- a door is there later too, and is the same
-pub record IsKept (d : Door) (later : Option Door) : Type 0 where
-  pub door : Door
-  pub there : later ≡ Some door
-  pub same : IsSameDoor d door
 
 -- a door that is there at place i was made by a Create at an earlier place
 pub record WasMade (m : State) (xs : List Turn) (i d : ℕ) (door : Door) : Type 0 where

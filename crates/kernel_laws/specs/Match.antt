@@ -1,10 +1,10 @@
 -- Match: a server sees what the caller of the call sent, and the caller gets what the server returned for that call.
-use Rattle.std.specs.Prelude.{ℕ, ◌≡◌, ◌+◌, ◌<◌, List, Bool, Some, None, length, map, nat_lt, slice_get}
+use Rattle.std.specs.Prelude.{ℕ, ◌≡◌, ◌+◌, ◌<◌, ◌≤◌, List, Bool, Some, None, length, map, nat_lt, slice_get}
 use Rattle.written_kernel.specs.Types.{Call, Fd, Obj, Pass}
 use Rattle.dk_base.specs.declared.answer.Answer.TheVariants as answer
 use Rattle.written_kernel.specs.Words.{State, Turn, door_of, state_at}
 use Rattle.kernel_invariant.specs.Records.{record_of}
-use Rattle.kernel_laws.specs.Places.{BecomesReturned, HasEntered, IsAccept, IsCollect, IsOf, IsReturn, MakesCall, ReturnsCall, answer_at, objects_at, objects_named, process_at}
+use Rattle.run_places.specs.Places.{BecomesReturned, HasEntered, IsAccept, IsCollect, IsOf, IsReturn, MakesCall, ReturnsCall, answer_at, objects_at, objects_named, process_at}
 
 -- What the accept of call c at place a shows was sent: by the Call that made c, at an earlier place. The bytes are the same,
 -- procedure and cookie are those of the door that the caller's descriptor named, and the descriptors that are shown name, in
@@ -49,14 +49,24 @@ pub record IsReturned (m : State) (xs : List Turn) (k : ℕ) (z : Turn) (results
   pub installed : objects_at (state_at m xs (k + 1)) (process_at m xs (k + 1) z.thread) fds ≡ map (λ o. Some o) objects
   pub grown : more ≡ nat_lt makes.rsize (length results)
 
+-- a call is there later too, of the same caller, door and room for results
+pub record IsKeptCall (m : State) (c : ℕ) (r : Call) : Type 0 where
+  pub later : Call
+  pub there : record_of m c ≡ Some later
+  pub caller : later.caller ≡ r.caller
+  pub door : later.door ≡ r.door
+  pub rsize : later.rsize ≡ r.rsize
+
 pub record Match (m : State) (xs : List Turn) : Type 0 where
-  -- a call comes only by a Call that answers its number, each such Call makes one, and each call is made once
+  -- a call comes only by a Call that answers its number, each such Call makes one, and each call is made once, and stays
   pub none_at_first : (c : ℕ) → record_of m c ≡ None
   pub made : (i c : ℕ) (x : Turn) → slice_get xs i ≡ Some x → answer_at m xs i x ≡ answer.WaitCall c → MakesCall m xs i x c
   pub only_by_call :
       (i c : ℕ) (x : Turn) (r : Call) → slice_get xs i ≡ Some x → record_of (state_at m xs i) c ≡ None →
       record_of (state_at m xs (i + 1)) c ≡ Some r → MakesCall m xs i x c
   pub made_once : (c i j : ℕ) (x y : Turn) → MakesCall m xs i x c → MakesCall m xs j y c → i ≡ j
+  pub kept :
+      (i j c : ℕ) (r : Call) → i ≤ j → j ≤ length xs → record_of (state_at m xs i) c ≡ Some r → IsKeptCall (state_at m xs j) c r
   pub shown :
       (a c entry cookie : ℕ) (y : Turn) (bytes : List ℕ) (fds : List Fd) → slice_get xs a ≡ Some y →
       answer_at m xs a y ≡ answer.Entered c entry cookie bytes fds → IsSent m xs a y c entry cookie bytes fds

@@ -1,31 +1,14 @@
 -- No loss: the objects that a door call or a return takes along are in transit from that event on, until all of them are
 -- installed at one event, or all are dropped at one event; and descriptors with release are closed.
-use Rattle.std.specs.Prelude.{ℕ, ◌≡◌, ◌+◌, List, [], Option, Bool, true, Some, None, if◌then◌else◌, map, slice_get, unwrap_or, ◌==◌, false}
+use Rattle.std.specs.Prelude.{ℕ, ◌≡◌, ◌+◌, List, Bool, true, Some, None, if◌then◌else◌, map, slice_get, ◌==◌, false}
 use Rattle.std.specs.List.{list_any}
-use Rattle.written_kernel.specs.Types.{Call, CallStage, Errno, Fd, Obj, Pass}
+use Rattle.written_kernel.specs.Types.{Errno, Fd, Obj, Pass}
 use Rattle.dk_base.specs.declared.request.Request.TheVariants as request
 use Rattle.dk_base.specs.declared.answer.Answer.TheVariants as answer
-use Rattle.kernel_records.specs.declared.record.CallStage.TheVariants as stage
-use Rattle.written_kernel.specs.Words.{State, Turn, object_at, objects_in_call, state_at}
-use Rattle.kernel_invariant.specs.Core.{has_arguments}
-use Rattle.kernel_invariant.specs.Records.{record_of}
-use Rattle.kernel_laws.specs.Places.{IsCollect, IsReturn, MakesCall, ReturnsCall, answer_at, objects_at, objects_named, process_at}
-
--- what of a call is in transit: its arguments while it waits or is given to a thread, its results until they are collected
-
-abbrev pub results_in_transit : CallStage → Option (List Obj)
-results_in_transit (stage.Returned bytes objects) = Some objects
-results_in_transit _ = None
-
-abbrev pub message_of : Call → Option (List Obj)
-message_of r = if has_arguments r.stage then Some r.objects else results_in_transit r.stage
-
-abbrev pub message_in : Option Call → Option (List Obj)
-message_in None = None
-message_in (Some r) = message_of r
-
-abbrev pub in_transit : State → ℕ → Option (List Obj)
-in_transit m c = message_in (record_of m c)
+use Rattle.written_kernel.specs.Words.{State, Turn, object_at, state_at}
+use Rattle.run_places.specs.Counts.{free_below}
+use Rattle.run_places.specs.References.{in_transit}
+use Rattle.run_places.specs.Places.{IsCollect, IsReturn, MakesCall, ReturnsCall, answer_at, objects_at, objects_named, process_at}
 
 -- after the turn x of place i the objects that these descriptors named before are in transit, as those of call c
 pub record IsPut (m : State) (xs : List Turn) (i : ℕ) (x : Turn) (c : ℕ) (pass : List Pass) : Type 0 where
@@ -53,12 +36,13 @@ is_descriptor a b = a.0 == b.0
 abbrev pub IsSameTable : State → List Turn → ℕ → ℕ → Type 0
 IsSameTable m xs i p = (fd : Fd) → object_at (state_at m xs (i + 1)) p fd ≡ object_at (state_at m xs i) p fd
 
--- In the table of process p these descriptors were free before the turn of place i, and name these objects after it; each is
--- another one; and all others, of this process and of all others, name what they named.
+-- In the table of process p these descriptors were free before the turn of place i, the lowest in order, and name these objects
+-- after it; and all others, of this process and of all others, name what they named.
 pub record AreInstalled (m : State) (xs : List Turn) (i p : ℕ) (fds : List Fd) (objects : List Obj) : Type 0 where
   pub were_free : objects_at (state_at m xs i) p fds ≡ map (λ o. None) fds
   pub name_them : objects_at (state_at m xs (i + 1)) p fds ≡ map (λ o. Some o) objects
-  pub differ : (a b : ℕ) (fd : Fd) → slice_get fds a ≡ Some fd → slice_get fds b ≡ Some fd → a ≡ b
+  -- as many were free below each as stand before it
+  pub lowest : (a : ℕ) (fd : Fd) → slice_get fds a ≡ Some fd → free_below (state_at m xs i) p fd ≡ a
   pub others :
       (fd : Fd) → list_any (is_descriptor fd) fds ≡ false →
       object_at (state_at m xs (i + 1)) p fd ≡ object_at (state_at m xs i) p fd
@@ -102,9 +86,6 @@ pub record AreReleased (m : State) (xs : List Turn) (i p : ℕ) (pass : List Pas
 
 pub record NoLoss (m : State) (xs : List Turn) : Type 0 where
   pub none_at_first : (c : ℕ) → in_transit m c ≡ None
-  -- the objects in transit of a call are the references that its record holds
-  pub counted :
-      (i c : ℕ) (r : Call) → record_of (state_at m xs i) c ≡ Some r → unwrap_or (in_transit (state_at m xs i) c) [] ≡ objects_in_call r
   -- objects are put in transit by each Call that makes a call and by each Return to a client, and by nothing else
   pub call_puts : (i c : ℕ) (x : Turn) (makes : MakesCall m xs i x c) → IsPut m xs i x c makes.pass
   pub return_puts : (i c : ℕ) (x : Turn) (returns : ReturnsCall m xs i x c) → IsPut m xs i x c returns.pass

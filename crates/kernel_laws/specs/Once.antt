@@ -1,7 +1,7 @@
 -- Once: each call is entered at most once, and only by the accept of the thread that it was given to, a thread of the
 -- process that made its door; an accept enters just one call or just one notice; a thread is in one invocation at a time; each
 -- call is answered at most once, and only by the collect of its caller; and what is answered with results was entered before.
-use Rattle.std.specs.Prelude.{ℕ, ◌≡◌, ◌+◌, ◌<◌, ◌≤◌, ◌⊎◌, List, Option, Bool, true, false, Some, None, length, slice_get}
+use Rattle.std.specs.Prelude.{ℕ, ◌≡◌, ◌+◌, ◌<◌, ◌≤◌, ◌⊎◌, List, Option, Bool, true, Some, None, length, slice_get}
 use Rattle.written_kernel.specs.Types.{Call, Fd, Inv, Item, Pass}
 use Rattle.dk_base.specs.declared.error.Errno.TheVariants.{EINVAL, EMFILE}
 use Rattle.dk_base.specs.declared.object.Item.TheVariants as item
@@ -9,10 +9,11 @@ use Rattle.dk_base.specs.declared.answer.Answer.TheVariants as answer
 use Rattle.kernel_records.specs.declared.record.CallStage.TheVariants as stage
 use Rattle.kernel_records.specs.declared.record.ThreadState.TheVariants as is
 use Rattle.kernel_records.specs.Words.{cancelled_invocation, is_live, new_invocation, tid}
-use Rattle.written_kernel.specs.Words.{State, Turn, bound_of, caller_in, has_room, invocation_of, now, process_of, state_at, state_of}
+use Rattle.written_kernel.specs.Words.{State, Turn, bound_of, caller_in, invocation_of, process_of, state_at, state_of}
 use Rattle.kernel_invariant.specs.Records.{item_of, owner_of_call, record_of, stage_of}
 use Rattle.kernel_invariant.specs.Events.{Begins, IsCancelled}
-use Rattle.kernel_laws.specs.Places.{BecomesAnswered, BecomesEntered, HasEntered, IsAccept, IsBoundToInvalid, IsBoundToNoInvalid, IsCollect, IsReturn, NoticeBecomesEntered, answer_at}
+use Rattle.run_places.specs.Counts.{free_descriptors}
+use Rattle.run_places.specs.Places.{BecomesAnswered, BecomesEntered, HasEntered, IsAccept, IsBoundToInvalid, IsBoundToNoInvalid, IsCollect, IsReturn, NoticeBecomesEntered, answer_at}
 
 -- the turn of place i ends the wait of a thread that was given call c: the thread enters c, and nothing else
 pub record Enters (m : State) (xs : List Turn) (i : ℕ) (x : Turn) (c : ℕ) : Type 0 where
@@ -20,6 +21,8 @@ pub record Enters (m : State) (xs : List Turn) (i : ℕ) (x : Turn) (c : ℕ) : 
   pub was_given : state_of (state_at m xs i) x.thread ≡ is.Given (item.Call c)
   pub stage_before : stage_of (state_at m xs i) c ≡ Some (stage.Given (tid x.thread))
   pub stage_after : HasEntered (state_at m xs (i + 1)) x.thread c
+  -- enough descriptors are free for the call's objects
+  pub room : (r : Call) → record_of (state_at m xs i) c ≡ Some r → length r.objects ≤ free_descriptors (state_at m xs i) (process_of (state_at m xs i) x.thread)
   pub entered : BecomesEntered m xs c i
   pub nothing_else : (d : ℕ) → BecomesEntered m xs d i → d ≡ c
   pub no_notice : (n : ℕ) → NoticeBecomesEntered m xs n i → ⊥
@@ -31,7 +34,7 @@ pub record Enters (m : State) (xs : List Turn) (i : ℕ) (x : Turn) (c : ℕ) : 
 -- once. Where it was bound to a door that is not valid, it was unbound instead, and will be told so.
 pub data WaitsAgain (m : State) (xs : List Turn) (i : ℕ) (x : Turn) (c : ℕ) : Type 0 where
   is_idle :
-      IsBoundToNoInvalid (state_at m xs i) x.thread → state_of (state_at m xs (i + 1)) x.thread ≡ is.Idle (now (state_at m xs i)) →
+      IsBoundToNoInvalid (state_at m xs i) x.thread → state_of (state_at m xs (i + 1)) x.thread ≡ is.Idle (i + 1) →
       WaitsAgain m xs i x c
   is_given :
       (other : Item) → IsBoundToNoInvalid (state_at m xs i) x.thread → (other ≡ item.Call c → ⊥) →
@@ -49,7 +52,7 @@ pub record FailsToEnter (m : State) (xs : List Turn) (i : ℕ) (x : Turn) (c : �
   pub stage_after : stage_of (state_at m xs (i + 1)) c ≡ Some (stage.Ended EMFILE)
   pub answer : answer_at m xs i x ≡ answer.EnterFailed c
   -- too few descriptors are free for the call's objects
-  pub full : (r : Call) → record_of (state_at m xs i) c ≡ Some r → has_room (state_at m xs i) (process_of (state_at m xs i) x.thread) r.objects ≡ false
+  pub full : (r : Call) → record_of (state_at m xs i) c ≡ Some r → free_descriptors (state_at m xs i) (process_of (state_at m xs i) x.thread) < length r.objects
   pub none_entered : (d : ℕ) → BecomesEntered m xs d i → ⊥
   pub no_notice : (n : ℕ) → NoticeBecomesEntered m xs n i → ⊥
   pub of_the_owner : owner_of_call (state_at m xs i) c ≡ Some (process_of (state_at m xs i) x.thread)
@@ -71,7 +74,7 @@ pub record CollectsEntered (m : State) (xs : List Turn) (i : ℕ) (x : Turn) : T
 
 -- after the turn of place i its thread is idle since this event, or was given an item at once
 pub data IsParked (m : State) (xs : List Turn) (i : ℕ) (x : Turn) : Type 0 where
-  is_idle : state_of (state_at m xs (i + 1)) x.thread ≡ is.Idle (now (state_at m xs i)) → IsParked m xs i x
+  is_idle : state_of (state_at m xs (i + 1)) x.thread ≡ is.Idle (i + 1) → IsParked m xs i x
   is_given : (got : Item) → state_of (state_at m xs (i + 1)) x.thread ≡ is.Given got → IsParked m xs i x
 
 -- there is a call, thread t is its caller, and it is neither answered nor Gone

@@ -1,20 +1,34 @@
--- Pools: none has both a call or a notice that waits and an idle thread; and who may stand in the pool of a private door.
-use Rattle.std.specs.Prelude.{ℕ, ◌≡◌, ◌≤◌, All, List, Some, None, length, true}
+-- Pools: no door has both an idle thread that may serve it and a call or a notice that waits; and to what doors threads are bound.
+use Rattle.std.specs.Prelude.{ℕ, ◌≡◌, ◌≤◌, List, Some, None, true, false, length}
+use Rattle.written_kernel.specs.Types.{Call, Notice}
+use Rattle.kernel_records.specs.declared.record.CallStage.TheVariants as stage
+use Rattle.kernel_records.specs.declared.record.NoticeStage.TheVariants as notice
 use Rattle.kernel_records.specs.declared.record.ThreadState.TheVariants as is
-use Rattle.kernel_records.specs.Words.{is_private_in}
-use Rattle.written_kernel.specs.Words.{State, Turn, bound_of, door_of, is_valid, pick, pool_of, process_of, state_at, state_of, waiting_items}
-use Rattle.kernel_invariant.specs.Records.{owner_in}
+use Rattle.written_kernel.specs.Words.{State, Turn, bound_of, door_of, is_valid, process_of, state_at, state_of}
+use Rattle.kernel_invariant.specs.Records.{notice_of, owner_in, record_of}
+use Rattle.run_places.specs.Counts.{has_own_pool}
 
--- the pool of each item that waits has no idle thread
+-- thread t may serve door d: it is bound to it where the door has a pool of its own, and else to no door and of the process that
+-- made it
+pub data MayServe (m : State) (t d : ℕ) : Type 0 where
+  bound : has_own_pool (door_of m d) ≡ true → bound_of m t ≡ Some d → MayServe m t d
+  unbound :
+      has_own_pool (door_of m d) ≡ false → bound_of m t ≡ None → owner_in (door_of m d) ≡ Some (process_of m t) → MayServe m t d
+
+-- a call or a notice waits at door d
+pub data WaitsAt (m : State) (d : ℕ) : Type 0 where
+  by_call : (c : ℕ) (r : Call) → record_of m c ≡ Some r → r.stage ≡ stage.Queued → r.door ≡ d → WaitsAt m d
+  by_notice : (c : ℕ) (n : Notice) → notice_of m c ≡ Some n → n.stage ≡ notice.Waiting → n.door ≡ d → WaitsAt m d
+
 abbrev pub HasNoneIdle : State → Type 0
-HasNoneIdle m = All (λ w. pick m (pool_of m w.door) ≡ None) (waiting_items m)
+HasNoneIdle m = (t d since : ℕ) → state_of m t ≡ is.Idle since → MayServe m t d → WaitsAt m d → ⊥
 
 abbrev pub NoPoolHasBoth : State → List Turn → Type 0
 NoPoolHasBoth m xs = (i : ℕ) → i ≤ length xs → HasNoneIdle (state_at m xs i)
 
 -- a thread is bound only to a private door of its own process, which is valid while the thread is idle
 pub record IsBoundToOwn (m : State) (t d : ℕ) : Type 0 where
-  pub is_private : is_private_in (door_of m d) ≡ true
+  pub is_private : has_own_pool (door_of m d) ≡ true
   pub own : owner_in (door_of m d) ≡ Some (process_of m t)
   pub valid : (since : ℕ) → state_of m t ≡ is.Idle since → is_valid m d ≡ true
 

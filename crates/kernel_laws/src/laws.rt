@@ -1,17 +1,11 @@
 //! The laws of every run of the written kernel. Nothing runs here: a function has no body, and a call of it hands its laws
 //! to the caller's proof.
 
-ghost use Rattle.std.specs.Prelude.{ℕ, ◌≡◌, ◌≤◌, ◌⊎◌, List, None, length};
+ghost use Rattle.std.specs.Prelude.{◌≡◌, ◌⊎◌, List, None};
 ghost use Rattle.written_kernel.specs.Types.{Pool};
-ghost use Rattle.written_kernel.specs.Words.{IsOpening, IsRun, State, Turn, calls_waiting, pick, state_after, state_at};
-ghost use Rattle.kernel_invariant.specs.Invariant.{Invariant};
+ghost use Rattle.written_kernel.specs.Words.{IsOpening, IsRun, State, Turn, calls_waiting, pick, state_after};
 ghost use Rattle.kernel_laws.specs.Laws.{Laws};
 ghost use Rattle.kernel_laws.specs.Pools.{HasNoneIdle};
-
-/// Each state of a run meets the invariant.
-pub fn every_state()
-    ensures { (m : State) (xs : List Turn) → IsOpening m → IsRun m xs → (i : ℕ) → i ≤ length xs → Invariant (state_at m xs i) }
-{}
 
 /// The laws hold of every run.
 #[tactic(auto, using(crate::proofs::EveryRun::laws_hold))]
@@ -19,8 +13,8 @@ pub fn every_run()
     ensures { (m : State) (xs : List Turn) → IsOpening m → IsRun m xs → Laws m xs }
 {}
 
-/// After every event of a run no pool has both an item that waits, a call or a notice, and an idle thread (`items`); and, after
-/// any turns, no waiting call and an idle thread (`calls`).
+/// After every event of a run no door has both an item that waits, a call or a notice, and an idle thread that may serve it
+/// (`items`); and, after any turns, no pool has both a waiting call and an idle thread (`calls`).
 pub fn no_pool_has_both()
     ensures items { (m : State) (xs : List Turn) → IsOpening m → IsRun m xs → HasNoneIdle (state_after m xs) }
     ensures calls { (m : State) (xs : List Turn) → IsOpening m → (pool : Pool) → (calls_waiting (state_after m xs) pool ≡ 0) ⊎ (pick (state_after m xs) pool ≡ None) }

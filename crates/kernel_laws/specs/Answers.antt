@@ -1,0 +1,36 @@
+-- Answers: an entry that answers no error gives the kind of answer that its request has.
+use Rattle.std.specs.Prelude.{ℕ, ◌≡◌, List, Some, slice_get}
+use Rattle.written_kernel.specs.Types.{Answer, Attrs, Errno, Fd, Param, Pass, PathId, Pid, Request, Tid}
+use Rattle.dk_base.specs.declared.answer.Answer.TheVariants as answer
+use Rattle.dk_base.specs.declared.request.Request.TheVariants as request
+use Rattle.written_kernel.specs.Words.{State, Turn}
+use Rattle.run_places.specs.Places.{answer_at}
+
+-- a constructor for each kind of answer that a request has
+pub data Answers : Request → Answer → Type 0 where
+  fails : (r : Request) (e : Errno) → Answers r (answer.Failure e)
+  creates : (entry cookie : ℕ) (attrs : Attrs) (fd : Fd) → Answers (request.Create entry cookie attrs) (answer.NewFd fd)
+  copies : (old fd : Fd) → Answers (request.Dup old) (answer.NewFd fd)
+  opens : (path : PathId) (fd : Fd) → Answers (request.Open path) (answer.NewFd fd)
+  calls : (fd : Fd) (bytes : List ℕ) (pass : List Pass) (rsize c : ℕ) → Answers (request.Call fd bytes pass rsize) (answer.WaitCall c)
+  returns : (bytes : List ℕ) (pass : List Pass) → Answers (request.Return bytes pass) answer.Wait
+  waits : (path : PathId) → Answers (request.Await path) answer.Wait
+  finds : (path : PathId) → Answers (request.Await path) answer.Done
+  informs : (fd : Fd) (i : _) → Answers (request.Info fd) (answer.Info i)
+  informs_bound : (i : _) → Answers request.InfoQuery (answer.Info i)
+  values : (fd : Fd) (x : Param) (value : ℕ) → Answers (request.GetParam fd x) (answer.Param value)
+  names_client : (process : Pid) → Answers request.Cred (answer.Client process)
+  cancels : (yes : _) → Answers request.TestCancel (answer.Cancel yes)
+  revokes : (fd : Fd) → Answers (request.Revoke fd) answer.Done
+  binds : (fd : Fd) → Answers (request.Bind fd) answer.Done
+  unbinds : Answers request.Unbind answer.Done
+  sets : (fd : Fd) (x : Param) (value : ℕ) → Answers (request.SetParam fd x value) answer.Done
+  closes : (fd : Fd) → Answers (request.Close fd) answer.Done
+  attaches : (fd : Fd) (path : PathId) → Answers (request.Attach fd path) answer.Done
+  detaches : (path : PathId) → Answers (request.Detach path) answer.Done
+  interrupts : (thread : Tid) → Answers (request.Interrupt thread) answer.Done
+  kills : (process : Pid) → Answers (request.Kill process) answer.Done
+  exits : Answers request.Exit answer.Done
+
+abbrev pub AnswersRequests : State → List Turn → Type 0
+AnswersRequests m xs = (i : ℕ) (x : Turn) (r : Request) → slice_get xs i ≡ Some x → x.request ≡ Some r → Answers r (answer_at m xs i x)

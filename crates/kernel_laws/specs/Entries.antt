@@ -1,0 +1,115 @@
+-- The table of refusals: the tests of each request in order, each with its error. Those of door_call(3C) and door_return(3C) have
+-- tables of their own.
+use Rattle.std.specs.Prelude.{ℕ, ◌==◌, ◌&&◌, ◌||◌, List, [], ◌∷◌, Option, Bool, true, false, if◌then◌else◌, not, Some, None, is_none, is_some, nat_lt}
+use Rattle.written_kernel.specs.Types.{Call, CallStage, Door, Errno, Fd, Obj, Param, Request}
+use Rattle.dk_base.specs.declared.error.Errno.TheVariants.{EBADF, EBUSY, EINVAL, EMFILE, ENOENT, ENOTSUP, EPERM}
+use Rattle.dk_base.specs.declared.object.Obj.TheVariants as obj
+use Rattle.dk_base.specs.declared.request.Param.TheVariants as param
+use Rattle.dk_base.specs.declared.request.Request.TheVariants as request
+use Rattle.kernel_records.specs.declared.record.CallStage.TheVariants as stage
+use Rattle.written_kernel.specs.Words.{State, bound_of, door_of, name_of, object_at}
+use Rattle.run_places.specs.Counts.{free_descriptors, has_attribute, has_own_pool}
+
+-- what a descriptor names is no door, and the door that it is
+
+abbrev pub is_no_door : Option Obj → Bool
+is_no_door (Some (obj.Door d)) = false
+is_no_door _ = true
+
+abbrev pub door_behind : State → Option Obj → Option Door
+door_behind m (Some (obj.Door d)) = door_of m d
+door_behind m _ = None
+
+-- a door is revoked, or its process has ended, or there is none; another process than p made it; it takes no descriptors
+
+abbrev pub is_invalid : Option Door → Bool
+is_invalid None = true
+is_invalid (Some d) = d.revoked || d.owner_ended
+
+abbrev pub is_of_another : ℕ → Option Door → Bool
+is_of_another p None = true
+is_of_another p (Some d) = not (d.owner.0 == p)
+
+abbrev pub takes_no_descriptors : Option Door → Bool
+takes_no_descriptors None = false
+takes_no_descriptors (Some d) = has_attribute 64 d.attrs
+
+-- the most descriptors of a door that takes none are set to a value that is not 0
+abbrev pub sets_descriptors : Param → ℕ → Option Door → Bool
+sets_descriptors param.DescMax value o = not (value == 0) && takes_no_descriptors o
+sets_descriptors x value o = false
+
+-- with this parameter at this value the least size would be above the greatest
+abbrev pub leaves_no_size : Param → ℕ → Option Door → Bool
+leaves_no_size x value None = false
+leaves_no_size param.DataMax value (Some d) = nat_lt value d.data_min
+leaves_no_size param.DataMin value (Some d) = nat_lt d.data_max value
+leaves_no_size param.DescMax value (Some d) = nat_lt d.data_max d.data_min
+
+-- thread t has entered one of these calls, and its caller has not left it
+
+abbrev pub is_in : ℕ → CallStage → Bool
+is_in t (stage.Entered u) = u.0 == t
+is_in t _ = false
+
+abbrev pub has_client_among : ℕ → List Call → Bool
+has_client_among t [] = false
+has_client_among t (r ∷ rs) = not r.abandoned && is_in t r.stage || has_client_among t rs
+
+-- an error, and whether there is reason for it
+pub record Reason : Type 0 where
+  pub error : Errno
+  pub holds : Bool
+
+abbrev pub where_so : Errno → Bool → Reason
+where_so e b = record { error = e; holds = b }
+
+abbrev pub first_reason : List Reason → Option Errno
+first_reason [] = None
+first_reason (x ∷ xs) = if x.holds then Some x.error else first_reason xs
+
+-- the one reason of entries that only want a door
+abbrev pub on_no_door : State → ℕ → Fd → List Reason
+on_no_door m p fd = where_so EBADF (is_no_door (object_at m p fd)) ∷ []
+
+-- and of those that want a binding
+abbrev pub on_unbound : State → ℕ → List Reason
+on_unbound m t = where_so EBADF (is_none (bound_of m t)) ∷ []
+
+-- of an entry of thread t of process p
+abbrev pub reasons : State → ℕ → ℕ → Request → List Reason
+reasons m t p (request.Create entry cookie attrs) =
+    where_so EINVAL (has_attribute 4 attrs || (has_attribute 8 attrs || has_attribute 32 attrs)) ∷ where_so EMFILE (free_descriptors m p == 0) ∷ []
+reasons m t p (request.Revoke fd) =
+    where_so EBADF (is_invalid (door_behind m (object_at m p fd))) ∷ where_so EPERM (is_of_another p (door_behind m (object_at m p fd))) ∷ []
+reasons m t p (request.Bind fd) =
+    where_so EBADF (is_invalid (door_behind m (object_at m p fd)))
+    ∷ where_so EINVAL (not (has_own_pool (door_behind m (object_at m p fd))) || is_of_another p (door_behind m (object_at m p fd)))
+    ∷ []
+reasons m t p request.Unbind = on_unbound m t
+reasons m t p (request.Info fd) = on_no_door m p fd
+reasons m t p request.InfoQuery = on_unbound m t
+reasons m t p (request.GetParam fd x) = on_no_door m p fd
+reasons m t p (request.SetParam fd x value) =
+    where_so EBADF (is_invalid (door_behind m (object_at m p fd)))
+    ∷ where_so EPERM (is_of_another p (door_behind m (object_at m p fd)))
+    ∷ where_so ENOTSUP (sets_descriptors x value (door_behind m (object_at m p fd)))
+    ∷ where_so EINVAL (leaves_no_size x value (door_behind m (object_at m p fd)))
+    ∷ []
+reasons m t p request.Cred = where_so EINVAL (not (has_client_among t m.call_tree.calls)) ∷ []
+reasons m t p (request.Close fd) = where_so EBADF (is_none (object_at m p fd)) ∷ []
+reasons m t p (request.Dup fd) = where_so EBADF (is_none (object_at m p fd)) ∷ where_so EMFILE (free_descriptors m p == 0) ∷ []
+reasons m t p (request.Attach fd path) =
+    where_so EBADF (is_none (object_at m p fd))
+    ∷ where_so EINVAL (is_no_door (object_at m p fd))
+    ∷ where_so EBUSY (is_some (name_of m path))
+    ∷ []
+reasons m t p (request.Detach path) = where_so EINVAL (is_none (name_of m path)) ∷ []
+reasons m t p (request.Open path) = where_so ENOENT (is_none (name_of m path)) ∷ where_so EMFILE (free_descriptors m p == 0) ∷ []
+reasons m t p r = []
+
+-- the requests with a table of their own
+abbrev pub is_message : Request → Bool
+is_message (request.Call fd bytes pass rsize) = true
+is_message (request.Return bytes pass) = true
+is_message r = false

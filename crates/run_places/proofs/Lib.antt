@@ -1,0 +1,16 @@
+pub mod Counts
+pub mod Passed
+pub mod References
+pub mod Refusals
+pub mod Bound
+pub mod Changes
+pub mod Known
+pub mod ReturnRefusals
+pub mod Done
+pub mod Validity
+pub mod Rows
+pub mod Invocations
+pub mod DoorPlaces
+pub mod NoticeChanges
+pub mod NoticePlaces
+pub mod Runs

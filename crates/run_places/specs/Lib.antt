@@ -1,0 +1,4 @@
+pub mod Counts
+pub mod Refusals
+pub mod Places
+pub mod References
