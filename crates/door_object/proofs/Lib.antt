@@ -1,1 +1,2 @@
-pub mod NoticeDoors
+pub mod AsMade
+pub mod OwnerLists

@@ -2,12 +2,13 @@
 ghost use Rattle.std.specs.Prelude.{◌≡◌};
 ghost use Rattle.kernel_records.specs.Words.{attributes_where, first_desc_max, has_attributes, has_told_attributes, has_unref_multi, is_private, refuses_descriptors, takes_notices};
 
+use bitflags::Flags;
 use dk_base::set::Attrs;
 
 fn has_attributes(attrs: Attrs, wanted: Attrs) -> bool
     ensures { result ≡ has_attributes attrs wanted }
 {
-    attrs.0 & wanted.0 == wanted.0
+    attrs.contains(wanted)
 }
 
 pub fn is_private(attrs: Attrs) -> bool

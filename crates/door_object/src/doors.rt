@@ -1,17 +1,18 @@
 //! The doors of a kernel.
-ghost use Rattle.std.specs.Prelude.{◌≡◌, ◌+◌, ◌<◌, ◌≤◌, [], ◌∷◌, false, length, if◌then◌else◌, None, Ok, Some, Err, IfOk, OnOk, OnErr};
+ghost use Rattle.std.specs.Prelude.{◌≡◌, ◌+◌, ◌<◌, ◌≤◌, [], ◌∷◌, ◌++◌, vec_len, vec_capacity, false, length, if◌then◌else◌, None, Ok, Some, Err, IfOk, OnOk, OnErr};
 ghost use Rattle.dk_base.specs.declared.error.Errno.TheVariants.{EINVAL};
 ghost use Rattle.dk_base.specs.declared.limits.TheConstants.{EVENTS_MAX};
 ghost use Rattle.dk_base.specs.ByNumber.{at_number};
-ghost use Rattle.kernel_records.specs.Words.{bind_tests, end_owner, first_refusal, has_common_door, has_many, has_told_attributes, info_in, is_notice_door, is_valid_in, limit_tests, may_take_notice_in, new_door, notice_doors, param_in, pool_in, refused_where, revoke_door, revoke_tests, set_param, set_param_tests, unless_refused_with, valid_doors_of, with_door};
+ghost use Rattle.kernel_records.specs.Words.{bind_tests, end_owner, first_refusal, has_common_door, has_many, has_told_attributes, info_in, is_notice_door, is_valid_in, limit_tests, may_take_notice_in, new_door, notice_doors, param_in, pool_in, refused_where, revoke_door, revoke_tests, set_param, set_param_tests, takes_notices, unless_refused_with, valid_doors_of, with_door};
 
 use crate::attributes::{first_desc_max, has_told_attributes, takes_notices};
 use crate::door::{
-    bind_refusal, end_owner, has_many, is_common_of, is_valid_in, is_valid_of, mark_revoked,
-    may_take_notice, pool_in, revoke_refusal,
+    bind_refusal, has_many, is_common_of, is_valid_in, mark_revoked, may_take_notice, pool_in,
+    revoke_refusal,
 };
 use crate::info::info_in;
 use crate::limits::limit_refusal;
+use crate::owner_lists::{LISTS, end_listed, list_of, list_owned, note_common};
 use crate::params::{change_param, param_in, param_refusal};
 use dk_base::answer::DoorInfo;
 use dk_base::error::{Errno, NoMemory};
@@ -31,19 +32,29 @@ pub struct Doors {
     doors: Vec<Door>,
     /// The numbers of those of which notices can be made.
     with_notices: Vec<u32>,
+    /// For each door the number of the one before it in its owner's list, 0 for none.
+    earlier: Vec<u32>,
+    /// For each list the number of its last door, 0 for none.
+    last: [u32; LISTS],
+    /// For each number that a process may have, whether a door of it is not private.
+    common: [bool; LISTS],
 }
 
 impl Model for Doors {
-    ghost use Rattle.std.specs.Prelude.{◌≡◌, ◌-◌, min, vec_len, vec_capacity};
+    ghost use Rattle.std.specs.Prelude.{◌-◌, min, vec_len, vec_capacity};
     ghost use Rattle.dk_base.specs.Spare.{RoomValue};
     ghost use Rattle.kernel_records.specs.declared.record.Door.{Door};
-    ghost use Rattle.kernel_records.specs.Words.{notice_doors};
+    ghost use Rattle.door_object.specs.OwnerLists.{AreListed, as_made};
 
     ghost Value = { RoomValue Door };
 
-    ghost view = { λ s. record { items = s.doors.items; spare = min (vec_capacity s.doors - vec_len s.doors) (vec_capacity s.with_notices - vec_len s.with_notices) } };
+    ghost view = { λ s. record {
+      items = s.doors.items;
+      spare = min (vec_capacity s.doors - vec_len s.doors)
+          (min (vec_capacity s.with_notices - vec_len s.with_notices) (vec_capacity s.earlier - vec_len s.earlier));
+    } };
 
-    ghost invariant = { λ s. s.with_notices.items ≡ notice_doors s.doors.items };
+    ghost invariant = { λ s. AreListed (as_made s.doors.items) s.with_notices.items s.earlier.items s.last s.common };
 }
 
 fn door_at(doors: &[Door], d: u32) -> Option<Door>
@@ -101,30 +112,21 @@ fn set_param_at(doors: &mut [Door], d: u32, param: Param, value: u64)
     }
 }
 
-fn end_all(doors: &mut [Door], p: Pid)
-    ensures { doors.new ≡ end_owner doors.old p.0 }
-{
-    for door in doors.iter_mut() {
-        end_owner(door, p);
-    }
-}
-
-fn list_owned(alloc: Global, doors: &[Door], p: Pid) -> Result<DoorList, NoMemory>
-    ensures { IfOk result (λ owned. owned ≡ valid_doors_of p.0 doors.now) }
-{
-    let mut owned = DoorList::new(alloc);
-    for door in doors {
-        if is_valid_of(door, p) {
-            owned.push(door.number)?;
-        }
-    }
-    Ok(owned)
-}
-
 fn has_common_door(doors: &[Door], p: Pid) -> bool
     ensures { result ≡ has_common_door doors.now p.0 }
 {
     doors.iter().any(|door| is_common_of(door, p))
+}
+
+fn list_noticed(with_notices: &mut Vec<u32>, number: u32, attrs: Attrs)
+    requires { vec_len with_notices.old < vec_capacity with_notices.old }
+    ensures items { with_notices.new.items ≡ (if takes_notices attrs then with_notices.old.items ++ number ∷ [] else with_notices.old.items) }
+    ensures len { vec_len with_notices.new ≤ vec_len with_notices.old + 1 }
+    ensures capacity { vec_capacity with_notices.new ≡ vec_capacity with_notices.old }
+{
+    if takes_notices(attrs) {
+        with_notices.push_reserved(number);
+    }
 }
 
 impl Doors {
@@ -135,6 +137,9 @@ impl Doors {
         Doors {
             doors: Vec::new(alloc),
             with_notices: Vec::new(alloc),
+            earlier: Vec::new(alloc),
+            last: [0; LISTS],
+            common: [false; LISTS],
         }
     }
 
@@ -153,7 +158,7 @@ impl Doors {
         ensures err { OnErr result (self.new ≡ self.old) }
         ensures cause { OnErr result (self.old.spare ≡ 0) }
     {
-        if self.with_notices.reserve(1).is_err() {
+        if self.with_notices.reserve(1).is_err() || self.earlier.reserve(1).is_err() {
             return Err(NoMemory);
         }
         match self.doors.reserve(1) {
@@ -192,11 +197,13 @@ impl Doors {
             return Err(error);
         }
         let number = self.doors.len() as u32 + 1;
+        list_noticed(&mut self.with_notices, number, attrs);
+        let list = list_of(owner);
+        self.earlier.push_reserved(self.last[list]);
+        self.last[list] = number;
+        note_common(&mut self.common, owner, attrs);
         self.doors
             .push_reserved(new_door(number, owner, entry, cookie, attrs));
-        if takes_notices(attrs) {
-            self.with_notices.push_reserved(number);
-        }
         Ok(number)
     }
 
@@ -266,7 +273,13 @@ impl Doors {
     pub fn has_common(&self, p: Pid) -> bool
         ensures { result ≡ has_common_door self.now.items p.0 }
     {
-        has_common_door(&self.doors, p)
+        let place = p.0 as usize;
+        if place < LISTS {
+            self.common[place]
+        } else {
+            // No process has such a number.
+            has_common_door(&self.doors, p)
+        }
     }
 
     /// What door_revoke(3C) by a process is refused with: EBADF for no door or one that is not valid, EPERM for another's.
@@ -293,14 +306,15 @@ impl Doors {
     pub fn owned(&self, alloc: Global, p: Pid) -> Result<DoorList, NoMemory>
         ensures { IfOk result (λ owned. owned ≡ valid_doors_of p.0 self.now.items) }
     {
-        list_owned(alloc, &self.doors, p)
+        list_owned(alloc, &self.doors, &self.earlier, self.last[list_of(p)], p)
     }
 
     /// The doors of a process that ends are no longer valid.
     pub fn owner_ended(&mut self, p: Pid)
         ensures { self.new ≡ record self.old { items = end_owner self.old.items p.0 } }
     {
-        end_all(&mut self.doors, p);
+        let last = self.last[list_of(p)];
+        end_listed(&mut self.doors, &self.earlier, last, p);
     }
 
     /// door_info(3C): what process `by` is told of a door that has so many references. Of no door nothing is told: no

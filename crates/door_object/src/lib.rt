@@ -7,4 +7,5 @@ mod door;
 pub mod doors;
 mod info;
 mod limits;
+mod owner_lists;
 mod params;

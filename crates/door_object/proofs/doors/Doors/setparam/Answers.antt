@@ -1,14 +1,11 @@
-use Rattle.std.proofs.Common.{◌≡◌, ◌++◌, ap, drop, length, rules, sym, take, ◌∙◌}
-use Rattle.std.proofs.Math.Seq.{take-append_seam}
-use Rattle.kernel_records.specs.Words.{notice_doors}
-use Rattle.door_object.proofs.NoticeDoors.{notice_doors_set}
+use Rattle.std.proofs.Common.{◌≡◌, ap, rules, ◌∙◌}
+use Rattle.door_object.specs.OwnerLists.{as_made}
+use Rattle.door_object.proofs.AsMade.{as_made-set, as_made-written}
 use Rattle.door_object.proofs.doors.Doors.setparam.Goals as goal
 
 pub invariant_of-self : goal.invariant_of-self
 invariant_of-self c =
-    let same_numbers : notice_doors c.set_param_at.new.doors ≡ notice_doors c.self.inside.doors.items =
-    ap notice_doors c.set_param_at.ensures ∙ notice_doors_set c.deref_mut.result.now c.args.d c.args.param c.args.value ∙ ap notice_doors c.deref_mut.ensures.value in
-    let long : c.self.inside.doors.len ≡ length c.set_param_at.new.doors = search rules in
-    let rest = drop (length c.set_param_at.new.doors) c.self.inside.doors.items in
-    let whole = ap (λ n. take n (c.set_param_at.new.doors ++ rest)) long ∙ take-append_seam c.set_param_at.new.doors rest in
-    c.self.invariant ∙ sym same_numbers ∙ ap notice_doors (sym whole)
+    let doors = c.self.inside.doors.items in
+    let same : as_made c.set_param_at.new.doors ≡ as_made doors =
+    ap as_made c.set_param_at.ensures ∙ as_made-set c.deref_mut.result.now c.args.d c.args.param c.args.value ∙ ap as_made c.deref_mut.ensures.value in
+    rw (as_made-written doors c.set_param_at.new.doors c.self.inside.doors.len (search rules) same) c.self.invariant
