@@ -4,124 +4,40 @@ use Rattle.std.specs.List.{AllByRecursion}
 use Rattle.std.proofs.lemmas.Bool.Decides.{nat_tests}
 use Rattle.std.proofs.lemmas.List.Sums.{count_by-le-length, length-filter, sum_by-cons}
 use Rattle.dk_base.specs.ByNumber.{at_number}
-use Rattle.dk_base.specs.declared.object.Item.TheVariants as item
-use Rattle.dk_base.specs.declared.request.Request.TheVariants as request
 use Rattle.kernel_records.specs.declared.pool.Pool.TheVariants.{Common, Private}
-use Rattle.kernel_records.specs.declared.record.ThreadState.TheVariants as is
-use Rattle.written_kernel.specs.Types.{Call, Door, Errno, Item, Name, Notice, Pass, PathId, Pool, Request, ThreadState}
-use Rattle.kernel_records.specs.Words.{AreNumbered, is_given_as, is_given_notice_as, is_last, is_pool, is_private, notice_doors, numbers_where, pool_in, takes_notices_in}
-use Rattle.written_kernel.specs.Words.{StandsFor, State, accept, accept_call, accept_notice, act, await, await_name, begin_call, door_of, effect, exit, fail_begin, find_call, find_notice, forget, go_on, has_invalid_door, has_room, is_live_process, kill, leave_process, leave_thread, name_of, pool_of, process_of, refusal_of, return, return_parked, return_unbound, state_of, unless_refused}
+use Rattle.written_kernel.proofs.Moves.{Moves, act_moves}
+use Rattle.written_kernel.specs.Types.{Door, Pool, Request}
+use Rattle.kernel_records.specs.Words.{AreNumbered, is_pool, is_private, notice_doors, numbers_where, pool_in, takes_notices_in}
+use Rattle.written_kernel.specs.Words.{ActResult, State, act, door_of, pool_of}
 use Rattle.kernel_records.proofs.Lists.{numbered_there, numbered_within}
 use Rattle.server_pool.specs.Words.{item_room_in, pool_at}
 use Rattle.unref_notice.specs.Words.{count_of}
 use Rattle.kernel_store.specs.Words.{CanMake, IsAgreed, HasBegun, StoreValue, count_served, stored_state}
-use Rattle.kernel_core.specs.declared.event.Parts.{Parts}
-use Rattle.kernel_core.specs.declared.event.Taken.{Taken}
-use Rattle.kernel_core.specs.Watched.{HadRoomForNotices, IsKeptDoor, IsReadyForNotices, KeepsDoors, fallen, is_watched, watched}
-use Rattle.kernel_core.specs.Woken.{IsReady}
+use Rattle.kernel_core.specs.Watched.{HadRoomForNotices, IsKeptDoor, KeepsDoors, fallen, is_watched, watched}
 use Rattle.kernel_records.proofs.DoorNumbers.{notice_doors_numbered}
 use Rattle.kernel_core.proofs.Fallen.{fallen_watched, has_one}
-use Rattle.kernel_core.proofs.Steps.{processes_after}
 
 -- an act makes no notice
 
-abbrev made : State → ℕ
+abbrev pub made : State → ℕ
 made m = m.notice_list.made
 
-made-return : (m : State) (t p : ℕ) (bytes : List ℕ) (pass : List Pass) → made (return m t p bytes pass).state ≡ made m
-made-return m t p bytes pass = go (has_invalid_door m t)
-  where
-    go : (b : Bool) → made (if b then return_unbound m t p bytes pass else return_parked m t p bytes pass).state ≡ made m
-    go true = refl
-    go false = refl
+made-move : (m : State) (t : ℕ) (q : Option Request) (a : ActResult) → Moves m t q a → made a.state ≡ made m
+made-move m t q a (Moves.nothing x _) = refl
+made-move m t q a _ = refl
 
-made-await : (m : State) (t : ℕ) (path : PathId) → made (await m t path).state ≡ made m
-made-await m t path = go (name_of m path)
-  where
-    go : (o : Option Name) → made (await_name m t path o).state ≡ made m
-    go None = refl
-    go (Some n) = refl
-
-made-kill : (m : State) (p : ℕ) → made (kill m p).state ≡ made m
-made-kill m p = go (is_live_process m p)
-  where
-    go : (b : Bool) → made (if b then leave_process m p else m) ≡ made m
-    go true = refl
-    go false = refl
-
-made-exit : (m : State) (t p : ℕ) → made (exit m t p).state ≡ made m
-made-exit m t p = go (is_last m.process_table t p)
-  where
-    go : (b : Bool) → made (if b then leave_process m p else leave_thread m t) ≡ made m
-    go true = refl
-    go false = refl
-
-made-effect : (m : State) (t p : ℕ) (r : Request) → made (effect m t p r).state ≡ made m
-made-effect m t p (request.Return bytes pass) = made-return m t p bytes pass
-made-effect m t p (request.Await path) = made-await m t path
-made-effect m t p (request.Kill process) = made-kill m process.0
-made-effect m t p request.Exit = made-exit m t p
-made-effect m t p r = refl
-
-made-accept : (m : State) (t p : ℕ) (i : Item) → made (accept m t p i).state ≡ made m
-made-accept m t p (item.Call c) = go (find_call m (is_given_as c t))
-  where
-    begins : (r : Call) (b : Bool) → made (if b then begin_call m t p c r else fail_begin m t c r).state ≡ made m
-    begins r true = refl
-    begins r false = refl
-
-    go : (o : Option Call) → made (accept_call m t p c o).state ≡ made m
-    go None = refl
-    go (Some r) = begins r (has_room m p r.objects)
-made-accept m t p (item.Notice n) = go (find_notice m (is_given_notice_as n t))
-  where
-    go : (o : Option Notice) → made (accept_notice m t n o).state ≡ made m
-    go None = refl
-    go (Some x) = refl
-
-made-go_on : (m : State) (t p : ℕ) (s : ThreadState) → made (go_on m t p s).state ≡ made m
-made-go_on m t p (is.Given i) = made-accept m t p i
-made-go_on m t p s = refl
-
-made-act : (m : State) (t : ℕ) (q : Option Request) → made (act m t q).state ≡ made m
-made-act m t (Some r) = go (refusal_of m t (process_of m t) r)
-  where
-    go : (o : Option Errno) → made (unless_refused m o (effect m t (process_of m t) r)).state ≡ made m
-    go (Some x) = refl
-    go None = made-effect m t (process_of m t) r
-made-act m t None = made-go_on m t (process_of m t) (state_of m t)
+pub made-act : (m : State) (t : ℕ) (q : Option Request) → made (act m t q).state ≡ made m
+made-act m t q = made-move m t q (act m t q) (act_moves m t q)
 
 -- nor does it change the counts at its beginning
-pub opened_kept : (o p : List ℕ) (m : State) → ((d : ℕ) → count_of p d ≡ count_of o d) → HasBegun o m → HasBegun p m
-opened_kept o p m same h =
-    record { counts = λ d. same d ∙ h.counts d; none = λ d e. same d ∙ h.none d e }
-
--- what the act of an event leaves of what was taken before it
-pub had_room :
-    (p : Parts) (n : StoreValue) (taken : Taken) (t : ℕ) (q : Option Request) → IsReady p taken →
-    StandsFor (stored_state n) (act (stored_state p.store) t q).state →
-    IsReadyForNotices (stored_state p.store) (forget (act (stored_state p.store) t q).state) → p.store.notices.spare ≤ n.notices.spare →
-    ((d : ℕ) → count_of n.opening d ≡ count_of p.store.opening d) →
-    ((pool : Pool) → item_room_in p.store.pools pool ≤ item_room_in n.pools pool + 1) →
-    HadRoomForNotices p.store n taken.watched.items
-had_room p n taken t q r s k records same items =
-    record {
-      watched = r.watched;
-      room = r.notices;
-      agreed = r.agreed;
-      doors = subst (KeepsDoors (stored_state p.store)) (sym s) k.doors;
-      opened = opened_kept p.store.opening n.opening (stored_state p.store) same r.opened;
-      processes = processes_after (stored_state p.store) (stored_state n) t q s;
-      made = ap made s ∙ made-act (stored_state p.store) t q;
-      records = records;
-      items = items;
-    }
+pub opened_kept : (b n : StoreValue) (m : State) → ((d : ℕ) → count_of n.opening d ≡ count_of b.opening d) → HasBegun b m → HasBegun n m
+opened_kept b n m same h = record { counts = λ d. same d ∙ h.counts d; none = λ d e. same d ∙ h.none d e }
 
 -- the doors that are watched are there
 
-all_among : (p : ℕ → Bool) (n : ℕ) → AllByRecursion (λ d. p d ≡ true) (numbers_where p n)
-all_among p zero = tt
-all_among p (suc n) = go (p (suc n)) refl (numbers_where p n) (all_among p n)
+all_numbers_where : (p : ℕ → Bool) (n : ℕ) → AllByRecursion (λ d. p d ≡ true) (numbers_where p n)
+all_numbers_where p zero = tt
+all_numbers_where p (suc n) = go (p (suc n)) refl (numbers_where p n) (all_numbers_where p n)
   where
     go :
         (b : Bool) → p (suc n) ≡ b → (ds : List ℕ) → AllByRecursion (λ d. p d ≡ true) ds →
@@ -142,7 +58,7 @@ watched_there : (m : State) → AreNumbered m.doors → AllByRecursion (λ d. ta
 watched_there m numbered =
     all_filter (λ d. takes_notices_in (door_of m d) ≡ true) (is_watched m) (notice_doors m.doors)
     (subst (AllByRecursion (λ d. takes_notices_in (door_of m d) ≡ true)) (sym (notice_doors_numbered m.doors numbered))
-    (all_among (λ d. takes_notices_in (door_of m d)) (length m.doors)))
+    (all_numbers_where (λ d. takes_notices_in (door_of m d)) (length m.doors)))
 
 -- the same pools serve them
 
@@ -213,27 +129,27 @@ pool_before :
 pool_before b n ds (Common p) h a k there c =
     there_by_length n.pools.common b.pools.common p.0 (h.agreed.common ∙ sym h.processes ∙ sym a.common) there
 pool_before b n ds (Private e) h a k there c =
-    there_by_length b.doors.items b.pools.private e h.agreed.private (served_there (stored_state b) e ds h.doors.numbered k c)
+    there_by_length b.doors.items b.pools.private e h.agreed.private (served_there (stored_state b) e ds h.were.doors.numbered k c)
 
 -- so notices can be made of them
 can_make : (b n : StoreValue) (ds : List ℕ) → HadRoomForNotices b n ds → IsAgreed n → CanMake n ds
 can_make b n ds h a =
     record {
-      records = omega (arith, h.room.records, h.records);
+      records = omega (arith, h.room.records, h.keeps.notice_room);
       numbers = omega (arith, h.room.numbers, h.made);
       items = λ pool there. enough pool there;
     }
   where
     all : AllByRecursion (λ d. takes_notices_in (door_of (stored_state b) d) ≡ true) ds
-    all = subst (AllByRecursion (λ d. takes_notices_in (door_of (stored_state b) d) ≡ true)) (sym h.watched) (watched_there (stored_state b) h.doors.numbered)
+    all = subst (AllByRecursion (λ d. takes_notices_in (door_of (stored_state b) d) ≡ true)) (sym h.were.watched) (watched_there (stored_state b) h.were.doors.numbered)
 
     fits : (pool : Pool) (c : ℕ) → (0 < c → c < item_room_in b.pools pool) → c ≤ item_room_in n.pools pool
     fits pool zero f = omega arith
-    fits pool (suc c) f = let l : suc c < item_room_in b.pools pool = f (omega arith) in omega (arith, h.items pool)
+    fits pool (suc c) f = let l : suc c < item_room_in b.pools pool = f (omega arith) in omega (arith, h.keeps.items pool)
 
     enough : (pool : Pool) → is_some (pool_at n.pools pool) ≡ true → count_served (stored_state n) pool ds ≤ item_room_in n.pools pool
     enough pool there =
-        subst (λ c. c ≤ item_room_in n.pools pool) (sym (same_count (stored_state b) (stored_state n) pool ds h.doors all))
+        subst (λ c. c ≤ item_room_in n.pools pool) (sym (same_count (stored_state b) (stored_state n) pool ds h.were.doors all))
         (fits pool (count_served (stored_state b) pool ds) (λ l. h.room.items pool (pool_before b n ds pool h a all there l) l))
 
 -- a notice of each of them, or of fewer
@@ -260,5 +176,4 @@ can_make_fewer n q ds h =
 pub can_make_fallen :
     (b n : StoreValue) (ds : List ℕ) → HadRoomForNotices b n ds → IsAgreed n → AreNumbered n.doors.items → CanMake n (fallen (stored_state b) (stored_state n))
 can_make_fallen b n ds h a numbered =
-    subst (CanMake n) (sym (fallen_watched (stored_state b) (stored_state n) n.opening h.doors numbered h.opened))
-    (can_make_fewer n (has_one (stored_state n)) (watched (stored_state b)) (subst (CanMake n) h.watched (can_make b n ds h a)))
+    subst (CanMake n) (sym (fallen_watched h.were numbered)) (can_make_fewer n (has_one (stored_state n)) ds (can_make b n ds h a))

@@ -6,10 +6,10 @@ use Rattle.kernel_records.specs.Words.{AreNumbered, notice_doors, takes_notices,
 use Rattle.written_kernel.specs.Words.{State, door_of, falls_to_one, reference_count}
 use Rattle.kernel_records.proofs.Lists.{numbered_past, numbered_there, numbered_within}
 use Rattle.unref_notice.specs.Words.{was_shared}
-use Rattle.pool_agreement.proofs.Queued.{same_filter}
-use Rattle.kernel_store.specs.Words.{HasBegun, has_fallen_since}
-use Rattle.kernel_core.specs.Watched.{IsKeptDoor, KeepsDoors, fallen, is_watched, watched}
+use Rattle.kernel_store.specs.Words.{HasBegun, StoreValue, has_fallen_since, stored_state}
+use Rattle.kernel_core.specs.Watched.{IsKeptDoor, KeepsDoors, WereWatched, fallen, is_watched}
 use Rattle.kernel_records.proofs.DoorNumbers.{filter-numbers_where, notice_doors_numbered, numbers_where-past, numbers_where-same}
+use Rattle.pool_agreement.proofs.WaitingLists.{same_filter}
 
 filter-both : (p q : ℕ → Bool) (ds : List ℕ) → filter (λ d. p d && q d) ds ≡ filter q (filter p ds)
 filter-both p q [] = refl
@@ -32,54 +32,54 @@ no_fewer m n h = go (nat_lt 0 (length m.doors)) refl
     go true e = at (door_of m (length m.doors)) refl (numbered_there m.doors (length m.doors) (grind (arith, nat_tests)) (omega arith))
     go false e = grind (arith, nat_tests)
 
+abbrev pub has_one : State → ℕ → Bool
+has_one n d = reference_count n d == 1
+
 -- a door that was not there had no reference, and the others take notices as before
 watched_at :
-    (m n : State) (opening : List ℕ) (d : ℕ) → KeepsDoors m n → HasBegun opening m →
-    (takes_notices_in (door_of n d) && is_watched m d) ≡ (takes_notices_in (door_of m d) && is_watched m d)
-watched_at m n opening d h o = go (door_of m d) refl
+    (m : State) (s : StoreValue) (d : ℕ) → KeepsDoors m (stored_state s) → HasBegun s m →
+    (takes_notices_in (door_of (stored_state s) d) && is_watched m d) ≡ (takes_notices_in (door_of m d) && is_watched m d)
+watched_at m s d h o = go (door_of m d) refl
   where
     none : (b : Bool) → (b && false) ≡ false
     none true = refl
     none false = refl
 
-    go : (x : Option Door) → door_of m d ≡ x → (takes_notices_in (door_of n d) && is_watched m d) ≡ (takes_notices_in x && is_watched m d)
-    go None e = ap (λ k. takes_notices_in (door_of n d) && nat_lt 1 k) (sym (o.counts d) ∙ o.none d e) ∙ none (takes_notices_in (door_of n d))
+    takes : Bool
+    takes = takes_notices_in (door_of (stored_state s) d)
+
+    go : (x : Option Door) → door_of m d ≡ x → (takes && is_watched m d) ≡ (takes_notices_in x && is_watched m d)
+    go None e = ap (λ k. takes && nat_lt 1 k) (sym (o.counts d) ∙ o.none d e) ∙ none takes
     go (Some x) e =
-        let k : IsKeptDoor x (door_of n d) = h.kept d x e in
+        let k : IsKeptDoor x (door_of (stored_state s) d) = h.kept d x e in
         ap (λ b. b && is_watched m d) (ap takes_notices_in k.there ∙ ap takes_notices k.same.attrs)
 
-watched_after :
-    (m n : State) (opening : List ℕ) → KeepsDoors m n → AreNumbered n.doors → HasBegun opening m → filter (is_watched m) (notice_doors n.doors) ≡ watched m
-watched_after m n opening h numbered o =
-    ap (filter (is_watched m)) (notice_doors_numbered n.doors numbered)
-    ∙ filter-numbers_where (is_watched m) (λ d. takes_notices_in (door_of n d)) (length n.doors)
-    ∙ numbers_where-same (λ d. takes_notices_in (door_of n d) && is_watched m d) (λ d. takes_notices_in (door_of m d) && is_watched m d) (λ d. watched_at m n opening d h o)
-    (length n.doors)
-    ∙ numbers_where-past (λ d. takes_notices_in (door_of m d) && is_watched m d) (length m.doors) (length n.doors) (no_fewer m n h)
-    (λ d l. ap (λ x. takes_notices_in x && is_watched m d) (numbered_past m.doors d l))
-    ∙ sym (filter-numbers_where (is_watched m) (λ d. takes_notices_in (door_of m d)) (length m.doors))
-    ∙ ap (filter (is_watched m)) (sym (notice_doors_numbered m.doors h.numbered))
+module _ {m : State} {ds : List ℕ} {s : StoreValue} (w : WereWatched m ds s) where
+  abbrev n : State
+  n = stored_state s
 
--- the doors that had more than one reference when the step began
-pub shared_after :
-    (m n : State) (opening : List ℕ) → KeepsDoors m n → AreNumbered n.doors → HasBegun opening m →
-    filter (was_shared opening) (notice_doors n.doors) ≡ watched m
-shared_after m n opening h numbered o =
-    same_filter (was_shared opening) (is_watched m) (notice_doors n.doors) (λ i d e. ap (nat_lt 1) (o.counts d))
-    ∙ watched_after m n opening h numbered o
+  watched_after : AreNumbered n.doors → filter (is_watched m) (notice_doors n.doors) ≡ ds
+  watched_after numbered =
+      ap (filter (is_watched m)) (notice_doors_numbered n.doors numbered)
+      ∙ filter-numbers_where (is_watched m) (λ d. takes_notices_in (door_of n d)) (length n.doors)
+      ∙ numbers_where-same (λ d. takes_notices_in (door_of n d) && is_watched m d) (λ d. takes_notices_in (door_of m d) && is_watched m d)
+      (λ d. watched_at m s d w.doors w.opened) (length n.doors)
+      ∙ numbers_where-past (λ d. takes_notices_in (door_of m d) && is_watched m d) (length m.doors) (length n.doors) (no_fewer m n w.doors)
+      (λ d l. ap (λ x. takes_notices_in x && is_watched m d) (numbered_past m.doors d l))
+      ∙ sym (filter-numbers_where (is_watched m) (λ d. takes_notices_in (door_of m d)) (length m.doors))
+      ∙ ap (filter (is_watched m)) (sym (notice_doors_numbered m.doors w.doors.numbered))
+      ∙ sym w.watched
 
--- what the end of the step lists
-pub fallen_is :
-    (m n : State) (opening : List ℕ) → HasBegun opening m → filter (has_fallen_since opening n) (notice_doors n.doors) ≡ fallen m n
-fallen_is m n opening o =
-    same_filter (has_fallen_since opening n) (falls_to_one m n) (notice_doors n.doors)
-    (λ i d e. ap (λ k. nat_lt 1 k && (reference_count n d == 1)) (o.counts d))
+  -- the doors that had more than one reference when the step began
+  pub shared_after : AreNumbered n.doors → filter (was_shared s.opening) (notice_doors n.doors) ≡ ds
+  shared_after numbered =
+      same_filter (was_shared s.opening) (is_watched m) (notice_doors n.doors) (λ i d e. ap (nat_lt 1) (w.opened.counts d)) ∙ watched_after numbered
 
-abbrev pub has_one : State → ℕ → Bool
-has_one n d = reference_count n d == 1
+  -- what the end of the step lists
+  pub fallen_is : filter (has_fallen_since s.opening n) (notice_doors n.doors) ≡ fallen m n
+  fallen_is =
+      same_filter (has_fallen_since s.opening n) (falls_to_one m n) (notice_doors n.doors)
+      (λ i d e. ap (λ k. nat_lt 1 k && (reference_count n d == 1)) (w.opened.counts d))
 
-pub fallen_watched :
-    (m n : State) (opening : List ℕ) → KeepsDoors m n → AreNumbered n.doors → HasBegun opening m → fallen m n ≡ filter (has_one n) (watched m)
-fallen_watched m n opening h numbered o =
-    filter-both (is_watched m) (has_one n) (notice_doors n.doors)
-    ∙ ap (filter (has_one n)) (watched_after m n opening h numbered o)
+  pub fallen_watched : AreNumbered n.doors → fallen m n ≡ filter (has_one n) ds
+  fallen_watched numbered = filter-both (is_watched m) (has_one n) (notice_doors n.doors) ∙ ap (filter (has_one n)) (watched_after numbered)

@@ -1,125 +1,148 @@
 -- What follows the act of an event stands on what was taken before the act, and on what the act did.
-use Rattle.std.proofs.Common.{◌≡◌, ℕ, ◌+◌, ◌<◌, ◌≤◌, List, Option, length, sym, subst, ap, ◌∙◌, arith}
-use Rattle.dk_base.specs.declared.limits.TheConstants.{EVENTS_MAX}
-use Rattle.written_kernel.specs.Types.{Answer, Pool, Request, Stepped}
-use Rattle.written_kernel.specs.Words.{IsStep, StandsFor, State, act, forget, give, has_first_common_door, now, settle, step, with_event_counted, woken_threads}
-use Rattle.server_pool.specs.Words.{item_room_in}
+use Rattle.std.proofs.Common.{◌≡◌, ℕ, List, Option, None, Some, length, refl, sym, subst, ap, ap₂, ◌∙◌, arith}
+use Rattle.written_kernel.specs.Types.{Answer, Request, Stepped}
+use Rattle.written_kernel.specs.Words.{IsStep, StandsFor, State, act, enter, forget, give, has_first_common_door, process_of, settle, step, with_event_counted, woken_threads}
 use Rattle.pool_agreement.specs.Words.{is_this}
-use Rattle.unref_notice.specs.Words.{count_of}
-use Rattle.kernel_store.specs.Words.{ArePlaced, HasBegun, StoreValue, stored_state}
+use Rattle.kernel_store.specs.Words.{ArePlaced, FillsNoPool, HasBegun, IsAtRest, IsInEvent, IsRoomFor, KeepsForNotices, StoreValue, stored_state}
 use Rattle.kernel_core.specs.declared.event.Parts.{Parts}
 use Rattle.kernel_core.specs.declared.event.Taken.{Taken}
-use Rattle.kernel_core.specs.declared.runnable.Runnable.{Runnable}
-use Rattle.kernel_core.specs.Acted.{HasActed}
-use Rattle.kernel_core.specs.Kept.{HasNothingPast}
-use Rattle.kernel_core.specs.Watched.{HadRoomForNotices, IsReadyForNotices, KeepsDoors, watched}
+use Rattle.kernel_core.specs.Acted.{CanNoticeAfter, CanStep, HasActed}
+use Rattle.kernel_core.specs.Entries.{made_first, may_make_first}
+use Rattle.kernel_core.specs.Watched.{HadRoomForNotices, KeepsDoors, WereWatched, watched}
 use Rattle.kernel_core.specs.Woken.{IsCurrent, IsReady, IsReadyToSettle}
-use Rattle.kernel_core.proofs.Acted.{had_room, opened_kept}
+use Rattle.kernel_core.proofs.Acted.{made, made-act, opened_kept}
 use Rattle.kernel_core.proofs.Live.{stands_live}
-use Rattle.kernel_core.proofs.Steps.{IsSettled, events_after, processes_after, ready_after, settled_after, settled_kept, stepped}
+use Rattle.kernel_core.proofs.Steps.{IsSettled, events_after, first_entered, first_gone_on, first_if_made, processes_after, ready_after, settled_after, settled_kept, stepped}
+
+-- memory is taken at rest
+
+pub rest_started : (a b : StoreValue) → b ≡ record a { opening = b.opening } → IsAtRest a.events a → IsAtRest b.events b
+rest_started a b same h =
+    subst (λ (s : StoreValue). IsAtRest s.events s) (sym same) (record { given_out = h.given_out; latest = h.latest })
+
+pub rest_reserved : {a b : StoreValue} → stored_state b ≡ stored_state a → FillsNoPool a b → IsAtRest a.events a → IsAtRest b.events b
+rest_reserved same fills h =
+    record { given_out = fills.given_out h.given_out; latest = omega (arith, ap (λ (k : State). k.events) same, fills.latest, h.latest) }
 
 -- an act on what was taken
-pub has_acted :
-    (m : State) (t : ℕ) (q : Option Request) (b n : Parts) (taken : Taken) (first : Option ℕ) (a : Answer) (r : Runnable) → stored_state b.store ≡ m →
-    m.events < EVENTS_MAX → HasNothingPast m → IsCurrent r m → IsReadyForNotices m (forget (act m t q).state) → b.runnable ≡ r → IsReady b taken →
-    n.runnable ≡ b.runnable → StandsFor (stored_state n.store) (act (stored_state b.store) t q).state → a ≡ (act (stored_state b.store) t q).answer →
-    ((p : ℕ) → has_first_common_door (stored_state b.store) (give (stored_state n.store)) p ≡ is_this p first) →
-    n.store.latest ≤ now (stored_state b.store) → ((d : ℕ) → count_of n.store.opening d ≡ count_of b.store.opening d) →
-    b.store.notices.spare ≤ n.store.notices.spare → ((pool : Pool) → item_room_in b.store.pools pool ≤ item_room_in n.store.pools pool + 1) →
-    HasActed m t q b n taken first a
-has_acted m t q b n taken first a r same events past current noticing listed ready runnable acted answered made latest opening records items =
+has_acted :
+    (start before : Parts) (n : StoreValue) (t : ℕ) (q : Option Request) (taken : Taken) (a : Answer) (first : Option ℕ) → CanStep start →
+    CanNoticeAfter (stored_state start.store) t q → stored_state before.store ≡ stored_state start.store → before.runnable ≡ start.runnable →
+    IsReady before taken → StandsFor (stored_state n) (act (stored_state start.store) t q).state → a ≡ (act (stored_state start.store) t q).answer →
+    ((p : ℕ) → has_first_common_door (stored_state start.store) (give (stored_state n)) p ≡ is_this p first) → KeepsForNotices before.store n →
+    HasActed start t q before (record before { store = n }) taken first a
+has_acted start before n t q taken a first can noticing same listed ready acted answered made keeps =
     record {
-      same = same;
-      events = events;
-      none_past = past;
-      current = subst (λ k. IsCurrent k m) (sym listed) current;
+      few = can.numbers.events;
+      none_past = can.none_past;
+      current = can.between.current;
       noticing = noticing;
+      same = same;
+      listed = listed;
       ready = ready;
-      runnable = runnable;
-      acted = subst (λ (k : State). StandsFor (stored_state n.store) (act k t q).state) same acted;
-      answered = answered ∙ ap (λ (k : State). (act k t q).answer) same;
-      first_common = λ p. ap (λ (k : State). has_first_common_door k (give (stored_state n.store)) p) (sym same) ∙ made p;
-      latest = subst (λ (k : State). n.store.latest ≤ now k) same latest;
-      opening = opening;
-      notice_room = records;
-      items = items;
+      runnable = refl;
+      acted = acted;
+      answered = answered;
+      first_common = made;
+      keeps = keeps;
     }
 
--- what the settling needs
+pub entry_acted :
+    (start before : Parts) (n : StoreValue) (t p : ℕ) (r : Request) (taken : Taken) (a : Answer) (may first : Option ℕ) → CanStep start →
+    CanNoticeAfter (stored_state start.store) t (Some r) → stored_state before.store ≡ stored_state start.store → before.runnable ≡ start.runnable →
+    IsReady before taken → p ≡ process_of (stored_state start.store) t → StandsFor (stored_state n) (enter (stored_state before.store) t p r).state →
+    a ≡ (enter (stored_state before.store) t p r).answer → may ≡ may_make_first (stored_state start.store) p r → first ≡ made_first a may →
+    KeepsForNotices before.store n → HasActed start t (Some r) before (record before { store = n }) taken first a
+entry_acted start before n t p r taken a may first can noticing same listed ready own state answer may_is first_is =
+    let m : State = stored_state start.store in
+    let acted : StandsFor (stored_state n) (enter m t (process_of m t) r).state =
+    state ∙ ap₂ (λ (k : State) (j : ℕ). forget (enter k t j r).state) same own in
+    let answered : a ≡ (enter m t (process_of m t) r).answer = answer ∙ ap₂ (λ (k : State) (j : ℕ). (enter k t j r).answer) same own in
+    has_acted start before n t (Some r) taken a first can noticing same listed ready acted answered
+    (first_entered m (stored_state n) t r first acted
+    (first_is ∙ ap₂ made_first answered (may_is ∙ ap (λ k. may_make_first m k r) own) ∙ first_if_made m t r))
 
-pub placed_acted :
-    {m : State} {t : ℕ} {q : Option Request} {b n : Parts} {taken : Taken} {first : Option ℕ} {a : Answer} → HasActed m t q b n taken first a →
-    ArePlaced (stored_state n.store)
-placed_acted h = subst ArePlaced (sym h.acted) h.noticing.placed
+pub end_acted :
+    (start before : Parts) (n : StoreValue) (t : ℕ) (taken : Taken) (a : Answer) → CanStep start → CanNoticeAfter (stored_state start.store) t None →
+    stored_state before.store ≡ stored_state start.store → before.runnable ≡ start.runnable → IsReady before taken →
+    StandsFor (stored_state n) (act (stored_state before.store) t None).state → a ≡ (act (stored_state before.store) t None).answer →
+    KeepsForNotices before.store n → HasActed start t None before (record before { store = n }) taken None a
+end_acted start before n t taken a can noticing same listed ready state answer =
+    let acted : StandsFor (stored_state n) (act (stored_state start.store) t None).state = state ∙ ap (λ (k : State). forget (act k t None).state) same in
+    has_acted start before n t None taken a None can noticing same listed ready acted (answer ∙ ap (λ (k : State). (act k t None).answer) same)
+    (first_gone_on (stored_state start.store) (stored_state n) t acted)
 
-pub few_acted :
-    {m : State} {t : ℕ} {q : Option Request} {b n : Parts} {taken : Taken} {first : Option ℕ} {a : Answer} → HasActed m t q b n taken first a →
-    n.store.events < EVENTS_MAX
-few_acted {m} {t} {q} {b} {n} h = omega (arith, events_after m (stored_state n.store) t q h.acted, h.events)
-
-pub latest_acted :
-    {m : State} {t : ℕ} {q : Option Request} {b n : Parts} {taken : Taken} {first : Option ℕ} {a : Answer} → HasActed m t q b n taken first a →
-    n.store.latest ≤ now (stored_state n.store)
-latest_acted {m} {t} {q} {b} {n} h = omega (arith, events_after m (stored_state n.store) t q h.acted, h.latest)
-
-pub room_acted :
-    {m : State} {t : ℕ} {q : Option Request} {b n : Parts} {taken : Taken} {first : Option ℕ} {a : Answer} → HasActed m t q b n taken first a →
-    HadRoomForNotices b.store n.store taken.watched.items
-room_acted {m} {t} {q} {b} {n} {taken} h =
-    had_room b n.store taken t q h.ready
-    (subst (λ (k : State). StandsFor (stored_state n.store) (act k t q).state) (sym h.same) h.acted)
-    (subst (λ (k : State). IsReadyForNotices k (forget (act k t q).state)) (sym h.same) h.noticing)
-    h.notice_room h.opening h.items
-
-pub flags_acted :
-    {m : State} {t : ℕ} {q : Option Request} {b n : Parts} {taken : Taken} {first : Option ℕ} {a : Answer} → HasActed m t q b n taken first a →
-    length n.store.processes.processes ≤ taken.had.spare
-flags_acted {m} {t} {q} {b} {n} h =
-    omega (
-      arith,
-      processes_after m (stored_state n.store) t q h.acted,
-      ap (λ (k : State). length k.process_table.processes) h.same,
-      h.ready.flags,
-    )
-
--- what settles an act, and what is there after that
-
+-- what settles an act
 abbrev pub SettlesTo : StoreValue → List ℕ → Option ℕ → StoreValue → Type 0
 SettlesTo n ds first s =
-    (before : State) → ds ≡ watched before → KeepsDoors before (stored_state n) → HasBegun n.opening before →
-    ((p : ℕ) → has_first_common_door before (give (stored_state n)) p ≡ is_this p first) → stored_state s ≡ settle before (stored_state n)
+    (m : State) → WereWatched m ds n → ((p : ℕ) → has_first_common_door m (give (stored_state n)) p ≡ is_this p first) →
+    stored_state s ≡ settle m (stored_state n)
 
-pub settled_acted :
-    {m : State} {t : ℕ} {q : Option Request} {b n : Parts} {taken : Taken} {first : Option ℕ} {a : Answer} → HasActed m t q b n taken first a →
-    (s : StoreValue) → SettlesTo n.store taken.watched.items first s → stored_state s ≡ settle m (stored_state n.store)
-settled_acted {m} {t} {q} {b} {n} h s settles =
-    settles m (h.ready.watched ∙ ap watched h.same) (subst (KeepsDoors m) (sym h.acted) h.noticing.doors)
-    (subst (HasBegun n.store.opening) h.same (opened_kept b.store.opening n.store.opening (stored_state b.store) h.opening h.ready.opened))
-    h.first_common
+module _ {start before after : Parts} {t : ℕ} {q : Option Request} {taken : Taken} {first : Option ℕ} {a : Answer} (h : HasActed start t q before after taken first a) where
+  abbrev m : State
+  m = stored_state start.store
 
-pub events_settled :
-    {m : State} {t : ℕ} {q : Option Request} {b n : Parts} {taken : Taken} {first : Option ℕ} {a : Answer} → HasActed m t q b n taken first a →
-    (s : StoreValue) → stored_state s ≡ settle m (stored_state n.store) → s.events ≡ n.store.events
-events_settled {m} {t} {q} {b} {n} h s e =
-    let g : IsSettled m (stored_state s) = settled_after m (stored_state n.store) (stored_state s) t q h.acted e in
-    g.events ∙ sym (events_after m (stored_state n.store) t q h.acted)
+  abbrev n : State
+  n = stored_state after.store
 
-pub ready_settled :
-    {m : State} {t : ℕ} {q : Option Request} {b n : Parts} {taken : Taken} {first : Option ℕ} {a : Answer} → HasActed m t q b n taken first a →
-    (s : StoreValue) → stored_state s ≡ settle m (stored_state n.store) → IsReadyToSettle (record n { store = s }) taken.woken
-ready_settled {m} {t} {q} {b} {n} {taken} h s e =
-    let g : IsSettled m (stored_state s) = settled_after m (stored_state n.store) (stored_state s) t q h.acted e in
-    ready_after b (record n { store = s }) taken h.ready (g.threads ∙ sym (ap (λ (k : State). length k.process_table.threads) h.same)) h.runnable
-    (subst (IsCurrent b.runnable) (sym h.same) h.current)
+  events_acted : n.events ≡ m.events
+  events_acted = events_after m n t q h.acted
 
--- once the event is counted it is a step
-pub step_settled :
-    {m : State} {t : ℕ} {q : Option Request} {b n : Parts} {taken : Taken} {first : Option ℕ} {a : Answer} → HasActed m t q b n taken first a →
-    (s new : StoreValue) (out : Stepped) → stored_state s ≡ settle m (stored_state n.store) → stored_state new ≡ with_event_counted (stored_state s) →
-    out.answer ≡ a → ((before : State) → IsCurrent n.runnable before → out.woken ≡ woken_threads before (with_event_counted (stored_state s))) →
-    IsStep (step m t q) (stored_state new) out
-step_settled {m} {t} {q} {b} {n} h s new out e counted answer woken =
-    stepped m (stored_state n.store) (stored_state new) t q out h.none_past h.acted (answer ∙ h.answered)
-    (settled_kept m (stored_state n.store) (stored_state new) (stands_live (stored_state n.store) (act m t q).state h.acted)
-    (counted ∙ ap with_event_counted e))
-    (woken m (subst (λ r. IsCurrent r m) (sym h.runnable) h.current) ∙ ap (λ (k : State). woken_threads m (with_event_counted k)) e)
+  -- what the settling needs
+
+  pub within_acted : IsInEvent after.store
+  within_acted =
+      record {
+        few = omega (arith, events_acted, h.few);
+        placed = subst ArePlaced (sym h.acted) h.noticing.placed;
+        latest = omega (arith, events_acted, ap (λ (k : State). k.events) h.same, h.keeps.latest);
+      }
+
+  were_watched : WereWatched m taken.watched.items after.store
+  were_watched =
+      record {
+        watched = h.ready.watched ∙ ap watched h.same;
+        doors = subst (KeepsDoors m) (sym h.acted) h.noticing.doors;
+        opened = opened_kept before.store after.store m h.keeps.opening (subst (HasBegun before.store) h.same h.ready.opened);
+      }
+
+  processes_acted : length after.store.processes.processes ≡ length before.store.processes.processes
+  processes_acted = processes_after m n t q h.acted ∙ ap (λ (k : State). length k.process_table.processes) (sym h.same)
+
+  pub room_acted : HadRoomForNotices before.store after.store taken.watched.items
+  room_acted =
+      record {
+        were = subst (λ k. WereWatched k taken.watched.items after.store) (sym h.same) were_watched;
+        room = h.ready.notices;
+        agreed = h.ready.agreed;
+        processes = processes_acted;
+        made = ap made h.acted ∙ made-act m t q ∙ ap made (sym h.same);
+        keeps = h.keeps;
+      }
+
+  pub flags_acted : IsRoomFor (length after.store.processes.processes) taken.had
+  flags_acted = record { empty = h.ready.flags.empty; spare = omega (arith, processes_acted, h.ready.flags.spare) }
+
+  -- and what is there after it
+
+  pub settled_acted : (s : StoreValue) → SettlesTo after.store taken.watched.items first s → stored_state s ≡ settle m n
+  settled_acted s settles = settles m were_watched h.first_common
+
+  pub events_settled : (s : StoreValue) → stored_state s ≡ settle m n → s.events ≡ n.events
+  events_settled s e = let g : IsSettled m (stored_state s) = settled_after m n (stored_state s) t q h.acted e in g.events ∙ sym events_acted
+
+  pub ready_settled : (s : StoreValue) → stored_state s ≡ settle m n → IsReadyToSettle (record after { store = s }) taken.woken
+  ready_settled s e =
+      let g : IsSettled m (stored_state s) = settled_after m n (stored_state s) t q h.acted e in
+      ready_after before (record after { store = s }) taken h.ready (g.threads ∙ sym (ap (λ (k : State). length k.process_table.threads) h.same))
+      h.runnable (subst (λ r. IsCurrent r (stored_state before.store)) (sym h.listed) (subst (IsCurrent start.runnable) (sym h.same) h.current))
+
+  -- once the event is counted it is a step
+  pub step_settled :
+      (s new : StoreValue) (out : Stepped) → stored_state s ≡ settle m n → stored_state new ≡ with_event_counted (stored_state s) →
+      out.answer ≡ a → ((k : State) → IsCurrent after.runnable k → out.woken ≡ woken_threads k (with_event_counted (stored_state s))) →
+      IsStep (step m t q) (stored_state new) out
+  step_settled s new out e counted answer woken =
+      stepped m n (stored_state new) t q out h.none_past h.acted (answer ∙ h.answered)
+      (settled_kept m n (stored_state new) (stands_live n (act m t q).state h.acted) (counted ∙ ap with_event_counted e))
+      (woken m (subst (λ r. IsCurrent r m) (sym (h.runnable ∙ h.listed)) h.current) ∙ ap (λ (k : State). woken_threads m (with_event_counted k)) e)

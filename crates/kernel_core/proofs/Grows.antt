@@ -3,16 +3,19 @@ use Rattle.std.proofs.Common.{◌≡◌, ℕ, suc, ◌+◌, ◌≤◌, ◌&&◌,
 use Rattle.std.specs.List.{cons_option}
 use Rattle.std.proofs.lemmas.Bool.{ltb-false, or_parts}
 use Rattle.std.proofs.lemmas.List.{length-map}
-use Rattle.written_kernel.specs.Types.{Attrs, Call, CallStage, Door, Errno, Fd, Item, Name, Notice, Obj, Parked, Pass, PathId, Request, Thread, ThreadState, Waiting, Param}
+use Rattle.written_kernel.proofs.Moves.{Moves, act_moves, act_result}
+use Rattle.written_kernel.proofs.Moves.IsSaid.{refused}
+use Rattle.written_kernel.proofs.Moves.IsRow.{closes}
+use Rattle.written_kernel.proofs.Moves.IsTurn.{awaits, works}
+use Rattle.written_kernel.specs.Types.{Answer, Attrs, Call, CallStage, Door, Errno, Fd, Item, Obj, Parked, Pass, Request, Thread, Waiting, Param}
 use Rattle.dk_base.specs.declared.error.Errno.TheVariants.{EBADF, E2BIG, EMFILE, ENFILE, ENOBUFS, ENOTSUP}
 use Rattle.dk_base.specs.declared.object.Item.TheVariants as item
-use Rattle.dk_base.specs.declared.request.Request.TheVariants as request
 use Rattle.dk_base.specs.declared.answer.Answer.TheVariants as answer
 use Rattle.kernel_records.specs.declared.record.ThreadState.TheVariants as is
 use Rattle.kernel_records.specs.declared.record.CallStage.TheVariants as stage
 use Rattle.dk_base.specs.ByNumber.{at_number}
-use Rattle.kernel_records.specs.Words.{CallTree, NoticeList, ProcessTable, at_stage, change_first, change_thread, change_thread_in, end_notice, enter_notice, first_refusal, idle_thread, insert_row, interruption, is_client_call_of, is_given_as, is_given_notice_as, is_last, is_live_call, is_queued_as, is_to_collect_as, left_call, new_descriptors, object_passed, objects_passed, process_end, return_call, revocation, revoked_door, thread_at, thread_at_state, thread_end, thread_in_invocation, thread_outside, tid, unbind_thread, with_owner_ended, without_arguments_at, Leaving, Test, change_door, change_door_in, refused_where, with_param, has_refused_size, has_too_many, is_valid_in, refuses_descriptors_in}
-use Rattle.written_kernel.specs.Words.{ActResult, StandsFor, State, accept, accept_call, accept_notice, act, attach, await, await_name, begin_call, call, call_tests, client_call, collect, collect_answer, collect_answer_in, create, door_named, effect, enter, exit, fail_begin, find_call, find_notice, fail_return, give_one, go_on, has_invalid_door, has_lost_door, has_room, is_due, is_live_process, kill, leave, leave_process, leave_thread, name_of, new_call, no_act, now, object_at, objects_collected_in, open_path, pass_tests, pick, pool_of, process_of, refusal_of, refused_act, return, return_parked, return_tests, return_unbound, revoke, settle, state_of, table_of, tables_after_collect, tables_after_pass, tables_with, unless_refused, with_state, close, dup, detach, set_parameter, door_at, door_of, pool_tests}
+use Rattle.kernel_records.specs.Words.{CallTree, NoticeList, ProcessTable, at_stage, change_first, change_thread, change_thread_in, end_notice, enter_notice, first_refusal, idle_thread, insert_row, is_client_call_of, is_given_as, is_live_call, is_queued_as, is_to_collect_as, left_call, new_descriptors, object_passed, objects_passed, process_end, return_call, revocation, revoked_door, thread_at, thread_at_state, thread_in_invocation, thread_outside, tid, unbind_thread, with_owner_ended, without_arguments_at, Leaving, Test, change_door, change_door_in, refused_where, with_param, has_refused_size, has_too_many, is_valid_in, refuses_descriptors_in}
+use Rattle.written_kernel.specs.Words.{ActResult, StandsFor, State, act, call, call_tests, client_call, collect, collect_answer, collect_answer_in, create, door_named, find_call, fail_return, give_one, has_lost_door, has_room, is_due, leave, leave_process, new_call, now, object_at, objects_collected_in, pass_tests, pick, pool_of, process_of, return_tests, revoke, settle, state_of, table_of, tables_after_collect, tables_after_pass, tables_with, with_state, set_parameter, door_at, door_of, pool_tests}
 use Rattle.kernel_records.proofs.Lists.{length-with_at_number}
 use Rattle.kernel_records.proofs.Places.{length-change_first}
 use Rattle.written_kernel.proofs.CallLists.{IsOver, left_call-over}
@@ -141,12 +144,6 @@ pub record IsTidy (m : State) (a : ActResult) : Type 0 where
   pub grows : Grows 1 m a.state
   pub small : AreSmall m.call_tree.calls → IsSmall a.answer
 
-refused_act-tidy : (m : State) (e : Errno) → IsTidy m (refused_act m e)
-refused_act-tidy m e = record { grows = grows_same 1 m; small = λ h. tt }
-
-no_act-tidy : (m : State) → IsTidy m (no_act m)
-no_act-tidy m = record { grows = grows_same 1 m; small = λ h. tt }
-
 -- an act that changes no thread, no call and no event, and adds a door at most
 door-tidy : (m n : State) (a : ActResult) → a.state ≡ n → n.process_table ≡ m.process_table → n.call_tree ≡ m.call_tree → n.events ≡ m.events → length n.doors ≤ length m.doors + 1 → IsSmall a.answer → IsTidy m a
 door-tidy m n a e threads calls events doors small =
@@ -170,21 +167,6 @@ create-tidy m p entry cookie attrs =
     (omega (arith, length-append m.doors ((Rattle.kernel_records.specs.Doors.new_door (length m.doors + 1) p entry cookie attrs) ∷ [])))
     tt
 
-attach-tidy : (m : State) (p : ℕ) (fd : Fd) (path : PathId) → IsTidy m (attach m p fd path)
-attach-tidy m p fd path = door-tidy m (attach m p fd path).state (attach m p fd path) refl refl refl refl (omega arith) tt
-
-open_path-tidy : (m : State) (p : ℕ) (path : PathId) → IsTidy m (open_path m p path)
-open_path-tidy m p path = door-tidy m (open_path m p path).state (open_path m p path) refl refl refl refl (omega arith) tt
-
-close-tidy : (m : State) (p : ℕ) (fd : Fd) → IsTidy m (close m p fd)
-close-tidy m p fd = door-tidy m (close m p fd).state (close m p fd) refl refl refl refl (omega arith) tt
-
-dup-tidy : (m : State) (p : ℕ) (fd : Fd) → IsTidy m (dup m p fd)
-dup-tidy m p fd = door-tidy m (dup m p fd).state (dup m p fd) refl refl refl refl (omega arith) tt
-
-detach-tidy : (m : State) (path : PathId) → IsTidy m (detach m path)
-detach-tidy m path = door-tidy m (detach m path).state (detach m path) refl refl refl refl (omega arith) tt
-
 length-change_door : (doors : List Door) (d : ℕ) (change : Door → Door) → length (change_door doors d change) ≡ length doors
 length-change_door doors d change = go (at_number doors d)
   where
@@ -197,13 +179,6 @@ set_parameter-tidy m p fd x value =
     door-tidy m (set_parameter m p fd x value).state (set_parameter m p fd x value) refl refl refl refl
     (omega (arith, length-change_door m.doors (door_at m p fd) (with_param x value)))
     tt
-
-await-tidy : (m : State) (t : ℕ) (path : PathId) → IsTidy m (await m t path)
-await-tidy m t path = go (name_of m path)
-  where
-    go : (o : Option Name) → IsTidy m (await_name m t path o)
-    go (Some n) = record { grows = grows_same 1 m; small = λ h. tt }
-    go None = record { grows = thread-grows 1 m t (thread_at_state (is.Awaiting path)); small = λ h. tt }
 
 -- the act of a test that did not hold
 passes : (b : Bool) (e : Errno) (xs : List Test) → first_refusal (refused_where b e ∷ xs) ≡ None → (b ≡ false) × (first_refusal xs ≡ None)
@@ -323,27 +298,6 @@ noticed_otherwise-grows : (k : ℕ) (m n : State) (list : NoticeList) → Grows 
 noticed_otherwise-grows k m n list g =
     record { threads = g.threads; calls = g.calls; doors = g.doors; calls_made = g.calls_made; events = g.events; small = g.small }
 
-return-tidy :
-    (m : State) (t p : ℕ) (bytes : List ℕ) (pass : List Pass) → first_refusal (return_tests m t p bytes pass) ≡ None →
-    IsTidy m (return m t p bytes pass)
-return-tidy m t p bytes pass e = go (has_invalid_door m t)
-  where
-    go : (b : Bool) → IsTidy m (if b then return_unbound m t p bytes pass else return_parked m t p bytes pass)
-    go true =
-        record {
-          grows =
-              noticed_otherwise-grows 1 m _ (end_notice m.notice_list t)
-              (bound_otherwise-grows 1 m _ (unbind_thread m.bindings t) (returned-grows m t p bytes pass thread_outside e));
-          small = λ h. tt;
-        }
-    go false =
-        record {
-          grows =
-              noticed_otherwise-grows 1 m _ (end_notice m.notice_list t)
-              (returned-grows m t p bytes pass (idle_thread (now m)) e);
-          small = λ h. tt;
-        }
-
 -- each object gets one descriptor
 length-new_descriptors : (table : List (Option Obj)) (objects : List Obj) → length (new_descriptors table objects) ≡ length objects
 length-new_descriptors table [] = refl
@@ -356,38 +310,6 @@ given-grows :
 given-grows m t c turn tables s few =
     call-grows m t turn tables (is_given_as c t) (without_arguments_at s)
     (change_first-small (is_given_as c t) (without_arguments_at s) (λ x h. without_arguments_at-small x s few) m.call_tree.calls)
-
-accept-tidy : (m : State) (t p : ℕ) (i : Item) → IsTidy m (accept m t p i)
-accept-tidy m t p (item.Call c) = go (find_call m (is_given_as c t)) refl
-  where
-    begins :
-        (r : Call) (b : Bool) → (AreSmall m.call_tree.calls → IsSmallCall r) →
-        IsTidy m (if b then begin_call m t p c r else fail_begin m t c r)
-    begins r true few =
-        record {
-          grows = given-grows m t c (thread_in_invocation (item.Call c)) (tables_with m p r.objects) (stage.Entered (tid t)) tt;
-          small = λ h. ((few h).arguments, omega (arith, (few h).objects, length-new_descriptors (table_of m p) r.objects));
-        }
-    begins r false few =
-        record {
-          grows = given-grows m t c (idle_thread (now m)) m.tables (stage.Ended EMFILE) tt;
-          small = λ h. tt;
-        }
-
-    go : (o : Option Call) → find_call m (is_given_as c t) ≡ o → IsTidy m (accept_call m t p c o)
-    go None e = no_act-tidy m
-    go (Some r) e = begins r (has_room m p r.objects) (find-small (is_given_as c t) m.call_tree.calls r e)
-accept-tidy m t p (item.Notice n) = go (find_notice m (is_given_notice_as n t))
-  where
-    go : (o : Option Notice) → IsTidy m (accept_notice m t n o)
-    go None = no_act-tidy m
-    go (Some x) =
-        record {
-          grows =
-              noticed_otherwise-grows 1 m _ (enter_notice m.notice_list n t)
-              (thread-grows 1 m t (thread_in_invocation (item.Notice n)));
-          small = λ h. tt;
-        }
 
 collect_answer-small : (m : State) (p c : ℕ) → AreSmall m.call_tree.calls → IsSmall (collect_answer_in m p (find_call m (is_to_collect_as c)))
 collect_answer-small m p c h = go (find_call m (is_to_collect_as c)) refl
@@ -458,13 +380,6 @@ leave_process-grows m p =
       small = g.small;
     }
 
-kill-tidy : (m : State) (p : ℕ) → IsTidy m (kill m p)
-kill-tidy m p = record { grows = go (is_live_process m p); small = λ h. tt }
-  where
-    go : (b : Bool) → Grows 1 m (if b then leave_process m p else m)
-    go true = leave_process-grows m p
-    go false = grows_same 1 m
-
 revoke-tidy : (m : State) (p : ℕ) (fd : Fd) → IsTidy m (revoke m p fd)
 revoke-tidy m p fd =
     let g = leave-grows m (revocation (door_at m p fd)) in
@@ -481,13 +396,6 @@ revoke-tidy m p fd =
       small = λ h. tt;
     }
 
-exit-tidy : (m : State) (t p : ℕ) → IsTidy m (exit m t p)
-exit-tidy m t p = record { grows = go (is_last m.process_table t p); small = λ h. tt }
-  where
-    go : (b : Bool) → Grows 1 m (if b then leave_process m p else leave_thread m t)
-    go true = leave_process-grows m p
-    go false = leave-grows m (thread_end t)
-
 -- any act
 
 -- an act that changes bindings alone
@@ -495,43 +403,60 @@ bindings-grow : (m : State) (bindings : List (Option ℕ)) → Grows 1 m (record
 bindings-grow m bindings =
     record { threads = refl; calls = omega arith; doors = omega arith; calls_made = omega arith; events = refl; small = λ h. h }
 
-effect-tidy : (m : State) (t p : ℕ) (r : Request) → refusal_of m t p r ≡ None → IsTidy m (effect m t p r)
-effect-tidy m t p (request.Create entry cookie attrs) e = create-tidy m p entry cookie attrs
-effect-tidy m t p (request.Call fd bytes pass rsize) e = call-tidy m t p fd bytes pass rsize (few_arguments m p fd bytes pass e)
-effect-tidy m t p (request.Return bytes pass) e = return-tidy m t p bytes pass e
-effect-tidy m t p (request.Revoke fd) e = revoke-tidy m p fd
-effect-tidy m t p (request.Interrupt thread) e = record { grows = leave-grows m (interruption thread.0); small = λ h. tt }
-effect-tidy m t p (request.Kill process) e = kill-tidy m process.0
-effect-tidy m t p (request.SetParam fd param value) e = set_parameter-tidy m p fd param value
-effect-tidy m t p (request.Close fd) e = close-tidy m p fd
-effect-tidy m t p (request.Dup fd) e = dup-tidy m p fd
-effect-tidy m t p (request.Attach fd path) e = attach-tidy m p fd path
-effect-tidy m t p (request.Detach path) e = detach-tidy m path
-effect-tidy m t p (request.Open path) e = open_path-tidy m p path
-effect-tidy m t p (request.Bind fd) e = record { grows = bindings-grow m _; small = λ h. tt }
-effect-tidy m t p request.Unbind e = record { grows = bindings-grow m _; small = λ h. tt }
-effect-tidy m t p (request.Await path) e = await-tidy m t path
-effect-tidy m t p request.Exit e = exit-tidy m t p
-effect-tidy m t p _ e = record { grows = grows_same 1 m; small = λ h. tt }
+-- an act that changes one thread alone
+thread-tidy : (m : State) (t : ℕ) (turn : Thread → Thread) (a : Answer) → IsSmall a → IsTidy m (act_result (record m { process_table = change_thread m.process_table t turn }) a)
+thread-tidy m t turn a few = record { grows = thread-grows 1 m t turn; small = λ h. few }
 
-pub enter-tidy : (m : State) (t p : ℕ) (r : Request) → IsTidy m (enter m t p r)
-enter-tidy m t p r = go (refusal_of m t p r) refl
-  where
-    go : (o : Option Errno) → refusal_of m t p r ≡ o → IsTidy m (unless_refused m o (effect m t p r))
-    go (Some x) e = refused_act-tidy m x
-    go None e = effect-tidy m t p r e
-
-pub go_on-tidy : (m : State) (t p : ℕ) (s : ThreadState) → IsTidy m (go_on m t p s)
-go_on-tidy m t p (is.Given i) = accept-tidy m t p i
-go_on-tidy m t p (is.Calling c) = collect-tidy m t p c
-go_on-tidy m t p (is.Awaiting path) = record { grows = thread-grows 1 m t (thread_at_state is.Running); small = λ h. tt }
-go_on-tidy m t p is.FailedReturn = record { grows = thread-grows 1 m t (thread_at_state is.Running); small = λ h. tt }
-go_on-tidy m t p (is.Working op input) = record { grows = thread-grows 1 m t (thread_at_state is.Running); small = λ h. omega arith }
-go_on-tidy m t p _ = no_act-tidy m
+move-tidy : (m : State) (t : ℕ) (q : Option Request) (a : ActResult) → Moves m t q a → IsTidy m a
+move-tidy m t q a (Moves.nothing x (refused r e f)) = record { grows = grows_same 1 m; small = λ h. tt }
+move-tidy m t q a (Moves.rows r place o x (closes fd f)) = door-tidy m a.state a refl refl refl refl (omega arith) tt
+move-tidy m t q a (Moves.rows r place o x _) = door-tidy m a.state a refl refl refl refl (omega arith) tt
+move-tidy m t q a (Moves.names r names _) = door-tidy m a.state a refl refl refl refl (omega arith) tt
+move-tidy m t q a (Moves.bound r o _) = record { grows = bindings-grow m _; small = λ h. tt }
+move-tidy m t q a (Moves.parameter fd x value _) = set_parameter-tidy m (process_of m t) fd x value
+move-tidy m t q a (Moves.makes entry cookie attrs _) = create-tidy m (process_of m t) entry cookie attrs
+move-tidy m t q a (Moves.turns s x _ (awaits path e)) = thread-tidy m t (thread_at_state s) x tt
+move-tidy m t q a (Moves.turns s x _ (works op input e)) = thread-tidy m t (thread_at_state s) x (omega arith)
+move-tidy m t q a (Moves.turns s x _ _) = thread-tidy m t (thread_at_state s) x tt
+move-tidy m t q a (Moves.calls fd bytes pass rsize f) = call-tidy m t (process_of m t) fd bytes pass rsize (few_arguments m (process_of m t) fd bytes pass f)
+move-tidy m t q a (Moves.returns bytes pass f e) =
+    record {
+      grows = noticed_otherwise-grows 1 m _ (end_notice m.notice_list t) (returned-grows m t (process_of m t) bytes pass (idle_thread (now m)) f);
+      small = λ h. tt;
+    }
+move-tidy m t q a (Moves.returns_unbound bytes pass f e) =
+    record {
+      grows =
+          noticed_otherwise-grows 1 m _ (end_notice m.notice_list t)
+          (bound_otherwise-grows 1 m _ (unbind_thread m.bindings t) (returned-grows m t (process_of m t) bytes pass thread_outside f));
+      small = λ h. tt;
+    }
+move-tidy m t q a (Moves.enters r e room) =
+    record {
+      grows = given-grows m t r.number (thread_in_invocation (item.Call r.number)) (tables_with m (process_of m t) r.objects) (stage.Entered (tid t)) tt;
+      small =
+          λ h. let few = find-small (is_given_as r.number t) m.call_tree.calls r e.found h in (
+            few.arguments,
+            omega (arith, few.objects, length-new_descriptors (table_of m (process_of m t)) r.objects),
+          );
+    }
+move-tidy m t q a (Moves.fails r e full) =
+    record { grows = given-grows m t r.number (idle_thread (now m)) m.tables (stage.Ended EMFILE) tt; small = λ h. tt }
+move-tidy m t q a (Moves.enters_notice n e) =
+    record {
+      grows =
+          noticed_otherwise-grows 1 m _ (enter_notice m.notice_list n.number t)
+          (thread-grows 1 m t (thread_in_invocation (item.Notice n.number)));
+      small = λ h. tt;
+    }
+move-tidy m t q a (Moves.collects c e) = collect-tidy m t (process_of m t) c
+move-tidy m t q a (Moves.leaves r who _) = record { grows = leave-grows m who; small = λ h. tt }
+move-tidy m t q a (Moves.revokes fd f) = revoke-tidy m (process_of m t) fd
+move-tidy m t q a (Moves.ends r p _) = record { grows = leave_process-grows m p; small = λ h. tt }
+move-tidy m t q a _ = record { grows = grows_same 1 m; small = λ h. tt }
 
 pub act-tidy : (m : State) (t : ℕ) (r : Option Request) → IsTidy m (act m t r)
-act-tidy m t (Some r) = enter-tidy m t (process_of m t) r
-act-tidy m t None = go_on-tidy m t (process_of m t) (state_of m t)
+act-tidy m t r = move-tidy m t r (act m t r) (act_moves m t r)
 
 -- settling
 
@@ -569,7 +494,8 @@ give_one-grows m (item.Notice n) u =
     }
 
 pub settle-grows : (before m : State) → Grows 0 m (settle before m)
-settle-grows before m = settle-all (Grows 0 m) before makes fails gives starts m (grows_same 0 m)
+settle-grows before m =
+    settle-all (Grows 0 m) before (record { makes = makes; fails = fails; gives = gives; starts = starts }) m (grows_same 0 m)
   where
     makes : (n : State) (d : ℕ) → is_due before n d (door_of n d) ≡ true → Grows 0 m n → Grows 0 m (with_notice_of n d)
     makes n d e g = noticed_otherwise-grows 0 m n (with_notice_of n d).notice_list g
@@ -582,9 +508,3 @@ settle-grows before m = settle-all (Grows 0 m) before makes fails gives starts m
 
     starts : (n : State) (t : ℕ) → state_of n t ≡ is.Dormant → Grows 0 m n → Grows 0 m (with_state n t is.Running)
     starts n t e g = grows_then 0 0 0 m n (with_state n t is.Running) (omega arith) g (thread-grows 0 n t (thread_at_state is.Running))
-
-pub events_settle : (before m : State) → (settle before m).events ≡ m.events
-events_settle before m = (settle-grows before m).events
-
-pub threads_settle : (before m : State) → length (settle before m).process_table.threads ≡ length m.process_table.threads
-threads_settle before m = (settle-grows before m).threads

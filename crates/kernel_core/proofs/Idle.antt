@@ -1,11 +1,12 @@
--- What a thread that runs is not, and where no call is to be collected no caller can go on.
+-- What a thread that runs is, and where no call is to be collected no caller can go on.
 use Rattle.std.proofs.Common.{◌≡◌, ℕ, false, List, [], ◌∷◌, find, is_some, refl, arith, true}
 use Rattle.std.specs.List.{list_any}
 use Rattle.written_kernel.specs.Types.{Call, ThreadState}
 use Rattle.kernel_records.specs.declared.record.ThreadState.TheVariants as is
-use Rattle.kernel_records.specs.Words.{is_done, is_dormant, is_idle, is_to_collect_as}
+use Rattle.kernel_records.specs.Words.{is_to_collect_as}
 use Rattle.written_kernel.specs.Words.{State, is_running, is_running_state, state_of}
 use Rattle.call_tree.specs.Words.{is_ready_call}
+use Rattle.kernel_store.specs.Words.{IsActive}
 
 -- calls
 
@@ -16,24 +17,10 @@ none_ready c (r ∷ rs) e =
     let rest = none_ready c rs (grind arith) in
     grind arith
 
--- what a thread that runs is not
-pub running_not_done : (m : State) (t : ℕ) → is_running m t ≡ true → is_done (state_of m t) ≡ false
-running_not_done m t e = go (state_of m t) e
+-- a thread that runs
+pub running_active : (m : State) (t : ℕ) → is_running m t ≡ true → IsActive (state_of m t)
+running_active m t e = go (state_of m t) e
   where
-    go : (s : ThreadState) → is_running_state s ≡ true → is_done s ≡ false
-    go is.Running e = refl
-    go s e = grind arith
-
-pub running_not_idle : (m : State) (t : ℕ) → is_running m t ≡ true → is_idle (state_of m t) ≡ false
-running_not_idle m t e = go (state_of m t) e
-  where
-    go : (s : ThreadState) → is_running_state s ≡ true → is_idle s ≡ false
-    go is.Running e = refl
-    go s e = grind arith
-
-pub running_not_dormant : (m : State) (t : ℕ) → is_running m t ≡ true → is_dormant (state_of m t) ≡ false
-running_not_dormant m t e = go (state_of m t) e
-  where
-    go : (s : ThreadState) → is_running_state s ≡ true → is_dormant s ≡ false
-    go is.Running e = refl
+    go : (s : ThreadState) → is_running_state s ≡ true → IsActive s
+    go is.Running e = record { not_done = refl; not_idle = refl; not_dormant = refl }
     go s e = grind arith

@@ -1,22 +1,26 @@
 -- A kernel's events keep that what it keeps comes from a written state, and a refused entry changes nothing else.
-use Rattle.std.proofs.Common.{◌≡◌, ℕ, ◌+◌, ◌<◌, zero, suc, Bool, true, false, cond, not, List, [], ◌∷◌, Option, Some, None, Result, Ok, Err, IfOk, OnOk, OnErr, filter, find, slice_get, length, refl, subst, sym, ap, ◌∙◌, arith, All, is_some}
+use Rattle.std.proofs.Common.{◌≡◌, ℕ, ◌+◌, ◌<◌, zero, suc, Bool, true, false, cond, not, List, [], ◌∷◌, Option, Some, None, Result, Ok, Err, IfOk, OnOk, OnErr, filter, slice_get, length, refl, subst, sym, ap, ◌∙◌, arith, All, is_some}
+use Rattle.kernel_records.proofs.NumberedLists.{find-slice_get}
 use Rattle.written_kernel.specs.Types.{Call, Door, Errno, NoMemory, Notice, Process, Request, Stepped, Thread, Tid}
 use Rattle.dk_base.specs.declared.answer.Answer.TheVariants.{Failure}
-use Rattle.dk_base.specs.declared.limits.TheConstants.{THREADS_MAX}
+use Rattle.dk_base.specs.declared.limits.TheConstants.{EVENTS_MAX, THREADS_MAX}
 use Rattle.written_kernel.specs.Words.{IsOpening, IsStep, MayTurn, StandsFor, State, act, effect, forget, has_lost_door, opening, pick, pool_of, process_of, refusal_of, step, unless_refused, waiting_items, with_event_counted, with_new_thread, is_live_process, door_of, thread_of}
 use Rattle.written_kernel.specs.Opening.IsOpening.{processes, thread}
 use Rattle.written_kernel.proofs.Forget.{IsStep-stands_for, act-forget, is_runnable-forget, refusal_of-forget, waiting_items-forget}
 use Rattle.dk_base.specs.ByNumber.{at_number}
 use Rattle.std.proofs.lemmas.Bool.Decides.{nat_tests}
-use Rattle.kernel_records.specs.Words.{is_kept_notice, is_live_call, is_live_in, is_live_stage, is_owned_by, is_valid_door, process_in}
+use Rattle.kernel_records.specs.Words.{call_number, is_kept_notice, is_live_call, is_live_in, is_live_stage, is_owned_by, is_valid_door, notice_number, process_in}
 use Rattle.kernel_records.proofs.Lists.{numbered_there}
 use Rattle.written_kernel.proofs.Opening.{IsDeclaredIn, forget-opening, opened, opening_threads}
 use Rattle.written_kernel.proofs.Steps.{events-step}
 use Rattle.kernel_invariant.specs.Core.{notice_in, noticed_door_in, number_in}
 use Rattle.kernel_invariant.specs.Events.{Keeps, may_lose_door}
-use Rattle.kernel_invariant.specs.Invariant.{AreNoticesInOrder, IsConsistent, IsInOrder}
-use Rattle.kernel_invariant.specs.Records.{has_notice_number, has_number, notice_of, owner_in}
-use Rattle.kernel_store.specs.Words.{ArePlaced}
+use Rattle.kernel_invariant.specs.Invariant.{IsConsistent}
+use Rattle.kernel_invariant.specs.Records.{notice_of, owner_in}
+use Rattle.kernel_store.specs.Words.{ArePlaced, stored_state}
+use Rattle.kernel_core.specs.declared.event.Parts.{Parts}
+use Rattle.kernel_core.specs.Acted.{CanStep, IsBetweenEvents}
+use Rattle.kernel_core.proofs.Live.{stands_live}
 use Rattle.kernel_invariant.proofs.Events.{step_keeps}
 use Rattle.kernel_invariant.proofs.Openings.{opening_keeps}
 use Rattle.kernel_invariant.proofs.Refusals.{refused_gives}
@@ -197,33 +201,6 @@ opening_current r limits m e h =
       room = record { list = omega (arith, none); next = omega (arith, none) };
     }
 
--- a call of a list in order is found by its number
-found_in_order :
-    (rs : List Call) (n i : ℕ) (r : Call) → IsInOrder n rs → slice_get rs i ≡ Some r → find (has_number r.number) rs ≡ Some r
-found_in_order [] n i r h e = grind arith
-found_in_order (x ∷ rs) n zero r h e = grind (arith, nat_tests)
-found_in_order (x ∷ rs) n (suc i) r h e =
-    grind (arith, nat_tests, found_in_order rs (n + 1) i r h.1, later rs (n + 1) i r h.1, h.0)
-  where
-    later : (rs : List Call) (n i : ℕ) (r : Call) → IsInOrder n rs → slice_get rs i ≡ Some r → n < r.number
-    later [] n i r h e = grind arith
-    later (x ∷ rs) n zero r h e = grind (arith, nat_tests, h.0)
-    later (x ∷ rs) n (suc i) r h e = let more = later rs (n + 1) i r h.1 e in omega (arith, more)
-
--- a notice of such a list too
-noticed_in_order :
-    (ns : List Notice) (low i : ℕ) (n : Notice) → AreNoticesInOrder low ns → slice_get ns i ≡ Some n →
-    find (has_notice_number n.number) ns ≡ Some n
-noticed_in_order [] low i n h e = grind arith
-noticed_in_order (x ∷ ns) low zero n h e = grind (arith, nat_tests)
-noticed_in_order (x ∷ ns) low (suc i) n h e =
-    grind (arith, nat_tests, noticed_in_order ns (low + 1) i n h.1, later ns (low + 1) i n h.1, h.0)
-  where
-    later : (ns : List Notice) (low i : ℕ) (n : Notice) → AreNoticesInOrder low ns → slice_get ns i ≡ Some n → low < n.number
-    later [] low i n h e = grind arith
-    later (x ∷ ns) low zero n h e = grind (arith, nat_tests, h.0)
-    later (x ∷ ns) low (suc i) n h e = let more = later ns (low + 1) i n h.1 e in omega (arith, more)
-
 -- processes and doors are where threads, bindings, calls and notices say
 
 module _ (m : State) (h : IsConsistent m) where
@@ -245,11 +222,11 @@ module _ (m : State) (h : IsConsistent m) where
       go (Some x) f = grind (arith, nat_tests)
 
   queued_is : (i : ℕ) (r : Call) → slice_get m.call_tree.calls i ≡ Some r → is_some (door_of m r.door) ≡ true
-  queued_is i r e = h.coherent.at_doors.door_there r.number r (found_in_order m.call_tree.calls 0 i r h.in_order e)
+  queued_is i r e = h.coherent.at_doors.door_there r.number r (find-slice_get call_number m.call_tree.calls 0 i r h.in_order e)
 
   noticed_is : (i : ℕ) (n : Notice) → slice_get m.notice_list.notices i ≡ Some n → is_some (door_of m n.door) ≡ true
   noticed_is i n e =
-      let found : notice_of m n.number ≡ Some n = noticed_in_order m.notice_list.notices 0 i n h.notices_in_order e in
+      let found : notice_of m n.number ≡ Some n = find-slice_get notice_number m.notice_list.notices 0 i n h.notices_in_order e in
       ap (λ o. is_some (door_of m (noticed_door_in o))) (sym found)
       ∙ h.coherent.notices_at_doors.notice_door n.number (ap (λ o. is_some (notice_in o)) found)
 
@@ -292,8 +269,19 @@ placed-forget n h =
       notice_door = λ i x e. let at = kept_of (is_kept_notice n.doors) n.notice_list.notices i x e in h.notice_door at.0 x at.1;
     }
 
-pub placed : (kept m : State) → kept ≡ m → IsKept kept → ArePlaced m
-placed kept m same k = subst ArePlaced (sym k.stands ∙ same) (placed-forget k.written (places k.written k.invariant.consistent))
+pub can_step :
+    (p : Parts) (m : State) → stored_state p.store ≡ m →
+    IsKept (stored_state p.store) × IsWithin (stored_state p.store) × IsBetweenEvents p →
+    m.events < EVENTS_MAX → CanStep p
+can_step p m same k few =
+    let w : IsWithin (stored_state p.store) = k.1 in
+    let early : p.store.events < EVENTS_MAX = omega (arith, ap (λ (n : State). n.events) same) in
+    record {
+      numbers = record { events = early; doors = omega arith; calls = omega arith };
+      none_past = stands_live (stored_state p.store) k.0.written k.0.stands;
+      placed = subst ArePlaced (sym k.0.stands) (placed-forget k.0.written (places k.0.written k.0.invariant.consistent));
+      between = k.2;
+    }
 
 -- what the notices after the act of a turn stand on
 pub noticing :

@@ -8,6 +8,7 @@ pub mod Tests
 pub mod Opening
 pub mod Collected
 pub mod Due
+pub mod Endings
 pub mod Fallen
 pub mod Watching
 pub mod Making

@@ -2,7 +2,7 @@
 -- notices so, but for an act by which a call or a notice ends, after which it leaves its list.
 use Rattle.std.proofs.Common.{◌≡◌, ℕ, suc, ◌+◌, ◌++◌, ◌&&◌, Bool, true, false, not, cond, if◌then◌else◌, List, [], ◌∷◌, Option, Some, None, filter, refl, sym, subst, ap, ap₂, ◌∙◌, arith, true≢false, ◌==◌, option_map, slice_get, is_some}
 use Rattle.std.proofs.lemmas.Bool.Decides.{nat_tests}
-use Rattle.written_kernel.specs.Types.{Call, Door, Fd, Item, Name, Notice, NoticeStage, Param, Pass, PathId, Request, ThreadState}
+use Rattle.written_kernel.specs.Types.{Call, Door, Errno, Fd, Item, Notice, NoticeStage, Param, Pass, Request}
 use Rattle.dk_base.specs.ByNumber.{at_number}
 use Rattle.dk_base.specs.declared.request.Param.TheVariants as param
 use Rattle.kernel_records.specs.declared.record.NoticeStage.TheVariants as notice
@@ -10,8 +10,9 @@ use Rattle.dk_base.specs.declared.object.Item.TheVariants as item
 use Rattle.dk_base.specs.declared.request.Request.TheVariants as request
 use Rattle.kernel_records.specs.declared.record.ThreadState.TheVariants as is
 use Rattle.kernel_records.specs.declared.record.CallStage.TheVariants as stage
-use Rattle.kernel_records.specs.Words.{at_stage, change_first, change_door, close_row, close_table, end_notice, end_owner, end_process, has_many, has_unref_multi, is_client_call_of, is_given_as, is_given_notice_as, is_kept_notice, is_live_call, is_past_stage, is_queued_as, is_waiting_notice_as, kept_notices, new_notice, notice_at, objects_passed, process_end, revocation, revoke_door, revoked_door, set_param, tid, with_door, with_owner_ended, with_param, with_table, without_arguments_at}
-use Rattle.written_kernel.specs.Words.{State, StandsFor, accept, accept_call, accept_notice, await, await_name, begin_call, collect, door_at, effect, fail_begin, find_call, find_notice, forget, give_one, go_on, has_invalid_door, has_room, leave, leave_process, name_of, now, return, return_parked, return_unbound, revoke, settle, table_of}
+use Rattle.kernel_records.specs.Words.{at_stage, change_first, change_door, close_row, close_table, end_notice, end_owner, end_process, has_many, has_unref_multi, is_client_call_of, is_given_as, is_given_notice_as, is_kept_notice, is_live_call, is_past_stage, is_queued_as, is_waiting_notice_as, kept_notices, new_notice, notice_at, objects_passed, process_end, revocation, revoke_door, revoked_door, set_param, tid, with_owner_ended, with_param, with_table, without_arguments_at}
+use Rattle.written_kernel.proofs.Moves.{IsEnding, IsLeaving, Moves, act_moves, effect_moves, is_leave}
+use Rattle.written_kernel.specs.Words.{ActResult, process_of, refusal_of, state_of, State, StandsFor, collect, door_at, effect, enter, forget, give_one, go_on, has_invalid_door, leave, leave_process, now, return, return_parked, return_unbound, revoke, settle, table_of, unless_refused}
 use Rattle.kernel_invariant.specs.Events.{is_leaving}
 use Rattle.call_tree.specs.Words.{AreLive}
 use Rattle.pool_agreement.specs.Words.{AreKept}
@@ -173,13 +174,6 @@ return_live m t p bytes pass h = go (has_invalid_door m t)
     go true = calls
     go false = calls
 
-await_live : (m : State) (t : ℕ) (path : PathId) → HasLive m → HasLive (await m t path).state
-await_live m t path h = go (name_of m path)
-  where
-    go : (o : Option Name) → HasLive (await_name m t path o).state
-    go None = h
-    go (Some n) = h
-
 -- a return that forgets the notice that is over
 pub return_stands :
     (m n : State) (t p : ℕ) (bytes : List ℕ) (pass : List Pass) (b : Bool) → HasNothingPast m → has_invalid_door m t ≡ b →
@@ -239,96 +233,90 @@ collect_stands m n t p c h e =
     ∙ ap (λ ns. record (forget (collect m t p c).state) { notice_list = record m.notice_list { notices = ns } })
     (sym (kept_same m.doors m.notice_list.notices h.notices))
 
--- none by which no caller, thread or door leaves
-effect_live : (m : State) (t p : ℕ) (r : Request) → is_leaving r ≡ false → HasLive m → HasLive (effect m t p r).state
-effect_live m t p (request.Call fd bytes pass rsize) e h = pushed_live m.call_tree.calls _ refl h
-effect_live m t p (request.Return bytes pass) e h = return_live m t p bytes pass h
-effect_live m t p (request.Await path) e h = await_live m t path h
-effect_live m t p (request.Revoke fd) e h = absurd (true≢false e)
-effect_live m t p (request.Interrupt thread) e h = absurd (true≢false e)
-effect_live m t p (request.Kill process) e h = absurd (true≢false e)
-effect_live m t p request.Exit e h = absurd (true≢false e)
-effect_live m t p _ e h = h
+-- whether an act lets a kernel forget a call or a notice
+abbrev forgets : {m : State} {t : ℕ} {q : Option Request} {a : ActResult} → Moves m t q a → Bool
+forgets (Moves.returns bytes pass f e) = true
+forgets (Moves.returns_unbound bytes pass f e) = true
+forgets (Moves.collects c e) = true
+forgets x = is_leave x
 
--- the same of notices, but for a return
-await_kept : (m : State) (t : ℕ) (path : PathId) → HasKept m → HasKept (await m t path).state
-await_kept m t path h = go (name_of m path)
-  where
-    go : (o : Option Name) → HasKept (await_name m t path o).state
-    go None = h
-    go (Some n) = h
+move_past :
+    (m : State) (t : ℕ) (q : Option Request) (a : ActResult) (x : Moves m t q a) → forgets x ≡ false → ArePlaced m → HasNothingPast m →
+    HasNothingPast a.state
+move_past m t q a (Moves.makes entry cookie attrs f) e p h =
+    record { calls = h.calls; notices = kept_by m.doors _ m.notice_list.notices (λ i n g. one_more m.doors _ n.door (p.notice_door i n g)) h.notices }
+move_past m t q a (Moves.parameter fd x value f) e p h =
+    record { calls = h.calls; notices = kept_by m.doors _ m.notice_list.notices (λ i n g. set_many m.doors _ n.door x value) h.notices }
+move_past m t q a (Moves.calls fd bytes pass rsize f) e p h = record { calls = pushed_live m.call_tree.calls _ refl h.calls; notices = h.notices }
+move_past m t q a (Moves.enters r f room) e p h =
+    record { calls = changed_live (is_given_as r.number t) _ m.call_tree.calls (λ x. refl) h.calls; notices = h.notices }
+move_past m t q a (Moves.fails r f full) e p h =
+    record { calls = changed_live (is_given_as r.number t) _ m.call_tree.calls (λ x. refl) h.calls; notices = h.notices }
+move_past m t q a (Moves.enters_notice n f) e p h =
+    record { calls = h.calls; notices = changed_kept m.doors (is_given_notice_as n.number t) (notice.Entered (tid t)) m.notice_list.notices refl h.notices }
+move_past m t q a (Moves.returns bytes pass f i) e p h = absurd (true≢false e)
+move_past m t q a (Moves.returns_unbound bytes pass f i) e p h = absurd (true≢false e)
+move_past m t q a (Moves.collects c f) e p h = absurd (true≢false e)
+move_past m t q a (Moves.leaves r who f) e p h = absurd (true≢false e)
+move_past m t q a (Moves.revokes fd f) e p h = absurd (true≢false e)
+move_past m t q a (Moves.ends r u f) e p h = absurd (true≢false e)
+move_past m t q a _ e p h = record { calls = h.calls; notices = h.notices }
 
 abbrev pub IsNoReturn : Request → Type 0
 IsNoReturn r = (bytes : List ℕ) (pass : List Pass) → r ≡ request.Return bytes pass → ⊥
 
-effect_kept :
-    (m : State) (t p : ℕ) (r : Request) → is_leaving r ≡ false → IsNoReturn r → ArePlaced m → HasKept m →
-    HasKept (effect m t p r).state
-effect_kept m t p (request.Create entry cookie attrs) e u a h =
-    kept_by m.doors (with_door m.doors p entry cookie attrs) m.notice_list.notices (λ i n f. one_more m.doors _ n.door (a.notice_door i n f)) h
-effect_kept m t p (request.SetParam fd x value) e u a h =
-    kept_by m.doors (set_param m.doors (door_at m p fd) x value) m.notice_list.notices (λ i n f. set_many m.doors (door_at m p fd) n.door x value) h
-effect_kept m t p (request.Return bytes pass) e u a h = absurd (u bytes pass refl)
-effect_kept m t p (request.Await path) e u a h = await_kept m t path h
-effect_kept m t p (request.Revoke fd) e u a h = absurd (true≢false e)
-effect_kept m t p (request.Interrupt thread) e u a h = absurd (true≢false e)
-effect_kept m t p (request.Kill process) e u a h = absurd (true≢false e)
-effect_kept m t p request.Exit e u a h = absurd (true≢false e)
-effect_kept m t p _ e u a h = h
+entry_forgets :
+    (m : State) (t : ℕ) (r : Request) (a : ActResult) (x : Moves m t (Some r) a) → is_leaving r ≡ false → IsNoReturn r → forgets x ≡ false
+entry_forgets m t r a (Moves.returns bytes pass f i) e u = absurd (u bytes pass refl)
+entry_forgets m t r a (Moves.returns_unbound bytes pass f i) e u = absurd (u bytes pass refl)
+entry_forgets m t r a (Moves.leaves s who (IsLeaving.interrupts v)) e u = absurd (true≢false e)
+entry_forgets m t r a (Moves.leaves s who (IsLeaving.exits f)) e u = absurd (true≢false e)
+entry_forgets m t r a (Moves.revokes fd f) e u = absurd (true≢false e)
+entry_forgets m t r a (Moves.ends s p (IsEnding.kills v f)) e u = absurd (true≢false e)
+entry_forgets m t r a (Moves.ends s p (IsEnding.exits_last f)) e u = absurd (true≢false e)
+entry_forgets m t r a x e u = refl
 
+end_forgets : (m : State) (t : ℕ) (a : ActResult) (x : Moves m t None a) → ((c : ℕ) → state_of m t ≡ is.Calling c → ⊥) → forgets x ≡ false
+end_forgets m t a (Moves.collects c f) u = absurd (u c f)
+end_forgets m t a x u = refl
+
+-- none by which no caller, thread or door leaves, but for a return
 pub effect_past :
-    (m : State) (t p : ℕ) (r : Request) → is_leaving r ≡ false → IsNoReturn r → ArePlaced m → HasNothingPast m →
-    HasNothingPast (effect m t p r).state
-effect_past m t p r e u a h = record { calls = effect_live m t p r e h.calls; notices = effect_kept m t p r e u a h.notices }
+    (m : State) (t p : ℕ) (r : Request) → p ≡ process_of m t → refusal_of m t p r ≡ None → is_leaving r ≡ false → IsNoReturn r → ArePlaced m →
+    HasNothingPast m → HasNothingPast (effect m t p r).state
+effect_past m t p r own free e u placed h =
+    subst (λ k. refusal_of m t k r ≡ None → HasNothingPast (effect m t k r).state) (sym own)
+    (λ f. let x : Moves m t (Some r) (effect m t (process_of m t) r) = effect_moves m t r f in
+    move_past m t (Some r) _ x (entry_forgets m t r _ x e u) placed h)
+    free
 
-accept_live : (m : State) (t p : ℕ) (i : Item) → HasLive m → HasLive (accept m t p i).state
-accept_live m t p (item.Call c) h = go (find_call m (is_given_as c t))
+-- nor does an entry that is refused
+pub entry_past :
+    (m : State) (t p : ℕ) (r : Request) → p ≡ process_of m t → is_leaving r ≡ false → IsNoReturn r → ArePlaced m → HasNothingPast m →
+    HasNothingPast (enter m t p r).state
+entry_past m t p r own e u placed h = go (refusal_of m t p r) refl
   where
-    begins : (r : Call) (b : Bool) → HasLive (if b then begin_call m t p c r else fail_begin m t c r).state
-    begins r true = changed_live (is_given_as c t) _ m.call_tree.calls (λ x. refl) h
-    begins r false = changed_live (is_given_as c t) _ m.call_tree.calls (λ x. refl) h
+    go : (o : Option Errno) → refusal_of m t p r ≡ o → HasNothingPast (unless_refused m o (effect m t p r)).state
+    go (Some x) f = h
+    go None f = effect_past m t p r own f e u placed h
 
-    go : (o : Option Call) → HasLive (accept_call m t p c o).state
-    go None = h
-    go (Some r) = begins r (has_room m p r.objects)
-accept_live m t p (item.Notice n) h = go (find_notice m (is_given_notice_as n t))
-  where
-    go : (o : Option Notice) → HasLive (accept_notice m t n o).state
-    go None = h
-    go (Some x) = h
+abbrev pub is_return : Request → Bool
+is_return (request.Return bytes pass) = true
+is_return _ = false
 
-accept_kept : (m : State) (t p : ℕ) (i : Item) → HasKept m → HasKept (accept m t p i).state
-accept_kept m t p (item.Call c) h = go (find_call m (is_given_as c t))
+pub entry_kept :
+    (m n : State) (t p : ℕ) (r : Request) → p ≡ process_of m t → is_leaving r ≡ false → is_return r ≡ false → ArePlaced m → HasNothingPast m →
+    n ≡ (enter m t p r).state → StandsFor n (enter m t p r).state
+entry_kept m n t p r own stays no_return placed h = is_kept n (enter m t p r).state (entry_past m t p r own stays none placed h)
   where
-    begins : (r : Call) (b : Bool) → HasKept (if b then begin_call m t p c r else fail_begin m t c r).state
-    begins r true = h
-    begins r false = h
-
-    go : (o : Option Call) → HasKept (accept_call m t p c o).state
-    go None = h
-    go (Some r) = begins r (has_room m p r.objects)
-accept_kept m t p (item.Notice n) h = go (find_notice m (is_given_notice_as n t))
-  where
-    go : (o : Option Notice) → HasKept (accept_notice m t n o).state
-    go None = h
-    go (Some x) = changed_kept m.doors (is_given_notice_as n t) (notice.Entered (tid t)) m.notice_list.notices refl h
+    none : IsNoReturn r
+    none bytes pass e = absurd (true≢false (sym (ap is_return e) ∙ no_return))
 
 -- the end of a wait forgets no call, but for a collect, and no notice
-go_on_live :
-    (m : State) (t p : ℕ) (s : ThreadState) → HasLive m → ((c : ℕ) → s ≡ is.Calling c → ⊥) → HasLive (go_on m t p s).state
-go_on_live m t p (is.Given i) h e = accept_live m t p i h
-go_on_live m t p (is.Calling c) h e = absurd (e c refl)
-go_on_live m t p (is.Awaiting path) h e = h
-go_on_live m t p (is.Working op input) h e = h
-go_on_live m t p s h e = h
-
-go_on_kept : (m : State) (t p : ℕ) (s : ThreadState) → HasKept m → HasKept (go_on m t p s).state
-go_on_kept m t p (is.Given i) h = accept_kept m t p i h
-go_on_kept m t p s h = h
-
 pub go_on_past :
-    (m : State) (t p : ℕ) (s : ThreadState) → HasNothingPast m → ((c : ℕ) → s ≡ is.Calling c → ⊥) → HasNothingPast (go_on m t p s).state
-go_on_past m t p s h e = record { calls = go_on_live m t p s h.calls e; notices = go_on_kept m t p s h.notices }
+    (m : State) (t : ℕ) → ArePlaced m → HasNothingPast m → ((c : ℕ) → state_of m t ≡ is.Calling c → ⊥) →
+    HasNothingPast (go_on m t (process_of m t) (state_of m t)).state
+go_on_past m t placed h u = move_past m t None _ (act_moves m t None) (end_forgets m t _ (act_moves m t None) u) placed h
 
 -- giving
 
@@ -343,10 +331,12 @@ give_one_kept m (item.Notice n) u h = changed_kept m.doors (is_waiting_notice_as
 pub settle_past : (before m : State) → HasNothingPast m → HasNothingPast (settle before m)
 settle_past before m h =
     settle-all HasNothingPast before
-    (λ n d e l. record { calls = l.calls; notices = pushed_kept n.doors n.notice_list.notices (new_notice (n.notice_list.made + 1) (now n) d) refl l.notices })
-    (λ n t e l. record { calls = l.calls; notices = l.notices })
-    (λ n w x e l. record { calls = give_one_live n w.item x.thread.0 l.calls; notices = give_kept n w.item x.thread.0 l.notices })
-    (λ n t e l. record { calls = l.calls; notices = l.notices })
+    (record {
+      makes = λ n d e l. record { calls = l.calls; notices = pushed_kept n.doors n.notice_list.notices (new_notice (n.notice_list.made + 1) (now n) d) refl l.notices };
+      fails = λ n t e l. record { calls = l.calls; notices = l.notices };
+      gives = λ n w x e l. record { calls = give_one_live n w.item x.thread.0 l.calls; notices = give_kept n w.item x.thread.0 l.notices };
+      starts = λ n t e l. record { calls = l.calls; notices = l.notices };
+    })
     m h
   where
     give_kept : (n : State) (i : Item) (u : ℕ) → HasKept n → AreKept (give_one n i u).doors (give_one n i u).notice_list.notices

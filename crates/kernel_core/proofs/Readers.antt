@@ -8,7 +8,7 @@ use Rattle.std.specs.Option.{option_map_or}
 use Rattle.written_kernel.specs.Types.{Call, Tid}
 use Rattle.kernel_records.specs.Words.{is_served_by, tid}
 use Rattle.call_tree.specs.Words.{root_in, walk_up, caller_in as called_in}
-use Rattle.written_kernel.specs.Words.{StandsFor, State, caller_in, find_call, forget, is_runnable, least_among, least_or, least_runnable, root, walk, woken_among}
+use Rattle.written_kernel.specs.Words.{StandsFor, State, caller_in, find_call, is_runnable, least_among, least_or, least_runnable, root, walk, woken_among}
 use Rattle.written_kernel.proofs.Forget.{is_runnable-forget, root-forget}
 use Rattle.std.proofs.lemmas.Option.{slice_get-get_or}
 use Rattle.std.proofs.lemmas.Bool.Decides.{nat_tests}
@@ -94,12 +94,6 @@ listed_nowhere m list (suc t) e h =
       | inl k ↦ absurd (let there = numbered_there list (suc t) (omega arith) (omega arith) in grind arith)
       | inr k ↦ sym (none_runnable m (suc t) (omega arith))
     ]
-
-runnables-forget : (m : State) (n : ℕ) → runnables (forget m) n ≡ runnables m n
-runnables-forget m zero = refl
-runnables-forget m (suc n) =
-    ap (λ xs. xs ++ is_runnable (forget m) (suc n) ∷ []) (runnables-forget m n)
-    ∙ ap (λ b. runnables m n ++ b ∷ []) (is_runnable-forget m (suc n))
 
 -- the least of the threads: none up to one that cannot take a turn, or the first that can
 

@@ -1,21 +1,22 @@
 -- What a step keeps within.
-use Rattle.std.proofs.Common.{◌≡◌, ℕ, ◌<◌, ◌&&◌, not, length, List, [], ◌∷◌, Option, None, refl, Result, Ok, Err, IfOk, OnErr, subst, sym, ap, ◌∙◌, arith}
-use Rattle.written_kernel.specs.Types.{Item, NoMemory, Request, Stepped}
+use Rattle.std.proofs.Common.{◌≡◌, ℕ, ◌<◌, ◌&&◌, not, Bool, true, false, Some, if◌then◌else◌, is_none, length, List, [], ◌∷◌, Option, None, refl, Result, Ok, Err, IfOk, OnErr, subst, sym, ap, ◌∙◌, arith}
+use Rattle.written_kernel.specs.Types.{Answer, Errno, Item, NoMemory, Request, Stepped}
 use Rattle.kernel_core.specs.declared.event.Parts.{Parts}
 use Rattle.kernel_core.specs.declared.runnable.Runnable.{Runnable}
 use Rattle.kernel_core.specs.declared.event.Taken.{Taken}
-use Rattle.kernel_store.specs.Words.{StoreValue}
 use Rattle.kernel_store.specs.Words.{stored_state}
 use Rattle.kernel_core.specs.Woken.{HasListRoom, IsCurrent, IsReady, IsReadyToSettle}
 use Rattle.kernel_core.proofs.Readers.{length_runnables}
 use Rattle.dk_base.specs.declared.object.Item.TheVariants as item
-use Rattle.kernel_records.specs.Words.{has_common_door, is_live_call}
+use Rattle.kernel_records.specs.Words.{first_refusal, has_common_door, is_live_call, is_private}
 use Rattle.written_kernel.proofs.Failing.{doors-fail_returns}
 use Rattle.pool_agreement.specs.Words.{first_common_of, is_this}
 use Rattle.pool_agreement.proofs.Settling.{first_common, no_first_common}
-use Rattle.written_kernel.specs.Words.{IsStep, StandsFor, State, act, enter, fail_returns, forget, give, give_one, go_on, has_first_common_door, no_process, process_of, settle, state_of, step, with_event_counted, with_new_process, with_processes, woken_threads}
+use Rattle.written_kernel.specs.Words.{IsStep, StandsFor, State, act, create, create_tests, enter, fail_returns, forget, give, give_one, go_on, has_first_common_door, no_process, process_of, settle, state_of, step, unless_refused, with_event_counted, with_new_process, with_processes, woken_threads}
+use Rattle.dk_base.specs.declared.answer.Answer.TheVariants as answer
+use Rattle.dk_base.specs.declared.request.Request.TheVariants as request
+use Rattle.kernel_core.specs.Entries.{made_first, may_make_first}
 use Rattle.kernel_core.specs.Kept.{HasNothingPast}
-use Rattle.kernel_core.specs.Numbers.{HasNumbersLeft}
 use Rattle.kernel_core.specs.Within.{IsWithin, IsSmall}
 use Rattle.kernel_records.proofs.Lists.{same_length}
 use Rattle.written_kernel.proofs.Settling.{give-all}
@@ -40,9 +41,6 @@ step-within m t r w few =
 pub step-small : (m : State) (t : ℕ) (r : Option Request) → IsWithin m → IsSmall (step m t r).answer
 unfolding step
 step-small m t r w = (act-tidy m t r).small w.small
-
-pub numbers_left : (m : State) → IsWithin m → m.events < 1000000 → HasNumbersLeft m
-numbers_left m w few = record { events = few; doors = omega arith; calls = omega arith }
 
 -- what a kept state's event did, if memory sufficed, it did to each state that it stands for
 pub step_stands :
@@ -115,8 +113,7 @@ pub ready_after :
     x.runnable ≡ p.runnable → IsCurrent p.runnable (stored_state p.store) → IsReadyToSettle x taken.woken
 ready_after p x taken h g same k =
     record {
-      woken = h.woken;
-      woken_room = omega (arith, h.woken_room, g);
+      woken = record { empty = h.woken.empty; spare = omega (arith, h.woken.spare, g) };
       listed =
           ap (λ (r : Runnable). length r.list.items) same ∙ ap length k.items
           ∙ length_runnables (stored_state p.store) (length p.store.processes.threads) ∙ sym g;
@@ -172,11 +169,31 @@ pub first_entered :
 first_entered m n t r first h e =
     λ p. first_kept m n (enter m t (process_of m t) r).state p h ∙ first_common m t r p ∙ ap (is_this p) (sym e)
 
+-- by what is known before an entry, and by its answer
+pub first_if_made :
+    (m : State) (t : ℕ) (r : Request) → made_first (enter m t (process_of m t) r).answer (may_make_first m (process_of m t) r) ≡ first_common_of m t r
+first_if_made m t (request.Create entry cookie attrs) = go (first_refusal (create_tests m p attrs)) (not (is_private attrs) && not (has_common_door m.doors p))
+  where
+    p : ℕ
+    p = process_of m t
+
+    go :
+        (o : Option Errno) (b : Bool) →
+        made_first (unless_refused m o (create m p entry cookie attrs)).answer (if b then Some p else None) ≡ (if is_none o && b then Some p else None)
+    go (Some e) b = refl
+    go None true = refl
+    go None false = refl
+first_if_made m t r = none (enter m t (process_of m t) r).answer
+  where
+    none : (a : Answer) → made_first a None ≡ None
+    none (answer.Failure e) = refl
+    none a = refl
+
 pub first_gone_on :
     (m n : State) (t : ℕ) → StandsFor n (go_on m t (process_of m t) (state_of m t)).state →
     (p : ℕ) → has_first_common_door m (give n) p ≡ is_this p None
 first_gone_on m n t h =
-    λ p. first_kept m n (go_on m t (process_of m t) (state_of m t)).state p h ∙ no_first_common m t (state_of m t) p
+    λ p. first_kept m n (go_on m t (process_of m t) (state_of m t)).state p h ∙ no_first_common m t p
 
 -- what fails before the giving makes no door
 

@@ -1,4 +1,4 @@
--- How many objects an event hands over at most. The room for them is taken before it.
+-- How many objects an event hands over at most, for which the room is taken before it, and which end a wait has.
 use Rattle.std.specs.Prelude.{ℕ, List, [], Option, None, Some, length}
 use Rattle.written_kernel.specs.Types.{Call, Item, Obj, Request, ThreadState}
 use Rattle.dk_base.specs.declared.object.Item.TheVariants as item
@@ -6,6 +6,8 @@ use Rattle.dk_base.specs.declared.request.Request.TheVariants as request
 use Rattle.kernel_records.specs.declared.record.ThreadState.TheVariants as is
 use Rattle.kernel_records.specs.Words.{is_given_as, is_to_collect_as}
 use Rattle.written_kernel.specs.Words.{State, find_call, objects_collected_in}
+use Rattle.kernel_core.specs.declared.acts.Ending.{Ending}
+use Rattle.kernel_core.specs.declared.acts.Ending.TheVariants as ending
 
 -- at an entry: what is passed with it
 abbrev pub count_passed : Request → ℕ
@@ -29,7 +31,16 @@ abbrev pub objects_with : State → ℕ → Item → List Obj
 objects_with m t (item.Call c) = objects_given m t c
 objects_with m t (item.Notice n) = []
 
-abbrev pub objects_at_end : State → ℕ → ThreadState → List Obj
-objects_at_end m t (is.Given i) = objects_with m t i
-objects_at_end m t (is.Calling c) = objects_to_collect m c
+abbrev pub objects_at_end : State → ℕ → Ending → List Obj
+objects_at_end m t (ending.Accept i) = objects_with m t i
+objects_at_end m t (ending.Collect c) = objects_to_collect m c
 objects_at_end m t _ = []
+
+-- which end the wait of a thread has
+abbrev pub ending_of : ThreadState → Ending
+ending_of (is.Given i) = ending.Accept i
+ending_of (is.Calling c) = ending.Collect c
+ending_of (is.Awaiting path) = ending.Find
+ending_of (is.Working op input) = ending.EndWork
+ending_of is.FailedReturn = ending.Wake
+ending_of _ = ending.Nothing

@@ -1,4 +1,5 @@
 pub mod Acted
+pub mod Entries
 pub mod Kept
 pub mod Numbers
 pub mod Watched

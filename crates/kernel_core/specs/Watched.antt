@@ -1,12 +1,11 @@
 -- Unreferenced notices, as the kernel makes them: before the act of an event it lists the doors that it watches, which take notices
 -- and have more than one reference, and after the act it makes a notice of each whose references have fallen to one.
-use Rattle.std.specs.Prelude.{ℕ, ◌≡◌, ◌+◌, ◌≤◌, if◌then◌else◌, List, [], ◌∷◌, Option, Bool, Some, filter, length, nat_lt}
-use Rattle.written_kernel.specs.Types.{Door, Pool}
-use Rattle.kernel_records.specs.Words.{make_notice, notice_doors}
+use Rattle.std.specs.Prelude.{ℕ, ◌≡◌, if◌then◌else◌, List, [], ◌∷◌, Option, Bool, Some, filter, length, nat_lt}
+use Rattle.written_kernel.specs.Types.{Door}
+use Rattle.kernel_records.specs.Words.{AreNumbered, make_notice, notice_doors}
 use Rattle.written_kernel.specs.Words.{State, door_of, falls_to_one, now, reference_count}
 use Rattle.kernel_invariant.specs.Events.{IsSameDoor}
-use Rattle.server_pool.specs.Words.{item_room_in}
-use Rattle.kernel_store.specs.Words.{ArePlaced, HasRoomForNotices, IsAgreed, HasBegun, StoreValue, may_have_notice_in, stored_state}
+use Rattle.kernel_store.specs.Words.{ArePlaced, HasBegun, HasRoomForNotices, IsAgreed, KeepsForNotices, StoreValue, may_have_notice_in, stored_state}
 
 abbrev pub is_watched : State → ℕ → Bool
 is_watched m d = nat_lt 1 (reference_count m d)
@@ -31,7 +30,7 @@ pub record IsKeptDoor (x : Door) (o : Option Door) : Type 0 where
   pub same : IsSameDoor x door
 
 pub record KeepsDoors (m n : State) : Type 0 where
-  pub numbered : (d : ℕ) (x : Door) → door_of m d ≡ Some x → x.number ≡ d
+  pub numbered : AreNumbered m.doors
   pub kept : (d : ℕ) (x : Door) → door_of m d ≡ Some x → IsKeptDoor x (door_of n d)
 
 -- what the notices after an act stand on: what it does to doors, and that doors, processes and notices are in their places after it
@@ -39,15 +38,17 @@ pub record IsReadyForNotices (m n : State) : Type 0 where
   pub doors : KeepsDoors m n
   pub placed : ArePlaced n
 
--- Before the act there was room for a notice of each door that is watched, and the step began; the act made no notice, and took the
--- place of one item at most.
+-- these doors were watched in the state m, in which the step began that has led to a store
+pub record WereWatched (m : State) (ds : List ℕ) (store : StoreValue) : Type 0 where
+  pub watched : ds ≡ watched m
+  pub doors : KeepsDoors m (stored_state store)
+  pub opened : HasBegun store m
+
+-- before the act there was room for a notice of each of them, and the act made none
 pub record HadRoomForNotices (before after : StoreValue) (ds : List ℕ) : Type 0 where
-  pub watched : ds ≡ watched (stored_state before)
+  pub were : WereWatched (stored_state before) ds after
   pub room : HasRoomForNotices before ds
   pub agreed : IsAgreed before
-  pub doors : KeepsDoors (stored_state before) (stored_state after)
-  pub opened : HasBegun after.opening (stored_state before)
   pub processes : length after.processes.processes ≡ length before.processes.processes
   pub made : after.notices.list.made ≡ before.notices.list.made
-  pub records : before.notices.spare ≤ after.notices.spare
-  pub items : (pool : Pool) → item_room_in before.pools pool ≤ item_room_in after.pools pool + 1
+  pub keeps : KeepsForNotices before after

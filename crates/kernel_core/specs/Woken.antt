@@ -6,7 +6,7 @@ use Rattle.kernel_core.specs.declared.event.Parts.{Parts}
 use Rattle.kernel_core.specs.declared.event.Taken.{Taken}
 use Rattle.kernel_core.specs.declared.runnable.Runnable.{Runnable}
 use Rattle.written_kernel.specs.Words.{State, is_runnable}
-use Rattle.kernel_store.specs.Words.{HasRoomForNotices, IsAgreed, HasBegun, stored_state}
+use Rattle.kernel_store.specs.Words.{HasBegun, HasRoomForNotices, IsAgreed, IsRoomFor, stored_state}
 use Rattle.kernel_core.specs.Watched.{watched}
 
 -- of each of the threads 1 to n whether it can take a turn
@@ -26,18 +26,15 @@ pub record IsCurrent (r : Runnable) (m : State) : Type 0 where
 
 -- what was taken before an event suffices for what follows it
 pub record IsReady (parts : Parts) (taken : Taken) : Type 0 where
-  pub woken : taken.woken.items ≡ []
-  pub woken_room : length parts.store.processes.threads ≤ taken.woken.spare
-  pub none : taken.had.items ≡ []
-  pub flags : length parts.store.processes.processes ≤ taken.had.spare
+  pub woken : IsRoomFor (length parts.store.processes.threads) taken.woken
+  pub flags : IsRoomFor (length parts.store.processes.processes) taken.had
   pub watched : taken.watched.items ≡ watched (stored_state parts.store)
   pub notices : HasRoomForNotices parts.store taken.watched.items
-  pub opened : HasBegun parts.store.opening (stored_state parts.store)
+  pub opened : HasBegun parts.store (stored_state parts.store)
   pub agreed : IsAgreed parts.store
 
 -- the same once its act is done
 pub record IsReadyToSettle (parts : Parts) (list : RoomValue Tid) : Type 0 where
-  pub woken : list.items ≡ []
-  pub woken_room : length parts.store.processes.threads ≤ list.spare
+  pub woken : IsRoomFor (length parts.store.processes.threads) list
   pub listed : length parts.runnable.list.items ≡ length parts.store.processes.threads
   pub room : HasListRoom parts.runnable (length parts.store.processes.threads)

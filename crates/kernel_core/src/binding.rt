@@ -1,17 +1,16 @@
 //! The acts of bindings.
-ghost use Rattle.std.specs.Prelude.{◌≡◌, ◌+◌, ◌≤◌, None, true};
+ghost use Rattle.std.specs.Prelude.{◌≡◌, None, true};
 ghost use Rattle.kernel_records.specs.Words.{first_refusal};
-ghost use Rattle.written_kernel.specs.Types.{Pool};
-ghost use Rattle.written_kernel.specs.Words.{bind, binding_tests, bound_tests, information_of_bound, is_running, unbind};
-ghost use Rattle.pool_agreement.specs.Words.{IsGivenOut};
-ghost use Rattle.server_pool.specs.Words.{item_room_in};
-ghost use Rattle.kernel_store.specs.Words.{stored_state};
+ghost use Rattle.written_kernel.specs.Words.{Subject, bind, binding_tests, bound_tests, information_of_bound, is_running, unbind};
+ghost use Rattle.kernel_core.specs.Entries.{entry_about};
+ghost use Rattle.kernel_store.specs.Words.{FillsNoPool, stored_state};
 
 use crate::descriptors::door_named;
 use crate::information::information_of;
 use dk_base::answer::Answer;
 use dk_base::error::Errno;
 use dk_base::number::{Fd, Pid, Tid};
+use dk_base::request::Request;
 use kernel_store::store::Store;
 
 /// door_bind(3C): EBADF for no door or an invalid one, EINVAL for one that is not private or is another process's.
@@ -26,11 +25,7 @@ pub fn bind(store: &mut Store, t: Tid, p: Pid, fd: Fd) -> Answer
     requires { is_running (stored_state store.old) t.0 ≡ true }
     ensures state { stored_state store.new ≡ (bind (stored_state store.old) t.0 p.0 fd).state }
     ensures answer { result ≡ (bind (stored_state store.old) t.0 p.0 fd).answer }
-    ensures given_out { IsGivenOut store.old.pools → IsGivenOut store.new.pools }
-    ensures latest { store.new.latest ≡ store.old.latest }
-    ensures opening { store.new.opening ≡ store.old.opening }
-    ensures notice_room { store.old.notices.spare ≤ store.new.notices.spare }
-    ensures items { (pool : Pool) → item_room_in store.old.pools pool ≤ item_room_in store.new.pools pool + 1 }
+    ensures keeps { FillsNoPool store.old store.new }
 {
     let door = door_named(store, p, fd);
     store.bind(t, door);
@@ -53,11 +48,7 @@ pub fn unbind(store: &mut Store, t: Tid) -> Answer
     requires allowed { first_refusal (bound_tests (stored_state store.old) t.0) ≡ None }
     ensures state { stored_state store.new ≡ (unbind (stored_state store.old) t.0).state }
     ensures answer { result ≡ (unbind (stored_state store.old) t.0).answer }
-    ensures given_out { IsGivenOut store.old.pools → IsGivenOut store.new.pools }
-    ensures latest { store.new.latest ≡ store.old.latest }
-    ensures opening { store.new.opening ≡ store.old.opening }
-    ensures notice_room { store.old.notices.spare ≤ store.new.notices.spare }
-    ensures items { (pool : Pool) → item_room_in store.old.pools pool ≤ item_room_in store.new.pools pool + 1 }
+    ensures keeps { FillsNoPool store.old store.new }
 {
     store.unbind(t);
     Answer::Done
@@ -68,4 +59,28 @@ pub fn information_of_bound(store: &Store, t: Tid, p: Pid) -> Answer
     ensures { result ≡ (information_of_bound (stored_state store.now) t.0 p.0).answer }
 {
     information_of(store, p, store.bound_door(t).unwrap_or(0))
+}
+
+/// An entry about bindings, by a thread that runs.
+pub fn enter(store: &mut Store, t: Tid, p: Pid, request: Request) -> Answer
+    requires { is_running (stored_state store.old) t.0 ≡ true }
+    ensures state { stored_state store.new ≡ (entry_about Subject.bindings (stored_state store.old) t.0 p.0 request).state }
+    ensures answer { result ≡ (entry_about Subject.bindings (stored_state store.old) t.0 p.0 request).answer }
+    ensures keeps { FillsNoPool store.old store.new }
+{
+    match request {
+        Request::Bind { fd } => match bind_refusal(store, p, fd) {
+            Some(error) => Answer::Failure(error),
+            None => bind(store, t, p, fd),
+        },
+        Request::Unbind => match bound_refusal(store, t) {
+            Some(error) => Answer::Failure(error),
+            None => unbind(store, t),
+        },
+        Request::InfoQuery => match bound_refusal(store, t) {
+            Some(error) => Answer::Failure(error),
+            None => information_of_bound(store, t, p),
+        },
+        _ => Answer::Done,
+    }
 }

@@ -1,19 +1,18 @@
 //! The acts of doors, of calls of them, and of their invocations.
-ghost use Rattle.std.specs.Prelude.{◌≡◌, ℕ, ◌+◌, ◌++◌, ◌<◌, ◌≤◌, [], None, false, length, true};
+ghost use Rattle.std.specs.Prelude.{◌≡◌, ◌++◌, None, false, length, true};
 ghost use Rattle.dk_base.specs.declared.object.Item.TheVariants as item;
 ghost use Rattle.kernel_records.specs.declared.record.ThreadState.TheVariants as is;
-ghost use Rattle.kernel_records.specs.Words.{cookie_of, entry_of, first_refusal, is_done, is_dormant, is_given_as, is_given_notice_as, is_idle, limit_tests, no_cancel_of};
-ghost use Rattle.written_kernel.specs.Types.{Call, Pool};
-ghost use Rattle.written_kernel.specs.Words.{StandsFor, accept, accept_call, accept_notice, call, call_tests, collect, collect_answer_in, create, create_tests, door_named, door_of, find_call, find_notice, has_room, is_running, new_call, now, object_at, objects_collected_in, pass_tests, pool_of, pool_tests, results_answer, return, return_tests, state_of, tables_after_collect};
-ghost use Rattle.kernel_core.specs.Handed.{objects_at_end, objects_given, objects_to_collect, objects_with};
+ghost use Rattle.kernel_records.specs.Words.{cookie_of, entry_of, first_refusal, is_given_as, is_given_notice_as, limit_tests, no_cancel_of};
+ghost use Rattle.written_kernel.specs.Types.{Call};
+ghost use Rattle.written_kernel.specs.Words.{StandsFor, Subject, accept, accept_call, accept_notice, call, call_tests, collect, collect_answer_in, create, create_tests, door_named, door_of, find_call, find_notice, has_room, is_running, new_call, object_at, objects_collected_in, pass_tests, pool_of, pool_tests, process_of, results_answer, return, return_tests, state_of, tables_after_collect};
+ghost use Rattle.kernel_core.specs.Handed.{count_passed, objects_at_end, objects_given, objects_to_collect, objects_with};
 ghost use Rattle.kernel_core.specs.Kept.{HasNothingPast};
 ghost use Rattle.kernel_core.specs.Numbers.{HasNumbersLeft};
-ghost use Rattle.server_pool.specs.Words.{item_room_in};
-ghost use Rattle.unref_notice.specs.Words.{AreCounted, count_of};
-ghost use Rattle.unref_notice.specs.declared.counts.TheConstants.{REFERENCES_ROOM};
-ghost use Rattle.pool_agreement.specs.Words.{IsGivenOut, IsGivenOutBut, own_pool};
-ghost use Rattle.kernel_store.specs.Words.{ArePlaced, HasRoom, stored_state};
+ghost use Rattle.pool_agreement.specs.Words.{own_pool, pool_of_request};
+ghost use Rattle.kernel_core.specs.Entries.{entry_about};
+ghost use Rattle.kernel_store.specs.Words.{AllIsGivenOut, ArePlaced, CanAct, CanCount, FillsOnePool, HasRoomForDoor, HasRoomForReferences, IsActive, IsRoomFor, KeepsForNotices, KeepsPools, NothingAfter, stored_state};
 
+use crate::acts::Ending;
 use crate::descriptors::{add_row, door_named};
 use dk_base::answer::Answer;
 use dk_base::error::Errno;
@@ -21,6 +20,7 @@ use dk_base::limits::{DATA_MAX, PASS_MAX, QUEUE_MAX};
 use dk_base::list::{Bytes, ObjList, PassList, Room};
 use dk_base::number::{Fd, Pid, Tid};
 use dk_base::object::{Item, Obj};
+use dk_base::request::Request;
 use dk_base::set::Attrs;
 use door_object::doors::Doors;
 use kernel_records::record::{Call, CallStage, ThreadState};
@@ -43,19 +43,15 @@ pub fn create_refusal(store: &Store, p: Pid, attrs: Attrs) -> Option<Errno>
 /// door_create(3C): a door of the process at its lowest descriptor that is free.
 pub fn create(store: &mut Store, p: Pid, entry: u32, cookie: u64, attrs: Attrs) -> Answer
     requires numbers { HasNumbersLeft (stored_state store.old) }
-    requires room { 0 < store.old.doors.spare }
-    requires pool_room { 0 < store.old.pools.door_room }
-    requires count_room { 0 < store.old.door_room }
-    requires references { REFERENCES_ROOM ≤ store.old.reference_room }
+    requires room { HasRoomForDoor store.old }
+    requires references { HasRoomForReferences store.old }
     requires placed { ArePlaced (stored_state store.old) }
+    requires latest { NothingAfter store.old.events store.old }
     requires allowed { first_refusal (create_tests (stored_state store.old) p.0 attrs) ≡ None }
     ensures state { stored_state store.new ≡ (create (stored_state store.old) p.0 entry cookie attrs).state }
     ensures answer { result ≡ (create (stored_state store.old) p.0 entry cookie attrs).answer }
-    ensures given_out { IsGivenOut store.old.pools → IsGivenOut store.new.pools }
-    ensures latest { store.new.latest ≡ store.old.latest }
-    ensures opening { (d : ℕ) → count_of store.new.opening d ≡ count_of store.old.opening d }
-    ensures notice_room { store.old.notices.spare ≤ store.new.notices.spare }
-    ensures items { (pool : Pool) → item_room_in store.old.pools pool ≤ item_room_in store.new.pools pool + 1 }
+    ensures given_out { AllIsGivenOut store.old → AllIsGivenOut store.new }
+    ensures keeps { KeepsForNotices store.old store.new }
 {
     let number = store.add_door(p, entry, cookie, attrs);
     add_row(store, p, Obj::Door(number))
@@ -130,7 +126,7 @@ fn new_call(store: &Store, t: Tid, d: u32, bytes: Bytes, objects: ObjList, rsize
 }
 
 /// door_call(3C): a call that waits for a server thread, by a thread that runs. What is passed goes with it.
-#[tactic(auto, using(crate::proofs::Idle::running_not_done, crate::proofs::Idle::running_not_idle, crate::proofs::Idle::running_not_dormant))]
+#[tactic(auto, using(crate::proofs::Idle::running_active))]
 pub fn call(
     store: &mut Store,
     t: Tid,
@@ -142,20 +138,13 @@ pub fn call(
     mut objects: Room<Obj>,
 ) -> Answer
     requires numbers { HasNumbersLeft (stored_state store.old) }
-    requires room { HasRoom store.old (pool_of (stored_state store.old) (door_named (object_at (stored_state store.old) p.0 fd))) }
-    requires placed { ArePlaced (stored_state store.old) }
-    requires first { store.old.latest ≤ store.old.events }
+    requires can_act { CanAct (pool_of (stored_state store.old) (door_named (object_at (stored_state store.old) p.0 fd))) store.old }
     requires running { is_running (stored_state store.old) t.0 ≡ true }
     requires allowed { first_refusal (call_tests (stored_state store.old) p.0 fd bytes pass.now) ≡ None }
-    requires empty { objects.items ≡ [] }
-    requires spare { length pass.now ≤ objects.spare }
+    requires room { IsRoomFor (length pass.now) objects }
     ensures state { stored_state store.new ≡ (call (stored_state store.old) t.0 p.0 fd bytes pass.now rsize).state }
     ensures answer { result ≡ (call (stored_state store.old) t.0 p.0 fd bytes pass.now rsize).answer }
-    ensures given_out { IsGivenOut store.old.pools → IsGivenOutBut (pool_of (stored_state store.old) (door_named (object_at (stored_state store.old) p.0 fd))) store.new.pools }
-    ensures latest { store.new.latest ≡ now (stored_state store.old) }
-    ensures opening { store.new.opening ≡ store.old.opening }
-    ensures notice_room { store.old.notices.spare ≤ store.new.notices.spare }
-    ensures items { (pool : Pool) → item_room_in store.old.pools pool ≤ item_room_in store.new.pools pool + 1 }
+    ensures keeps { FillsOnePool (pool_of (stored_state store.old) (door_named (object_at (stored_state store.old) p.0 fd))) store.old store.new }
 {
     let door = door_named(store, p, fd);
     store.take_out(p, pass, &mut objects);
@@ -196,22 +185,14 @@ pub fn return_from(
     pass: &PassList,
     mut objects: Room<Obj>,
 ) -> Answer
-    requires numbers { HasNumbersLeft (stored_state store.old) }
-    requires room { HasRoom store.old (own_pool (stored_state store.old) t.0) }
-    requires placed { ArePlaced (stored_state store.old) }
-    requires first { store.old.latest ≤ store.old.events }
+    requires can_act { CanAct (own_pool (stored_state store.old) t.0) store.old }
     requires none_past { HasNothingPast (stored_state store.old) }
     requires running { is_running (stored_state store.old) t.0 ≡ true }
     requires allowed { first_refusal (return_tests (stored_state store.old) t.0 p.0 bytes pass.now) ≡ None }
-    requires empty { objects.items ≡ [] }
-    requires spare { length pass.now ≤ objects.spare }
+    requires room { IsRoomFor (length pass.now) objects }
     ensures state { StandsFor (stored_state store.new) (return (stored_state store.old) t.0 p.0 bytes pass.now).state }
     ensures answer { result ≡ (return (stored_state store.old) t.0 p.0 bytes pass.now).answer }
-    ensures given_out { IsGivenOut store.old.pools → IsGivenOutBut (own_pool (stored_state store.old) t.0) store.new.pools }
-    ensures latest { store.new.latest ≤ now (stored_state store.old) }
-    ensures opening { store.new.opening ≡ store.old.opening }
-    ensures notice_room { store.old.notices.spare ≤ store.new.notices.spare }
-    ensures items { (pool : Pool) → item_room_in store.old.pools pool ≤ item_room_in store.new.pools pool + 1 }
+    ensures keeps { FillsOnePool (own_pool (stored_state store.old) t.0) store.old store.new }
 {
     store.take_out(p, pass, &mut objects);
     let objects = objects.into_list();
@@ -221,6 +202,52 @@ pub fn return_from(
     }
     store.return_call(alloc, t, bytes, objects);
     Answer::Wait
+}
+
+/// An entry about doors, by a thread that runs. What it passes goes into `objects`.
+#[tactic(auto, using(crate::proofs::Live::entry_kept, crate::proofs::Live::live_state))]
+pub fn enter(
+    store: &mut Store,
+    alloc: Global,
+    t: Tid,
+    p: Pid,
+    request: Request,
+    objects: Room<Obj>,
+) -> Answer
+    requires numbers { HasNumbersLeft (stored_state store.old) }
+    requires can_act { CanAct (pool_of_request (stored_state store.old) t.0 request) store.old }
+    requires none_past { HasNothingPast (stored_state store.old) }
+    requires running { is_running (stored_state store.old) t.0 ≡ true }
+    requires own { p.0 ≡ process_of (stored_state store.old) t.0 }
+    requires room { IsRoomFor (count_passed request) objects }
+    ensures state { StandsFor (stored_state store.new) (entry_about Subject.doors (stored_state store.old) t.0 p.0 request).state }
+    ensures answer { result ≡ (entry_about Subject.doors (stored_state store.old) t.0 p.0 request).answer }
+    ensures keeps { FillsOnePool (pool_of_request (stored_state store.old) t.0 request) store.old store.new }
+{
+    match request {
+        Request::Create {
+            entry,
+            cookie,
+            attrs,
+        } => match create_refusal(store, p, attrs) {
+            Some(error) => Answer::Failure(error),
+            None => create(store, p, entry, cookie, attrs),
+        },
+        Request::Call {
+            door,
+            bytes,
+            pass,
+            rsize,
+        } => match call_refusal(store, p, door, &bytes, &pass) {
+            Some(error) => Answer::Failure(error),
+            None => call(store, t, p, door, bytes, &pass, rsize, objects),
+        },
+        Request::Return { bytes, pass } => match return_refusal(store, t, p, &bytes, &pass) {
+            Some(error) => Answer::Failure(error),
+            None => return_from(store, alloc, t, p, bytes, &pass, objects),
+        },
+        _ => Answer::Done,
+    }
 }
 
 /// The entry number and the cookie of a door.
@@ -272,16 +299,12 @@ fn has_room_given(store: &Store, t: Tid, p: Pid, c: u32) -> bool
 /// The invocation of a call begins, of a thread that was given it. Its objects get descriptors.
 fn begin_call(store: &mut Store, alloc: Global, t: Tid, p: Pid, c: u32, fds: Room<Fd>) -> Answer
     requires given { state_of (stored_state store.old) t.0 ≡ is.Given (item.Call c) }
-    requires empty { fds.items ≡ [] }
-    requires spare { length (objects_given (stored_state store.old) t.0 c) ≤ fds.spare }
+    requires fds { IsRoomFor (length (objects_given (stored_state store.old) t.0 c)) fds }
     requires room { has_room (stored_state store.old) p.0 (objects_given (stored_state store.old) t.0 c) ≡ true }
-    requires references { REFERENCES_ROOM ≤ store.old.reference_room }
+    requires references { HasRoomForReferences store.old }
     ensures state { stored_state store.new ≡ (accept_call (stored_state store.old) t.0 p.0 c (find_call (stored_state store.old) (is_given_as c t.0))).state }
     ensures answer { result ≡ (accept_call (stored_state store.old) t.0 p.0 c (find_call (stored_state store.old) (is_given_as c t.0))).answer }
-    ensures pools { store.new.pools ≡ store.old.pools }
-    ensures latest { store.new.latest ≡ store.old.latest }
-    ensures opening { store.new.opening ≡ store.old.opening }
-    ensures notice_room { store.old.notices.spare ≤ store.new.notices.spare }
+    ensures keeps { KeepsPools store.old store.new }
 {
     let Some(call) = store.enter_call(alloc, c, t) else {
         return Answer::Done;
@@ -305,18 +328,11 @@ fn begin_call(store: &mut Store, alloc: Global, t: Tid, p: Pid, c: u32, fds: Roo
 /// The call that a thread was given ends EMFILE, and the thread is parked again.
 fn fail_begin(store: &mut Store, alloc: Global, t: Tid, p: Pid, c: u32) -> Answer
     requires given { state_of (stored_state store.old) t.0 ≡ is.Given (item.Call c) }
-    requires numbers { HasNumbersLeft (stored_state store.old) }
-    requires pool_room { HasRoom store.old (own_pool (stored_state store.old) t.0) }
-    requires placed { ArePlaced (stored_state store.old) }
-    requires first { store.old.latest ≤ store.old.events }
+    requires can_act { CanAct (own_pool (stored_state store.old) t.0) store.old }
     requires full { has_room (stored_state store.old) p.0 (objects_given (stored_state store.old) t.0 c) ≡ false }
     ensures state { stored_state store.new ≡ (accept_call (stored_state store.old) t.0 p.0 c (find_call (stored_state store.old) (is_given_as c t.0))).state }
     ensures answer { result ≡ (accept_call (stored_state store.old) t.0 p.0 c (find_call (stored_state store.old) (is_given_as c t.0))).answer }
-    ensures given_out { IsGivenOut store.old.pools → IsGivenOutBut (own_pool (stored_state store.old) t.0) store.new.pools }
-    ensures latest { store.new.latest ≤ now (stored_state store.old) }
-    ensures opening { store.new.opening ≡ store.old.opening }
-    ensures notice_room { store.old.notices.spare ≤ store.new.notices.spare }
-    ensures items { (pool : Pool) → item_room_in store.old.pools pool ≤ item_room_in store.new.pools pool + 1 }
+    ensures keeps { FillsOnePool (own_pool (stored_state store.old) t.0) store.old store.new }
 {
     let Some(call) = store.fail_call(alloc, c, t) else {
         return Answer::Done;
@@ -328,19 +344,11 @@ fn fail_begin(store: &mut Store, alloc: Global, t: Tid, p: Pid, c: u32) -> Answe
 /// object of the call, else the call ends EMFILE.
 fn accept_call(store: &mut Store, alloc: Global, t: Tid, p: Pid, c: u32, fds: Room<Fd>) -> Answer
     requires given { state_of (stored_state store.old) t.0 ≡ is.Given (item.Call c) }
-    requires numbers { HasNumbersLeft (stored_state store.old) }
-    requires pool_room { HasRoom store.old (own_pool (stored_state store.old) t.0) }
-    requires placed { ArePlaced (stored_state store.old) }
-    requires first { store.old.latest ≤ store.old.events }
-    requires empty { fds.items ≡ [] }
-    requires spare { length (objects_given (stored_state store.old) t.0 c) ≤ fds.spare }
+    requires can_act { CanAct (own_pool (stored_state store.old) t.0) store.old }
+    requires room { IsRoomFor (length (objects_given (stored_state store.old) t.0 c)) fds }
     ensures state { stored_state store.new ≡ (accept_call (stored_state store.old) t.0 p.0 c (find_call (stored_state store.old) (is_given_as c t.0))).state }
     ensures answer { result ≡ (accept_call (stored_state store.old) t.0 p.0 c (find_call (stored_state store.old) (is_given_as c t.0))).answer }
-    ensures given_out { IsGivenOut store.old.pools → IsGivenOutBut (own_pool (stored_state store.old) t.0) store.new.pools }
-    ensures latest { store.new.latest ≤ now (stored_state store.old) }
-    ensures opening { store.new.opening ≡ store.old.opening }
-    ensures notice_room { store.old.notices.spare ≤ store.new.notices.spare }
-    ensures items { (pool : Pool) → item_room_in store.old.pools pool ≤ item_room_in store.new.pools pool + 1 }
+    ensures keeps { FillsOnePool (own_pool (stored_state store.old) t.0) store.old store.new }
 {
     if has_room_given(store, t, p, c) {
         begin_call(store, alloc, t, p, c, fds)
@@ -355,10 +363,7 @@ fn accept_notice(store: &mut Store, t: Tid, n: u32) -> Answer
     requires { state_of (stored_state store.old) t.0 ≡ is.Given (item.Notice n) }
     ensures state { stored_state store.new ≡ (accept_notice (stored_state store.old) t.0 n (find_notice (stored_state store.old) (is_given_notice_as n t.0))).state }
     ensures answer { result ≡ (accept_notice (stored_state store.old) t.0 n (find_notice (stored_state store.old) (is_given_notice_as n t.0))).answer }
-    ensures pools { store.new.pools ≡ store.old.pools }
-    ensures latest { store.new.latest ≡ store.old.latest }
-    ensures opening { store.new.opening ≡ store.old.opening }
-    ensures notice_room { store.old.notices.spare ≤ store.new.notices.spare }
+    ensures keeps { KeepsPools store.old store.new }
 {
     let Some(notice) = store.enter_notice(n, t) else {
         return Answer::Done;
@@ -374,19 +379,11 @@ fn accept_notice(store: &mut Store, t: Tid, n: u32) -> Answer
 /// The end of the wait of a thread that was given an item: its invocation begins, or the item cannot be entered.
 pub fn accept(store: &mut Store, alloc: Global, t: Tid, p: Pid, item: Item, fds: Room<Fd>) -> Answer
     requires given { state_of (stored_state store.old) t.0 ≡ is.Given item }
-    requires numbers { HasNumbersLeft (stored_state store.old) }
-    requires pool_room { HasRoom store.old (own_pool (stored_state store.old) t.0) }
-    requires placed { ArePlaced (stored_state store.old) }
-    requires first { store.old.latest ≤ store.old.events }
-    requires empty { fds.items ≡ [] }
-    requires spare { length (objects_with (stored_state store.old) t.0 item) ≤ fds.spare }
+    requires can_act { CanAct (own_pool (stored_state store.old) t.0) store.old }
+    requires room { IsRoomFor (length (objects_with (stored_state store.old) t.0 item)) fds }
     ensures state { stored_state store.new ≡ (accept (stored_state store.old) t.0 p.0 item).state }
     ensures answer { result ≡ (accept (stored_state store.old) t.0 p.0 item).answer }
-    ensures given_out { IsGivenOut store.old.pools → IsGivenOutBut (own_pool (stored_state store.old) t.0) store.new.pools }
-    ensures latest { store.new.latest ≤ now (stored_state store.old) }
-    ensures opening { store.new.opening ≡ store.old.opening }
-    ensures notice_room { store.old.notices.spare ≤ store.new.notices.spare }
-    ensures items { (pool : Pool) → item_room_in store.old.pools pool ≤ item_room_in store.new.pools pool + 1 }
+    ensures keeps { FillsOnePool (own_pool (stored_state store.old) t.0) store.old store.new }
 {
     match item {
         Item::Call(c) => accept_call(store, alloc, t, p, c, fds),
@@ -403,16 +400,11 @@ fn hand_results(
     objects: &ObjList,
     fds: Room<Fd>,
 ) -> Answer
-    requires empty { fds.items ≡ [] }
-    requires spare { length objects.now ≤ fds.spare }
-    requires counted { AreCounted store.old.opening objects.now }
-    requires references { REFERENCES_ROOM ≤ store.old.reference_room }
+    requires room { IsRoomFor (length objects.now) fds }
+    requires counted { CanCount store.old objects.now }
     ensures state { stored_state store.new ≡ record (stored_state store.old) { tables = tables_after_collect (stored_state store.old) p.0 objects.now } }
     ensures answer { (r : Call) → r.rsize ≡ rsize → result ≡ results_answer (stored_state store.old) p.0 r bytes objects.now }
-    ensures pools { store.new.pools ≡ store.old.pools }
-    ensures latest { store.new.latest ≡ store.old.latest }
-    ensures opening { store.new.opening ≡ store.old.opening }
-    ensures notice_room { store.old.notices.spare ≤ store.new.notices.spare }
+    ensures keeps { KeepsPools store.old store.new }
 {
     if !store.has_room(p, objects) {
         return Answer::Failure(Errno::EMFILE);
@@ -426,16 +418,11 @@ fn hand_results(
 
 /// What a caller is told of the call that it collects.
 fn outcome(store: &mut Store, p: Pid, call: Option<Call>, fds: Room<Fd>) -> Answer
-    requires empty { fds.items ≡ [] }
-    requires spare { length (objects_collected_in call) ≤ fds.spare }
-    requires counted { AreCounted store.old.opening (objects_collected_in call) }
-    requires references { REFERENCES_ROOM ≤ store.old.reference_room }
+    requires room { IsRoomFor (length (objects_collected_in call)) fds }
+    requires counted { CanCount store.old (objects_collected_in call) }
     ensures state { stored_state store.new ≡ record (stored_state store.old) { tables = tables_after_collect (stored_state store.old) p.0 (objects_collected_in call) } }
     ensures answer { result ≡ collect_answer_in (stored_state store.old) p.0 call }
-    ensures pools { store.new.pools ≡ store.old.pools }
-    ensures latest { store.new.latest ≡ store.old.latest }
-    ensures opening { store.new.opening ≡ store.old.opening }
-    ensures notice_room { store.old.notices.spare ≤ store.new.notices.spare }
+    ensures keeps { KeepsPools store.old store.new }
 {
     let Some(Call { rsize, stage, .. }) = call else {
         return Answer::Done;
@@ -452,18 +439,12 @@ fn outcome(store: &mut Store, p: Pid, call: Option<Call>, fds: Room<Fd>) -> Answ
 /// The end of the wait of a caller: the results, or the error that its call ended with. The call is forgotten.
 pub fn collect(store: &mut Store, t: Tid, p: Pid, c: u32, fds: Room<Fd>) -> Answer
     requires none_past { HasNothingPast (stored_state store.old) }
-    requires not_done { is_done (state_of (stored_state store.old) t.0) ≡ false }
-    requires not_idle { is_idle (state_of (stored_state store.old) t.0) ≡ false }
-    requires not_dormant { is_dormant (state_of (stored_state store.old) t.0) ≡ false }
-    requires empty { fds.items ≡ [] }
-    requires spare { length (objects_to_collect (stored_state store.old) c) ≤ fds.spare }
-    requires references { REFERENCES_ROOM ≤ store.old.reference_room }
+    requires active { IsActive (state_of (stored_state store.old) t.0) }
+    requires room { IsRoomFor (length (objects_to_collect (stored_state store.old) c)) fds }
+    requires references { HasRoomForReferences store.old }
     ensures state { StandsFor (stored_state store.new) (collect (stored_state store.old) t.0 p.0 c).state }
     ensures answer { result ≡ (collect (stored_state store.old) t.0 p.0 c).answer }
-    ensures pools { store.new.pools ≡ store.old.pools }
-    ensures latest { store.new.latest ≡ store.old.latest }
-    ensures opening { store.new.opening ≡ store.old.opening }
-    ensures notice_room { store.old.notices.spare ≤ store.new.notices.spare }
+    ensures keeps { KeepsPools store.old store.new }
 {
     let call = store.collect_call(c);
     store.turn(t, ThreadState::Running);
@@ -471,14 +452,12 @@ pub fn collect(store: &mut Store, t: Tid, p: Pid, c: u32, fds: Room<Fd>) -> Answ
 }
 
 /// How many objects the end of a thread's wait hands over.
-pub fn count_at_end(store: &Store, t: Tid) -> usize
-    ensures { result ≡ length (objects_at_end (stored_state store.now) t.0 (state_of (stored_state store.now) t.0)) }
+pub fn count_at_end(store: &Store, t: Tid, ending: Ending) -> usize
+    ensures { result ≡ length (objects_at_end (stored_state store.now) t.0 ending) }
 {
-    match store.processes().state(t) {
-        ThreadState::Given {
-            item: Item::Call(c),
-        } => count_given(store, t, *c),
-        ThreadState::Calling { call } => count_to_collect(store, *call),
+    match ending {
+        Ending::Accept(Item::Call(c)) => count_given(store, t, c),
+        Ending::Collect(call) => count_to_collect(store, call),
         _ => 0,
     }
 }

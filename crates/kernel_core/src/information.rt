@@ -1,16 +1,17 @@
 //! The acts that tell of a door and of a client, and that change a door's parameters. What changes something has the condition
 //! that it is not refused.
-ghost use Rattle.std.specs.Prelude.{◌≡◌, ◌≤◌, None};
+ghost use Rattle.std.specs.Prelude.{◌≡◌, None};
 ghost use Rattle.kernel_records.specs.Words.{first_refusal};
-ghost use Rattle.written_kernel.specs.Words.{credentials, credentials_tests, door_tests, information, information_of, parameter, set_parameter, set_parameter_tests};
-ghost use Rattle.kernel_store.specs.Words.{stored_state};
+ghost use Rattle.written_kernel.specs.Words.{Subject, credentials, credentials_tests, door_tests, information, information_of, parameter, set_parameter, set_parameter_tests};
+ghost use Rattle.kernel_core.specs.Entries.{entry_about};
+ghost use Rattle.kernel_store.specs.Words.{KeepsPools, stored_state};
 
 use crate::descriptors::door_named;
 use dk_base::answer::Answer;
 use dk_base::error::Errno;
 use dk_base::number::{Fd, Pid, Tid};
 use dk_base::object::Obj;
-use dk_base::request::Param;
+use dk_base::request::{Param, Request};
 use kernel_store::store::Store;
 
 /// EBADF for a descriptor that names no door.
@@ -66,10 +67,7 @@ pub fn set_parameter(store: &mut Store, p: Pid, fd: Fd, param: Param, value: u64
     requires { first_refusal (set_parameter_tests (stored_state store.old) p.0 fd param value) ≡ None }
     ensures state { stored_state store.new ≡ (set_parameter (stored_state store.old) p.0 fd param value).state }
     ensures answer { result ≡ (set_parameter (stored_state store.old) p.0 fd param value).answer }
-    ensures pools { store.new.pools ≡ store.old.pools }
-    ensures latest { store.new.latest ≡ store.old.latest }
-    ensures opening { store.new.opening ≡ store.old.opening }
-    ensures notice_room { store.old.notices.spare ≤ store.new.notices.spare }
+    ensures keeps { KeepsPools store.old store.new }
 {
     let door = door_named(store, p, fd);
     store.set_param(door, p, param, value);
@@ -95,4 +93,33 @@ pub fn credentials(store: &Store, t: Tid) -> Answer
         None => Pid(0),
     };
     Answer::Client { process }
+}
+
+/// An entry that tells of a door or a client, or changes a door's parameters.
+pub fn enter(store: &mut Store, t: Tid, p: Pid, request: Request) -> Answer
+    ensures state { stored_state store.new ≡ (entry_about Subject.information (stored_state store.old) t.0 p.0 request).state }
+    ensures answer { result ≡ (entry_about Subject.information (stored_state store.old) t.0 p.0 request).answer }
+    ensures keeps { KeepsPools store.old store.new }
+{
+    match request {
+        Request::Info { fd } => match door_refusal(store, p, fd) {
+            Some(error) => Answer::Failure(error),
+            None => information(store, p, fd),
+        },
+        Request::GetParam { fd, param } => match door_refusal(store, p, fd) {
+            Some(error) => Answer::Failure(error),
+            None => parameter(store, p, fd, param),
+        },
+        Request::SetParam { fd, param, value } => {
+            match set_parameter_refusal(store, p, fd, param, value) {
+                Some(error) => Answer::Failure(error),
+                None => set_parameter(store, p, fd, param, value),
+            }
+        }
+        Request::Cred => match credentials_refusal(store, t) {
+            Some(error) => Answer::Failure(error),
+            None => credentials(store, t),
+        },
+        _ => Answer::Done,
+    }
 }

@@ -1,4 +1,4 @@
-ghost use Rattle.std.specs.Prelude.{◌≡◌, ◌+◌, ◌<◌, ◌≤◌, ◌↔◌, Some, None, true, length, IfOk, OnOk, OnErr};
+ghost use Rattle.std.specs.Prelude.{ℕ, ◌≡◌, ◌+◌, ◌<◌, ◌≤◌, ◌↔◌, Some, None, true, length, IfOk, OnOk, OnErr};
 ghost use Rattle.std.specs.Option.{option_map};
 ghost use Rattle.dk_base.specs.declared.answer.Answer.TheVariants.{Failure};
 ghost use Rattle.dk_base.specs.declared.error.ProcFault.TheVariants.{Full};
@@ -8,18 +8,17 @@ ghost use Rattle.capabilities.specs.declared.table.TheConstants.{BUILT};
 ghost use Rattle.capabilities.specs.Words.{capability_of};
 ghost use Rattle.written_kernel.specs.Words.{IsFit, IsStep, MayGoOn, StandsFor, State, is_runnable, is_running, least_runnable, opening, process_of, refusal_of, root, state_of, step, with_event_counted, with_new_thread, with_processes};
 ghost use Rattle.kernel_core.specs.Kept.{IsKept};
-ghost use Rattle.pool_agreement.specs.Words.{IsGivenOut};
-ghost use Rattle.kernel_store.specs.Words.{stored_state};
+ghost use Rattle.kernel_store.specs.Words.{IsAtRest, stored_state};
 ghost use Rattle.kernel_core.specs.Within.{IsWithin, IsSmall};
-ghost use Rattle.kernel_core.specs.Woken.{IsCurrent};
+ghost use Rattle.kernel_core.specs.Acted.{IsBetweenEvents};
 
-use crate::event::{Parts, no_room};
+use crate::event::Parts;
 use crate::runnable::Runnable;
 use crate::turns::{self, is_running_state};
 use dk_base::error::{NoMemory, ProcFault};
 use dk_base::event::Stepped;
 use dk_base::limits::THREADS_MAX;
-use dk_base::list::IdList;
+use dk_base::list::{IdList, Room};
 use dk_base::number::{Pid, Tid};
 use dk_base::request::Request;
 use kernel_records::record::ThreadState;
@@ -40,7 +39,7 @@ impl Model for Kernel {
 
     ghost view = { λ k. stored_state k.parts.store };
 
-    ghost invariant = { λ k. IsKept (stored_state k.parts.store) × IsWithin (stored_state k.parts.store) × IsCurrent k.parts.runnable (stored_state k.parts.store) × IsGivenOut k.parts.store.pools × (k.parts.store.latest ≤ k.parts.store.events) };
+    ghost invariant = { λ k. IsKept (stored_state k.parts.store) × IsWithin (stored_state k.parts.store) × IsBetweenEvents k.parts };
 }
 
 impl Kernel {
@@ -54,8 +53,8 @@ impl Kernel {
         let parts = Parts {
             store,
             runnable,
-            watched: no_room(alloc),
-            had: no_room(alloc),
+            watched: Room::new(alloc),
+            had: Room::new(alloc),
         };
         Ok(Kernel { alloc, parts })
     }
@@ -166,8 +165,7 @@ impl Kernel {
 fn with_processes(mut store: Store, alloc: Global, limits: &[u32]) -> Result<Store, NoMemory>
     requires { length store.processes.processes + length limits.now ≤ PROCESSES_MAX }
     ensures state { IfOk result (λ s. stored_state s ≡ with_processes (stored_state store) limits.now) }
-    ensures given_out { IfOk result (λ s. IsGivenOut store.pools → IsGivenOut s.pools) }
-    ensures latest { IfOk result (λ s. s.latest ≡ store.latest) }
+    ensures rest { IfOk result (λ s. (n : ℕ) → IsAtRest n store → IsAtRest n s) }
 {
     for limit in limits {
         store = store.with_process(alloc, *limit)?;

@@ -1,20 +1,18 @@
 //! The acts of leaving, and how a server learns that its client has left. What becomes of calls, notices and threads
 //! stands in the store.
-ghost use Rattle.std.specs.Prelude.{◌≡◌, ◌+◌, ◌<◌, ◌≤◌, None, length, true};
-ghost use Rattle.dk_base.specs.declared.limits.TheConstants.{EVENTS_MAX};
-ghost use Rattle.kernel_records.specs.declared.record.ThreadState.TheVariants as is;
+ghost use Rattle.std.specs.Prelude.{◌≡◌, None, false, true};
 ghost use Rattle.kernel_records.specs.Words.{first_refusal};
-ghost use Rattle.written_kernel.specs.Types.{Pool};
-ghost use Rattle.written_kernel.specs.Words.{StandsFor, exit, interrupt, kill, leave_process, now, revoke, revoking_tests, state_of, test_cancel, wake};
+ghost use Rattle.written_kernel.specs.Words.{StandsFor, Subject, exit, interrupt, kill, leave_process, revoke, revoking_tests, state_of, test_cancel, wake};
 ghost use Rattle.kernel_core.specs.Kept.{HasNothingPast};
-ghost use Rattle.kernel_core.specs.Numbers.{HasNumbersLeft};
-ghost use Rattle.server_pool.specs.Words.{item_room_in};
-ghost use Rattle.kernel_store.specs.Words.{ArePlaced, HasRoomToLeave, stored_state};
+ghost use Rattle.kernel_invariant.specs.Events.{is_leaving};
+ghost use Rattle.kernel_core.specs.Entries.{entry_about};
+ghost use Rattle.kernel_store.specs.Words.{CanLeave, IsActive, KeepsForNotices, KeepsPools, NothingAfter, stored_state};
 
 use crate::descriptors::door_named;
 use dk_base::answer::Answer;
 use dk_base::error::Errno;
 use dk_base::number::{Fd, Pid, Tid};
+use dk_base::request::Request;
 use kernel_records::leaving::Leaver;
 use kernel_records::record::ThreadState;
 use kernel_store::store::Store;
@@ -22,16 +20,10 @@ use std::alloc::Global;
 
 /// A thread is interrupted: its call ends with EINTR, or its wait for the events of a port. Any other thread goes on.
 pub fn interrupt(store: &mut Store, alloc: Global, thread: Tid) -> Answer
-    requires numbers { HasNumbersLeft (stored_state store.old) }
-    requires room { HasRoomToLeave store.old }
-    requires placed { ArePlaced (stored_state store.old) }
-    requires first { store.old.latest ≤ store.old.events }
+    requires can_leave { CanLeave store.old }
     ensures state { StandsFor (stored_state store.new) (interrupt (stored_state store.old) thread.0).state }
     ensures answer { result ≡ (interrupt (stored_state store.old) thread.0).answer }
-    ensures latest { store.new.latest ≤ now (stored_state store.old) }
-    ensures opening { store.new.opening ≡ store.old.opening }
-    ensures notice_room { store.old.notices.spare ≤ store.new.notices.spare }
-    ensures items { (pool : Pool) → item_room_in store.old.pools pool ≤ item_room_in store.new.pools pool + 1 }
+    ensures keeps { KeepsForNotices store.old store.new }
 {
     store.leave(alloc, Leaver::Interrupted { thread });
     Answer::Done
@@ -39,15 +31,9 @@ pub fn interrupt(store: &mut Store, alloc: Global, thread: Tid) -> Answer
 
 /// All threads of a process end, its doors become invalid, and its descriptors are closed.
 fn leave_process(store: &mut Store, alloc: Global, p: Pid)
-    requires numbers { HasNumbersLeft (stored_state store.old) }
-    requires room { HasRoomToLeave store.old }
-    requires placed { ArePlaced (stored_state store.old) }
-    requires first { store.old.latest ≤ store.old.events }
+    requires can_leave { CanLeave store.old }
     ensures state { StandsFor (stored_state store.new) (leave_process (stored_state store.old) p.0) }
-    ensures latest { store.new.latest ≤ now (stored_state store.old) }
-    ensures opening { store.new.opening ≡ store.old.opening }
-    ensures notice_room { store.old.notices.spare ≤ store.new.notices.spare }
-    ensures items { (pool : Pool) → item_room_in store.old.pools pool ≤ item_room_in store.new.pools pool + 1 }
+    ensures keeps { KeepsForNotices store.old store.new }
 {
     store.leave(alloc, Leaver::EndedProcess { process: p });
     store.end_process(p);
@@ -55,16 +41,10 @@ fn leave_process(store: &mut Store, alloc: Global, p: Pid)
 
 /// A thread ends, and its process with it where the thread is its last that is neither done nor dormant.
 pub fn exit(store: &mut Store, alloc: Global, t: Tid, p: Pid) -> Answer
-    requires numbers { HasNumbersLeft (stored_state store.old) }
-    requires room { HasRoomToLeave store.old }
-    requires placed { ArePlaced (stored_state store.old) }
-    requires first { store.old.latest ≤ store.old.events }
+    requires can_leave { CanLeave store.old }
     ensures state { StandsFor (stored_state store.new) (exit (stored_state store.old) t.0 p.0).state }
     ensures answer { result ≡ (exit (stored_state store.old) t.0 p.0).answer }
-    ensures latest { store.new.latest ≤ now (stored_state store.old) }
-    ensures opening { store.new.opening ≡ store.old.opening }
-    ensures notice_room { store.old.notices.spare ≤ store.new.notices.spare }
-    ensures items { (pool : Pool) → item_room_in store.old.pools pool ≤ item_room_in store.new.pools pool + 1 }
+    ensures keeps { KeepsForNotices store.old store.new }
 {
     if store.processes().is_last(t, p) {
         leave_process(store, alloc, p);
@@ -76,17 +56,11 @@ pub fn exit(store: &mut Store, alloc: Global, t: Tid, p: Pid) -> Answer
 
 /// A process ends, whoever asks. One that has ended stays so.
 pub fn kill(store: &mut Store, alloc: Global, p: Pid) -> Answer
-    requires numbers { HasNumbersLeft (stored_state store.old) }
     requires none_past { HasNothingPast (stored_state store.old) }
-    requires room { HasRoomToLeave store.old }
-    requires placed { ArePlaced (stored_state store.old) }
-    requires first { store.old.latest ≤ store.old.events }
+    requires can_leave { CanLeave store.old }
     ensures state { StandsFor (stored_state store.new) (kill (stored_state store.old) p.0).state }
     ensures answer { result ≡ (kill (stored_state store.old) p.0).answer }
-    ensures latest { store.new.latest ≤ now (stored_state store.old) }
-    ensures opening { store.new.opening ≡ store.old.opening }
-    ensures notice_room { store.old.notices.spare ≤ store.new.notices.spare }
-    ensures items { (pool : Pool) → item_room_in store.old.pools pool ≤ item_room_in store.new.pools pool + 1 }
+    ensures keeps { KeepsForNotices store.old store.new }
 {
     if !store.processes().is_live(p) {
         return Answer::Done;
@@ -104,17 +78,11 @@ pub fn revoke_refusal(store: &Store, p: Pid, fd: Fd) -> Option<Errno>
 
 /// door_revoke(3C): the door is invalid, and its descriptor is closed.
 pub fn revoke(store: &mut Store, alloc: Global, p: Pid, fd: Fd) -> Answer
-    requires numbers { HasNumbersLeft (stored_state store.old) }
     requires allowed { first_refusal (revoking_tests (stored_state store.old) p.0 fd) ≡ None }
-    requires room { HasRoomToLeave store.old }
-    requires placed { ArePlaced (stored_state store.old) }
-    requires first { store.old.latest ≤ store.old.events }
+    requires can_leave { CanLeave store.old }
     ensures state { StandsFor (stored_state store.new) (revoke (stored_state store.old) p.0 fd).state }
     ensures answer { result ≡ (revoke (stored_state store.old) p.0 fd).answer }
-    ensures latest { store.new.latest ≤ now (stored_state store.old) }
-    ensures opening { store.new.opening ≡ store.old.opening }
-    ensures notice_room { store.old.notices.spare ≤ store.new.notices.spare }
-    ensures items { (pool : Pool) → item_room_in store.old.pools pool ≤ item_room_in store.new.pools pool + 1 }
+    ensures keeps { KeepsForNotices store.old store.new }
 {
     let door = door_named(store, p, fd);
     store.leave(alloc, Leaver::Revoked { door });
@@ -136,14 +104,35 @@ pub fn test_cancel(store: &Store, t: Tid) -> Answer
 
 /// A thread whose door became invalid while it was parked goes on, and is told EINVAL.
 pub fn wake(store: &mut Store, t: Tid) -> Answer
-    requires { state_of (stored_state store.old) t.0 ≡ is.FailedReturn }
+    requires { IsActive (state_of (stored_state store.old) t.0) }
     ensures state { stored_state store.new ≡ (wake (stored_state store.old) t.0).state }
     ensures answer { result ≡ (wake (stored_state store.old) t.0).answer }
-    ensures pools { store.new.pools ≡ store.old.pools }
-    ensures latest { store.new.latest ≡ store.old.latest }
-    ensures opening { store.new.opening ≡ store.old.opening }
-    ensures notice_room { store.old.notices.spare ≤ store.new.notices.spare }
+    ensures keeps { KeepsPools store.old store.new }
 {
     store.turn(t, ThreadState::Running);
     Answer::Failure(Errno::EINVAL)
+}
+
+/// An entry by which callers, threads or doors leave, or which asks whether a client has left.
+#[tactic(auto, using(crate::proofs::Live::entry_kept, crate::proofs::Live::live_state))]
+pub fn enter(store: &mut Store, alloc: Global, t: Tid, p: Pid, request: Request) -> Answer
+    requires none_past { HasNothingPast (stored_state store.old) }
+    requires latest { NothingAfter store.old.events store.old }
+    requires can_leave { is_leaving request ≡ true → CanLeave store.old }
+    ensures state { StandsFor (stored_state store.new) (entry_about Subject.leaving (stored_state store.old) t.0 p.0 request).state }
+    ensures answer { result ≡ (entry_about Subject.leaving (stored_state store.old) t.0 p.0 request).answer }
+    ensures keeps { KeepsForNotices store.old store.new }
+    ensures stays { is_leaving request ≡ false → store.new ≡ store.old }
+{
+    match request {
+        Request::Revoke { fd } => match revoke_refusal(store, p, fd) {
+            Some(error) => Answer::Failure(error),
+            None => revoke(store, alloc, p, fd),
+        },
+        Request::Interrupt { thread } => interrupt(store, alloc, thread),
+        Request::Kill { process } => kill(store, alloc, process),
+        Request::Exit => exit(store, alloc, t, p),
+        Request::TestCancel => test_cancel(store, t),
+        _ => Answer::Done,
+    }
 }

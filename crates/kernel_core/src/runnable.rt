@@ -2,7 +2,7 @@
 ghost use Rattle.std.specs.Prelude.{◌≡◌, ℕ, ◌+◌, ◌<◌, ◌≤◌, ◌&&◌, not, false, [], length, slice_index_or, IfOk, OnOk};
 ghost use Rattle.std.specs.Option.{option_map};
 ghost use Rattle.written_kernel.specs.Words.{State, is_runnable, least_runnable, woken_threads};
-ghost use Rattle.kernel_store.specs.Words.{stored_state};
+ghost use Rattle.kernel_store.specs.Words.{IsRoomFor, stored_state};
 ghost use Rattle.kernel_core.specs.Woken.{IsCurrent, HasListRoom, runnables};
 
 use crate::turns::runnable;
@@ -23,8 +23,7 @@ pub struct Runnable {
 
 /// Lists of each thread, in order, whether it can take a turn.
 fn list_runnable(store: &Store, list: &mut Room<bool>)
-    requires empty { list.old.items ≡ [] }
-    requires room { length (stored_state store.now).process_table.threads ≤ list.old.spare }
+    requires { IsRoomFor (length (stored_state store.now).process_table.threads) list.old }
     ensures items { list.new.items ≡ runnables (stored_state store.now) (length (stored_state store.now).process_table.threads) }
     ensures spare { list.old.spare ≤ length list.new.items + list.new.spare }
 {
@@ -47,8 +46,7 @@ fn is_woken(was: &[bool], is: &[bool], i: u32) -> bool
 fn list_woken(threads: u32, was: &[bool], is: &[bool], woken: &mut Room<Tid>)
     requires were { length was.now ≡ threads }
     requires are { length is.now ≡ threads }
-    requires empty { woken.old.items ≡ [] }
-    requires room { threads ≤ woken.old.spare }
+    requires room { IsRoomFor threads woken.old }
     ensures { (before after : State) → was.now ≡ runnables before threads → is.now ≡ runnables after threads → threads ≡ length after.process_table.threads → woken.new.items ≡ woken_threads before after }
 {
     for i in 0..threads {
@@ -123,8 +121,7 @@ impl Runnable {
     pub fn advance(&mut self, store: &Store, woken: &mut Room<Tid>)
         requires room { HasListRoom self.old (length (stored_state store.now).process_table.threads) }
         requires threads { length self.old.list.items ≡ length (stored_state store.now).process_table.threads }
-        requires empty { woken.old.items ≡ [] }
-        requires woken_room { length (stored_state store.now).process_table.threads ≤ woken.old.spare }
+        requires woken { IsRoomFor (length (stored_state store.now).process_table.threads) woken.old }
         ensures current { IsCurrent self.new (stored_state store.now) }
         ensures woken { (before : State) → IsCurrent self.old before → woken.new.items ≡ woken_threads before (stored_state store.now) }
     {

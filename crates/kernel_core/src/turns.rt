@@ -1,5 +1,5 @@
 //! Which threads can take a turn.
-ghost use Rattle.std.specs.Prelude.{◌≡◌, is_some};
+ghost use Rattle.std.specs.Prelude.{◌≡◌};
 ghost use Rattle.std.specs.List.{list_any};
 ghost use Rattle.written_kernel.specs.Words.{has_answer, is_runnable, is_running_state, root};
 ghost use Rattle.kernel_store.specs.Words.{stored_state};

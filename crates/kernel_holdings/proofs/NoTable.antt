@@ -1,5 +1,5 @@
 -- A number that no table has: nothing is taken out there, and nothing is installed.
-use Rattle.std.proofs.Common.{◌≡◌, ℕ, zero, suc, ◌-◌, ◌==◌, not, true, false, List, [], ◌∷◌, ◌++◌, Option, Some, None, if◌then◌else◌, nat_le, length, unwrap_or, slice_get, slice_set, refl, sym, ap, ◌∙◌, arith, append-nil}
+use Rattle.std.proofs.Common.{◌≡◌, ℕ, zero, suc, ◌-◌, ◌==◌, not, true, false, List, [], ◌∷◌, ◌++◌, Option, None, if◌then◌else◌, nat_le, length, unwrap_or, slice_get, slice_set, refl, sym, ap, ◌∙◌, arith, append-nil}
 use Rattle.std.proofs.lemmas.Bool.Decides.{nat_tests}
 use Rattle.written_kernel.specs.Types.{Obj, Pass}
 use Rattle.dk_base.specs.ByNumber.{at_number}

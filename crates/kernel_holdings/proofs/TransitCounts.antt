@@ -6,6 +6,7 @@ use Rattle.std.proofs.lemmas.List.Elements.{filter-append}
 use Rattle.dk_base.specs.declared.object.Obj.TheVariants as obj
 use Rattle.dk_base.specs.declared.error.Errno.TheVariants.{EBADF, EINTR, EMFILE}
 use Rattle.kernel_records.specs.declared.record.CallStage.TheVariants as stage
+use Rattle.kernel_records.proofs.NumberedLists.{find-passes}
 use Rattle.kernel_records.specs.Words.{CallTree, Leaving, abandoned_at, at_stage, broken_call_at, change_first, collect_call, count_object, ended_where, enter_call, fail_call, give_call, gone_call_at, is_client_call_of, is_entered_by, is_given_as, is_given_to, is_live_call, is_queued, is_queued_as, is_to_collect_as, left_call, left_calls, live_calls, open_call, return_call, tid, without_arguments_at}
 use Rattle.unref_notice.specs.Words.{AreCounted, count_of}
 use Rattle.written_kernel.specs.Types.{Call, CallStage, Name, Obj}
@@ -289,16 +290,8 @@ module _ (counts : List ℕ) (tables : List (List (Option Obj))) (names : List N
 
 -- what a call that was given hands over, and what one that is collected does
 
-find-passes : (test : Call → Bool) (rs : List Call) (r : Call) → Some r ≡ find test rs → test r ≡ true
-find-passes test [] r e = cc
-find-passes test (x ∷ rs) r e = go (test x) refl e (find-passes test rs r)
-  where
-    go : (b : Bool) → test x ≡ b → Some r ≡ (if b then Some x else find test rs) → (Some r ≡ find test rs → test r ≡ true) → test r ≡ true
-    go true t e later = let same : r ≡ x = cc in ap test same ∙ t
-    go false t e later = later e
-
 pub given_within : (o : Obj) (c t : ℕ) (rs : List Call) (r : Call) → Some r ≡ find (is_given_as c t) rs → count_object o r.objects ≤ transit_of o r
-given_within o c t rs r e = omega (arith, given_transit o c t r (find-passes (is_given_as c t) rs r e))
+given_within o c t rs r e = omega (arith, given_transit o c t r (find-passes (is_given_as c t) rs r (sym e)))
 
 pub collected_within : (o : Obj) (r : Call) → count_object o (objects_collected_in (Some r)) ≤ transit_of o r
 collected_within o r = at r.stage

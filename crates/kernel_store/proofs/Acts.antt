@@ -1,19 +1,20 @@
 -- What the pools hold agrees with the records after an act on one thread.
-use Rattle.std.proofs.Common.{◌≡◌, ℕ, ◌+◌, ◌<◌, ◌≤◌, ◌⊎◌, Bool, true, false, List, [], ◌∷◌, Option, Some, None, find, if◌then◌else◌, is_some, is_ok, Ok, Err, OnOk, Result, ok_or, refl, sym, ap, ◌∙◌, subst, subst₂, arith}
+use Rattle.std.proofs.Common.{◌≡◌, ℕ, ◌+◌, ◌<◌, ◌≤◌, ◌⊎◌, true, false, List, [], Option, Some, None, is_some, is_ok, Ok, Err, OnOk, Result, ok_or, refl, sym, ap, ◌∙◌, subst, subst₂, arith}
 use Rattle.dk_base.specs.ByNumber.{with_at_number}
 use Rattle.dk_base.specs.declared.error.Errno.TheVariants.{EBADF}
 use Rattle.dk_base.specs.declared.object.Item.TheVariants as item
 use Rattle.kernel_records.specs.declared.pool.Pool.TheVariants.{Common, Private}
 use Rattle.kernel_records.specs.declared.record.ThreadState.TheVariants as is
-use Rattle.kernel_records.specs.Words.{bound_at, change_first, end_thread, enter_call, enter_notice, enter_thread, is_dormant, is_done, is_idle, park_thread, process_in, set_thread_state, state_in, thread_at, tid}
-use Rattle.written_kernel.specs.Types.{Call, Notice, Pool, Thread, ThreadState}
+use Rattle.kernel_records.specs.Words.{bound_at, end_thread, enter_call, enter_notice, enter_thread, is_dormant, is_done, is_idle, park_thread, process_in, set_thread_state, state_in, thread_at, tid}
+use Rattle.written_kernel.specs.Types.{Pool, Thread, ThreadState}
 use Rattle.written_kernel.specs.Words.{bound_of, is_running, is_running_state, state_of}
-use Rattle.server_pool.specs.Words.{AllParkedBefore, PoolValue, PoolsValue, change_pool, park_in, pool_at, stack_in, thread_room_in}
+use Rattle.server_pool.specs.Words.{AllParkedBefore, PoolValue, PoolsValue, change_pool, item_room_in, park_in, pool_at, stack_in, thread_room_in}
 use Rattle.pool_agreement.specs.Words.{Agrees, IsGivenOut, IsGivenOutBut, own_pool, pool_by}
 use Rattle.pool_agreement.proofs.Noticing.{agrees_enter_notice}
 use Rattle.pool_agreement.proofs.Queues.{agrees_enter as agrees_enter_call}
 use Rattle.pool_agreement.proofs.Readers.{queue-change_other, stack-change_other}
 use Rattle.pool_agreement.proofs.Stacks.{agrees_bind, agrees_ended, agrees_enter, agrees_park, agrees_turn, own_pool_there, park_above}
+use Rattle.kernel_store.specs.Frames.{FillsNoPool, KeepsPools}
 use Rattle.kernel_store.specs.Stored.{ArePlaced, HasRoom, IsAgreed, StoreValue, stored_state}
 
 -- in which pools something can be given
@@ -31,6 +32,23 @@ given_out_bound {s} {now} same bindings given = go (subst (λ (v : StoreValue). 
     go : IsGivenOut s.pools → IsGivenOut (record s.pools { bindings = bindings })
     go here (Common p) = here (Common p)
     go here (Private d) = here (Private d)
+
+-- an act that puts nothing into a pool
+
+pub fills :
+    {a b : StoreValue} → (IsGivenOut a.pools → IsGivenOut b.pools) → b.latest ≡ a.latest → b.opening ≡ a.opening → a.notices.spare ≤ b.notices.spare →
+    ((pool : Pool) → item_room_in a.pools pool ≤ item_room_in b.pools pool) → FillsNoPool a b
+fills given latest opening notices items = record { given_out = given; latest = latest; opening = opening; notice_room = notices; items = items }
+
+pub fills_same : {a b : StoreValue} → KeepsPools a b → FillsNoPool a b
+fills_same {a} {b} k =
+    record {
+      given_out = subst IsGivenOut (sym k.pools);
+      latest = k.latest;
+      opening = k.opening;
+      notice_room = k.notice_room;
+      items = λ pool. subst (λ v. item_room_in a.pools pool ≤ item_room_in v pool) (sym k.pools) (omega arith);
+    }
 
 -- a thread that runs is neither Idle nor Dormant, and one that is not Done is there
 

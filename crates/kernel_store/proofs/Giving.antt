@@ -179,19 +179,6 @@ module _
 
 -- givings in one pool, one after another
 
-pub giving_none : (pool : Pool) (s : StoreValue) → IsGiving pool s s
-giving_none pool s = record { given = refl; stacks = λ q f. refl; queues = λ q f. refl; threads = refl; latest = refl }
-
-pub giving_more : (pool : Pool) (before now after : StoreValue) → IsGiving pool before now → GivesOn pool now after → IsGiving pool before after
-giving_more pool before now after g more =
-    record {
-      given = g.given ∙ more.giving.given;
-      stacks = λ q f. more.giving.stacks q f ∙ g.stacks q f;
-      queues = λ q f. more.giving.queues q f ∙ g.queues q f;
-      threads = more.giving.threads ∙ g.threads;
-      latest = more.giving.latest ∙ g.latest;
-    }
-
 -- where the pool has given all that it can
 pub all_given :
     (pool : Pool) (before now after : StoreValue) → IsGiving pool before now →

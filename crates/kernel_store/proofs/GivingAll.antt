@@ -18,13 +18,13 @@ use Rattle.pool_agreement.specs.Words.{Agrees, IsGivenOut, is_this, own_pool}
 use Rattle.pool_agreement.proofs.LeavingPools.{IsParkedSomewhere, agrees_failed, idle_is_parked}
 use Rattle.pool_agreement.proofs.GivingFirst.{given_out_gives_nothing}
 use Rattle.pool_agreement.proofs.GivingOut.{IsGivenOutTo, given_out_to_all, given_out_to_next, given_out_to_none}
-use Rattle.pool_agreement.proofs.Queued.{both_true}
 use Rattle.pool_agreement.proofs.Readers.{bindings-change_pool, same_number}
 use Rattle.pool_agreement.proofs.Stacks.{pick_agrees}
 use Rattle.kernel_store.specs.Flags.{flag_in, is_flagged}
 use Rattle.kernel_store.specs.Giving.{HasGiven}
 use Rattle.kernel_store.specs.Stored.{IsAgreed, StoreValue, stored_state}
 use Rattle.kernel_store.proofs.Acts.{holds_ok}
+use Rattle.pool_agreement.proofs.WaitingLists.{both_true}
 
 -- an idle thread that lost its door wakes
 
@@ -241,9 +241,6 @@ pub record HasStartedAll (had : List Bool) (first : Option ℕ) (given now : Sto
   pub picks : (pool : Pool) → pick (stored_state now) pool ≡ pick (stored_state given) pool
   pub given_out : IsGivenOut given.pools → IsGivenOut now.pools
   pub latest : now.latest ≡ given.latest
-
-pub started_all_none : (had : List Bool) (first : Option ℕ) (s : StoreValue) → HasStartedAll had first s s 0
-started_all_none had first s = record { state = λ before ungiven f k. refl; picks = λ pool. refl; given_out = λ o. o; latest = refl }
 
 module _ (had : List Bool) (first : Option ℕ) (given now after : StoreValue) (n : ℕ) (h : HasStartedAll had first given now n) where
   needed :

@@ -5,7 +5,7 @@ use Rattle.std.proofs.lemmas.List.Sums.{count_by-le-length, length-filter}
 use Rattle.dk_base.specs.ByNumber.{at_number}
 use Rattle.dk_base.specs.declared.object.Item.{Item}
 use Rattle.kernel_records.specs.declared.pool.Pool.TheVariants.{Common, Private}
-use Rattle.kernel_records.specs.Words.{is_notice_door, is_pool, is_private, notice_doors, number_of_door, pool_in}
+use Rattle.kernel_records.specs.Words.{AreNumbered, is_notice_door, is_pool, is_private, notice_doors, number_of_door, pool_in}
 use Rattle.written_kernel.specs.Types.{Door, Pool, Waiting}
 use Rattle.written_kernel.proofs.Giving.{same_pool}
 use Rattle.kernel_records.proofs.Lists.{at_number-suc}
@@ -112,7 +112,7 @@ numbers_ascend keep (x ∷ xs) n h = go (keep x) (numbers_ascend keep xs (n + 1)
     go true rest = (numbers_above keep xs x.number (n + 1) (omega (arith, first)) next, rest)
     go false rest = rest
 
-module _ (doors : List Door) (numbered : (d : ℕ) (x : Door) → at_number doors d ≡ Some x → x.number ≡ d) where
+module _ (doors : List Door) (numbered : AreNumbered doors) where
   noticed_ascend : IsAscending (notice_doors doors)
   noticed_ascend =
       numbers_ascend is_notice_door doors 0 (λ i x e. let k : x.number ≡ suc i = numbered (suc i) x (at_number-suc doors i ∙ e) in omega arith)
@@ -164,7 +164,7 @@ within (y ∷ ys) zero x e = omega arith
 within (y ∷ ys) (suc i) x e = let l : i < length ys = within ys i x e in omega arith
 
 pub room_to_make :
-    (doors : List Door) → ((d : ℕ) (x : Door) → at_number doors d ≡ Some x → x.number ≡ d) → (listed : ℕ → Bool) (ds : List ℕ) →
+    (doors : List Door) → AreNumbered doors → (listed : ℕ → Bool) (ds : List ℕ) →
     ds ≡ filter listed (notice_doors doors) → (w : PoolsValue) → HasItemRoom doors ds (length ds) w → (q : Pool) → is_some (pool_at w q) ≡ true →
     0 < count_by (λ d. is_pool q (pool_in (at_number doors d))) ds →
     count_by (λ d. is_pool q (pool_in (at_number doors d))) ds < item_room_in w q

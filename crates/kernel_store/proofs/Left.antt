@@ -6,7 +6,7 @@ use Rattle.kernel_records.specs.declared.record.ThreadState.TheVariants as is
 use Rattle.kernel_records.specs.Words.{CallTree, NoticeList, ProcessTable, bound_at, cancelled_thread, change_thread, change_thread_in, end_thread, ended_thread, idle_thread, interrupted_state, interrupted_where, is_dormant, is_idle, is_pool, is_spare_of, park_thread, parked_in, pool_of_thread, process_in, thread_at, tid}
 use Rattle.written_kernel.specs.Types.{Door, Parked, Pool, Thread, ThreadState}
 use Rattle.kernel_records.proofs.Lists.{at_number-suc, with_at_number-suc}
-use Rattle.server_pool.specs.Words.{AllParkedBefore, ParkedBefore, PoolValue, PoolsValue, change_pool, is_another_thread, park_in, pool_at, pool_or_empty, stack_in, thread_room_in, unpark_in, without_thread}
+use Rattle.server_pool.specs.Words.{AllParkedBefore, ParkedBefore, PoolValue, PoolsValue, change_pool, is_another_thread, park_in, pool_at, pool_or_empty, stack_in, thread_room_in, unpark_in, without_thread, item_room_in}
 use Rattle.server_pool.proofs.Changed.{pool_changed, pool_kept}
 use Rattle.pool_agreement.specs.Words.{Agrees, pool_by}
 use Rattle.pool_agreement.proofs.Leaving.{read_change}
@@ -131,6 +131,18 @@ room_parked v pool y q = go (is_pool pool q) refl
     go : (b : Bool) → is_pool pool q ≡ b → thread_room_in v q ≤ thread_room_in (change_pool v pool (park_in y)) q + 1
     go true e = subst (λ (o : Option PoolValue). thread_room_in v q ≤ (pool_or_empty o).thread_room + 1) (sym (pool_changed v pool q (park_in y) e)) (there (pool_at v q))
     go false e = subst (λ (o : Option PoolValue). thread_room_in v q ≤ (pool_or_empty o).thread_room + 1) (sym (pool_kept v pool q (park_in y) e)) (omega arith)
+
+-- which leaves the room for items
+pub items_parked : (v : PoolsValue) (pool : Pool) (y : Parked) (q : Pool) → item_room_in (change_pool v pool (park_in y)) q ≡ item_room_in v q
+items_parked v pool y q = go (is_pool pool q) refl
+  where
+    there : (o : Option PoolValue) → (pool_or_empty (option_map (park_in y) o)).item_room ≡ (pool_or_empty o).item_room
+    there None = refl
+    there (Some x) = refl
+
+    go : (b : Bool) → is_pool pool q ≡ b → item_room_in (change_pool v pool (park_in y)) q ≡ item_room_in v q
+    go true e = ap (λ (o : Option PoolValue). (pool_or_empty o).item_room) (pool_changed v pool q (park_in y) e) ∙ there (pool_at v q)
+    go false e = ap (λ (o : Option PoolValue). (pool_or_empty o).item_room) (pool_kept v pool q (park_in y) e)
 
 all_kept : {X : Type 0} (P : X → Type 0) (p : X → Bool) (xs : List X) → AllByRecursion P xs → AllByRecursion P (filter p xs)
 all_kept P p [] a = tt

@@ -1,8 +1,8 @@
 -- What becomes of a thread where callers are interrupted or end, and threads end, as decided for it.
-use Rattle.std.specs.Prelude.{ℕ, ◌≡◌, ◌≤◌, if◌then◌else◌, List, Option, is_some, length}
-use Rattle.kernel_records.specs.Words.{ProcessTable, bound_at, cancelled_thread, ended_thread, idle_thread, interrupted_where, process_in, thread_at}
+use Rattle.std.specs.Prelude.{ℕ, ◌≡◌, ◌<◌, ◌≤◌, if◌then◌else◌, List, Option, is_some, length, true}
+use Rattle.kernel_records.specs.Words.{ProcessTable, bound_at, cancelled_thread, ended_thread, idle_thread, interrupted_where, process_in, thread_at, tid}
 use Rattle.written_kernel.specs.Types.{Pool, Thread}
-use Rattle.server_pool.specs.Words.{PoolsValue, item_room_in, pool_at, queue_in, spares_of, stack_in, thread_room_in}
+use Rattle.server_pool.specs.Words.{AllParkedBefore, PoolsValue, item_room_in, pool_at, queue_in, spares_of, stack_in, thread_room_in}
 use Rattle.pool_agreement.specs.Words.{pool_by}
 use Rattle.kernel_store.specs.declared.leaving.Desertion.{Desertion}
 use Rattle.kernel_store.specs.declared.leaving.Desertion.TheVariants.{Stays, Parks, IsCancelled}
@@ -20,6 +20,19 @@ deserted_as now IsCancelled x = cancelled_thread x
 
 abbrev pub fated : ℕ → Fate → Thread → Thread
 fated now fate x = if fate.ends then ended_thread x else deserted_as now fate.desertion (interrupted_where fate.interrupted x)
+
+-- a thread that is there can park at an event: its pool has room for it, and those that are parked there were before it
+pub record CanParkAgain (table : ProcessTable) (pools : PoolsValue) (t now : ℕ) : Type 0 where
+  pub there : is_some (thread_at table t) ≡ true
+  pub room : 0 < thread_room_in pools (own_pool_in table pools.bindings t)
+  pub later :
+      AllParkedBefore (stack_in pools (own_pool_in table pools.bindings t))
+      (record { thread = tid t; pool = own_pool_in table pools.bindings t; since = now })
+
+-- no binding changes, and no item comes or goes
+pub record KeepsItems (v w : PoolsValue) : Type 0 where
+  pub bindings : w.bindings ≡ v.bindings
+  pub items : (pool : Pool) → item_room_in w pool ≡ item_room_in v pool
 
 -- memory
 

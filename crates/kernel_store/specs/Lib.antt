@@ -1,4 +1,5 @@
 pub mod Flags
+pub mod Frames
 pub mod Giving
 pub mod Leaving
 pub mod Noticing

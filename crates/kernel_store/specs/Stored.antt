@@ -7,7 +7,7 @@ use Rattle.written_kernel.specs.Words.{State, door_of, may_have_notice, pool_of,
 use Rattle.name_space.specs.Words.{HasRoomForName, NameTable}
 use Rattle.server_pool.specs.Words.{PoolsValue, item_room_in, pool_at, thread_room_in}
 use Rattle.call_tree.specs.Words.{CallsValue, HasRoomForCall}
-use Rattle.unref_notice.specs.Words.{NoticesValue, count_of, was_shared}
+use Rattle.unref_notice.specs.Words.{AreCounted, NoticesValue, count_of, was_shared}
 use Rattle.unref_notice.specs.declared.counts.TheConstants.{REFERENCES_ROOM}
 use Rattle.unref_notice.specs.declared.notices.TheConstants.{NOTICES_MAX}
 use Rattle.pool_agreement.specs.Words.{Agrees, HasPlaces, own_pool}
@@ -48,19 +48,38 @@ stored_state store =
 abbrev pub IsAgreed : StoreValue → Type 0
 IsAgreed store = Agrees store.latest store.processes store.doors.items store.calls.tree store.notices.list store.pools
 
--- processes, doors and calls are where threads, bindings, calls and notices say
+-- the processes, doors and calls that threads, bindings, calls and notices name are there
 abbrev pub ArePlaced : State → Type 0
 ArePlaced m = HasPlaces m.process_table m.bindings m.doors m.call_tree.calls m.notice_list.notices
 
--- another name, door and call take no memory, nor do another thread and another call in this pool, and further references can be
--- counted
+-- memory
+
+-- further references can be counted
+abbrev pub HasRoomForReferences : StoreValue → Type 0
+HasRoomForReferences store = REFERENCES_ROOM ≤ store.reference_room
+
+-- and these objects have counts: they get descriptors, or a name, without memory
+pub record CanCount (store : StoreValue) (objects : List Obj) : Type 0 where
+  pub counted : AreCounted store.opening objects
+  pub room : HasRoomForReferences store
+
+-- another door can be made
+pub record HasRoomForDoor (store : StoreValue) : Type 0 where
+  pub doors : 0 < store.doors.spare
+  pub pools : 0 < store.pools.door_room
+  pub counts : 0 < store.door_room
+
+-- another name
+pub record HasRoomToAttach (store : StoreValue) : Type 0 where
+  pub names : HasRoomForName store.names
+  pub references : HasRoomForReferences store
+
+-- another name, door and call, another thread and another item in this pool, and further references
 pub record HasRoom (store : StoreValue) (touched : Pool) : Type 0 where
   pub names : HasRoomForName store.names
-  pub doors : 0 < store.doors.spare
-  pub door_pools : 0 < store.pools.door_room
-  pub counts : 0 < store.door_room
+  pub door : HasRoomForDoor store
   pub calls : HasRoomForCall store.calls
-  pub references : REFERENCES_ROOM ≤ store.reference_room
+  pub references : HasRoomForReferences store
   pub threads : is_some (pool_at store.pools touched) ≡ true → 0 < thread_room_in store.pools touched
   pub items : is_some (pool_at store.pools touched) ≡ true → 0 < item_room_in store.pools touched
 
@@ -91,10 +110,10 @@ pub record HasRoomForNotices (store : StoreValue) (ds : List ℕ) : Type 0 where
       (pool : Pool) → is_some (pool_at store.pools pool) ≡ true → 0 < count_served (stored_state store) pool ds →
       count_served (stored_state store) pool ds < item_room_in store.pools pool
 
--- the step that is an event has begun: the counts at its beginning are those of this state
-pub record HasBegun (opening : List ℕ) (m : State) : Type 0 where
-  pub counts : (d : ℕ) → count_of opening d ≡ reference_count m d
-  pub none : (d : ℕ) → door_of m d ≡ None → count_of opening d ≡ 0
+-- the step of an event began in this state: `opening` has the counts of its references
+pub record HasBegun (store : StoreValue) (m : State) : Type 0 where
+  pub counts : (d : ℕ) → count_of store.opening d ≡ reference_count m d
+  pub none : (d : ℕ) → door_of m d ≡ None → count_of store.opening d ≡ 0
 
 -- a door had more than one reference when the step began, and has one in this state
 abbrev pub has_fallen_since : List ℕ → State → ℕ → Bool

@@ -5,7 +5,7 @@ ghost use Rattle.kernel_records.specs.Words.{CallTree, NoticeList, ProcessTable,
 ghost use Rattle.written_kernel.specs.Types.{Door, Parked, Pool, Thread};
 ghost use Rattle.server_pool.specs.Words.{AllParkedBefore, item_room_in, pool_at, stack_in, thread_room_in};
 ghost use Rattle.pool_agreement.specs.Words.{Agrees, AgreesSomehow, leaves_queue, notice_leaves_queue};
-ghost use Rattle.kernel_store.specs.Leaving.{HasNoLessRoom, HoldsSame, deserted_as, fated, own_pool_in};
+ghost use Rattle.kernel_store.specs.Leaving.{CanParkAgain, HasNoLessRoom, HoldsSame, KeepsItems, deserted_as, fated, own_pool_in};
 
 use call_tree::calls::Calls;
 use dk_base::error::NoMemory;
@@ -198,8 +198,7 @@ pub fn own_pool(processes: &Procs, pools: &Pools, t: Tid) -> Pool
 /// A thread leaves its pool where it is parked, and the spares of its process where it is one. Its own record stays as it is.
 fn take_out(pools: &mut Pools, processes: &Procs, t: Tid)
     ensures agreed { (n : ℕ) (doors : List Door) (tree : CallTree) (list : NoticeList) → Agrees n processes.now doors tree list pools.old → Agrees n (end_thread processes.now t.0) doors tree list pools.new }
-    ensures bindings { pools.new.bindings ≡ pools.old.bindings }
-    ensures items { (pool : Pool) → item_room_in pools.new pool ≡ item_room_in pools.old pool }
+    ensures keeps { KeepsItems pools.old pools.new }
     ensures room { (pool : Pool) → thread_room_in pools.old pool ≤ thread_room_in pools.new pool }
     ensures above { (pool : Pool) (x : Parked) → AllParkedBefore (stack_in pools.old pool) x → AllParkedBefore (stack_in pools.new pool) x }
 {
@@ -217,8 +216,7 @@ fn take_out(pools: &mut Pools, processes: &Procs, t: Tid)
 fn end_thread(processes: &mut Procs, pools: &mut Pools, t: Tid)
     ensures thread { processes.new ≡ end_thread processes.old t.0 }
     ensures agreed { (n : ℕ) (doors : List Door) (tree : CallTree) (list : NoticeList) → Agrees n processes.old doors tree list pools.old → Agrees n processes.new doors tree list pools.new }
-    ensures bindings { pools.new.bindings ≡ pools.old.bindings }
-    ensures items { (pool : Pool) → item_room_in pools.new pool ≡ item_room_in pools.old pool }
+    ensures keeps { KeepsItems pools.old pools.new }
     ensures room { (pool : Pool) → thread_room_in pools.old pool ≤ thread_room_in pools.new pool }
 {
     take_out(pools, processes, t);
@@ -227,13 +225,10 @@ fn end_thread(processes: &mut Procs, pools: &mut Pools, t: Tid)
 
 /// A thread that is there parks at an event, after all that are parked in its pool. It takes no memory.
 fn park_again(processes: &mut Procs, pools: &mut Pools, t: Tid, since: u64)
-    requires there { is_some (thread_at processes.old t.0) ≡ true }
-    requires room { 0 < thread_room_in pools.old (own_pool_in processes.old pools.old.bindings t.0) }
-    requires later { AllParkedBefore (stack_in pools.old (own_pool_in processes.old pools.old.bindings t.0)) (record { thread = t; pool = own_pool_in processes.old pools.old.bindings t.0; since = since }) }
+    requires { CanParkAgain processes.old pools.old t.0 since }
     ensures thread { processes.new ≡ park_thread processes.old t.0 since }
     ensures agreed { (doors : List Door) (tree : CallTree) (list : NoticeList) → Agrees since processes.old doors tree list pools.old → Agrees since processes.new doors tree list pools.new }
-    ensures bindings { pools.new.bindings ≡ pools.old.bindings }
-    ensures items { (pool : Pool) → item_room_in pools.new pool ≡ item_room_in pools.old pool }
+    ensures keeps { KeepsItems pools.old pools.new }
     ensures room_left { (pool : Pool) → thread_room_in pools.old pool ≤ thread_room_in pools.new pool + 1 }
 {
     let pool = own_pool(processes, pools, t);
@@ -244,13 +239,10 @@ fn park_again(processes: &mut Procs, pools: &mut Pools, t: Tid, since: u64)
 
 /// A thread that is there goes on as its caller has left it.
 fn desert(processes: &mut Procs, pools: &mut Pools, t: Tid, desertion: Desertion, now: u64)
-    requires there { is_some (thread_at processes.old t.0) ≡ true }
-    requires room { 0 < thread_room_in pools.old (own_pool_in processes.old pools.old.bindings t.0) }
-    requires later { AllParkedBefore (stack_in pools.old (own_pool_in processes.old pools.old.bindings t.0)) (record { thread = t; pool = own_pool_in processes.old pools.old.bindings t.0; since = now }) }
+    requires { CanParkAgain processes.old pools.old t.0 now }
     ensures thread { processes.new ≡ change_thread processes.old t.0 (deserted_as now desertion) }
     ensures agreed { (doors : List Door) (tree : CallTree) (list : NoticeList) → Agrees now processes.old doors tree list pools.old → Agrees now processes.new doors tree list pools.new }
-    ensures bindings { pools.new.bindings ≡ pools.old.bindings }
-    ensures items { (pool : Pool) → item_room_in pools.new pool ≡ item_room_in pools.old pool }
+    ensures keeps { KeepsItems pools.old pools.new }
     ensures room_left { (pool : Pool) → thread_room_in pools.old pool ≤ thread_room_in pools.new pool + 1 }
 {
     match desertion {
@@ -271,13 +263,10 @@ fn interrupt_where(processes: &mut Procs, t: Tid, interrupted: bool)
 
 /// One thread that is there meets its fate.
 fn leave_thread(processes: &mut Procs, pools: &mut Pools, t: Tid, fate: Fate, now: u64)
-    requires there { is_some (thread_at processes.old t.0) ≡ true }
-    requires room { 0 < thread_room_in pools.old (own_pool_in processes.old pools.old.bindings t.0) }
-    requires later { AllParkedBefore (stack_in pools.old (own_pool_in processes.old pools.old.bindings t.0)) (record { thread = t; pool = own_pool_in processes.old pools.old.bindings t.0; since = now }) }
+    requires { CanParkAgain processes.old pools.old t.0 now }
     ensures thread { processes.new ≡ change_thread processes.old t.0 (fated now fate) }
     ensures agreed { (doors : List Door) (tree : CallTree) (list : NoticeList) → Agrees now processes.old doors tree list pools.old → Agrees now processes.new doors tree list pools.new }
-    ensures bindings { pools.new.bindings ≡ pools.old.bindings }
-    ensures items { (pool : Pool) → item_room_in pools.new pool ≡ item_room_in pools.old pool }
+    ensures keeps { KeepsItems pools.old pools.new }
     ensures room_left { (pool : Pool) → thread_room_in pools.old pool ≤ thread_room_in pools.new pool + 1 }
 {
     if fate.ends {
@@ -296,8 +285,7 @@ pub fn leave_threads(processes: &mut Procs, pools: &mut Pools, who: Leaver, call
     requires room { (t : ℕ) → is_some (thread_at processes.old t) ≡ true → length processes.old.threads ≤ thread_room_in pools.old (own_pool_in processes.old pools.old.bindings t) }
     ensures threads { (doors : List Door) → processes.new ≡ left_threads (leaving_of processes.old doors who) now calls.now.tree.calls processes.old }
     ensures agreed { (doors : List Door) (tree : CallTree) (list : NoticeList) → Agrees now processes.old doors tree list pools.old → Agrees now processes.new doors tree list pools.new }
-    ensures bindings { pools.new.bindings ≡ pools.old.bindings }
-    ensures items { (pool : Pool) → item_room_in pools.new pool ≡ item_room_in pools.old pool }
+    ensures keeps { KeepsItems pools.old pools.new }
 {
     for i in 0..processes.thread_count() {
         let t = Tid(i + 1);

@@ -1,5 +1,5 @@
 //! What follows an act, once notices are made: idle threads that lost their doors wake, what waits is given, and spares start.
-ghost use Rattle.std.specs.Prelude.{◌≡◌, ℕ, ◌≤◌, ◌&&◌, ◌||◌, [], length, true, false, is_none, is_some};
+ghost use Rattle.std.specs.Prelude.{◌≡◌, ℕ, ◌&&◌, ◌||◌, length, true, false, is_none, is_some};
 ghost use Rattle.std.specs.Option.{option_map};
 ghost use Rattle.kernel_records.specs.declared.pool.Pool.TheVariants.{Common};
 ghost use Rattle.kernel_records.specs.Words.{pid};
@@ -9,6 +9,7 @@ ghost use Rattle.server_pool.specs.Words.{pick_of, stack_in};
 ghost use Rattle.pool_agreement.specs.Words.{IsGivenOut, IsGivenOutBut, IsGivenOutIn, is_this};
 ghost use Rattle.kernel_store.specs.Flags.{is_flagged};
 ghost use Rattle.kernel_store.specs.Giving.{GivesOn, HasGiven};
+ghost use Rattle.kernel_store.specs.Frames.{CanSettle, IsAtRest, IsRoomFor, NothingAfter};
 ghost use Rattle.kernel_store.specs.Stored.{IsAgreed, stored_state};
 
 use crate::starting::{is_either, is_flagged_without, is_this, last_given};
@@ -97,11 +98,9 @@ impl Store {
     /// What follows an act that touched this pool, where no notice was made: what waits is given to idle threads, and spares start.
     /// `first` is the process whose first common door the act made.
     pub fn settle(&mut self, touched: Pool, first: Option<Pid>)
-        requires given_out { IsGivenOutBut touched self.old.pools }
-        requires none_lost { (u : ℕ) → has_lost_door (stored_state self.old) u ≡ false }
+        requires { CanSettle touched self.old }
         ensures state { (before : State) → ((p : ℕ) → has_first_common_door before (give (stored_state self.old)) p ≡ is_this p (option_map (λ p. p.0) first)) → stored_state self.new ≡ give_and_start before (fail_returns (stored_state self.old)) }
-        ensures given_out { IsGivenOut self.new.pools }
-        ensures latest { self.new.latest ≡ self.old.latest }
+        ensures rest { (n : ℕ) → NothingAfter n self.old → IsAtRest n self.new }
     {
         let last = self.give_out(touched);
         self.start_spares(first, last);
@@ -154,8 +153,7 @@ impl Store {
 
     /// A flag for each process, whether a thread is idle in its common pool. It takes no memory.
     fn note_idle(&self, mut had: Room<bool>) -> Room<bool>
-        requires empty { had.items ≡ [] }
-        requires room { length self.now.processes.processes ≤ had.spare }
+        requires { IsRoomFor (length self.now.processes.processes) had }
         ensures flags { (p : ℕ) → is_flagged result.items p ≡ is_some (pick (stored_state self.now) (Common (pid p))) }
     {
         for i in 0..self.processes.process_count() {
@@ -198,11 +196,9 @@ impl Store {
     /// threads may have lost their doors: these wake with EINVAL, what waits is given, and spares start. `first` is the process
     /// whose first common door the act made. `had` has room for a flag of each process, and is given back.
     pub fn settle_all(&mut self, had: Room<bool>, first: Option<Pid>) -> Room<bool>
-        requires empty { had.items ≡ [] }
-        requires room { length self.old.processes.processes ≤ had.spare }
+        requires { IsRoomFor (length self.old.processes.processes) had }
         ensures state { (before : State) → ((p : ℕ) → has_first_common_door before (give (fail_returns (stored_state self.old))) p ≡ is_this p (option_map (λ p. p.0) first)) → stored_state self.new ≡ give_and_start before (fail_returns (stored_state self.old)) }
-        ensures given_out { IsGivenOut self.new.pools }
-        ensures latest { self.new.latest ≡ self.old.latest }
+        ensures rest { (n : ℕ) → NothingAfter n self.old → IsAtRest n self.new }
     {
         self.fail_all();
         let had = self.note_idle(had);

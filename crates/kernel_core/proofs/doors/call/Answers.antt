@@ -32,5 +32,5 @@ pub open_call-requires-clause-counted : goal.open_call-requires-clause-counted
 open_call-requires-clause-counted c =
     let passed = objects_passed (table_of (stored_state c.args.store.now) c.args.p.0) c.args.pass.now in
     let objects : c.new_call-call.result.objects ≡ passed =
-    ap (λ (r : Call). r.objects) c.new_call-call.ensures ∙ c.into_list.ensures ∙ c.take_out.ensures.items ∙ ap (λ os. os ++ passed) c.requires.empty in
+    ap (λ (r : Call). r.objects) c.new_call-call.ensures ∙ c.into_list.ensures ∙ c.take_out.ensures.items ∙ ap (λ os. os ++ passed) c.requires.room.empty in
     subst (AreCounted c.take_out.new.self.opening) (sym objects) c.take_out.ensures.counted

@@ -1,28 +1,25 @@
-use Rattle.std.proofs.Common.{ap, sym, subst, ◌∙◌}
+use Rattle.std.proofs.Common.{ap, rules, sym, subst, ◌∙◌}
 use Rattle.kernel_records.specs.declared.record.ThreadState.TheVariants as is
-use Rattle.kernel_records.specs.Words.{collect_call, is_done, is_dormant, is_idle, live_calls, set_thread_state}
+use Rattle.kernel_records.specs.Words.{collect_call, live_calls, set_thread_state}
 use Rattle.written_kernel.specs.Words.{State, collect_answer_in, now, objects_collected_in, state_of, tables_after_collect, with_state}
 use Rattle.unref_notice.specs.Words.{AreCounted}
-use Rattle.kernel_store.specs.Words.{stored_state}
+use Rattle.kernel_store.specs.Words.{IsActive, stored_state}
 use Rattle.kernel_core.proofs.Live.{collect_stands}
 use Rattle.kernel_core.proofs.Collected.{told_alike}
 use Rattle.kernel_core.proofs.doors.collect.Goals as goal
 
-pub turn-requires-clause-not_done : goal.turn-requires-clause-not_done
-turn-requires-clause-not_done c =
-    ap (λ (k : State). is_done (state_of k c.args.t.0)) (c.collect_call-call.ensures.after 0) ∙ c.requires.not_done
-
-pub turn-requires-clause-not_idle : goal.turn-requires-clause-not_idle
-turn-requires-clause-not_idle c =
-    ap (λ (k : State). is_idle (state_of k c.args.t.0)) (c.collect_call-call.ensures.after 0) ∙ c.requires.not_idle
-
-pub turn-requires-clause-not_dormant : goal.turn-requires-clause-not_dormant
-turn-requires-clause-not_dormant c =
-    ap (λ (k : State). is_dormant (state_of k c.args.t.0)) (c.collect_call-call.ensures.after 0) ∙ c.requires.not_dormant
+pub turn-requires-clause-active : goal.turn-requires-clause-active
+turn-requires-clause-active c =
+    subst (λ (k : State). IsActive (state_of k c.args.t.0)) (sym (c.collect_call-call.ensures.after 0)) c.requires.active
 
 pub outcome-requires-clause-counted : goal.outcome-requires-clause-counted
 outcome-requires-clause-counted c =
-    subst (λ opening. AreCounted opening (objects_collected_in c.collect_call-call.result)) (sym c.turn.ensures.opening) c.collect_call-call.ensures.counted
+    record {
+      counted =
+          subst (λ opening. AreCounted opening (objects_collected_in c.collect_call-call.result)) (sym c.turn.ensures.keeps.opening)
+          c.collect_call-call.ensures.counted;
+      room = search rules;
+    }
 
 pub returns-clause-state : goal.returns-clause-state
 returns-clause-state c =

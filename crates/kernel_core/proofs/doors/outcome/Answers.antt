@@ -24,8 +24,5 @@ returns c =
     record {
       state = sym (ap (λ tables. record m { tables = tables }) (ap (tables_after_collect m c.args.p.0) none ∙ nothing_collected m c.args.p.0));
       answer = sym (ap (collect_answer_in m c.args.p.0) c.in-Some.is ∙ told.1);
-      pools = refl;
-      latest = refl;
-      opening = refl;
-      notice_room = omega arith;
+      keeps = record { pools = refl; latest = refl; opening = refl; notice_room = omega arith };
     }

@@ -13,7 +13,7 @@ returns-then-has_invalid_door-clause-state c =
     let t = c.args.t.0 in
     let passed = objects_passed (table_of m c.args.p.0) c.args.pass.now in
     let objects : c.into_list-objects.result ≡ passed =
-    c.into_list-objects.ensures ∙ c.take_out.ensures.items ∙ ap (λ os. os ++ passed) c.requires.empty in
+    c.into_list-objects.ensures ∙ c.take_out.ensures.items ∙ ap (λ os. os ++ passed) c.requires.room.empty in
     let invalid : has_invalid_door m t ≡ true =
     ap (λ (k : State). has_invalid_door k t) (sym c.take_out.ensures.state) ∙ sym c.has_invalid_door.ensures ∙ c.if-has_invalid_door.true in
     return_stands m (stored_state c.return_unbound.new.self) t c.args.p.0 c.args.bytes c.args.pass.now true c.requires.none_past invalid
@@ -44,7 +44,7 @@ returns-clause-state c =
     let t = c.args.t.0 in
     let passed = objects_passed (table_of m c.args.p.0) c.args.pass.now in
     let objects : c.into_list-objects.result ≡ passed =
-    c.into_list-objects.ensures ∙ c.take_out.ensures.items ∙ ap (λ os. os ++ passed) c.requires.empty in
+    c.into_list-objects.ensures ∙ c.take_out.ensures.items ∙ ap (λ os. os ++ passed) c.requires.room.empty in
     let valid : has_invalid_door m t ≡ false =
     ap (λ (k : State). has_invalid_door k t) (sym c.take_out.ensures.state) ∙ sym c.has_invalid_door.ensures ∙ c.if-has_invalid_door.false in
     return_stands m (stored_state c.return_call.new.self) t c.args.p.0 c.args.bytes c.args.pass.now false c.requires.none_past valid
@@ -75,12 +75,12 @@ pub return_unbound-requires-clause-counted : goal.return_unbound-requires-clause
 return_unbound-requires-clause-counted c =
     let passed = objects_passed (table_of (stored_state c.args.store.now) c.args.p.0) c.args.pass.now in
     let objects : c.into_list-objects.result ≡ passed =
-    c.into_list-objects.ensures ∙ c.take_out.ensures.items ∙ ap (λ os. os ++ passed) c.requires.empty in
+    c.into_list-objects.ensures ∙ c.take_out.ensures.items ∙ ap (λ os. os ++ passed) c.requires.room.empty in
     subst (AreCounted c.take_out.new.self.opening) (sym objects) c.take_out.ensures.counted
 
 pub return_call-requires-clause-counted : goal.return_call-requires-clause-counted
 return_call-requires-clause-counted c =
     let passed = objects_passed (table_of (stored_state c.args.store.now) c.args.p.0) c.args.pass.now in
     let objects : c.into_list-objects.result ≡ passed =
-    c.into_list-objects.ensures ∙ c.take_out.ensures.items ∙ ap (λ os. os ++ passed) c.requires.empty in
+    c.into_list-objects.ensures ∙ c.take_out.ensures.items ∙ ap (λ os. os ++ passed) c.requires.room.empty in
     subst (AreCounted c.take_out.new.self.opening) (sym objects) c.take_out.ensures.counted

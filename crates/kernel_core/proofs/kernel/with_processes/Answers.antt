@@ -18,6 +18,5 @@ loop-limit-preserved c =
           ∙ ap (with_processes m) (sym (drop_more limits i 0 (omega arith)))
           ∙ c.loop-limit.invariant.added;
       few = omega (arith, one, longer, c.loop-limit.invariant.few);
-      given_out = λ h. c.in_ok-store.ensures.given_out (c.loop-limit.invariant.given_out h);
-      latest = c.in_ok-store.ensures.latest ∙ c.loop-limit.invariant.latest;
+      rest = λ n h. c.in_ok-store.ensures.rest n (c.loop-limit.invariant.rest n h);
     }

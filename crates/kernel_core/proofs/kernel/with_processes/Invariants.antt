@@ -1,7 +1,6 @@
-use Rattle.std.proofs.Common.{◌≡◌, ◌+◌, ◌≤◌, length, drop}
+use Rattle.std.proofs.Common.{ℕ, ◌≡◌, ◌+◌, ◌≤◌, length, drop}
 use Rattle.written_kernel.specs.Words.{with_processes}
-use Rattle.pool_agreement.specs.Words.{IsGivenOut}
-use Rattle.kernel_store.specs.Words.{stored_state}
+use Rattle.kernel_store.specs.Words.{IsAtRest, stored_state}
 use Rattle.kernel_core.proofs.kernel.with_processes.Given as goal
 
 abbrev pub invariant-loop-limit : goal.invariant-loop-limit
@@ -9,6 +8,5 @@ invariant-loop-limit l =
     record {
       added : with_processes (stored_state l.store) (drop l.limit-index l.limits) ≡ with_processes (stored_state l.fn.store) l.limits;
       few : length l.store.processes.processes + length l.limits ≤ 64 + l.limit-index;
-      given_out : IsGivenOut l.fn.store.pools → IsGivenOut l.store.pools;
-      latest : l.store.latest ≡ l.fn.store.latest;
+      rest : (n : ℕ) → IsAtRest n l.fn.store → IsAtRest n l.store;
     }

@@ -11,9 +11,7 @@ use Rattle.kernel_core.proofs.notices.make_notices.Goals as goal
 
 pub end_of_step-requires-clause-room : goal.end_of_step-requires-clause-room
 end_of_step-requires-clause-room c =
-    let h = c.requires.room.1 in
-    let shared = shared_after (stored_state c.requires.room.0) (stored_state c.args.store.now) c.args.store.now.opening h.doors c.requires.placed.door_number h.opened in
-    omega (arith, ap length shared, ap length h.watched, c.clear.ensures.spare)
+    omega (arith, ap length (shared_after c.requires.room.1.were c.requires.within.placed.door_number), c.clear.ensures.spare)
 
 pub make_all-requires-clause-room : goal.make_all-requires-clause-room
 make_all-requires-clause-room c =
@@ -23,22 +21,22 @@ make_all-requires-clause-room c =
     let listed : c.slice.result.now ≡ fallen b n =
     c.slice.ensures ∙ c.end_of_step.ensures.items
     ∙ ap (λ ds. ds ++ filter (has_fallen_since c.args.store.now.opening n) (notice_doors n.doors)) c.clear.ensures.items
-    ∙ fallen_is b n c.args.store.now.opening h.opened in
+    ∙ fallen_is h.were in
     subst (λ (s : StoreValue). CanMake s c.slice.result.now) (sym c.end_of_step.ensures.same)
     (subst (CanMake c.args.store.now) (sym listed)
-    (can_make_fallen c.requires.room.0 c.args.store.now c.args.ds.now.items h c.notices.ensures.agreed c.requires.placed.door_number))
+    (can_make_fallen c.requires.room.0 c.args.store.now c.args.ds.now.items h c.notices.ensures.agreed c.requires.within.placed.door_number))
 
 pub returns-clause-state : goal.returns-clause-state
 returns-clause-state c =
-    λ before e h o.
+    λ before were.
     let n = stored_state c.args.store.now in
     let listed : c.slice.result.now ≡ fallen before n =
     c.slice.ensures ∙ c.end_of_step.ensures.items
     ∙ ap (λ ds. ds ++ filter (has_fallen_since c.args.store.now.opening n) (notice_doors n.doors)) c.clear.ensures.items
-    ∙ fallen_is before n c.args.store.now.opening o in
+    ∙ fallen_is were in
     c.make_all.ensures.state
     ∙ ap₂ (λ (s : StoreValue) ds. make_of (stored_state s) ds) c.end_of_step.ensures.same listed
-    ∙ make_of-is before n c.requires.placed.door_number
+    ∙ make_of-is before n c.requires.within.placed.door_number
 
 pub returns-clause-processes : goal.returns-clause-processes
 returns-clause-processes c =

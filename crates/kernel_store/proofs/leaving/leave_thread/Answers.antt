@@ -5,19 +5,15 @@ use Rattle.kernel_store.proofs.Left.{agrees_interrupted, own_pool_interrupted, t
 use Rattle.pool_agreement.proofs.Unparking.{change_twice}
 use Rattle.kernel_store.proofs.leaving.leave_thread.Goals as goal
 
-pub desert-requires-clause-there : goal.desert-requires-clause-there
-desert-requires-clause-there c =
-    rw c.interrupt_where.ensures (there_changed c.args.processes.now c.args.t.0 (interrupted_where c.args.fate.interrupted) c.requires.there)
-
-pub desert-requires-clause-room : goal.desert-requires-clause-room
-desert-requires-clause-room c =
+pub desert-requires : goal.desert-requires
+desert-requires c =
+    let same = own_pool_interrupted c.args.processes.now c.args.pools.now.bindings c.args.t.0 c.args.fate.interrupted in
     rw c.interrupt_where.ensures
-    (rw (own_pool_interrupted c.args.processes.now c.args.pools.now.bindings c.args.t.0 c.args.fate.interrupted) c.requires.room)
-
-pub desert-requires-clause-later : goal.desert-requires-clause-later
-desert-requires-clause-later c =
-    rw c.interrupt_where.ensures
-    (rw (own_pool_interrupted c.args.processes.now c.args.pools.now.bindings c.args.t.0 c.args.fate.interrupted) c.requires.later)
+    (record {
+      there = there_changed c.args.processes.now c.args.t.0 (interrupted_where c.args.fate.interrupted) c.requires.there;
+      room = rw same c.requires.room;
+      later = rw same c.requires.later;
+    })
 
 pub returns-then-fate-clause-agreed : goal.returns-then-fate-clause-agreed
 returns-then-fate-clause-agreed c = λ doors tree list h. c.end_thread.ensures.agreed c.args.now doors tree list h

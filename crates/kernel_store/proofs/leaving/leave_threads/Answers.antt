@@ -4,23 +4,22 @@ use Rattle.kernel_store.specs.Leaving.{fated, own_pool_in}
 use Rattle.kernel_store.proofs.LeftThreads.{all_left, fate_now, next_later, next_left, next_room, next_there}
 use Rattle.kernel_store.proofs.leaving.leave_threads.Goals as goal
 
-pub leave_thread-requires-clause-there : goal.leave_thread-requires-clause-there
-leave_thread-requires-clause-there c =
+pub leave_thread-requires : goal.leave_thread-requires
+leave_thread-requires c =
     let within : c.loop-i.i < length c.args.processes.now.threads = omega (arith, c.thread_count-i-end.ensures.count, c.loop-i-test.true) in
-    next_there c.args.pools.now c.loop-i.pools (c.loop-i.invariant.0 c.requires.agreed.doors) c.loop-i.invariant.2 (c.loop-i.i + 1) refl within
-
-pub leave_thread-requires-clause-room : goal.leave_thread-requires-clause-room
-leave_thread-requires-clause-room c =
-    let within : c.loop-i.i < length c.args.processes.now.threads = omega (arith, c.thread_count-i-end.ensures.count, c.loop-i-test.true) in
-    next_room c.args.pools.now c.loop-i.pools (c.loop-i.invariant.0 c.requires.agreed.doors) c.loop-i.invariant.2 (c.loop-i.i + 1) refl within
-    c.requires.room c.loop-i.invariant.3
-
-pub leave_thread-requires-clause-later : goal.leave_thread-requires-clause-later
-leave_thread-requires-clause-later c =
     let own = own_pool_in c.loop-i.processes c.loop-i.pools.bindings (c.loop-i.i + 1) in
-    next_later c.args.pools.now c.loop-i.pools (c.loop-i.invariant.0 c.requires.agreed.doors) c.loop-i.invariant.2 (c.loop-i.i + 1) refl
-    c.requires.agreed.doors c.requires.agreed.tree c.requires.agreed.list
-    (c.loop-i.invariant.1 c.requires.agreed.doors c.requires.agreed.tree c.requires.agreed.list c.requires.agreed.agrees) c.requires.earlier own own
+    let left = c.loop-i.invariant.0 c.requires.agreed.doors in
+    record {
+      there = next_there c.args.pools.now c.loop-i.pools left c.loop-i.invariant.2.bindings (c.loop-i.i + 1) refl within;
+      room =
+          next_room c.args.pools.now c.loop-i.pools left c.loop-i.invariant.2.bindings (c.loop-i.i + 1) refl within c.requires.room
+          c.loop-i.invariant.3;
+      later =
+          next_later c.args.pools.now c.loop-i.pools left c.loop-i.invariant.2.bindings (c.loop-i.i + 1) refl c.requires.agreed.doors
+          c.requires.agreed.tree c.requires.agreed.list
+          (c.loop-i.invariant.1 c.requires.agreed.doors c.requires.agreed.tree c.requires.agreed.list c.requires.agreed.agrees)
+          c.requires.earlier own own;
+    }
 
 pub loop-i-preserved : goal.loop-i-preserved
 loop-i-preserved c = (
@@ -31,12 +30,14 @@ loop-i-preserved c = (
       (c.fate_of-fate.ensures doors c.args.now))
       (c.requires.numbered (c.loop-i.i + 1)),
   λ doors tree list h. c.leave_thread.ensures.agreed doors tree list (c.loop-i.invariant.1 doors tree list h),
-  c.leave_thread.ensures.bindings ∙ c.loop-i.invariant.2,
+  record {
+    bindings = c.leave_thread.ensures.keeps.bindings ∙ c.loop-i.invariant.2.bindings;
+    items = λ pool. c.leave_thread.ensures.keeps.items pool ∙ c.loop-i.invariant.2.items pool;
+  },
   λ pool.
       let a : thread_room_in c.args.pools.now pool ≤ thread_room_in c.loop-i.pools pool + c.loop-i.i = c.loop-i.invariant.3 pool in
       let b : thread_room_in c.loop-i.pools pool ≤ thread_room_in c.leave_thread.new.pools pool + 1 = c.leave_thread.ensures.room_left pool in
       omega arith,
-  λ pool. c.leave_thread.ensures.items pool ∙ c.loop-i.invariant.4 pool,
 )
 
 pub returns-clause-threads : goal.returns-clause-threads

@@ -1,8 +1,9 @@
-use Rattle.std.proofs.Common.{◌≡◌, ◌+◌, ◌≤◌, List}
+use Rattle.std.proofs.Common.{◌+◌, ◌≤◌, List}
 use Rattle.kernel_records.specs.Words.{CallTree, NoticeList, leaving_of}
 use Rattle.written_kernel.specs.Types.{Door, Pool}
-use Rattle.server_pool.specs.Words.{item_room_in, thread_room_in}
+use Rattle.server_pool.specs.Words.{thread_room_in}
 use Rattle.pool_agreement.specs.Words.{Agrees}
+use Rattle.kernel_store.specs.Leaving.{KeepsItems}
 use Rattle.kernel_store.proofs.LeftThreads.{HasLeft}
 use Rattle.kernel_store.proofs.leaving.leave_threads.Given as goal
 
@@ -10,6 +11,5 @@ abbrev pub invariant-loop-i : goal.invariant-loop-i
 invariant-loop-i l =
     ((doors : List Door) → HasLeft (leaving_of l.fn.processes doors l.who) l.now l.calls.tree.calls l.i l.fn.processes l.processes)
     × ((doors : List Door) (tree : CallTree) (list : NoticeList) → Agrees l.now l.fn.processes doors tree list l.fn.pools → Agrees l.now l.processes doors tree list l.pools)
-    × (l.pools.bindings ≡ l.fn.pools.bindings)
+    × KeepsItems l.fn.pools l.pools
     × ((pool : Pool) → thread_room_in l.fn.pools pool ≤ thread_room_in l.pools pool + l.i)
-    × ((pool : Pool) → item_room_in l.pools pool ≡ item_room_in l.fn.pools pool)

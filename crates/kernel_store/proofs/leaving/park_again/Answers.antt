@@ -1,8 +1,8 @@
-use Rattle.std.proofs.Common.{◌≡◌, ◌+◌, ◌<◌, ◌≤◌, is_some, true, refl, arith}
-use Rattle.server_pool.specs.Words.{pool_at, thread_room_in}
+use Rattle.std.proofs.Common.{◌∙◌, ap, rules, ◌≡◌, ◌+◌, ◌<◌, ◌≤◌, is_some, true, refl, arith}
+use Rattle.server_pool.specs.Words.{PoolsValue, item_room_in, pool_at, thread_room_in}
 use Rattle.server_pool.proofs.Changed.{thread_room_there}
 use Rattle.kernel_store.specs.Leaving.{own_pool_in}
-use Rattle.kernel_store.proofs.Left.{parked_again, room_parked}
+use Rattle.kernel_store.proofs.Left.{items_parked, parked_again, room_parked}
 use Rattle.kernel_store.proofs.leaving.park_again.Goals as goal
 
 pub park-requires-clause-later : goal.park-requires-clause-later
@@ -21,7 +21,7 @@ returns-clause-agreed c = λ doors tree list h.
     (rw c.park.ensures
     (rw c.own_pool-pool.ensures
     (parked_again h c.args.t.0 c.take_out.new.pools own (c.take_out.ensures.agreed c.args.since doors tree list h) c.requires.there refl
-    c.take_out.ensures.bindings there
+    c.take_out.ensures.keeps.bindings there
     (c.take_out.ensures.above own (record { thread = c.args.t; pool = own; since = c.args.since }) c.requires.later))))
 
 pub returns-clause-room_left : goal.returns-clause-room_left
@@ -31,3 +31,12 @@ returns-clause-room_left c = λ pool.
     rw c.park.ensures
     (room_parked c.take_out.new.pools c.own_pool-pool.result (record { thread = c.args.t; pool = c.own_pool-pool.result; since = c.args.since }) pool) in
     omega arith
+
+pub returns-clause-keeps : goal.returns-clause-keeps
+returns-clause-keeps c = record {
+  bindings = search rules;
+  items = λ pool.
+      ap (λ (v : PoolsValue). item_room_in v pool) c.park.ensures
+      ∙ items_parked c.take_out.new.pools c.own_pool-pool.result (record { thread = c.args.t; pool = c.own_pool-pool.result; since = c.args.since }) pool
+      ∙ c.take_out.ensures.keeps.items pool;
+}

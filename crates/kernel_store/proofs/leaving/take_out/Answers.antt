@@ -31,8 +31,7 @@ returns-in_default c =
           λ n doors tree list h.
           agrees_ended h c.args.t.0 (ap is_idle (sym c.state.ensures) ∙ not_idle c.state.result.now c.in_default.not-Idle)
           (ap is_dormant (sym c.state.ensures) ∙ not_dormant c.state.result.now c.in_default.not-Dormant);
-      bindings = refl;
-      items = λ pool. refl;
+      keeps = record { bindings = refl; items = λ pool. refl };
       room = λ pool. le_refl (thread_room_in c.args.pools.now pool);
       above = λ pool x a. a;
     }

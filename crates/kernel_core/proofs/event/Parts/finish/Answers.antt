@@ -1,22 +1,14 @@
-use Rattle.std.proofs.Common.{ap, arith}
+use Rattle.std.proofs.Common.{◌≡◌, ◌+◌, ap, arith, subst, sym, ◌∙◌}
 use Rattle.written_kernel.specs.Words.{State}
-use Rattle.kernel_core.proofs.Finishing.{events_settled, few_acted, flags_acted, latest_acted, placed_acted, ready_settled, room_acted, settled_acted, step_settled}
+use Rattle.kernel_store.specs.Words.{IsAtRest}
+use Rattle.kernel_core.proofs.Finishing.{events_settled, flags_acted, ready_settled, room_acted, settled_acted, step_settled, within_acted}
 use Rattle.kernel_core.proofs.event.Parts.finish.Goals as goal
 
-pub settle-had-requires-clause-placed : goal.settle-had-requires-clause-placed
-settle-had-requires-clause-placed c = placed_acted c.requires.acted.4
-
-pub settle-had-requires-clause-few : goal.settle-had-requires-clause-few
-settle-had-requires-clause-few c = few_acted c.requires.acted.4
-
-pub settle-had-requires-clause-first : goal.settle-had-requires-clause-first
-settle-had-requires-clause-first c = latest_acted c.requires.acted.4
+pub settle-had-requires-clause-within : goal.settle-had-requires-clause-within
+settle-had-requires-clause-within c = within_acted c.requires.acted.4
 
 pub settle-had-requires-clause-room : goal.settle-had-requires-clause-room
 settle-had-requires-clause-room c = (c.requires.acted.3.store, room_acted c.requires.acted.4)
-
-pub settle-had-requires-clause-empty : goal.settle-had-requires-clause-empty
-settle-had-requires-clause-empty c = c.requires.acted.4.ready.none
 
 pub settle-had-requires-clause-flags : goal.settle-had-requires-clause-flags
 settle-had-requires-clause-flags c = flags_acted c.requires.acted.4
@@ -25,7 +17,7 @@ pub end_event-stepped-requires-clause-few : goal.end_event-stepped-requires-clau
 end_event-stepped-requires-clause-few c =
     let h = c.requires.acted.4 in
     let e = settled_acted h c.settle-had.new.store c.settle-had.ensures.state in
-    omega (arith, events_settled h c.settle-had.new.store e, few_acted h)
+    omega (arith, events_settled h c.settle-had.new.store e, (within_acted h).few)
 
 pub end_event-stepped-requires-clause-ready : goal.end_event-stepped-requires-clause-ready
 end_event-stepped-requires-clause-ready c =
@@ -34,18 +26,19 @@ end_event-stepped-requires-clause-ready c =
 
 pub returns-clause-step : goal.returns-clause-step
 returns-clause-step c =
-    λ m t q before h.
+    λ start t q before h.
     step_settled h c.settle-had.new.store c.end_event-stepped.new.self.store c.end_event-stepped.result (settled_acted h c.settle-had.new.store c.settle-had.ensures.state)
     c.end_event-stepped.ensures.state c.end_event-stepped.ensures.answer c.end_event-stepped.ensures.woken
 
-pub returns-clause-parked : goal.returns-clause-parked
-returns-clause-parked c =
+pub returns-clause-between : goal.returns-clause-between
+returns-clause-between c =
     let h = c.requires.acted.4 in
     let e = settled_acted h c.settle-had.new.store c.settle-had.ensures.state in
-    omega (
-      arith,
-      events_settled h c.settle-had.new.store e,
-      ap (λ (k : State). k.events) c.end_event-stepped.ensures.state,
-      c.end_event-stepped.ensures.latest,
-      c.settle-had.ensures.latest,
-    )
+    let counted : c.args.self.now.store.events + 1 ≡ c.end_event-stepped.new.self.store.events =
+    ap (λ k. k + 1) (sym (events_settled h c.settle-had.new.store e)) ∙ sym (ap (λ (k : State). k.events) c.end_event-stepped.ensures.state) in
+    record {
+      current = c.end_event-stepped.ensures.current;
+      rest =
+          subst (λ k. IsAtRest k c.end_event-stepped.new.self.store) counted
+          (c.end_event-stepped.ensures.rest (c.args.self.now.store.events + 1) c.settle-had.ensures.rest);
+    }

@@ -1,22 +1,36 @@
-use Rattle.std.proofs.Common.{subst, sym}
-use Rattle.pool_agreement.specs.Words.{IsGivenOut}
-use Rattle.kernel_store.specs.Words.{StoreValue}
+use Rattle.kernel_core.proofs.Finishing.{rest_reserved, rest_started}
 use Rattle.kernel_core.proofs.event.Parts.reserve.Goals as goal
 
-pub returns-in_err-woken-clause-given_out : goal.returns-in_err-woken-clause-given_out
-returns-in_err-woken-clause-given_out c =
-    λ h.
-    c.reserve_leaving.ensures.given_out (c.reserve_notices.ensures.given_out (c.reserve.ensures.given_out
-    (subst (λ (s : StoreValue). IsGivenOut s.pools) (sym c.start_step.ensures.same) h)))
+pub returns-in_err-reserve_notices-clause-rest : goal.returns-in_err-reserve_notices-clause-rest
+returns-in_err-reserve_notices-clause-rest c = λ h.
+    rest_reserved c.reserve_notices.ensures.state c.reserve_notices.ensures.keeps
+    (rest_reserved c.reserve.ensures.state c.reserve.ensures.keeps
+    (rest_started c.args.self.now.store c.start_step.new.self c.start_step.ensures.same h))
 
-pub returns-in_err-had-clause-given_out : goal.returns-in_err-had-clause-given_out
-returns-in_err-had-clause-given_out c =
-    λ h.
-    c.reserve_leaving.ensures.given_out (c.reserve_notices.ensures.given_out (c.reserve.ensures.given_out
-    (subst (λ (s : StoreValue). IsGivenOut s.pools) (sym c.start_step.ensures.same) h)))
+pub returns-in_err-reserve_leaving-clause-rest : goal.returns-in_err-reserve_leaving-clause-rest
+returns-in_err-reserve_leaving-clause-rest c = λ h.
+    rest_reserved c.reserve_leaving.ensures.state c.reserve_leaving.ensures.keeps
+    (rest_reserved c.reserve_notices.ensures.state c.reserve_notices.ensures.keeps
+    (rest_reserved c.reserve.ensures.state c.reserve.ensures.keeps
+    (rest_started c.args.self.now.store c.start_step.new.self c.start_step.ensures.same h)))
 
-pub returns-clause-given_out : goal.returns-clause-given_out
-returns-clause-given_out c =
-    λ h.
-    c.reserve_leaving.ensures.given_out (c.reserve_notices.ensures.given_out (c.reserve.ensures.given_out
-    (subst (λ (s : StoreValue). IsGivenOut s.pools) (sym c.start_step.ensures.same) h)))
+pub returns-in_err-reserve-2-clause-rest : goal.returns-in_err-reserve-2-clause-rest
+returns-in_err-reserve-2-clause-rest c = λ h.
+    rest_reserved c.reserve_leaving.ensures.state c.reserve_leaving.ensures.keeps
+    (rest_reserved c.reserve_notices.ensures.state c.reserve_notices.ensures.keeps
+    (rest_reserved c.reserve.ensures.state c.reserve.ensures.keeps
+    (rest_started c.args.self.now.store c.start_step.new.self c.start_step.ensures.same h)))
+
+pub returns-in_err-woken-clause-rest : goal.returns-in_err-woken-clause-rest
+returns-in_err-woken-clause-rest c = λ h.
+    rest_reserved c.reserve_leaving.ensures.state c.reserve_leaving.ensures.keeps
+    (rest_reserved c.reserve_notices.ensures.state c.reserve_notices.ensures.keeps
+    (rest_reserved c.reserve.ensures.state c.reserve.ensures.keeps
+    (rest_started c.args.self.now.store c.start_step.new.self c.start_step.ensures.same h)))
+
+pub returns-clause-rest : goal.returns-clause-rest
+returns-clause-rest c = λ h.
+    rest_reserved c.reserve_leaving.ensures.state c.reserve_leaving.ensures.keeps
+    (rest_reserved c.reserve_notices.ensures.state c.reserve_notices.ensures.keeps
+    (rest_reserved c.reserve.ensures.state c.reserve.ensures.keeps
+    (rest_started c.args.self.now.store c.start_step.new.self c.start_step.ensures.same h)))

@@ -18,8 +18,11 @@ invariant_of-self c =
     thread_result old (stored_state c.add_thread.new.self.store) c.args.process.0 c.args.spare c.self.invariant.0 c.self.invariant.1
     (ap (λ (k : State). k.events) c.self.view_is ∙ c.requires.opening) there few c.add_thread.result c.add_thread.ensures.ok c.add_thread.ensures.err in
     let opened : old.events ≡ 0 = ap (λ (k : State). k.events) c.self.view_is ∙ c.requires.opening in
-    let parked : c.add_thread.new.self.store.latest ≡ 0 = c.add_thread.ensures.latest ∙ omega (arith, opened, c.self.invariant.4) in
-    (kept.0, kept.1, c.add_thread.ensures.current, c.add_thread.ensures.given_out c.self.invariant.3, omega (arith, parked))
+    let rest = c.add_thread.ensures.rest old.events c.self.invariant.2.rest in (
+      kept.0,
+      kept.1,
+      record { current = c.add_thread.ensures.current; rest = record { given_out = rest.given_out; latest = omega (arith, rest.latest, opened) } },
+    )
 
 pub add_thread-requires-clause-lives : goal.add_thread-requires-clause-lives
 add_thread-requires-clause-lives c =

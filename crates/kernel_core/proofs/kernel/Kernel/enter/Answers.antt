@@ -1,7 +1,6 @@
-use Rattle.std.proofs.Common.{refl, ◌∙◌, Some}
+use Rattle.std.proofs.Common.{◌∙◌, Some}
 use Rattle.kernel_store.specs.Words.{stored_state}
-use Rattle.kernel_core.proofs.Kept.{kept_result, none_lost, noticing, placed, refused_result, refused_stands}
-use Rattle.kernel_core.proofs.Live.{stands_live}
+use Rattle.kernel_core.proofs.Kept.{can_step, kept_result, none_lost, noticing, refused_result, refused_stands}
 use Rattle.kernel_core.proofs.Steps.{step_stands, step_within, step_small}
 use Rattle.kernel_core.proofs.kernel.Kernel.enter.Goals as goal
 
@@ -11,14 +10,8 @@ invariant_of-self c =
     let new = stored_state c.enter.new.self.store in (
       kept_result kept c.args.self.now new c.args.t.0 (Some c.args.request) c.enter.result c.self.view_is c.self.invariant.0 (record { running = c.requires.running; fit = c.requires.fit; built = c.requires.built; few = c.requires.few }) c.enter.ensures.step c.enter.ensures.err,
       step_within kept c.args.self.now new c.args.t.0 (Some c.args.request) c.enter.result c.self.view_is c.self.invariant.1 c.requires.few c.enter.ensures.step c.enter.ensures.err,
-      c.enter.ensures.current,
-      c.enter.ensures.given_out,
-      c.enter.ensures.parked,
+      c.enter.ensures.between,
     )
-
-pub enter-requires-clause-none_past : goal.enter-requires-clause-none_past
-enter-requires-clause-none_past c =
-    stands_live (stored_state c.self.inside.parts.store) c.self.invariant.0.written c.self.invariant.0.stands
 
 pub returns-clause-step : goal.returns-clause-step
 returns-clause-step c =
@@ -36,8 +29,8 @@ pub returns-clause-refused_step : goal.returns-clause-refused_step
 returns-clause-refused_step c =
     λ m h e g. refused_stands (stored_state c.self.inside.parts.store) m c.args.t.0 c.args.request e c.self.invariant.0 (c.self.view_is ∙ h) g
 
-pub enter-requires-clause-placed : goal.enter-requires-clause-placed
-enter-requires-clause-placed c = placed (stored_state c.self.inside.parts.store) (stored_state c.self.inside.parts.store) refl c.self.invariant.0
+pub enter-requires-clause-can_step : goal.enter-requires-clause-can_step
+enter-requires-clause-can_step c = can_step c.self.inside.parts c.args.self.now c.self.view_is c.self.invariant c.requires.few
 
 pub enter-requires-clause-none_lost : goal.enter-requires-clause-none_lost
 enter-requires-clause-none_lost c =

@@ -1,7 +1,6 @@
-use Rattle.std.proofs.Common.{refl, None}
+use Rattle.std.proofs.Common.{None}
 use Rattle.kernel_store.specs.Words.{stored_state}
-use Rattle.kernel_core.proofs.Kept.{kept_result, none_lost, noticing, placed}
-use Rattle.kernel_core.proofs.Live.{stands_live}
+use Rattle.kernel_core.proofs.Kept.{can_step, kept_result, none_lost, noticing}
 use Rattle.kernel_core.proofs.Steps.{step_stands, step_within, step_small}
 use Rattle.kernel_core.proofs.kernel.Kernel.go_on.Goals as goal
 
@@ -11,14 +10,8 @@ invariant_of-self c =
     let new = stored_state c.go_on.new.self.store in (
       kept_result kept c.args.self.now new c.args.t.0 None c.go_on.result c.self.view_is c.self.invariant.0 c.requires c.go_on.ensures.step c.go_on.ensures.err,
       step_within kept c.args.self.now new c.args.t.0 None c.go_on.result c.self.view_is c.self.invariant.1 c.requires.few c.go_on.ensures.step c.go_on.ensures.err,
-      c.go_on.ensures.current,
-      c.go_on.ensures.given_out,
-      c.go_on.ensures.parked,
+      c.go_on.ensures.between,
     )
-
-pub go_on-requires-clause-none_past : goal.go_on-requires-clause-none_past
-go_on-requires-clause-none_past c =
-    stands_live (stored_state c.self.inside.parts.store) c.self.invariant.0.written c.self.invariant.0.stands
 
 pub returns-clause-step : goal.returns-clause-step
 returns-clause-step c =
@@ -28,8 +21,8 @@ pub returns-clause-small : goal.returns-clause-small
 returns-clause-small c =
     step_small (stored_state c.self.inside.parts.store) (stored_state c.go_on.new.self.store) c.args.t.0 None c.go_on.result c.self.invariant.1 c.go_on.ensures.step
 
-pub go_on-requires-clause-placed : goal.go_on-requires-clause-placed
-go_on-requires-clause-placed c = placed (stored_state c.self.inside.parts.store) (stored_state c.self.inside.parts.store) refl c.self.invariant.0
+pub go_on-requires-clause-can_step : goal.go_on-requires-clause-can_step
+go_on-requires-clause-can_step c = can_step c.self.inside.parts c.args.self.now c.self.view_is c.self.invariant c.requires.few
 
 pub go_on-requires-clause-none_lost : goal.go_on-requires-clause-none_lost
 go_on-requires-clause-none_lost c =

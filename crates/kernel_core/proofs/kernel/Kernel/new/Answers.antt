@@ -1,4 +1,4 @@
-use Rattle.std.proofs.Common.{◌≡◌, ap, arith, ◌∙◌}
+use Rattle.std.proofs.Common.{ap, arith, ◌∙◌}
 use Rattle.written_kernel.specs.Words.{with_processes}
 use Rattle.kernel_store.specs.Words.{stored_state}
 use Rattle.kernel_core.proofs.Kept.{processes_kept, opening_current}
@@ -10,10 +10,11 @@ invariant_of-result c =
     let limits = c.slice.result.now in
     let m = stored_state c.in_ok-store.store in
     let is = c.in_ok-store.ensures.state ∙ ap (λ n. with_processes n limits) c.in_ok-new.ensures.state in
-    let parked : c.in_ok-store.store.latest ≡ 0 = c.in_ok-store.ensures.latest ∙ c.in_ok-new.ensures.latest in (
+    let rest = c.in_ok-store.ensures.rest 0 c.in_ok-new.ensures.rest in (
       processes_kept limits m is,
       opening-within limits (stored_state c.in_ok-new.field-0) m c.in_ok-new.ensures.state c.in_ok-store.ensures.state,
-      opening_current c.in_ok-runnable.runnable limits m is c.in_ok-runnable.ensures,
-      c.in_ok-store.ensures.given_out c.in_ok-new.ensures.given_out,
-      omega (arith, parked),
+      record {
+        current = opening_current c.in_ok-runnable.runnable limits m is c.in_ok-runnable.ensures;
+        rest = record { given_out = rest.given_out; latest = omega (arith, rest.latest) };
+      },
     )

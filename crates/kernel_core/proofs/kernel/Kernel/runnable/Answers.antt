@@ -5,4 +5,4 @@ use Rattle.kernel_core.proofs.kernel.Kernel.runnable.Goals as goal
 
 pub returns-clause-stands : goal.returns-clause-stands
 returns-clause-stands c =
-    λ m e. c.has.ensures (stored_state c.self.inside.parts.store) c.self.invariant.2 ∙ runnable_stands (stored_state c.self.inside.parts.store) m c.args.t.0 (c.self.view_is ∙ e)
+    λ m e. c.has.ensures (stored_state c.self.inside.parts.store) c.self.invariant.2.current ∙ runnable_stands (stored_state c.self.inside.parts.store) m c.args.t.0 (c.self.view_is ∙ e)

@@ -1,6 +1,5 @@
 use Rattle.std.proofs.Common.{◌≡◌, ap, length, sym, ◌∙◌, false, get_or, arith}
-use Rattle.written_kernel.specs.Words.{State, is_runnable, least_among}
-use Rattle.kernel_core.specs.Woken.{IsCurrent}
+use Rattle.written_kernel.specs.Words.{least_among}
 use Rattle.kernel_core.proofs.Readers.{least_found, least_none, length_runnables, runnables_at}
 use Rattle.kernel_core.proofs.runnable.Runnable.least.Goals as goal
 

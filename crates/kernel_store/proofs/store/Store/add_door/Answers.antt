@@ -22,16 +22,21 @@ invariant_of-self-2 c =
           (new_door (length doors + 1) c.args.owner.0 c.args.entry c.args.cookie c.args.attrs) c.in-Ok.ensures.made c.self.invariant.1,
     )
 
-pub returns-clause-given_out : goal.returns-clause-given_out
-returns-clause-given_out c = λ h.
-    given_out_door c.self.inside.pools c.add_door.new.self (ap (λ (v : PoolsValue). v.common) c.add_door.ensures)
-    (ap (λ (v : PoolsValue). v.private) c.add_door.ensures) (subst (λ (s : StoreValue). IsGivenOut s.pools) (sym c.self.view_is) h)
-
-pub returns-clause-items : goal.returns-clause-items
-returns-clause-items c = λ pool.
-    subst (λ (s : StoreValue). item_room_in s.pools pool ≤ item_room_in c.add_door.new.self pool) c.self.view_is
-    (items_door c.self.inside.pools c.add_door.new.self (ap (λ (v : PoolsValue). v.common) c.add_door.ensures)
-    (ap (λ (v : PoolsValue). v.private) c.add_door.ensures) pool)
+pub returns-clause-keeps : goal.returns-clause-keeps
+returns-clause-keeps c =
+    let common = ap (λ (v : PoolsValue). v.common) c.add_door.ensures in
+    let private = ap (λ (v : PoolsValue). v.private) c.add_door.ensures in
+    record {
+      given_out = λ h.
+          given_out_door c.self.inside.pools c.add_door.new.self common private
+          (subst (λ (s : StoreValue). IsGivenOut s.pools) (sym c.self.view_is) h);
+      latest = search rules;
+      opening = search rules;
+      notice_room = search rules;
+      items = λ pool.
+          subst (λ (s : StoreValue). item_room_in s.pools pool ≤ item_room_in c.add_door.new.self pool) c.self.view_is
+          (items_door c.self.inside.pools c.add_door.new.self common private pool);
+    }
 
 pub returns-clause-counted : goal.returns-clause-counted
 returns-clause-counted c =

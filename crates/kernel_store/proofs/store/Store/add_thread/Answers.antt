@@ -17,9 +17,12 @@ pub add_spare-requires : goal.add_spare-requires
 add_spare-requires c =
     spares_below c.self.invariant.0 c.args.p.0 (c.thread_count.result + 1) (rw c.thread_count.ensures.count (omega arith))
 
-pub returns-in_err-add_spare-clause-given_out : goal.returns-in_err-add_spare-clause-given_out
-returns-in_err-add_spare-clause-given_out c = λ h.
-    subst IsGivenOut (sym c.in_err-add_spare.ensures.err) (subst (λ (s : StoreValue). IsGivenOut s.pools) (sym c.self.view_is) h)
+pub returns-in_err-add_spare-clause-rest : goal.returns-in_err-add_spare-clause-rest
+returns-in_err-add_spare-clause-rest c = λ n h. record {
+  given_out =
+      subst IsGivenOut (sym c.in_err-add_spare.ensures.err) (subst (λ (s : StoreValue). IsGivenOut s.pools) (sym c.self.view_is) h.given_out);
+  latest = search rules;
+}
 
 pub invariant_of-self-then-is_ok : goal.invariant_of-self-then-is_ok
 invariant_of-self-then-is_ok c =
@@ -48,14 +51,17 @@ invariant_of-self-then-is_ok c =
           )
     ]
 
-pub returns-then-is_ok-clause-given_out : goal.returns-then-is_ok-clause-given_out
-returns-then-is_ok-clause-given_out c = λ h.
-    let before = subst (λ (s : StoreValue). IsGivenOut s.pools) (sym c.self.view_is) h in
-    elim c.if-spare.branch [
-      | then-spare+in_ok-add_spare w ↦
-          subst (λ s. IsGivenOut s.pools) (sym w.self-inside-is) (subst IsGivenOut (sym w.in_ok-add_spare.ensures.ok) before)
-      | else-spare w ↦ subst (λ s. IsGivenOut s.pools) (sym w.self-inside-is) before
-    ]
+pub returns-then-is_ok-clause-rest : goal.returns-then-is_ok-clause-rest
+returns-then-is_ok-clause-rest c = λ n h. record {
+  given_out =
+      let before = subst (λ (s : StoreValue). IsGivenOut s.pools) (sym c.self.view_is) h.given_out in
+      elim c.if-spare.branch [
+        | then-spare+in_ok-add_spare w ↦
+            subst (λ s. IsGivenOut s.pools) (sym w.self-inside-is) (subst IsGivenOut (sym w.in_ok-add_spare.ensures.ok) before)
+        | else-spare w ↦ subst (λ s. IsGivenOut s.pools) (sym w.self-inside-is) before
+      ];
+  latest = search rules;
+}
 
 pub invariant_of-self-then-spare-2 : goal.invariant_of-self-then-spare-2
 invariant_of-self-then-spare-2 c =
@@ -75,21 +81,27 @@ invariant_of-self-then-spare-2 c =
       | else-spare w ↦ absurd (not_both c.if-spare-2.true w.if-spare.false)
     ]
 
-pub returns-then-spare-2-clause-given_out : goal.returns-then-spare-2-clause-given_out
-returns-then-spare-2-clause-given_out c = λ h.
-    let v : PoolsValue = c.self.inside.pools in
-    let before = subst (λ (s : StoreValue). IsGivenOut s.pools) (sym c.self.view_is) h in
-    elim c.if-spare.branch [
-      | then-spare+in_ok-add_spare w ↦
-          subst IsGivenOut (sym c.take_back.ensures)
-          (subst (λ s. IsGivenOut s.pools) (sym w.self-inside-is) (subst IsGivenOut (sym w.in_ok-add_spare.ensures.ok) before))
-      | else-spare w ↦ absurd (not_both c.if-spare-2.true w.if-spare.false)
-    ]
+pub returns-then-spare-2-clause-rest : goal.returns-then-spare-2-clause-rest
+returns-then-spare-2-clause-rest c = λ n h. record {
+  given_out =
+      let v : PoolsValue = c.self.inside.pools in
+      let before = subst (λ (s : StoreValue). IsGivenOut s.pools) (sym c.self.view_is) h.given_out in
+      elim c.if-spare.branch [
+        | then-spare+in_ok-add_spare w ↦
+            subst IsGivenOut (sym c.take_back.ensures)
+            (subst (λ s. IsGivenOut s.pools) (sym w.self-inside-is) (subst IsGivenOut (sym w.in_ok-add_spare.ensures.ok) before))
+        | else-spare w ↦ absurd (not_both c.if-spare-2.true w.if-spare.false)
+      ];
+  latest = search rules;
+}
 
-pub returns-else-spare-2-clause-given_out : goal.returns-else-spare-2-clause-given_out
-returns-else-spare-2-clause-given_out c = λ h.
-    let before = subst (λ (s : StoreValue). IsGivenOut s.pools) (sym c.self.view_is) h in
-    elim c.if-spare.branch [
-      | then-spare+in_ok-add_spare w ↦ absurd (not_both w.if-spare.true c.if-spare-2.false)
-      | else-spare w ↦ subst (λ s. IsGivenOut s.pools) (sym w.self-inside-is) before
-    ]
+pub returns-else-spare-2-clause-rest : goal.returns-else-spare-2-clause-rest
+returns-else-spare-2-clause-rest c = λ n h. record {
+  given_out =
+      let before = subst (λ (s : StoreValue). IsGivenOut s.pools) (sym c.self.view_is) h.given_out in
+      elim c.if-spare.branch [
+        | then-spare+in_ok-add_spare w ↦ absurd (not_both w.if-spare.true c.if-spare-2.false)
+        | else-spare w ↦ subst (λ s. IsGivenOut s.pools) (sym w.self-inside-is) before
+      ];
+  latest = search rules;
+}

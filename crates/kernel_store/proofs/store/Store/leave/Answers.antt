@@ -1,4 +1,4 @@
-use Rattle.std.proofs.Common.{◌≡◌, ◌+◌, ◌<◌, ◌≤◌, sym, ap, ◌∙◌, subst, subst₂, arith}
+use Rattle.std.proofs.Common.{◌≡◌, ◌+◌, ◌<◌, ◌≤◌, sym, ap, ◌∙◌, subst, subst₂, arith, rules}
 use Rattle.call_tree.specs.Words.{CallsValue}
 use Rattle.kernel_records.specs.Words.{ProcessTable, kept_notices, leaving_of, left_calls, left_notices, left_threads, live_calls, parked_at}
 use Rattle.written_kernel.specs.Words.{forget, leave}
@@ -17,7 +17,7 @@ leave_threads-requires-clause-agreed c =
     let doors = s.doors.items in
     let who = leaving_of s.processes doors c.args.who in
     let tree = live_calls (left_calls who s.held.calls.tree) in
-    let l : s.latest < s.events + 1 = early c.self.invariant.0 c.self.view_is c.requires.first in
+    let l : s.latest < s.events + 1 = early c.self.invariant.0 c.self.view_is c.requires.latest in
     record {
       doors = doors;
       tree = tree;
@@ -32,7 +32,7 @@ leave_threads-requires-clause-agreed c =
 pub leave_threads-requires-clause-earlier : goal.leave_threads-requires-clause-earlier
 leave_threads-requires-clause-earlier c = λ t x e.
     let s = c.self.inside in
-    let l : s.latest < s.events + 1 = early c.self.invariant.0 c.self.view_is c.requires.first in
+    let l : s.latest < s.events + 1 = early c.self.invariant.0 c.self.view_is c.requires.latest in
     let since : x.since ≤ s.latest =
     parked_early c.self.invariant.0 t x
     (ap (λ bs. parked_at s.processes bs t) (sym (c.withdraw_notices.ensures.bindings ∙ c.withdraw_calls.ensures.bindings)) ∙ e) in
@@ -54,7 +54,7 @@ invariant_of-self c =
     let who = leaving_of s.processes doors c.args.who in
     let tree = live_calls (left_calls who s.held.calls.tree) in
     let list = kept_notices doors (left_notices who s.notices.list) in
-    let l : s.latest < s.events + 1 = early c.self.invariant.0 c.self.view_is c.requires.first in
+    let l : s.latest < s.events + 1 = early c.self.invariant.0 c.self.view_is c.requires.latest in
     let left : c.leave_threads.new.processes ≡ left_threads who (s.events + 1) s.held.calls.tree.calls s.processes =
     c.leave_threads.ensures.threads doors
     ∙ ap (λ (v : CallsValue). left_threads who (s.events + 1) v.tree.calls s.processes) c.calls-2.ensures in
@@ -91,15 +91,20 @@ returns-clause-state c =
     c.leave_notices.ensures.list ∙ ap (λ w. kept_notices doors (left_notices w s.notices.list)) after in
     rw c.leave_calls.ensures.same
     (rw left
-    (rw (c.leave_threads.ensures.bindings ∙ c.withdraw_notices.ensures.bindings ∙ c.withdraw_calls.ensures.bindings)
+    (rw (c.leave_threads.ensures.keeps.bindings ∙ c.withdraw_notices.ensures.bindings ∙ c.withdraw_calls.ensures.bindings)
     (rw calls
     (rw notices
     (ap (λ (v : StoreValue). forget (leave (stored_state v) (leaving_of v.processes v.doors.items c.args.who))) c.self.view_is)))))
 
-pub returns-clause-items : goal.returns-clause-items
-returns-clause-items c = λ pool.
-    let s = c.self.inside in
-    let a : item_room_in s.pools pool ≤ item_room_in c.withdraw_calls.new.pools pool = c.withdraw_calls.ensures.items pool in
-    let b : item_room_in c.withdraw_calls.new.pools pool ≤ item_room_in c.withdraw_notices.new.pools pool = c.withdraw_notices.ensures.items pool in
-    let e : item_room_in c.leave_threads.new.pools pool ≡ item_room_in c.withdraw_notices.new.pools pool = c.leave_threads.ensures.items pool in
-    subst (λ (v : StoreValue). item_room_in v.pools pool ≤ item_room_in c.leave_threads.new.pools pool) c.self.view_is (omega arith)
+pub returns-clause-keeps : goal.returns-clause-keeps
+returns-clause-keeps c = record {
+  latest = search rules;
+  opening = search rules;
+  notice_room = search rules;
+  items = λ pool.
+      let s = c.self.inside in
+      let a : item_room_in s.pools pool ≤ item_room_in c.withdraw_calls.new.pools pool = c.withdraw_calls.ensures.items pool in
+      let b : item_room_in c.withdraw_calls.new.pools pool ≤ item_room_in c.withdraw_notices.new.pools pool = c.withdraw_notices.ensures.items pool in
+      let e : item_room_in c.leave_threads.new.pools pool ≡ item_room_in c.withdraw_notices.new.pools pool = c.leave_threads.ensures.keeps.items pool in
+      subst (λ (v : StoreValue). item_room_in v.pools pool ≤ item_room_in c.leave_threads.new.pools pool + 1) c.self.view_is (omega arith);
+}

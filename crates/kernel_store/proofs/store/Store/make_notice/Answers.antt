@@ -21,7 +21,7 @@ make-number-requires-clause-numbers c = number_left c.self.view_is c.args.d c.re
 pub enqueue-requires : goal.enqueue-requires
 enqueue-requires c =
     let door = subst (λ (s : StoreValue). is_valid (stored_state s) c.args.d ≡ true) (sym c.self.view_is) c.requires.valid in
-    let placed = subst (λ (s : StoreValue). ArePlaced (stored_state s)) (sym c.self.view_is) c.requires.placed in
+    let placed = subst (λ (s : StoreValue). ArePlaced (stored_state s)) (sym c.self.view_is) c.requires.within.placed in
     let there : is_some (pool_at c.self.inside.pools c.pool_of-pool.result) ≡ true =
     ap (λ pool. is_some (pool_at c.self.inside.pools pool)) c.pool_of-pool.ensures ∙ served_there c.self.invariant.0 placed c.args.d door in
     place_left c.self.view_is c.args.d c.requires.room c.pool_of-pool.result c.pool_of-pool.ensures there
@@ -33,8 +33,8 @@ invariant_of-self c =
     let v : PoolsValue = s.pools in
     let pool : Pool = c.pool_of-pool.result in
     let door = subst (λ (s : StoreValue). is_valid (stored_state s) c.args.d ≡ true) (sym c.self.view_is) c.requires.valid in
-    let placed = subst (λ (s : StoreValue). ArePlaced (stored_state s)) (sym c.self.view_is) c.requires.placed in
-    let later : s.latest ≤ now = subst (λ (s : StoreValue). s.latest ≤ s.events + 1) (sym c.self.view_is) c.requires.first in
+    let placed = subst (λ (s : StoreValue). ArePlaced (stored_state s)) (sym c.self.view_is) c.requires.within.placed in
+    let later : s.latest ≤ now = subst (λ (s : StoreValue). s.latest ≤ s.events + 1) (sym c.self.view_is) c.requires.within.latest in
     let there : is_some (pool_at v pool) ≡ true =
     ap (λ pool. is_some (pool_at v pool)) c.pool_of-pool.ensures ∙ served_there c.self.invariant.0 placed c.args.d door in
     let taken : c.enqueue.new.self ≡ change_pool v pool (enqueue_in (waiting_notice (new_notice (s.notices.list.made + 1) now c.args.d))) =

@@ -5,7 +5,7 @@ use Rattle.kernel_store.proofs.store.Store.note_idle.Goals as goal
 
 pub push-requires : goal.push-requires
 push-requires c =
-    room_left c.args.self.now c.args.had c.loop-i.had c.loop-i.i c.loop-i.invariant c.requires.room
+    room_left c.args.self.now c.args.had c.loop-i.had c.loop-i.i c.loop-i.invariant c.requires.spare
     (rw (← ap (λ (s : StoreValue). length s.processes.processes) c.self.view_is) (rw (← c.process_count-i-end.ensures.count) c.loop-i-test.true))
 
 pub loop-i-preserved : goal.loop-i-preserved

@@ -1,9 +1,9 @@
-use Rattle.std.proofs.Common.{None, is_ok, refl, ap, ◌∙◌}
+use Rattle.std.proofs.Common.{rules, None, is_ok, refl, ap, ◌∙◌}
 use Rattle.kernel_records.specs.Words.{thread_outside, unbind_thread}
 use Rattle.pool_agreement.proofs.Noticing.{agrees_end_notice, list_is_kept}
 use Rattle.pool_agreement.proofs.Queues.{agrees_return}
 use Rattle.pool_agreement.proofs.Unparking.{agrees_alike}
-use Rattle.kernel_store.proofs.Acts.{bound, given_out_bound, holds_ok, leaves_door}
+use Rattle.kernel_store.proofs.Acts.{fills, bound, given_out_bound, holds_ok, leaves_door}
 use Rattle.kernel_store.proofs.store.Store.return_unbound.Goals as goal
 
 pub invariant_of-self : goal.invariant_of-self
@@ -24,7 +24,9 @@ invariant_of-self c =
 pub end-requires : goal.end-requires
 end-requires c = record { kept = list_is_kept c.self.invariant.0 }
 
-pub returns-clause-given_out : goal.returns-clause-given_out
-returns-clause-given_out c given =
-    rw (holds_ok c.unbind.result (ap is_ok c.unbind.ensures.result ∙ leaves_door c.self.view_is c.args.t.0 c.requires.bound) c.unbind.ensures.ok)
-    (given_out_bound c.self.view_is (unbind_thread c.self.inside.pools.bindings c.args.t.0) given)
+pub returns-clause-keeps : goal.returns-clause-keeps
+returns-clause-keeps c =
+    fills
+    (λ given. rw (holds_ok c.unbind.result (ap is_ok c.unbind.ensures.result ∙ leaves_door c.self.view_is c.args.t.0 c.requires.bound) c.unbind.ensures.ok)
+    (given_out_bound c.self.view_is (unbind_thread c.self.inside.pools.bindings c.args.t.0) given))
+    (search rules) (search rules) (search rules) (λ pool. search rules)

@@ -21,8 +21,11 @@ invariant_of-self c =
       c.self.invariant.1,
     )
 
-pub returns-clause-given_out : goal.returns-clause-given_out
-returns-clause-given_out c = λ h.
-    let pools = c.in_ok-add_process.ensures.ok in
-    given_out_process c.self.inside.pools c.add_process.new.self (ap (λ (v : PoolsValue). v.private) pools)
-    (ap (λ (v : PoolsValue). v.common) pools) (subst (λ (s : StoreValue). IsGivenOut s.pools) (sym c.self.view_is) h)
+pub returns-clause-rest : goal.returns-clause-rest
+returns-clause-rest c = λ n h. record {
+  given_out =
+      let pools = c.in_ok-add_process.ensures.ok in
+      given_out_process c.self.inside.pools c.add_process.new.self (ap (λ (v : PoolsValue). v.private) pools)
+      (ap (λ (v : PoolsValue). v.common) pools) (subst (λ (s : StoreValue). IsGivenOut s.pools) (sym c.self.view_is) h.given_out);
+  latest = search rules;
+}

@@ -1,0 +1,129 @@
+//! The processes and threads of the opening, the memory that an event can need, and where its step begins and ends.
+ghost use Rattle.std.specs.Prelude.{◌≡◌, ℕ, ◌+◌, ◌<◌, ◌≤◌, ◌++◌, Bool, List, filter, length, true, IfOk, OnOk, OnErr};
+ghost use Rattle.dk_base.specs.declared.limits.TheConstants.{PROCESSES_MAX, THREADS_MAX, EVENTS_MAX};
+ghost use Rattle.written_kernel.specs.Types.{Pool};
+ghost use Rattle.kernel_records.specs.Words.{notice_doors};
+ghost use Rattle.written_kernel.specs.Words.{is_live_process, with_event_counted, with_new_process, with_new_thread};
+ghost use Rattle.unref_notice.specs.Words.{was_shared};
+ghost use Rattle.kernel_store.specs.Frames.{FillsNoPool, IsAtRest, KeepsPools};
+ghost use Rattle.kernel_store.specs.Stored.{ArePlaced, HasBegun, HasRoom, HasRoomForNotices, HasRoomToLeave, has_fallen_since, stored_state};
+
+use crate::leaving::make_room;
+use crate::notices::room_for_notices;
+use crate::store::Store;
+use dk_base::error::NoMemory;
+use dk_base::list::Room;
+use dk_base::number::{Pid, Tid};
+use kernel_records::pool::Pool;
+use std::alloc::Global;
+
+impl Store {
+    // before the first event
+
+    /// Another process, under the next number. Want of memory lets the store go.
+    pub fn with_process(mut self, alloc: Global, limit: u32) -> Result<Self, NoMemory>
+        requires { length self.processes.processes < PROCESSES_MAX }
+        ensures state { IfOk result (λ s. stored_state s ≡ with_new_process (stored_state self) limit) }
+        ensures rest { IfOk result (λ s. (n : ℕ) → IsAtRest n self → IsAtRest n s) }
+    {
+        self.held.add_table(alloc, limit)?;
+        if self.processes.add_proc(limit).is_err() {
+            return Err(NoMemory);
+        }
+        self.pools.add_process()?;
+        Ok(self)
+    }
+
+    /// Another thread of a process that lives, under the next number: one that runs, or a spare one that was not started. Want
+    /// of memory changes nothing.
+    pub fn add_thread(&mut self, p: Pid, spare: bool) -> Result<Tid, NoMemory>
+        requires few { length self.old.processes.threads < THREADS_MAX }
+        requires lives { is_live_process (stored_state self.old) p.0 ≡ true }
+        ensures ok { OnOk result (stored_state self.new ≡ with_new_thread (stored_state self.old) p.0 spare) }
+        ensures number { IfOk result (λ t. t.0 ≡ length self.old.processes.threads + 1) }
+        ensures err { OnErr result (stored_state self.new ≡ stored_state self.old) }
+        ensures rest { (n : ℕ) → IsAtRest n self.old → IsAtRest n self.new }
+    {
+        let number = Tid(self.processes.thread_count() + 1);
+        if spare {
+            self.pools.add_spare(p, number)?;
+        }
+        if self.processes.add_thread(p, spare).is_ok() {
+            return Ok(number);
+        }
+        if spare {
+            self.pools.take_back(p);
+        }
+        Err(NoMemory)
+    }
+
+    // memory
+
+    /// Takes the memory that an act can need which touches this pool. It changes nothing else.
+    pub fn reserve(&mut self, touched: Pool) -> Result<(), NoMemory>
+        ensures state { stored_state self.new ≡ stored_state self.old }
+        ensures keeps { FillsNoPool self.old self.new }
+        ensures room { OnOk result (HasRoom self.new touched) }
+    {
+        self.held.reserve()?;
+        self.doors.reserve()?;
+        self.pools.reserve_door()?;
+        self.pools.room(touched)
+    }
+
+    /// Takes the memory for a notice of each of these doors, beside a call of the same event: they are among those of which notices
+    /// can be made, in order. It changes nothing else.
+    pub fn reserve_notices(&mut self, ds: &[u32]) -> Result<(), NoMemory>
+        requires placed { ArePlaced (stored_state self.old) }
+        requires listed { (is_listed : ℕ → Bool) × (ds.now ≡ filter is_listed (notice_doors (stored_state self.old).doors)) }
+        ensures state { stored_state self.new ≡ stored_state self.old }
+        ensures keeps { FillsNoPool self.old self.new }
+        ensures room { OnOk result (HasRoomForNotices self.new ds.now) }
+        ensures kept { (touched : Pool) → HasRoom self.old touched → HasRoom self.new touched }
+        ensures kept_to_leave { HasRoomToLeave self.old → HasRoomToLeave self.new }
+    {
+        self.notices.reserve(ds.len())?;
+        room_for_notices(&mut self.pools, &self.doors, ds)
+    }
+
+    /// Takes the memory that threads can need which park again as their callers leave. It changes nothing else.
+    pub fn reserve_leaving(&mut self) -> Result<(), NoMemory>
+        ensures state { stored_state self.new ≡ stored_state self.old }
+        ensures keeps { FillsNoPool self.old self.new }
+        ensures room { OnOk result (HasRoomToLeave self.new) }
+        ensures kept { (touched : Pool) → HasRoom self.old touched → HasRoom self.new touched }
+        ensures kept_for_notices { (ds : List ℕ) → HasRoomForNotices self.old ds → HasRoomForNotices self.new ds }
+    {
+        make_room(&mut self.pools, &self.processes)
+    }
+
+    // steps
+
+    /// The step begins that an event is: the references that each door has now are those at its beginning. It takes no memory.
+    pub fn start_step(&mut self)
+        ensures same { self.new ≡ record (self.old) { opening = self.new.opening } }
+        ensures opened { HasBegun self.new (stored_state self.old) }
+    {
+        self.held.start_step();
+    }
+
+    /// The doors that take notices, had more than one reference when the step began, and have one now, in the order of their
+    /// numbers, follow what is in `into`. Only the doors are looked at to which references came or went. It takes no memory.
+    pub fn end_of_step(&mut self, into: &mut Room<u32>)
+        requires placed { ArePlaced (stored_state self.old) }
+        requires room { length (filter (was_shared self.old.opening) (notice_doors (stored_state self.old).doors)) ≤ into.old.spare }
+        ensures same { self.new ≡ self.old }
+        ensures items { into.new.items ≡ into.old.items ++ filter (has_fallen_since self.old.opening (stored_state self.old)) (notice_doors (stored_state self.old).doors) }
+    {
+        self.held.end_of_step(&self.doors, into);
+    }
+
+    /// Counts an event.
+    pub fn count(&mut self)
+        requires { self.old.events < EVENTS_MAX }
+        ensures state { stored_state self.new ≡ with_event_counted (stored_state self.old) }
+        ensures keeps { KeepsPools self.old self.new }
+    {
+        self.events += 1;
+    }
+}
