@@ -27,18 +27,6 @@ run-append script ts t = run_from-append script ts (first_history script) t
 abbrev pub turn_at : Script → History → ℕ → Turn
 turn_at script h t = record { thread = t; request = request_at_turn script h t }
 
-pub turns_from-append :
-    (script : Script) (ts : List ℕ) (h : History) (t : ℕ) →
-    turns_from script h (ts ++ t ∷ []) ≡ turns_from script h ts ++ turn_at script (run_from script h ts) t ∷ []
-turns_from-append script [] h t = refl
-turns_from-append script (u ∷ us) h t = ap (λ xs. turn_at script h u ∷ xs) (turns_from-append script us (history_after script h u) t)
-
-pub turns_of-append :
-    (script : Script) (ts : List ℕ) (t : ℕ) →
-    turns_of script (ts ++ t ∷ []) ≡ turns_of script ts ++ turn_at script (run script ts) t ∷ []
-unfolding run
-turns_of-append script ts t = turns_from-append script ts (first_history script) t
-
 pub state_after-turns_from :
     (script : Script) (ts : List ℕ) (h : History) →
     state_after h.state (turns_from script h ts) ≡ (run_from script h ts).state

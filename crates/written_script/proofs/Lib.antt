@@ -10,5 +10,7 @@ pub mod InterruptedRow
 pub mod NoticedRow
 pub mod FitRequests
 pub mod DeclaredObjects
+pub mod KnownStates
+pub mod KnownActs
 pub mod DeclaredStates
 pub mod RunTurns

@@ -22,7 +22,9 @@ use Rattle.script_requests.proofs.SoundFrames.{IsStep, AreSteps, AreLines, IsFra
 use Rattle.written_script.specs.DeclaredRuns.{IsDeclared, IsDeclaredDoor}
 use Rattle.written_script.specs.ScriptRuns.{History, limit_of, with_script_threads, opening_of, first_history, request_at_turn, history_after, run, run_from, AreRunnableFrom, IsAllowed, turns_from, turns_of}
 use Rattle.written_script.proofs.DeclaredObjects.{IsKnownNotice, IsKnownName, no_rows-known}
-use Rattle.written_script.proofs.DeclaredStates.{IsKnown, IsKnownCall, MakesDeclared, AsksDeclared, step-known, root-declared, waiting-declared}
+use Rattle.written_script.proofs.KnownStates.{IsKnown, IsKnownCall}
+use Rattle.written_script.proofs.KnownActs.{MakesDeclared}
+use Rattle.written_script.proofs.DeclaredStates.{AsksDeclared, step-known, root-declared, waiting-declared}
 use Rattle.written_script.proofs.FitRequests.{HasThreads, IsFitSomewhere, fit-somewhere, IsBuiltLine, request-fit, request-built}
 use Rattle.written_script.proofs.Histories.{IsOpening-opening_of, events-opening_of, events-run}
 

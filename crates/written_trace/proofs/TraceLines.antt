@@ -1,5 +1,5 @@
 -- The lines of the text of a run, and the events that turns make.
-use Rattle.std.proofs.Common.{◌≡◌, ℕ, true, List, [], ◌∷◌, ◌++◌, length, Option, Some, None, refl, sym, ap, ◌∙◌, subst, append-nil, append_assoc, suc}
+use Rattle.std.proofs.Common.{◌≡◌, ℕ, true, List, [], ◌∷◌, ◌++◌, length, Option, Some, None, refl, sym, ap, ◌∙◌, subst, append-nil, append_assoc}
 use Rattle.std.specs.Prelude.{All, codes, decimal, map, option_and_then, filter, filter_map}
 use Rattle.std.specs.List.{list_all}
 use Rattle.std.proofs.lemmas.Bool.{and_from}
@@ -37,10 +37,6 @@ events-run script ts = events-run_from script ts (first_history script)
 pub threads-events_from : (script : ScriptValue) (ts : List ℕ) (h : History) → threads_of_events (events_from script h ts) ≡ ts
 threads-events_from script [] h = refl
 threads-events_from script (t ∷ ts) h = ap (λ us. t ∷ us) (threads-events_from script ts (history_after script h t))
-
-pub length-events_from : (script : ScriptValue) (ts : List ℕ) (h : History) → length (events_from script h ts) ≡ length ts
-length-events_from script [] h = refl
-length-events_from script (t ∷ ts) h = ap suc (length-events_from script ts (history_after script h t))
 
 -- the lines of these events
 abbrev pub lines_of_events : ScriptValue → List Event → List (List ℕ)
