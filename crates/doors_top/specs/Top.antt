@@ -72,6 +72,9 @@ pub record PlaysFront (left_old left_new held_old held_new : Option (List ℕ)) 
   pub read : ReadText
   pub is_read : IsRead SCRIPT_LIMIT left_old left_new read
   pub text : AppendsFront held_old held_new (outcome_of_play read).text
+  pub spelled : IsDecidedText read
+  pub turns : TurnsOfPlay read
+  pub laws : LawsOfPlay read
 
 -- what was answered and written is of a run of the script that is over, whatever order its turns have
 pub record IsOfSomeRun (script : ScriptValue) (made : Outcome) : Type 0 where
@@ -136,6 +139,7 @@ pub record ShowsFront (left_old left_new held_old held_new : Option (List ℕ)) 
   pub read : ReadText
   pub is_read : IsRead SCRIPT_LIMIT left_old left_new read
   pub text : AppendsFront held_old held_new (outcome_of_show read).text
+  pub spelled : IsDecidedText read
 
 -- a script that is accepted and needs nothing that is not built, with the line `trace` and a trace after it
 pub record HasTrace (read : ReadText) : Type 0 where
