@@ -1,2 +1,12 @@
-pub mod Live
-pub mod Steps
+pub mod Looks
+pub mod Ties
+pub mod Changes
+pub mod Empty
+pub mod Whole
+pub mod Keys
+pub mod Leaving
+pub mod Sounds
+pub mod Parting
+pub mod LeavingParts
+pub mod Indexing
+pub mod Transit

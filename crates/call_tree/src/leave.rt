@@ -1,115 +1,119 @@
-//! What becomes of calls where callers and server threads end, callers are interrupted, and doors become invalid.
-ghost use Rattle.std.specs.Prelude.{◌≡◌, ◌≤◌, ℕ, Bool, filter, map, vec_capacity, vec_len};
-ghost use Rattle.kernel_records.specs.Words.{AnswersAs, Leaving, abandoned_at, is_live_call, left_call, without_arguments_at};
-ghost use Rattle.kernel_records.specs.declared.record.CallStage.TheVariants as stage;
-ghost use Rattle.call_tree.specs.LiveCalls.{AreLive};
+//! What is handed out of a call that ends or leaves.
+ghost use Rattle.std.specs.Prelude.{◌≡◌, ◌≤◌, true, filter, Some};
+ghost use Rattle.std.specs.Option.{option_map};
+ghost use Rattle.kernel_records.specs.declared.record.Call.{Call};
+ghost use Rattle.kernel_records.specs.Words.{broken_call_at, interruption, is_live_call, is_to_collect, left_call};
+ghost use Rattle.call_records.specs.Words.{HasKey, calls_in, look, with_call, without_key};
+ghost use Rattle.call_tree.specs.Calls.{cancelled_at, dropped_at, held_at, leaving_for, outcome_at, parked_at};
+ghost use Rattle.call_tree.specs.Index.{AreSingle};
+ghost use Rattle.call_tree.specs.declared.parts.Leave.TheVariants.{Finished, Interrupted};
 
-use crate::change::move_on;
-use crate::stage::is_live_call;
+use crate::index::CallIndex;
+use crate::parts::{Leave, Outcome};
+use crate::stage::{is_entered, is_open};
 use dk_base::error::Errno;
+use dk_base::list::ObjList;
+use dk_base::number::Tid;
 use kernel_records::record::{Call, CallStage};
 use std::alloc::Global;
 
-/// A call goes on to a stage, which its arguments leave.
-fn end(alloc: Global, call: &mut Call, stage: CallStage)
-    ensures { call.new ≡ without_arguments_at stage call.old }
+/// The thread that a call was given to.
+pub fn given_to(stage: &CallStage) -> Option<Tid>
+    ensures { option_map (λ t. t.0) result ≡ parked_at stage.now }
 {
-    let _ = move_on(alloc, call, stage);
-}
-
-/// The same of a call that a thread is in: what that thread returns goes nowhere.
-fn abandon(alloc: Global, call: &mut Call, stage: CallStage)
-    ensures { call.new ≡ abandoned_at stage call.old }
-{
-    let _ = move_on(alloc, call, stage);
-    call.abandoned = true;
-}
-
-fn ended(error: Errno) -> CallStage
-    ensures { result ≡ stage.Ended error }
-{
-    CallStage::Ended { error }
-}
-
-/// What a test answers of a number.
-fn holds<F: Fn(u32) -> bool>(test: &F, number: u32) -> bool
-    requires { F.IsAlwaysCallable test.now }
-    ensures { (f : ℕ → Bool) → AnswersAs (F.post test.now) f → result ≡ f number }
-{
-    test(number)
-}
-
-/// What becomes of one call: by its stage where its caller ends, and by its stage where the caller is interrupted, the thread
-/// that serves it ends, or its door is lost.
-fn leave_call<E: Fn(u32) -> bool, I: Fn(u32) -> bool, L: Fn(u32) -> bool>(
-    alloc: Global,
-    call: &mut Call,
-    ends: &E,
-    interrupts: &I,
-    loses: &L,
-)
-    requires ends { E.IsAlwaysCallable ends.now }
-    requires interrupts { I.IsAlwaysCallable interrupts.now }
-    requires loses { L.IsAlwaysCallable loses.now }
-    ensures { (who : Leaving) → AnswersAs (E.post ends.now) who.ends → AnswersAs (I.post interrupts.now) who.interrupts → AnswersAs (L.post loses.now) who.loses → call.new ≡ left_call who call.old }
-{
-    let caller = call.caller.0;
-    if holds(ends, caller) {
-        match call.stage {
-            CallStage::Entered { .. } => abandon(alloc, call, CallStage::Gone),
-            CallStage::Answered { .. } | CallStage::Gone => {}
-            _ => end(alloc, call, CallStage::Gone),
-        }
-        return;
-    }
-    match call.stage {
-        CallStage::Queued => {
-            if holds(interrupts, caller) {
-                end(alloc, call, ended(Errno::EINTR));
-            } else if holds(loses, call.door) {
-                end(alloc, call, ended(Errno::EBADF));
-            }
-        }
-        CallStage::Given { to } => {
-            if holds(interrupts, caller) || holds(ends, to.0) {
-                end(alloc, call, ended(Errno::EINTR));
-            }
-        }
-        CallStage::Entered { by } => {
-            if holds(interrupts, caller) {
-                abandon(alloc, call, ended(Errno::EINTR));
-            } else if holds(ends, by.0) {
-                end(alloc, call, ended(Errno::EINTR));
-            }
-        }
-        _ => {}
+    match stage {
+        CallStage::Given { to } => Some(*to),
+        _ => None,
     }
 }
 
-/// What becomes of all calls.
-pub fn leave_all<E: Fn(u32) -> bool, I: Fn(u32) -> bool, L: Fn(u32) -> bool>(
-    alloc: Global,
-    calls: &mut [Call],
-    ends: E,
-    interrupts: I,
-    loses: L,
-)
-    requires ends { E.IsAlwaysCallable ends }
-    requires interrupts { I.IsAlwaysCallable interrupts }
-    requires loses { L.IsAlwaysCallable loses }
-    ensures { (who : Leaving) → AnswersAs (E.post ends) who.ends → AnswersAs (I.post interrupts) who.interrupts → AnswersAs (L.post loses) who.loses → calls.new ≡ map (left_call who) calls.old }
+/// The thread that is in a call, unless the door has DOOR_NO_CANCEL.
+pub fn cancelled_in(call: &Call) -> Option<Tid>
+    ensures { option_map (λ t. t.0) result ≡ cancelled_at call.now.no_cancel call.now.stage }
 {
-    for call in calls.iter_mut() {
-        leave_call(alloc, call, &ends, &interrupts, &loses);
+    match &call.stage {
+        CallStage::Entered { by } if !call.no_cancel => Some(*by),
+        _ => None,
     }
 }
 
-/// The calls that are answered, or whose callers ended, are taken out.
-pub fn keep_live(calls: &mut Vec<Call>)
-    ensures items { calls.new.items ≡ filter is_live_call calls.old.items }
-    ensures live { AreLive calls.new.items }
-    ensures fewer { vec_len calls.new ≤ vec_len calls.old }
-    ensures capacity { vec_capacity calls.new ≡ vec_capacity calls.old }
+/// What the caller of a call at this stage is told, which had room for so many bytes.
+fn outcome_at(stage: CallStage, rsize: u64) -> Outcome
+    requires { is_to_collect stage ≡ true }
+    ensures { outcome_at rsize stage ≡ Some result }
 {
-    calls.retain(|call| is_live_call(call));
+    match stage {
+        CallStage::Returned { bytes, objects } => {
+            let grown = bytes.len() as u64 > rsize;
+            Outcome::Results {
+                bytes,
+                objects,
+                grown,
+            }
+        }
+        CallStage::Ended { error } => Outcome::Ended(error),
+        _ => Outcome::Ended(Errno::EINTR),
+    }
+}
+
+/// What the caller of a call is told.
+pub fn outcome(call: Call) -> Outcome
+    requires { is_to_collect call.stage ≡ true }
+    ensures { outcome_at call.rsize call.stage ≡ Some result }
+{
+    outcome_at(call.stage, call.rsize)
+}
+
+/// The objects of a call's results, or else those of its arguments.
+fn held_at(stage: CallStage, arguments: ObjList) -> ObjList
+    ensures { result ≡ held_at stage arguments }
+{
+    match stage {
+        CallStage::Returned { objects, .. } => objects,
+        _ => arguments,
+    }
+}
+
+/// A call leaves with its caller. What was in transit with it is handed out.
+fn forget(index: &mut CallIndex, key: usize) -> ObjList
+    requires { HasKey index.old.entries key }
+    ensures single { AreSingle index.old.entries }
+    ensures after { index.new ≡ record { made = index.old.made; entries = without_key key index.old.entries; spare = index.new.spare } }
+    ensures objects { (call : Call) → look key index.old.entries ≡ Some call → result ≡ dropped_at Finished call.stage call.objects }
+    ensures spare { index.old.spare ≤ index.new.spare }
+{
+    let call = index.remove(key);
+    held_at(call.stage, call.objects)
+}
+
+/// The caller of a call is interrupted. What is no longer in transit with it is handed out.
+fn interrupt(alloc: Global, index: &mut CallIndex, key: usize) -> ObjList
+    requires { HasKey index.old.entries key }
+    ensures single { AreSingle index.old.entries }
+    ensures after { (call : Call) → look key index.old.entries ≡ Some call → index.new ≡ record index.old { entries = with_call key (broken_call_at (interruption call.caller.0) call.stage call) index.old.entries } }
+    ensures objects { (call : Call) → look key index.old.entries ≡ Some call → result ≡ dropped_at Interrupted call.stage call.objects }
+{
+    let call = index.at(key);
+    if !is_open(&call.stage) {
+        return ObjList::new(alloc);
+    }
+    let abandoned = is_entered(&call.stage);
+    let ended = CallStage::Ended {
+        error: Errno::EINTR,
+    };
+    index.end(alloc, key, ended, abandoned).objects
+}
+
+/// A caller leaves its call. What is no longer in transit with it is handed out.
+pub fn leave(alloc: Global, index: &mut CallIndex, key: usize, why: Leave) -> ObjList
+    requires { HasKey index.old.entries key }
+    ensures made { index.new.made ≡ index.old.made }
+    ensures calls { (call : Call) → look key index.old.entries ≡ Some call → calls_in index.new.entries ≡ filter is_live_call (calls_in (with_call key (left_call (leaving_for why call.caller.0) call) index.old.entries)) }
+    ensures objects { (call : Call) → look key index.old.entries ≡ Some call → result ≡ dropped_at why call.stage call.objects }
+    ensures spare { index.old.spare ≤ index.new.spare }
+{
+    match why {
+        Leave::Interrupted => interrupt(alloc, index, key),
+        Leave::Finished => forget(index, key),
+    }
 }

@@ -2,7 +2,8 @@
 #![tactic(auto)]
 
 pub mod calls;
-mod change;
+mod index;
+pub mod laws;
 mod leave;
+pub mod parts;
 pub mod stage;
-mod walks;
