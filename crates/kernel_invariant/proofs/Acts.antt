@@ -1,6 +1,6 @@
 -- What an act keeps and which arrows calls take by it; the acts that touch no call.
 use Rattle.std.specs.Prelude.{ℕ, ◌≡◌, ◌+◌, List, [], ◌∷◌, Option, Bool, true, false, Some, None, find, length, is_none, is_some, unwrap_or}
-use Rattle.std.proofs.Common.{refl, subst}
+use Rattle.std.proofs.Common.{ap, refl, subst}
 use native.Mathlib.Omega.{arith}
 use Rattle.std.proofs.lemmas.Bool.Decides.{nat_tests}
 use Rattle.kernel_records.proofs.NumberedLists.{find-found}
@@ -19,13 +19,13 @@ use Rattle.kernel_invariant.specs.Arrows.{ByAct, NoticeByAct}
 use Rattle.kernel_invariant.specs.Arrows.ByAct.{stays}
 use Rattle.kernel_invariant.specs.Arrows.NoticeByAct.{stays as notice_stays}
 use Rattle.written_kernel.proofs.Doors.{at_number-change_door}
-use Rattle.kernel_records.proofs.Lists.{numbered_push, at_number-with_at_number, numbered_past, numbered_there, numbered_within}
+use Rattle.kernel_records.proofs.Lists.{numbered_push, at_number-with_at_number, length-with_at_number, numbered_past, numbered_there, numbered_within}
 use Rattle.kernel_invariant.proofs.Later.{by_act_later, notice_by_act_later}
 use Rattle.kernel_invariant.proofs.Cores.{Turns, at_one, set_thread_state-turns, upd}
 use Rattle.kernel_invariant.proofs.Consistent.{AreTables, act_consistent, after_act, beside_consistent, call_consistent, calls_counted, change-call, changed_tree, not_ended, notices_counted, own_tables, same_tables, there, thread_consistent}
 use Rattle.written_kernel.proofs.Moves.{is_quiet}
 use Rattle.kernel_invariant.proofs.DoorMoves.{IsSameButLimits, door_keeps, limits_keep}
-use Rattle.kernel_invariant.proofs.Parts.{role_keeps}
+use Rattle.kernel_invariant.proofs.Parts.{is_free, role_keeps}
 
 -- an act makes no notice, and each notice keeps its door
 pub record KeepsNotices (list after : NoticeList) : Type 0 where
@@ -89,7 +89,7 @@ turned_to m t q s a h e f u =
 pub names_does : (m : State) (t : ℕ) (q : Option Request) (names : List Name) (a : Answer) → IsConsistent m → Does m t q (act_result (record m { names = names }) a)
 names_does m t q names a h =
     record {
-      consistent = beside_consistent m m.doors m.bindings names m.events h h.coherent;
+      consistent = beside_consistent m m.doors m.bindings names m.events h h.places h.coherent;
       arrows = λ c. stays;
       notices = λ c. notice_stays;
       kept = same_list m.notice_list;
@@ -97,22 +97,39 @@ names_does m t q names a h =
 
 -- bindings
 
--- to a private door of the thread's process, or to none
+-- to a private door of the thread's process, or to none, where the thread waits for no item
 rebind_keeps :
-    (m : State) (t : ℕ) (o : Option ℕ) → IsConsistent m →
+    (m : State) (t : ℕ) (o : Option ℕ) → IsConsistent m → is_free (state_of m t) ≡ true →
     ((d : ℕ) → o ≡ Some d → (owner_in (door_of m d) ≡ Some (process_of m t)) × (is_private_in (door_of m d) ≡ true)) →
     IsConsistent (record m { bindings = with_at_number m.bindings t o })
-rebind_keeps m t o h own =
-    beside_consistent m m.doors (with_at_number m.bindings t o) m.names m.events h
+rebind_keeps m t o h free own =
+    beside_consistent m m.doors (with_at_number m.bindings t o) m.names m.events h (omega (arith, length-with_at_number m.bindings t o, h.places))
     (record {
       waits = h.coherent.waits;
       invocations = h.coherent.invocations;
       notices_given = h.coherent.notices_given;
       notices_entered = h.coherent.notices_entered;
-      notices_at_doors = h.coherent.notices_at_doors;
+      notices_at_doors =
+          record {
+            notice_door = h.coherent.notices_at_doors.notice_door;
+            notice_valid = h.coherent.notices_at_doors.notice_valid;
+            notice_given_owner = h.coherent.notices_at_doors.notice_given_owner;
+            notice_given_bound =
+                λ c u e. grind (arith, nat_tests, at_number-with_at_number m.bindings t u o, h.coherent.notices_at_doors.notice_given_bound c u, h.coherent.notices_given.notice_given c u);
+            notice_entered_owner = h.coherent.notices_at_doors.notice_entered_owner;
+          };
       servers = h.coherent.servers;
       calls = h.coherent.calls;
-      at_doors = h.coherent.at_doors;
+      at_doors =
+          record {
+            door_there = h.coherent.at_doors.door_there;
+            no_cancel = h.coherent.at_doors.no_cancel;
+            waiting_valid = h.coherent.at_doors.waiting_valid;
+            given_owner = h.coherent.at_doors.given_owner;
+            given_bound =
+                λ c u e. grind (arith, nat_tests, at_number-with_at_number m.bindings t u o, h.coherent.at_doors.given_bound c u, h.coherent.waits.given c u);
+            entered_owner = h.coherent.at_doors.entered_owner;
+          };
       doors = h.coherent.doors;
       bindings =
           record {
@@ -127,20 +144,23 @@ rebind_keeps m t o h own =
     })
 
 -- a thread is bound to no door
-pub unbound_keeps : (m : State) (t : ℕ) → IsConsistent m → IsConsistent (record m { bindings = unbind_thread m.bindings t })
-unbound_keeps m t h = rebind_keeps m t None h (λ d e. absurd (grind arith))
+pub unbound_keeps :
+    (m : State) (t : ℕ) → IsConsistent m → is_free (state_of m t) ≡ true → IsConsistent (record m { bindings = unbind_thread m.bindings t })
+unbound_keeps m t h f = rebind_keeps m t None h f (λ d e. absurd (grind arith))
 
 rebind_does :
-    (m : State) (t : ℕ) (q : Option Request) (o : Option ℕ) (a : Answer) → IsConsistent m →
+    (m : State) (t : ℕ) (q : Option Request) (o : Option ℕ) (a : Answer) → IsConsistent m → is_free (state_of m t) ≡ true →
     ((d : ℕ) → o ≡ Some d → (owner_in (door_of m d) ≡ Some (process_of m t)) × (is_private_in (door_of m d) ≡ true)) →
     Does m t q (act_result (record m { bindings = with_at_number m.bindings t o }) a)
-rebind_does m t q o a h own = record { consistent = rebind_keeps m t o h own; arrows = λ c. stays; notices = λ c. notice_stays; kept = same_list m.notice_list }
+rebind_does m t q o a h f own = record { consistent = rebind_keeps m t o h f own; arrows = λ c. stays; notices = λ c. notice_stays; kept = same_list m.notice_list }
 
 -- what an act does, of which its thread is unbound too
-pub unbound_does : (m : State) (t : ℕ) (q : Option Request) (n : State) (a : Answer) → Does m t q (act_result n a) → Does m t q (act_result (record n { bindings = unbind_thread n.bindings t }) a)
-unbound_does m t q n a d =
+pub unbound_does :
+    (m : State) (t : ℕ) (q : Option Request) (n : State) (a : Answer) → is_free (state_of n t) ≡ true → Does m t q (act_result n a) →
+    Does m t q (act_result (record n { bindings = unbind_thread n.bindings t }) a)
+unbound_does m t q n a f d =
     record {
-      consistent = unbound_keeps n t d.consistent;
+      consistent = unbound_keeps n t d.consistent f;
       arrows = λ c. by_act_later m t q a n (record n { bindings = unbind_thread n.bindings t }) _ _ (λ e. refl) (record { after = λ u e. e; before = λ u e. e }) (d.arrows c);
       notices =
           λ c. notice_by_act_later m t q a n (record n { bindings = unbind_thread n.bindings t }) _ _
@@ -153,16 +173,16 @@ bindable :
 bindable p o f = (grind (arith, nat_tests), grind (arith, nat_tests))
 
 pub bind_does :
-    (m : State) (t : ℕ) (q : Option Request) (fd : Fd) → IsConsistent m →
+    (m : State) (t : ℕ) (q : Option Request) (fd : Fd) → IsConsistent m → state_of m t ≡ is.Running →
     first_refusal (binding_tests m (process_of m t) fd) ≡ None → Does m t q (bind m t (process_of m t) fd)
-bind_does m t q fd h f =
-    rebind_does m t q (Some (door_at m (process_of m t) fd)) _ h
+bind_does m t q fd h r f =
+    rebind_does m t q (Some (door_at m (process_of m t) fd)) _ h (ap is_free r)
     (λ d e. let same : door_at m (process_of m t) fd ≡ d = cc in
     subst (λ (k : ℕ). (owner_in (door_of m k) ≡ Some (process_of m t)) × (is_private_in (door_of m k) ≡ true)) same
     (bindable (process_of m t) (door_of m (door_at m (process_of m t) fd)) f))
 
-pub unbind_does : (m : State) (t : ℕ) (q : Option Request) → IsConsistent m → Does m t q (unbind m t)
-unbind_does m t q h = rebind_does m t q None _ h (λ d e. absurd (grind arith))
+pub unbind_does : (m : State) (t : ℕ) (q : Option Request) → IsConsistent m → state_of m t ≡ is.Running → Does m t q (unbind m t)
+unbind_does m t q h r = rebind_does m t q None _ h (ap is_free r) (λ d e. absurd (grind arith))
 
 -- the thread's process has another table
 
@@ -170,7 +190,7 @@ with_table_of_keeps :
     (m : State) (t : ℕ) (table : List (Option Obj)) → IsConsistent m → state_of m t ≡ is.Running →
     IsConsistent (with_table_of m (process_of m t) table)
 with_table_of_keeps m t table h e =
-    act_consistent m m.process_table _ m.call_tree m.notice_list (own_tables m t table h (λ z. grind arith)) refl (calls_counted h) (notices_counted h) h.coherent
+    act_consistent m m.process_table _ m.call_tree m.notice_list (own_tables m t table h (λ z. grind arith)) refl (calls_counted h) (notices_counted h) h.places h.coherent
 
 pub rows_does :
     (m : State) (t : ℕ) (q : Option Request) (table : List (Option Obj)) (a : Answer) → IsConsistent m → state_of m t ≡ is.Running →
@@ -189,7 +209,7 @@ pub set_param_does :
 set_param_does m t q d x value a h =
     record {
       consistent =
-          beside_consistent m (set_param m.doors d x value) m.bindings m.names m.events h
+          beside_consistent m (set_param m.doors d x value) m.bindings m.names m.events h h.places
           (limits_keep (core m) d (with_param x value) _ h.coherent (same_but_limits x value) (λ e. at_number-change_door m.doors d e (with_param x value)));
       arrows = λ c. stays;
       notices = λ c. notice_stays;
@@ -234,6 +254,6 @@ create_does m t q entry cookie attrs h e f =
 
     made : IsConsistent n
     made =
-        beside_consistent m (with_door m.doors (process_of m t) entry cookie attrs) m.bindings m.names m.events h
+        beside_consistent m (with_door m.doors (process_of m t) entry cookie attrs) m.bindings m.names m.events h h.places
         (door_keeps (core m) d _ h.coherent (numbered_past m.doors d.number (grind arith)) (grind (arith, creator_lives m t attrs h e f))
         (numbered_push m.doors d))

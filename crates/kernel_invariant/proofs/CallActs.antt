@@ -55,7 +55,7 @@ call_does m t rsize fd bytes pass h e f =
     record {
       consistent =
           act_consistent m _ _ (open_call m.call_tree r) m.notice_list (own_tables m t _ h (λ z. grind arith)) turns.processes
-          (push_counted r (calls_counted h) refl) (notices_counted h)
+          (push_counted r (calls_counted h) refl) (notices_counted h) (omega (arith, turns.length, h.places))
           (subst IsCoherent (sym (act-core m _ (open_call m.call_tree r) m.notice_list t _ _ _ _ turns found (λ n. refl) (λ n. refl)))
           (call_keeps (core m) t r h.coherent
           (record { running = e; number = refl; caller = refl; kept = refl; queued = refl; no_cancel = refl; valid = valid })));
@@ -272,7 +272,7 @@ module _ (m : State) (t : ℕ) (bytes : List ℕ) (pass : List Pass) (h : IsCons
 
   pub unbound_return_does : has_invalid_door m t ≡ true → Does m t (Some (request.Return bytes pass)) (return_unbound m t (process_of m t) bytes pass)
   unbound_return_does f =
-      unbound_does m t _ _ (answer.Failure EINVAL)
+      unbound_does m t _ _ (answer.Failure EINVAL) (grind (arith, nat_tests, (end_invocation-turns m.process_table t e).role t))
       (return_turns (end_invocation m.process_table t) is.Running (answer.Failure EINVAL) refl
       (sym (ap (λ (b : Bool). if b then answer.Failure EINVAL else answer.Wait) f)) (end_invocation-turns m.process_table t e))
 

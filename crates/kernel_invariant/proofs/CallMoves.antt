@@ -11,7 +11,7 @@ use Rattle.kernel_records.specs.declared.record.CallStage.TheVariants as stage
 use Rattle.kernel_records.specs.Words.{at_stage, is_to_collect, is_valid_in, new_invocation, no_cancel_of, tid, without_arguments_at}
 use Rattle.kernel_invariant.specs.Records.{item_in, owner_in}
 use Rattle.kernel_invariant.specs.Core.{Core, abandoned_in}
-use Rattle.kernel_invariant.specs.Coherent.{IsCoherent}
+use Rattle.kernel_invariant.specs.Coherent.{IsCoherent, bound_for}
 use Rattle.kernel_invariant.proofs.Cores.{set_role, set_serves, set_call, set_new_call}
 use Rattle.kernel_invariant.proofs.Parts.{at_doors_move, at_doors_set, built_turn, calls_move, calls_set, notices_serve, notices_turn, processes_turn, servers_move, servers_turn, waits_turn}
 
@@ -62,6 +62,7 @@ call_keeps k t r h p =
           };
       at_doors =
           at_doors_set r.number r h.at_doors (grind (arith, p.valid)) p.no_cancel (λ e. p.valid) (λ u e. grind (arith, p.queued))
+          (λ u e. grind (arith, p.queued))
           (λ u e. grind (arith, p.queued));
       doors = h.doors;
       bindings = h.bindings;
@@ -70,7 +71,7 @@ call_keeps k t r h p =
       has_built_state = built_turn t _ h refl;
     }
 
--- a waiting call is given to an idle thread of the process that made its door
+-- a waiting call is given to an idle thread of its door's pool
 abbrev pub given_core : Core → Call → ℕ → Core
 given_core k r u = set_role (set_call k r.number (at_stage (stage.Given (tid u)) r)) u (is.Given (item.Call r.number))
 
@@ -80,6 +81,7 @@ pub record Gives (k : Core) (r : Call) (u : ℕ) : Type 0 where
   pub found : k.call r.number ≡ Some r
   pub queued : r.stage ≡ stage.Queued
   pub owner : owner_in (k.door r.door) ≡ Some (k.process u)
+  pub bound : k.bound u ≡ bound_for r.door (k.door r.door)
 
 pub give_keeps : (k : Core) (r : Call) (u : ℕ) → IsCoherent k → Gives k r u → IsCoherent (given_core k r u)
 give_keeps k r u h p =
@@ -105,7 +107,7 @@ give_keeps k r u h p =
       calls = calls_set r _ h.calls p.found refl (λ e. grind arith);
       at_doors =
           at_doors_set r.number _ h.at_doors (h.at_doors.door_there r.number r p.found) (h.at_doors.no_cancel r.number r p.found)
-          (λ e. grind arith) (λ v e. grind (arith, p.owner)) (λ v e. grind arith);
+          (λ e. grind arith) (λ v e. grind (arith, p.owner)) (λ v e. grind (arith, p.bound)) (λ v e. grind arith);
       doors = h.doors;
       bindings = h.bindings;
       processes = processes_turn u _ h.processes (grind (arith, p.idle));
@@ -145,6 +147,7 @@ enter_keeps k t r h q g =
       calls = calls_move r _ h.calls q;
       at_doors =
           at_doors_set r.number _ h.at_doors (h.at_doors.door_there r.number r q) (h.at_doors.no_cancel r.number r q) (λ e. grind arith)
+          (λ u e. grind arith)
           (λ u e. grind arith)
           (λ u e. grind (arith, h.at_doors.given_owner r.number t, h.waits.given_back r.number t));
       doors = h.doors;

@@ -1,5 +1,5 @@
 -- Which changes of a state keep that it is consistent, but for what holds of its core.
-use Rattle.std.specs.Prelude.{ℕ, ◌≡◌, ◌+◌, List, [], ◌∷◌, ◌++◌, Option, Bool, true, false, Some, None, find, length}
+use Rattle.std.specs.Prelude.{ℕ, ◌≡◌, ◌≤◌, ◌+◌, List, [], ◌∷◌, ◌++◌, Option, Bool, true, false, Some, None, find, length}
 use Rattle.std.proofs.Common.{refl, sym, ap, subst, ◌∙◌, length-append}
 use native.Mathlib.Omega.{arith}
 use Rattle.std.proofs.lemmas.Bool.Decides.{nat_tests}
@@ -78,9 +78,9 @@ after_act m table tables tree list = record m { process_table = table; tables = 
 pub act_consistent :
     (m : State) (table : ProcessTable) (tables : List (List (Option Obj))) (tree : CallTree) (list : NoticeList) → AreTables m tables →
     table.processes ≡ m.process_table.processes → AreCounted call_number tree.calls tree.made →
-    AreCounted notice_number list.notices list.made → IsCoherent (core (after_act m table tables tree list)) →
-    IsConsistent (after_act m table tables tree list)
-act_consistent m table tables tree list rows p calls notices k =
+    AreCounted notice_number list.notices list.made → length table.threads ≤ length m.bindings →
+    IsCoherent (core (after_act m table tables tree list)) → IsConsistent (after_act m table tables tree list)
+act_consistent m table tables tree list rows p calls notices places k =
     record {
       in_order = calls.in_order;
       counted = calls.counted;
@@ -89,14 +89,16 @@ act_consistent m table tables tree list rows p calls notices k =
       no_rows = λ q fd f. rows.no_rows q fd (ap (λ xs. ended_in (at_number xs q)) (sym p) ∙ f);
       notices_in_order = notices.in_order;
       notices_counted = notices.counted;
+      places = places;
     }
 
 -- a change of the rest
 pub beside_consistent :
     (m : State) (doors : List Door) (bindings : List (Option ℕ)) (names : List Name) (events : ℕ) → IsConsistent m →
+    length m.process_table.threads ≤ length bindings →
     IsCoherent (core (record m { doors = doors; bindings = bindings; names = names; events = events })) →
     IsConsistent (record m { doors = doors; bindings = bindings; names = names; events = events })
-beside_consistent m doors bindings names events h k =
+beside_consistent m doors bindings names events h places k =
     record {
       in_order = h.in_order;
       counted = h.counted;
@@ -105,6 +107,7 @@ beside_consistent m doors bindings names events h k =
       no_rows = h.no_rows;
       notices_in_order = h.notices_in_order;
       notices_counted = h.notices_counted;
+      places = places;
     }
 
 -- a change of a thread and tables
@@ -114,7 +117,7 @@ pub thread_consistent :
     IsCoherent (record (core m) { role = upd (core m).role t s; serves = serves }) →
     IsConsistent (after_act m table tables m.call_tree m.notice_list)
 thread_consistent m t table tables s serves h rows g k =
-    act_consistent m table tables m.call_tree m.notice_list rows g.processes (calls_counted h) (notices_counted h)
+    act_consistent m table tables m.call_tree m.notice_list rows g.processes (calls_counted h) (notices_counted h) (omega (arith, g.length, h.places))
     (subst IsCoherent (sym (act-core m table m.call_tree m.notice_list t s serves _ _ g (λ c. refl) (λ n. refl) (λ n. refl))) k)
 
 -- a change of a thread, tables, and the call that a test finds
@@ -135,7 +138,7 @@ module _ (test : Call → Bool) (change : Call → Call) (same : (r : Call) → 
       IsConsistent (after_act m table tables (changed_tree m.call_tree test change) m.notice_list)
   call_consistent t table tables s serves rows g k =
       act_consistent m table tables (changed_tree m.call_tree test change) m.notice_list rows g.processes
-      (change_counted test change same (calls_counted h)) (notices_counted h)
+      (change_counted test change same (calls_counted h)) (notices_counted h) (omega (arith, g.length, h.places))
       (subst IsCoherent
       (sym (act-core m table (changed_tree m.call_tree test change) m.notice_list t s serves _ _ g change-call (λ n. refl) (λ n. refl))) k)
 
@@ -162,7 +165,7 @@ module _ (test : Notice → Bool) (z : NoticeStage) (m : State) (x : Notice) (h 
       IsConsistent (after_act m table tables m.call_tree (moved_list m.notice_list test z))
   notice_consistent t table tables s serves rows g k =
       act_consistent m table tables m.call_tree (moved_list m.notice_list test z) rows g.processes (calls_counted h)
-      (change_counted test (notice_at z) (λ y. refl) (notices_counted h))
+      (change_counted test (notice_at z) (λ y. refl) (notices_counted h)) (omega (arith, g.length, h.places))
       (subst IsCoherent (sym (act-core m table m.call_tree (moved_list m.notice_list test z) t s serves _ _ g (λ c. refl) stages doors)) k)
     where
       stages :

@@ -1,5 +1,5 @@
 -- Each writer of a state as a change of its core.
-use Rattle.std.specs.Prelude.{ℕ, ◌≡◌, Option, Bool, true, false, ◌==◌, if◌then◌else◌, Some, None, is_some, find}
+use Rattle.std.specs.Prelude.{ℕ, ◌≡◌, Option, Bool, true, false, ◌==◌, if◌then◌else◌, Some, None, is_some, find, length}
 use Rattle.std.proofs.Common.{refl, sym, ap, subst, ◌∙◌}
 use native.Mathlib.Omega.{arith}
 use Rattle.std.proofs.lemmas.Bool.Decides.{nat_tests}
@@ -7,11 +7,12 @@ use Rattle.written_kernel.specs.Types.{Call, Inv, Item, NoticeStage, Thread, Thr
 use Rattle.kernel_records.specs.declared.record.ThreadState.TheVariants as is
 use Rattle.kernel_records.specs.Words.{CallTree, NoticeList, ProcessTable, change_thread, end_invocation, enter_thread, idle_thread, invocation_in, new_invocation, park_thread, process_in, set_thread_state, state_in, thread_at, thread_at_state, thread_in_invocation, thread_outside}
 use Rattle.dk_base.specs.ByNumber.{at_number}
+use Rattle.kernel_records.proofs.Lists.{same_length}
 use Rattle.written_kernel.specs.Words.{State}
 use Rattle.kernel_invariant.specs.Records.{has_notice_number, has_number}
 use Rattle.kernel_invariant.specs.Core.{Core, core, notice_in, noticed_door_in, number_in}
 use Rattle.written_kernel.proofs.Invocations.{invocation-enter_thread, invocation-park_thread, invocation-set_thread_state, invocation-without}
-use Rattle.written_kernel.proofs.Threads.{processes-change_thread, thread_at-change_thread}
+use Rattle.written_kernel.proofs.Threads.{map-change_thread, processes-change_thread, thread_at-change_thread}
 
 abbrev pub upd : {X : Type 0} → (ℕ → X) → ℕ → X → ℕ → X
 upd f i x j = if j == i then x else f j
@@ -48,6 +49,7 @@ pub record Turns (a b : ProcessTable) (t : ℕ) (s : ThreadState) (serves : ℕ 
   pub process : (u : ℕ) → process_in (thread_at b u) ≡ process_in (thread_at a u)
   pub number : (u : ℕ) → number_in (thread_at b u) ≡ number_in (thread_at a u)
   pub processes : b.processes ≡ a.processes
+  pub length : length b.threads ≡ length a.threads
 
 -- a thread of this number is there
 abbrev pub IsThere : ProcessTable → ℕ → Type 0
@@ -65,6 +67,7 @@ change_turns table t change s serves there state process number invocations =
       process = λ u. grind (arith, nat_tests, thread_at-change_thread table t u change, process);
       number = λ u. grind (arith, nat_tests, thread_at-change_thread table t u change, number);
       processes = processes-change_thread table t change;
+      length = same_length (λ (x : Thread). x.number) _ _ (map-change_thread (λ (x : Thread). x.number) table t change number);
     }
 
 pub set_thread_state-turns :

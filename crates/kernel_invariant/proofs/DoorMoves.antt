@@ -15,7 +15,7 @@ pub record KeepsDoors (door after : ℕ → Option Door) : Type 0 where
   pub there : (d : ℕ) → is_some (door d) ≡ true → is_some (after d) ≡ true
   pub valid : (d : ℕ) → is_valid_in (door d) ≡ true → is_valid_in (after d) ≡ true
   pub owner : (d p : ℕ) → owner_in (door d) ≡ Some p → owner_in (after d) ≡ Some p
-  pub private : (d : ℕ) → is_private_in (door d) ≡ true → is_private_in (after d) ≡ true
+  pub private : (d : ℕ) → is_some (door d) ≡ true → is_private_in (after d) ≡ is_private_in (door d)
   pub no_cancel : (d : ℕ) → is_some (door d) ≡ true → no_cancel_of (after d) ≡ no_cancel_of (door d)
 
 pub doors_keep :
@@ -32,6 +32,8 @@ doors_keep k after h s doors =
             notice_door = λ n e. s.there (k.noticed_door n) (h.notices_at_doors.notice_door n e);
             notice_valid = λ n e. s.valid (k.noticed_door n) (h.notices_at_doors.notice_valid n e);
             notice_given_owner = λ n u e. s.owner (k.noticed_door n) _ (h.notices_at_doors.notice_given_owner n u e);
+            notice_given_bound =
+                λ n u e. grind (arith, h.notices_at_doors.notice_given_bound n u, h.notices_at_doors.notice_door n, s.private (k.noticed_door n));
             notice_entered_owner = λ n u e. s.owner (k.noticed_door n) _ (h.notices_at_doors.notice_entered_owner n u e);
           };
       servers = h.servers;
@@ -42,11 +44,13 @@ doors_keep k after h s doors =
             no_cancel = λ c r e. h.at_doors.no_cancel c r e ∙ sym (s.no_cancel r.door (h.at_doors.door_there c r e));
             waiting_valid = λ c e. s.valid (door_in (k.call c)) (h.at_doors.waiting_valid c e);
             given_owner = λ c v e. s.owner (door_in (k.call c)) _ (h.at_doors.given_owner c v e);
+            given_bound =
+                λ c v e. grind (arith, h.at_doors.given_bound c v, h.at_doors.door_there c, s.private (door_in (k.call c)));
             entered_owner = λ c v e. s.owner (door_in (k.call c)) _ (h.at_doors.entered_owner c v e);
           };
       doors = doors;
       bindings =
-          record { bound_own = λ v d e. s.owner d _ (h.bindings.bound_own v d e); bound_private = λ v d e. s.private d (h.bindings.bound_private v d e) };
+          record { bound_own = λ v d e. s.owner d _ (h.bindings.bound_own v d e); bound_private = λ v d e. grind (arith, s.private d, h.bindings.bound_private v d e) };
       processes = h.processes;
       threads = h.threads;
       has_built_state = h.has_built_state;

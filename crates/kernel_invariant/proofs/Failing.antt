@@ -42,6 +42,7 @@ module _ (m : State) (t : ℕ) (since : ℕ) (e : state_of m t ≡ is.Idle since
       unbound_keeps (with_state m t is.FailedReturn) t
       (thread_consistent m t _ m.tables is.FailedReturn _ h (same_tables m h) fail-turns
       (role_keeps (core m) t is.FailedReturn h.coherent (grind arith) refl refl (λ f. h.coherent.servers.outside t (ap is_outside e))))
+      (grind (arith, nat_tests, fail-turns.role t))
 
 -- a thread that failed is told EINVAL, and goes on
 pub wake_does : (m : State) (t : ℕ) (q : Option Request) → IsConsistent m → state_of m t ≡ is.FailedReturn → Does m t q (wake m t)

@@ -318,7 +318,7 @@ module _ (k : Core) (who : Leaving) (now : ℕ) (l : Core) (h : IsCoherent k) (p
             grind (arith, p.notice n, w.item, w.stays, h.notices_entered.notice_entered_back n u);
       }
 
-  left_notices_at_doors : AreNoticesAtDoors l.notice l.noticed_door l.door l.process
+  left_notices_at_doors : AreNoticesAtDoors l.notice l.noticed_door l.door l.process l.bound
   left_notices_at_doors =
       record {
         notice_door = λ n e. grind (arith, p.notice n, p.noticed_door n, p.door_there (k.noticed_door n), h.notices_at_doors.notice_door n);
@@ -326,6 +326,8 @@ module _ (k : Core) (who : Leaving) (now : ℕ) (l : Core) (h : IsCoherent k) (p
             λ n e. grind (arith, p.notice n, p.noticed_door n, p.door_valid (k.noticed_door n), h.notices_at_doors.notice_valid n);
         notice_given_owner =
             λ n u e. grind (arith, p.notice n, p.noticed_door n, p.process u, p.door_owner (k.noticed_door n), h.notices_at_doors.notice_given_owner n u);
+        notice_given_bound =
+            λ n u e. grind (arith, p.notice n, p.noticed_door n, p.bound u, p.door_private (k.noticed_door n), h.notices_at_doors.notice_given_bound n u);
         notice_entered_owner =
             λ n u e. grind (arith, p.notice n, p.noticed_door n, p.process u, p.door_owner (k.noticed_door n), h.notices_at_doors.notice_entered_owner n u);
       }
@@ -351,7 +353,7 @@ module _ (k : Core) (who : Leaving) (now : ℕ) (l : Core) (h : IsCoherent k) (p
         unmade = λ c e. grind (arith, p.call c, p.made, h.calls.unmade c);
       }
 
-  left_at_doors : AreAtDoors l.call l.door l.process
+  left_at_doors : AreAtDoors l.call l.door l.process l.bound
   left_at_doors =
       record {
         door_there = λ c x e. grind (arith, p.call c, p.door_there x.door, h.at_doors.door_there c, left_door who);
@@ -359,6 +361,8 @@ module _ (k : Core) (who : Leaving) (now : ℕ) (l : Core) (h : IsCoherent k) (p
         waiting_valid = λ c e. waiting c (k.call c) refl e;
         given_owner =
             λ c u e. grind (arith, p.call c, p.process u, p.door_owner (door_in (k.call c)), h.at_doors.given_owner c u (given_before c u e), left_door who);
+        given_bound =
+            λ c u e. grind (arith, p.call c, p.bound u, p.door_private (door_in (k.call c)), h.at_doors.given_bound c u (given_before c u e), left_door who);
         entered_owner =
             λ c u e. grind (arith, p.call c, p.process u, p.door_owner (door_in (k.call c)), h.at_doors.entered_owner c u, left_door who, was_entered who u);
       }

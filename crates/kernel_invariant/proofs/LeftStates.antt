@@ -254,6 +254,7 @@ module _ (m : State) (q : Option Request) (who : Leaving) (processes : List Proc
           no_rows = may.no_rows;
           notices_in_order = counted-map notice_number (left_notice who) left_notice_number m.notice_list.notices 0 h.notices_in_order;
           notices_counted = length-map m.notice_list.notices (left_notice who) ∙ h.notices_counted;
+          places = omega (arith, length-map m.process_table.threads (left_thread_of who (now m) m.call_tree.calls), h.places);
         }
 
     ends_now : (u : ℕ) → who.ends u ≡ true → (state_of m u ≡ is.Done → ⊥) → EndsNow m after u

@@ -9,7 +9,7 @@ use Rattle.kernel_records.specs.declared.record.ThreadState.TheVariants as is
 use Rattle.kernel_records.specs.declared.record.NoticeStage.TheVariants as notice
 use Rattle.kernel_records.specs.Words.{is_valid_in, new_invocation, tid}
 use Rattle.kernel_invariant.specs.Core.{Core}
-use Rattle.kernel_invariant.specs.Coherent.{IsCoherent}
+use Rattle.kernel_invariant.specs.Coherent.{IsCoherent, bound_for}
 use Rattle.kernel_invariant.specs.Records.{owner_in}
 use Rattle.kernel_invariant.proofs.Cores.{set_role, set_serves, upd}
 use Rattle.kernel_invariant.proofs.CallMoves.{is_after_return}
@@ -42,6 +42,7 @@ make_notice_keeps k n d notices doors h p v s o =
             notice_door = λ c e. grind (arith, nat_tests, s c, o c, h.notices_at_doors.notice_door c);
             notice_valid = λ c e. grind (arith, nat_tests, s c, o c, h.notices_at_doors.notice_valid c);
             notice_given_owner = λ c u e. grind (arith, nat_tests, s c, o c, h.notices_at_doors.notice_given_owner c u);
+            notice_given_bound = λ c u e. grind (arith, nat_tests, s c, o c, h.notices_at_doors.notice_given_bound c u);
             notice_entered_owner = λ c u e. grind (arith, nat_tests, s c, o c, h.notices_at_doors.notice_entered_owner c u);
           };
       servers = h.servers;
@@ -54,7 +55,7 @@ make_notice_keeps k n d notices doors h p v s o =
       has_built_state = h.has_built_state;
     }
 
--- a waiting notice is given to an idle thread of the process that made its door
+-- a waiting notice is given to an idle thread of its door's pool
 abbrev pub given_notice_core : Core → ℕ → ℕ → Core
 given_notice_core k n u = set_role (set_notice k n (notice.Given (tid u))) u (is.Given (item.Notice n))
 
@@ -63,6 +64,7 @@ pub record GivesNotice (k : Core) (n u : ℕ) : Type 0 where
   pub idle : k.role u ≡ is.Idle since
   pub waiting : k.notice n ≡ Some notice.Waiting
   pub owner : owner_in (k.door (k.noticed_door n)) ≡ Some (k.process u)
+  pub bound : k.bound u ≡ bound_for (k.noticed_door n) (k.door (k.noticed_door n))
 
 pub give_notice_keeps : (k : Core) (n u : ℕ) → IsCoherent k → GivesNotice k n u → IsCoherent (given_notice_core k n u)
 give_notice_keeps k n u h p =
@@ -81,7 +83,7 @@ give_notice_keeps k n u h p =
           };
       notices_at_doors =
           notices_at_doors_move n _ h.notices_at_doors (grind (arith, p.waiting)) (λ e. grind arith) (λ v e. grind (arith, p.owner))
-          (λ v e. grind arith);
+          (λ v e. grind (arith, p.bound)) (λ v e. grind arith);
       servers = servers_turn u _ h.servers (λ e. h.servers.outside u (grind (arith, p.idle))) refl;
       calls = h.calls;
       at_doors = h.at_doors;
@@ -123,6 +125,7 @@ enter_notice_keeps k t n h g =
       notices_at_doors =
           notices_at_doors_move n _ h.notices_at_doors (grind (arith, h.notices_given.notice_given_back n t)) (λ e. grind arith)
           (λ u e. grind arith)
+          (λ u e. grind arith)
           (λ u e. grind (arith, h.notices_at_doors.notice_given_owner n t, h.notices_given.notice_given_back n t));
       servers = servers_move t _ _ h.servers (λ e. grind arith) refl (λ c e. grind arith);
       calls = h.calls;
@@ -162,7 +165,8 @@ end_notice_keeps k t n s h p w i =
             notice_entered_back = λ c v e. grind (arith, nat_tests, h.notices_entered.notice_entered_back c v);
           };
       notices_at_doors =
-          notices_at_doors_move n _ h.notices_at_doors (grind arith) (λ e. grind arith) (λ u e. grind arith) (λ u e. grind arith);
+          notices_at_doors_move n _ h.notices_at_doors (grind arith) (λ e. grind arith) (λ u e. grind arith) (λ u e. grind arith)
+          (λ u e. grind arith);
       servers = servers_move t _ None h.servers (λ e. refl) (grind arith) (λ c e. grind arith);
       calls = h.calls;
       at_doors = h.at_doors;

@@ -1,9 +1,11 @@
 -- An opening state meets the invariant.
-use Rattle.std.specs.Prelude.{ℕ, ◌≡◌, Bool, true, false, Some, None, is_some, length, All}
+use Rattle.std.specs.Prelude.{ℕ, ◌≡◌, ◌≤◌, List, Option, Bool, true, false, Some, None, is_some, length, All}
 use Rattle.std.proofs.Common.{refl, sym, ap, subst, ⊎_elim}
 use native.Mathlib.Omega.{arith}
 use Rattle.std.proofs.lemmas.Bool.Decides.{nat_tests}
 use Rattle.std.proofs.lemmas.List.Elements.{All-nil}
+use Rattle.std.proofs.lemmas.List.{length-replicate}
+use Rattle.dk_base.specs.declared.limits.TheConstants.{THREADS_MAX}
 use Rattle.written_kernel.specs.Types.{ThreadState}
 use Rattle.kernel_records.specs.declared.record.ThreadState.TheVariants as is
 use Rattle.dk_base.specs.ByNumber.{at_number}
@@ -51,6 +53,7 @@ coherent_of k calls doors notices states outside numbers unbound living there =
             notice_door = λ n e. grind (arith, notices n);
             notice_valid = λ n e. grind (arith, notices n);
             notice_given_owner = λ n v e. grind (arith, notices n);
+            notice_given_bound = λ n v e. grind (arith, notices n);
             notice_entered_owner = λ n v e. grind (arith, notices n);
           };
       servers =
@@ -71,6 +74,7 @@ coherent_of k calls doors notices states outside numbers unbound living there =
             no_cancel = λ c x e. grind (arith, calls c);
             waiting_valid = λ c e. grind (arith, calls c);
             given_owner = λ c v e. grind (arith, calls c);
+            given_bound = λ c v e. grind (arith, calls c);
             entered_owner = λ c v e. grind (arith, calls c);
           };
       doors = record { door_number = λ d x e. grind (arith, doors d); owner_ended = λ d x e. grind (arith, doors d) };
@@ -116,6 +120,9 @@ module _ (m : State) (o : IsOpening m) where
               no_rows = λ p fd e. object_at-opening o p fd;
               notices_in_order = subst (λ (list : NoticeList). IsCounted notice_number 0 list.notices) (sym (opened o).notice_list) tt;
               notices_counted = subst (λ (list : NoticeList). length list.notices ≡ list.made) (sym (opened o).notice_list) refl;
+              places =
+                  subst (λ (bs : List (Option ℕ)). length m.process_table.threads ≤ length bs) (sym (opened o).bindings)
+                  (subst (λ n. length m.process_table.threads ≤ n) (sym (length-replicate {A = Option ℕ} THREADS_MAX None)) (opened o).few_threads);
             };
         idle_valid = λ t d since e f. grind (arith, states t);
         given_out =

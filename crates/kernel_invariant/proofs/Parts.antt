@@ -11,7 +11,7 @@ use Rattle.kernel_records.specs.declared.record.NoticeStage.TheVariants as notic
 use Rattle.kernel_records.specs.Words.{is_valid_in, no_cancel_of, tid, without_arguments_at}
 use Rattle.kernel_invariant.specs.Records.{item_in, owner_in}
 use Rattle.kernel_invariant.specs.Core.{Core, has_arguments, is_outside, is_underway}
-use Rattle.kernel_invariant.specs.Coherent.{AreAtDoors, AreCalls, AreNoticesAtDoors, AreNoticesEntered, AreNoticesGiven, AreProcesses, AreServers, AreWaits, IsCoherent, is_unbuilt}
+use Rattle.kernel_invariant.specs.Coherent.{AreAtDoors, AreCalls, AreNoticesAtDoors, AreNoticesEntered, AreNoticesGiven, AreProcesses, AreServers, AreWaits, IsCoherent, bound_for, is_unbuilt}
 use Rattle.kernel_invariant.proofs.Cores.{set_role, upd}
 
 -- a thread turns from one state to another
@@ -139,18 +139,21 @@ calls_set r x h f n a =
     }
 
 pub at_doors_set :
-    {call : ℕ → Option Call} {door : ℕ → Option Door} {process : ℕ → ℕ} (n : ℕ) (x : Call) → AreAtDoors call door process →
+    {call : ℕ → Option Call} {door : ℕ → Option Door} {process : ℕ → ℕ} {bound : ℕ → Option ℕ} (n : ℕ) (x : Call) →
+    AreAtDoors call door process bound →
     is_some (door x.door) ≡ true → x.no_cancel ≡ no_cancel_of (door x.door) →
     (x.stage ≡ stage.Queued → is_valid_in (door x.door) ≡ true) →
     ((u : ℕ) → x.stage ≡ stage.Given (tid u) → owner_in (door x.door) ≡ Some (process u)) →
+    ((u : ℕ) → x.stage ≡ stage.Given (tid u) → bound u ≡ bound_for x.door (door x.door)) →
     ((u : ℕ) → x.stage ≡ stage.Entered (tid u) → owner_in (door x.door) ≡ Some (process u)) →
-    AreAtDoors (upd call n (Some x)) door process
-at_doors_set n x h there no_cancel queued given entered =
+    AreAtDoors (upd call n (Some x)) door process bound
+at_doors_set n x h there no_cancel queued given bound_to entered =
     record {
       door_there = λ c y e. grind (arith, nat_tests, h.door_there c y, there);
       no_cancel = λ c y e. grind (arith, nat_tests, h.no_cancel c y, no_cancel);
       waiting_valid = λ c e. grind (arith, nat_tests, h.waiting_valid c, queued);
       given_owner = λ c u e. grind (arith, nat_tests, h.given_owner c u, given u);
+      given_bound = λ c u e. grind (arith, nat_tests, h.given_bound c u, bound_to u);
       entered_owner = λ c u e. grind (arith, nat_tests, h.entered_owner c u, entered u);
     }
 
@@ -162,23 +165,26 @@ calls_move r s h f = calls_set r (without_arguments_at s r) h f refl (λ e. (ref
 
 -- the same, to a stage after its server's
 pub at_doors_move :
-    {call : ℕ → Option Call} {door : ℕ → Option Door} {process : ℕ → ℕ} (r : Call) (s : CallStage) → AreAtDoors call door process →
-    call r.number ≡ Some r → is_underway s ≡ false → AreAtDoors (upd call r.number (Some (without_arguments_at s r))) door process
+    {call : ℕ → Option Call} {door : ℕ → Option Door} {process : ℕ → ℕ} {bound : ℕ → Option ℕ} (r : Call) (s : CallStage) →
+    AreAtDoors call door process bound → call r.number ≡ Some r → is_underway s ≡ false →
+    AreAtDoors (upd call r.number (Some (without_arguments_at s r))) door process bound
 at_doors_move r s h f g =
     at_doors_set r.number (without_arguments_at s r) h (h.door_there r.number r f) (h.no_cancel r.number r f)
-    (λ e. grind arith) (λ u e. grind arith) (λ u e. grind arith)
+    (λ e. grind arith) (λ u e. grind arith) (λ u e. grind arith) (λ u e. grind arith)
 
 -- a notice moves to a stage after it waited
 pub notices_at_doors_move :
-    {notices : ℕ → Option NoticeStage} {noticed_door : ℕ → ℕ} {door : ℕ → Option Door} {process : ℕ → ℕ} (n : ℕ) (s : NoticeStage) →
-    AreNoticesAtDoors notices noticed_door door process → is_some (notices n) ≡ true → (s ≡ notice.Waiting → ⊥) →
+    {notices : ℕ → Option NoticeStage} {noticed_door : ℕ → ℕ} {door : ℕ → Option Door} {process : ℕ → ℕ} {bound : ℕ → Option ℕ} (n : ℕ)
+    (s : NoticeStage) → AreNoticesAtDoors notices noticed_door door process bound → is_some (notices n) ≡ true → (s ≡ notice.Waiting → ⊥) →
     ((u : ℕ) → s ≡ notice.Given (tid u) → owner_in (door (noticed_door n)) ≡ Some (process u)) →
+    ((u : ℕ) → s ≡ notice.Given (tid u) → bound u ≡ bound_for (noticed_door n) (door (noticed_door n))) →
     ((u : ℕ) → s ≡ notice.Entered (tid u) → owner_in (door (noticed_door n)) ≡ Some (process u)) →
-    AreNoticesAtDoors (upd notices n (Some s)) noticed_door door process
-notices_at_doors_move n s h there waiting given entered =
+    AreNoticesAtDoors (upd notices n (Some s)) noticed_door door process bound
+notices_at_doors_move n s h there waiting given bound_to entered =
     record {
       notice_door = λ c e. grind (arith, nat_tests, h.notice_door c);
       notice_valid = λ c e. grind (arith, nat_tests, h.notice_valid c, waiting);
       notice_given_owner = λ c u e. grind (arith, nat_tests, h.notice_given_owner c u, given u);
+      notice_given_bound = λ c u e. grind (arith, nat_tests, h.notice_given_bound c u, bound_to u);
       notice_entered_owner = λ c u e. grind (arith, nat_tests, h.notice_entered_owner c u, entered u);
     }

@@ -1,4 +1,4 @@
--- The pick of a pool is an idle thread of the process that made the pool's door.
+-- The pick of a pool is an idle thread of the process that made the pool's door, and is bound to a door that has a pool of its own.
 use Rattle.std.specs.Prelude.{ℕ, ◌≡◌, Option, true, Some, None, zero, suc, length}
 use Rattle.std.proofs.Common.{refl, sym, ap, ◌∙◌}
 use native.Mathlib.Omega.{arith}
@@ -10,7 +10,7 @@ use Rattle.kernel_records.specs.Words.{better_parked, is_pool, is_valid_in, park
 use Rattle.written_kernel.specs.Words.{State, bound_of, door_of, pick, pool_of, process_of, state_of, thread_of}
 use Rattle.kernel_invariant.specs.Records.{owner_in}
 use Rattle.kernel_invariant.specs.Core.{Core, core}
-use Rattle.kernel_invariant.specs.Coherent.{IsCoherent}
+use Rattle.kernel_invariant.specs.Coherent.{IsCoherent, bound_for}
 
 abbrev pub pool_by : ℕ → Option ℕ → Pool
 pool_by p None = Common (pid p)
@@ -65,11 +65,20 @@ owner_of_pick :
     is_pool (pool_of_door x) (pool_by (k.process t) b) ≡ true → owner_in (k.door d) ≡ Some (k.process t)
 owner_of_pick k d t x b h e f g = grind (arith, nat_tests, h.bindings.bound_own t, h.doors.door_number d x)
 
--- a thread of the pool of a valid door is of the process that made the door
-pub pick_owner :
+bound_of_pick :
+    (k : Core) (d t : ℕ) (x : Door) (b : Option ℕ) → IsCoherent k → k.door d ≡ Some x →
+    is_pool (pool_of_door x) (pool_by (k.process t) b) ≡ true → b ≡ bound_for d (Some x)
+bound_of_pick k d t x b h e g = grind (arith, nat_tests, h.doors.door_number d x)
+
+-- a thread of the pool of a valid door
+pub record IsOfPool (m : State) (d t : ℕ) : Type 0 where
+  pub owner : owner_in (door_of m d) ≡ Some (process_of m t)
+  pub bound : bound_of m t ≡ bound_for d (door_of m d)
+
+pub picked_is :
     (m : State) (d : ℕ) (y : Parked) → IsCoherent (core m) → is_valid_in (door_of m d) ≡ true → pick m (pool_of m d) ≡ Some y →
-    owner_in (door_of m d) ≡ Some (process_of m y.thread.0)
-pick_owner m d y h v e = go (door_of m d) refl v
+    IsOfPool m d y.thread.0
+picked_is m d y h v e = go (door_of m d) refl v
   where
     p : IsPick m (pool_of m d) y
     p = pick_is m (pool_of m d) y e
@@ -77,9 +86,13 @@ pick_owner m d y h v e = go (door_of m d) refl v
     i : IsParked m y.thread.0 y
     i = parked_is m y.thread.0 y p.parked
 
-    go : (o : Option Door) → door_of m d ≡ o → is_valid_in o ≡ true → owner_in (door_of m d) ≡ Some (process_of m y.thread.0)
-    go None f w = grind arith
+    go : (o : Option Door) → door_of m d ≡ o → is_valid_in o ≡ true → IsOfPool m d y.thread.0
+    go None f w = absurd (grind arith)
     go (Some x) f w =
-        let of_pool : is_pool (pool_in (Some x)) y.pool ≡ true = ap (λ o. is_pool (pool_in o) y.pool) (sym f) ∙ p.of_pool in
-        owner_of_pick (core m) d y.thread.0 x (bound_of m y.thread.0) h f refl
-        (ap (λ z. is_pool (pool_of_door x) z) (sym i.pool) ∙ of_pool)
+        record {
+          owner = owner_of_pick (core m) d y.thread.0 x (bound_of m y.thread.0) h f refl of_pool;
+          bound = bound_of_pick (core m) d y.thread.0 x (bound_of m y.thread.0) h f of_pool ∙ sym (ap (bound_for d) f);
+        }
+      where
+        of_pool : is_pool (pool_of_door x) (pool_by (process_of m y.thread.0) (bound_of m y.thread.0)) ≡ true
+        of_pool = ap (λ z. is_pool (pool_of_door x) z) (sym i.pool) ∙ ap (λ o. is_pool (pool_in o) y.pool) (sym f) ∙ p.of_pool

@@ -14,6 +14,7 @@ use Rattle.kernel_records.specs.Words.{at_stage, call_number, notice_at, is_idle
 use Rattle.written_kernel.specs.Words.{State, door_of, fail_return, fail_returns, find_call, find_notice, give, give_and_start, give_each, give_one, give_to, has_invalid_door, has_lost_door, invocation_of, is_due, make_notices, now, pick, pool_of, settle, state_of, waiting_items, with_state}
 use Rattle.kernel_invariant.specs.Records.{notice_of, owner_in, record_of}
 use Rattle.kernel_invariant.specs.Core.{core, door_in, notice_in, noticed_door_in}
+use Rattle.kernel_invariant.specs.Coherent.{bound_for}
 use Rattle.kernel_invariant.specs.Invariant.{IsConsistent, Invariant}
 use Rattle.kernel_invariant.specs.Arrows.{ByGiving, NoticeByGiving}
 use Rattle.kernel_invariant.specs.Arrows.NoticeByGiving.{stays as notice_stays, gives as notice_gives}
@@ -26,7 +27,7 @@ use Rattle.kernel_invariant.proofs.Consistent.{act_consistent, call_consistent, 
 use Rattle.kernel_invariant.proofs.Failing.{IsIdleSince, bound-unbind_thread, fail-turns, fail_return-keeps, idle_of_lost}
 use Rattle.kernel_invariant.proofs.Pending.{IsPendingItem, Pending, all_pending, calls_ascend, notices_ascend, others_are}
 use Rattle.kernel_invariant.proofs.Pending.IsPendingItem.{a_call, a_notice}
-use Rattle.kernel_invariant.proofs.Picks.{IsParked, pick_is, parked_is, pick_owner}
+use Rattle.kernel_invariant.proofs.Picks.{IsParked, IsOfPool, pick_is, parked_is, picked_is}
 use Rattle.written_kernel.proofs.Giving.{all_given_out}
 use Rattle.written_kernel.proofs.Notices.{IsDue, due_is}
 use Rattle.written_kernel.proofs.Failing.{has_lost_door-fail_returns}
@@ -198,8 +199,9 @@ give_call_to_does m r h e q = go (pick m (pool_of m r.door)) refl
     go None f = record { gave = gave_nothing m h; others = λ v z p. p }
     go (Some y) f =
         let p : IsParked m y.thread.0 y = parked_is m y.thread.0 y (pick_is m (pool_of m r.door) y f).parked in
+        let o : IsOfPool m r.door y.thread.0 = picked_is m r.door y h.coherent valid f in
         give_one_does m r y.thread.0 h
-        (record { since = y.since; idle = p.idle; found = e; queued = q; owner = pick_owner m r.door y h.coherent valid f })
+        (record { since = y.since; idle = p.idle; found = e; queued = q; owner = o.owner; bound = o.bound })
 
 give_notice_to_does :
     (m : State) (x : Notice) → IsConsistent m → notice_of m x.number ≡ Some x → x.stage ≡ notice.Waiting →
@@ -219,12 +221,14 @@ give_notice_to_does m x h e q = go (pick m (pool_of m x.door)) refl
     go None f = record { gave = gave_nothing m h; others = λ v z p. p }
     go (Some y) f =
         let p : IsParked m y.thread.0 y = parked_is m y.thread.0 y (pick_is m (pool_of m x.door) y f).parked in
+        let o : IsOfPool m x.door y.thread.0 = picked_is m x.door y h.coherent valid f in
         give_notice_does m x y.thread.0 h e q
         (record {
           since = y.since;
           idle = p.idle;
           waiting = stage_is;
-          owner = ap (λ d. owner_in (door_of m d)) door_is ∙ pick_owner m x.door y h.coherent valid f;
+          owner = ap (λ d. owner_in (door_of m d)) door_is ∙ o.owner;
+          bound = o.bound ∙ sym (ap (λ d. bound_for d (door_of m d)) door_is);
         })
 
 give_to_does :
@@ -275,7 +279,7 @@ fail_returns_does m h =
 make_keeps : (before m : State) (d : ℕ) → is_due before m d (door_of m d) ≡ true → IsConsistent m → IsConsistent (with_notice_of m d)
 make_keeps before m d due h =
     act_consistent m m.process_table m.tables m.call_tree (with_notice_of m d).notice_list (same_tables m h) refl (calls_counted h)
-    (push_counted x (notices_counted h) refl)
+    (push_counted x (notices_counted h) refl) h.places
     (make_notice_keeps (core m) x.number d _ _ h.coherent (ap notice_in none) valid (λ c. grind (arith, nat_tests, found c))
     (λ c. grind (arith, nat_tests, found c)))
   where

@@ -30,8 +30,8 @@ move_does : (m : State) (t : ℕ) (q : Option Request) (a : ActResult) → IsCon
 move_does m t q a h may (Moves.nothing x _) = does_nothing m t q x h
 move_does m t q a h may (Moves.rows r place o x _) = rows_does m t q _ x h (running_is m t may.running)
 move_does m t q a h may (Moves.names r names _) = names_does m t q names _ h
-move_does m t q a h may (Moves.bound r o (binds fd f)) = bind_does m t q fd h f
-move_does m t q a h may (Moves.bound r o (unbinds f)) = unbind_does m t q h
+move_does m t q a h may (Moves.bound r o (binds fd f)) = bind_does m t q fd h (running_is m t may.running) f
+move_does m t q a h may (Moves.bound r o (unbinds f)) = unbind_does m t q h (running_is m t may.running)
 move_does m t q a h may (Moves.parameter fd x value f) = set_param_does m t q _ x value _ h
 move_does m t q a h may (Moves.makes entry cookie attrs f) = create_does m t q entry cookie attrs h (running_is m t may.running) f
 move_does m t q a h may (Moves.turns s x w (awaits path e)) = turned_to m t q s x h (ap is_quiet (running_is m t may.running)) w refl
@@ -54,7 +54,7 @@ pub act_does : (m : State) (t : ℕ) (q : Option Request) → IsConsistent m →
 act_does m t q h may = move_does m t q (act m t q) h may (act_moves m t q)
 
 counted_keeps : (m : State) → IsConsistent m → IsConsistent (with_event_counted m)
-counted_keeps m h = beside_consistent m m.doors m.bindings m.names (m.events + 1) h h.coherent
+counted_keeps m h = beside_consistent m m.doors m.bindings m.names (m.events + 1) h h.places h.coherent
 
 -- what an act and the kernel after it do
 pub record StepDoes (m : State) (t : ℕ) (q : Option Request) : Type 0 where

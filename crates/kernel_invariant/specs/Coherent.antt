@@ -1,5 +1,5 @@
 -- What holds of threads, calls, notices, doors and processes at each time, in parts by what they read.
-use Rattle.std.specs.Prelude.{ℕ, ◌≡◌, ◌<◌, ◌≤◌, [], Option, Bool, not, true, false, Some, None, is_some}
+use Rattle.std.specs.Prelude.{ℕ, ◌≡◌, ◌<◌, ◌≤◌, [], Option, Bool, if◌then◌else◌, not, true, false, Some, None, is_some}
 use Rattle.written_kernel.specs.Types.{Call, Door, Inv, NoticeStage, Process, ThreadState}
 use Rattle.dk_base.specs.declared.object.Item.TheVariants as item
 use Rattle.kernel_records.specs.declared.record.ThreadState.TheVariants as is
@@ -39,14 +39,23 @@ pub record AreNoticesEntered (serves : ℕ → Option Inv) (notices : ℕ → Op
   pub notice_entered : (n u : ℕ) → notices n ≡ Some (notice.Entered (tid u)) → item_in (serves u) ≡ Some (item.Notice n)
   pub notice_entered_back : (n u : ℕ) → item_in (serves u) ≡ Some (item.Notice n) → notices n ≡ Some (notice.Entered (tid u))
 
+-- to which door a thread is bound that serves door d
+abbrev pub bound_for : ℕ → Option Door → Option ℕ
+bound_for d o = if is_private_in o then Some d else None
+
 -- the doors of notices
-pub record AreNoticesAtDoors (notices : ℕ → Option NoticeStage) (noticed_door : ℕ → ℕ) (door : ℕ → Option Door) (process : ℕ → ℕ) : Type 0 where
-  pub notice_door : (n : ℕ) → is_some (notices n) ≡ true → is_some (door (noticed_door n)) ≡ true
-  -- doors of waiting notices are valid
-  pub notice_valid : (n : ℕ) → notices n ≡ Some notice.Waiting → is_valid_in (door (noticed_door n)) ≡ true
-  -- a notice is given to, and entered by, a thread of the process that made its door
-  pub notice_given_owner : (n u : ℕ) → notices n ≡ Some (notice.Given (tid u)) → owner_in (door (noticed_door n)) ≡ Some (process u)
-  pub notice_entered_owner : (n u : ℕ) → notices n ≡ Some (notice.Entered (tid u)) → owner_in (door (noticed_door n)) ≡ Some (process u)
+pub record AreNoticesAtDoors
+    (notices : ℕ → Option NoticeStage) (noticed_door : ℕ → ℕ) (door : ℕ → Option Door) (process : ℕ → ℕ) (bound : ℕ → Option ℕ) : Type 0
+  where
+    pub notice_door : (n : ℕ) → is_some (notices n) ≡ true → is_some (door (noticed_door n)) ≡ true
+    -- doors of waiting notices are valid
+    pub notice_valid : (n : ℕ) → notices n ≡ Some notice.Waiting → is_valid_in (door (noticed_door n)) ≡ true
+    -- a notice is given to, and entered by, a thread of the process that made its door
+    pub notice_given_owner : (n u : ℕ) → notices n ≡ Some (notice.Given (tid u)) → owner_in (door (noticed_door n)) ≡ Some (process u)
+    pub notice_entered_owner : (n u : ℕ) → notices n ≡ Some (notice.Entered (tid u)) → owner_in (door (noticed_door n)) ≡ Some (process u)
+    -- and one that it is given to is bound to its door, where that is private, and else to none
+    pub notice_given_bound :
+        (n u : ℕ) → notices n ≡ Some (notice.Given (tid u)) → bound u ≡ bound_for (noticed_door n) (door (noticed_door n))
 
 -- threads, with what they serve
 pub record AreServers (role : ℕ → ThreadState) (serves : ℕ → Option Inv) (made : ℕ) : Type 0 where
@@ -64,7 +73,7 @@ pub record AreCalls (call : ℕ → Option Call) (made : ℕ) : Type 0 where
   pub unmade : (c : ℕ) → made < c → call c ≡ None
 
 -- the doors of calls
-pub record AreAtDoors (call : ℕ → Option Call) (door : ℕ → Option Door) (process : ℕ → ℕ) : Type 0 where
+pub record AreAtDoors (call : ℕ → Option Call) (door : ℕ → Option Door) (process : ℕ → ℕ) (bound : ℕ → Option ℕ) : Type 0 where
   -- a call is of a door that is there, and has the door's attribute on cancels
   pub door_there : (c : ℕ) (r : Call) → call c ≡ Some r → is_some (door r.door) ≡ true
   pub no_cancel : (c : ℕ) (r : Call) → call c ≡ Some r → r.no_cancel ≡ no_cancel_of (door r.door)
@@ -75,6 +84,9 @@ pub record AreAtDoors (call : ℕ → Option Call) (door : ℕ → Option Door) 
       (c u : ℕ) → stage_in (call c) ≡ Some (stage.Given (tid u)) → owner_at call door c ≡ Some (process u)
   pub entered_owner :
       (c u : ℕ) → stage_in (call c) ≡ Some (stage.Entered (tid u)) → owner_at call door c ≡ Some (process u)
+  -- and one that it is given to is bound to its door, where that is private, and else to none
+  pub given_bound :
+      (c u : ℕ) → stage_in (call c) ≡ Some (stage.Given (tid u)) → bound u ≡ bound_for (door_in (call c)) (door (door_in (call c)))
 
 -- doors by themselves
 pub record AreDoors (door : ℕ → Option Door) (proc : ℕ → Option Process) : Type 0 where
@@ -110,10 +122,10 @@ pub record IsCoherent (k : Core) : Type 0 where
   pub invocations : AreInvocations k.serves k.call
   pub notices_given : AreNoticesGiven k.role k.notice
   pub notices_entered : AreNoticesEntered k.serves k.notice
-  pub notices_at_doors : AreNoticesAtDoors k.notice k.noticed_door k.door k.process
+  pub notices_at_doors : AreNoticesAtDoors k.notice k.noticed_door k.door k.process k.bound
   pub servers : AreServers k.role k.serves k.made
   pub calls : AreCalls k.call k.made
-  pub at_doors : AreAtDoors k.call k.door k.process
+  pub at_doors : AreAtDoors k.call k.door k.process k.bound
   pub doors : AreDoors k.door k.proc
   pub bindings : AreBindings k.bound k.door k.process
   pub processes : AreProcesses k.role k.process k.proc

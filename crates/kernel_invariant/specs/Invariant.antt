@@ -1,5 +1,5 @@
 -- The invariant of every run: what holds of each state between two events.
-use Rattle.std.specs.Prelude.{ℕ, ◌≡◌, true, Some, None, length, All}
+use Rattle.std.specs.Prelude.{ℕ, ◌≡◌, ◌≤◌, true, Some, None, length, All}
 use Rattle.written_kernel.specs.Types.{Fd}
 use Rattle.kernel_records.specs.declared.record.ThreadState.TheVariants as is
 use Rattle.kernel_records.specs.Words.{IsCounted, call_number, is_valid_in, notice_number}
@@ -19,6 +19,8 @@ pub record IsConsistent (m : State) : Type 0 where
   -- so do notices
   pub notices_in_order : IsCounted notice_number 0 m.notice_list.notices
   pub notices_counted : length m.notice_list.notices ≡ m.notice_list.made
+  -- each thread has a place for its binding
+  pub places : length m.process_table.threads ≤ length m.bindings
 
 pub record Invariant (m : State) : Type 0 where
   pub consistent : IsConsistent m

@@ -314,9 +314,9 @@ module _ (m : State) (xs : List Turn) (k : Known m xs) where
 
   -- at which turns threads and processes end
 
-  thread_ends :
+  thread_ends_why :
       (i t : ℕ) (x : Turn) → slice_get xs i ≡ Some x → EndsNow (state_at m xs i) (state_at m xs (i + 1)) t → ThreadEnds m xs i x t
-  thread_ends i t x e h =
+  thread_ends_why i t x e h =
       go x.request refl
       (step_ends_thread (state_at m xs i) (invariant_before m xs k i x e) x.thread t x.request
       (subst (λ n. EndsNow (state_at m xs i) n t) (next m xs k i x e) h))
@@ -327,10 +327,10 @@ module _ (m : State) (xs : List Turn) (k : Known m xs) where
       go q f (own_exit g) = exits f g
       go q f (process_over g) = with_process (ap (λ n. is_ended n (process_at m xs i t)) (next m xs k i x e) ∙ g)
 
-  process_ends :
+  process_ends_why :
       (i p : ℕ) (x : Turn) → slice_get xs i ≡ Some x → is_ended (state_at m xs i) p ≡ false → is_ended (state_at m xs (i + 1)) p ≡ true →
       EndsProcess m xs i x p
-  process_ends i p x e b a =
+  process_ends_why i p x e b a =
       go x.request refl
       (step_ends_one (state_at m xs i) x.thread p b x.request (ap (λ n. is_ended n p) (sym (next m xs k i x e)) ∙ a))
     where
@@ -345,13 +345,13 @@ module _ (m : State) (xs : List Turn) (k : Known m xs) where
       go : MayEnter (state_at m xs i) x.thread (request.Kill process) → is_some (at_number (state_at m xs i).process_table.processes process.0) ≡ true
       go h = is_some-at_number (state_at m xs i).process_table.processes process.0 ∙ grind (arith, nat_tests, h.fit)
 
-  ends_process :
+  process_ends_where :
       (i p : ℕ) (x : Turn) → slice_get xs i ≡ Some x → EndsProcess m xs i x p → is_ended (state_at m xs (i + 1)) p ≡ true
-  ends_process i p x e (kills process f g) =
+  process_ends_where i p x e (kills process f g) =
       subst (λ n. is_ended (state_at m xs (i + 1)) n ≡ true) g
       (ap (λ n. is_ended n process.0) (next m xs k i x e ∙ ap (λ q. (step (state_at m xs i) x.thread q).state) f)
       ∙ step_kills (state_at m xs i) x.thread process (process_is_there i x process e f))
-  ends_process i p x e (exits_process f g l) =
+  process_ends_where i p x e (exits_process f g l) =
       subst (λ n. is_ended (state_at m xs (i + 1)) n ≡ true) g
       (ap (λ n. is_ended n (process_at m xs i x.thread)) (next m xs k i x e ∙ ap (λ q. (step (state_at m xs i) x.thread q).state) f)
       ∙ step_exits (state_at m xs i) x.thread
@@ -362,13 +362,13 @@ module _ (m : State) (xs : List Turn) (k : Known m xs) where
   same_process : (i t : ℕ) (x : Turn) → slice_get xs i ≡ Some x → process_of (state_at m xs (i + 1)) t ≡ process_at m xs i t
   same_process i t x e = ap (λ n. process_of n t) (next m xs k i x e) ∙ process_of-step (state_at m xs i) x.thread t x.request
 
-  ends_thread :
+  thread_ends_where :
       (i t : ℕ) (x : Turn) → slice_get xs i ≡ Some x → ThreadEnds m xs i x t → state_of (state_at m xs (i + 1)) t ≡ is.Done
-  ends_thread i t x e (exits f g) =
+  thread_ends_where i t x e (exits f g) =
       subst (λ n. state_of (state_at m xs (i + 1)) n ≡ is.Done) g
       (ap (λ n. state_of n x.thread) (next m xs k i x e ∙ ap (λ q. (step (state_at m xs i) x.thread q).state) f)
       ∙ step_exits_thread (state_at m xs i) (invariant_before m xs k i x e) x.thread)
-  ends_thread i t x e (with_process f) =
+  thread_ends_where i t x e (with_process f) =
       threads_done (state_at m xs (i + 1)) (invariant_after m xs k i x e) (process_at m xs i t) f t (same_process i t x e)
 
   pub ends_holds : Ends m xs
@@ -376,9 +376,9 @@ module _ (m : State) (xs : List Turn) (k : Known m xs) where
       record {
         process = λ i p l e. has_ended (state_at m xs i) (k.invariant i l) p e (λ c r. caller_waits m xs k i c r l);
         process_stays = λ i j p. stays m xs (λ n. is_ended n p ≡ true) i (λ a x l f. (keeps_at a x f).ended p) j;
-        thread_ends = thread_ends;
-        ends_thread = ends_thread;
-        process_ends = process_ends;
-        ends_process = ends_process;
+        thread_ends_why = thread_ends_why;
+        thread_ends_where = thread_ends_where;
+        process_ends_why = process_ends_why;
+        process_ends_where = process_ends_where;
         thread_stays = λ i j t. stays m xs (λ n. state_of n t ≡ is.Done) i (λ a x l f. (keeps_at a x f).done t) j;
       }

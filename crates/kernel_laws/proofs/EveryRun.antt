@@ -1,15 +1,15 @@
 -- The laws hold of every run.
-use Rattle.std.specs.Prelude.{ℕ, ◌≡◌, ◌+◌, ◌↔◌, List, Some, length, slice_get, None, false}
+use Rattle.std.specs.Prelude.{ℕ, ◌≡◌, ◌+◌, ◌↔◌, List, Option, Some, length, slice_get, None, false}
 use Rattle.std.proofs.Common.{sym, ap, subst, ◌∙◌, refl}
 use native.Mathlib.Omega.{arith}
 use Rattle.written_kernel.specs.Types.{Errno, Request, Pass}
 use Rattle.dk_base.specs.declared.request.Request.TheVariants as request
 use Rattle.dk_base.specs.declared.answer.Answer.TheVariants as answer
-use Rattle.written_kernel.specs.Words.{IsOpening, IsRun, State, Turn, bound_of, refusal_of, state_after, state_at, with_event_counted}
+use Rattle.written_kernel.specs.Words.{IsOpening, IsRun, State, Turn, bound_of, refusal_of, state_after, state_at, state_of, what_of, with_event_counted}
 use Rattle.written_kernel.proofs.Runs.{length-events_of, number-event_of, slice_get-events_of, state_at_all}
 use Rattle.kernel_invariant.specs.Invariant.{Invariant}
 use Rattle.kernel_laws.specs.Laws.{Laws}
-use Rattle.kernel_laws.specs.EventsShown.{EventsShown}
+use Rattle.kernel_laws.specs.EventsShown.{EventsShown, what_done}
 use Rattle.kernel_laws.specs.Pools.{HasNoneIdle}
 use Rattle.run_places.specs.Places.{IsBoundToInvalid, IsReturnRefusedBy, answer_at, process_at, IsReturn}
 use Rattle.kernel_laws.specs.Once.{ReturnUnbinds}
@@ -29,7 +29,9 @@ use Rattle.kernel_laws.proofs.RowChanges.{rows_hold}
 use Rattle.kernel_laws.proofs.Waits.{waits_where_told}
 use Rattle.kernel_laws.proofs.Given.{given_holds}
 use Rattle.kernel_laws.proofs.Names.{names_hold}
-use Rattle.kernel_laws.proofs.Answers.{answers_requests}
+use Rattle.kernel_laws.proofs.Bindings.{bindings_hold}
+use Rattle.kernel_laws.proofs.Parameters.{parameters_hold}
+use Rattle.kernel_laws.proofs.Answers.{answers_ends_of_waits, answers_requests}
 use Rattle.kernel_laws.proofs.Held.{held_holds}
 use Rattle.kernel_laws.proofs.Creators.{made_by_creator}
 use Rattle.kernel_laws.proofs.Ends.{ends_holds}
@@ -110,6 +112,10 @@ module _ (m : State) (xs : List Turn) (k : Known m xs) (i : ℕ) (x : Turn) (f :
           let lost : IsBoundToInvalid (state_at m xs i) x.thread = (invalid_decides (state_at m xs i) x.thread).0 v in
           absurd (still_bound lost same (return_unbinds m xs k i x b p f (is_return (request.Return bytes pass) b p q g n) lost))
 
+what_is : (m : State) (t : ℕ) (q : Option Request) → what_of m t q ≡ what_done q (state_of m t)
+what_is m t (Some r) = refl
+what_is m t None = refl
+
 events_shown : (m : State) (xs : List Turn) → Known m xs → EventsShown m xs
 events_shown m xs k =
     record {
@@ -117,6 +123,7 @@ events_shown m xs k =
       event = λ i x e. slice_get-events_of m xs i x e;
       thread = λ i x. refl;
       root = λ i x. refl;
+      what = λ i x. what_is (state_at m xs i) x.thread x.request;
       answer = λ i x. refl;
       number = λ i x e. number-event_of m xs i x e ∙ omega (arith, k.no_event);
     }
@@ -133,7 +140,10 @@ all_hold m xs k =
       waits = waits_where_told m xs k;
       given = given_holds m xs k;
       names = names_hold m xs k;
+      bindings = bindings_hold m xs k;
+      parameters = parameters_hold m xs k;
       answers = answers_requests m xs k;
+      ends_of_waits = answers_ends_of_waits m xs k;
       held = held_holds m xs k;
       made_by_creator = made_by_creator m xs k;
       refused =

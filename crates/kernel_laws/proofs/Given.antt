@@ -7,17 +7,20 @@ use Rattle.written_kernel.specs.Types.{Answer, Call, CallStage, Fd, Request}
 use Rattle.dk_base.specs.declared.answer.Answer.TheVariants as answer
 use Rattle.kernel_records.specs.declared.record.CallStage.TheVariants as stage
 use Rattle.kernel_records.specs.Words.{tid}
-use Rattle.written_kernel.specs.Words.{State, Turn, state_at}
+use Rattle.written_kernel.specs.Words.{State, Turn, door_of, state_at}
 use Rattle.kernel_invariant.specs.Arrows.{EndsNow}
 use Rattle.kernel_invariant.specs.Arrows.EndsBy.{door_invalid, server_full, interrupted, server_ended}
-use Rattle.kernel_invariant.specs.Records.{record_of, stage_in, stage_of}
-use Rattle.run_places.specs.Places.{IsAccept, answer_at}
+use Rattle.kernel_invariant.specs.Coherent.{AreAtDoors, bound_for}
+use Rattle.kernel_invariant.specs.Core.{core, door_in}
+use Rattle.kernel_invariant.specs.Records.{owner_in, record_of, stage_in, stage_of}
+use Rattle.run_places.specs.Places.{IsAccept, MayServe, answer_at}
 use Rattle.kernel_laws.specs.Given.{StaysGiven, GivenMoves, IsCallWith, IsGiven}
 use Rattle.run_places.proofs.Changes.{Change, gone_stage, rank_in, rank_of}
 use Rattle.run_places.proofs.Changes.Change.{made, given, entered, returned, ended, broken_off, left, results_collected, nothing_collected, error_collected}
 use Rattle.run_places.proofs.Known.{ChangeAt, Known, never_falls, never_less, rank_at, stays, stays_or_changes}
 use Rattle.kernel_laws.proofs.Once.{owner_same}
 use Rattle.kernel_laws.proofs.Readers.{number_of}
+use Rattle.run_places.proofs.Counts.{may_serve}
 use Rattle.run_places.proofs.Rows.{some_stage}
 
 abbrev IsHad : Option CallStage → ℕ → Type 0
@@ -157,11 +160,26 @@ module _ (m : State) (xs : List Turn) (k : Known m xs) where
       first (inl g) = GivenMoves.stays (ap stage_in g ∙ w)
       first (inr d) = by _ _ refl refl d
 
+  given_to_pool :
+      (i t c : ℕ) (r : Call) → i ≤ length xs → record_of (state_at m xs i) c ≡ Some r → r.stage ≡ stage.Given (tid t) →
+      MayServe (state_at m xs i) t r.door
+  given_to_pool i t c r l e f =
+      may_serve (state_at m xs i) t r.door
+      (ap (λ o. owner_in (door_of (state_at m xs i) (door_in o))) (sym e) ∙ h.given_owner c t given)
+      (h.given_bound c t given ∙ ap (λ o. bound_for (door_in o) (door_of (state_at m xs i) (door_in o))) e)
+    where
+      h : AreAtDoors (core (state_at m xs i)).call (core (state_at m xs i)).door (core (state_at m xs i)).process (core (state_at m xs i)).bound
+      h = (k.invariant i l).consistent.coherent.at_doors
+
+      given : stage_of (state_at m xs i) c ≡ Some (stage.Given (tid t))
+      given = ap stage_in e ∙ ap (λ (s : CallStage). Some s) f
+
   pub given_holds : StaysGiven m xs
   given_holds =
       record {
         given_waits = λ i t c l. ((k.invariant i l).consistent.coherent.waits.given c t, (k.invariant i l).consistent.coherent.waits.given_back c t);
         given_to_owner = λ i t c l w. owner_same (state_at m xs i) (record_of (state_at m xs i) c) _ w ∙ (k.invariant i l).consistent.coherent.at_doors.given_owner c t w;
+        given_to_pool = given_to_pool;
         moves = moves;
         waits_no_more = waits_no_more;
         same_thread = same_thread;

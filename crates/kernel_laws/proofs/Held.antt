@@ -17,7 +17,7 @@ use Rattle.kernel_invariant.specs.Records.{item_in, item_of, record_of, stage_in
 use Rattle.kernel_invariant.specs.Core.{abandoned_in, caller_number, core, is_outside, is_underway, live_in, underway_in}
 use Rattle.kernel_invariant.specs.Coherent.{IsCoherent}
 use Rattle.kernel_invariant.specs.Invariant.{Invariant}
-use Rattle.kernel_laws.specs.Held.{HasHolders, Held, Serves}
+use Rattle.kernel_laws.specs.Held.{HasHolders, Held, Serves, Walks}
 use Rattle.run_places.proofs.Known.{Known}
 use Rattle.run_places.proofs.Rows.{some_call}
 
@@ -263,12 +263,6 @@ module _ (m : State) (h : Invariant m) where
   abbrev up : ℕ → ℕ
   up t = number_in (served_by m t)
 
-  root_stops : (t : ℕ) → caller_of m t ≡ None → root m t ≡ t
-  root_stops = stops (caller_of m) (λ n t. walk n m t) (λ t. refl) (λ n t. refl) up serving m.call_tree.made
-
-  root_on : (t u : ℕ) → caller_of m t ≡ Some u → root m t ≡ root m u
-  root_on t u = walks_on (caller_of m) (λ n t. walk n m t) (λ t. refl) (λ n t. refl) up serving m.call_tree.made t u (served_within t)
-
   root_end : (t : ℕ) → caller_of m (root m t) ≡ None
   root_end t = walk_ends (caller_of m) (λ n t. walk n m t) (λ t. refl) (λ n t. refl) up serving m.call_tree.made t (served_within t)
 
@@ -379,19 +373,25 @@ module _ (m : State) (h : Invariant m) where
             caller = sym (ap caller_number w.serves.found) ∙ coherent.waits.caller w.call.number t w.calling;
           }
 
-  no_caller : (t : ℕ) → ((u : ℕ) → Serves m t u → ⊥) → caller_of m t ≡ None
-  no_caller t h = go (caller_of m t) refl
+  root_reached : (n t : ℕ) → Walks m t (walk n m t)
+  root_reached zero t = Walks.ends
+  root_reached (suc n) t = go (caller_of m t) refl (root_reached n)
     where
-      go : (o : Option ℕ) → caller_of m t ≡ o → o ≡ None
-      go None e = refl
-      go (Some u) e = absurd (h u (served_is t u e))
+      go : (o : Option ℕ) → caller_of m t ≡ o → ((u : ℕ) → Walks m u (walk n m u)) → Walks m t (option_map_or (walk n m) o t)
+      go None e ih = Walks.ends
+      go (Some u) e ih = Walks.goes t u _ (served_is t u e) (ih u)
 
-  no_server : (t : ℕ) → ((u : ℕ) → Serves m u t → ⊥) → server_of m t ≡ None
-  no_server t h = go (server_of m t) refl
+  one_more : (t u v : ℕ) → Walks m t u → Serves m u v → Walks m t v
+  one_more t u v Walks.ends s = Walks.goes t v v s Walks.ends
+  one_more t u v (Walks.goes _ w _ f x) s = Walks.goes t w v f (one_more w u v x s)
+
+  lead_reached : (n t : ℕ) → Walks m (walk_down n m t) t
+  lead_reached zero t = Walks.ends
+  lead_reached (suc n) t = go (server_of m t) refl (lead_reached n)
     where
-      go : (o : Option ℕ) → server_of m t ≡ o → o ≡ None
-      go None e = refl
-      go (Some u) e = absurd (h u (serves_back t u e))
+      go : (o : Option ℕ) → server_of m t ≡ o → ((u : ℕ) → Walks m (walk_down n m u) u) → Walks m (option_map_or (walk_down n m) o t) t
+      go None e ih = Walks.ends
+      go (Some u) e ih = one_more _ u t (ih u) (serves_back t u e)
 
   none_and_some : (o : Option ℕ) (u : ℕ) → o ≡ Some u → o ≡ None → ⊥
   none_and_some o u e f = absurd (cc (sym e ∙ f))
@@ -404,11 +404,9 @@ module _ (m : State) (h : Invariant m) where
       record {
         one_served = λ t u v a b. same (caller_of m t) u v (caller_is t u a) (caller_is t v b);
         one_server = λ t u v a b. same (server_of m v) t u (turned t v (caller_is t v a)) (turned u v (caller_is u v b));
-        root_goes_on = λ t u s. root_on t u (caller_is t u s);
-        root_stays = λ t h. root_stops t (no_caller t h);
+        root_reached = root_reached m.call_tree.made;
         root_ends = λ t u s. none_and_some _ u (caller_is (root m t) u s) (root_end t);
-        lead_goes_on = λ t u s. lead_on u t (turned t u (caller_is t u s));
-        lead_stays = λ t h. lead_stops t (no_server t h);
+        lead_reached = lead_reached m.call_tree.made;
         lead_ends = λ t u s. none_and_some _ u (turned u (lead m t) (caller_is u (lead m t) s)) (lead_end t);
         holds = holds;
         apart = λ t u e f g. sym (holds t e) ∙ ap (lead m) g ∙ holds u f;

@@ -26,7 +26,6 @@ use Rattle.kernel_laws.proofs.Ends.{no_valid_door}
 use Rattle.kernel_laws.proofs.Creators.{made}
 use Rattle.kernel_records.proofs.Lists.{numbered_push}
 use Rattle.written_kernel.proofs.Settling.{doors-settle}
-use Rattle.std.proofs.lemmas.Bool.{false≢true}
 use Rattle.run_places.proofs.Known.{Known, invariant_after, invariant_before, next, stays}
 use Rattle.run_places.proofs.Refusals.{entry_tells, none_of}
 use Rattle.run_places.proofs.Refusals.FailsIn.{by_test}
@@ -64,7 +63,7 @@ owner_lives m h d p v e = go (door_of m d) refl v e
         ∙ live_of _ _ (h.consistent.coherent.doors.owner_ended d x f) (not_ended_owner x w)
 
 -- a descriptor that leads to a valid door names it
-names_it : (m : State) (p d : ℕ) (fd : Fd) → door_at m p fd ≡ d → is_valid m d ≡ true → object_at m p fd ≡ Some (obj.Door d)
+pub names_it : (m : State) (p d : ℕ) (fd : Fd) → door_at m p fd ≡ d → is_valid m d ≡ true → object_at m p fd ≡ Some (obj.Door d)
 names_it m p d fd e v = go (object_at m p fd) refl e
   where
     none_at_zero : door_named None ≡ d → ⊥
@@ -96,33 +95,41 @@ revoke_done :
 unfolding step
 revoke_done m t fd e = ap (λ o. (unless_refused m o (revoke m (process_of m t) fd)).answer) e
 
--- a door that a Create makes is valid
-made_valid :
-    (m : State) (t d entry cookie : ℕ) (attrs : Attrs) (p : Option Door) → door_of m d ≡ None →
-    door_of (step m t (Some (request.Create entry cookie attrs))).state d ≡ p → is_some p ≡ true → is_valid_in p ≡ true
+-- a door that a Create makes
+made_new :
+    (m : State) (t d entry cookie : ℕ) (attrs : Attrs) (z : Door) → door_of m d ≡ None →
+    door_of (step m t (Some (request.Create entry cookie attrs))).state d ≡ Some z →
+    z ≡ new_door (length m.doors + 1) (process_of m t) entry cookie attrs
 unfolding step
-made_valid m t d entry cookie attrs p e f s =
+made_new m t d entry cookie attrs z e f =
     go (refusal_of m t (process_of m t) (request.Create entry cookie attrs))
     (sym (ap (λ ds. at_number ds d) (doors-settle m (act m t (Some (request.Create entry cookie attrs))).state)) ∙ f)
   where
-    one : (b : Bool) (y : Door) → is_valid_in (Some y) ≡ true → (if b then Some y else at_number m.doors d) ≡ p → is_valid_in p ≡ true
-    one true y v g = ap is_valid_in (sym g) ∙ v
-    one false y v g = absurd (false≢true (ap is_some (sym e ∙ g) ∙ s))
+    one : (b : Bool) (y : Door) → (if b then Some y else at_number m.doors d) ≡ Some z → z ≡ y
+    one true y g = cc
+    one false y g = absurd (cc (sym e ∙ g))
 
     go :
-        (r : Option Errno) → door_of (unless_refused m r (create m (process_of m t) entry cookie attrs)).state d ≡ p → is_valid_in p ≡ true
-    go (Some z) g = absurd (false≢true (ap is_some (sym e ∙ g) ∙ s))
-    go None g = one _ (new_door (length m.doors + 1) (process_of m t) entry cookie attrs) refl (sym (numbered_push m.doors _ d) ∙ g)
+        (r : Option Errno) → door_of (unless_refused m r (create m (process_of m t) entry cookie attrs)).state d ≡ Some z →
+        z ≡ new_door (length m.doors + 1) (process_of m t) entry cookie attrs
+    go (Some y) g = absurd (cc (sym e ∙ g))
+    go None g = one _ (new_door (length m.doors + 1) (process_of m t) entry cookie attrs) (sym (numbered_push m.doors _ d) ∙ g)
 
 module _ (m : State) (xs : List Turn) (k : Known m xs) where
+  pub new_is :
+      (i d : ℕ) (x : Turn) (door : Door) → slice_get xs i ≡ Some x → door_of (state_at m xs i) d ≡ None →
+      door_of (state_at m xs (i + 1)) d ≡ Some door →
+      door ≡ new_door (length (state_at m xs i).doors + 1) (process_at m xs i x.thread) door.entry door.cookie door.attrs
+  new_is i d x door e b a =
+      made_new (state_at m xs i) x.thread d door.entry door.cookie door.attrs door b
+      (ap (λ q. door_of (step (state_at m xs i) x.thread q).state d) (sym (made m xs k i d x door e b a).created.request)
+      ∙ sym (ap (λ n. door_of n d) (next m xs k i x e))
+      ∙ a)
+
   valid_at_first :
       (i d : ℕ) (x : Turn) (door : Door) → slice_get xs i ≡ Some x → door_of (state_at m xs i) d ≡ None →
       door_of (state_at m xs (i + 1)) d ≡ Some door → is_valid (state_at m xs (i + 1)) d ≡ true
-  valid_at_first i d x door e b a =
-      made_valid (state_at m xs i) x.thread d door.entry door.cookie door.attrs _ b
-      (ap (λ q. door_of (step (state_at m xs i) x.thread q).state d) (sym (made m xs k i d x door e b a).created.request)
-      ∙ sym (ap (λ n. door_of n d) (next m xs k i x e)))
-      (ap is_some a)
+  valid_at_first i d x door e b a = ap is_valid_in a ∙ ap (λ z. is_valid_in (Some z)) (new_is i d x door e b a)
 
   invalid_stays :
       (i j d : ℕ) (door : Door) → i ≤ j → j ≤ length xs → door_of (state_at m xs i) d ≡ Some door → is_valid (state_at m xs i) d ≡ false →

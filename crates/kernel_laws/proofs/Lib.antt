@@ -21,5 +21,7 @@ mod InvalidDoors
 mod Cancels
 mod Answers
 mod Names
+mod Bindings
+mod Parameters
 mod Entries
 mod EveryRun

@@ -1,6 +1,6 @@
 -- A thread whose accept fails is parked, and after the event is idle, was given another item, or, where its door is not valid,
 -- was unbound and will be told so.
-use Rattle.std.specs.Prelude.{ℕ, ◌≡◌, ◌<◌, ◌≤◌, ◌==◌, ◌&&◌, List, Option, Bool, true, false, if◌then◌else◌, Some, None, zero, suc, length, is_some}
+use Rattle.std.specs.Prelude.{ℕ, ◌≡◌, ◌==◌, ◌&&◌, List, Option, Bool, true, false, if◌then◌else◌, Some, None, is_some}
 use Rattle.std.specs.Option.{option_map}
 use Rattle.std.proofs.Common.{refl, sym, ap, subst, ◌∙◌}
 use native.Mathlib.Omega.{arith}
@@ -11,9 +11,10 @@ use Rattle.dk_base.specs.declared.answer.Answer.TheVariants as answer
 use Rattle.dk_base.specs.ByNumber.{at_number}
 use Rattle.kernel_records.specs.declared.record.ThreadState.TheVariants as is
 use Rattle.kernel_records.specs.Words.{ProcessTable, bound_at, bound_in, change_thread, is_given_as, is_idle, state_in, thread_at, unbind_thread}
-use Rattle.written_kernel.specs.Words.{State, accept_call, act, begin_call, bound_of, fail_begin, fail_each, fail_one, fail_return, fail_returns, find_call, give_one, go_on, has_invalid_door, has_lost_door, has_room, is_bound_to_invalid, make_notices, now, pick, pool_of, process_of, settle, state_of, step, thread_of, with_event_counted, with_state}
-use Rattle.kernel_records.proofs.Lists.{at_number-with_at_number, numbered_within}
-use Rattle.written_kernel.proofs.Settling.{KeptByFailing, KeptByGiving, KeptByMaking, KeptByStarting, give_and_start-all, make_notices-alone, settle-all, with_notice_of}
+use Rattle.written_kernel.specs.Words.{State, accept_call, act, begin_call, bound_of, fail_begin, fail_return, fail_returns, find_call, give_one, go_on, has_invalid_door, has_lost_door, has_room, is_bound_to_invalid, make_notices, now, pick, pool_of, process_of, settle, state_of, step, thread_of, with_event_counted, with_state}
+use Rattle.kernel_records.proofs.Lists.{at_number-with_at_number}
+use Rattle.written_kernel.proofs.Failing.{bound_of-fail_returns, state_of-fail_returns}
+use Rattle.written_kernel.proofs.Settling.{KeptByFailing, KeptByGiving, KeptByMaking, KeptByStarting, give_and_start-all, has_lost_door-make_notices, settle-all, with_notice_of}
 use Rattle.written_kernel.proofs.Threads.{thread_at-change_thread}
 use Rattle.kernel_invariant.proofs.Picks.{parked_is, pick_is}
 use Rattle.run_places.proofs.ReturnRefusals.{not_both}
@@ -90,7 +91,7 @@ both false b e = absurd (cc e)
 pub loses_idle : (m : State) (t : ℕ) → has_lost_door m t ≡ true → (since : ℕ) × (state_of m t ≡ is.Idle since)
 loses_idle m t e = idle_is (state_of m t) (both (is_idle (state_of m t)) (has_invalid_door m t) e).0
 
-loses_door : (m : State) (t : ℕ) → has_lost_door m t ≡ true → has_invalid_door m t ≡ true
+pub loses_door : (m : State) (t : ℕ) → has_lost_door m t ≡ true → has_invalid_door m t ≡ true
 loses_door m t e = (both (is_idle (state_of m t)) (has_invalid_door m t) e).1
 
 -- failing, of another thread and of this one
@@ -165,85 +166,24 @@ waits before m t since v e =
         other (still f s) = other_thread n t u _ _ s d (λ z. cc)
         other (got f i s) = other_thread n t u _ _ s d (λ z. cc)
 
--- a thread whose door is not valid
+-- a thread whose door is not valid fails, and stays so
+pub record HasFailed (n : State) (t : ℕ) : Type 0 where
+  pub state : state_of n t ≡ is.FailedReturn
+  pub bound : bound_of n t ≡ None
 
-data Fails (m n : State) (t since k : ℕ) : Type 0 where
-  not_yet : k < t → has_invalid_door n t ≡ true → state_of n t ≡ is.Idle since → Fails m n t since k
-  now_failed : t ≤ k → state_of n t ≡ is.FailedReturn → bound_of n t ≡ None → Fails m n t since k
-
-fails_each :
-    (m : State) (t since k : ℕ) → 1 ≤ t → has_invalid_door m t ≡ true → state_of m t ≡ is.Idle since → Fails m (fail_each m k) t since k
-fails_each m t since zero l v e = not_yet l v e
-fails_each m t since (suc k) l v e = go (fails_each m t since k l v e)
-  where
-    n : State
-    n = fail_each m k
-
-    lost : (s : ThreadState) (b : Bool) → s ≡ is.Idle since → b ≡ true → (is_idle s && b) ≡ true
-    lost s b f g = ap (λ (z : ThreadState). is_idle z && b) f ∙ g
-
-    -- another thread, or none, fails
-    other : (P : State → Type 0) → P n → P (fail_return n (suc k)) → P (fail_one n (suc k))
-    other P h g = by (has_lost_door n (suc k))
-      where
-        by : (b : Bool) → P (if b then fail_return n (suc k) else n)
-        by true = g
-        by false = h
-
-    go : Fails m (fail_each m k) t since k → Fails m (fail_one n (suc k)) t since (suc k)
-    go (now_failed f s b) =
-        let apart : (t == suc k) ≡ false = grind (arith, nat_tests, f) in
-        now_failed (omega (arith, f))
-        (other (λ o. state_of o t ≡ is.FailedReturn) s (state_elsewhere n.process_table (suc k) t _ apart ∙ s))
-        (other (λ o. bound_of o t ≡ None) b (bound_elsewhere n.bindings (suc k) t apart ∙ b))
-    go (not_yet f w s) = at (t == suc k) refl
-      where
-        at : (b : Bool) → (t == suc k) ≡ b → Fails m (fail_one n (suc k)) t since (suc k)
-        at false apart =
-            not_yet (grind (arith, nat_tests, f, apart))
-            (other (λ o. has_invalid_door o t ≡ true) w (failed_door n (suc k) t apart ∙ w))
-            (other (λ o. state_of o t ≡ is.Idle since) s (state_elsewhere n.process_table (suc k) t _ apart ∙ s))
-        at true here =
-            let same : t ≡ suc k = grind (arith, nat_tests) in
-            now_failed (omega (arith, same))
-            (ap (λ (b : Bool). state_of (if b then fail_return n (suc k) else n) t) loses
-            ∙ state_there n.process_table (suc k) t _ there.thread here there.there)
-            (ap (λ (b : Bool). bound_of (if b then fail_return n (suc k) else n) t) loses ∙ bound_here n.bindings (suc k) t here)
-          where
-            it : t ≡ suc k
-            it = grind (arith, nat_tests)
-
-            loses : has_lost_door n (suc k) ≡ true
-            loses = lost (state_of n (suc k)) (has_invalid_door n (suc k)) (ap (state_of n) (sym it) ∙ s) (ap (has_invalid_door n) (sym it) ∙ w)
-
-            there : IsThread n (suc k)
-            there = is_thread n (suc k) (λ d. absurd (cc (sym s ∙ ap (state_of n) it ∙ d)))
-
--- then it stays so
-record HasFailed (n : State) (t : ℕ) : Type 0 where
-  state : state_of n t ≡ is.FailedReturn
-  bound : bound_of n t ≡ None
-
-fails_then : (before m : State) (t since : ℕ) → has_invalid_door m t ≡ true → state_of m t ≡ is.Idle since → HasFailed (settle before m) t
+pub fails_then : (before m : State) (t since : ℕ) → has_invalid_door m t ≡ true → state_of m t ≡ is.Idle since → HasFailed (settle before m) t
 fails_then before m t since v e =
     give_and_start-all (λ n. HasFailed n t) gives starts before (fail_returns n)
-    (go
-    (fails_each n t since (length n.process_table.threads) within.0
-    (ap (λ n. has_invalid_door n t) (make_notices-alone before m) ∙ v) (ap (λ n. state_of n t) (make_notices-alone before m) ∙ e)))
+    (record {
+      state = state_of-fail_returns n t ∙ ap (λ (b : Bool). if b then is.FailedReturn else state_of n t) loses;
+      bound = bound_of-fail_returns n t ∙ ap (λ (b : Bool). if b then None else bound_of n t) loses;
+    })
   where
     n : State
     n = make_notices before m
 
-    there : IsThread m t
-    there = is_thread m t (λ d. absurd (cc (sym e ∙ d)))
-
-    within : (1 ≤ t) × (t ≤ length m.process_table.threads)
-    within = numbered_within m.process_table.threads t there.thread there.there
-
-    go : Fails n (fail_returns n) t since (length n.process_table.threads) → HasFailed (fail_returns n) t
-    go (not_yet f w s) =
-        absurd (omega (arith, f, within.1, ap (λ (k : State). length k.process_table.threads) (make_notices-alone before m)))
-    go (now_failed f s b) = record { state = s; bound = b }
+    loses : has_lost_door n t ≡ true
+    loses = has_lost_door-make_notices before m t ∙ ap (λ s. is_idle s && has_invalid_door m t) e ∙ v
 
     gives : KeptByGiving (λ n. HasFailed n t)
     gives n w x p h =

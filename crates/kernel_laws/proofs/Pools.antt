@@ -15,7 +15,8 @@ use Rattle.written_kernel.proofs.Waits.{in_waits, in_waits-notice}
 use Rattle.kernel_invariant.specs.Invariant.{Invariant}
 use Rattle.kernel_invariant.specs.Records.{has_notice_number, has_number, owner_in}
 use Rattle.run_places.specs.Counts.{has_own_pool}
-use Rattle.kernel_laws.specs.Pools.{HasNoneIdle, IsBoundToOwn, MayServe, WaitsAt}
+use Rattle.kernel_laws.specs.Pools.{HasNoneIdle, IsBoundToOwn, WaitsAt}
+use Rattle.run_places.specs.Places.{MayServe}
 use Rattle.run_places.proofs.Counts.{private_is}
 use Rattle.kernel_laws.proofs.Parked.{IsThread, is_thread}
 

@@ -76,7 +76,7 @@ tables-step : (m : State) (t : ℕ) (q : Option Request) → (step m t q).state.
 unfolding step
 tables-step m t q = tables-settle m (act m t q).state
 
-doors-step : (m : State) (t : ℕ) (q : Option Request) → (step m t q).state.doors ≡ (act m t q).state.doors
+pub doors-step : (m : State) (t : ℕ) (q : Option Request) → (step m t q).state.doors ≡ (act m t q).state.doors
 unfolding step
 doors-step m t q = doors-settle m (act m t q).state
 

@@ -1,9 +1,13 @@
--- Answers: an entry that answers no error gives the kind of answer that its request has.
-use Rattle.std.specs.Prelude.{ℕ, ◌≡◌, List, Some, slice_get}
-use Rattle.written_kernel.specs.Types.{Answer, Attrs, Errno, Fd, Param, Pass, PathId, Pid, Request, Tid}
+-- Answers: an entry that answers no error gives the kind of answer that its request has, and the end of a wait gives one that belongs
+-- to what the thread waited in.
+use Rattle.std.specs.Prelude.{ℕ, ◌≡◌, ◌⊎◌, List, Bool, None, Some, slice_get}
+use Rattle.written_kernel.specs.Types.{Answer, Attrs, Errno, Fd, Param, Pass, PathId, Pid, Request, ThreadState, Tid}
+use Rattle.dk_base.specs.declared.error.Errno.TheVariants.{EBADF, EINTR, EINVAL, EMFILE}
+use Rattle.dk_base.specs.declared.object.Item.TheVariants as item
 use Rattle.dk_base.specs.declared.answer.Answer.TheVariants as answer
 use Rattle.dk_base.specs.declared.request.Request.TheVariants as request
-use Rattle.written_kernel.specs.Words.{State, Turn}
+use Rattle.kernel_records.specs.declared.record.ThreadState.TheVariants as is
+use Rattle.written_kernel.specs.Words.{State, Turn, state_at, state_of}
 use Rattle.run_places.specs.Places.{answer_at}
 
 -- a constructor for each kind of answer that a request has
@@ -34,3 +38,19 @@ pub data Answers : Request → Answer → Type 0 where
 
 abbrev pub AnswersRequests : State → List Turn → Type 0
 AnswersRequests m xs = (i : ℕ) (x : Turn) (r : Request) → slice_get xs i ≡ Some x → x.request ≡ Some r → Answers r (answer_at m xs i x)
+
+-- a constructor for each kind of answer that ends a wait, by what the thread waited in
+pub data EndAnswers : ThreadState → Answer → Type 0 where
+  enters :
+      (c entry cookie : ℕ) (bytes : List ℕ) (fds : List Fd) → EndAnswers (is.Given (item.Call c)) (answer.Entered c entry cookie bytes fds)
+  fails_to_enter : (c : ℕ) → EndAnswers (is.Given (item.Call c)) (answer.EnterFailed c)
+  enters_notice : (n entry cookie : ℕ) → EndAnswers (is.Given (item.Notice n)) (answer.EnteredNotice n entry cookie)
+  collects : (c : ℕ) (bytes : List ℕ) (fds : List Fd) (grown : Bool) → EndAnswers (is.Calling c) (answer.Results bytes fds grown)
+  collects_error : (c : ℕ) (e : Errno) → (e ≡ EBADF) ⊎ ((e ≡ EINTR) ⊎ (e ≡ EMFILE)) → EndAnswers (is.Calling c) (answer.Failure e)
+  finds : (path : PathId) → EndAnswers (is.Awaiting path) answer.Done
+  wakes : EndAnswers is.FailedReturn (answer.Failure EINVAL)
+
+-- of each end of a wait
+abbrev pub AnswersEndsOfWaits : State → List Turn → Type 0
+AnswersEndsOfWaits m xs =
+    (i : ℕ) (x : Turn) → slice_get xs i ≡ Some x → x.request ≡ None → EndAnswers (state_of (state_at m xs i) x.thread) (answer_at m xs i x)

@@ -1,5 +1,5 @@
--- Ends: what is left of a process that has ended; that it has ended, and a thread that is Done is Done, for ever; and at which turns
--- threads and processes end.
+-- Ends: what is left of a process that has ended, and why and where threads and processes end. A process that has ended has ended for
+-- ever, and a thread that is Done is Done for ever.
 use Rattle.std.specs.Prelude.{ℕ, ◌≡◌, ◌+◌, ◌≤◌, ◌⊎◌, List, Bool, true, false, Some, None, length, slice_get}
 use Rattle.written_kernel.specs.Types.{Call, Fd, Pid}
 use Rattle.dk_base.specs.declared.request.Request.TheVariants as request
@@ -78,13 +78,13 @@ pub record Ends (m : State) (xs : List Turn) : Type 0 where
   pub thread_stays :
       (i j t : ℕ) → i ≤ j → j ≤ length xs → state_of (state_at m xs i) t ≡ is.Done → state_of (state_at m xs j) t ≡ is.Done
   -- a thread ends by its own Exit or with its process, and by each of the two
-  pub thread_ends :
+  pub thread_ends_why :
       (i t : ℕ) (x : Turn) → slice_get xs i ≡ Some x → EndsNow (state_at m xs i) (state_at m xs (i + 1)) t → ThreadEnds m xs i x t
-  pub ends_thread :
+  pub thread_ends_where :
       (i t : ℕ) (x : Turn) → slice_get xs i ≡ Some x → ThreadEnds m xs i x t → state_of (state_at m xs (i + 1)) t ≡ is.Done
   -- a process ends by a Kill or by the Exit of its last thread, and by each of the two
-  pub process_ends :
+  pub process_ends_why :
       (i p : ℕ) (x : Turn) → slice_get xs i ≡ Some x → is_ended (state_at m xs i) p ≡ false → is_ended (state_at m xs (i + 1)) p ≡ true →
       EndsProcess m xs i x p
-  pub ends_process :
+  pub process_ends_where :
       (i p : ℕ) (x : Turn) → slice_get xs i ≡ Some x → EndsProcess m xs i x p → is_ended (state_at m xs (i + 1)) p ≡ true

@@ -1,8 +1,61 @@
 -- Events: what a trace shows of a place is the event of its turn, with its number, from 1 on, the thread, the thread's root in the
--- state before, and what was answered. The word for what the thread did is the event's own.
-use Rattle.std.specs.Prelude.{ℕ, ◌≡◌, ◌+◌, List, Some, length, slice_get}
-use Rattle.written_kernel.specs.Words.{State, Turn, event_of, events_of, root, state_at}
+-- state before, what the thread did, and what was answered.
+use Rattle.std.specs.Prelude.{ℕ, ◌≡◌, ◌+◌, List, Option, None, Some, length, slice_get}
+use Rattle.written_kernel.specs.Types.{Request, ThreadState, What}
+use Rattle.dk_base.specs.declared.event.What.TheVariants as what
+use Rattle.dk_base.specs.declared.request.Request.TheVariants as request
+use Rattle.kernel_records.specs.declared.record.ThreadState.TheVariants as is
+use Rattle.written_kernel.specs.Words.{State, Turn, event_of, events_of, root, state_at, state_of}
 use Rattle.run_places.specs.Places.{answer_at}
+
+-- by what the thread asked for
+abbrev pub what_asked : Request → What
+what_asked (request.Create entry cookie attrs) = what.Create
+what_asked (request.Call fd bytes pass rsize) = what.Call
+what_asked (request.Return bytes pass) = what.Return
+what_asked (request.Revoke fd) = what.Revoke
+what_asked (request.Bind fd) = what.Bind
+what_asked request.Unbind = what.Unbind
+what_asked (request.Info fd) = what.Info
+what_asked request.InfoQuery = what.Info
+what_asked (request.GetParam fd param) = what.GetParam
+what_asked (request.SetParam fd param value) = what.SetParam
+what_asked request.Cred = what.Cred
+what_asked request.TestCancel = what.TestCancel
+what_asked (request.Close fd) = what.Close
+what_asked (request.Dup fd) = what.Dup
+what_asked (request.Attach fd path) = what.Attach
+what_asked (request.Detach path) = what.Detach
+what_asked (request.Open path) = what.Open
+what_asked (request.Await path) = what.Await
+what_asked request.Pipe = what.Pipe
+what_asked (request.Write fd bytes) = what.Write
+what_asked (request.Read fd max) = what.Read
+what_asked request.PortCreate = what.PortCreate
+what_asked (request.Associate port object events user) = what.Associate
+what_asked (request.Dissociate port object) = what.Dissociate
+what_asked (request.Get port wait) = what.Get
+what_asked (request.GetN port max nget wait) = what.GetN
+what_asked (request.Send port events user) = what.Send
+what_asked (request.SendN ports events user) = what.SendN
+what_asked (request.Alert port mode events user) = what.Alert
+what_asked (request.Interrupt thread) = what.Interrupt
+what_asked (request.Kill process) = what.Kill
+what_asked request.Exit = what.Exit
+what_asked (request.Work op bytes) = what.Work
+
+-- or by what it waited in; of the states that are not named here, FailedReturn alone is one in which a wait ends
+abbrev pub what_ended : ThreadState → What
+what_ended (is.Given item) = what.Accept
+what_ended (is.Calling c) = what.Collect
+what_ended (is.Getting port max nget one interrupted) = what.Got
+what_ended (is.Awaiting path) = what.Found
+what_ended (is.Working op input) = what.Done
+what_ended _ = what.Woken
+
+abbrev pub what_done : Option Request → ThreadState → What
+what_done (Some r) s = what_asked r
+what_done None s = what_ended s
 
 pub record EventsShown (m : State) (xs : List Turn) : Type 0 where
   pub one_each : length (events_of m xs) ≡ length xs
@@ -11,5 +64,8 @@ pub record EventsShown (m : State) (xs : List Turn) : Type 0 where
       slice_get (events_of m xs) i ≡ Some (event_of (state_at m xs i) x.thread x.request)
   pub thread : (i : ℕ) (x : Turn) → (event_of (state_at m xs i) x.thread x.request).thread.0 ≡ x.thread
   pub root : (i : ℕ) (x : Turn) → (event_of (state_at m xs i) x.thread x.request).root.0 ≡ root (state_at m xs i) x.thread
+  pub what :
+      (i : ℕ) (x : Turn) →
+      (event_of (state_at m xs i) x.thread x.request).what ≡ what_done x.request (state_of (state_at m xs i) x.thread)
   pub answer : (i : ℕ) (x : Turn) → (event_of (state_at m xs i) x.thread x.request).answer ≡ answer_at m xs i x
   pub number : (i : ℕ) (x : Turn) → slice_get xs i ≡ Some x → (event_of (state_at m xs i) x.thread x.request).number ≡ i + 1

@@ -1,5 +1,6 @@
 -- Given: a call that was given to a thread stays with that thread until the thread accepts it, or the call ends. The thread is of the
--- process that made the call's door, and waits to accept the call. The call waits in no queue again, and is with no other thread.
+-- process that made the call's door, is one that may serve it, and waits to accept the call. The call waits in no queue again, and is
+-- with no other thread.
 use Rattle.std.specs.Prelude.{ℕ, ◌≡◌, ◌+◌, ◌≤◌, ◌↔◌, ◌⊎◌, List, Some, length, slice_get}
 use Rattle.written_kernel.specs.Types.{Call}
 use Rattle.dk_base.specs.declared.error.Errno.TheVariants.{EINTR, EMFILE}
@@ -12,7 +13,7 @@ use Rattle.kernel_records.specs.Words.{tid}
 use Rattle.written_kernel.specs.Words.{State, Turn, process_of, state_at, state_of}
 use Rattle.kernel_invariant.specs.Records.{owner_of_call, record_of, stage_of}
 use Rattle.kernel_invariant.specs.Arrows.{EndsNow}
-use Rattle.run_places.specs.Places.{HasEntered, IsAccept, answer_at}
+use Rattle.run_places.specs.Places.{HasEntered, IsAccept, MayServe, answer_at}
 
 -- call c was given to thread t, which has not accepted it
 abbrev pub IsGiven : State → ℕ → ℕ → Type 0
@@ -48,6 +49,10 @@ pub record StaysGiven (m : State) (xs : List Turn) : Type 0 where
   pub given_to_owner :
       (i t c : ℕ) → i ≤ length xs → IsGiven (state_at m xs i) c t →
       owner_of_call (state_at m xs i) c ≡ Some (process_of (state_at m xs i) t)
+  -- that thread is bound to the call's door where that has a pool of its own, and else to none
+  pub given_to_pool :
+      (i t c : ℕ) (r : Call) → i ≤ length xs → record_of (state_at m xs i) c ≡ Some r → r.stage ≡ stage.Given (tid t) →
+      MayServe (state_at m xs i) t r.door
   pub moves : (i c t : ℕ) (x : Turn) → slice_get xs i ≡ Some x → IsGiven (state_at m xs i) c t → GivenMoves m xs i x c t
   -- one that is with a thread is in no queue at a later place, and is with no other thread there
   pub waits_no_more :

@@ -15,17 +15,20 @@ pub record Serves (m : State) (t u : ℕ) : Type 0 where
   pub with_it : (call.stage ≡ stage.Given (tid t)) ⊎ (call.stage ≡ stage.Entered (tid t))
   pub caller : call.caller.0 ≡ u
 
+-- thread r is reached from thread t by going to the thread that is served, and so on
+pub data Walks (m : State) : ℕ → ℕ → Type 0 where
+  ends : {t : ℕ} → Walks m t t
+  goes : (t u r : ℕ) → Serves m t u → Walks m u r → Walks m t r
+
 -- of each state
 pub record HasHolders (m : State) : Type 0 where
   -- a thread serves at most one thread at a time, and at most one serves it
   pub one_served : (t u v : ℕ) → Serves m t u → Serves m t v → u ≡ v
   pub one_server : (t u v : ℕ) → Serves m t v → Serves m u v → t ≡ u
-  -- the walks
-  pub root_goes_on : (t u : ℕ) → Serves m t u → root m t ≡ root m u
-  pub root_stays : (t : ℕ) → ((u : ℕ) → Serves m t u → ⊥) → root m t ≡ t
+  -- both walks end: a thread's root serves none, and its lead is served by none
+  pub root_reached : (t : ℕ) → Walks m t (root m t)
   pub root_ends : (t u : ℕ) → Serves m (root m t) u → ⊥
-  pub lead_goes_on : (t u : ℕ) → Serves m t u → lead m u ≡ lead m t
-  pub lead_stays : (t : ℕ) → ((u : ℕ) → Serves m u t → ⊥) → lead m t ≡ t
+  pub lead_reached : (t : ℕ) → Walks m (lead m t) t
   pub lead_ends : (t u : ℕ) → Serves m u (lead m t) → ⊥
   -- a thread that can take a turn holds the shuttle of its root, so two of them have different roots
   pub holds : (t : ℕ) → is_runnable m t ≡ true → lead m (root m t) ≡ t

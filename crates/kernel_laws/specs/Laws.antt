@@ -9,7 +9,9 @@ use Rattle.kernel_laws.specs.Rows.{Rows}
 use Rattle.kernel_laws.specs.Waits.{WaitsWhereToldSo}
 use Rattle.kernel_laws.specs.Given.{StaysGiven}
 use Rattle.kernel_laws.specs.Names.{Names}
-use Rattle.kernel_laws.specs.Answers.{AnswersRequests}
+use Rattle.kernel_laws.specs.Bindings.{Bindings}
+use Rattle.kernel_laws.specs.Parameters.{Parameters}
+use Rattle.kernel_laws.specs.Answers.{AnswersEndsOfWaits, AnswersRequests}
 use Rattle.kernel_laws.specs.MadeByCreator.{MadeByCreator}
 use Rattle.kernel_laws.specs.Refused.{Refused}
 use Rattle.kernel_laws.specs.Held.{Held}
@@ -29,7 +31,10 @@ pub record AllLaws (m : State) (xs : List Turn) : Type 0 where
   pub waits : WaitsWhereToldSo m xs
   pub given : StaysGiven m xs
   pub names : Names m xs
+  pub bindings : Bindings m xs
+  pub parameters : Parameters m xs
   pub answers : AnswersRequests m xs
+  pub ends_of_waits : AnswersEndsOfWaits m xs
   pub held : Held m xs
   pub made_by_creator : MadeByCreator m xs
   pub refused : Refused m xs

@@ -16,5 +16,7 @@ pub mod Waits
 pub mod Held
 pub mod Answers
 pub mod Names
+pub mod Bindings
+pub mod Parameters
 pub mod Laws
 pub mod Words

@@ -1,5 +1,5 @@
 -- Pools: no door has both an idle thread that may serve it and a call or a notice that waits; and to what doors threads are bound.
-use Rattle.std.specs.Prelude.{ℕ, ◌≡◌, ◌≤◌, List, Some, None, true, false, length}
+use Rattle.std.specs.Prelude.{ℕ, ◌≡◌, ◌≤◌, List, Some, true, length}
 use Rattle.written_kernel.specs.Types.{Call, Notice}
 use Rattle.kernel_records.specs.declared.record.CallStage.TheVariants as stage
 use Rattle.kernel_records.specs.declared.record.NoticeStage.TheVariants as notice
@@ -7,13 +7,7 @@ use Rattle.kernel_records.specs.declared.record.ThreadState.TheVariants as is
 use Rattle.written_kernel.specs.Words.{State, Turn, bound_of, door_of, is_valid, process_of, state_at, state_of}
 use Rattle.kernel_invariant.specs.Records.{notice_of, owner_in, record_of}
 use Rattle.run_places.specs.Counts.{has_own_pool}
-
--- thread t may serve door d: it is bound to it where the door has a pool of its own, and else to no door and of the process that
--- made it
-pub data MayServe (m : State) (t d : ℕ) : Type 0 where
-  bound : has_own_pool (door_of m d) ≡ true → bound_of m t ≡ Some d → MayServe m t d
-  unbound :
-      has_own_pool (door_of m d) ≡ false → bound_of m t ≡ None → owner_in (door_of m d) ≡ Some (process_of m t) → MayServe m t d
+use Rattle.run_places.specs.Places.{MayServe}
 
 -- a call or a notice waits at door d
 pub data WaitsAt (m : State) (d : ℕ) : Type 0 where

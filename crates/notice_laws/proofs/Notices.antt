@@ -1,14 +1,18 @@
 -- The law of notices holds of every run.
 use Rattle.std.specs.Prelude.{ℕ, ◌≡◌, List, Option, Some, None}
-use Rattle.written_kernel.specs.Types.{Notice}
+use Rattle.std.proofs.Common.{sym, ap, ◌∙◌}
+use Rattle.written_kernel.specs.Types.{Notice, NoticeStage}
 use Rattle.kernel_records.specs.declared.record.NoticeStage.TheVariants as notice
 use Rattle.kernel_records.specs.Words.{tid}
 use Rattle.written_kernel.specs.Words.{IsOpening, IsRun, State, Turn, door_of, process_of, state_at}
 use Rattle.kernel_invariant.specs.Core.{notice_in, noticed_door_in}
+use Rattle.kernel_invariant.specs.Coherent.{AreNoticesAtDoors, bound_for}
+use Rattle.kernel_invariant.specs.Core.{core}
 use Rattle.kernel_invariant.specs.Invariant.{Invariant}
 use Rattle.kernel_invariant.specs.Records.{notice_of, owner_in}
-use Rattle.run_places.specs.Places.{notice_stage_of, notice_door, owner_of_notice}
+use Rattle.run_places.specs.Places.{MayServe, notice_stage_of, notice_door, owner_of_notice}
 use Rattle.notice_laws.specs.Notices.{Notices}
+use Rattle.run_places.proofs.Counts.{may_serve}
 use Rattle.run_places.proofs.Known.{Known}
 use Rattle.run_places.proofs.Runs.{known}
 use Rattle.notice_laws.proofs.Fates.{cut_off_then, dropped_then, fate, lost_then, returned_then}
@@ -28,6 +32,19 @@ given_to_owner m h t c e = go (notice_of m c) e (h.consistent.coherent.notices_a
     go None f g = absurd (cc f)
     go (Some x) f g = g
 
+given_to_pool :
+    (m : State) → Invariant m → (t c : ℕ) (x : Notice) → notice_of m c ≡ Some x → x.stage ≡ notice.Given (tid t) → MayServe m t x.door
+given_to_pool m h t c x e f =
+    may_serve m t x.door
+    (ap (λ o. owner_in (door_of m (noticed_door_in o))) (sym e) ∙ doors.notice_given_owner c t given)
+    (doors.notice_given_bound c t given ∙ ap (λ o. bound_for (noticed_door_in o) (door_of m (noticed_door_in o))) e)
+  where
+    doors : AreNoticesAtDoors (core m).notice (core m).noticed_door (core m).door (core m).process (core m).bound
+    doors = h.consistent.coherent.notices_at_doors
+
+    given : notice_stage_of m c ≡ Some (notice.Given (tid t))
+    given = ap notice_in e ∙ ap (λ (s : NoticeStage). Some s) f
+
 pub notices_hold : (m : State) (xs : List Turn) → Known m xs → Notices m xs
 notices_hold m xs k =
     record {
@@ -43,6 +60,7 @@ notices_hold m xs k =
       by_door = by_door m xs k;
       one_ever = one_ever m xs k;
       given_to_owner = λ i t c l e. given_to_owner (state_at m xs i) (k.invariant i l) t c e;
+      given_to_pool = λ i t c x l. given_to_pool (state_at m xs i) (k.invariant i l) t c x;
       given_waits = λ i t c l e. (k.invariant i l).consistent.coherent.notices_given.notice_given c t e;
       waits_no_more = waits_no_more m xs k;
       same_thread = same_thread m xs k;

@@ -1,5 +1,5 @@
 -- Notices: a notice of a door is made exactly where the references to it fall to one, and just one there; a door without
--- DOOR_UNREF_MULTI has at most one ever; each stays with the thread that it was given to, of the process that made the door, and is
+-- DOOR_UNREF_MULTI has at most one ever; each stays with the thread that it was given to, one that may serve the door, and is
 -- entered at most once, by that thread; and what becomes of each.
 use Rattle.std.specs.Prelude.{ℕ, ◌≡◌, ◌+◌, ◌<◌, ◌≤◌, ◌↔◌, ◌⊎◌, List, true, false, Some, None, length, slice_get}
 use Rattle.written_kernel.specs.Types.{Attrs, Door, Notice, NoticeStage, Pass}
@@ -14,7 +14,7 @@ use Rattle.kernel_invariant.specs.Events.{IsMade}
 use Rattle.kernel_invariant.specs.Arrows.{EndsNow}
 use Rattle.run_places.specs.Counts.{has_attribute}
 use Rattle.run_places.specs.References.{references}
-use Rattle.run_places.specs.Places.{BecomesEntered, HasEnteredNotice, IsOf, IsReturn, NoticeBecomesEntered, answer_at, door_of_notice, notice_stage_of, owner_of_notice}
+use Rattle.run_places.specs.Places.{BecomesEntered, HasEnteredNotice, IsOf, IsReturn, MayServe, NoticeBecomesEntered, answer_at, door_of_notice, notice_stage_of, owner_of_notice}
 
 -- where one is made
 
@@ -199,6 +199,10 @@ pub record Notices (m : State) (xs : List Turn) : Type 0 where
   pub given_waits :
       (i t c : ℕ) → i ≤ length xs → notice_stage_of (state_at m xs i) c ≡ Some (notice.Given (tid t)) →
       state_of (state_at m xs i) t ≡ is.Given (item.Notice c)
+  -- that thread is bound to the door where that has a pool of its own, and else to none
+  pub given_to_pool :
+      (i t c : ℕ) (x : Notice) → i ≤ length xs → notice_of (state_at m xs i) c ≡ Some x → x.stage ≡ notice.Given (tid t) →
+      MayServe (state_at m xs i) t x.door
   -- one that is with a thread waits at no later place, and is with no other thread there
   pub waits_no_more :
       (i j c t : ℕ) → i ≤ j → j ≤ length xs → IsNoticeWith (state_at m xs i) c t → notice_stage_of (state_at m xs j) c ≡ Some notice.Waiting → ⊥

@@ -8,8 +8,11 @@ use Rattle.written_kernel.specs.Types.{Call, CallStage, Door, Obj}
 use Rattle.kernel_records.specs.Words.{free_rows, is_pool, is_private, is_private_in, is_queued, is_queued_in, pid, pool_in}
 use Rattle.kernel_records.specs.declared.pool.Pool.TheVariants.{Common, Private}
 use Rattle.kernel_records.specs.declared.record.CallStage.TheVariants as stage
-use Rattle.written_kernel.specs.Words.{State, calls_waiting, door_of, has_room, pool_of, table_of}
+use Rattle.written_kernel.specs.Words.{State, bound_of, calls_waiting, door_of, has_room, pool_of, process_of, table_of}
 use Rattle.std.specs.Prelude.{is_none}
+use Rattle.kernel_invariant.specs.Coherent.{bound_for}
+use Rattle.kernel_invariant.specs.Records.{owner_in}
+use Rattle.run_places.specs.Places.{MayServe}
 use Rattle.run_places.specs.Counts.{calls_in_pool, count_waiting_with, free_descriptors, free_places, has_own_pool, have_one_pool, is_waiting, waits_with}
 
 pub free_is : (t : List (Option Obj)) → free_places t ≡ free_rows t
@@ -28,6 +31,18 @@ too_few_is m p os e = let f : free_places (table_of m p) ≡ free_rows (table_of
 pub private_is : (o : Option Door) → is_private_in o ≡ has_own_pool o
 private_is None = refl
 private_is (Some d) = refl
+
+-- a thread of a door's pool
+pub may_serve :
+    (m : State) (t d : ℕ) → owner_in (door_of m d) ≡ Some (process_of m t) → bound_of m t ≡ bound_for d (door_of m d) → MayServe m t d
+may_serve m t d o e = go (has_own_pool (door_of m d)) refl
+  where
+    bound : (b : Bool) → has_own_pool (door_of m d) ≡ b → bound_of m t ≡ (if b then Some d else None)
+    bound b f = e ∙ ap (λ (c : Bool). if c then Some d else None) (private_is (door_of m d) ∙ f)
+
+    go : (b : Bool) → has_own_pool (door_of m d) ≡ b → MayServe m t d
+    go true f = MayServe.bound f (bound true f)
+    go false f = MayServe.unbound f (bound false f) o
 
 -- one pool
 pool_is : (a b : Option Door) → is_pool (pool_in a) (pool_in b) ≡ have_one_pool a b

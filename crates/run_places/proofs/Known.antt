@@ -4,7 +4,7 @@ use Rattle.std.proofs.Common.{refl, sym, ap, subst, ◌∙◌, add-one, inl, inr
 use native.Mathlib.Omega.{arith}
 use Rattle.std.proofs.lemmas.Option.{slice_get_within}
 use Rattle.written_kernel.specs.Types.{Call}
-use Rattle.written_kernel.specs.Words.{MayTurn, State, Turn, door_of, state_after_turn, state_at, now}
+use Rattle.written_kernel.specs.Words.{MayTurn, State, Turn, bound_of, door_of, state_after_turn, state_at, now}
 use Rattle.written_kernel.proofs.Runs.{state_at_more, events-state_at}
 use Rattle.kernel_invariant.specs.Records.{notice_of, record_of}
 use Rattle.kernel_invariant.specs.Invariant.{Invariant}
@@ -36,6 +36,7 @@ pub record Known (m : State) (xs : List Turn) : Type 0 where
   pub no_notice : (c : ℕ) → notice_of m c ≡ None
   pub no_event : m.events ≡ 0
   pub no_door : (d : ℕ) → door_of m d ≡ None
+  pub no_binding : (t : ℕ) → bound_of m t ≡ None
   pub sizes : (p : ℕ) → descriptors m p ≡ limit_of m p
   pub invariant : (i : ℕ) → i ≤ length xs → Invariant (state_at m xs i)
   pub may : (i : ℕ) (x : Turn) → slice_get xs i ≡ Some x → MayTurn (state_at m xs i) x.thread x.request

@@ -7,7 +7,7 @@ use Rattle.std.proofs.lemmas.Option.{slice_get_within}
 use Rattle.dk_base.specs.ByNumber.{at_number}
 use Rattle.kernel_records.specs.Words.{NoticeList, table_in}
 use Rattle.written_kernel.specs.Words.{IsOpening, IsRun, State, Turn, door_of, state_at}
-use Rattle.written_kernel.proofs.Opening.{opened, opening_table}
+use Rattle.written_kernel.proofs.Opening.{bound_of-opening, opened, opening_table}
 use Rattle.written_kernel.proofs.Runs.{MayTurn_at, state_at_more}
 use Rattle.kernel_invariant.specs.Records.{has_notice_number, notice_of}
 use Rattle.kernel_invariant.specs.Invariant.{Invariant}
@@ -52,6 +52,7 @@ module _ (m : State) (xs : List Turn) (opens : IsOpening m) (run : IsRun m xs) w
         no_notice = no_notice_at_first;
         no_event = (opened opens).events;
         no_door = no_door_at_first;
+        no_binding = bound_of-opening opens;
         sizes = sizes;
         invariant = invariant_at;
         may = λ i x e. MayTurn_at m xs i x run e;

@@ -14,6 +14,7 @@ use Rattle.written_kernel.specs.Words.{State, Turn, bound_of, door_of, is_valid,
 use Rattle.kernel_invariant.specs.Records.{notice_of, owner_in, record_of, stage_of}
 use Rattle.kernel_invariant.specs.Core.{abandoned_in, has_arguments, notice_in}
 use Rattle.kernel_invariant.specs.Events.{IsSameDoor}
+use Rattle.run_places.specs.Counts.{has_own_pool}
 use Rattle.run_places.specs.Refusals.{Refusal, ReturnRefusal}
 
 -- what the turn of place i answers, if it is this turn
@@ -190,6 +191,13 @@ pub record IsBoundToInvalid (m : State) (t : ℕ) : Type 0 where
 -- thread t is bound to no door, or to a valid one
 abbrev pub IsBoundToNoInvalid : State → ℕ → Type 0
 IsBoundToNoInvalid m t = (d : ℕ) → bound_of m t ≡ Some d → is_valid m d ≡ true
+
+-- thread t may serve door d: it is bound to it where the door has a pool of its own, and else to no door and of the process that
+-- made it
+pub data MayServe (m : State) (t d : ℕ) : Type 0 where
+  bound : has_own_pool (door_of m d) ≡ true → bound_of m t ≡ Some d → MayServe m t d
+  unbound :
+      has_own_pool (door_of m d) ≡ false → bound_of m t ≡ None → owner_in (door_of m d) ≡ Some (process_of m t) → MayServe m t d
 
 -- what a Return of thread t answers that is not refused
 pub data ReturnAnswers (m : State) (t : ℕ) : Answer → Type 0 where

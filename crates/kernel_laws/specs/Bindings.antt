@@ -1,0 +1,50 @@
+-- Bindings: at every event each thread is bound to the door that it was bound to, except where it binds or unbinds itself, or its door
+-- is not valid: then its Return unbinds it, and so does its failing while it is parked.
+use Rattle.std.specs.Prelude.{ℕ, ◌≡◌, ◌+◌, List, Option, false, Some, None, slice_get}
+use Rattle.written_kernel.specs.Types.{Fd, Pass}
+use Rattle.dk_base.specs.declared.object.Obj.TheVariants as obj
+use Rattle.dk_base.specs.declared.request.Request.TheVariants as request
+use Rattle.dk_base.specs.declared.answer.Answer.TheVariants as answer
+use Rattle.kernel_records.specs.declared.record.ThreadState.TheVariants as is
+use Rattle.written_kernel.specs.Words.{State, Turn, bound_of, is_valid, object_at, state_at, state_of}
+use Rattle.run_places.specs.Places.{IsReturn, answer_at, process_at}
+
+-- the turn of place i binds its thread to door d, which a descriptor of the thread's process names
+pub record Binds (m : State) (xs : List Turn) (i : ℕ) (x : Turn) (d : ℕ) : Type 0 where
+  pub fd : Fd
+  pub asked : x.request ≡ Some (request.Bind fd)
+  pub named : object_at (state_at m xs i) (process_at m xs i x.thread) fd ≡ Some (obj.Door d)
+
+-- to which door thread t is bound before and after the turn of place i
+pub data BindingChange (m : State) (xs : List Turn) (i : ℕ) (x : Turn) (t : ℕ) : Option ℕ → Option ℕ → Type 0 where
+  stays : {o : Option ℕ} → BindingChange m xs i x t o o
+  binds :
+      (o : Option ℕ) (d : ℕ) → x.thread ≡ t → Binds m xs i x d → answer_at m xs i x ≡ answer.Done → BindingChange m xs i x t o (Some d)
+  unbinds :
+      (d : ℕ) → x.thread ≡ t → x.request ≡ Some request.Unbind → answer_at m xs i x ≡ answer.Done →
+      BindingChange m xs i x t (Some d) None
+  returns :
+      (d : ℕ) (bytes : List ℕ) (pass : List Pass) → x.thread ≡ t → IsReturn m xs i x bytes pass → is_valid (state_at m xs i) d ≡ false →
+      BindingChange m xs i x t (Some d) None
+  fails :
+      (d : ℕ) → state_of (state_at m xs (i + 1)) t ≡ is.FailedReturn → is_valid (state_at m xs (i + 1)) d ≡ false →
+      BindingChange m xs i x t (Some d) None
+
+-- the thread of the turn is bound to the door that the turn binds it to
+pub record IsBound (m : State) (xs : List Turn) (i : ℕ) (x : Turn) : Type 0 where
+  pub door : ℕ
+  pub binds : Binds m xs i x door
+  pub bound : bound_of (state_at m xs (i + 1)) x.thread ≡ Some door
+
+pub record Bindings (m : State) (xs : List Turn) : Type 0 where
+  pub none_at_first : (t : ℕ) → bound_of m t ≡ None
+  pub each :
+      (i t : ℕ) (x : Turn) → slice_get xs i ≡ Some x →
+      BindingChange m xs i x t (bound_of (state_at m xs i) t) (bound_of (state_at m xs (i + 1)) t)
+  -- and each request that is done has its effect
+  pub bound :
+      (i : ℕ) (x : Turn) (fd : Fd) → slice_get xs i ≡ Some x → x.request ≡ Some (request.Bind fd) → answer_at m xs i x ≡ answer.Done →
+      IsBound m xs i x
+  pub unbound :
+      (i : ℕ) (x : Turn) → slice_get xs i ≡ Some x → x.request ≡ Some request.Unbind → answer_at m xs i x ≡ answer.Done →
+      bound_of (state_at m xs (i + 1)) x.thread ≡ None
