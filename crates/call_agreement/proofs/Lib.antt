@@ -1,0 +1,4 @@
+pub mod Alls
+pub mod Free
+pub mod Backing
+pub mod Leaving
