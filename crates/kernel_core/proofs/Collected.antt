@@ -1,10 +1,9 @@
--- A call that brings no objects leaves the tables, and a stage of which a caller is told nothing brings none.
+-- A call that brings no objects leaves the tables, and what a caller is told depends on them alone.
 use Rattle.std.proofs.Common.{◌≡◌, ℕ, zero, suc, ◌-◌, ◌==◌, Bool, true, false, List, [], ◌∷◌, Option, Some, None, if◌then◌else◌, slice_get, slice_set, unwrap_or, refl, ap, ◌∙◌}
-use Rattle.written_kernel.specs.Types.{Call, CallStage, Errno, Obj}
-use Rattle.dk_base.specs.declared.answer.Answer.TheVariants.{Done}
+use Rattle.written_kernel.specs.Types.{Call, CallStage, Obj}
 use Rattle.kernel_records.specs.declared.record.CallStage.TheVariants as stage
 use Rattle.kernel_records.specs.Words.{table_in, with_table}
-use Rattle.written_kernel.specs.Words.{State, collect_answer, collect_answer_in, has_room, objects_collected, tables_after_collect, tables_with}
+use Rattle.written_kernel.specs.Words.{State, collect_answer, collect_answer_in, has_room, tables_after_collect, tables_with}
 
 -- a table that is put back changes nothing
 
@@ -24,14 +23,6 @@ nothing_collected m p = go (has_room m p [])
     go : (b : Bool) → (if b then tables_with m p [] else m.tables) ≡ m.tables
     go true = table_put_back m.tables p
     go false = refl
-
--- a stage of which a caller is told nothing
-pub nothing_told :
-    (m : State) (p : ℕ) (r : Call) (s : CallStage) → ((bytes : List ℕ) (objects : List Obj) → s ≡ stage.Returned bytes objects → ⊥) →
-    ((e : Errno) → s ≡ stage.Ended e → ⊥) → (objects_collected s ≡ []) × (collect_answer m p r s ≡ Done)
-nothing_told m p r (stage.Returned bytes objects) h k = absurd (h bytes objects refl)
-nothing_told m p r (stage.Ended e) h k = absurd (k e refl)
-nothing_told m p r s h k = (refl, refl)
 
 -- what a caller is told depends on the tables alone
 pub told_alike : (m n : State) (p : ℕ) (o : Option Call) → n.tables ≡ m.tables → collect_answer_in n p o ≡ collect_answer_in m p o

@@ -22,5 +22,5 @@ pub running_active : (m : State) (t : ℕ) → is_running m t ≡ true → IsAct
 running_active m t e = go (state_of m t) e
   where
     go : (s : ThreadState) → is_running_state s ≡ true → IsActive s
-    go is.Running e = record { not_done = refl; not_idle = refl; not_dormant = refl }
+    go is.Running e = record { not_done = refl; not_idle = refl; not_dormant = refl; not_given = refl; not_calling = refl }
     go s e = grind arith

@@ -14,3 +14,4 @@ pub mod Watching
 pub mod Making
 pub mod Acted
 pub mod Finishing
+mod Told

@@ -4,7 +4,7 @@ ghost use Rattle.std.specs.Option.{option_map};
 ghost use Rattle.kernel_records.specs.Words.{has_common_door, is_private};
 ghost use Rattle.kernel_invariant.specs.Events.{is_leaving};
 ghost use Rattle.kernel_core.specs.Entries.{made_first, may_make_first};
-ghost use Rattle.written_kernel.specs.Words.{StandsFor, act, end_work, enter, is_running, process_of, state_of};
+ghost use Rattle.written_kernel.specs.Words.{StandsFor, act, end_work, enter, is_runnable, is_running, process_of, state_of};
 ghost use Rattle.kernel_core.specs.Handed.{count_passed, ending_of, objects_at_end};
 ghost use Rattle.kernel_core.specs.Kept.{HasNothingPast};
 ghost use Rattle.kernel_core.specs.Numbers.{HasNumbersLeft};
@@ -100,14 +100,7 @@ pub fn made_first(answer: &Answer, first: Option<Pid>) -> Option<Pid>
 
 /// A kernel entry of thread `t` of process `p`, which runs, in the file of its subject. What it passes goes into `objects`.
 #[tactic(auto, using(crate::proofs::Live::entry_kept, crate::proofs::Live::live_state))]
-pub fn enter(
-    store: &mut Store,
-    alloc: Global,
-    t: Tid,
-    p: Pid,
-    request: Request,
-    objects: Room<Obj>,
-) -> Answer
+pub fn enter(store: &mut Store, t: Tid, p: Pid, request: Request, objects: Room<Obj>) -> Answer
     requires numbers { HasNumbersLeft (stored_state store.old) }
     requires can_act { CanAct (pool_of_request (stored_state store.old) t.0 request) store.old }
     requires can_leave { is_leaving request ≡ true → CanLeave store.old }
@@ -122,7 +115,7 @@ pub fn enter(
 {
     match request {
         Request::Create { .. } | Request::Call { .. } | Request::Return { .. } => {
-            doors::enter(store, alloc, t, p, request, objects)
+            doors::enter(store, t, p, request, objects)
         }
         Request::Bind { .. } | Request::Unbind | Request::InfoQuery => {
             binding::enter(store, t, p, request)
@@ -141,7 +134,7 @@ pub fn enter(
         | Request::Interrupt { .. }
         | Request::Kill { .. }
         | Request::Exit
-        | Request::TestCancel => leaving::enter(store, alloc, t, p, request),
+        | Request::TestCancel => leaving::enter(store, t, p, request),
         _ => Answer::Done,
     }
 }
@@ -185,7 +178,7 @@ pub fn ending_of(state: &ThreadState) -> Ending
 }
 
 /// The end of the wait of thread `t` of process `p`. The descriptors that objects get go into `fds`.
-#[tactic(auto, using(crate::proofs::Endings::ending_active, crate::proofs::Endings::ending_given))]
+#[tactic(auto, using(crate::proofs::Endings::ending_active, crate::proofs::Endings::ending_given, crate::proofs::Endings::ending_calling))]
 pub fn go_on(
     store: &mut Store,
     alloc: Global,
@@ -198,13 +191,14 @@ pub fn go_on(
     requires none_past { HasNothingPast (stored_state store.old) }
     requires own { p.0 ≡ process_of (stored_state store.old) t.0 }
     requires at { ending ≡ ending_of (state_of (stored_state store.old) t.0) }
+    requires runnable { is_runnable (stored_state store.old) t.0 ≡ true }
     requires room { IsRoomFor (length (objects_at_end (stored_state store.old) t.0 ending)) fds }
     ensures state { StandsFor (stored_state store.new) (act (stored_state store.old) t.0 None).state }
     ensures answer { result ≡ (act (stored_state store.old) t.0 None).answer }
     ensures keeps { FillsOnePool (own_pool (stored_state store.old) t.0) store.old store.new }
 {
     match ending {
-        Ending::Accept(item) => accept(store, alloc, t, p, item, fds),
+        Ending::Accept(item) => accept(store, t, p, item, fds),
         Ending::Collect(call) => collect(store, t, p, call, fds),
         Ending::Find => found(store, t),
         Ending::EndWork => end_work(store, alloc, t),

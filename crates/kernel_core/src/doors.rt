@@ -1,19 +1,21 @@
 //! The acts of doors, of calls of them, and of their invocations.
-ghost use Rattle.std.specs.Prelude.{◌≡◌, ◌++◌, None, false, length, true};
+ghost use Rattle.std.specs.Prelude.{◌≡◌, ◌++◌, None, Option, Some, false, length, nat_lt, true};
 ghost use Rattle.dk_base.specs.declared.object.Item.TheVariants as item;
 ghost use Rattle.kernel_records.specs.declared.record.ThreadState.TheVariants as is;
 ghost use Rattle.kernel_records.specs.Words.{cookie_of, entry_of, first_refusal, is_given_as, is_given_notice_as, limit_tests, no_cancel_of};
 ghost use Rattle.written_kernel.specs.Types.{Call};
-ghost use Rattle.written_kernel.specs.Words.{StandsFor, Subject, accept, accept_call, accept_notice, call, call_tests, collect, collect_answer_in, create, create_tests, door_named, door_of, find_call, find_notice, has_room, is_running, new_call, object_at, objects_collected_in, pass_tests, pool_of, pool_tests, process_of, results_answer, return, return_tests, state_of, tables_after_collect};
-ghost use Rattle.kernel_core.specs.Handed.{count_passed, objects_at_end, objects_given, objects_to_collect, objects_with};
+ghost use Rattle.written_kernel.specs.Words.{StandsFor, Subject, accept, accept_call, accept_notice, call, call_tests, collect, collect_answer_in, create, create_tests, door_named, door_of, find_call, find_notice, has_answer, has_room, is_running, object_at, objects_collected_in, pass_tests, pool_of, pool_tests, process_of, results_answer, return, return_tests, state_of, tables_after_collect};
+ghost use Rattle.kernel_core.specs.Handed.{count_passed, objects_at_end, objects_given, objects_to_collect, objects_told, objects_with};
 ghost use Rattle.kernel_core.specs.Kept.{HasNothingPast};
 ghost use Rattle.kernel_core.specs.Numbers.{HasNumbersLeft};
 ghost use Rattle.pool_agreement.specs.Words.{own_pool, pool_of_request};
+ghost use Rattle.call_tree.specs.Words.{outcome_in};
 ghost use Rattle.kernel_core.specs.Entries.{entry_about};
-ghost use Rattle.kernel_store.specs.Words.{AllIsGivenOut, ArePlaced, CanAct, CanCount, FillsOnePool, HasRoomForDoor, HasRoomForReferences, IsActive, IsRoomFor, KeepsForNotices, KeepsPools, NothingAfter, stored_state};
+ghost use Rattle.kernel_store.specs.Words.{AllIsGivenOut, ArePlaced, CanAct, CanCount, FillsOnePool, HasRoomForDoor, HasRoomForReferences, IsRoomFor, KeepsForNotices, KeepsPools, NothingAfter, stored_state};
 
 use crate::acts::Ending;
 use crate::descriptors::{add_row, door_named};
+use call_tree::parts::{Args, Outcome};
 use dk_base::answer::Answer;
 use dk_base::error::Errno;
 use dk_base::limits::{DATA_MAX, PASS_MAX, QUEUE_MAX};
@@ -23,9 +25,8 @@ use dk_base::object::{Item, Obj};
 use dk_base::request::Request;
 use dk_base::set::Attrs;
 use door_object::doors::Doors;
-use kernel_records::record::{Call, CallStage, ThreadState};
+use kernel_records::record::{Call, CallStage};
 use kernel_store::store::Store;
-use std::alloc::Global;
 
 /// door_create(3C): EINVAL for attributes that only door_info(3C) tells, EMFILE.
 pub fn create_refusal(store: &Store, p: Pid, attrs: Attrs) -> Option<Errno>
@@ -106,27 +107,7 @@ fn has_no_cancel(store: &Store, d: u32) -> bool
     }
 }
 
-/// A call of door `d`, as it is made.
-fn new_call(store: &Store, t: Tid, d: u32, bytes: Bytes, objects: ObjList, rsize: u64) -> Call
-    requires { HasNumbersLeft (stored_state store.now) }
-    ensures { result ≡ new_call (stored_state store.now) t.0 d bytes objects rsize }
-{
-    Call {
-        number: store.calls().made() + 1,
-        made: store.now(),
-        caller: t,
-        door: d,
-        bytes,
-        objects,
-        rsize,
-        no_cancel: has_no_cancel(store, d),
-        abandoned: false,
-        stage: CallStage::Queued,
-    }
-}
-
 /// door_call(3C): a call that waits for a server thread, by a thread that runs. What is passed goes with it.
-#[tactic(auto, using(crate::proofs::Idle::running_active))]
 pub fn call(
     store: &mut Store,
     t: Tid,
@@ -147,12 +128,15 @@ pub fn call(
     ensures keeps { FillsOnePool (pool_of (stored_state store.old) (door_named (object_at (stored_state store.old) p.0 fd))) store.old store.new }
 {
     let door = door_named(store, p, fd);
+    let no_cancel = has_no_cancel(store, door);
     store.take_out(p, pass, &mut objects);
-    let call = new_call(store, t, door, bytes, objects.into_list(), rsize);
-    let number = call.number;
-    store.open_call(call);
-    store.turn(t, ThreadState::Calling { call: number });
-    Answer::WaitCall { call: number }
+    let args = Args {
+        bytes,
+        objects: objects.into_list(),
+    };
+    Answer::WaitCall {
+        call: store.open_call(t, door, args, rsize, no_cancel),
+    }
 }
 
 /// door_return(3C): E2BIG where the thread has a client, then EINVAL of descriptors.
@@ -178,7 +162,6 @@ pub fn return_refusal(
 /// serves, if it serves one, is over; and the thread, which runs, is parked.
 pub fn return_from(
     store: &mut Store,
-    alloc: Global,
     t: Tid,
     p: Pid,
     bytes: Bytes,
@@ -197,23 +180,16 @@ pub fn return_from(
     store.take_out(p, pass, &mut objects);
     let objects = objects.into_list();
     if store.has_invalid_door(t) {
-        store.return_unbound(alloc, t, bytes, objects);
+        store.return_unbound(t, bytes, objects);
         return Answer::Failure(Errno::EINVAL);
     }
-    store.return_call(alloc, t, bytes, objects);
+    store.return_call(t, bytes, objects);
     Answer::Wait
 }
 
 /// An entry about doors, by a thread that runs. What it passes goes into `objects`.
 #[tactic(auto, using(crate::proofs::Live::entry_kept, crate::proofs::Live::live_state))]
-pub fn enter(
-    store: &mut Store,
-    alloc: Global,
-    t: Tid,
-    p: Pid,
-    request: Request,
-    objects: Room<Obj>,
-) -> Answer
+pub fn enter(store: &mut Store, t: Tid, p: Pid, request: Request, objects: Room<Obj>) -> Answer
     requires numbers { HasNumbersLeft (stored_state store.old) }
     requires can_act { CanAct (pool_of_request (stored_state store.old) t.0 request) store.old }
     requires none_past { HasNothingPast (stored_state store.old) }
@@ -244,7 +220,7 @@ pub fn enter(
         },
         Request::Return { bytes, pass } => match return_refusal(store, t, p, &bytes, &pass) {
             Some(error) => Answer::Failure(error),
-            None => return_from(store, alloc, t, p, bytes, &pass, objects),
+            None => return_from(store, t, p, bytes, &pass, objects),
         },
         _ => Answer::Done,
     }
@@ -275,7 +251,7 @@ fn count_given(store: &Store, t: Tid, c: u32) -> usize
 fn count_to_collect(store: &Store, c: u32) -> usize
     ensures { result ≡ length (objects_to_collect (stored_state store.now) c) }
 {
-    match store.calls().ready(c) {
+    match store.calls().ready_call(c) {
         Some(
             Call {
                 stage: CallStage::Returned { objects, .. },
@@ -297,7 +273,7 @@ fn has_room_given(store: &Store, t: Tid, p: Pid, c: u32) -> bool
 }
 
 /// The invocation of a call begins, of a thread that was given it. Its objects get descriptors.
-fn begin_call(store: &mut Store, alloc: Global, t: Tid, p: Pid, c: u32, fds: Room<Fd>) -> Answer
+fn begin_call(store: &mut Store, t: Tid, p: Pid, c: u32, fds: Room<Fd>) -> Answer
     requires given { state_of (stored_state store.old) t.0 ≡ is.Given (item.Call c) }
     requires fds { IsRoomFor (length (objects_given (stored_state store.old) t.0 c)) fds }
     requires room { has_room (stored_state store.old) p.0 (objects_given (stored_state store.old) t.0 c) ≡ true }
@@ -306,16 +282,12 @@ fn begin_call(store: &mut Store, alloc: Global, t: Tid, p: Pid, c: u32, fds: Roo
     ensures answer { result ≡ (accept_call (stored_state store.old) t.0 p.0 c (find_call (stored_state store.old) (is_given_as c t.0))).answer }
     ensures keeps { KeepsPools store.old store.new }
 {
-    let Some(call) = store.enter_call(alloc, c, t) else {
+    let Some(call) = store.calls().given(c, t) else {
         return Answer::Done;
     };
+    let number = call.number;
     let (entry, cookie) = entry_point(store, call.door);
-    let Call {
-        number,
-        bytes,
-        objects,
-        ..
-    } = call;
+    let Args { bytes, objects } = store.enter_call(c, t);
     Answer::Entered {
         call: number,
         entry,
@@ -326,7 +298,7 @@ fn begin_call(store: &mut Store, alloc: Global, t: Tid, p: Pid, c: u32, fds: Roo
 }
 
 /// The call that a thread was given ends EMFILE, and the thread is parked again.
-fn fail_begin(store: &mut Store, alloc: Global, t: Tid, p: Pid, c: u32) -> Answer
+fn fail_begin(store: &mut Store, t: Tid, p: Pid, c: u32) -> Answer
     requires given { state_of (stored_state store.old) t.0 ≡ is.Given (item.Call c) }
     requires can_act { CanAct (own_pool (stored_state store.old) t.0) store.old }
     requires full { has_room (stored_state store.old) p.0 (objects_given (stored_state store.old) t.0 c) ≡ false }
@@ -334,15 +306,17 @@ fn fail_begin(store: &mut Store, alloc: Global, t: Tid, p: Pid, c: u32) -> Answe
     ensures answer { result ≡ (accept_call (stored_state store.old) t.0 p.0 c (find_call (stored_state store.old) (is_given_as c t.0))).answer }
     ensures keeps { FillsOnePool (own_pool (stored_state store.old) t.0) store.old store.new }
 {
-    let Some(call) = store.fail_call(alloc, c, t) else {
+    let Some(call) = store.calls().given(c, t) else {
         return Answer::Done;
     };
-    Answer::EnterFailed { call: call.number }
+    let number = call.number;
+    store.fail_call(c, t);
+    Answer::EnterFailed { call: number }
 }
 
 /// The end of the wait of a thread that was given a call: its invocation begins where its process has a descriptor for each
 /// object of the call, else the call ends EMFILE.
-fn accept_call(store: &mut Store, alloc: Global, t: Tid, p: Pid, c: u32, fds: Room<Fd>) -> Answer
+fn accept_call(store: &mut Store, t: Tid, p: Pid, c: u32, fds: Room<Fd>) -> Answer
     requires given { state_of (stored_state store.old) t.0 ≡ is.Given (item.Call c) }
     requires can_act { CanAct (own_pool (stored_state store.old) t.0) store.old }
     requires room { IsRoomFor (length (objects_given (stored_state store.old) t.0 c)) fds }
@@ -351,9 +325,9 @@ fn accept_call(store: &mut Store, alloc: Global, t: Tid, p: Pid, c: u32, fds: Ro
     ensures keeps { FillsOnePool (own_pool (stored_state store.old) t.0) store.old store.new }
 {
     if has_room_given(store, t, p, c) {
-        begin_call(store, alloc, t, p, c, fds)
+        begin_call(store, t, p, c, fds)
     } else {
-        fail_begin(store, alloc, t, p, c)
+        fail_begin(store, t, p, c)
     }
 }
 
@@ -377,7 +351,7 @@ fn accept_notice(store: &mut Store, t: Tid, n: u32) -> Answer
 }
 
 /// The end of the wait of a thread that was given an item: its invocation begins, or the item cannot be entered.
-pub fn accept(store: &mut Store, alloc: Global, t: Tid, p: Pid, item: Item, fds: Room<Fd>) -> Answer
+pub fn accept(store: &mut Store, t: Tid, p: Pid, item: Item, fds: Room<Fd>) -> Answer
     requires given { state_of (stored_state store.old) t.0 ≡ is.Given item }
     requires can_act { CanAct (own_pool (stored_state store.old) t.0) store.old }
     requires room { IsRoomFor (length (objects_with (stored_state store.old) t.0 item)) fds }
@@ -386,7 +360,7 @@ pub fn accept(store: &mut Store, alloc: Global, t: Tid, p: Pid, item: Item, fds:
     ensures keeps { FillsOnePool (own_pool (stored_state store.old) t.0) store.old store.new }
 {
     match item {
-        Item::Call(c) => accept_call(store, alloc, t, p, c, fds),
+        Item::Call(c) => accept_call(store, t, p, c, fds),
         Item::Notice(n) => accept_notice(store, t, n),
     }
 }
@@ -395,60 +369,58 @@ pub fn accept(store: &mut Store, alloc: Global, t: Tid, p: Pid, item: Item, fds:
 fn hand_results(
     store: &mut Store,
     p: Pid,
-    rsize: u64,
     bytes: Bytes,
     objects: &ObjList,
+    grown: bool,
     fds: Room<Fd>,
 ) -> Answer
     requires room { IsRoomFor (length objects.now) fds }
     requires counted { CanCount store.old objects.now }
     ensures state { stored_state store.new ≡ record (stored_state store.old) { tables = tables_after_collect (stored_state store.old) p.0 objects.now } }
-    ensures answer { (r : Call) → r.rsize ≡ rsize → result ≡ results_answer (stored_state store.old) p.0 r bytes objects.now }
+    ensures answer { (r : Call) → nat_lt r.rsize (length bytes) ≡ grown → result ≡ results_answer (stored_state store.old) p.0 r bytes objects.now }
     ensures keeps { KeepsPools store.old store.new }
 {
     if !store.has_room(p, objects) {
         return Answer::Failure(Errno::EMFILE);
     }
     Answer::Results {
-        grown: bytes.len() as u64 > rsize,
+        grown,
         bytes,
         fds: store.install(p, objects, fds),
     }
 }
 
 /// What a caller is told of the call that it collects.
-fn outcome(store: &mut Store, p: Pid, call: Option<Call>, fds: Room<Fd>) -> Answer
-    requires room { IsRoomFor (length (objects_collected_in call)) fds }
-    requires counted { CanCount store.old (objects_collected_in call) }
-    ensures state { stored_state store.new ≡ record (stored_state store.old) { tables = tables_after_collect (stored_state store.old) p.0 (objects_collected_in call) } }
-    ensures answer { result ≡ collect_answer_in (stored_state store.old) p.0 call }
+fn tell(store: &mut Store, p: Pid, outcome: Outcome, fds: Room<Fd>) -> Answer
+    requires room { IsRoomFor (length (objects_told outcome)) fds }
+    requires counted { CanCount store.old (objects_told outcome) }
+    ensures state { stored_state store.new ≡ record (stored_state store.old) { tables = tables_after_collect (stored_state store.old) p.0 (objects_told outcome) } }
+    ensures answer { (call : Option Call) → outcome_in call ≡ Some outcome → result ≡ collect_answer_in (stored_state store.old) p.0 call }
     ensures keeps { KeepsPools store.old store.new }
 {
-    let Some(Call { rsize, stage, .. }) = call else {
-        return Answer::Done;
-    };
-    match stage {
-        CallStage::Returned { bytes, objects } => {
-            hand_results(store, p, rsize, bytes, &objects, fds)
-        }
-        CallStage::Ended { error } => Answer::Failure(error),
-        _ => Answer::Done,
+    match outcome {
+        Outcome::Results {
+            bytes,
+            objects,
+            grown,
+        } => hand_results(store, p, bytes, &objects, grown, fds),
+        Outcome::Ended(error) => Answer::Failure(error),
     }
 }
 
 /// The end of the wait of a caller: the results, or the error that its call ended with. The call is forgotten.
 pub fn collect(store: &mut Store, t: Tid, p: Pid, c: u32, fds: Room<Fd>) -> Answer
     requires none_past { HasNothingPast (stored_state store.old) }
-    requires active { IsActive (state_of (stored_state store.old) t.0) }
+    requires calling { state_of (stored_state store.old) t.0 ≡ is.Calling c }
+    requires ready { has_answer (stored_state store.old) c ≡ true }
     requires room { IsRoomFor (length (objects_to_collect (stored_state store.old) c)) fds }
     requires references { HasRoomForReferences store.old }
     ensures state { StandsFor (stored_state store.new) (collect (stored_state store.old) t.0 p.0 c).state }
     ensures answer { result ≡ (collect (stored_state store.old) t.0 p.0 c).answer }
     ensures keeps { KeepsPools store.old store.new }
 {
-    let call = store.collect_call(c);
-    store.turn(t, ThreadState::Running);
-    outcome(store, p, call, fds)
+    let outcome = store.collect_call(c, t);
+    tell(store, p, outcome, fds)
 }
 
 /// How many objects the end of a thread's wait hands over.

@@ -2,7 +2,7 @@
 ghost use Rattle.std.specs.Prelude.{◌≡◌, ℕ, ◌+◌, ◌<◌, List, Option, false, length, true, Some, None, IfOk, OnOk, OnErr};
 ghost use Rattle.std.specs.Option.{option_map};
 ghost use Rattle.dk_base.specs.declared.limits.TheConstants.{EVENTS_MAX, THREADS_MAX};
-ghost use Rattle.written_kernel.specs.Words.{IsStep, State, act, has_invalid_door, has_lost_door, is_live_process, is_running, step, with_event_counted, with_new_thread, woken_threads};
+ghost use Rattle.written_kernel.specs.Words.{IsStep, State, act, has_invalid_door, has_lost_door, is_live_process, is_runnable, is_running, step, with_event_counted, with_new_thread, woken_threads};
 ghost use Rattle.kernel_invariant.specs.Events.{is_leaving};
 ghost use Rattle.kernel_store.specs.Words.{ArePlaced, CanSettle, FillsNoPool, HasRoom, HasRoomForNotices, HasRoomToLeave, IsAtRest, stored_state};
 ghost use Rattle.written_kernel.specs.Types.{Pool, Request};
@@ -165,7 +165,7 @@ impl Parts {
         let needs = needs_of(&self.store, t, p, &request);
         let objects = Room::with_room(alloc, needs.passed)?;
         let taken = self.reserve(alloc, needs.touched, needs.leaves)?;
-        let answer = enter(&mut self.store, alloc, t, p, request, objects);
+        let answer = enter(&mut self.store, t, p, request, objects);
         let first = made_first(&answer, needs.first);
         Ok(self.finish(taken, needs.touched, needs.leaves, first, answer))
     }
@@ -173,6 +173,7 @@ impl Parts {
     /// The event of the end of a wait. A thread that is bound to an invalid door wakes with EINVAL where it parks again.
     pub fn go_on(&mut self, alloc: Global, t: Tid) -> Result<Stepped, NoMemory>
         requires can_step { CanStep self.old }
+        requires runnable { is_runnable (stored_state self.old.store) t.0 ≡ true }
         requires noticing { CanNoticeAfter (stored_state self.old.store) t.0 None }
         requires none_lost { has_invalid_door (stored_state self.old.store) t.0 ≡ false → (u : ℕ) → has_lost_door (act (stored_state self.old.store) t.0 None).state u ≡ false }
         ensures step { IfOk result (λ s. IsStep (step (stored_state self.old.store) t.0 None) (stored_state self.new.store) s) }

@@ -16,46 +16,45 @@ use dk_base::request::Request;
 use kernel_records::leaving::Leaver;
 use kernel_records::record::ThreadState;
 use kernel_store::store::Store;
-use std::alloc::Global;
 
 /// A thread is interrupted: its call ends with EINTR, or its wait for the events of a port. Any other thread goes on.
-pub fn interrupt(store: &mut Store, alloc: Global, thread: Tid) -> Answer
+pub fn interrupt(store: &mut Store, thread: Tid) -> Answer
     requires can_leave { CanLeave store.old }
     ensures state { StandsFor (stored_state store.new) (interrupt (stored_state store.old) thread.0).state }
     ensures answer { result ≡ (interrupt (stored_state store.old) thread.0).answer }
     ensures keeps { KeepsForNotices store.old store.new }
 {
-    store.leave(alloc, Leaver::Interrupted { thread });
+    store.leave(Leaver::Interrupted { thread });
     Answer::Done
 }
 
 /// All threads of a process end, its doors become invalid, and its descriptors are closed.
-fn leave_process(store: &mut Store, alloc: Global, p: Pid)
+fn leave_process(store: &mut Store, p: Pid)
     requires can_leave { CanLeave store.old }
     ensures state { StandsFor (stored_state store.new) (leave_process (stored_state store.old) p.0) }
     ensures keeps { KeepsForNotices store.old store.new }
 {
-    store.leave(alloc, Leaver::EndedProcess { process: p });
+    store.leave(Leaver::EndedProcess { process: p });
     store.end_process(p);
 }
 
 /// A thread ends, and its process with it where the thread is its last that is neither done nor dormant.
-pub fn exit(store: &mut Store, alloc: Global, t: Tid, p: Pid) -> Answer
+pub fn exit(store: &mut Store, t: Tid, p: Pid) -> Answer
     requires can_leave { CanLeave store.old }
     ensures state { StandsFor (stored_state store.new) (exit (stored_state store.old) t.0 p.0).state }
     ensures answer { result ≡ (exit (stored_state store.old) t.0 p.0).answer }
     ensures keeps { KeepsForNotices store.old store.new }
 {
     if store.processes().is_last(t, p) {
-        leave_process(store, alloc, p);
+        leave_process(store, p);
     } else {
-        store.leave(alloc, Leaver::Ended { thread: t });
+        store.leave(Leaver::Ended { thread: t });
     }
     Answer::Done
 }
 
 /// A process ends, whoever asks. One that has ended stays so.
-pub fn kill(store: &mut Store, alloc: Global, p: Pid) -> Answer
+pub fn kill(store: &mut Store, p: Pid) -> Answer
     requires none_past { HasNothingPast (stored_state store.old) }
     requires can_leave { CanLeave store.old }
     ensures state { StandsFor (stored_state store.new) (kill (stored_state store.old) p.0).state }
@@ -65,7 +64,7 @@ pub fn kill(store: &mut Store, alloc: Global, p: Pid) -> Answer
     if !store.processes().is_live(p) {
         return Answer::Done;
     }
-    leave_process(store, alloc, p);
+    leave_process(store, p);
     Answer::Done
 }
 
@@ -77,7 +76,7 @@ pub fn revoke_refusal(store: &Store, p: Pid, fd: Fd) -> Option<Errno>
 }
 
 /// door_revoke(3C): the door is invalid, and its descriptor is closed.
-pub fn revoke(store: &mut Store, alloc: Global, p: Pid, fd: Fd) -> Answer
+pub fn revoke(store: &mut Store, p: Pid, fd: Fd) -> Answer
     requires allowed { first_refusal (revoking_tests (stored_state store.old) p.0 fd) ≡ None }
     requires can_leave { CanLeave store.old }
     ensures state { StandsFor (stored_state store.new) (revoke (stored_state store.old) p.0 fd).state }
@@ -85,7 +84,7 @@ pub fn revoke(store: &mut Store, alloc: Global, p: Pid, fd: Fd) -> Answer
     ensures keeps { KeepsForNotices store.old store.new }
 {
     let door = door_named(store, p, fd);
-    store.leave(alloc, Leaver::Revoked { door });
+    store.leave(Leaver::Revoked { door });
     store.close(p, fd);
     store.revoke(door, p);
     Answer::Done
@@ -115,7 +114,7 @@ pub fn wake(store: &mut Store, t: Tid) -> Answer
 
 /// An entry by which callers, threads or doors leave, or which asks whether a client has left.
 #[tactic(auto, using(crate::proofs::Live::entry_kept, crate::proofs::Live::live_state))]
-pub fn enter(store: &mut Store, alloc: Global, t: Tid, p: Pid, request: Request) -> Answer
+pub fn enter(store: &mut Store, t: Tid, p: Pid, request: Request) -> Answer
     requires none_past { HasNothingPast (stored_state store.old) }
     requires latest { NothingAfter store.old.events store.old }
     requires can_leave { is_leaving request ≡ true → CanLeave store.old }
@@ -127,11 +126,11 @@ pub fn enter(store: &mut Store, alloc: Global, t: Tid, p: Pid, request: Request)
     match request {
         Request::Revoke { fd } => match revoke_refusal(store, p, fd) {
             Some(error) => Answer::Failure(error),
-            None => revoke(store, alloc, p, fd),
+            None => revoke(store, p, fd),
         },
-        Request::Interrupt { thread } => interrupt(store, alloc, thread),
-        Request::Kill { process } => kill(store, alloc, process),
-        Request::Exit => exit(store, alloc, t, p),
+        Request::Interrupt { thread } => interrupt(store, thread),
+        Request::Kill { process } => kill(store, process),
+        Request::Exit => exit(store, t, p),
         Request::TestCancel => test_cancel(store, t),
         _ => Answer::Done,
     }

@@ -19,7 +19,7 @@ pub fn is_running_state(state: &ThreadState) -> bool
 fn has_answer(store: &Store, c: u32) -> bool
     ensures { result ≡ has_answer (stored_state store.now) c }
 {
-    store.calls().ready(c).is_some()
+    store.calls().ready_call(c).is_some()
 }
 
 /// Whether a thread runs, or its wait can end. `ready` is whether there is a call to collect: without one no caller is asked for.

@@ -4,3 +4,4 @@ pub mod TableCounts
 pub mod Lowering
 pub mod NameCounts
 pub mod TransitCounts
+pub mod Handing

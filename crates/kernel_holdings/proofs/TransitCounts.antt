@@ -1,19 +1,20 @@
 -- What is in transit of an object, as calls are made, go on, end and are forgotten.
-use Rattle.std.proofs.Common.{◌≡◌, ℕ, ◌+◌, ◌-◌, ◌<◌, ◌≤◌, ◌==◌, ◌&&◌, ◌||◌, not, Bool, true, false, cond, if◌then◌else◌, List, [], ◌∷◌, ◌++◌, Option, Some, None, is_some, filter, get_or, length, take, find, flat_map, map, refl, sym, ap, ◌∙◌, arith, append-nil, true≢false}
+use Rattle.std.proofs.Common.{◌≡◌, ℕ, ◌+◌, ◌-◌, ◌≤◌, ◌==◌, ◌&&◌, ◌||◌, not, Bool, true, false, cond, if◌then◌else◌, List, [], ◌∷◌, ◌++◌, Option, Some, None, is_some, filter, length, find, flat_map, refl, sym, ap, ◌∙◌, arith, append-nil, true≢false}
+use Rattle.std.proofs.lemmas.Bool.Decides.{nat_tests}
 use Rattle.std.proofs.lemmas.Grind.{flat_map-append}
-use Rattle.std.proofs.lemmas.List.{take_more}
-use Rattle.std.proofs.lemmas.List.Elements.{filter-append}
 use Rattle.dk_base.specs.declared.object.Obj.TheVariants as obj
-use Rattle.dk_base.specs.declared.error.Errno.TheVariants.{EBADF, EINTR, EMFILE}
+use Rattle.dk_base.specs.declared.error.Errno.{Errno}
+use Rattle.dk_base.specs.declared.error.Errno.TheVariants.{EINTR, EMFILE}
 use Rattle.kernel_records.specs.declared.record.CallStage.TheVariants as stage
-use Rattle.kernel_records.proofs.NumberedLists.{find-passes}
-use Rattle.kernel_records.specs.Words.{CallTree, Leaving, abandoned_at, at_stage, broken_call_at, change_first, collect_call, count_object, ended_where, enter_call, fail_call, give_call, gone_call_at, is_client_call_of, is_entered_by, is_given_as, is_given_to, is_live_call, is_queued, is_queued_as, is_to_collect_as, left_call, left_calls, live_calls, open_call, return_call, tid, without_arguments_at}
+use Rattle.kernel_records.specs.Words.{CallTree, at_stage, change_first, collect_call, count_object, enter_call, fail_call, give_call, is_client_call_of, is_entered_by, is_given_as, is_given_to, is_live_call, is_queued, is_queued_as, is_served_by, is_to_collect_as, left_call, live_calls, open_call, return_call, tid, without_arguments_at}
+use Rattle.call_tree.specs.Words.{abandon_call, argument_objects, arguments_at, dropped_at, dropped_objects, is_call, is_called_by, leaving_for, lose_server, refuse_call}
+use Rattle.call_tree.specs.declared.parts.Leave.{Leave}
+use Rattle.call_tree.specs.declared.parts.Leave.TheVariants.{Finished, Interrupted}
 use Rattle.unref_notice.specs.Words.{AreCounted, count_of}
 use Rattle.written_kernel.specs.Types.{Call, CallStage, Name, Obj}
 use Rattle.written_kernel.specs.Words.{objects_collected, objects_collected_in, objects_in_call, objects_in_transit}
 use Rattle.written_kernel.proofs.CallLists.{objects-live}
-use Rattle.kernel_holdings.specs.Held.{drops_at}
-use Rattle.kernel_holdings.specs.Words.{IsCountOf, drops_transit}
+use Rattle.kernel_holdings.specs.Words.{IsCountOf}
 use Rattle.kernel_holdings.proofs.Referring.{count_object-append, references_in-parts, uncounted}
 
 -- of one object, in transit with calls
@@ -137,85 +138,64 @@ module _ (o : Obj) (tree : CallTree) where
       where_found None = refl
       where_found (Some r) = refl
 
--- where callers and threads leave
+-- where callers, threads and doors leave, one at a time: what is handed out is no longer in transit
 
-module _ (o : Obj) (who : Leaving) where
-  -- what is in transit with a call stays, or all of it is dropped
-  left_call-transit : (r : Call) → transit_of o (left_call who r) ≡ (if drops_transit who r then 0 else transit_of o r)
-  left_call-transit r = at r.stage refl
+left_parts :
+    (o : Obj) (why : Leave) (t : ℕ) (s : CallStage) (r : Call) → r.stage ≡ s → (r.caller.0 == t) ≡ true →
+    transit_of o (left_call (leaving_for why t) r) + count_object o (dropped_at why s r.objects) ≡ count_object o (objects_in_transit r s)
+left_parts o Interrupted t s r e f = grind (arith, nat_tests)
+left_parts o Finished t s r e f = grind (arith, nat_tests)
+
+served_holds :
+    (o : Obj) (t : ℕ) (s : CallStage) (r : Call) → (is_given_to t s || is_entered_by t s) ≡ true →
+    count_object o (arguments_at s r.objects) ≡ count_object o (objects_in_transit r s)
+served_holds o t s r e = grind (arith, nat_tests)
+
+module _ (o : Obj) (tree : CallTree) where
+  of_dropped : (why : Leave) (x : Option Call) → if_found (λ r. count_object o (dropped_at why r.stage r.objects)) x ≡ count_object o (dropped_objects why x)
+  of_dropped why None = refl
+  of_dropped why (Some r) = refl
+
+  pub abandon_call-in_transit :
+      (t : ℕ) (why : Leave) → in_transit o (abandon_call tree t why).calls + count_object o (dropped_objects why (find (is_called_by t) tree.calls)) ≡ in_transit o tree.calls
+  abandon_call-in_transit t why =
+      let change = left_call (leaving_for why t) in
+      let e =
+      change_first-in_transit o (is_called_by t) change (λ r. count_object o (dropped_at why r.stage r.objects)) nothing
+      (λ r f. omega (arith, left_parts o why t r.stage r refl f)) tree.calls in
+      omega (arith, e, none_found (find (is_called_by t) tree.calls), of_dropped why (find (is_called_by t) tree.calls), in_transit-live o (change_first (is_called_by t) change tree.calls))
+
+  of_arguments : (x : Option Call) → if_found (λ r. count_object o (arguments_at r.stage r.objects)) x ≡ count_object o (argument_objects x)
+  of_arguments None = refl
+  of_arguments (Some r) = refl
+
+  pub lose_server-in_transit :
+      (u : ℕ) → in_transit o (lose_server tree u).calls + count_object o (argument_objects (find (is_served_by u) tree.calls)) ≡ in_transit o tree.calls
+  lose_server-in_transit u =
+      let e =
+      change_first-in_transit o (is_served_by u) (without_arguments_at (stage.Ended EINTR)) (λ r. count_object o (arguments_at r.stage r.objects)) nothing
+      (λ r f. omega (arith, served_holds o u r.stage r (right_of (not r.abandoned) (is_given_to u r.stage || is_entered_by u r.stage) f))) tree.calls in
+      omega (arith, e, none_found (find (is_served_by u) tree.calls), of_arguments (find (is_served_by u) tree.calls))
+
+  -- a call that waits is refused
+  pub refuse_call-in_transit :
+      (c : ℕ) (e : Errno) (x : Call) → find (is_call c) tree.calls ≡ Some x → is_queued x.stage ≡ true →
+      in_transit o (refuse_call tree c e).calls + count_object o (argument_objects (find (is_call c) tree.calls)) ≡ in_transit o tree.calls
+  refuse_call-in_transit c e x found queued =
+      let h =
+      change_first-in_transit o (is_call c) (without_arguments_at (stage.Ended e)) (transit_of o) nothing
+      (λ r f. omega arith) tree.calls in
+      omega (
+        arith,
+        h,
+        none_found (find (is_call c) tree.calls),
+        ap (if_found (transit_of o)) found,
+        ap (λ y. count_object o (argument_objects y)) found,
+        waiting_holds x.stage x queued,
+      )
     where
-      held : CallStage → ℕ
-      held s = count_object o (objects_in_transit r s)
-
-      queued :
-          held r.stage ≡ held stage.Queued → (a b l : Bool) →
-          transit_of o (if a then without_arguments_at stage.Gone r else if b then without_arguments_at (stage.Ended EINTR) r else ended_where l EBADF r)
-          ≡ (if a || b || l then 0 else held stage.Queued)
-      queued e true b l = refl
-      queued e false true l = refl
-      queued e false false true = refl
-      queued e false false false = e
-
-      given :
-          (n : ℕ) → held r.stage ≡ n → (a b d : Bool) →
-          transit_of o (if a then without_arguments_at stage.Gone r else ended_where (b || d) EINTR r) ≡ (if a || b || d then 0 else n)
-      given n e true b d = refl
-      given n e false true d = refl
-      given n e false false true = refl
-      given n e false false false = e
-
-      entered :
-          held r.stage ≡ 0 → (a b d : Bool) →
-          transit_of o (if a then abandoned_at stage.Gone r else if b then abandoned_at (stage.Ended EINTR) r else ended_where d EINTR r) ≡ 0
-      entered e true b d = refl
-      entered e false true d = refl
-      entered e false false true = refl
-      entered e false false false = e
-
-      returned : (n : ℕ) → held r.stage ≡ n → (a : Bool) → transit_of o (if a then without_arguments_at stage.Gone r else r) ≡ (if a then 0 else n)
-      returned n e true = refl
-      returned n e false = e
-
-      ended : held r.stage ≡ 0 → (a : Bool) → transit_of o (if a then without_arguments_at stage.Gone r else r) ≡ 0
-      ended e true = refl
-      ended e false = e
-
-      over : held r.stage ≡ 0 → (a : Bool) → transit_of o (if a then r else r) ≡ 0
-      over e true = e
-      over e false = e
-
-      at :
-          (s : CallStage) → held r.stage ≡ held s →
-          transit_of o (if who.ends r.caller.0 then gone_call_at s r else broken_call_at who s r) ≡ (if drops_at who r s then 0 else held s)
-      at stage.Queued e = queued e (who.ends r.caller.0) (who.interrupts r.caller.0) (who.loses r.door)
-      at (stage.Given u) e = given (count_object o r.objects) e (who.ends r.caller.0) (who.interrupts r.caller.0) (who.ends u.0)
-      at (stage.Entered u) e = entered e (who.ends r.caller.0) (who.interrupts r.caller.0) (who.ends u.0)
-      at (stage.Returned bytes objects) e = returned (count_object o objects) e (who.ends r.caller.0)
-      at (stage.Ended error) e = ended e (who.ends r.caller.0)
-      at (stage.Answered k) e = over e (who.ends r.caller.0)
-      at stage.Gone e = over e (who.ends r.caller.0)
-
-  left_in_transit :
-      (rs : List Call) → in_transit o (map (left_call who) rs) + in_transit o (filter (drops_transit who) rs) ≡ in_transit o rs
-  left_in_transit [] = refl
-  left_in_transit (r ∷ rs) = go (drops_transit who r) (left_call-transit r) (left_in_transit rs)
-    where
-      go :
-          (b : Bool) → transit_of o (left_call who r) ≡ (if b then 0 else transit_of o r) →
-          in_transit o (map (left_call who) rs) + in_transit o (filter (drops_transit who) rs) ≡ in_transit o rs →
-          in_transit o (left_call who r ∷ map (left_call who) rs)
-          + in_transit o (if b then r ∷ filter (drops_transit who) rs else filter (drops_transit who) rs)
-          ≡ in_transit o (r ∷ rs)
-      go true e ih =
-          omega (arith, e, ih, in_transit-cons o (left_call who r) (map (left_call who) rs), in_transit-cons o r (filter (drops_transit who) rs), in_transit-cons o r rs)
-      go false e ih = omega (arith, e, ih, in_transit-cons o (left_call who r) (map (left_call who) rs), in_transit-cons o r rs)
-
-  pub left_calls-in_transit :
-      (tree : CallTree) →
-      in_transit o (live_calls (left_calls who tree)).calls + in_transit o (filter (drops_transit who) tree.calls) ≡ in_transit o tree.calls
-  left_calls-in_transit tree =
-      ap (λ n. n + in_transit o (filter (drops_transit who) tree.calls)) (in_transit-live o (map (left_call who) tree.calls))
-      ∙ left_in_transit tree.calls
+      waiting_holds : (s : CallStage) (r : Call) → is_queued s ≡ true → count_object o (objects_in_transit r s) ≡ count_object o (arguments_at s r.objects)
+      waiting_holds s r q = grind (arith, nat_tests)
 
 -- one call of a list is in it
 
@@ -227,23 +207,6 @@ in_transit-found o test (r ∷ rs) = go (test r) (in_transit-found o test rs)
     go true h = omega (arith, in_transit-cons o r rs)
     go false h = omega (arith, h, in_transit-cons o r rs)
 
--- of the first calls that leave, one more
-pub dropped-more :
-    (o : Obj) (who : Leaving) (rs : List Call) (i : ℕ) (r : Call) → i < length rs →
-    in_transit o (filter (drops_transit who) (take (i + 1) rs))
-    ≡ in_transit o (filter (drops_transit who) (take i rs)) + cond (drops_transit who (get_or rs i r)) (transit_of o (get_or rs i r)) 0
-dropped-more o who rs i r h =
-    ap (λ xs. in_transit o (filter (drops_transit who) xs)) (take_more rs i r h)
-    ∙ ap (in_transit o) (filter-append (drops_transit who) (take i rs) (get_or rs i r ∷ []))
-    ∙ one (get_or rs i r) (drops_transit who (get_or rs i r))
-  where
-    before : List Call
-    before = filter (drops_transit who) (take i rs)
-
-    one : (x : Call) (b : Bool) → in_transit o (before ++ cond b (x ∷ []) []) ≡ in_transit o before + cond b (transit_of o x) 0
-    one x true = in_transit-push o before x
-    one x false = ap (in_transit o) (append-nil before) ∙ omega arith
-
 -- the counts go with what is in transit
 
 module _ (counts : List ℕ) (tables : List (List (Option Obj))) (names : List Name) (calls : List Call) (held : IsCountOf counts tables names calls) where
@@ -252,6 +215,14 @@ module _ (counts : List ℕ) (tables : List (List (Option Obj))) (names : List N
       ((d : ℕ) → in_transit (obj.Door d) after + less d ≡ in_transit (obj.Door d) calls) → IsCountOf lowered tables names after
   transit_fewer lowered after less down fewer = λ d.
       omega (arith, held d, down d, fewer d, references_in-parts tables names calls d, references_in-parts tables names after d)
+
+  -- these objects are handed out
+  pub handed_out :
+      (lowered : List ℕ) (after : List Call) (handed os : List Obj) → handed ≡ os →
+      ((d : ℕ) → count_of lowered d ≡ count_of counts d - count_object (obj.Door d) handed) →
+      ((o : Obj) → in_transit o after + count_object o os ≡ in_transit o calls) → IsCountOf lowered tables names after
+  handed_out lowered after handed os same down out =
+      transit_fewer lowered after (λ d. count_object (obj.Door d) os) (λ d. down d ∙ ap (λ xs. count_of counts d - count_object (obj.Door d) xs) same) (λ d. out (obj.Door d))
 
   pub transit_more :
       (raised : List ℕ) (after : List Call) (more : ℕ → ℕ) → ((d : ℕ) → count_of raised d ≡ count_of counts d + more d) →
@@ -262,21 +233,9 @@ module _ (counts : List ℕ) (tables : List (List (Option Obj))) (names : List N
   pub transit_same : (after : List Call) → ((d : ℕ) → in_transit (obj.Door d) after ≡ in_transit (obj.Door d) calls) → IsCountOf counts tables names after
   transit_same after same = λ d. omega (arith, held d, same d, references_in-parts tables names calls d, references_in-parts tables names after d)
 
-  -- a call that is looked for is taken out of what is in transit
-  module _ (test : Call → Bool) (after : List Call) (taken : (o : Obj) → in_transit o after + if_found (transit_of o) (find test calls) ≡ in_transit o calls) where
-    pub none_taken : None ≡ find test calls → IsCountOf counts tables names after
-    none_taken none = transit_same after (λ d. omega (arith, taken (obj.Door d), ap (if_found (transit_of (obj.Door d))) none))
-
-    pub one_taken :
-        (lowered : List ℕ) (r : Call) → Some r ≡ find test calls →
-        ((d : ℕ) → count_of lowered d ≡ count_of counts d - transit_of (obj.Door d) r) → IsCountOf lowered tables names after
-    one_taken lowered r one down =
-        transit_fewer lowered after (λ d. transit_of (obj.Door d) r) down
-        (λ d. omega (arith, taken (obj.Door d), ap (if_found (transit_of (obj.Door d))) one))
-
-  -- and what it has in transit is counted
+  -- what a call has in transit is counted
   pub found_counted :
-      (opening : List ℕ) (test : Call → Bool) (r : Call) (os : List Obj) → length counts ≡ length opening → Some r ≡ find test calls →
+      (opening : List ℕ) (test : Call → Bool) (r : Call) (os : List Obj) → length counts ≡ length opening → find test calls ≡ Some r →
       ((o : Obj) → count_object o os ≤ transit_of o r) → AreCounted opening os
   found_counted opening test r os alike one within = λ d none.
       omega (
@@ -288,11 +247,7 @@ module _ (counts : List ℕ) (tables : List (List (Option Obj))) (names : List N
         within (obj.Door d),
       )
 
--- what a call that was given hands over, and what one that is collected does
-
-pub given_within : (o : Obj) (c t : ℕ) (rs : List Call) (r : Call) → Some r ≡ find (is_given_as c t) rs → count_object o r.objects ≤ transit_of o r
-given_within o c t rs r e = omega (arith, given_transit o c t r (find-passes (is_given_as c t) rs r (sym e)))
-
+-- a call that is collected hands over its results
 pub collected_within : (o : Obj) (r : Call) → count_object o (objects_collected_in (Some r)) ≤ transit_of o r
 collected_within o r = at r.stage
   where

@@ -1,9 +1,8 @@
 -- What refers to objects, by the values of its parts, and how many references a door has among them.
-use Rattle.std.specs.Prelude.{ℕ, ◌≡◌, ◌<◌, ◌≤◌, ◌==◌, ◌&&◌, ◌||◌, Bool, false, List, Option, filter, length}
+use Rattle.std.specs.Prelude.{ℕ, ◌≡◌, ◌<◌, ◌≤◌, ◌==◌, ◌&&◌, Bool, List, Option, filter, length}
 use Rattle.dk_base.specs.declared.object.Obj.TheVariants as obj
-use Rattle.kernel_records.specs.declared.record.CallStage.TheVariants as stage
-use Rattle.kernel_records.specs.Words.{Leaving, is_object}
-use Rattle.written_kernel.specs.Types.{Call, CallStage, Name, Obj, Pass}
+use Rattle.kernel_records.specs.Words.{is_object}
+use Rattle.written_kernel.specs.Types.{Call, Name, Obj, Pass}
 use Rattle.written_kernel.specs.Words.{holdings_in}
 use Rattle.name_space.specs.Words.{HasRoomForName, NameTable}
 use Rattle.call_tree.specs.Words.{CallsValue, HasRoomForCall}
@@ -34,16 +33,6 @@ IsCountOf counts tables names calls = (d : ℕ) → count_of counts d ≡ refere
 -- a door had more than one reference when the step began, and has one
 abbrev pub has_fallen_to_one : HoldingsValue → ℕ → Bool
 has_fallen_to_one h d = was_shared h.opening d && (references_in h.tables h.names.names h.calls.tree.calls d == 1)
-
--- what is in transit with a call is dropped, where threads end, callers are interrupted and doors are lost
-abbrev pub drops_at : Leaving → Call → CallStage → Bool
-drops_at who r stage.Queued = who.ends r.caller.0 || who.interrupts r.caller.0 || who.loses r.door
-drops_at who r (stage.Given u) = who.ends r.caller.0 || who.interrupts r.caller.0 || who.ends u.0
-drops_at who r (stage.Returned bytes objects) = who.ends r.caller.0
-drops_at who r _ = false
-
-abbrev pub drops_transit : Leaving → Call → Bool
-drops_transit who r = drops_at who r r.stage
 
 -- a descriptor is passed and closed
 abbrev pub is_released : Pass → Bool

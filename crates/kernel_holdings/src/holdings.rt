@@ -1,23 +1,26 @@
 //! Descriptors, names and calls, with the references of each door counted.
-ghost use Rattle.std.specs.Prelude.{◌≡◌, ◌+◌, ◌<◌, ◌≤◌, ◌++◌, ◌∷◌, ℕ, [], true, false, filter, find, is_some, length, IfSome, OnOk, OnErr};
+ghost use Rattle.std.specs.Prelude.{◌≡◌, ◌+◌, ◌<◌, ◌≤◌, ◌^◌, ◌++◌, ◌∷◌, ℕ, [], true, false, filter, find, is_some, length, IfSome, IsSome, None, OnOk, OnErr, Some};
 ghost use Rattle.dk_base.specs.declared.object.Obj.TheVariants as obj;
-ghost use Rattle.kernel_records.specs.Words.{AnswersAs, AreNumbered, Leaving, close_row, close_table, collect_call, descriptor, door_attached, empty_table, enter_call, fail_call, free_place, free_rows, give_call, has_double_release, insert_row, insert_rows, is_given_as, is_queued, is_to_collect_as, left_calls, live_calls, lowest_free, name_in, new_descriptors, notice_doors, object_named, objects_passed, open_call, release_rows, return_call, table_in, with_name, with_table, without_name};
+ghost use Rattle.dk_base.specs.declared.error.Errno.TheVariants.{EBADF};
+ghost use Rattle.kernel_records.specs.declared.record.Call.{Call};
+ghost use Rattle.kernel_records.specs.Words.{AreNumbered, close_row, close_table, collect_call, descriptor, door_attached, empty_table, enter_call, fail_call, free_place, free_rows, give_call, has_double_release, insert_row, insert_rows, is_given_as, is_queued_as, is_served_by, is_to_collect_as, live_calls, lowest_free, name_in, new_descriptors, notice_doors, object_named, objects_passed, open_call, release_rows, return_call, table_in, with_name, with_table, without_name};
 ghost use Rattle.written_kernel.specs.Words.{objects_collected_in};
 ghost use Rattle.name_space.specs.Words.{HasRoomForName};
-ghost use Rattle.call_tree.specs.Words.{HasRoomForCall};
+ghost use Rattle.call_tree.specs.Calls.{args_in};
+ghost use Rattle.call_tree.specs.Words.{HasRoomForCall, IsThread, abandon_call, is_called_by, lose_server, outcome_in, queued_call, refuse_call};
 ghost use Rattle.unref_notice.specs.declared.counts.TheConstants.{REFERENCES_ROOM};
 ghost use Rattle.unref_notice.specs.Words.{AreCounted, count_of, was_shared};
 ghost use Rattle.kernel_holdings.specs.Words.{HasRoomToHold, has_fallen_to_one, references_in};
 
-use crate::lowered::{lower_call, lower_left, lower_released, lower_table};
+use crate::lowered::{lower_released, lower_results, lower_table};
 use crate::tables::Tables;
 use call_tree::calls::Calls;
-use dk_base::error::NoMemory;
+use call_tree::parts::{Args, Leave, Outcome};
+use dk_base::error::{Errno, NoMemory};
 use dk_base::list::{Bytes, FdList, ObjList, PassList, Room};
 use dk_base::number::{Fd, PathId, Pid, Tid};
 use dk_base::object::Obj;
 use door_object::doors::Doors;
-use kernel_records::record::Call;
 use name_space::names::Names;
 use std::alloc::Global;
 use std::marker::Model;
@@ -251,107 +254,145 @@ impl Holdings {
 
     // calls
 
-    /// Another call, which waits, the last one made under its number. It takes no memory.
-    pub fn open_call(&mut self, call: Call)
+    /// Another call, which waits, by a thread that waits in none, at the event `made`. Its number is answered. It takes no memory.
+    pub fn open_call(
+        &mut self,
+        caller: Tid,
+        door: u32,
+        args: Args,
+        rsize: u64,
+        no_cancel: bool,
+        made: u64,
+    ) -> u32
         requires call_room { HasRoomForCall self.old.calls }
-        requires queued { is_queued call.stage ≡ true }
-        requires counted { AreCounted self.old.opening call.objects }
+        requires numbers { self.old.calls.tree.made + 1 < 2 ^ 32 }
+        requires thread { IsThread caller.0 }
+        requires waits_not { find (is_called_by caller.0) self.old.calls.tree.calls ≡ None }
+        requires counted { AreCounted self.old.opening args.objects }
         requires room { REFERENCES_ROOM ≤ self.old.reference_room }
-        ensures calls { self.new.calls.tree ≡ open_call self.old.calls.tree call }
+        ensures number { result ≡ self.old.calls.tree.made + 1 }
+        ensures calls { self.new.calls.tree ≡ open_call self.old.calls.tree (queued_call result made caller.0 door args.bytes args.objects rsize no_cancel) }
         ensures spare { self.old.calls.spare ≤ self.new.calls.spare + 1 }
         ensures same { self.new ≡ record (self.old) { calls = self.new.calls; reference_room = self.new.reference_room } }
     {
-        self.counts.up_all(call.objects.slice());
-        self.calls.open(call);
+        self.counts.up_all(args.objects.slice());
+        self.calls
+            .open_call(caller, door, args, rsize, no_cancel, made)
     }
 
-    /// A waiting call is given to a thread. Where no call of the number waits, nothing changes.
+    /// A waiting call is given to a thread, which serves no call and waits in none.
     pub fn give_call(&mut self, c: u32, to: Tid)
+        requires queued { IsSome (find (is_queued_as c) self.old.calls.tree.calls) }
+        requires serves_none { find (is_served_by to.0) self.old.calls.tree.calls ≡ None }
+        requires waits_not { find (is_called_by to.0) self.old.calls.tree.calls ≡ None }
+        requires thread { IsThread to.0 }
         ensures calls { self.new.calls.tree ≡ give_call self.old.calls.tree c to.0 }
         ensures same { self.new ≡ record (self.old) { calls = self.new.calls } }
     {
         self.calls.give(c, to);
     }
 
-    /// A thread enters the call that it was given. The record as it was, with the arguments, is handed out: its objects are no
-    /// longer in transit. Where the thread was not given the call, nothing changes.
-    pub fn enter_call(&mut self, alloc: Global, c: u32, t: Tid) -> Option<Call>
+    /// The thread that a call was given to enters it. The arguments are handed out: their objects are no longer in transit.
+    pub fn enter_call(&mut self, c: u32, t: Tid) -> Args
+        requires { IsSome (find (is_given_as c t.0) self.old.calls.tree.calls) }
         ensures calls { self.new.calls.tree ≡ enter_call self.old.calls.tree c t.0 }
-        ensures before { result ≡ find (is_given_as c t.0) self.old.calls.tree.calls }
-        ensures counted { IfSome result (λ call. AreCounted self.new.opening call.objects) }
+        ensures args { args_in (find (is_given_as c t.0) self.old.calls.tree.calls) ≡ Some result }
+        ensures counted { AreCounted self.new.opening result.objects }
         ensures same { self.new ≡ record (self.old) { calls = self.new.calls; reference_room = self.new.reference_room } }
         ensures references { self.old.reference_room ≤ self.new.reference_room }
     {
-        let call = self.calls.enter(alloc, c, t)?;
-        lower_call(&mut self.counts, &call);
-        Some(call)
+        self.calls.are_sound();
+        let args = self.calls.enter_inv(c);
+        self.counts.down_all(args.objects.slice());
+        args
     }
 
-    /// The call that a thread was given ends EMFILE. The record as it was, with the arguments, is handed out: its objects are
-    /// dropped. Where the thread was not given the call, nothing changes.
-    pub fn fail_call(&mut self, alloc: Global, c: u32, t: Tid) -> Option<Call>
+    /// The call that a thread was given ends EMFILE. The objects of its arguments are no longer in transit, and are handed out.
+    pub fn fail_call(&mut self, c: u32, t: Tid) -> ObjList
+        requires { IsSome (find (is_given_as c t.0) self.old.calls.tree.calls) }
         ensures calls { self.new.calls.tree ≡ fail_call self.old.calls.tree c t.0 }
-        ensures before { result ≡ find (is_given_as c t.0) self.old.calls.tree.calls }
         ensures same { self.new ≡ record (self.old) { calls = self.new.calls; reference_room = self.new.reference_room } }
         ensures references { self.old.reference_room ≤ self.new.reference_room }
     {
-        let call = self.calls.fail(alloc, c, t)?;
-        lower_call(&mut self.counts, &call);
-        Some(call)
+        self.calls.are_sound();
+        let objects = self.calls.refuse(c, Errno::EMFILE);
+        self.counts.down_all(objects.slice());
+        objects
     }
 
     /// A thread returns to its client (door_return(3C)). Without a client nothing changes, and the results are dropped.
-    pub fn give_back(&mut self, alloc: Global, t: Tid, bytes: Bytes, objects: ObjList)
+    pub fn give_back(&mut self, t: Tid, bytes: Bytes, objects: ObjList)
         requires counted { AreCounted self.old.opening objects }
         requires room { REFERENCES_ROOM ≤ self.old.reference_room }
         ensures calls { self.new.calls.tree ≡ return_call self.old.calls.tree t.0 bytes objects }
         ensures same { self.new ≡ record (self.old) { calls = self.new.calls; reference_room = self.new.reference_room } }
     {
-        if self.calls.client(t).is_some() {
-            self.counts.up_all(objects.slice());
+        if self.calls.client(t).is_none() {
+            return;
         }
-        self.calls.give_back(alloc, t, bytes, objects);
+        self.counts.up_all(objects.slice());
+        self.calls.finish(t, bytes, objects);
     }
 
-    /// A caller collects its call, which is handed out and forgotten: its results are no longer in transit. Where the call is not to
-    /// be collected, nothing changes.
-    pub fn collect_call(&mut self, c: u32) -> Option<Call>
+    /// The caller of a call that is ready, which it collects.
+    fn collector(&self, c: u32) -> Tid
+        requires { IsSome (find (is_to_collect_as c) self.now.calls.tree.calls) }
+        ensures { (call : Call) → find (is_to_collect_as c) self.now.calls.tree.calls ≡ Some call → result ≡ call.caller }
+    {
+        match self.calls.ready_call(c) {
+            Some(call) => call.caller,
+            None => Tid(0),
+        }
+    }
+
+    /// A call that is ready is collected, and is forgotten: its results are no longer in transit.
+    pub fn collect_call(&mut self, c: u32) -> Outcome
+        requires { IsSome (find (is_to_collect_as c) self.old.calls.tree.calls) }
         ensures calls { (at : ℕ) → self.new.calls.tree ≡ live_calls (collect_call self.old.calls.tree c at) }
-        ensures before { result ≡ find (is_to_collect_as c) self.old.calls.tree.calls }
-        ensures counted { AreCounted self.new.opening (objects_collected_in result) }
+        ensures outcome { outcome_in (find (is_to_collect_as c) self.old.calls.tree.calls) ≡ Some result }
+        ensures counted { AreCounted self.new.opening (objects_collected_in (find (is_to_collect_as c) self.old.calls.tree.calls)) }
         ensures same { self.new ≡ record (self.old) { calls = self.new.calls; reference_room = self.new.reference_room } }
         ensures references { self.old.reference_room ≤ self.new.reference_room }
     {
-        let call = self.calls.collect(c)?;
-        lower_call(&mut self.counts, &call);
-        Some(call)
+        self.calls.are_sound();
+        let caller = self.collector(c);
+        let outcome = self.calls.collect(caller);
+        lower_results(&mut self.counts, &outcome);
+        outcome
     }
 
-    /// What becomes of the calls where threads end, callers are interrupted and doors are lost, of which the tests tell by number:
-    /// of threads, of threads, and of doors, and answer the same each time. What is in transit with calls that end is dropped. The
-    /// calls whose callers end are forgotten.
-    pub fn leave_calls<E: Fn(u32) -> bool, I: Fn(u32) -> bool, L: Fn(u32) -> bool>(
-        &mut self,
-        alloc: Global,
-        ends: E,
-        interrupts: I,
-        loses: L,
-    )
-        requires ends { E.IsAlwaysCallable ends }
-        requires interrupts { I.IsAlwaysCallable interrupts }
-        requires loses { L.IsAlwaysCallable loses }
-        requires answers { (who : Leaving) × AnswersAs (E.post ends) who.ends × AnswersAs (I.post interrupts) who.interrupts × AnswersAs (L.post loses) who.loses }
-        ensures calls { (who : Leaving) → AnswersAs (E.post ends) who.ends → AnswersAs (I.post interrupts) who.interrupts → AnswersAs (L.post loses) who.loses → self.new.calls.tree ≡ live_calls (left_calls who self.old.calls.tree) }
+    // leaving, one part at a time
+
+    /// A caller leaves its call.
+    pub fn abandon(&mut self, caller: Tid, why: Leave)
+        requires { IsSome (find (is_called_by caller.0) self.old.calls.tree.calls) }
+        ensures calls { self.new.calls.tree ≡ abandon_call self.old.calls.tree caller.0 why }
         ensures same { self.new ≡ record (self.old) { calls = self.new.calls; reference_room = self.new.reference_room } }
         ensures spare { self.old.calls.spare ≤ self.new.calls.spare }
     {
-        lower_left(
-            &mut self.counts,
-            self.calls.list(),
-            &ends,
-            &interrupts,
-            &loses,
-        );
-        self.calls.leave(alloc, ends, interrupts, loses);
+        let left = self.calls.abandon(caller, why);
+        self.counts.down_all(left.dropped.slice());
+    }
+
+    /// A thread ends. The call that it serves ends EINTR.
+    pub fn server_left(&mut self, u: Tid)
+        ensures calls { self.new.calls.tree ≡ lose_server self.old.calls.tree u.0 }
+        ensures same { self.new ≡ record (self.old) { calls = self.new.calls; reference_room = self.new.reference_room } }
+        ensures spare { self.new.calls.spare ≡ self.old.calls.spare }
+    {
+        let objects = self.calls.server_left(u);
+        self.counts.down_all(objects.slice());
+    }
+
+    /// A call that waits ends EBADF, since its door is lost.
+    pub fn lose_door(&mut self, c: u32)
+        requires { IsSome (find (is_queued_as c) self.old.calls.tree.calls) }
+        ensures calls { self.new.calls.tree ≡ refuse_call self.old.calls.tree c EBADF }
+        ensures same { self.new ≡ record (self.old) { calls = self.new.calls; reference_room = self.new.reference_room } }
+        ensures spare { self.new.calls.spare ≡ self.old.calls.spare }
+    {
+        self.calls.are_sound();
+        let objects = self.calls.refuse(c, Errno::EBADF);
+        self.counts.down_all(objects.slice());
     }
 }

@@ -1,5 +1,6 @@
 -- What the pools hold agrees with the records after an act on one thread.
-use Rattle.std.proofs.Common.{◌≡◌, ℕ, ◌+◌, ◌<◌, ◌≤◌, ◌⊎◌, true, false, List, [], Option, Some, None, is_some, is_ok, Ok, Err, OnOk, Result, ok_or, refl, sym, ap, ◌∙◌, subst, subst₂, arith}
+use Rattle.std.proofs.Common.{◌≡◌, ℕ, ◌+◌, ◌<◌, ◌≤◌, ◌⊎◌, ◌&&◌, Bool, true, false, List, [], Option, Some, None, is_some, is_ok, Ok, Err, OnOk, Result, ok_or, refl, sym, ap, ◌∙◌, subst, subst₂, arith}
+use Rattle.std.proofs.lemmas.Bool.Decides.{nat_tests}
 use Rattle.dk_base.specs.ByNumber.{with_at_number}
 use Rattle.dk_base.specs.declared.error.Errno.TheVariants.{EBADF}
 use Rattle.dk_base.specs.declared.object.Item.TheVariants as item
@@ -8,6 +9,7 @@ use Rattle.kernel_records.specs.declared.record.ThreadState.TheVariants as is
 use Rattle.kernel_records.specs.Words.{bound_at, end_thread, enter_call, enter_notice, enter_thread, is_dormant, is_done, is_idle, park_thread, process_in, set_thread_state, state_in, thread_at, tid}
 use Rattle.written_kernel.specs.Types.{Pool, Thread, ThreadState}
 use Rattle.written_kernel.specs.Words.{bound_of, is_running, is_running_state, state_of}
+use Rattle.kernel_invariant.specs.Core.{is_outside}
 use Rattle.server_pool.specs.Words.{AllParkedBefore, PoolValue, PoolsValue, change_pool, item_room_in, park_in, pool_at, stack_in, thread_room_in}
 use Rattle.pool_agreement.specs.Words.{Agrees, IsGivenOut, IsGivenOutBut, own_pool, pool_by}
 use Rattle.pool_agreement.proofs.Noticing.{agrees_enter_notice}
@@ -56,9 +58,25 @@ pub running_not_idle : (s : ThreadState) → is_running_state s ≡ true → is_
 running_not_idle is.Running e = refl
 running_not_idle _ e = cc
 
+pub running_not_done : (s : ThreadState) → is_running_state s ≡ true → is_done s ≡ false
+running_not_done is.Running e = refl
+running_not_done _ e = cc
+
 pub running_not_dormant : (s : ThreadState) → is_running_state s ≡ true → is_dormant s ≡ false
 running_not_dormant is.Running e = refl
 running_not_dormant _ e = cc
+
+pub lost_idle : (a b : Bool) → (a && b) ≡ true → a ≡ true
+lost_idle true b e = refl
+lost_idle false b e = cc
+
+-- one that is where it can have an invocation, likewise
+
+pub inside_idle : (s : ThreadState) → is_outside s ≡ false → is_idle s ≡ false
+inside_idle s e = grind (arith, nat_tests)
+
+pub inside_dormant : (s : ThreadState) → is_outside s ≡ false → is_dormant s ≡ false
+inside_dormant s e = grind (arith, nat_tests)
 
 thread_there : (o : Option Thread) → is_done (state_in o) ≡ false → (x : Thread) × (o ≡ Some x)
 thread_there None e = cc
@@ -80,7 +98,7 @@ leaves_door {s} {now} same t e = go (bound_of (stored_state s) t) (ap (λ (v : S
 
 -- a store `s` as its fields say, which is `now` in the clauses
 module _ {s now : StoreValue} (h : IsAgreed s) (same : s ≡ now) where
-  state_is : (t : ℕ) → state_in (thread_at s.processes t) ≡ state_of (stored_state now) t
+  pub state_is : (t : ℕ) → state_in (thread_at s.processes t) ≡ state_of (stored_state now) t
   state_is t = ap (λ (v : StoreValue). state_in (thread_at v.processes t)) same
 
   pub turned :
@@ -114,7 +132,7 @@ module _ {s now : StoreValue} (h : IsAgreed s) (same : s ≡ now) where
   -- a thread parks
 
   module _ (t : ℕ) (placed : ArePlaced (stored_state now)) (there : is_done (state_of (stored_state now) t) ≡ false) where
-    thread : (x : Thread) × (thread_at s.processes t ≡ Some x)
+    pub thread : (x : Thread) × (thread_at s.processes t ≡ Some x)
     thread = thread_there (thread_at s.processes t) (ap is_done (state_is t) ∙ there)
 
     placed_here : ArePlaced (stored_state s)
@@ -123,7 +141,7 @@ module _ {s now : StoreValue} (h : IsAgreed s) (same : s ≡ now) where
     abbrev pool : Pool
     pool = own_pool (stored_state now) t
 
-    own : pool ≡ own_pool (stored_state s) t
+    pub own : pool ≡ own_pool (stored_state s) t
     own = ap (λ (v : StoreValue). own_pool (stored_state v) t) (sym same)
 
     pool_there : is_some (pool_at s.pools pool) ≡ true

@@ -1,22 +1,25 @@
 -- A giving in one pool of a store: the pick of the pool gets its oldest item.
-use Rattle.std.proofs.Common.{◌≡◌, ◌⊎◌, inl, inr, ℕ, suc, ◌&&◌, Bool, true, false, not, List, [], ◌∷◌, Option, None, Some, is_none, is_some, drop, length, refl, sym, subst, ap, ap₂, ⊎_elim, ◌∙◌, arith}
+use Rattle.std.proofs.Common.{◌≡◌, ◌⊎◌, inl, inr, ℕ, suc, ◌&&◌, Bool, true, false, not, List, [], ◌∷◌, Option, None, Some, IsSome, cond, filter, find, is_none, is_some, drop, length, map, refl, sym, subst, ap, ap₂, ⊎_elim, ◌∙◌, arith}
+use Rattle.std.proofs.lemmas.Bool.Decides.{nat_tests}
+use Rattle.dk_base.specs.ByNumber.{at_number}
 use Rattle.dk_base.specs.declared.object.Item.TheVariants as item
 use Rattle.kernel_records.specs.declared.pool.Pool.TheVariants.{Common}
 use Rattle.kernel_records.specs.declared.record.ThreadState.TheVariants as is
-use Rattle.kernel_records.specs.Words.{ProcessTable, give_call, give_notice, give_thread, is_idle, is_pool, pid, state_in, thread_at, thread_at_state}
-use Rattle.written_kernel.specs.Types.{Item, Parked, Pool, Waiting}
+use Rattle.kernel_records.specs.Words.{ProcessTable, give_call, give_notice, give_thread, is_idle, is_pool, is_queued, is_queued_as, is_queued_in, pid, pool_in, waiting_call, state_in, thread_at, thread_at_state}
+use Rattle.written_kernel.specs.Types.{Call, Door, Item, Parked, Pool, Waiting}
 use Rattle.written_kernel.specs.Words.{give, give_one, has_given_last}
 use Rattle.written_kernel.proofs.Giving.{same_pool}
 use Rattle.server_pool.specs.declared.facts.Match.{Match}
-use Rattle.server_pool.specs.Words.{PoolsValue, change_pool, first_match, match_in, match_of, next_of, pick_of, queue_in, stack_in}
+use Rattle.server_pool.specs.Words.{PoolsValue, change_pool, first_match, is_call, is_waiting_call, match_in, match_of, next_of, pick_of, queue_in, stack_in}
 use Rattle.call_tree.specs.Words.{CallsValue}
 use Rattle.unref_notice.specs.Words.{NoticesValue}
-use Rattle.pool_agreement.specs.Words.{Agrees, IsGivenOut, IsGivenOutBut, IsGivenOutIn}
+use Rattle.pool_agreement.specs.Words.{Agrees, IsGivenOut, IsGivenOutBut, IsGivenOutIn, waiting_in}
 use Rattle.pool_agreement.proofs.GivingFirst.{give_first, given_out_gives_nothing}
 use Rattle.pool_agreement.proofs.Noticing.{agrees_give_notice}
 use Rattle.pool_agreement.proofs.Queues.{agrees_give}
 use Rattle.pool_agreement.proofs.Readers.{bindings-change_pool, is_pool-self, queue-change_other, queue-change_same, stack-change_other}
 use Rattle.pool_agreement.proofs.Settling.{none_picked}
+use Rattle.pool_agreement.proofs.WaitingLists.{first_passes}
 use Rattle.pool_agreement.proofs.Stacks.{given_is_idle, given_pool_there, length-change_thread, pick_agrees}
 use Rattle.kernel_store.specs.Giving.{GivesOn, HasGiven, IsGiving}
 use Rattle.kernel_store.specs.Stored.{IsAgreed, StoreValue, stored_state}
@@ -55,6 +58,42 @@ no_match stack queue e = go (pick_of stack) refl queue refl e
 pub nothing_to_give : (s : StoreValue) (pool : Pool) → first_match (stack_in s.pools pool) (queue_in s.pools pool) ≡ None → IsGivenOutIn s.pools pool
 nothing_to_give s pool e = no_match (stack_in s.pools pool) (queue_in s.pools pool) e
 
+-- the oldest item of a queue, where that is a call, waits
+
+first_found : (p q : Call → Bool) (rs : List Call) (r : Call) (more : List Call) → filter p rs ≡ r ∷ more → q r ≡ true → IsSome (find q rs)
+first_found p q [] r more e k = cc
+first_found p q (x ∷ rs) r more e k = go (p x) e (first_found p q rs r more) (q x) refl
+  where
+    go :
+        (b : Bool) → cond b (x ∷ filter p rs) (filter p rs) ≡ r ∷ more → (filter p rs ≡ r ∷ more → q r ≡ true → IsSome (find q rs)) →
+        (d : Bool) → q x ≡ d → IsSome (cond d (Some x) (find q rs))
+    go b f ih true g = refl
+    go true f ih false g = let same : x ≡ r = cc in let n : true ≡ false = sym k ∙ ap q (sym same) ∙ g in absurd cc
+    go false f ih false g = ih f k
+
+waits_queued : (c : ℕ) (b : Bool) (r : Call) (w : Waiting) → waiting_call r ≡ w → w.item ≡ item.Call c → (is_queued r.stage && b) ≡ true → is_queued_as c r ≡ true
+waits_queued c b r w e i q = let n : r.number ≡ c = call_is r.number c (ap (λ (v : Waiting). v.item) e ∙ i) in grind (arith, nat_tests)
+  where
+    call_is : (a k : ℕ) → item.Call a ≡ item.Call k → a ≡ k
+    call_is a k e = cc
+
+queued_first :
+    (doors : List Door) (calls : List Call) (pool : Pool) (queue others : List Waiting) (w : Waiting) (c : ℕ) → filter is_waiting_call queue ≡ waiting_in doors calls pool →
+    queue ≡ w ∷ others → w.item ≡ item.Call c → IsSome (find (is_queued_as c) calls)
+queued_first doors calls pool queue others w c e q i =
+    go (filter (is_queued_in doors pool) calls) refl (sym e ∙ ap (filter is_waiting_call) q ∙ ap (λ b. cond b (w ∷ filter is_waiting_call others) (filter is_waiting_call others)) (is_one w.item i))
+  where
+    is_one : (x : Item) → x ≡ item.Call c → is_call x ≡ true
+    is_one x e = ap is_call e
+
+    go :
+        (rs : List Call) → filter (is_queued_in doors pool) calls ≡ rs → map waiting_call rs ≡ w ∷ filter is_waiting_call others → IsSome (find (is_queued_as c) calls)
+    go [] f k = cc
+    go (r ∷ more) f k =
+        let same : waiting_call r ≡ w = cc in
+        first_found (is_queued_in doors pool) (is_queued_as c) calls r more f
+        (waits_queued c (is_pool pool (pool_in (at_number doors r.door))) r w same i (first_passes (is_queued_in doors pool) calls r more f))
+
 module _
     (s : StoreValue) (h : IsAgreed s) (pool : Pool) (next : Match)
     (matched : first_match (stack_in s.pools pool) (queue_in s.pools pool) ≡ Some next) where
@@ -66,6 +105,12 @@ module _
   matched_is_idle =
       subst (λ (x : Match). is_idle (state_in (thread_at s.processes x.thread.0)) ≡ true) (sym found.same)
       (given_is_idle h pool found.pick found.picked)
+
+  -- an item that is a call waits
+  pub matched_waits : (c : ℕ) → next.item ≡ item.Call c → IsSome (find (is_queued_as c) s.calls.tree.calls)
+  matched_waits c e =
+      queued_first s.doors.items s.calls.tree.calls pool (queue_in s.pools pool) found.others found.oldest c (h.queues pool).calls_wait found.waits
+      (ap (λ (x : Match). x.item) (sym found.same) ∙ e)
 
   abbrev t : ℕ
   t = found.pick.thread.0

@@ -13,3 +13,5 @@ mod MadeRoom
 mod NoticeRoom
 mod Spares
 mod Threads
+mod Parking
+mod LeftOneByOne

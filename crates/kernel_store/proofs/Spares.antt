@@ -36,14 +36,14 @@ module _ (s : StoreValue) (h : IsAgreed s) (p t : ℕ) (its_lowest : Some t ≡ 
   lowest : IsLowest s.processes p (length s.processes.threads) t
   lowest = lowest_of s.processes p (length s.processes.threads) t spares.0 (sym (h.spares p) ∙ spares.1)
 
-  dormant : is_dormant (state_in (thread_at s.processes t)) ≡ true
-  dormant = spare_dormant p t (thread_at s.processes t) lowest.spare
+  pub spare_is_dormant : is_dormant (state_in (thread_at s.processes t)) ≡ true
+  spare_is_dormant = spare_dormant p t (thread_at s.processes t) lowest.spare
 
   pub spare_not_idle : is_idle (state_in (thread_at s.processes t)) ≡ false
-  spare_not_idle = dormant_not_idle (state_in (thread_at s.processes t)) dormant
+  spare_not_idle = dormant_not_idle (state_in (thread_at s.processes t)) spare_is_dormant
 
   pub spare_not_done : is_done (state_in (thread_at s.processes t)) ≡ false
-  spare_not_done = dormant_not_done (state_in (thread_at s.processes t)) dormant
+  spare_not_done = dormant_not_done (state_in (thread_at s.processes t)) spare_is_dormant
 
   module _
       (table : ProcessTable) (pools : PoolsValue) (turned : table ≡ set_thread_state s.processes t is.Running)

@@ -5,6 +5,7 @@ use Rattle.dk_base.specs.declared.limits.TheConstants.{EVENTS_MAX}
 use Rattle.kernel_records.specs.Words.{is_done, is_dormant, is_idle}
 use Rattle.written_kernel.specs.Types.{Pool, ThreadState}
 use Rattle.written_kernel.specs.Words.{has_lost_door, now}
+use Rattle.call_agreement.specs.Words.{is_calling, is_given_item}
 use Rattle.server_pool.specs.Words.{item_room_in}
 use Rattle.unref_notice.specs.Words.{count_of}
 use Rattle.pool_agreement.specs.Words.{IsGivenOut, IsGivenOutBut}
@@ -15,11 +16,14 @@ pub record IsRoomFor {X : Type 0} (n : ℕ) (list : RoomValue X) : Type 0 where
   pub empty : list.items ≡ []
   pub spare : n ≤ list.spare
 
--- a thread in this state is neither parked, nor over, nor a spare that was not started: no pool has it
+-- a thread in this state is neither parked, nor over, nor a spare that was not started: no pool has it; and it has been given no item,
+-- and waits in no call
 pub record IsActive (s : ThreadState) : Type 0 where
   pub not_done : is_done s ≡ false
   pub not_idle : is_idle s ≡ false
   pub not_dormant : is_dormant s ≡ false
+  pub not_given : is_given_item s ≡ false
+  pub not_calling : is_calling s ≡ false
 
 -- the pools of a store
 

@@ -3,5 +3,6 @@ pub mod Frames
 pub mod Giving
 pub mod Leaving
 pub mod Noticing
+pub mod Parting
 pub mod Stored
 pub mod Words

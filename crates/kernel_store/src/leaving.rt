@@ -3,7 +3,7 @@ ghost use Rattle.std.specs.Prelude.{◌≡◌, ℕ, ◌+◌, ◌<◌, ◌≤◌,
 ghost use Rattle.dk_base.specs.ByNumber.{at_number};
 ghost use Rattle.kernel_records.specs.Words.{CallTree, NoticeList, ProcessTable, change_thread, deserted_in, end_thread, interrupted_where, is_owned_by, is_queued, is_served_by, kept_notices, leaving_of, left_calls, left_notices, left_thread_of, left_threads, live_calls, parked_at, park_thread, thread_at};
 ghost use Rattle.written_kernel.specs.Types.{Door, Parked, Pool, Thread};
-ghost use Rattle.server_pool.specs.Words.{AllParkedBefore, item_room_in, pool_at, stack_in, thread_room_in};
+ghost use Rattle.server_pool.specs.Words.{AllParkedBefore, change_pool, item_room_in, park_in, pool_at, stack_in, thread_room_in};
 ghost use Rattle.pool_agreement.specs.Words.{Agrees, AgreesSomehow, leaves_queue, notice_leaves_queue};
 ghost use Rattle.kernel_store.specs.Leaving.{CanParkAgain, HasNoLessRoom, HoldsSame, KeepsItems, deserted_as, fated, own_pool_in};
 
@@ -12,13 +12,11 @@ use dk_base::error::NoMemory;
 use dk_base::number::{Pid, Tid};
 use dk_base::object::Item;
 use door_object::doors::Doors;
-use kernel_holdings::holdings::Holdings;
 use kernel_records::leaving::Leaver;
 use kernel_records::pool::Pool;
 use kernel_records::record::{Call, CallStage, Notice, NoticeStage, ThreadState};
 use proc_table::procs::Procs;
 use server_pool::pools::Pools;
-use std::alloc::Global;
 use unref_notice::notices::Notices;
 
 // who leaves
@@ -96,7 +94,8 @@ pub fn withdraw_calls(
     ensures room { (pool : Pool) → thread_room_in pools.new pool ≡ thread_room_in pools.old pool }
     ensures items { (pool : Pool) → item_room_in pools.old pool ≤ item_room_in pools.new pool }
 {
-    for call in calls.list() {
+    for place in 0..calls.len() {
+        let call = calls.at_place(place);
         if is_withdrawn(call, who, processes, doors) {
             let pool = doors.pool_of(call.door);
             let _ = pools.withdraw(pool, Item::Call(call.number));
@@ -223,6 +222,17 @@ fn end_thread(processes: &mut Procs, pools: &mut Pools, t: Tid)
     let _ = processes.end_thread(t);
 }
 
+/// A thread that is there, and that no pool has, parks at an event, after all that are parked in its pool. It takes no memory.
+pub fn park(processes: &mut Procs, pools: &mut Pools, t: Tid, since: u64)
+    requires { CanParkAgain processes.old pools.old t.0 since }
+    ensures thread { processes.new ≡ park_thread processes.old t.0 since }
+    ensures pools { pools.new ≡ change_pool pools.old (own_pool_in processes.old pools.old.bindings t.0) (park_in (record { thread = t; pool = own_pool_in processes.old pools.old.bindings t.0; since = since })) }
+{
+    let pool = own_pool(processes, pools, t);
+    pools.park(t, pool, since);
+    processes.park(t, since);
+}
+
 /// A thread that is there parks at an event, after all that are parked in its pool. It takes no memory.
 fn park_again(processes: &mut Procs, pools: &mut Pools, t: Tid, since: u64)
     requires { CanParkAgain processes.old pools.old t.0 since }
@@ -294,26 +304,7 @@ pub fn leave_threads(processes: &mut Procs, pools: &mut Pools, who: Leaver, call
     }
 }
 
-// calls
-
-/// What becomes of the calls, after the threads. Those whose callers end are forgotten.
-pub fn leave_calls(
-    alloc: Global,
-    held: &mut Holdings,
-    who: Leaver,
-    processes: &Procs,
-    doors: &Doors,
-)
-    ensures calls { held.new.calls.tree ≡ live_calls (left_calls (leaving_of processes.now doors.now.items who) held.old.calls.tree) }
-    ensures same { held.new ≡ record (held.old) { calls = held.new.calls; reference_room = held.new.reference_room } }
-{
-    held.leave_calls(
-        alloc,
-        |t| ends(who, processes, Tid(t)),
-        |t| interrupts(who, Tid(t)),
-        |d| loses(who, doors, d),
-    );
-}
+// notices
 
 /// What becomes of the notices, after the threads. Those that are past and that no rule asks for again are forgotten.
 pub fn leave_notices(notices: &mut Notices, who: Leaver, processes: &Procs, doors: &Doors)

@@ -4,5 +4,6 @@
 
 mod leaving;
 mod notices;
+mod parting;
 mod starting;
 pub mod store;

@@ -32,7 +32,8 @@ use std::marker::Model;
 use unref_notice::notices::Notices;
 
 /// What the kernel holds. It keeps the calls that are live, and the notices that are not past or that a rule asks for again. At
-/// every moment the pools hold the threads, the calls and the notices that the records have there.
+/// every moment the pools hold the threads, the calls and the notices that the records have there, and the caller and the server of
+/// each call are threads that say so.
 #[derive(Drop)]
 pub struct Store {
     processes: Procs,
@@ -47,6 +48,7 @@ pub struct Store {
 
 impl Model for Store {
     ghost use Rattle.std.specs.Prelude.{◌≡◌, length};
+    ghost use Rattle.call_agreement.specs.Words.{AreBacked};
     ghost use Rattle.pool_agreement.specs.Words.{Agrees};
     ghost use Rattle.kernel_store.specs.Stored.{StoreValue};
 
@@ -54,7 +56,7 @@ impl Model for Store {
 
     ghost view = { λ s. record { processes = s.processes; pools = s.pools; tables = s.held.tables; names = s.held.names; doors = s.doors; calls = s.held.calls; notices = s.notices; events = s.events; latest = s.latest; opening = s.held.opening; door_room = s.held.door_room; reference_room = s.held.reference_room } };
 
-    ghost invariant = { λ s. Agrees s.latest s.processes s.doors.items s.held.calls.tree s.notices.list s.pools × (length s.held.opening ≡ length s.doors.items) };
+    ghost invariant = { λ s. Agrees s.latest s.processes s.doors.items s.held.calls.tree s.notices.list s.pools × (length s.held.opening ≡ length s.doors.items) × AreBacked s.processes s.held.calls.tree.calls };
 }
 
 impl Store {

@@ -1,104 +1,89 @@
 //! Calls and notices, and the threads that serve them.
-ghost use Rattle.std.specs.Prelude.{◌≡◌, ℕ, ◌+◌, ◌<◌, ◌≤◌, ◌∷◌, List, true, find, is_some, IfNone, IfSome, OnSome};
+ghost use Rattle.std.specs.Prelude.{◌≡◌, ℕ, ◌+◌, ◌<◌, ◌≤◌, ◌^◌, ◌∷◌, List, true, find, is_some, IfNone, IsSome, OnSome, Some};
 ghost use Rattle.dk_base.specs.declared.object.Item.TheVariants as item;
 ghost use Rattle.dk_base.specs.declared.limits.TheConstants.{QUEUE_MAX};
 ghost use Rattle.kernel_records.specs.declared.record.ThreadState.TheVariants as is;
-ghost use Rattle.kernel_records.specs.Words.{collect_call, end_invocation, end_notice, enter_call, enter_notice, enter_thread, fail_call, is_given_as, is_given_notice_as, is_queued, is_to_collect_as, kept_notices, live_calls, make_notice, open_call, park_thread, return_call, unbind_thread};
+ghost use Rattle.kernel_records.specs.Words.{collect_call, end_invocation, end_notice, enter_call, enter_notice, enter_thread, fail_call, is_given_as, is_given_notice_as, is_to_collect_as, kept_notices, live_calls, make_notice, open_call, park_thread, return_call, set_thread_state, unbind_thread};
+ghost use Rattle.call_tree.specs.Calls.{args_in};
+ghost use Rattle.call_tree.specs.Words.{outcome_in, queued_call};
 ghost use Rattle.written_kernel.specs.Words.{bound_of, calls_waiting, is_running, is_valid, now, objects_collected_in, pool_of, state_of};
 ghost use Rattle.pool_agreement.specs.Words.{own_pool};
 ghost use Rattle.unref_notice.specs.Words.{AreCounted};
-ghost use Rattle.kernel_store.specs.Frames.{CanAct, FillsNoPool, FillsNoQueue, FillsOnePool, IsActive, IsInEvent, KeepsPools};
+ghost use Rattle.kernel_store.specs.Frames.{CanAct, FillsNoPool, FillsNoQueue, FillsOnePool, IsInEvent, KeepsPools};
 ghost use Rattle.kernel_store.specs.Stored.{CanMake, HasRoomForReferences, stored_state};
 
-use crate::leaving::own_pool;
+use crate::leaving::park;
 use crate::store::Store;
-use call_tree::calls::Calls;
+use call_tree::parts::{Args, Outcome};
 use dk_base::list::{Bytes, ObjList};
 use dk_base::number::Tid;
 use dk_base::object::Item;
 use kernel_records::pool::Waiting;
-use kernel_records::record::{Call, Notice};
-use std::alloc::Global;
+use kernel_records::record::{Notice, ThreadState};
 
 impl Store {
-    /// A thread that was in a pool's service is parked since the present event, at which none parked yet.
-    fn park(&mut self, t: Tid)
-        requires active { IsActive (state_of (stored_state self.old) t.0) }
-        requires can_act { CanAct (own_pool (stored_state self.old) t.0) self.old }
-        ensures state { stored_state self.new ≡ record (stored_state self.old) { process_table = park_thread (stored_state self.old).process_table t.0 (now (stored_state self.old)) } }
-        ensures keeps { FillsOnePool (own_pool (stored_state self.old) t.0) self.old self.new }
-        ensures references { self.new.reference_room ≡ self.old.reference_room }
-        ensures opening { self.new.opening ≡ self.old.opening }
-        ensures queues { FillsNoQueue self.old self.new }
-    {
-        let pool = self.own_pool(t);
-        self.latest = self.events + 1;
-        self.processes.park(t, self.latest);
-        self.pools.park(t, pool, self.latest);
-    }
-
     // calls
 
-    /// A call waits in the pool of its door, which has room for it. It takes no memory.
-    pub fn open_call(&mut self, call: Call)
-        requires number { call.number ≡ (stored_state self.old).call_tree.made + 1 }
-        requires made { call.made ≡ now (stored_state self.old) }
-        requires queued { is_queued call.stage ≡ true }
-        requires door { is_valid (stored_state self.old) call.door ≡ true }
-        requires can_act { CanAct (pool_of (stored_state self.old) call.door) self.old }
-        requires few { calls_waiting (stored_state self.old) (pool_of (stored_state self.old) call.door) < QUEUE_MAX }
-        requires counted { AreCounted self.old.opening call.objects }
-        ensures state { stored_state self.new ≡ record (stored_state self.old) { call_tree = open_call (stored_state self.old).call_tree call } }
-        ensures keeps { FillsOnePool (pool_of (stored_state self.old) call.door) self.old self.new }
+    /// A thread that runs makes a call at this event and waits in it. The call waits in the pool of its door, which has room for it.
+    /// Its number is answered. It takes no memory.
+    pub fn open_call(&mut self, t: Tid, door: u32, args: Args, rsize: u64, no_cancel: bool) -> u32
+        requires numbers { (stored_state self.old).call_tree.made + 1 < 2 ^ 32 }
+        requires running { is_running (stored_state self.old) t.0 ≡ true }
+        requires door { is_valid (stored_state self.old) door ≡ true }
+        requires can_act { CanAct (pool_of (stored_state self.old) door) self.old }
+        requires few { calls_waiting (stored_state self.old) (pool_of (stored_state self.old) door) < QUEUE_MAX }
+        requires counted { AreCounted self.old.opening args.objects }
+        ensures number { result ≡ (stored_state self.old).call_tree.made + 1 }
+        ensures state { stored_state self.new ≡ record (stored_state self.old) { process_table = set_thread_state (stored_state self.old).process_table t.0 (is.Calling result); call_tree = open_call (stored_state self.old).call_tree (queued_call result (now (stored_state self.old)) t.0 door args.bytes args.objects rsize no_cancel) } }
+        ensures keeps { FillsOnePool (pool_of (stored_state self.old) door) self.old self.new }
     {
-        let pool = self.doors.pool_of(call.door);
+        let pool = self.doors.pool_of(door);
+        let _threads = self.processes.thread_count();
+        self.latest = self.events + 1;
+        let call = self
+            .held
+            .open_call(t, door, args, rsize, no_cancel, self.latest);
         let waiting = Waiting {
-            item: Item::Call(call.number),
-            made: call.made,
-            door: call.door,
+            item: Item::Call(call),
+            made: self.latest,
+            door,
         };
-        self.latest = call.made;
         let _ = self.pools.enqueue(pool, waiting);
-        self.held.open_call(call);
+        self.processes.turn(t, ThreadState::Calling { call });
+        call
     }
 
-    /// The thread that was given a call enters it. The record as it was is handed out, if there is one.
-    pub fn enter_call(&mut self, alloc: Global, c: u32, t: Tid) -> Option<Call>
-        requires { state_of (stored_state self.old) t.0 ≡ is.Given (item.Call c) }
-        ensures entered { OnSome result (stored_state self.new ≡ record (stored_state self.old) { process_table = enter_thread (stored_state self.old).process_table t.0 (item.Call c); call_tree = enter_call (stored_state self.old).call_tree c t.0 }) }
-        ensures none { IfNone result (stored_state self.new ≡ stored_state self.old) }
-        ensures before { result ≡ find (is_given_as c t.0) (stored_state self.old).call_tree.calls }
-        ensures counted { IfSome result (λ call. AreCounted self.new.opening call.objects) }
+    /// The thread that was given a call enters it. The arguments are handed out.
+    pub fn enter_call(&mut self, c: u32, t: Tid) -> Args
+        requires given { state_of (stored_state self.old) t.0 ≡ is.Given (item.Call c) }
+        requires there { IsSome (find (is_given_as c t.0) (stored_state self.old).call_tree.calls) }
+        ensures state { stored_state self.new ≡ record (stored_state self.old) { process_table = enter_thread (stored_state self.old).process_table t.0 (item.Call c); call_tree = enter_call (stored_state self.old).call_tree c t.0 } }
+        ensures args { args_in (find (is_given_as c t.0) (stored_state self.old).call_tree.calls) ≡ Some result }
+        ensures counted { AreCounted self.new.opening result.objects }
         ensures references { self.old.reference_room ≤ self.new.reference_room }
         ensures keeps { KeepsPools self.old self.new }
     {
-        let Some(call) = self.held.enter_call(alloc, c, t) else {
-            return None;
-        };
+        let args = self.held.enter_call(c, t);
         self.processes.enter(t, Item::Call(c));
-        Some(call)
+        args
     }
 
-    /// The call that a thread was given ends EMFILE, and the thread is parked again. The record as it was is handed out, if there
-    /// is one.
-    pub fn fail_call(&mut self, alloc: Global, c: u32, t: Tid) -> Option<Call>
+    /// The call that a thread was given ends EMFILE, and the thread is parked again. The objects of the arguments are handed out.
+    pub fn fail_call(&mut self, c: u32, t: Tid) -> ObjList
         requires given { state_of (stored_state self.old) t.0 ≡ is.Given (item.Call c) }
+        requires there { IsSome (find (is_given_as c t.0) (stored_state self.old).call_tree.calls) }
         requires can_act { CanAct (own_pool (stored_state self.old) t.0) self.old }
-        ensures failed { OnSome result (stored_state self.new ≡ record (stored_state self.old) { process_table = park_thread (stored_state self.old).process_table t.0 (now (stored_state self.old)); call_tree = fail_call (stored_state self.old).call_tree c t.0 }) }
-        ensures none { IfNone result (stored_state self.new ≡ stored_state self.old) }
-        ensures before { result ≡ find (is_given_as c t.0) (stored_state self.old).call_tree.calls }
+        ensures state { stored_state self.new ≡ record (stored_state self.old) { process_table = park_thread (stored_state self.old).process_table t.0 (now (stored_state self.old)); call_tree = fail_call (stored_state self.old).call_tree c t.0 } }
         ensures keeps { FillsOnePool (own_pool (stored_state self.old) t.0) self.old self.new }
         ensures queues { FillsNoQueue self.old self.new }
     {
-        if self.held.calls().given(c, t).is_none() {
-            return None;
-        }
-        self.park(t);
-        self.held.fail_call(alloc, c, t)
+        self.latest = self.events + 1;
+        park(&mut self.processes, &mut self.pools, t, self.latest);
+        self.held.fail_call(c, t)
     }
 
     /// A thread that runs returns to its client, if it has one, or its notice is over, and it is parked (door_return(3C)).
-    pub fn return_call(&mut self, alloc: Global, t: Tid, bytes: Bytes, objects: ObjList)
+    pub fn return_call(&mut self, t: Tid, bytes: Bytes, objects: ObjList)
         requires running { is_running (stored_state self.old) t.0 ≡ true }
         requires can_act { CanAct (own_pool (stored_state self.old) t.0) self.old }
         requires counted { AreCounted self.old.opening objects }
@@ -106,14 +91,15 @@ impl Store {
         ensures keeps { FillsOnePool (own_pool (stored_state self.old) t.0) self.old self.new }
         ensures queues { FillsNoQueue self.old self.new }
     {
-        self.park(t);
-        self.held.give_back(alloc, t, bytes, objects);
+        self.latest = self.events + 1;
+        park(&mut self.processes, &mut self.pools, t, self.latest);
+        self.held.give_back(t, bytes, objects);
         self.notices.end(t, &self.doors);
     }
 
     /// A thread that runs and is bound returns to its client, if it has one, or its notice is over, and it is bound to no door; it
     /// is not parked.
-    pub fn return_unbound(&mut self, alloc: Global, t: Tid, bytes: Bytes, objects: ObjList)
+    pub fn return_unbound(&mut self, t: Tid, bytes: Bytes, objects: ObjList)
         requires running { is_running (stored_state self.old) t.0 ≡ true }
         requires bound { is_some (bound_of (stored_state self.old) t.0) ≡ true }
         requires counted { AreCounted self.old.opening objects }
@@ -123,19 +109,23 @@ impl Store {
     {
         self.processes.end_invocation(t);
         let _ = self.pools.unbind(t);
-        self.held.give_back(alloc, t, bytes, objects);
+        self.held.give_back(t, bytes, objects);
         self.notices.end(t, &self.doors);
     }
 
-    /// A caller collects its call, which is handed out and forgotten.
-    pub fn collect_call(&mut self, c: u32) -> Option<Call>
-        ensures after { (at : ℕ) → stored_state self.new ≡ record (stored_state self.old) { call_tree = live_calls (collect_call (stored_state self.old).call_tree c at) } }
-        ensures before { result ≡ find (is_to_collect_as c) (stored_state self.old).call_tree.calls }
-        ensures counted { AreCounted self.new.opening (objects_collected_in result) }
+    /// A caller collects its call, which is forgotten, and goes on.
+    pub fn collect_call(&mut self, c: u32, t: Tid) -> Outcome
+        requires calling { state_of (stored_state self.old) t.0 ≡ is.Calling c }
+        requires ready { IsSome (find (is_to_collect_as c) (stored_state self.old).call_tree.calls) }
+        ensures state { (at : ℕ) → stored_state self.new ≡ record (stored_state self.old) { process_table = set_thread_state (stored_state self.old).process_table t.0 is.Running; call_tree = live_calls (collect_call (stored_state self.old).call_tree c at) } }
+        ensures outcome { outcome_in (find (is_to_collect_as c) (stored_state self.old).call_tree.calls) ≡ Some result }
+        ensures counted { AreCounted self.new.opening (objects_collected_in (find (is_to_collect_as c) (stored_state self.old).call_tree.calls)) }
         ensures references { self.old.reference_room ≤ self.new.reference_room }
         ensures keeps { KeepsPools self.old self.new }
     {
-        self.held.collect_call(c)
+        let outcome = self.held.collect_call(c);
+        self.processes.turn(t, ThreadState::Running);
+        outcome
     }
 
     // notices

@@ -29,6 +29,7 @@ impl Store {
         let Some(next) = self.pools.match_next(pool) else {
             return false;
         };
+        let _threads = self.processes.thread_count();
         self.processes.give(next.thread, next.item);
         match next.item {
             Item::Call(c) => self.held.give_call(c, next.thread),

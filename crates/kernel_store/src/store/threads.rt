@@ -1,22 +1,25 @@
 //! Threads: what they wait for, the doors that they are bound to, and how they and their processes end.
-ghost use Rattle.std.specs.Prelude.{◌≡◌, true, is_some};
+ghost use Rattle.std.specs.Prelude.{◌≡◌, false, true, is_some};
+ghost use Rattle.call_agreement.specs.Words.{is_calling};
+ghost use Rattle.kernel_invariant.specs.Core.{is_outside};
 ghost use Rattle.kernel_records.specs.Words.{bind_thread, close_table, end_owner, end_process, leaving_of, unbind_thread, with_table};
 ghost use Rattle.written_kernel.specs.Words.{bound_of, forget, is_running, leave, state_of, table_of, with_state};
 ghost use Rattle.kernel_store.specs.Frames.{CanLeave, FillsNoPool, FillsNoQueue, IsActive, KeepsForNotices, KeepsPools};
 ghost use Rattle.kernel_store.specs.Stored.{stored_state};
 
-use crate::leaving::{leave_calls, leave_notices, leave_threads, withdraw_calls, withdraw_notices};
+use crate::leaving::{leave_notices, leave_threads, withdraw_calls, withdraw_notices};
+use crate::parting::leave_calls;
 use crate::store::Store;
 use dk_base::number::{Pid, Tid};
 use kernel_records::leaving::Leaver;
 use kernel_records::record::ThreadState;
-use std::alloc::Global;
 
 impl Store {
-    /// A thread that is neither Done, Idle nor Dormant turns to another such state.
+    /// A thread turns to another state. In both it takes turns or waits, but for no item and for no call.
     pub fn turn(&mut self, t: Tid, state: ThreadState)
         requires active { IsActive (state_of (stored_state self.old) t.0) }
-        requires to_active { IsActive state }
+        requires to_inside { is_outside state ≡ false }
+        requires to_not_calling { is_calling state ≡ false }
         ensures state { stored_state self.new ≡ with_state (stored_state self.old) t.0 state }
         ensures keeps { KeepsPools self.old self.new }
         ensures references { self.new.reference_room ≡ self.old.reference_room }
@@ -47,12 +50,14 @@ impl Store {
 
     /// Callers are interrupted, threads end and doors are lost, of which it is told: the calls and notices that wait no longer leave
     /// their pools, threads end or are parked again, or learn that their callers have left, and calls and notices end. It takes no memory.
-    pub fn leave(&mut self, alloc: Global, who: Leaver)
+    pub fn leave(&mut self, who: Leaver)
         requires { CanLeave self.old }
         ensures state { stored_state self.new ≡ forget (leave (stored_state self.old) (leaving_of (stored_state self.old).process_table (stored_state self.old).doors who)) }
         ensures keeps { KeepsForNotices self.old self.new }
         ensures queues { FillsNoQueue self.old self.new }
     {
+        let _threads = self.processes.thread_count();
+        self.held.calls().are_sound();
         self.latest = self.events + 1;
         withdraw_calls(
             &mut self.pools,
@@ -75,7 +80,7 @@ impl Store {
             self.held.calls(),
             self.latest,
         );
-        leave_calls(alloc, &mut self.held, who, &self.processes, &self.doors);
+        leave_calls(&mut self.held, who, &self.processes, &self.doors);
         leave_notices(&mut self.notices, who, &self.processes, &self.doors);
     }
 

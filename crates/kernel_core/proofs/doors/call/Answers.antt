@@ -1,7 +1,6 @@
 use Rattle.std.proofs.Common.{◌≡◌, ◌<◌, ◌++◌, ap, sym, subst, ◌∙◌}
 use Rattle.dk_base.specs.declared.limits.TheConstants.{QUEUE_MAX}
 use Rattle.kernel_records.specs.Words.{objects_passed}
-use Rattle.written_kernel.specs.Types.{Call}
 use Rattle.written_kernel.specs.Words.{State, calls_waiting, is_valid, pool_of, table_of}
 use Rattle.unref_notice.specs.Words.{AreCounted}
 use Rattle.kernel_store.specs.Words.{stored_state}
@@ -11,17 +10,15 @@ use Rattle.kernel_core.proofs.doors.call.Goals as goal
 pub open_call-requires-clause-few : goal.open_call-requires-clause-few
 open_call-requires-clause-few c =
     let m = stored_state c.args.store.now in
-    let door = ap (λ (r : Call). r.door) c.new_call-call.ensures ∙ c.door_named-door.ensures in
-    subst (λ (k : State). calls_waiting k (pool_of k c.new_call-call.result.door) < QUEUE_MAX) (sym c.take_out.ensures.state)
-    (subst (λ d. calls_waiting m (pool_of m d) < QUEUE_MAX) (sym door)
+    subst (λ (k : State). calls_waiting k (pool_of k c.door_named-door.result) < QUEUE_MAX) (sym c.take_out.ensures.state)
+    (subst (λ d. calls_waiting m (pool_of m d) < QUEUE_MAX) (sym c.door_named-door.ensures)
     (not_full m c.args.p.0 c.args.fd c.args.bytes c.args.pass.now c.requires.allowed))
 
 pub open_call-requires-clause-door : goal.open_call-requires-clause-door
 open_call-requires-clause-door c =
     let m = stored_state c.args.store.now in
-    let door = ap (λ (r : Call). r.door) c.new_call-call.ensures ∙ c.door_named-door.ensures in
-    ap (λ (k : State). is_valid k c.new_call-call.result.door) c.take_out.ensures.state
-    ∙ ap (is_valid m) door
+    ap (λ (k : State). is_valid k c.door_named-door.result) c.take_out.ensures.state
+    ∙ ap (is_valid m) c.door_named-door.ensures
     ∙ called_valid m c.args.p.0 c.args.fd c.args.bytes c.args.pass.now c.requires.allowed
 
 pub take_out-requires-clause-once : goal.take_out-requires-clause-once
@@ -31,6 +28,5 @@ take_out-requires-clause-once c =
 pub open_call-requires-clause-counted : goal.open_call-requires-clause-counted
 open_call-requires-clause-counted c =
     let passed = objects_passed (table_of (stored_state c.args.store.now) c.args.p.0) c.args.pass.now in
-    let objects : c.new_call-call.result.objects ≡ passed =
-    ap (λ (r : Call). r.objects) c.new_call-call.ensures ∙ c.into_list.ensures ∙ c.take_out.ensures.items ∙ ap (λ os. os ++ passed) c.requires.room.empty in
+    let objects : c.into_list.result ≡ passed = c.into_list.ensures ∙ c.take_out.ensures.items ∙ ap (λ os. os ++ passed) c.requires.room.empty in
     subst (AreCounted c.take_out.new.self.opening) (sym objects) c.take_out.ensures.counted

@@ -1,26 +1,20 @@
-use Rattle.std.proofs.Common.{◌≡◌, ◌+◌, find, length, sym, ap, ◌∙◌}
-use Rattle.dk_base.specs.declared.object.Obj.{Obj}
-use Rattle.kernel_records.specs.Words.{is_given_as}
-use Rattle.kernel_holdings.proofs.TransitCounts.{fail_call-in_transit, if_found, in_transit, none_taken, one_taken, transit_of}
+use Rattle.std.proofs.Common.{find, length, refl, sym, ap, ◌∙◌}
+use Rattle.call_tree.specs.Words.{argument_objects, is_call}
+use Rattle.kernel_holdings.proofs.Handing.{failed, given_waits}
+use Rattle.kernel_holdings.proofs.TransitCounts.{handed_out}
 use Rattle.kernel_holdings.proofs.holdings.Holdings.fail_call.Goals as goal
+
+pub refuse-objects-requires : goal.refuse-objects-requires
+refuse-objects-requires c = given_waits c.args.c c.args.t.0 c.self.inside.calls.tree.calls (rw (← c.self.view_is) at c.requires)
 
 pub invariant_of-self : goal.invariant_of-self
 invariant_of-self c =
     let h = c.self.inside in
-    let test = is_given_as c.args.c c.args.t.0 in
-    let taken : (o : Obj) → in_transit o c.fail.new.self.tree.calls + if_found (transit_of o) (find test h.calls.tree.calls) ≡ in_transit o h.calls.tree.calls =
-    λ o. rw c.fail.ensures.after (fail_call-in_transit o h.calls.tree c.args.c c.args.t.0) in (
-      none_taken h.counts.now h.tables h.names.names h.calls.tree.calls c.self.invariant.0 test c.fail.new.self.tree.calls taken c.in_err-call.ensures.before,
-      c.self.invariant.1,
-    )
-
-pub invariant_of-self-2 : goal.invariant_of-self-2
-invariant_of-self-2 c =
-    let h = c.self.inside in
-    let down = c.lower_call.ensures in
-    let test = is_given_as c.args.c c.args.t.0 in
-    let taken : (o : Obj) → in_transit o c.fail.new.self.tree.calls + if_found (transit_of o) (find test h.calls.tree.calls) ≡ in_transit o h.calls.tree.calls =
-    λ o. rw c.fail.ensures.after (fail_call-in_transit o h.calls.tree c.args.c c.args.t.0) in (
-      one_taken h.counts.now h.tables h.names.names h.calls.tree.calls c.self.invariant.0 test c.fail.new.self.tree.calls taken c.lower_call.new.counts.now c.in_ok-call.call c.in_ok-call.ensures.before down.counts,
+    let down = c.down_all.ensures in
+    let tree = h.calls.tree in
+    let given = rw (← c.self.view_is) at c.requires in (
+      handed_out h.counts.now h.tables h.names.names tree.calls c.self.invariant.0 c.down_all.new.self.now c.refuse-objects.new.self.tree.calls c.slice.result.now
+          (argument_objects (find (is_call c.args.c) tree.calls)) (c.slice.ensures ∙ c.refuse-objects.ensures.objects) down.counts
+          (λ o. rw (c.refuse-objects.ensures.failed c.args.t.0 given refl) (failed tree c.are_sound.ensures c.args.c c.args.t.0 given o)),
       down.len ∙ c.self.invariant.1 ∙ ap length (sym down.opening),
     )

@@ -1,41 +1,45 @@
-use Rattle.std.proofs.Common.{◌≡◌, ◌+◌, ℕ, cond, Bor, None, Option, Some, is_some, length, refl, sym, ap, ◌∙◌, arith}
+use Rattle.std.proofs.Common.{◌≡◌, ◌+◌, ℕ, Bor, true, false, None, Option, Some, cond, is_some, find, length, refl, sym, ap, ◌∙◌}
 use Rattle.std.specs.Option.{option_copied}
 use Rattle.dk_base.specs.declared.object.Obj.TheVariants as obj
-use Rattle.kernel_records.specs.Words.{count_object, return_call}
+use Rattle.kernel_records.proofs.Places.{change_first-none}
+use Rattle.kernel_records.specs.declared.record.CallStage.TheVariants as stage
+use Rattle.kernel_records.specs.Words.{count_object, is_client_call_of, without_arguments_at}
 use Rattle.unref_notice.specs.Words.{count_of}
 use Rattle.written_kernel.specs.Types.{Call}
-use Rattle.kernel_holdings.proofs.TransitCounts.{in_transit, return_call-in_transit, transit_more, transit_same}
+use Rattle.kernel_holdings.proofs.TransitCounts.{in_transit, return_call-in_transit, transit_more}
 use Rattle.kernel_holdings.proofs.holdings.Holdings.give_back.Goals as goal
-use Rattle.kernel_holdings.proofs.holdings.Holdings.give_back.Goals.{then-is_some, else-is_some}
 
-copied : (r : Option (Bor Call)) → is_some r ≡ is_some (option_copied r)
+copied : (r : Option (Bor Call)) → is_some (option_copied r) ≡ is_some r
 copied None = refl
 copied (Some r) = refl
+
+none : (r : Option (Bor Call)) → is_some r ≡ false → option_copied r ≡ None
+none None e = refl
+none (Some r) e = cc
+
+pub returns-then-is_none-clause-calls : goal.returns-then-is_none-clause-calls
+returns-then-is_none-clause-calls c =
+    let tree = c.self.inside.calls.tree in
+    rw (← c.self.view_is)
+    (sym
+    (ap (λ rs. record tree { calls = rs })
+    (change_first-none (is_client_call_of c.args.t.0) (without_arguments_at (stage.Returned c.args.bytes c.args.objects)) tree.calls
+    (sym c.client.ensures ∙ none c.client.result c.if-is_none.ensures))))
 
 pub invariant_of-self : goal.invariant_of-self
 invariant_of-self c =
     let h = c.self.inside in
     let tree = h.calls.tree in
-    let objects = c.args.objects in
-    let after = (return_call tree c.args.t.0 c.args.bytes objects).calls in
-    let more = λ (d : ℕ). count_object (obj.Door d) objects in
-    let returned : (d : ℕ) → in_transit (obj.Door d) after ≡ in_transit (obj.Door d) tree.calls + cond c.is_some.result (more d) 0 =
-    λ d. return_call-in_transit (obj.Door d) tree c.args.t.0 c.args.bytes objects
-    ∙ ap (λ b. in_transit (obj.Door d) tree.calls + cond b (more d) 0) (sym (copied c.client.result ∙ ap is_some c.client.ensures) ∙ sym c.is_some.ensures) in
-    elim c.if-is_some.branch [
-      | then-is_some w ↦
-          let up = w.up_all.ensures in
-          let raised : (d : ℕ) → count_of w.up_all.new.self.now d ≡ count_of h.counts.now d + more d =
-          λ d. up.counts d ∙ ap (λ os. count_of h.counts.now d + count_object (obj.Door d) os) w.slice.ensures in
-          let further : (d : ℕ) → in_transit (obj.Door d) after ≡ in_transit (obj.Door d) tree.calls + more d =
-          λ d. returned d ∙ ap (λ b. in_transit (obj.Door d) tree.calls + cond b (more d) 0) w.if-is_some.true in
-          rw (c.give_back.ensures, w.self-inside-is) (
-            transit_more h.counts.now h.tables h.names.names tree.calls c.self.invariant.0 w.up_all.new.self.now after more raised further,
-            up.len ∙ c.self.invariant.1 ∙ ap length (sym up.opening),
-          )
-      | else-is_some w ↦
-          let same : (d : ℕ) → in_transit (obj.Door d) after ≡ in_transit (obj.Door d) tree.calls =
-          λ d. omega (arith, returned d, ap (λ b. cond b (more d) 0) w.if-is_some.false) in
-          rw (c.give_back.ensures, w.self-inside-is)
-          (transit_same h.counts.now h.tables h.names.names tree.calls c.self.invariant.0 after same, c.self.invariant.1)
-    ]
+    let up = c.up_all.ensures in
+    let more = λ (d : ℕ). count_object (obj.Door d) c.args.objects in
+    let there : is_some (find (is_client_call_of c.args.t.0) tree.calls) ≡ true =
+    ap is_some (sym c.client.ensures) ∙ copied c.client.result ∙ c.if-is_none.ensures in
+    let raised : (d : ℕ) → count_of c.up_all.new.self.now d ≡ count_of h.counts.now d + more d =
+    λ d. up.counts d ∙ ap (λ os. count_of h.counts.now d + count_object (obj.Door d) os) c.slice.ensures in
+    let further : (d : ℕ) → in_transit (obj.Door d) c.finish.new.self.tree.calls ≡ in_transit (obj.Door d) tree.calls + more d =
+    λ d. rw c.finish.ensures.tree
+    (return_call-in_transit (obj.Door d) tree c.args.t.0 c.args.bytes c.args.objects
+    ∙ ap (λ b. in_transit (obj.Door d) tree.calls + cond b (more d) 0) there) in (
+      transit_more h.counts.now h.tables h.names.names tree.calls c.self.invariant.0 c.up_all.new.self.now c.finish.new.self.tree.calls more raised further,
+      up.len ∙ c.self.invariant.1 ∙ ap length (sym up.opening),
+    )

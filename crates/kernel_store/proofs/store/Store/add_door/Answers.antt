@@ -20,6 +20,7 @@ invariant_of-self-2 c =
           (ap (λ (v : PoolsValue). v.spares) c.add_door.ensures) (ap (λ (v : PoolsValue). v.private) c.add_door.ensures)),
       one_more_counted c.self.inside.held.opening doors c.create.new.self.items
           (new_door (length doors + 1) c.args.owner.0 c.args.entry c.args.cookie c.args.attrs) c.in-Ok.ensures.made c.self.invariant.1,
+      c.self.invariant.2,
     )
 
 pub returns-clause-keeps : goal.returns-clause-keeps

@@ -7,6 +7,8 @@ use Rattle.pool_agreement.proofs.Starting.{agrees_spare, agrees_thread}
 use Rattle.kernel_store.specs.Stored.{StoreValue}
 use Rattle.kernel_store.proofs.Alike.{agrees_same}
 use Rattle.kernel_store.proofs.Threads.{is_there, same_taken_back, spares_below}
+use Rattle.call_agreement.specs.Words.{AreBacked}
+use Rattle.call_agreement.proofs.Backing.{thread_added}
 use Rattle.kernel_store.proofs.store.Store.add_thread.Goals as goal
 use Rattle.kernel_store.proofs.store.Store.add_thread.Goals.{then-spare+in_ok-add_spare, else-spare}
 
@@ -34,20 +36,24 @@ invariant_of-self-then-is_ok c =
           let lives = subst (λ (s : StoreValue). is_live_in (at_number s.processes.processes c.args.p.0) ≡ true) (sym c.self.view_is) c.requires.lives in
           let added : w.add_spare.new.self ≡ change_spares v c.args.p.0 (with_spare (length before.threads + 1)) =
           w.in_ok-add_spare.ensures.ok ∙ ap (λ n. change_spares v c.args.p.0 (with_spare (n + 1))) c.thread_count.ensures.count in
-          subst (λ s. Agrees s.latest c.add_thread.new.self s.doors.items s.held.calls.tree s.notices.list s.pools × (length s.held.opening ≡ length s.doors.items)) (sym w.self-inside-is) (
+          subst (λ s. Agrees s.latest c.add_thread.new.self s.doors.items s.held.calls.tree s.notices.list s.pools × (length s.held.opening ≡ length s.doors.items) × AreBacked c.add_thread.new.self s.held.calls.tree.calls) (sym w.self-inside-is) (
             subst₂ (λ table v. Agrees c.self.inside.latest table c.self.inside.doors.items c.self.inside.held.calls.tree c.self.inside.notices.list v)
                 (sym (made ∙ ap (λ b. record before { threads = before.threads ++ new_thread (length before.threads + 1) c.args.p.0 b ∷ [] }) w.if-spare.true))
                 (sym added)
                 (agrees_spare c.self.invariant.0 c.args.p.0 (is_there (at_number before.processes c.args.p.0) lives)),
             c.self.invariant.1,
+            subst (λ table. AreBacked table c.self.inside.held.calls.tree.calls) (sym made)
+                (thread_added before c.self.inside.held.calls.tree c.self.invariant.0.calls c.self.invariant.2 (new_thread (length before.threads + 1) c.args.p.0 c.args.spare)),
           )
       | else-spare w ↦
           let made : c.add_thread.new.self ≡ record before { threads = before.threads ++ new_thread (length before.threads + 1) c.args.p.0 c.args.spare ∷ [] } = search rules in
-          subst (λ s. Agrees s.latest c.add_thread.new.self s.doors.items s.held.calls.tree s.notices.list s.pools × (length s.held.opening ≡ length s.doors.items)) (sym w.self-inside-is) (
+          subst (λ s. Agrees s.latest c.add_thread.new.self s.doors.items s.held.calls.tree s.notices.list s.pools × (length s.held.opening ≡ length s.doors.items) × AreBacked c.add_thread.new.self s.held.calls.tree.calls) (sym w.self-inside-is) (
             subst (λ table. Agrees c.self.inside.latest table c.self.inside.doors.items c.self.inside.held.calls.tree c.self.inside.notices.list v)
                 (sym (made ∙ ap (λ b. record before { threads = before.threads ++ new_thread (length before.threads + 1) c.args.p.0 b ∷ [] }) w.if-spare.false))
                 (agrees_thread c.self.invariant.0 c.args.p.0),
             c.self.invariant.1,
+            subst (λ table. AreBacked table c.self.inside.held.calls.tree.calls) (sym made)
+                (thread_added before c.self.inside.held.calls.tree c.self.invariant.0.calls c.self.invariant.2 (new_thread (length before.threads + 1) c.args.p.0 c.args.spare)),
           )
     ]
 
@@ -73,10 +79,11 @@ invariant_of-self-then-spare-2 c =
           let back : c.take_back.new.self ≡ change_spares (change_spares v c.args.p.0 (with_spare k)) c.args.p.0 without_highest =
           c.take_back.ensures ∙ ap (λ s. change_spares s.pools c.args.p.0 without_highest) w.self-inside-is
           ∙ ap (λ v. change_spares v c.args.p.0 without_highest) w.in_ok-add_spare.ensures.ok in
-          subst (λ s. Agrees s.latest c.add_thread.new.self s.doors.items s.held.calls.tree s.notices.list c.take_back.new.self × (length s.held.opening ≡ length s.doors.items)) (sym w.self-inside-is) (
+          subst (λ s. Agrees s.latest c.add_thread.new.self s.doors.items s.held.calls.tree s.notices.list c.take_back.new.self × (length s.held.opening ≡ length s.doors.items) × AreBacked c.add_thread.new.self s.held.calls.tree.calls) (sym w.self-inside-is) (
             subst₂ (λ table v. Agrees c.self.inside.latest table c.self.inside.doors.items c.self.inside.held.calls.tree c.self.inside.notices.list v) (sym kept) (sym back)
                 (agrees_same c.self.invariant.0 (same_taken_back v c.args.p.0 k)),
             c.self.invariant.1,
+            subst (λ table. AreBacked table c.self.inside.held.calls.tree.calls) (sym kept) c.self.invariant.2,
           )
       | else-spare w ↦ absurd (not_both c.if-spare-2.true w.if-spare.false)
     ]

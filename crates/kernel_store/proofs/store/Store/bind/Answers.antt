@@ -4,7 +4,7 @@ use Rattle.kernel_store.proofs.Acts.{fills, bound, given_out_bound}
 use Rattle.kernel_store.proofs.store.Store.bind.Goals as goal
 
 pub invariant_of-self : goal.invariant_of-self
-invariant_of-self c = (rw c.bind.ensures (bound c.self.invariant.0 c.self.view_is c.args.t.0 (Some c.args.d) c.requires), c.self.invariant.1)
+invariant_of-self c = (rw c.bind.ensures (bound c.self.invariant.0 c.self.view_is c.args.t.0 (Some c.args.d) c.requires), c.self.invariant.1, c.self.invariant.2)
 
 pub returns-clause-keeps : goal.returns-clause-keeps
 returns-clause-keeps c =

@@ -1,6 +1,18 @@
+use Rattle.std.proofs.Common.{ap, refl, ◌∙◌}
+use Rattle.kernel_records.specs.declared.record.ThreadState.TheVariants as is
+use Rattle.kernel_records.specs.Words.{is_dormant, is_idle}
+use Rattle.call_agreement.proofs.Backing.{call_collected, some_call}
 use Rattle.pool_agreement.proofs.Queues.{agrees_collect}
+use Rattle.pool_agreement.proofs.Stacks.{agrees_turn}
+use Rattle.kernel_store.proofs.Acts.{state_is}
 use Rattle.kernel_store.proofs.store.Store.collect_call.Goals as goal
 
 pub invariant_of-self : goal.invariant_of-self
 invariant_of-self c =
-    rw c.collect_call.ensures.same (rw (c.collect_call.ensures.calls 0) (agrees_collect c.self.invariant.0 c.args.c 0), c.self.invariant.1)
+    let x = some_call _ (rw (← c.self.view_is) at c.requires.ready) in
+    let calls = state_is c.self.invariant.0 c.self.view_is c.args.t.0 ∙ c.requires.calling in
+    rw (c.collect_call-outcome.ensures.same, c.turn.ensures, c.collect_call-outcome.ensures.calls 0) (
+      agrees_turn (agrees_collect c.self.invariant.0 c.args.c 0) c.args.t.0 is.Running (ap is_idle calls) (ap is_dormant calls) refl refl,
+      c.self.invariant.1,
+      call_collected c.self.inside.processes c.self.inside.held.calls.tree c.self.invariant.0.calls c.self.invariant.2 c.args.c c.args.t.0 0 calls x.0 x.1,
+    )

@@ -3,12 +3,15 @@ use Rattle.kernel_records.specs.declared.record.NoticeStage.TheVariants as stage
 use Rattle.kernel_records.specs.Words.{is_given_notice_as, notice_at}
 use Rattle.pool_agreement.proofs.Noticing.{agrees_enter_notice}
 use Rattle.kernel_store.specs.Stored.{stored_state}
-use Rattle.kernel_store.proofs.Acts.{entered_notice}
+use Rattle.kernel_store.proofs.Acts.{entered_notice, state_is}
 use Rattle.kernel_records.proofs.Places.{change_first-none}
+use Rattle.dk_base.specs.declared.object.Item.TheVariants as item
+use Rattle.kernel_records.specs.Words.{thread_in_invocation}
+use Rattle.call_agreement.proofs.Backing.{noticed_turns}
 use Rattle.kernel_store.proofs.store.Store.enter_notice.Goals as goal
 
 pub invariant_of-self : goal.invariant_of-self
-invariant_of-self c = (rw c.enter.ensures.list (agrees_enter_notice c.self.invariant.0 c.args.n c.args.t.0), c.self.invariant.1)
+invariant_of-self c = (rw c.enter.ensures.list (agrees_enter_notice c.self.invariant.0 c.args.n c.args.t.0), c.self.invariant.1, c.self.invariant.2)
 
 pub returns-in_default-clause-none : goal.returns-in_default-clause-none
 returns-in_default-clause-none c =
@@ -21,4 +24,9 @@ returns-in_default-clause-none c =
 
 pub invariant_of-self-2 : goal.invariant_of-self-2
 invariant_of-self-2 c =
-    (rw c.enter-2.ensures (rw c.enter.ensures.list (entered_notice c.self.invariant.0 c.self.view_is c.args.n c.args.t.0 c.requires)), c.self.invariant.1)
+    let given = state_is c.self.invariant.0 c.self.view_is c.args.t.0 ∙ c.requires in (
+      rw c.enter-2.ensures (rw c.enter.ensures.list (entered_notice c.self.invariant.0 c.self.view_is c.args.n c.args.t.0 c.requires)),
+      c.self.invariant.1,
+      rw c.enter-2.ensures
+          (noticed_turns c.self.inside.processes c.self.inside.held.calls.tree c.self.invariant.0.calls c.self.invariant.2 c.args.t.0 (thread_in_invocation (item.Notice c.args.n)) c.args.n given),
+    )

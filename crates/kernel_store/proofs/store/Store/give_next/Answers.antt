@@ -1,8 +1,12 @@
 use Rattle.std.proofs.Common.{ap, sym, subst, ◌∙◌}
 use Rattle.pool_agreement.specs.Words.{IsGivenOutIn}
 use Rattle.kernel_store.specs.Stored.{IsAgreed}
-use Rattle.kernel_store.proofs.Giving.{agrees_given, agrees_given_notice, gives_on, gives_on_notice, matched_is_idle, nothing_to_give}
+use Rattle.kernel_store.proofs.Giving.{agrees_given, agrees_given_notice, gives_on, gives_on_notice, matched_is_idle, matched_waits, nothing_to_give}
 use Rattle.kernel_store.specs.contracts.store.Store.{the_view}
+use Rattle.kernel_records.specs.declared.record.ThreadState.TheVariants as is
+use Rattle.kernel_records.specs.Words.{thread_at_state}
+use Rattle.call_agreement.proofs.Backing.{call_given, idle_serves_not, idle_there, idle_turns, idle_waits_not, some_call}
+use Rattle.call_agreement.proofs.Free.{is_thread}
 use Rattle.kernel_store.proofs.store.Store.give_next.Goals as goal
 
 pub returns-in_default-clause-none : goal.returns-in_default-clause-none
@@ -16,20 +20,43 @@ returns-in_default-clause-none c e = (
 pub give-requires : goal.give-requires
 give-requires c = matched_is_idle (the_view c.self.inside) c.self.invariant.0 c.args.pool c.in-Some.next (sym c.in-Some.ensures.result)
 
+pub give_call-requires : goal.give_call-requires
+give_call-requires c =
+    let idle = matched_is_idle (the_view c.self.inside) c.self.invariant.0 c.args.pool c.in-Some.next (sym c.in-Some.ensures.result) in
+    let table = c.self.inside.processes in
+    let tree = c.self.inside.held.calls.tree in
+    record {
+      queued = matched_waits (the_view c.self.inside) c.self.invariant.0 c.args.pool c.in-Some.next (sym c.in-Some.ensures.result) c.in-Call.c c.in-Call.is;
+      serves_none = idle_serves_not table tree c.self.invariant.0.calls c.self.invariant.2 c.in-Some.next.thread.0 idle;
+      waits_not = idle_waits_not table tree c.self.invariant.0.calls c.self.invariant.2 c.in-Some.next.thread.0 idle;
+      thread = is_thread table c.in-Some.next.thread.0 (idle_there _ idle) c.thread_count-threads.ensures.few;
+    }
+
 pub invariant_of-self-in-Call : goal.invariant_of-self-in-Call
 invariant_of-self-in-Call c =
+    let table = c.self.inside.processes in
+    let tree = c.self.inside.held.calls.tree in
+    let u = c.in-Some.next.thread.0 in
+    let idle = matched_is_idle (the_view c.self.inside) c.self.invariant.0 c.args.pool c.in-Some.next (sym c.in-Some.ensures.result) in
+    let x = some_call _ (matched_waits (the_view c.self.inside) c.self.invariant.0 c.args.pool c.in-Some.next (sym c.in-Some.ensures.result) c.in-Call.c c.in-Call.is) in
     rw c.give_call.ensures.same (
       agrees_given (the_view c.self.inside) c.self.invariant.0 c.args.pool c.in-Some.next (sym c.in-Some.ensures.result) c.in-Call.c
           c.in-Call.is _ _ c.give_call.new.self.calls c.give.ensures c.in-Some.ensures.some c.give_call.ensures.calls,
       c.self.invariant.1,
+      rw (c.give.ensures, c.in-Call.is, c.give_call.ensures.calls)
+          (call_given table tree c.self.invariant.0.calls c.self.invariant.2 u idle c.in-Call.c x.0 x.1),
     )
 
 pub invariant_of-self-in-Notice : goal.invariant_of-self-in-Notice
-invariant_of-self-in-Notice c = (
-  agrees_given_notice (the_view c.self.inside) c.self.invariant.0 c.args.pool c.in-Some.next (sym c.in-Some.ensures.result) c.in-Notice.n
-      c.in-Notice.is _ _ c.give-in-Notice.new.self c.give.ensures c.in-Some.ensures.some c.give-in-Notice.ensures.list,
-  c.self.invariant.1,
-)
+invariant_of-self-in-Notice c =
+    let idle = matched_is_idle (the_view c.self.inside) c.self.invariant.0 c.args.pool c.in-Some.next (sym c.in-Some.ensures.result) in (
+      agrees_given_notice (the_view c.self.inside) c.self.invariant.0 c.args.pool c.in-Some.next (sym c.in-Some.ensures.result) c.in-Notice.n
+          c.in-Notice.is _ _ c.give-in-Notice.new.self c.give.ensures c.in-Some.ensures.some c.give-in-Notice.ensures.list,
+      c.self.invariant.1,
+      rw c.give.ensures
+          (idle_turns c.self.inside.processes c.self.inside.held.calls.tree c.self.invariant.0.calls c.self.invariant.2 c.in-Some.next.thread.0 idle
+          (thread_at_state (is.Given c.in-Some.next.item))),
+    )
 
 pub returns-in-Call-clause-given : goal.returns-in-Call-clause-given
 returns-in-Call-clause-given c e =

@@ -45,6 +45,7 @@ invariant_of-self c =
           (subst (Agrees now s.processes s.doors.items s.held.calls.tree (make_notice s.notices.list now c.args.d)) (sym taken)
           (agrees_make c.self.invariant.0 now c.args.d pool later c.pool_of-pool.ensures there)),
       c.self.invariant.1,
+      c.self.invariant.2,
     )
 
 pub returns-clause-left : goal.returns-clause-left

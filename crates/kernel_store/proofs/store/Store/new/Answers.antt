@@ -6,4 +6,4 @@ pub invariant_of-result : goal.invariant_of-result
 invariant_of-result c =
     rw c.new.ensures
     (rw c.in_ok-new.ensures
-    (rw c.new-3.ensures.calls (rw c.new-3.ensures.opening (rw c.new-4.ensures (rw c.new-5.ensures (agrees_none, refl))))))
+    (rw c.new-3.ensures.calls (rw c.new-3.ensures.opening (rw c.new-4.ensures (rw c.new-5.ensures (agrees_none, refl, tt))))))

@@ -1,51 +1,83 @@
-use Rattle.std.proofs.Common.{◌≡◌, ◌<◌, ◌≤◌, ◌+◌, ℕ, false, ap, sym, ◌∙◌, is_some, true, subst, rules}
+use Rattle.std.proofs.Common.{◌≡◌, ◌<◌, ◌≤◌, ◌+◌, ℕ, false, ap, refl, sym, ◌∙◌, is_some, true, subst, arith, rules}
 use Rattle.dk_base.specs.ByNumber.{at_number}
 use Rattle.dk_base.specs.declared.limits.TheConstants.{QUEUE_MAX}
-use Rattle.kernel_records.specs.Words.{is_pool, open_call, pool_in, waiting_call}
-use Rattle.written_kernel.specs.Types.{Pool}
-use Rattle.written_kernel.specs.Words.{calls_waiting, is_valid, pool_of}
+use Rattle.kernel_records.specs.declared.record.ThreadState.TheVariants as is
+use Rattle.kernel_records.specs.Words.{ProcessTable, is_pool, open_call, pool_in, set_thread_state, waiting_call}
+use Rattle.written_kernel.specs.Types.{Call, Pool}
+use Rattle.written_kernel.specs.Words.{calls_waiting, is_running_state, is_valid, pool_of}
+use Rattle.call_tree.specs.Words.{queued_call}
+use Rattle.call_agreement.proofs.Backing.{call_opened, running_there, running_waits_not}
+use Rattle.call_agreement.proofs.Free.{is_thread}
 use Rattle.server_pool.specs.Words.{PoolsValue, change_pool, count_calls, enqueue_in, item_room_in, pool_at, queue_in}
 use Rattle.pool_agreement.specs.Words.{Agrees, IsGivenOutIn}
 use Rattle.pool_agreement.proofs.Queues.{agrees_open, queue_length_agrees}
+use Rattle.pool_agreement.proofs.Stacks.{agrees_turn}
 use Rattle.kernel_store.specs.Stored.{ArePlaced, HasRoom, StoreValue, stored_state}
+use Rattle.kernel_store.proofs.Acts.{running_not_dormant, running_not_idle, state_is}
 use Rattle.kernel_store.proofs.ItemRoom.{room_enqueued}
-use Rattle.kernel_store.proofs.Made.{enqueued, given_out_elsewhere, made_later, served_there}
+use Rattle.kernel_store.proofs.Made.{enqueued, given_out_elsewhere, served_there}
 use Rattle.kernel_store.proofs.store.Store.open_call.Goals as goal
+
+pub open_call-call-requires-clause-thread : goal.open_call-call-requires-clause-thread
+open_call-call-requires-clause-thread c =
+    let running = ap is_running_state (state_is c.self.invariant.0 c.self.view_is c.args.t.0) ∙ c.requires.running in
+    is_thread c.self.inside.processes c.args.t.0 (running_there _ running) c.thread_count-threads.ensures.few
+
+pub open_call-call-requires-clause-waits_not : goal.open_call-call-requires-clause-waits_not
+open_call-call-requires-clause-waits_not c =
+    let running = ap is_running_state (state_is c.self.invariant.0 c.self.view_is c.args.t.0) ∙ c.requires.running in
+    running_waits_not c.self.inside.processes c.self.inside.held.calls.tree c.self.invariant.0.calls c.self.invariant.2 c.args.t.0 running
 
 pub enqueue-requires : goal.enqueue-requires
 enqueue-requires c =
-    let room = subst (λ (s : StoreValue). HasRoom s (pool_of (stored_state s) c.args.call.door)) (sym c.self.view_is) c.requires.can_act.room in
-    let door = subst (λ (s : StoreValue). is_valid (stored_state s) c.args.call.door ≡ true) (sym c.self.view_is) c.requires.door in
+    let room = subst (λ (s : StoreValue). HasRoom s (pool_of (stored_state s) c.args.door)) (sym c.self.view_is) c.requires.can_act.room in
+    let door = subst (λ (s : StoreValue). is_valid (stored_state s) c.args.door ≡ true) (sym c.self.view_is) c.requires.door in
     let placed = subst (λ (s : StoreValue). ArePlaced (stored_state s)) (sym c.self.view_is) c.requires.can_act.placed in
     subst (λ pool. 0 < item_room_in c.self.inside.pools pool) (sym c.pool_of-pool.ensures)
-    (room.items (served_there c.self.invariant.0 placed c.args.call.door door))
+    (room.items (served_there c.self.invariant.0 placed c.args.door door))
+
+abbrev opened : goal.After-turn → Call
+opened c =
+    queued_call c.open_call-call.result (c.self.inside.events + 1) c.args.t.0 c.args.door c.args.args.bytes c.args.args.objects c.args.rsize c.args.no_cancel
+
+is_enqueued : (c : goal.After-turn) → c.enqueue.new.self ≡ change_pool c.self.inside.pools c.pool_of-pool.result (enqueue_in (waiting_call (opened c)))
+is_enqueued c =
+    let v : PoolsValue = c.self.inside.pools in
+    let pool : Pool = c.pool_of-pool.result in
+    let few =
+    subst (λ (s : StoreValue). calls_waiting (stored_state s) (pool_of (stored_state s) c.args.door) < QUEUE_MAX) (sym c.self.view_is) c.requires.few in
+    let fewer : count_calls (queue_in v pool) < QUEUE_MAX =
+    subst (λ (k : ℕ). k < QUEUE_MAX)
+    (queue_length_agrees c.self.invariant.0 (pool_in (at_number c.self.inside.doors.items c.args.door))
+    ∙ ap (λ pool. count_calls (queue_in v pool)) (sym c.pool_of-pool.ensures)) few in
+    enqueued c.enqueue.result (waiting_call (opened c)) (queue_in v pool) c.enqueue.ensures.result fewer c.enqueue.ensures.ok
 
 pub invariant_of-self : goal.invariant_of-self
 invariant_of-self c =
     let v : PoolsValue = c.self.inside.pools in
     let pool : Pool = c.pool_of-pool.result in
-    let door = subst (λ (s : StoreValue). is_valid (stored_state s) c.args.call.door ≡ true) (sym c.self.view_is) c.requires.door in
+    let s = c.self.inside in
+    let tree = s.held.calls.tree in
+    let r = opened c in
+    let door = subst (λ (s : StoreValue). is_valid (stored_state s) c.args.door ≡ true) (sym c.self.view_is) c.requires.door in
     let placed = subst (λ (s : StoreValue). ArePlaced (stored_state s)) (sym c.self.view_is) c.requires.can_act.placed in
-    let few =
-    subst (λ (s : StoreValue). calls_waiting (stored_state s) (pool_of (stored_state s) c.args.call.door) < QUEUE_MAX) (sym c.self.view_is) c.requires.few in
-    let fewer : count_calls (queue_in v pool) < QUEUE_MAX =
-    subst (λ (k : ℕ). k < QUEUE_MAX)
-    (queue_length_agrees c.self.invariant.0 (pool_in (at_number c.self.inside.doors.items c.args.call.door))
-    ∙ ap (λ pool. count_calls (queue_in v pool)) (sym c.pool_of-pool.ensures)) few in
     let there : is_some (pool_at v pool) ≡ true =
-    ap (λ pool. is_some (pool_at v pool)) c.pool_of-pool.ensures ∙ served_there c.self.invariant.0 placed c.args.call.door door in
-    let taken : c.enqueue.new.self ≡ change_pool v pool (enqueue_in (waiting_call c.args.call)) =
-    enqueued c.enqueue.result (waiting_call c.args.call) (queue_in v pool) c.enqueue.ensures.result fewer c.enqueue.ensures.ok in
-    let number = subst (λ (s : StoreValue). c.args.call.number ≡ s.calls.tree.made + 1) (sym c.self.view_is) c.requires.number in
-    let later : c.self.inside.latest < c.args.call.made = made_later c.self.view_is c.args.call.made c.requires.made c.requires.can_act.latest in
-    rw c.open_call.ensures.same (
-      subst (λ tree. Agrees c.args.call.made c.self.inside.processes c.self.inside.doors.items tree c.self.inside.notices.list c.enqueue.new.self)
-          (sym c.open_call.ensures.calls)
+    ap (λ pool. is_some (pool_at v pool)) c.pool_of-pool.ensures ∙ served_there c.self.invariant.0 placed c.args.door door in
+    let first : s.latest ≤ s.events = subst (λ (v : StoreValue). v.latest ≤ v.events) (sym c.self.view_is) c.requires.can_act.latest in
+    let later : s.latest < s.events + 1 = omega (arith, first) in
+    let table : ProcessTable = set_thread_state s.processes c.args.t.0 (is.Calling c.open_call-call.result) in
+    let running = ap is_running_state (state_is c.self.invariant.0 c.self.view_is c.args.t.0) ∙ c.requires.running in
+    rw (c.open_call-call.ensures.same, c.turn.ensures) (
+      subst (λ tree. Agrees (s.events + 1) table s.doors.items tree s.notices.list c.enqueue.new.self)
+          (sym c.open_call-call.ensures.calls)
           (subst
-          (Agrees c.args.call.made c.self.inside.processes c.self.inside.doors.items (open_call c.self.inside.held.calls.tree c.args.call)
-          c.self.inside.notices.list)
-          (sym taken) (agrees_open c.self.invariant.0 c.args.call pool number later c.requires.queued c.pool_of-pool.ensures there)),
+          (Agrees (s.events + 1) table s.doors.items (open_call tree r) s.notices.list)
+          (sym (is_enqueued c))
+          (agrees_turn (agrees_open c.self.invariant.0 r pool c.open_call-call.ensures.number later refl c.pool_of-pool.ensures there) c.args.t.0
+          (is.Calling c.open_call-call.result) (running_not_idle _ running) (running_not_dormant _ running) refl refl)),
       c.self.invariant.1,
+      rw c.open_call-call.ensures.calls
+          (call_opened s.processes tree c.self.invariant.0.calls c.self.invariant.2 c.args.t.0 r running refl refl refl),
     )
 
 pub returns-clause-keeps : goal.returns-clause-keeps
@@ -57,32 +89,16 @@ returns-clause-keeps c = record {
     items = λ q.
         let v : PoolsValue = c.self.inside.pools in
         let pool : Pool = c.pool_of-pool.result in
-        let few =
-        subst (λ (s : StoreValue). calls_waiting (stored_state s) (pool_of (stored_state s) c.args.call.door) < QUEUE_MAX) (sym c.self.view_is) c.requires.few in
-        let fewer : count_calls (queue_in v pool) < QUEUE_MAX =
-        subst (λ (k : ℕ). k < QUEUE_MAX)
-        (queue_length_agrees c.self.invariant.0 (pool_in (at_number c.self.inside.doors.items c.args.call.door))
-        ∙ ap (λ pool. count_calls (queue_in v pool)) (sym c.pool_of-pool.ensures)) few in
-        let taken : c.enqueue.new.self ≡ change_pool v pool (enqueue_in (waiting_call c.args.call)) =
-        enqueued c.enqueue.result (waiting_call c.args.call) (queue_in v pool) c.enqueue.ensures.result fewer c.enqueue.ensures.ok in
         subst (λ (s : StoreValue). item_room_in s.pools q ≤ item_room_in c.enqueue.new.self q + 1) c.self.view_is
-        (subst (λ (w : PoolsValue). item_room_in v q ≤ item_room_in w q + 1) (sym taken) (room_enqueued v pool (waiting_call c.args.call) q));
+        (subst (λ (w : PoolsValue). item_room_in v q ≤ item_room_in w q + 1) (sym (is_enqueued c)) (room_enqueued v pool (waiting_call (opened c)) q));
   };
   given_out = λ h q e.
       let v : PoolsValue = c.self.inside.pools in
       let pool : Pool = c.pool_of-pool.result in
-      let few =
-      subst (λ (s : StoreValue). calls_waiting (stored_state s) (pool_of (stored_state s) c.args.call.door) < QUEUE_MAX) (sym c.self.view_is) c.requires.few in
-      let fewer : count_calls (queue_in v pool) < QUEUE_MAX =
-      subst (λ (k : ℕ). k < QUEUE_MAX)
-      (queue_length_agrees c.self.invariant.0 (pool_in (at_number c.self.inside.doors.items c.args.call.door))
-      ∙ ap (λ pool. count_calls (queue_in v pool)) (sym c.pool_of-pool.ensures)) few in
-      let taken : c.enqueue.new.self ≡ change_pool v pool (enqueue_in (waiting_call c.args.call)) =
-      enqueued c.enqueue.result (waiting_call c.args.call) (queue_in v pool) c.enqueue.ensures.result fewer c.enqueue.ensures.ok in
       let other : is_pool pool q ≡ false =
       ap (λ pool. is_pool pool q) c.pool_of-pool.ensures
-      ∙ subst (λ (s : StoreValue). is_pool (pool_of (stored_state s) c.args.call.door) q ≡ false) (sym c.self.view_is) e in
+      ∙ subst (λ (s : StoreValue). is_pool (pool_of (stored_state s) c.args.door) q ≡ false) (sym c.self.view_is) e in
       let before : IsGivenOutIn v q = subst (λ (s : StoreValue). IsGivenOutIn s.pools q) (sym c.self.view_is) (h q) in
-      subst (λ (v : PoolsValue). IsGivenOutIn v q) (sym taken)
-      (given_out_elsewhere v pool q (enqueue_in (waiting_call c.args.call)) other before);
+      subst (λ (v : PoolsValue). IsGivenOutIn v q) (sym (is_enqueued c))
+      (given_out_elsewhere v pool q (enqueue_in (waiting_call (opened c))) other before);
 }

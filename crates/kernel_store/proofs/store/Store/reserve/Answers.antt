@@ -24,7 +24,7 @@ invariant_of-self-2 c =
     (thread_room_in c.room.new.self c.args.touched) (item_room_in c.room.new.self c.args.touched) c.args.touched
     c.reserve_door.ensures.same c.room.ensures.same in
     rw c.reserve.ensures.calls
-    (rw c.reserve.ensures.opening (rw c.reserve-2.ensures.items (agrees_same c.self.invariant.0 same, c.self.invariant.1)))
+    (rw c.reserve.ensures.opening (rw c.reserve-2.ensures.items (agrees_same c.self.invariant.0 same, c.self.invariant.1, c.self.invariant.2)))
 
 pub returns-clause-keeps : goal.returns-clause-keeps
 returns-clause-keeps c = record {

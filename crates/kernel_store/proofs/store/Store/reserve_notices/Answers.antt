@@ -12,6 +12,7 @@ invariant_of-self-2 c = (
   subst (λ list. Agrees c.self.inside.latest c.self.inside.processes c.self.inside.doors.items c.self.inside.held.calls.tree list c.room_for_notices.new.pools)
       (sym c.reserve.ensures.list) (agrees_same c.self.invariant.0 c.room_for_notices.ensures.same),
   c.self.invariant.1,
+  c.self.invariant.2,
 )
 
 pub returns-clause-room : goal.returns-clause-room

@@ -3,7 +3,9 @@ use Rattle.kernel_records.specs.Words.{thread_outside, unbind_thread}
 use Rattle.pool_agreement.proofs.Noticing.{agrees_end_notice, list_is_kept}
 use Rattle.pool_agreement.proofs.Queues.{agrees_return}
 use Rattle.pool_agreement.proofs.Unparking.{agrees_alike}
-use Rattle.kernel_store.proofs.Acts.{fills, bound, given_out_bound, holds_ok, leaves_door}
+use Rattle.kernel_store.proofs.Acts.{fills, bound, given_out_bound, holds_ok, leaves_door, state_is}
+use Rattle.written_kernel.specs.Words.{is_running_state}
+use Rattle.call_agreement.proofs.Backing.{returned_turns}
 use Rattle.kernel_store.proofs.store.Store.return_unbound.Goals as goal
 
 pub invariant_of-self : goal.invariant_of-self
@@ -19,6 +21,10 @@ invariant_of-self c =
           c.args.t.0 c.args.bytes c.args.objects)
           c.args.t.0)))),
       c.self.invariant.1,
+      rw c.end_invocation.ensures
+          (rw c.give_back.ensures.calls
+          (returned_turns c.self.inside.processes c.self.inside.held.calls.tree c.self.invariant.0.calls c.self.invariant.2 c.args.t.0
+          (ap is_running_state (state_is c.self.invariant.0 c.self.view_is c.args.t.0) ∙ c.requires.running) c.args.bytes c.args.objects thread_outside)),
     )
 
 pub end-requires : goal.end-requires

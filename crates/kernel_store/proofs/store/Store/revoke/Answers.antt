@@ -13,4 +13,4 @@ invariant_of-self c =
     let allowed : first_refusal (revoke_tests c.args.p.0 (door_of (stored_state (the_view c.self.inside)) c.args.d)) ≡ None =
     ap (λ (s : StoreValue). first_refusal (revoke_tests c.args.p.0 (door_of (stored_state s) c.args.d))) c.self.view_is ∙ c.requires in
     rw (holds_ok c.revoke.result (ap is_ok (c.revoke.ensures.result ∙ ap unless_refused_with allowed)) c.revoke.ensures.ok)
-    (agreed, c.self.invariant.1 ∙ sym c.self.invariant.0.private ∙ agreed.private)
+    (agreed, c.self.invariant.1 ∙ sym c.self.invariant.0.private ∙ agreed.private, c.self.invariant.2)

@@ -14,4 +14,4 @@ invariant_of-self c =
     ∙ c.requires in
     let agreed = agrees_param c.self.invariant.0 c.args.d c.args.param c.args.value in
     rw (holds_ok c.setparam.result (ap is_ok (c.setparam.ensures.result ∙ ap unless_refused_with allowed)) c.setparam.ensures.ok)
-    (agreed, c.self.invariant.1 ∙ sym c.self.invariant.0.private ∙ agreed.private)
+    (agreed, c.self.invariant.1 ∙ sym c.self.invariant.0.private ∙ agreed.private, c.self.invariant.2)

@@ -3,8 +3,11 @@ use Rattle.written_kernel.specs.Words.{start_one}
 use Rattle.server_pool.specs.Words.{change_spares, without_lowest}
 use Rattle.kernel_store.specs.Stored.{stored_state}
 use Rattle.kernel_store.specs.contracts.store.Store.{the_view}
-use Rattle.kernel_store.proofs.Spares.{agrees_started, agrees_unstarted, given_out-spares, spare_not_done, spare_not_idle, state_started, state_unstarted}
+use Rattle.kernel_store.proofs.Spares.{agrees_started, agrees_unstarted, given_out-spares, spare_is_dormant, spare_not_done, spare_not_idle, state_started, state_unstarted}
 use Rattle.kernel_store.proofs.GivingAll.{picks_kept}
+use Rattle.kernel_records.specs.declared.record.ThreadState.TheVariants as is
+use Rattle.kernel_records.specs.Words.{thread_at_state}
+use Rattle.call_agreement.proofs.Backing.{dormant_turns}
 use Rattle.kernel_store.proofs.store.Store.start_spare.Goals as goal
 
 pub turn-requires-clause-not_done : goal.turn-requires-clause-not_done
@@ -16,17 +19,20 @@ turn-requires-clause-not_idle c =
     spare_not_idle (the_view c.self.inside) c.self.invariant.0 c.args.p.0 c.in-Some.t.0 c.in-Some.ensures.result
 
 pub invariant_of-self : goal.invariant_of-self
-invariant_of-self c = (
-  agrees_started (the_view c.self.inside) c.self.invariant.0 c.args.p.0 c.in-Some.t.0 c.in-Some.ensures.result c.turn.new.self
-      c.take_spare.new.self c.turn.ensures c.take_spare.ensures.left,
-  c.self.invariant.1,
-)
+invariant_of-self c =
+    let dormant = spare_is_dormant (the_view c.self.inside) c.self.invariant.0 c.args.p.0 c.in-Some.t.0 c.in-Some.ensures.result in (
+      agrees_started (the_view c.self.inside) c.self.invariant.0 c.args.p.0 c.in-Some.t.0 c.in-Some.ensures.result c.turn.new.self
+          c.take_spare.new.self c.turn.ensures c.take_spare.ensures.left,
+      c.self.invariant.1,
+      rw c.turn.ensures (dormant_turns c.self.inside.processes c.self.inside.held.calls.tree c.self.invariant.0.calls c.self.invariant.2 c.in-Some.t.0 (thread_at_state is.Running) dormant),
+    )
 
 pub invariant_of-self-in_default : goal.invariant_of-self-in_default
 invariant_of-self-in_default c = (
   agrees_unstarted (the_view c.self.inside) c.self.invariant.0 c.args.p.0 c.in_default.ensures.result c.take_spare.new.self
       c.take_spare.ensures.left,
   c.self.invariant.1,
+  c.self.invariant.2,
 )
 
 pub returns-in-Some-clause-state : goal.returns-in-Some-clause-state

@@ -6,7 +6,7 @@ use Rattle.kernel_store.proofs.Counted.{none_counted}
 use Rattle.kernel_store.proofs.store.Store.start_step.Goals as goal
 
 pub invariant_of-self : goal.invariant_of-self
-invariant_of-self c = rw c.start_step.ensures.same (c.self.invariant.0, c.start_step.ensures.len ∙ c.self.invariant.1)
+invariant_of-self c = rw c.start_step.ensures.same (c.self.invariant.0, c.start_step.ensures.len ∙ c.self.invariant.1, c.self.invariant.2)
 
 pub returns-clause-opened : goal.returns-clause-opened
 returns-clause-opened c =

@@ -1,6 +1,18 @@
-use Rattle.kernel_store.proofs.Acts.{turned}
+use Rattle.std.proofs.Common.{ap, ◌∙◌}
+use Rattle.call_agreement.specs.Words.{is_calling, is_given_item}
+use Rattle.kernel_records.specs.Words.{is_done}
+use Rattle.call_agreement.proofs.Backing.{turned as turned_backed}
+use Rattle.kernel_store.proofs.Acts.{inside_dormant, inside_idle, state_is, turned}
 use Rattle.kernel_store.proofs.store.Store.turn.Goals as goal
 
 pub invariant_of-self : goal.invariant_of-self
 invariant_of-self c =
-    (rw c.turn.ensures (turned c.self.invariant.0 c.self.view_is c.args.t.0 c.args.state c.requires.active.not_idle c.requires.active.not_dormant c.requires.to_active.not_idle c.requires.to_active.not_dormant), c.self.invariant.1)
+    let state = state_is c.self.invariant.0 c.self.view_is c.args.t.0 in
+    rw c.turn.ensures (
+      turned c.self.invariant.0 c.self.view_is c.args.t.0 c.args.state c.requires.active.not_idle c.requires.active.not_dormant (inside_idle c.args.state c.requires.to_inside)
+          (inside_dormant c.args.state c.requires.to_inside),
+      c.self.invariant.1,
+      turned_backed c.self.inside.processes c.self.inside.held.calls.tree c.self.invariant.0.calls c.self.invariant.2 c.args.t.0 c.args.state
+          (ap is_calling state ∙ c.requires.active.not_calling) (ap is_given_item state ∙ c.requires.active.not_given) (ap is_done state ∙ c.requires.active.not_done)
+          c.requires.to_inside,
+    )

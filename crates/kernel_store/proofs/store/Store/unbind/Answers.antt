@@ -8,6 +8,7 @@ invariant_of-self c = (
   rw (holds_ok c.unbind.result (ap is_ok c.unbind.ensures.result ∙ leaves_door c.self.view_is c.args.t.0 c.requires.bound) c.unbind.ensures.ok)
       (bound c.self.invariant.0 c.self.view_is c.args.t.0 None c.requires.running),
   c.self.invariant.1,
+  c.self.invariant.2,
 )
 
 pub returns-clause-keeps : goal.returns-clause-keeps

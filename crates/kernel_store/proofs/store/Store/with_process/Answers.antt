@@ -5,6 +5,8 @@ use Rattle.pool_agreement.specs.Words.{Agrees, IsGivenOut}
 use Rattle.pool_agreement.proofs.Starting.{agrees_process}
 use Rattle.kernel_store.specs.Stored.{StoreValue}
 use Rattle.kernel_store.proofs.Alike.{given_out_process}
+use Rattle.call_agreement.specs.Words.{AreBacked}
+use Rattle.call_agreement.proofs.Backing.{processes_changed}
 use Rattle.kernel_store.proofs.store.Store.with_process.Goals as goal
 
 pub invariant_of-self : goal.invariant_of-self
@@ -19,6 +21,8 @@ invariant_of-self c =
           (ap (λ (v : PoolsValue). v.bindings) pools) (ap (λ (v : PoolsValue). v.private) pools)
           (ap (λ (v : PoolsValue). v.common) pools) (ap (λ (v : PoolsValue). v.spares) pools)),
       c.self.invariant.1,
+      subst (λ table. AreBacked table c.self.inside.held.calls.tree.calls) (sym made)
+          (processes_changed before c.self.inside.held.calls.tree c.self.invariant.0.calls c.self.invariant.2 _),
     )
 
 pub returns-clause-rest : goal.returns-clause-rest
