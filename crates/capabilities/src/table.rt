@@ -1,6 +1,7 @@
 ghost use Rattle.std.specs.Prelude.{◌≡◌};
 ghost use Rattle.capabilities.specs.Capability.{capability_of_attrs};
 
+use bitflags::Flags;
 use dk_base::set::Attrs;
 
 /// The number of the latest capability that is built. Capabilities are numbered in the order in which they come: 1 calls
@@ -12,7 +13,7 @@ pub const BUILT: u32 = 9;
 fn has_any(attrs: Attrs, others: Attrs) -> bool
     ensures { result ≡ Rattle.capabilities.specs.Capability.has_any attrs others }
 {
-    attrs.0 & others.0 != 0
+    attrs.intersects(others)
 }
 
 /// The number of the capability that a door's attributes need, the greatest of several.

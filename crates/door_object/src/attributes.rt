@@ -56,9 +56,9 @@ pub fn first_desc_max(attrs: Attrs) -> u64
     }
 }
 
-/// The bits of these attributes, or none.
-pub fn attributes_where(holds: bool, attrs: Attrs) -> u32
-    ensures { result ≡ attributes_where holds attrs }
+/// These attributes, or none.
+pub fn attributes_where(holds: bool, attrs: Attrs) -> Attrs
+    ensures { result.0 ≡ attributes_where holds attrs }
 {
-    if holds { attrs.0 } else { 0 }
+    if holds { attrs } else { Attrs::empty() }
 }

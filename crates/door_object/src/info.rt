@@ -3,6 +3,7 @@ ghost use Rattle.std.specs.Prelude.{◌≡◌};
 ghost use Rattle.kernel_records.specs.Words.{info_in, info_of, target_of, told_attributes};
 
 use crate::attributes::attributes_where;
+use bitflags::Flags;
 use dk_base::answer::DoorInfo;
 use dk_base::number::Pid;
 use dk_base::set::Attrs;
@@ -26,7 +27,7 @@ fn told_attributes(door: &Door, by: Pid, refs: u64) -> Attrs
     let local = attributes_where(door.owner.0 == by.0, Attrs::LOCAL);
     let revoked = attributes_where(door.revoked, Attrs::REVOKED);
     let unref = attributes_where(refs == 1, Attrs::IS_UNREF);
-    Attrs(door.attrs.0 | (local | (revoked | unref)))
+    door.attrs.union(local.union(revoked.union(unref)))
 }
 
 fn info_of(door: &Door, by: Pid, refs: u64) -> DoorInfo
