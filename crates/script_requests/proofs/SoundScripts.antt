@@ -1,5 +1,5 @@
 -- A script that a text spells is sound: each line of its bodies has words that spell it in its process.
-use Rattle.std.proofs.Common.{◌≡◌, ℕ, ◌+◌, ◌≤◌, List, [], ◌∷◌, ◌++◌, Option, Some, None, Bool, true, false, length, map, arith, zero, suc, refl, sym, ap, ◌∙◌, subst, length-append, zero-add}
+use Rattle.std.proofs.Common.{◌≡◌, ℕ, ◌+◌, ◌≤◌, List, [], ◌∷◌, ◌++◌, Option, Some, None, Bool, true, false, length, map, arith, zero, suc, inl, inr, refl, sym, ap, ◌∙◌, subst, length-append, zero-add}
 use Rattle.std.specs.Prelude.{All, slice_get, option_map, filter_map, flat_map}
 use Rattle.std.proofs.lemmas.Bool.{false≢true}
 use Rattle.std.proofs.lemmas.List.{length-map}
@@ -16,10 +16,11 @@ use Rattle.script_lang.specs.declared.item.ScriptLine.TheVariants.{Budget, Proce
 use Rattle.script_lang.specs.declared.item.ScriptPlace.TheVariants.{Members, Body}
 use Rattle.script_lang.specs.declared.script.Procedure.{Procedure as ScriptProcedure}
 use Rattle.script_lang.specs.Words.{ContextValue, ScriptValue, SpellsLines, SpellsScript, SpellsScriptLine, SpellsScriptLines, before_line, body_from, budget_from, context_after, context_at_depth, context_with_variables, first_context, is_closed, is_closed_place, is_of_place, name_of_procedure, procedures_from, process_of_item, script_of_items, spells, tables_of, threads_from, turns_of_item}
+use Rattle.script_lang.specs.Spelled.{SpellsLimit}
 use Rattle.script_lang.proofs.SpelledItems.{along}
 use Rattle.script_lang.proofs.TablesOfItems.{FewFollow, few_follow, few_before}
 use Rattle.script_requests.specs.DeclaredNames.{IsNumberOf, IsDeclaredThread}
-use Rattle.script_requests.specs.Sound.{IsEntryOf, IsFitLine, IsSoundThread, IsSoundProcedure, IsSound}
+use Rattle.script_requests.specs.Sound.{IsEntryOf, IsFitLine, IsNarrow, IsSoundThread, IsSoundProcedure, IsSound}
 use Rattle.script_requests.specs.Trees.{depth_after_lines, IsClosed}
 use Rattle.script_requests.proofs.Elements.{at_number-within}
 
@@ -140,6 +141,7 @@ record AreSpelled (tables : Tables) (before : ContextValue) (items : List Script
       HasProcess before.place (length before.processes) →
       All (IsSpelledProcedure tables (processes_with before items)) (procedures_from (length before.processes) items)
   schedule : All (HasName tables) (flat_map turns_of_item items)
+  narrow : All IsNarrow (filter_map process_of_item items)
   budget : (events : ℕ) → events ≤ 100000 → budget_from events items ≤ 100000
   closed : before.place ≡ Body → depth_after_lines before.depth (body_from before.depth items) ≡ Some 0
 
@@ -150,6 +152,7 @@ none-spelled tables before end =
       threads = λ has. All-nil (IsSpelledThread tables (processes_with before []));
       procedures = λ has. All-nil (IsSpelledProcedure tables (processes_with before []));
       schedule = All-nil (HasName tables);
+      narrow = All-nil IsNarrow;
       budget = λ events small. small;
       closed = λ inside. absurd (false≢true (subst (λ (place : ScriptPlace). is_closed_place place ≡ true) inside end));
     }
@@ -187,6 +190,7 @@ record AreAfterLine (tables : Tables) (before : ContextValue) (after : Option �
       1 ≤ length before.processes →
       All (IsSpelledProcedure tables (processes_with before items)) (procedures_from (length before.processes) items)
   schedule : All (HasName tables) (flat_map turns_of_item items)
+  narrow : All IsNarrow (filter_map process_of_item items)
   budget : (events : ℕ) → events ≤ 100000 → budget_from events items ≤ 100000
   closed : AreClosed after items
 
@@ -199,6 +203,7 @@ after-line tables before items None at others =
       threads = others.threads;
       procedures = others.procedures;
       schedule = others.schedule;
+      narrow = others.narrow;
       budget = others.budget;
       closed = tt;
     }
@@ -208,6 +213,7 @@ after-line tables before items (Some depth) at others =
       threads = λ some. others.threads (subst (λ place. HasProcess place (length before.processes)) (sym at) some);
       procedures = λ some. others.procedures (subst (λ place. HasProcess place (length before.processes)) (sym at) some);
       schedule = others.schedule;
+      narrow = others.narrow;
       budget = others.budget;
       closed = others.closed at;
     }
@@ -224,6 +230,7 @@ do-spelled tables before x items at here others =
       threads = λ has. after.threads (subst (λ place. HasProcess place (length before.processes)) at has);
       procedures = λ has. after.procedures (subst (λ place. HasProcess place (length before.processes)) at has);
       schedule = after.schedule;
+      narrow = after.narrow;
       budget = after.budget;
       closed = λ inside. line-closed x items before.depth (kind_of x) refl after.closed;
     }
@@ -249,6 +256,17 @@ small-budget : (tables : Tables) (of events : ℕ) (words : List (List ℕ)) →
 small-budget tables of events [] s = absurd s
 small-budget tables of events (keyword ∷ []) s = absurd s.1
 small-budget tables of events (keyword ∷ number ∷ words) s = s.1.0.1
+
+small-limit : (tables : Tables) (of : ℕ) (name : List ℕ) (limit : ℕ) (words : List (List ℕ)) → SpellsScriptLine tables of (Process name limit) words → limit ≤ 256
+small-limit tables of name limit [] s = absurd s
+small-limit tables of name limit (keyword ∷ []) s = absurd s.1
+small-limit tables of name limit (keyword ∷ word ∷ words) s = go words s.1.1
+  where
+    go : (words : List (List ℕ)) → SpellsLimit limit words → limit ≤ 256
+    go words (inl h) = omega (arith, h.0)
+    go [] (inr h) = absurd h
+    go (keyword ∷ []) (inr h) = absurd h.1
+    go (keyword ∷ number ∷ words) (inr h) = h.1.0.1
 
 -- what stands among the members of a process
 abbrev IsMember : ScriptLine → Type 0
@@ -286,6 +304,7 @@ item-spelled tables before words (Budget events) items s at others =
       threads = λ has. others.threads tt;
       procedures = λ has. others.procedures tt;
       schedule = others.schedule;
+      narrow = others.narrow;
       budget = λ given small. others.budget events (small-budget tables (length before.processes) events words s);
       closed = λ inside. absurd (outside before.place (Budget events) refl at inside);
     }
@@ -298,6 +317,7 @@ item-spelled tables before words (Process name limit) items s at others =
       threads = λ has. rw one at (rw more at (others.threads some));
       procedures = λ has. rw one at (rw more at (others.procedures some));
       schedule = others.schedule;
+      narrow = All-cons IsNarrow _ (filter_map process_of_item items) (small-limit tables (length before.processes) name limit words s) others.narrow;
       budget = others.budget;
       closed = λ inside. absurd (outside before.place (Process name limit) refl at inside);
     }
@@ -317,6 +337,7 @@ item-spelled tables before words (Spare name) items s at others =
           (others.threads has);
       procedures = others.procedures;
       schedule = others.schedule;
+      narrow = others.narrow;
       budget = others.budget;
       closed = λ inside. absurd (outside before.place (Spare name) refl at inside);
     }
@@ -337,6 +358,7 @@ item-spelled tables before words (Thread name) items s at others =
           (others.threads (in_process before.place (length before.processes) members has));
       procedures = λ has. others.procedures (in_process before.place (length before.processes) members has);
       schedule = others.schedule;
+      narrow = others.narrow;
       budget = others.budget;
       closed = λ inside. absurd (outside before.place (Thread name) refl at inside);
     }
@@ -357,6 +379,7 @@ item-spelled tables before words (Procedure name) items s at others =
           })
           (others.procedures (in_process before.place (length before.processes) members has));
       schedule = others.schedule;
+      narrow = others.narrow;
       budget = others.budget;
       closed = λ inside. absurd (outside before.place (Procedure name) refl at inside);
     }
@@ -374,6 +397,7 @@ item-spelled tables before words (Schedule threads) items s at others =
           (flat_map turns_of_item items)
           (schedule-named tables (length before.processes) threads words s)
           others.schedule;
+      narrow = others.narrow;
       budget = others.budget;
       closed = λ inside. absurd (outside before.place (Schedule threads) refl at inside);
     }
@@ -401,7 +425,9 @@ sound-parts script items same spelled few =
     in let all_threads : All (IsSpelledThread (tables_of script) (length script.processes)) script.threads = rw (threads, processes, zero-add (length script.processes)) at (spelled.threads tt)
     in let all_procedures : All (IsSpelledProcedure (tables_of script) (length script.processes)) script.procedures = rw (procedures, processes, zero-add (length script.processes)) at (spelled.procedures tt)
     in let all_turns : All (HasName (tables_of script)) script.schedule = rw schedule at spelled.schedule
+    in let narrow : All IsNarrow script.processes = rw processes at spelled.narrow
     in record {
+      narrow = narrow;
       few_processes = rw (processes, zero-add (length script.processes)) at few.processes;
       few_threads = rw (threads, zero-add (length script.threads)) at (few.threads 0);
       small_budget = rw budget at (spelled.budget 100000 (omega arith));

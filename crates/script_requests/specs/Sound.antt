@@ -2,12 +2,12 @@
 use Rattle.std.specs.Prelude.{ℕ, ◌≡◌, ◌≤◌, Some, false, length, slice_get, All}
 use Rattle.script_lang.specs.Types.{Line}
 use Rattle.script_line.specs.declared.line.Line.TheVariants.{Create, Read, GetN, Interrupt, Kill}
-use Rattle.script_requests.specs.Types.{Procedure, ScriptThread}
+use Rattle.script_requests.specs.Types.{Procedure, ScriptProcess, ScriptThread}
 use Rattle.script_lang.specs.Words.{ScriptValue}
 use Rattle.script_requests.specs.DeclaredNames.{IsThread, IsProcess, IsDeclaredThread}
 use Rattle.script_requests.specs.Later.{has_later_parts}
 use Rattle.script_requests.specs.Trees.{IsClosed}
-use Rattle.dk_base.specs.declared.limits.TheConstants.{DATA_MAX, ANSWER_ITEMS_MAX, PROCESSES_MAX, THREADS_MAX, BUDGET_MAX}
+use Rattle.dk_base.specs.declared.limits.TheConstants.{DATA_MAX, DESCRIPTORS_MAX, ANSWER_ITEMS_MAX, PROCESSES_MAX, THREADS_MAX, BUDGET_MAX}
 
 -- an entry is that of a procedure of this process
 pub record IsEntryOf (script : ScriptValue) (process entry : ℕ) : Type 0 where
@@ -37,10 +37,15 @@ pub record IsSoundProcedure (script : ScriptValue) (x : Procedure) : Type 0 wher
   -- each of its blocks is closed in it
   pub closed : IsClosed x.body
 
+-- a process may have no more descriptors than a process can
+abbrev pub IsNarrow : ScriptProcess → Type 0
+IsNarrow x = x.limit ≤ DESCRIPTORS_MAX
+
 pub record IsSound (script : ScriptValue) : Type 0 where
   pub few_processes : length script.processes ≤ PROCESSES_MAX
   pub few_threads : length script.threads ≤ THREADS_MAX
   pub small_budget : script.budget ≤ BUDGET_MAX
+  pub narrow : All IsNarrow script.processes
   pub threads : All (IsSoundThread script) script.threads
   pub procedures : All (IsSoundProcedure script) script.procedures
   pub schedule : All (IsDeclaredThread script) script.schedule
