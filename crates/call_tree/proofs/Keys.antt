@@ -1,7 +1,6 @@
 -- What a key tells of the calls in their order: a search whose test one call at most can pass.
 use Rattle.std.proofs.lemmas.Bool.Decides.{nat_tests}
-use Rattle.std.proofs.Common.{◌≡◌, ◌≤◌, ◌+◌, ◌&&◌, ◌||◌, ℕ, zero, suc, Bool, true, false, List, [], ◌∷◌, Option, Some, None, IsSome, is_some, find, filter, length, drop, slice_get, refl, sym, ap, ◌∙◌, arith, subst}
-use Rattle.std.specs.List.{list_any}
+use Rattle.std.proofs.Common.{◌≡◌, ◌&&◌, ℕ, Bool, true, false, List, [], ◌∷◌, Option, Some, None, IsSome, is_some, find, filter, refl, sym, ap, ◌∙◌, arith, subst}
 use Rattle.kernel_records.specs.declared.record.Call.{Call}
 use Rattle.kernel_records.specs.declared.record.CallStage.{CallStage}
 use Rattle.kernel_records.specs.declared.record.CallStage.TheVariants as stage
@@ -159,22 +158,3 @@ gone_removed (x ∷ es) k r e h a =
 pub with_same : (es : List (ℕ × Call)) (k : ℕ) (r : Call) → look k es ≡ Some r → with_call k r es ≡ es
 with_same [] k r h = refl
 with_same (x ∷ es) k r h = grind (arith, nat_tests, with_same es k r)
-
--- places
-
-pub drop_at : (rs : List Call) (i : ℕ) (r : Call) → slice_get rs i ≡ Some r → drop i rs ≡ r ∷ drop (i + 1) rs
-drop_at [] i r e = absurd (cc)
-drop_at (x ∷ rs) zero r e = let z : x ≡ r = cc in ap (λ y. y ∷ rs) z
-drop_at (x ∷ rs) (suc i) r e = let z : suc i + 1 ≡ suc (i + 1) = omega arith in rw z (drop_at rs i r e)
-
-pub any_at : (p : Call → Bool) (rs : List Call) (i : ℕ) (r : Call) (b : Bool) → slice_get rs i ≡ Some r → b ≡ p r → list_any p (drop i rs) ≡ (b || list_any p (drop (i + 1) rs))
-any_at p rs i r b e h = rw (drop_at rs i r e, h) refl
-
-pub drop_all : (rs : List Call) (i : ℕ) → length rs ≤ i → drop i rs ≡ []
-drop_all [] i h = drop_none i
-  where
-    drop_none : (i : ℕ) → ◌≡◌ {A = List Call} (drop i []) []
-    drop_none zero = refl
-    drop_none (suc i) = refl
-drop_all (x ∷ rs) zero h = absurd (omega arith)
-drop_all (x ∷ rs) (suc i) h = drop_all rs i (omega arith)

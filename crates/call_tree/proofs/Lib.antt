@@ -10,3 +10,4 @@ pub mod Parting
 pub mod LeavingParts
 pub mod Indexing
 pub mod Transit
+pub mod Collecting

@@ -19,9 +19,6 @@ same_some r s e = cc
 pub look_here : (e : ℕ × Call) (es : List (ℕ × Call)) → look e.0 (e ∷ es) ≡ Some e.1
 look_here e es = grind (arith, nat_tests)
 
-pub look_past : (e : ℕ × Call) (es : List (ℕ × Call)) (k : ℕ) → e.0 ≢ k → look k (e ∷ es) ≡ look k es
-look_past e es k n = grind (arith, nat_tests)
-
 -- what the rest finds, all find
 pub past : (e : ℕ × Call) (es : List (ℕ × Call)) → look e.0 es ≡ None → (k : ℕ) (r : Call) → look k es ≡ Some r → look k (e ∷ es) ≡ Some r
 past e es a k r h = grind (arith, nat_tests, cases_eq e.0 k)

@@ -18,7 +18,7 @@ use Rattle.call_tree.proofs.Changes.{look_new, look_old, apart_new, look_changed
 use Rattle.call_tree.proofs.Indexing.{Indexed-ended, Indexed-given, Indexed-kept, Indexed-opened, Indexed-removed, none_or, server_is}
 use Rattle.call_tree.proofs.Looks.{same_some}
 
-set_sets : (xs : List ℕ) (i v : ℕ) → i < length xs → Sets (at xs) (at (set xs i v)) i v
+pub set_sets : (xs : List ℕ) (i v : ℕ) → i < length xs → Sets (at xs) (at (set xs i v)) i v
 set_sets xs i v h = record {
   changed = get_or-set_same xs i v 0 h;
   others = λ k n. get_or-set_other xs i k v 0 n;

@@ -3,9 +3,11 @@ use Rattle.std.specs.Prelude.{◌≡◌, ◌<◌, ◌≤◌, ℕ, zero, suc, Boo
 use Rattle.kernel_records.specs.declared.record.Call.{Call}
 use Rattle.kernel_records.specs.declared.record.CallStage.{CallStage}
 use Rattle.kernel_records.specs.declared.record.CallStage.TheVariants as stage
-use Rattle.kernel_records.specs.Words.{CallTree, IsAscending, call_number, is_live, is_served_by, without_arguments_at}
+use Rattle.kernel_records.specs.Words.{CallTree, IsAscending, call_number, is_live, is_served_by, is_to_collect, without_arguments_at}
 use Rattle.call_records.specs.Words.{calls_in, look}
 use Rattle.shuttle_tokens.specs.Words.{Cut, LinksValue, at}
+use Rattle.thread_set.specs.declared.set.ThreadSet.{ThreadSet}
+use Rattle.thread_set.specs.Words.{has}
 use Rattle.call_tree.specs.Calls.{IsThread, is_waiting}
 
 -- how many calls were made, those that are live under their keys, and how many further calls take no memory
@@ -70,6 +72,12 @@ pub record IsWhole (links : LinksValue) (es : List (ℕ × Call)) (ck sk : List 
   pub apart : AreApart es
   pub rising : IsAscending call_number 0 links.top (calls_in es)
   pub indexed : Indexed (λ k. look k es) (at ck) (at sk) (at links.up) (at links.down) (at links.rank) links.top
+
+-- Which callers can collect: those of the calls that were returned or have ended. `f` finds calls by their keys, `ck` the key of each
+-- caller.
+pub record AreCollecting (f : ℕ → Option Call) (ck : ℕ → ℕ) (callers : ThreadSet) : Type 0 where
+  pub waiting : (k : ℕ) (r : Call) → f k ≡ Some r → has callers r.caller.0 ≡ is_to_collect r.stage
+  pub others : (t : ℕ) → ck t ≡ 0 → has callers t ≡ false
 
 -- what is said of keys alone: a caller, a number and a server have one call, and a call is later than the one that its caller serves
 pub record AreSingle (es : List (ℕ × Call)) : Type 0 where

@@ -1,7 +1,7 @@
 -- The calls that are live, with the room for more.
-use Rattle.std.specs.Prelude.{◌≡◌, ◌<◌, ℕ, Bool, true, List, [], ◌∷◌}
+use Rattle.std.specs.Prelude.{◌≡◌, ◌<◌, ℕ, true, List, [], ◌∷◌}
 use Rattle.kernel_records.specs.declared.record.Call.{Call}
-use Rattle.kernel_records.specs.Words.{CallTree, is_live_call, is_to_collect}
+use Rattle.kernel_records.specs.Words.{CallTree, is_live_call}
 
 -- how many calls were made and those that are live, and how many further calls take no memory
 pub record CallsValue : Type 0 where
@@ -16,7 +16,3 @@ HasRoomForCall calls = 0 < calls.spare
 abbrev pub AreLive : List Call → Type 0
 AreLive [] = Unit {0}
 AreLive (r ∷ rs) = (is_live_call r ≡ true) × AreLive rs
-
--- a call that its caller can collect
-abbrev pub is_ready_call : Call → Bool
-is_ready_call r = is_to_collect r.stage

@@ -1,13 +1,13 @@
 //! The door calls of a kernel.
 ghost use Rattle.std.specs.Prelude.{◌≡◌, ◌+◌, ◌<◌, ◌≤◌, ◌^◌, ℕ, [], true, find, is_some, length, slice_get, IsOk, IsSome, None, OnOk, Some};
-ghost use Rattle.std.specs.List.{list_any};
 ghost use Rattle.std.specs.Option.{option_copied, option_map};
 ghost use Rattle.dk_base.specs.declared.error.Errno.TheVariants.{EMFILE};
 ghost use Rattle.kernel_records.specs.declared.record.Call.{Call};
 ghost use Rattle.kernel_records.specs.Words.{collect_call, enter_call, fail_call, give_call, is_client_call_of, is_given_as, is_queued_as, is_served_by, is_to_collect_as, live_calls, open_call, return_call};
 ghost use Rattle.call_records.specs.Words.{is_call};
+ghost use Rattle.thread_set.specs.Words.{has};
 ghost use Rattle.call_tree.specs.Calls.{IsThread, abandon_call, args_in, cancelled_by, dropped_objects, is_called_by, is_given_call, is_ready_of, is_waiting_as, lose_server, outcome_in, parked_thread, queued_call, refuse_call};
-ghost use Rattle.call_tree.specs.LiveCalls.{HasRoomForCall, is_ready_call};
+ghost use Rattle.call_tree.specs.LiveCalls.{HasRoomForCall};
 ghost use Rattle.call_tree.specs.Sound.{AreSound};
 ghost use Rattle.call_tree.specs.Walks.{argument_objects, caller_among, door_in, lead_in, root_in};
 
@@ -15,8 +15,7 @@ use crate::index::CallIndex;
 use crate::leave::{cancelled_in, given_to, leave, outcome};
 use crate::parts::{Abandoned, Args, Leave, Outcome};
 use crate::stage::{
-    is_client_call_of, is_given, is_given_as, is_queued, is_ready_call, is_to_collect_as,
-    is_waiting,
+    is_client_call_of, is_given, is_given_as, is_queued, is_to_collect_as, is_waiting,
 };
 use dk_base::error::{Errno, NoMemory};
 use dk_base::list::{Bytes, ObjList};
@@ -24,6 +23,7 @@ use dk_base::number::Tid;
 use kernel_records::record::{Call, CallStage};
 use std::alloc::Global;
 use std::marker::Model;
+use thread_set::set::ThreadSet;
 
 /// Door calls, in the order in which they were made: those that are neither answered nor left by a caller that ended, and
 /// how many were made in all. Clauses see both (`tree`) and how many further calls take no memory (`spare`).
@@ -168,16 +168,11 @@ impl Calls {
         }
     }
 
-    /// Whether there is a call that its caller can collect.
-    pub fn has_ready(&self) -> bool
-        ensures { result ≡ list_any is_ready_call self.now.tree.calls }
+    /// The threads whose calls were returned or have ended.
+    pub fn collecting(&self) -> ThreadSet
+        ensures { (t : ℕ) → has result t ≡ is_some (find (is_ready_of t) self.now.tree.calls) }
     {
-        for place in 0..self.index.len() {
-            if is_ready_call(self.index.at_place(place)) {
-                return true;
-            }
-        }
-        false
+        self.index.collecting()
     }
 
     /// The caller of the call that a thread serves.
@@ -258,10 +253,7 @@ impl Calls {
     pub fn ready(&self, caller: Tid) -> bool
         ensures { result ≡ is_some (find (is_ready_of caller.0) self.now.tree.calls) }
     {
-        match self.index.of_caller(caller) {
-            Some(key) => is_ready_call(self.index.at(key)),
-            None => false,
-        }
+        self.index.collecting().has(caller)
     }
 
     /// Room for another call. Want of memory leaves the calls as they were, and does not come where there is room.

@@ -1,11 +1,12 @@
 //! The live calls by their keys, found by caller, by server and by number, with the shuttles of their chains.
-ghost use Rattle.std.specs.Prelude.{◌≡◌, ◌<◌, ◌≤◌, ◌+◌, ◌++◌, ◌∷◌, [], ℕ, true, find, length, slice_get, IsOk, IsSome, None, OnOk, Some};
+ghost use Rattle.std.specs.Prelude.{◌≡◌, ◌<◌, ◌≤◌, ◌+◌, ◌++◌, ◌∷◌, [], ℕ, true, find, is_some, length, slice_get, IsOk, IsSome, None, OnOk, Some};
 ghost use Rattle.kernel_records.specs.declared.record.Call.{Call};
 ghost use Rattle.kernel_records.specs.declared.record.CallStage.TheVariants as stage;
 ghost use Rattle.kernel_records.specs.Words.{IsAscending, at_stage, call_number, is_given_to, is_served_by, is_to_collect, tid, without_arguments_at};
 ghost use Rattle.call_records.specs.Words.{HasKey, IsFound, calls_in, is_call, look, with_call, without_key};
 ghost use Rattle.shuttle_tokens.specs.Words.{LinksValue, at};
-ghost use Rattle.call_tree.specs.Calls.{IsThread, is_called_by, is_given};
+ghost use Rattle.call_tree.specs.Calls.{IsThread, is_called_by, is_given, is_ready_of};
+ghost use Rattle.thread_set.specs.Words.{has};
 ghost use Rattle.call_tree.specs.Index.{AreSingle, IsSound, Released, moved_to, server_number, tree_in};
 ghost use Rattle.call_tree.specs.Walks.{lead_in, root_in};
 
@@ -18,6 +19,7 @@ use kernel_records::record::{Call, CallStage};
 use shuttle_tokens::Shuttles;
 use std::alloc::Global;
 use std::marker::Model;
+use thread_set::set::ThreadSet;
 
 /// Calls by their keys. Of each thread, the key of its call and that of the call which it serves, each one more; 0 is none.
 #[derive(Drop)]
@@ -26,16 +28,20 @@ pub struct CallIndex {
     records: Records,
     callers: [usize; 65],
     servers: [usize; 65],
+    /// The callers whose calls were returned or have ended.
+    collecting: ThreadSet,
 }
 
 impl Model for CallIndex {
-    ghost use Rattle.call_tree.specs.Index.{IndexValue, IsWhole};
+    ghost use Rattle.call_records.specs.Words.{look};
+    ghost use Rattle.shuttle_tokens.specs.Words.{at};
+    ghost use Rattle.call_tree.specs.Index.{AreCollecting, IndexValue, IsWhole};
 
     ghost Value = { IndexValue };
 
     ghost view = { λ s. record { made = s.links.top; entries = s.records.entries; spare = s.records.spare } };
 
-    ghost invariant = { λ s. IsWhole s.links s.records.entries s.callers s.servers };
+    ghost invariant = { λ s. IsWhole s.links s.records.entries s.callers s.servers × AreCollecting (λ k. look k s.records.entries) (at s.callers) s.collecting };
 }
 
 fn zeros() -> [usize; 65]
@@ -93,6 +99,7 @@ impl CallIndex {
             records: Records::new(alloc),
             callers: zeros(),
             servers: zeros(),
+            collecting: ThreadSet::new(),
         }
     }
 
@@ -175,6 +182,13 @@ impl CallIndex {
         }
     }
 
+    /// The callers whose calls were returned or have ended.
+    pub fn collecting(&self) -> ThreadSet
+        ensures { (t : ℕ) → has result t ≡ is_some (find (is_ready_of t) (calls_in self.now.entries)) }
+    {
+        self.collecting
+    }
+
     pub fn at(&self, key: usize) -> &Call
         requires { HasKey self.now.entries key }
         ensures call { look key self.now.entries ≡ Some result.now }
@@ -235,6 +249,7 @@ impl CallIndex {
     {
         let call = self.records.at(key);
         let u = server_number(call);
+        self.collecting.put(call.caller, true);
         let next = moved(alloc, call, stage, abandoned);
         release(&mut self.links, &mut self.servers, u);
         self.records.replace(key, next)
@@ -252,6 +267,7 @@ impl CallIndex {
         let caller = call.caller.0;
         let u = server_number(call);
         release(&mut self.links, &mut self.servers, u);
+        self.collecting.put(Tid(caller), false);
         self.callers[caller as usize] = 0;
         self.records.remove(key)
     }

@@ -4,7 +4,6 @@ ghost use Rattle.kernel_records.specs.declared.record.CallStage.TheVariants as c
 ghost use Rattle.kernel_records.specs.Words.{is_client_call_of, is_entered_by, is_given_as, is_given_to, is_queued, is_to_collect, is_to_collect_as, tid};
 ghost use Rattle.call_tree.specs.Calls.{is_given, is_waiting};
 ghost use Rattle.call_tree.specs.Index.{is_entered, is_open, server_number};
-ghost use Rattle.call_tree.specs.LiveCalls.{is_ready_call};
 
 use dk_base::number::Tid;
 use kernel_records::record::{Call, CallStage};
@@ -74,13 +73,6 @@ pub(crate) fn is_to_collect_as(call: &Call, c: u32) -> bool
     ensures { result ≡ is_to_collect_as c call.now }
 {
     call.number == c && is_to_collect(&call.stage)
-}
-
-/// Whether a call's caller can collect it.
-pub(crate) fn is_ready_call(call: &Call) -> bool
-    ensures { result ≡ is_ready_call call.now }
-{
-    is_to_collect(&call.stage)
 }
 
 /// Whether no result and no error has come.

@@ -2,4 +2,5 @@
 #![tactic(auto)]
 
 pub mod procs;
+mod standing;
 mod thread;

@@ -1,15 +1,19 @@
 //! Processes and threads.
-ghost use Rattle.std.specs.Prelude.{◌≡◌, ◌+◌, ◌<◌, ◌≤◌, ◌++◌, ◌∷◌, ◌↔◌, [], true, false, length, None, count_by, IfNone, IfOk, IfSome, OnOk, OnErr};
+ghost use Rattle.std.specs.Prelude.{◌≡◌, ℕ, ◌+◌, ◌<◌, ◌≤◌, ◌++◌, ◌∷◌, ◌↔◌, [], true, false, length, None, count_by, map, IfNone, IfOk, IfSome, OnOk, OnErr};
 ghost use Rattle.std.specs.List.{list_any};
 ghost use Rattle.dk_base.specs.declared.error.ProcFault.TheVariants.{Full};
 ghost use Rattle.dk_base.specs.declared.limits.TheConstants.{PROCESSES_MAX, THREADS_MAX};
 ghost use Rattle.dk_base.specs.ByNumber.{at_number};
 ghost use Rattle.kernel_records.specs.declared.record.ThreadState.TheVariants.{Done};
+ghost use Rattle.proc_table.specs.Ends.{end_proc, ended_where_of};
+ghost use Rattle.proc_table.specs.Standing.{goes_on, is_awaiting};
+ghost use Rattle.thread_set.specs.Words.{has};
 ghost use Rattle.kernel_records.specs.Words.{ProcessTable, active_threads, cancelled_thread, change_thread, end_invocation, end_process, end_thread, enter_thread, give_thread, interrupted_thread, invocation_in, is_active_of, is_done, is_idle, is_idle_thread, is_last, is_live_in, keeps_alive, new_process, new_thread, opening_state, park_thread, process_in, set_thread_state, state_in, thread_at};
 
+use crate::standing::Standing;
 use crate::thread::{
-    cancel, end, end_invocation, enter, interrupt, is_active_of, is_idle_thread, keeps_alive, park,
-    turn,
+    cancel, end, end_invocation, end_where_of, enter, interrupt, is_active_of, is_idle_thread,
+    keeps_alive, park, turn,
 };
 use dk_base::error::ProcFault;
 use dk_base::limits::{PROCESSES_MAX, THREADS_MAX};
@@ -19,6 +23,7 @@ use kernel_records::numbered::numbered_item;
 use kernel_records::record::{Process, ProcessStage, Thread, ThreadState};
 use std::alloc::Global;
 use std::marker::Model;
+use thread_set::set::ThreadSet;
 
 /// Processes and threads, numbered from 1: at most 64 of each. A number that no thread has reads as that of a Done thread
 /// of process 0, and a change of it changes nothing.
@@ -26,16 +31,23 @@ use std::marker::Model;
 pub struct Procs {
     processes: Vec<Process>,
     threads: Vec<Thread>,
+    standing: Standing,
     /// The state that a number reads as which no thread has.
     absent: ThreadState,
 }
 
 impl Model for Procs {
+    ghost use Rattle.std.specs.Prelude.{◌≡◌, ◌≤◌, length};
+    ghost use Rattle.dk_base.specs.declared.limits.TheConstants.{PROCESSES_MAX, THREADS_MAX};
+    ghost use Rattle.kernel_records.specs.declared.record.ThreadState.TheVariants.{Done};
+    ghost use Rattle.kernel_records.specs.Words.{ProcessTable};
+    ghost use Rattle.proc_table.specs.Standing.{AreNoted};
+
     ghost Value = { ProcessTable };
 
     ghost view = { λ p. record { processes = p.processes.items; threads = p.threads.items } };
 
-    ghost invariant = { λ p. (p.absent ≡ Done) × (length p.processes.items ≤ PROCESSES_MAX) × (length p.threads.items ≤ THREADS_MAX) };
+    ghost invariant = { λ p. (p.absent ≡ Done) × (length p.processes.items ≤ PROCESSES_MAX) × (length p.threads.items ≤ THREADS_MAX) × AreNoted p.standing p.threads.items };
 }
 
 /// What a thread is at as it is added.
@@ -91,6 +103,16 @@ fn count_active(threads: &[Thread], p: Pid) -> usize
         .count()
 }
 
+/// All threads of a process end.
+fn end_threads(threads: &mut [Thread], p: Pid)
+    ensures { threads.new ≡ map (ended_where_of p.0) threads.old }
+{
+    for i in 0..threads.len() {
+        let thread = &mut threads[i];
+        end_where_of(thread, p);
+    }
+}
+
 impl Procs {
     /// No process and no thread yet. It takes no memory.
     pub fn new(alloc: Global) -> Self
@@ -99,6 +121,7 @@ impl Procs {
         Procs {
             processes: Vec::new(alloc),
             threads: Vec::new(alloc),
+            standing: Standing::new(),
             absent: ThreadState::Done,
         }
     }
@@ -150,7 +173,10 @@ impl Procs {
             state: opening_state(spare),
         };
         match self.threads.push(thread) {
-            Ok(()) => Ok(Tid(number)),
+            Ok(()) => {
+                self.standing.note(Tid(number), &opening_state(spare));
+                Ok(Tid(number))
+            }
             Err(_) => Err(ProcFault::Memory),
         }
     }
@@ -232,6 +258,20 @@ impl Procs {
         count_active(&self.threads, p) as u32
     }
 
+    /// The threads that can take a turn by what they are at alone.
+    pub fn going(&self) -> ThreadSet
+        ensures { (t : ℕ) → has result t ≡ goes_on (state_in (thread_at self.now t)) }
+    {
+        self.standing.going
+    }
+
+    /// The threads that wait for a path.
+    pub fn awaiting(&self) -> ThreadSet
+        ensures { (t : ℕ) → has result t ≡ is_awaiting (state_in (thread_at self.now t)) }
+    {
+        self.standing.awaiting
+    }
+
     /// A thread that has not ended turns to another state.
     #[tactic(auto, using(kernel_records::proofs::Places::numbered_here))]
     fn set_state(&mut self, t: Tid, state: ThreadState)
@@ -241,6 +281,7 @@ impl Procs {
         let place = place_of(&self.threads, t);
         let thread = &mut self.threads[place];
         turn(thread, state);
+        self.standing.note(t, &thread.state);
     }
 
     /// A thread that is neither Done nor Idle turns to another such state. It neither ends nor enters or leaves a pool of idle
@@ -283,6 +324,7 @@ impl Procs {
         let place = place_of(&self.threads, t);
         let thread = &mut self.threads[place];
         enter(thread, item);
+        self.standing.note(t, &thread.state);
     }
 
     /// A thread's invocation ends, and it is parked since an event (door_return(3C)). That it enters a pool is for what stands
@@ -294,6 +336,7 @@ impl Procs {
         if let Some(place) = find_place(&self.threads, t) {
             let thread = &mut self.threads[place];
             park(thread, since);
+            self.standing.note(t, &thread.state);
         }
     }
 
@@ -308,6 +351,7 @@ impl Procs {
         if let Some(place) = find_place(&self.threads, t) {
             let thread = &mut self.threads[place];
             end(thread);
+            self.standing.note(t, &thread.state);
         }
         last
     }
@@ -332,6 +376,7 @@ impl Procs {
         if let Some(place) = find_place(&self.threads, t) {
             let thread = &mut self.threads[place];
             interrupt(thread);
+            self.standing.note(t, &thread.state);
         }
     }
 
@@ -358,5 +403,14 @@ impl Procs {
         if place < self.processes.len() {
             self.processes[place].stage = ProcessStage::Ended;
         }
+    }
+    /// A process ends with all its threads, which leave the invocations that they are in. A number that no process has ends no
+    /// process; that of a thread without one is 0.
+    pub fn end_proc(&mut self, p: Pid)
+        ensures { self.new ≡ end_proc self.old p.0 }
+    {
+        end_threads(&mut self.threads, p);
+        self.standing = Standing::of(&self.threads);
+        self.end_process(p);
     }
 }

@@ -1,6 +1,7 @@
 //! What becomes of one thread, and what is asked of one.
 ghost use Rattle.std.specs.Prelude.{◌≡◌};
 ghost use Rattle.kernel_records.specs.Words.{cancelled_thread, ended_thread, idle_thread, interrupted_thread, is_active, is_active_of, is_idle_thread, keeps_alive, thread_at_state, thread_in_invocation, thread_outside};
+ghost use Rattle.proc_table.specs.Ends.{ended_where_of};
 
 use dk_base::number::{Pid, Tid};
 use dk_base::object::{Inv, Item};
@@ -78,6 +79,15 @@ pub fn end(thread: &mut Thread)
     ensures { thread.new ≡ ended_thread thread.old }
 {
     leave(thread, ThreadState::Done);
+}
+
+/// It ends where it is one of process `p`.
+pub fn end_where_of(thread: &mut Thread, p: Pid)
+    ensures { thread.new ≡ ended_where_of p.0 thread.old }
+{
+    if thread.process.0 == p.0 {
+        end(thread);
+    }
 }
 
 /// The flag of its invocation is set, if it is in one.

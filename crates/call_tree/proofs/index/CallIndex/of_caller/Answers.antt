@@ -3,13 +3,13 @@ use Rattle.call_tree.proofs.Whole.{single, caller_none, caller_some}
 use Rattle.call_tree.proofs.index.CallIndex.of_caller.Goals as goal
 
 pub returns-in-0-clause-found : goal.returns-in-0-clause-found
-returns-in-0-clause-found c = let e = c.place.ensures in rw (← c.self.view_is) (caller_none c.self.invariant c.args.t.0 (omega (arith, e)))
+returns-in-0-clause-found c = let e = c.place.ensures in rw (← c.self.view_is) (caller_none c.self.invariant.0 c.args.t.0 (omega (arith, e)))
 
 pub returns-in-0-clause-single : goal.returns-in-0-clause-single
-returns-in-0-clause-single c = rw (← c.self.view_is) (single c.self.invariant)
+returns-in-0-clause-single c = rw (← c.self.view_is) (single c.self.invariant.0)
 
 pub returns-in_default-clause-found : goal.returns-in_default-clause-found
-returns-in_default-clause-found c = let e = c.place.ensures in rw (← c.self.view_is) (caller_some c.self.invariant c.args.t.0 c.place.result e (omega arith))
+returns-in_default-clause-found c = let e = c.place.ensures in rw (← c.self.view_is) (caller_some c.self.invariant.0 c.args.t.0 c.place.result e (omega arith))
 
 pub returns-in_default-clause-single : goal.returns-in_default-clause-single
-returns-in_default-clause-single c = rw (← c.self.view_is) (single c.self.invariant)
+returns-in_default-clause-single c = rw (← c.self.view_is) (single c.self.invariant.0)

@@ -1,0 +1,32 @@
+-- Which threads can take a turn by what they are at alone, and which wait for a path.
+use Rattle.std.specs.Prelude.{ℕ, ◌≡◌, Bool, true, false, List}
+use Rattle.dk_base.specs.ByNumber.{at_number}
+use Rattle.kernel_records.specs.declared.record.Thread.{Thread}
+use Rattle.kernel_records.specs.declared.record.ThreadState.{ThreadState}
+use Rattle.kernel_records.specs.declared.record.ThreadState.TheVariants as is
+use Rattle.kernel_records.specs.Words.{state_in}
+use Rattle.proc_table.specs.declared.standing.Standing.{Standing}
+use Rattle.thread_set.specs.Words.{has, with_thread}
+
+-- a thread at this can take a turn, whatever calls and names there are
+abbrev pub goes_on : ThreadState → Bool
+goes_on is.Running = true
+goes_on (is.Given item) = true
+goes_on (is.Working op input) = true
+goes_on is.FailedReturn = true
+goes_on (is.Getting port max nget one interrupted) = interrupted
+goes_on _ = false
+
+abbrev pub is_awaiting : ThreadState → Bool
+is_awaiting (is.Awaiting path) = true
+is_awaiting _ = false
+
+-- both sets are those of these threads
+pub record AreNoted (s : Standing) (threads : List Thread) : Type 0 where
+  pub going : (t : ℕ) → has s.going t ≡ goes_on (state_in (at_number threads t))
+  pub awaiting : (t : ℕ) → has s.awaiting t ≡ is_awaiting (state_in (at_number threads t))
+
+-- a thread is noted anew, and no other
+pub record IsNotedAt (t : ℕ) (s : ThreadState) (before after : Standing) : Type 0 where
+  pub going : (u : ℕ) → has after.going u ≡ with_thread before.going t (goes_on s) u
+  pub awaiting : (u : ℕ) → has after.awaiting u ≡ with_thread before.awaiting t (is_awaiting s) u

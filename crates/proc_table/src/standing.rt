@@ -1,0 +1,72 @@
+//! Which threads can take a turn by what they are at alone, and which wait for a path.
+ghost use Rattle.std.specs.Prelude.{◌≡◌, ◌<◌, ◌≤◌, [], length};
+ghost use Rattle.dk_base.specs.declared.limits.TheConstants.{THREADS_MAX};
+ghost use Rattle.proc_table.specs.Standing.{AreNoted, IsNotedAt, goes_on, is_awaiting};
+
+use dk_base::number::Tid;
+use kernel_records::record::{Thread, ThreadState};
+use thread_set::set::ThreadSet;
+
+/// Of all threads, those that can take a turn by what they are at alone, and those that wait for a path.
+#[derive(Clone, Copy)]
+pub struct Standing {
+    pub going: ThreadSet,
+    pub awaiting: ThreadSet,
+}
+
+/// Whether a thread at this can take a turn, whatever calls and names there are.
+fn goes_on(state: &ThreadState) -> bool
+    ensures { result ≡ goes_on state.now }
+{
+    match state {
+        ThreadState::Running
+        | ThreadState::Given { .. }
+        | ThreadState::Working { .. }
+        | ThreadState::FailedReturn => true,
+        ThreadState::Getting { interrupted, .. } => *interrupted,
+        ThreadState::Dormant
+        | ThreadState::Idle { .. }
+        | ThreadState::Calling { .. }
+        | ThreadState::Awaiting { .. }
+        | ThreadState::Done => false,
+    }
+}
+
+fn is_awaiting(state: &ThreadState) -> bool
+    ensures { result ≡ is_awaiting state.now }
+{
+    matches!(state, ThreadState::Awaiting { .. })
+}
+
+impl Standing {
+    /// Of no thread.
+    pub fn new() -> Self
+        ensures { AreNoted result [] }
+    {
+        Standing {
+            going: ThreadSet::new(),
+            awaiting: ThreadSet::new(),
+        }
+    }
+
+    /// A thread is at this from now on.
+    pub fn note(&mut self, t: Tid, state: &ThreadState)
+        requires { (0 < t.0) × (t.0 ≤ THREADS_MAX) }
+        ensures { IsNotedAt t.0 state.now self.old self.new }
+    {
+        self.going.put(t, goes_on(state));
+        self.awaiting.put(t, is_awaiting(state));
+    }
+
+    /// Of these threads, numbered from 1.
+    pub fn of(threads: &[Thread]) -> Self
+        requires { length threads.now ≤ THREADS_MAX }
+        ensures { AreNoted result threads.now }
+    {
+        let mut standing = Standing::new();
+        for i in 0..threads.len() {
+            standing.note(Tid(i as u32 + 1), &threads[i].state);
+        }
+        standing
+    }
+}

@@ -1,0 +1,4 @@
+//! Sets of threads, each in one word.
+#![tactic(auto)]
+
+pub mod set;
