@@ -1,5 +1,5 @@
 //! The doors attached to paths: fattach(3C), fdetach(3C), and open(2) of such a path.
-ghost use Rattle.std.specs.Prelude.{◌≡◌, ◌+◌, ◌≤◌, [], if◌then◌else◌, is_ok, is_some, length, ok_or, slice_get, IsOk, OnOk, OnErr};
+ghost use Rattle.std.specs.Prelude.{◌≡◌, ◌+◌, ◌<◌, ◌≤◌, ◌^◌, [], if◌then◌else◌, is_ok, is_some, length, ok_or, slice_get, IsOk, OnOk, OnErr};
 ghost use Rattle.kernel_records.specs.Words.{name_in, with_name, without_name};
 ghost use Rattle.name_space.specs.NameTable.{HasRoomForName, HaveDistinctPaths, attached_door};
 
@@ -104,6 +104,7 @@ impl Names {
     /// How many names there are. No path has two.
     pub fn len(&self) -> usize
         ensures len { result ≡ length self.now.names }
+        ensures small { result < 2 ^ 63 }
         ensures distinct { HaveDistinctPaths self.now.names }
     {
         self.doors.len()

@@ -6,7 +6,7 @@ use Rattle.kernel_records.specs.declared.record.Notice.{Notice}
 use Rattle.kernel_records.specs.Words.{NoticeList, change_first, is_kept_notice, kept_notices}
 use Rattle.kernel_records.proofs.Places.{changed_at}
 
-abbrev AreKept : (Notice → Bool) → List Notice → Type 0
+abbrev pub AreKept : (Notice → Bool) → List Notice → Type 0
 AreKept kept [] = Unit {0}
 AreKept kept (n ∷ ns) = (kept n ≡ true) × AreKept kept ns
 
@@ -16,7 +16,7 @@ fewer kept (n ∷ ns) =
     let h = fewer kept ns in
     elim (kept n) as (λ b. length (cond b (n ∷ filter kept ns) (filter kept ns)) ≤ suc (length ns)) [ true ↦ omega (arith, h) | false ↦ omega (arith, h) ]
 
-are_kept : (kept : Notice → Bool) (ns : List Notice) → filter kept ns ≡ ns → AreKept kept ns
+pub are_kept : (kept : Notice → Bool) (ns : List Notice) → filter kept ns ≡ ns → AreKept kept ns
 are_kept kept [] e = tt
 are_kept kept (n ∷ ns) e =
     elim (kept n) as (λ b. kept n ≡ b → cond b (n ∷ filter kept ns) (filter kept ns) ≡ n ∷ ns → AreKept kept (n ∷ ns)) [
@@ -56,11 +56,3 @@ stays_there kept test change ns i d h e over =
 
 pub kept_inside : (doors : List Door) (list : NoticeList) (ns : List Notice) → ns ≡ list.notices → kept_notices doors list ≡ list → filter (is_kept_notice doors) ns ≡ ns
 kept_inside doors list ns e kept = ap (filter (is_kept_notice doors)) e ∙ ap (λ (l : NoticeList). l.notices) kept ∙ sym e
-
-pub kept_again : (kept : Notice → Bool) (ns : List Notice) → filter kept (filter kept ns) ≡ filter kept ns
-kept_again kept [] = refl
-kept_again kept (n ∷ ns) =
-    elim (kept n) as (λ b. kept n ≡ b → filter kept (cond b (n ∷ filter kept ns) (filter kept ns)) ≡ cond b (n ∷ filter kept ns) (filter kept ns)) [
-      | true ↦ λ k. ap (λ b. cond b (n ∷ filter kept (filter kept ns)) (filter kept (filter kept ns))) k ∙ ap (λ ms. n ∷ ms) (kept_again kept ns)
-      | false ↦ λ k. kept_again kept ns
-    ] refl

@@ -1,5 +1,7 @@
 pub mod Kept
-pub mod Ascending
-pub mod Tracked
-pub mod References
-pub mod Told
+pub mod Places
+pub mod Leaving
+pub mod Items
+pub mod Keys
+pub mod Fallen
+pub mod DoorCounts

@@ -1,31 +1,27 @@
--- How many references doors have, by the numbers of the doors: now, and when the step began that an event is.
-use Rattle.std.specs.Prelude.{ℕ, ◌≡◌, ◌==◌, ◌&&◌, Bool, List, None, nat_lt, unwrap_or}
-use Rattle.dk_base.specs.ByNumber.{at_number}
-use Rattle.dk_base.specs.declared.object.Obj.{Obj}
+-- How many references objects have: now, and when the step began that an event is.
+use Rattle.std.specs.Prelude.{ℕ, ◌==◌, ◌&&◌, Bool, List, count_by, nat_lt}
 use Rattle.dk_base.specs.declared.object.Obj.TheVariants as obj
-use Rattle.kernel_records.specs.Words.{count_object}
+use Rattle.unref_notice.specs.Counting.{ObjectCounts, count_of}
 
 pub record CountsValue : Type 0 where
-  pub now : List ℕ
+  pub counts : ObjectCounts
   -- when the step began
-  pub opening : List ℕ
-  -- how many more doors take no memory
-  pub door_room : ℕ
-  -- how many more references can be counted
-  pub reference_room : ℕ
-
--- the count of the door of a number, 0 where it is not counted
-abbrev pub count_of : List ℕ → ℕ → ℕ
-count_of counts d = unwrap_or (at_number counts d) 0
-
--- the doors among these objects are counted
-abbrev pub AreCounted : List ℕ → List Obj → Type 0
-AreCounted counts os = (d : ℕ) → at_number counts d ≡ None → count_object (obj.Door d) os ≡ 0
+  pub opening : ObjectCounts
+  -- to how many objects references came or went since
+  pub touched : ℕ
+  -- how often a reference may yet come or go in this step
+  pub left : ℕ
+  -- the doors that have fallen to one reference, as the end of a step told
+  pub fallen : List ℕ
 
 -- a door had more than one reference when the step began
-abbrev pub was_shared : List ℕ → ℕ → Bool
-was_shared opening d = nat_lt 1 (count_of opening d)
+abbrev pub was_shared : ObjectCounts → ℕ → Bool
+was_shared opening d = nat_lt 1 (count_of opening (obj.Door d))
 
 -- it had more than one, and has one
 abbrev pub has_fallen : CountsValue → ℕ → Bool
-has_fallen v d = was_shared v.opening d && (count_of v.now d == 1)
+has_fallen v d = was_shared v.opening d && (count_of v.counts (obj.Door d) == 1)
+
+-- how often a number stands in a list
+abbrev pub how_many : ℕ → List ℕ → ℕ
+how_many d xs = count_by (λ x. x == d) xs

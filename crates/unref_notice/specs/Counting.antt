@@ -1,39 +1,53 @@
--- The counts of doors as they are kept, and what is read of them.
-use Rattle.std.specs.Prelude.{ℕ, ◌-◌, ◌≡◌, ◌==◌, ◌&&◌, Bool, false, List, Option, None, Some, if◌then◌else◌, length, nat_le, nat_lt, IsPermutation}
-use Rattle.dk_base.specs.ByNumber.{at_number}
+-- The counts of objects as they are kept, and what is read of them.
+use Rattle.std.specs.Prelude.{ℕ, ◌≡◌, ◌==◌, ◌&&◌, Bool, false, List, [], ◌∷◌, Option, None, Some, if◌then◌else◌, nat_lt, unwrap_or}
+use Rattle.std.specs.List.{list_any}
+use Rattle.std.specs.Map.{lookup}
 use Rattle.dk_base.specs.declared.object.Obj.{Obj}
 use Rattle.dk_base.specs.declared.object.Obj.TheVariants as obj
-use Rattle.kernel_records.specs.declared.record.Door.{Door}
-use Rattle.kernel_records.specs.Words.{numbers_where, takes_notices_in}
-use Rattle.unref_notice.specs.declared.counts.Count.{Count}
+use Rattle.unref_notice.specs.declared.key.Key.{Key}
+use Rattle.unref_notice.specs.declared.key.Key.TheVariants as key
+use Rattle.unref_notice.specs.contracts.key.KeyPartialEq.TheImpl as key_eq
 
-abbrev pub now_of : Count → ℕ
-now_of x = x.now
+-- the count of each object that is or was counted
+abbrev pub ObjectCounts : Type 0
+ObjectCounts = List (Key × ℕ)
 
-abbrev pub opening_of : Count → ℕ
-opening_of x = x.opening
+abbrev pub key_of : Obj → Key
+key_of (obj.Door d) = key.Door d
+key_of (obj.Port p) = key.Port p
+key_of (obj.PipeIn p) = key.PipeIn p
+key_of (obj.PipeOut p) = key.PipeOut p
 
--- the place of the count of an object among so many, if it is a door that is counted
-abbrev pub place_in : ℕ → Obj → Option ℕ
-place_in n (obj.Door d) = if nat_lt 0 d && nat_le d n then Some (d - 1) else None
-place_in n _ = None
+abbrev pub same_key : Key → Key → Bool
+same_key = (key_eq.ghosts).eq
 
-abbrev pub is_touched_in : Option Count → Bool
-is_touched_in None = false
-is_touched_in (Some x) = x.touched
+abbrev pub count_at : ObjectCounts → Key → ℕ
+count_at counts k = unwrap_or (lookup (same_key k) counts) 0
 
-abbrev pub has_fallen_in : Option Count → Bool
-has_fallen_in None = false
-has_fallen_in (Some x) = nat_lt 1 x.opening && (x.now == 1)
+-- the count of an object, 0 where it never was counted
+abbrev pub count_of : ObjectCounts → Obj → ℕ
+count_of counts o = count_at counts (key_of o)
 
-abbrev pub touched_doors : List Count → List ℕ
-touched_doors counts = numbers_where (λ d. is_touched_in (at_number counts d)) (length counts)
+abbrev pub is_touched : List Key → Key → Bool
+is_touched touched k = list_any (same_key k) touched
 
--- the doors that are touched are listed, and the count of another is what it was when the step began
-pub record IsTracked (counts : List Count) (touched : List ℕ) : Type 0 where
-  pub listed : IsPermutation (touched_doors counts) touched
-  pub still : (d : ℕ) (x : Count) → at_number counts d ≡ Some x → x.touched ≡ false → x.opening ≡ x.now
+-- the count of what is not touched is what it was when the step began
+abbrev pub IsStill : ObjectCounts → ObjectCounts → List Key → Type 0
+IsStill now opening touched = (k : Key) → is_touched touched k ≡ false → count_at opening k ≡ count_at now k
 
--- a door has fallen to one reference, and takes notices
-abbrev pub is_told : List Count → List Door → ℕ → Bool
-is_told counts doors d = has_fallen_in (at_number counts d) && takes_notices_in (at_number doors d)
+-- a door has fallen to one reference
+abbrev pub fell : ObjectCounts → ObjectCounts → Key → Bool
+fell now opening k = nat_lt 1 (count_at opening k) && (count_at now k == 1)
+
+abbrev pub fallen_of : ObjectCounts → ObjectCounts → Key → Option ℕ
+fallen_of now opening (key.Door d) = if fell now opening (key.Door d) then Some d else None
+fallen_of now opening _ = None
+
+abbrev pub and_door : Option ℕ → List ℕ → List ℕ
+and_door None ds = ds
+and_door (Some d) ds = d ∷ ds
+
+-- the doors among these objects that have
+abbrev pub fallen_among : ObjectCounts → ObjectCounts → List Key → List ℕ
+fallen_among now opening [] = []
+fallen_among now opening (k ∷ ks) = and_door (fallen_of now opening k) (fallen_among now opening ks)

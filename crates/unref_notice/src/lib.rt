@@ -5,6 +5,8 @@
 
 mod change;
 pub mod counts;
+mod door_counts;
+mod key;
 mod leave;
 pub mod notices;
 mod stage;

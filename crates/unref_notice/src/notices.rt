@@ -1,15 +1,17 @@
 //! The notices of a kernel, in the order in which they were made.
-ghost use Rattle.std.specs.Prelude.{◌≡◌, ◌+◌, ◌<◌, ◌≤◌, ℕ, Bool, [], OnOk, find, get_or, length};
+ghost use Rattle.std.specs.Prelude.{◌≡◌, ◌+◌, ◌<◌, ◌≤◌, ◌++◌, ℕ, Bool, List, [], OnOk, find, get_or, length};
+ghost use Rattle.kernel_records.specs.declared.record.Door.{Door};
 ghost use Rattle.kernel_records.specs.declared.record.Notice.{Notice};
 ghost use Rattle.kernel_records.specs.Words.{AnswersAs, Leaving, end_notice, enter_notice, give_notice, has_notice, is_given_notice_as, kept_notices, left_notices, make_notice};
+ghost use Rattle.unref_notice.specs.Left.{AreAllLeft, IsAllEntered, takes_many_in};
 ghost use Rattle.unref_notice.specs.declared.notices.TheConstants.{NOTICES_MAX};
 
 use crate::change::{end_at, enter_given, give_waiting, place_entered};
-use crate::leave::{keep, leave_all};
-use crate::stage::is_of_door;
+use crate::door_counts::DoorCounts;
+use crate::leave::{holds, keep, leave_all};
 use dk_base::error::NoMemory;
 use dk_base::number::Tid;
-use door_object::doors::Doors;
+use dk_base::object::Item;
 use kernel_records::record::{Notice, NoticeStage};
 use std::alloc::Global;
 use std::collections::VecDeque;
@@ -19,45 +21,49 @@ use std::marker::Model;
 pub const NOTICES_MAX: u32 = u32::MAX;
 
 /// Unreferenced notices, in the order in which they were made, and how many were made in all. Clauses see both (`list`), and
-/// how many more take no memory (`spare`).
+/// how many more take no memory (`spare`). Their numbers go up, so a notice is found by its number in a binary search; one that is
+/// forgotten moves those on the shorter side of it by a place.
 #[derive(Drop)]
 pub struct Notices {
     made: u32,
     notices: VecDeque<Notice>,
+    /// How many of them each door has.
+    of_doors: DoorCounts,
 }
 
 impl Model for Notices {
-    ghost use Rattle.std.specs.Prelude.{◌-◌};
+    ghost use Rattle.std.specs.Prelude.{◌-◌, map, min};
     ghost use Rattle.std.specs.VecDeque.{deque_len, deque_capacity};
+    ghost use Rattle.kernel_records.specs.Words.{IsAscending, notice_number};
+    ghost use Rattle.unref_notice.specs.DoorCounts.{CountsDoors, door_in};
     ghost use Rattle.unref_notice.specs.Words.{NoticesValue};
 
     ghost Value = { NoticesValue };
 
-    ghost view = { λ s. record { list = record { made = s.made; notices = s.notices.items }; spare = deque_capacity s.notices - deque_len s.notices } };
+    ghost view = { λ s. record { list = record { made = s.made; notices = s.notices.items }; spare = min (deque_capacity s.notices - deque_len s.notices) s.of_doors.spare } };
+
+    ghost invariant = { λ s. IsAscending notice_number 0 s.made s.notices.items × CountsDoors s.of_doors.entries (map door_in s.notices.items) };
 }
 
 impl Notices {
     /// No notice was made, and there is no room.
     pub fn new(alloc: Global) -> Self
-        ensures { result ≡ record { list = record { made = 0; notices = [] }; spare = 0 } }
+        ensures { result.list ≡ record { made = 0; notices = [] } }
     {
         Notices {
             made: 0,
             notices: VecDeque::from_vec(Vec::new(alloc)),
+            of_doors: DoorCounts::new(alloc),
         }
     }
 
-    /// Room for so many more notices. Want of memory leaves the notices as they were. It is also answered where so many more
-    /// could not be numbered, to which no kernel comes.
+    /// Room for so many more notices. Want of memory leaves the notices as they were.
     pub fn reserve(&mut self, n: usize) -> Result<(), NoMemory>
         ensures list { self.new.list ≡ self.old.list }
         ensures kept { self.old.spare ≤ self.new.spare }
         ensures room { OnOk result (n ≤ self.new.spare) }
-        ensures numbers { OnOk result (self.new.list.made + n ≤ NOTICES_MAX) }
     {
-        if n > (NOTICES_MAX - self.made) as usize {
-            return Err(NoMemory);
-        }
+        self.of_doors.reserve(n)?;
         match self.notices.reserve(n) {
             Ok(()) => Ok(()),
             Err(_) => Err(NoMemory),
@@ -83,7 +89,7 @@ impl Notices {
     pub fn has(&self, d: u32) -> bool
         ensures { result ≡ has_notice self.now.list d }
     {
-        self.notices.iter().any(|notice| is_of_door(notice, d))
+        self.of_doors.count(d) > 0
     }
 
     /// Another notice of a door is made at this event, after the others, and its number is answered. It takes no memory.
@@ -95,6 +101,7 @@ impl Notices {
         ensures spare { self.old.spare ≤ self.new.spare + 1 }
     {
         self.made += 1;
+        self.of_doors.add(d);
         self.notices.push_back_reserved(Notice {
             number: self.made,
             made: now,
@@ -122,39 +129,45 @@ impl Notices {
         enter_given(&mut self.notices, n, t)
     }
 
-    /// The notice that a thread has entered is over, and is forgotten where its door may have others. Where the thread has entered
-    /// none, nothing changes.
-    pub fn end(&mut self, t: Tid, doors: &Doors)
-        requires kept { kept_notices doors.now.items self.old.list ≡ self.old.list }
-        ensures list { self.new.list ≡ kept_notices doors.now.items (end_notice self.old.list t.0) }
+    /// The notice that a thread has entered, which the item is that it serves, is over, and is forgotten where its door may have
+    /// others, of which the test tells by the door's number. Where the thread has entered none, nothing changes.
+    pub fn end<M: Fn(u32) -> bool>(&mut self, serves: Option<Item>, t: Tid, takes_many: M)
+        requires { M.IsAlwaysCallable takes_many }
+        ensures list { (doors : List Door) → AnswersAs (M.post takes_many) (takes_many_in doors) → IsAllEntered serves t.0 self.old.list.notices → kept_notices doors self.old.list ≡ self.old.list → self.new.list ≡ kept_notices doors (end_notice self.old.list t.0) }
         ensures spare { self.old.spare ≤ self.new.spare }
     {
-        let Some(place) = place_entered(&self.notices, t) else {
+        let Some(place) = place_entered(&self.notices, serves, t) else {
             return;
         };
         let door = self.notices[place].door;
-        if doors.takes_many(door) {
+        if holds(&takes_many, door) {
             let _ = self.notices.remove(place);
+            self.of_doors.take(door);
         } else {
             end_at(&mut self.notices, place);
         }
     }
 
     /// What becomes of the notices where threads end and doors are lost, of which the tests tell by number: of threads, and of doors.
-    /// Those that are past then are forgotten, but for those of doors that have at most one.
-    pub fn leave<E: Fn(u32) -> bool, L: Fn(u32) -> bool>(
+    /// The notices that those threads have, or that wait at those doors, are among these items, in two lists. Those that are past then
+    /// are forgotten, where their doors may have others. No other is looked at.
+    pub fn leave<E: Fn(u32) -> bool, L: Fn(u32) -> bool, M: Fn(u32) -> bool>(
         &mut self,
-        doors: &Doors,
+        waiting: &[Item],
+        held: &[Item],
         ends: E,
         loses: L,
+        takes_many: M,
     )
         requires ends { E.IsAlwaysCallable ends }
         requires loses { L.IsAlwaysCallable loses }
-        ensures list { (who : Leaving) → AnswersAs (E.post ends) who.ends → AnswersAs (L.post loses) who.loses → self.new.list ≡ kept_notices doors.now.items (left_notices who self.old.list) }
-        ensures kept { kept_notices doors.now.items self.new.list ≡ self.new.list }
+        requires many { M.IsAlwaysCallable takes_many }
+        ensures list { (who : Leaving) (doors : List Door) → AnswersAs (E.post ends) who.ends → AnswersAs (L.post loses) who.loses → AnswersAs (M.post takes_many) (takes_many_in doors) → AreAllLeft who (waiting.now ++ held.now) self.old.list.notices → kept_notices doors self.old.list ≡ self.old.list → self.new.list ≡ kept_notices doors (left_notices who self.old.list) }
         ensures spare { self.old.spare ≤ self.new.spare }
     {
-        leave_all(self.notices.make_contiguous(), ends, loses);
-        keep(&mut self.notices, doors);
+        leave_all(&mut self.notices, waiting, &ends, &loses);
+        leave_all(&mut self.notices, held, &ends, &loses);
+        keep(&mut self.notices, &mut self.of_doors, waiting, &takes_many);
+        keep(&mut self.notices, &mut self.of_doors, held, &takes_many);
     }
 }

@@ -2,6 +2,8 @@ use Rattle.std.proofs.Common.{ap, sym, ◌∙◌}
 use Rattle.kernel_records.specs.declared.record.NoticeStage.TheVariants as stage
 use Rattle.kernel_records.specs.Words.{is_waiting_notice_as, notice_at, tid}
 use Rattle.kernel_records.proofs.Places.{changed_there, changed_nowhere}
+use Rattle.unref_notice.specs.DoorCounts.{door_in}
+use Rattle.unref_notice.proofs.DoorCounts.{doors_set}
 use Rattle.unref_notice.proofs.change.give_waiting.Goals as goal
 
 pub returns-in-Some-clause-changed : goal.returns-in-Some-clause-changed
@@ -11,3 +13,8 @@ returns-in-Some-clause-changed c =
 pub returns-in_default-clause-changed : goal.returns-in_default-clause-changed
 returns-in_default-clause-changed c =
     sym (changed_nowhere (is_waiting_notice_as c.args.n) (notice_at (stage.Given (tid c.args.t.0))) c.args.notices.now.items (cc))
+
+pub returns-in-Some-clause-doors : goal.returns-in-Some-clause-doors
+returns-in-Some-clause-doors c =
+    doors_set c.args.notices.now.items c.in-Some.place c.move_on.new.notice c.index_mut-notice.result.now
+    (ap door_in c.move_on.ensures ∙ ap door_in c.index_mut-notice.ensures.value)

@@ -1,8 +1,9 @@
-use Rattle.std.proofs.Common.{◌≡◌, ◌≤◌, ◌++◌, drop, filter, length}
-use Rattle.unref_notice.specs.Counting.{is_told}
+use Rattle.std.proofs.Common.{◌≡◌, ◌≤◌, ◌+◌, ◌++◌, drop, length, vec_capacity, vec_len}
+use Rattle.unref_notice.specs.Counting.{fallen_among}
 use Rattle.unref_notice.proofs.counts.tell.Given as goal
 
-abbrev pub invariant-loop-d : goal.invariant-loop-d
-invariant-loop-d l =
-    (l.into.items ++ filter (is_told l.counts l.doors.items) (drop l.d-index l.touched) ≡ l.initial.into.items ++ filter (is_told l.counts l.doors.items) l.touched)
-    × (length (filter (is_told l.counts l.doors.items) (drop l.d-index l.touched)) ≤ l.into.spare)
+abbrev pub invariant-loop-key : goal.invariant-loop-key
+invariant-loop-key l =
+    (l.into.items ++ fallen_among l.now.entries l.opening.entries (drop l.key-index l.touched) ≡ l.initial.into.items ++ fallen_among l.now.entries l.opening.entries l.touched)
+    × (vec_len l.into + length (drop l.key-index l.touched) ≤ vec_capacity l.into)
+    × (vec_capacity l.into ≡ vec_capacity l.initial.into)
