@@ -1,24 +1,22 @@
 -- The queues where calls leave them, and what waits where a process ends or a door is revoked.
-use Rattle.std.proofs.Common.{◌≡◌, ℕ, zero, suc, ◌+◌, ◌≤◌, ◌&&◌, ◌||◌, ◌==◌, Bool, true, false, not, if◌then◌else◌, List, [], ◌++◌, Option, Some, None, option_map, length, map, filter, slice_get, refl, sym, subst, ap, ap₂, ◌∙◌, add-one}
+use Rattle.std.proofs.Common.{◌≡◌, ℕ, zero, suc, ◌≤◌, ◌&&◌, ◌||◌, ◌==◌, Bool, true, false, not, if◌then◌else◌, List, ◌++◌, Option, Some, None, option_map, length, map, filter, refl, sym, subst, ap, ap₂, ◌∙◌}
 use Rattle.std.proofs.lemmas.List.{length-map}
 use Rattle.dk_base.specs.ByNumber.{at_number}
-use Rattle.dk_base.specs.declared.object.Item.TheVariants as item
 use Rattle.dk_base.specs.declared.error.Errno.TheVariants.{EBADF, EINTR}
 use Rattle.kernel_records.specs.declared.record.CallStage.TheVariants as stage
 use Rattle.kernel_records.specs.Words.{CallTree, IsAscending, Leaving, NoticeList, ProcessTable, abandoned_at, broken_call_at, call_number, end_owner, end_process, ended_process, ended_where, gone_call_at, has_many, is_live_call, is_pool, is_queued, is_queued_in, left_call, left_calls, live_calls, pool_in, revoke_door, revoked_door, waiting_call, with_ended, with_owner_ended, without_arguments_at}
-use Rattle.kernel_records.proofs.NumberedLists.{ascending-filter, ascending-map_first, map-map_first, map_first, map_first-all}
+use Rattle.kernel_records.proofs.NumberedLists.{ascending-filter, map_first, map_first-all}
 use Rattle.written_kernel.specs.Types.{Call, CallStage, Door, Errno, Pool, Process}
 use Rattle.written_kernel.proofs.Doors.{at_number-change_door, map-change_door}
 use Rattle.kernel_records.proofs.Lists.{at_number-map, length-with_at_number, same_length}
-use Rattle.server_pool.specs.Words.{PoolValue, PoolsValue, change_pool, empty_pool, pool_at, pool_or_empty, queue_in, spares_or_none, stack_in, withdraw_in, without_item}
+use Rattle.server_pool.specs.Words.{PoolValue, PoolsValue, change_pool, empty_pool, pool_at, pool_or_empty}
 use Rattle.server_pool.proofs.Changed.{pool_changed, pool_kept}
-use Rattle.pool_agreement.specs.Words.{Agrees, AreDated, IsQueueOf, date_of_call, leaves_queue, spare_at, spares_among, waiting_in}
+use Rattle.pool_agreement.specs.Words.{Agrees, AreDated, date_of_call, leaves_queue, spare_at, spares_among, waiting_in}
 use Rattle.pool_agreement.proofs.Dated.{dated_filter}
 use Rattle.pool_agreement.proofs.Noticed.{kept_doors}
-use Rattle.pool_agreement.proofs.Queues.{ServesAlike, queue_doors, stack_same, waiting_live}
-use Rattle.pool_agreement.proofs.Readers.{bindings-change_pool, common-change_pool, is_pool-sym, private-change_pool, same_number, spares-change_pool}
-use Rattle.pool_agreement.proofs.Waits.{call_withdrawn, queue_kept}
-use Rattle.pool_agreement.proofs.WaitingLists.{call_kind, waiting_stays, waiting_withdrawn}
+use Rattle.pool_agreement.proofs.Queues.{ServesAlike, queue_doors, waiting_live}
+use Rattle.pool_agreement.proofs.Readers.{same_number}
+use Rattle.pool_agreement.proofs.Waits.{queue_kept}
 
 -- a field of the pools, read after one of them changed, which may not be there
 module _
@@ -149,14 +147,6 @@ module _ (who : Leaving) where
       go true false false = refl
       go false b c = refl
 
-dates_first : (who : Leaving) (i : ℕ) (rs : List Call) → map date_of_call (map_first (left_call who) i rs) ≡ map date_of_call rs
-dates_first who i rs = map-map_first date_of_call (left_call who) (left_reads who date_of_call (λ s x. refl) (λ s x. refl)) i rs
-
-dates_next :
-    (who : Leaving) (n i : ℕ) (rs : List Call) → AreDated 0 n (map date_of_call (map_first (left_call who) i rs)) →
-    AreDated 0 n (map date_of_call (map_first (left_call who) (suc i) rs))
-dates_next who n i rs = subst (AreDated 0 n) (dates_first who i rs ∙ sym (dates_first who (suc i) rs))
-
 -- the pools, after the first so many calls were left
 
 abbrev pub tree_left : Leaving → ℕ → CallTree → CallTree
@@ -164,85 +154,6 @@ tree_left who i tree = record tree { calls = map_first (left_call who) i tree.ca
 
 module _
     {n : ℕ} {table : ProcessTable} {doors : List Door} {list : NoticeList} {v : PoolsValue} (tree : CallTree) (who : Leaving) (i : ℕ) where
-  pub next_is : Agrees n table doors (tree_left who (suc i) tree) list v → Agrees n table doors (tree_left who (i + 1) tree) list v
-  next_is h = subst (λ k. Agrees n table doors (tree_left who k tree) list v) (sym (add-one i)) h
-
-  pub agrees_withdrawn :
-      (r : Call) → IsAscending call_number 0 tree.made tree.calls → slice_get tree.calls i ≡ Some r → (is_queued r.stage && leaves_queue who r) ≡ true →
-      Agrees n table doors (tree_left who i tree) list v →
-      Agrees n table doors (tree_left who (suc i) tree) list (change_pool v (pool_in (at_number doors r.door)) (withdraw_in (item.Call r.number)))
-  agrees_withdrawn r order at leaves h =
-      record {
-        stacks =
-            λ q. stack_same table n q v.bindings w.bindings (stack_in v q) (stack_in w q) (bindings-change_pool v pool change)
-            (read_kept (λ (x : PoolValue). x.parked) change (λ x. refl) v pool q) (h.stacks q);
-        queues =
-            λ q. subst (IsQueueOf doors (map_first (left_call who) (suc i) tree.calls) list.notices q)
-            (sym (read_change (λ (x : PoolValue). x.waiting) (without_item (item.Call r.number)) change (λ x. refl) refl v pool q))
-            (queue q (is_pool pool q) refl (both (is_queued r.stage) (leaves_queue who r) leaves));
-        spares = λ p. ap (λ xs. spares_or_none (at_number xs p)) (spares-change_pool v pool change) ∙ h.spares p;
-        calls = ascending-map_first call_number (left_call who) (left_number who) (suc i) tree.calls 0 tree.made order;
-        call_dates = dates_next who n i tree.calls h.call_dates;
-        notices = h.notices;
-        notice_dates = h.notice_dates;
-        kept = h.kept;
-        common = common-change_pool v pool change ∙ h.common;
-        spare_lists = ap length (spares-change_pool v pool change) ∙ h.spare_lists;
-        private = private-change_pool v pool change ∙ h.private;
-      }
-    where
-      pool : Pool
-      pool = pool_in (at_number doors r.door)
-
-      change : PoolValue → PoolValue
-      change = withdraw_in (item.Call r.number)
-
-      w : PoolsValue
-      w = change_pool v pool change
-
-      both : (a b : Bool) → (a && b) ≡ true → (a ≡ true) × (b ≡ true)
-      both true b e = (refl, e)
-      both false b e = cc
-
-      queue :
-          (q : Pool) (b : Bool) → is_pool pool q ≡ b → (is_queued r.stage ≡ true) × (leaves_queue who r ≡ true) →
-          IsQueueOf doors (map_first (left_call who) (suc i) tree.calls) list.notices q
-          (if b then without_item (item.Call r.number) (queue_in v q) else queue_in v q)
-      queue q true e k =
-          call_withdrawn (h.queues q) r.number (map_first (left_call who) (suc i) tree.calls)
-          (waiting_withdrawn call_kind doors q (left_call who) (leaves_queue who) (left_waiting who) (left_number who) (left_queued_in who doors q) i tree.calls 0 tree.made r order at (ap₂ (λ a b. a && b) k.0 (is_pool-sym q pool ∙ e)) k.1)
-      queue q false e k =
-          queue_kept doors (map_first (left_call who) (suc i) tree.calls) list.notices
-          (waiting_stays call_kind doors q (left_call who) (leaves_queue who) (left_waiting who) (left_number who) (left_queued_in who doors q) i tree.calls r at (ap₂ (λ a b. (a && b) && leaves_queue who r) k.0 (is_pool-sym q pool ∙ e))) refl
-          (h.queues q)
-
-  pub agrees_stays :
-      (r : Call) → IsAscending call_number 0 tree.made tree.calls → slice_get tree.calls i ≡ Some r → (is_queued r.stage && leaves_queue who r) ≡ false →
-      Agrees n table doors (tree_left who i tree) list v → Agrees n table doors (tree_left who (suc i) tree) list v
-  agrees_stays r order at stays h =
-      record {
-        stacks = h.stacks;
-        queues =
-            λ q. queue_kept doors (map_first (left_call who) (suc i) tree.calls) list.notices
-            (waiting_stays call_kind doors q (left_call who) (leaves_queue who) (left_waiting who) (left_number who) (left_queued_in who doors q) i tree.calls r at
-            (neither (is_queued r.stage) (is_pool q (pool_in (at_number doors r.door))) (leaves_queue who r) stays)) refl
-            (h.queues q);
-        spares = h.spares;
-        calls = ascending-map_first call_number (left_call who) (left_number who) (suc i) tree.calls 0 tree.made order;
-        call_dates = dates_next who n i tree.calls h.call_dates;
-        notices = h.notices;
-        notice_dates = h.notice_dates;
-        kept = h.kept;
-        common = h.common;
-        spare_lists = h.spare_lists;
-        private = h.private;
-      }
-    where
-      neither : (a b c : Bool) → (a && c) ≡ false → ((a && b) && c) ≡ false
-      neither true true c e = e
-      neither true false c e = refl
-      neither false b c e = refl
-
   -- after all of them those that are live are kept
   pub agrees_left :
       length tree.calls ≤ i → Agrees n table doors (tree_left who i tree) list v → Agrees n table doors (live_calls (left_calls who tree)) list v

@@ -1,21 +1,17 @@
 -- The queues where notices leave them, as their doors become invalid.
-use Rattle.std.proofs.Common.{◌≡◌, ℕ, suc, ◌+◌, ◌≤◌, ◌&&◌, Bool, true, false, not, if◌then◌else◌, List, Some, length, map, filter, slice_get, refl, sym, subst, ap, ap₂, ◌∙◌, add-one}
+use Rattle.std.proofs.Common.{◌≡◌, ℕ, suc, ◌&&◌, Bool, true, false, not, if◌then◌else◌, List, length, map, filter, refl, sym, subst, ap, ap₂, ◌∙◌}
 use Rattle.dk_base.specs.ByNumber.{at_number}
-use Rattle.dk_base.specs.declared.object.Item.TheVariants as item
 use Rattle.kernel_records.specs.declared.record.NoticeStage.TheVariants as notice
-use Rattle.kernel_records.specs.Words.{CallTree, IsAscending, Leaving, NoticeList, ProcessTable, is_kept_notice, is_pool, is_waiting_stage, kept_notices, left_notice, left_notice_at, left_notices, notice_number, pool_in, waiting_notice}
-use Rattle.kernel_records.proofs.NumberedLists.{ascending-filter, ascending-map_first, map-map_first, map_first, map_first-all}
+use Rattle.kernel_records.specs.Words.{CallTree, IsAscending, Leaving, NoticeList, ProcessTable, is_kept_notice, is_pool, is_waiting_stage, kept_notices, left_notice, left_notice_at, notice_number, pool_in, waiting_notice}
+use Rattle.kernel_records.proofs.NumberedLists.{ascending-filter, ascending-map_first, map-map_first, map_first}
 use Rattle.written_kernel.specs.Types.{Door, Notice, NoticeStage, Pool}
-use Rattle.server_pool.specs.Words.{PoolValue, PoolsValue, change_pool, queue_in, spares_or_none, stack_in, withdraw_in, without_item}
+use Rattle.server_pool.specs.Words.{PoolsValue, queue_in, spares_or_none, stack_in}
 use Rattle.pool_agreement.specs.Words.{Agrees, AreDated, IsQueueOf, date_of_notice, is_waiting_notice_in, notice_leaves_queue}
 use Rattle.pool_agreement.proofs.Dated.{dated_filter}
-use Rattle.pool_agreement.proofs.Leaving.{read_change, read_kept}
 use Rattle.pool_agreement.proofs.Noticed.{kept_filter, waiting_kept}
 use Rattle.pool_agreement.proofs.Noticing.{list_is_kept}
 use Rattle.pool_agreement.proofs.Queues.{stack_same}
-use Rattle.pool_agreement.proofs.Readers.{bindings-change_pool, common-change_pool, is_pool-sym, private-change_pool, spares-change_pool}
-use Rattle.pool_agreement.proofs.Waits.{notice_withdrawn, queue_kept}
-use Rattle.pool_agreement.proofs.WaitingLists.{both_true, notice_kind, waiting_stays, waiting_withdrawn}
+use Rattle.pool_agreement.proofs.Waits.{queue_kept}
 
 -- one notice
 
@@ -85,10 +81,6 @@ module _
   pub none_left : Agrees n table doors tree list v → Agrees n table doors tree (notices_left doors who 0 list) v
   none_left h = subst (λ l. Agrees n table doors tree l v) (sym (list_is_kept h)) h
 
-  pub next_notice_is :
-      Agrees n table doors tree (notices_left doors who (suc i) list) v → Agrees n table doors tree (notices_left doors who (i + 1) list) v
-  next_notice_is h = subst (λ k. Agrees n table doors tree (notices_left doors who k list) v) (sym (add-one i)) h
-
   -- all but the queues, with the next notice left
   with_next :
       (w : PoolsValue) → IsAscending notice_number 0 list.made list.notices → AreDated 0 n (map date_of_notice list.notices) →
@@ -121,58 +113,3 @@ module _
   all_of : (q : Pool) → Agrees n table doors tree (notices_left doors who i list) v → IsQueueOf doors tree.calls (map_first (left_notice who) i list.notices) q (queue_in v q)
   all_of q h =
       queue_kept doors tree.calls (map_first (left_notice who) i list.notices) refl (sym (waiting_kept doors (map_first (left_notice who) i list.notices) q)) (h.queues q)
-
-  pub agrees_notice_withdrawn :
-      (x : Notice) → IsAscending notice_number 0 list.made list.notices → AreDated 0 n (map date_of_notice list.notices) →
-      slice_get list.notices i ≡ Some x → notice_leaves_queue who x ≡ true → Agrees n table doors tree (notices_left doors who i list) v →
-      Agrees n table doors tree (notices_left doors who (suc i) list)
-      (change_pool v (pool_in (at_number doors x.door)) (withdraw_in (item.Notice x.number)))
-  agrees_notice_withdrawn x order dates at leaves h =
-      with_next w order dates h (bindings-change_pool v pool change) (λ q. read_kept (λ (y : PoolValue). y.parked) change (λ y. refl) v pool q)
-      (spares-change_pool v pool change) (common-change_pool v pool change) (private-change_pool v pool change)
-      (λ q.
-      subst (IsQueueOf doors tree.calls (map_first (left_notice who) (suc i) list.notices) q)
-      (sym (read_change (λ (y : PoolValue). y.waiting) (without_item (item.Notice x.number)) change (λ y. refl) refl v pool q))
-      (queue q (is_pool pool q) refl (both_true (is_waiting_stage x.stage) (who.loses x.door) leaves).0))
-    where
-      pool : Pool
-      pool = pool_in (at_number doors x.door)
-
-      change : PoolValue → PoolValue
-      change = withdraw_in (item.Notice x.number)
-
-      w : PoolsValue
-      w = change_pool v pool change
-
-      queue :
-          (q : Pool) (b : Bool) → is_pool pool q ≡ b → is_waiting_stage x.stage ≡ true →
-          IsQueueOf doors tree.calls (map_first (left_notice who) (suc i) list.notices) q
-          (if b then without_item (item.Notice x.number) (queue_in v q) else queue_in v q)
-      queue q true e k =
-          notice_withdrawn (all_of q h) x.number (map_first (left_notice who) (suc i) list.notices)
-          (waiting_withdrawn notice_kind doors q (left_notice who) (notice_leaves_queue who) (left_waiting who) (left_notice_number who) (left_waits_in who doors q) i list.notices 0 list.made x order at (ap₂ (λ a b. a && b) k (is_pool-sym q pool ∙ e)) leaves)
-      queue q false e k =
-          queue_kept doors tree.calls (map_first (left_notice who) (suc i) list.notices) refl
-          (waiting_stays notice_kind doors q (left_notice who) (notice_leaves_queue who) (left_waiting who) (left_notice_number who) (left_waits_in who doors q) i list.notices x at
-          (ap₂ (λ a b. (a && b) && notice_leaves_queue who x) k (is_pool-sym q pool ∙ e))) (all_of q h)
-
-  pub agrees_notice_stays :
-      (x : Notice) → IsAscending notice_number 0 list.made list.notices → AreDated 0 n (map date_of_notice list.notices) →
-      slice_get list.notices i ≡ Some x → notice_leaves_queue who x ≡ false → Agrees n table doors tree (notices_left doors who i list) v →
-      Agrees n table doors tree (notices_left doors who (suc i) list) v
-  agrees_notice_stays x order dates at stays h =
-      with_next v order dates h refl (λ q. refl) refl refl refl
-      (λ q.
-      queue_kept doors tree.calls (map_first (left_notice who) (suc i) list.notices) refl
-      (waiting_stays notice_kind doors q (left_notice who) (notice_leaves_queue who) (left_waiting who) (left_notice_number who) (left_waits_in who doors q) i list.notices x at (neither (is_waiting_notice_in doors q x) (notice_leaves_queue who x) stays)) (all_of q h))
-    where
-      neither : (a b : Bool) → b ≡ false → (a && b) ≡ false
-      neither true b e = e
-      neither false b e = refl
-
-  -- after all of them those are kept that rules ask for again
-  pub agrees_notices_left :
-      length list.notices ≤ i → Agrees n table doors tree (notices_left doors who i list) v →
-      Agrees n table doors tree (kept_notices doors (left_notices who list)) v
-  agrees_notices_left l h =
-      subst (λ ns. Agrees n table doors tree (kept_notices doors (record list { notices = ns })) v) (map_first-all (left_notice who) i list.notices l) h

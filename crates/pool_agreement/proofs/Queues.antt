@@ -1,6 +1,6 @@
 -- What waits in the pools is what the calls and notices say: where calls are opened, given, entered, returned and collected, and where
 -- doors are made and changed.
-use Rattle.std.proofs.Common.{◌≡◌, ◌⊎◌, ℕ, ◌+◌, ◌<◌, ◌≤◌, ◌&&◌, ◌==◌, Bool, true, false, not, nat_le, if◌then◌else◌, List, [], ◌∷◌, ◌++◌, Option, Some, None, option_map, is_some, length, map, filter, drop, slice_get, refl, sym, subst, subst₂, ap, ap₂, ◌∙◌, length-append, arith}
+use Rattle.std.proofs.Common.{◌≡◌, ℕ, ◌+◌, ◌<◌, ◌≤◌, ◌&&◌, ◌==◌, Bool, true, false, not, nat_le, if◌then◌else◌, List, [], ◌∷◌, ◌++◌, Option, Some, None, option_map, is_some, length, map, filter, drop, slice_get, refl, sym, subst, subst₂, ap, ap₂, ◌∙◌, length-append, arith}
 use Rattle.std.proofs.lemmas.List.{length-map, map-append}
 use Rattle.std.proofs.lemmas.List.Sums.{length-filter}
 use Rattle.dk_base.specs.ByNumber.{at_number}
@@ -120,12 +120,6 @@ param_serves doors d x value k =
     pool f y a b c =
         ap (λ z. if is_private z then Private (f y).number else Common (f y).owner) a
         ∙ ap₂ (λ k p. if is_private y.attrs then Private k else Common p) b c
-
--- what waits is a call or a notice, at a door that the pool serves
-pub record IsNextItem (doors : List Door) (pool : Pool) (w : Waiting) : Type 0 where
-  pub number : ℕ
-  pub is_either : (w.item ≡ item.Call number) ⊎ (w.item ≡ item.Notice number)
-  pub served : is_pool pool (pool_in (at_number doors w.door)) ≡ true
 
 module _ {n : ℕ} {table : ProcessTable} {doors : List Door} {tree : CallTree} {list : NoticeList} {v : PoolsValue} (h : Agrees n table doors tree list v) where
   -- as many calls wait in a pool as the pool counts

@@ -7,14 +7,14 @@ use Rattle.dk_base.specs.declared.object.Item.TheVariants as item
 use Rattle.kernel_records.specs.declared.record.CallStage.TheVariants as stage
 use Rattle.kernel_records.specs.declared.record.NoticeStage.TheVariants as notice
 use Rattle.kernel_records.specs.Words.{IsAscending, at_stage, call_number, change_first, is_pool, is_queued, is_queued_as, is_queued_in, is_waiting_notice_as, is_waiting_stage, notice_at, notice_number, pool_in, tid, waiting_call, waiting_notice}
-use Rattle.written_kernel.specs.Types.{Call, Door, Item, Notice, Pool, Waiting}
+use Rattle.written_kernel.specs.Types.{Call, Door, Notice, Pool, Waiting}
 use Rattle.written_kernel.proofs.Places.{IsIn}
 use Rattle.written_kernel.proofs.Waits.{Passes, from_filter}
-use Rattle.server_pool.specs.Words.{is_call, is_item, is_waiting_call, is_waiting_otherwise, without_item}
-use Rattle.server_pool.proofs.Order.{ordered_filter, ordered_push}
+use Rattle.server_pool.specs.Words.{is_waiting_call}
+use Rattle.server_pool.proofs.Order.{ordered_push}
 use Rattle.pool_agreement.specs.Words.{AreDated, IsQueue, IsQueueOf, WaitsBefore, date_of_call, date_of_notice, is_notice_waiting, is_waiting_notice_in, notices_waiting_in, waiting_in}
 use Rattle.pool_agreement.proofs.Dated.{dated_in}
-use Rattle.pool_agreement.proofs.Merged.{earlier_before, filter_both}
+use Rattle.pool_agreement.proofs.Merged.{earlier_before}
 use Rattle.pool_agreement.proofs.Parked.{all_in}
 use Rattle.pool_agreement.proofs.Parking.{to_filter}
 use Rattle.pool_agreement.proofs.WaitingLists.{IsOldest, call_kind, filter-given, filter-given_elsewhere, notice_kind, oldest, waiting_push}
@@ -135,38 +135,6 @@ module _
       ∙ ap (λ b. if b then notices_waiting_in doors notices pool ++ waiting_notice x ∷ [] else notices_waiting_in doors notices pool) served) h
 
   -- an item leaves, wherever it stands
-
-  pub call_withdrawn :
-      (c : ℕ) (rs : List Call) → without_item (item.Call c) (waiting_in doors calls pool) ≡ waiting_in doors rs pool →
-      IsQueueOf doors rs notices pool (without_item (item.Call c) queue)
-  call_withdrawn c rs e =
-      record {
-        calls_wait =
-            filter_both is_waiting_call (is_waiting_otherwise (item.Call c)) queue
-            ∙ ap (without_item (item.Call c)) h.calls_wait ∙ e;
-        notices_wait = filter_within is_notice_waiting (is_waiting_otherwise (item.Call c)) (λ w. other w.item) queue ∙ h.notices_wait;
-        in_order = ordered_filter WaitsBefore (is_waiting_otherwise (item.Call c)) queue h.in_order;
-      }
-    where
-      other : (i : Item) → not (is_call i) ≡ true → not (is_item (item.Call c) i) ≡ true
-      other (item.Call d) f = cc
-      other (item.Notice d) f = refl
-
-  pub notice_withdrawn :
-      (c : ℕ) (ns : List Notice) → without_item (item.Notice c) (notices_waiting_in doors notices pool) ≡ notices_waiting_in doors ns pool →
-      IsQueueOf doors calls ns pool (without_item (item.Notice c) queue)
-  notice_withdrawn c ns e =
-      record {
-        calls_wait = filter_within is_waiting_call (is_waiting_otherwise (item.Notice c)) (λ w. other w.item) queue ∙ h.calls_wait;
-        notices_wait =
-            filter_both is_notice_waiting (is_waiting_otherwise (item.Notice c)) queue
-            ∙ ap (without_item (item.Notice c)) h.notices_wait ∙ e;
-        in_order = ordered_filter WaitsBefore (is_waiting_otherwise (item.Notice c)) queue h.in_order;
-      }
-    where
-      other : (i : Item) → is_call i ≡ true → not (is_item (item.Notice c) i) ≡ true
-      other (item.Call d) f = refl
-      other (item.Notice d) f = cc
 
   -- the oldest item
   module _ (w : Waiting) (ws : List Waiting) (e : queue ≡ w ∷ ws) where

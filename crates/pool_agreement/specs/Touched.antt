@@ -33,10 +33,6 @@ abbrev pub pool_of_request : State → ℕ → Request → Pool
 pool_of_request m t (request.Call fd bytes pass rsize) = pool_of m (door_named (object_at m (process_of m t) fd))
 pool_of_request m t r = own_pool m t
 
-abbrev pub pool_touched : State → ℕ → Option Request → Pool
-pool_touched m t None = own_pool m t
-pool_touched m t (Some r) = pool_of_request m t r
-
 -- Which processes start a spare: the one that gets its first door that its common pool serves, and the one whose common pool has
 -- given its last idle thread.
 

@@ -1,5 +1,5 @@
 -- One server pool: its parked threads and its waiting items, with the room for more of them, and what becomes of it.
-use Rattle.std.specs.Prelude.{ℕ, ◌+◌, ◌-◌, List, [], ◌∷◌, ◌++◌, Option, Bool, true, false, ◌==◌, ◌&&◌, not, None, Some, count_by, drop, filter, length, nat_le, slice_get, take}
+use Rattle.std.specs.Prelude.{ℕ, ◌+◌, ◌-◌, List, [], ◌∷◌, ◌++◌, Option, Bool, true, false, ◌==◌, ◌&&◌, not, None, Some, count_by, drop, filter, length, map, nat_le, slice_get, take}
 use Rattle.dk_base.specs.declared.limits.TheConstants.{QUEUE_MAX}
 use Rattle.dk_base.specs.declared.object.Item.{Item}
 use Rattle.dk_base.specs.declared.object.Item.TheVariants.{Call, Notice}
@@ -57,6 +57,27 @@ is_waiting_otherwise item w = not (is_waiting_as item w)
 abbrev pub without_item : Item → List Waiting → List Waiting
 without_item item waiting = filter (is_waiting_otherwise item) waiting
 
+-- at a door
+
+abbrev pub is_waiting_at : ℕ → Waiting → Bool
+is_waiting_at d w = w.door == d
+
+abbrev pub is_waiting_elsewhere : ℕ → Waiting → Bool
+is_waiting_elsewhere d w = not (is_waiting_at d w)
+
+abbrev pub item_of : Waiting → Item
+item_of w = w.item
+
+-- the oldest first
+abbrev pub items_at : ℕ → List Waiting → List Item
+items_at d waiting = map item_of (filter (is_waiting_at d) waiting)
+
+abbrev pub items_waiting_at : ℕ → List Waiting → ℕ
+items_waiting_at d waiting = count_by (is_waiting_at d) waiting
+
+abbrev pub without_door : ℕ → List Waiting → List Waiting
+without_door d waiting = filter (is_waiting_elsewhere d) waiting
+
 -- a call beyond those that may wait in a pool
 abbrev pub is_call_too_many : Waiting → List Waiting → Bool
 is_call_too_many w waiting = is_waiting_call w && nat_le QUEUE_MAX (count_calls waiting)
@@ -76,6 +97,18 @@ enqueue_in w pool = with_waiting (pool.waiting ++ w ∷ []) pool
 
 abbrev pub withdraw_in : Item → PoolValue → PoolValue
 withdraw_in item pool = with_waiting (without_item item pool.waiting) pool
+
+-- what waits at a door leaves
+abbrev pub drop_door_in : ℕ → PoolValue → PoolValue
+drop_door_in d pool = with_waiting (without_door d pool.waiting) pool
+
+-- all threads leave
+abbrev pub drop_threads_in : PoolValue → PoolValue
+drop_threads_in pool = with_parked [] pool
+
+-- how much is in it
+abbrev pub pool_size : PoolValue → ℕ
+pool_size pool = length pool.parked + length pool.waiting
 
 -- the thread on top and the oldest item leave
 abbrev pub match_in : PoolValue → PoolValue

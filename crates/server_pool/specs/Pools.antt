@@ -1,14 +1,19 @@
 -- All server pools, with the bindings of threads and the spare threads of each process.
-use Rattle.std.specs.Prelude.{◌-◌, ℕ, ◌<◌, Bool, ◌==◌, not, List, [], Option, None, Some, ◌∷◌, ◌++◌, drop, filter, length, replicate, slice_get, take}
+use Rattle.std.specs.Prelude.{◌+◌, ◌-◌, ℕ, ◌<◌, Bool, ◌==◌, ◌&&◌, not, if◌then◌else◌, List, [], Option, None, Some, Result, Ok, Err, ◌∷◌, ◌++◌, drop, filter, length, replicate, slice_get, sum_by, take}
 use Rattle.std.specs.List.{AllByRecursion}
 use Rattle.dk_base.specs.ByNumber.{at_number}
+use Rattle.dk_base.specs.declared.error.Errno.{Errno}
+use Rattle.dk_base.specs.declared.error.Errno.TheVariants.{EBADF, EINVAL}
 use Rattle.dk_base.specs.declared.limits.TheConstants.{THREADS_MAX}
+use Rattle.dk_base.specs.declared.number.Tid.{Tid}
 use Rattle.kernel_records.specs.declared.pool.Parked.{Parked}
 use Rattle.kernel_records.specs.declared.pool.Pool.{Pool}
 use Rattle.kernel_records.specs.declared.pool.Pool.TheVariants.{Common, Private}
 use Rattle.kernel_records.specs.declared.pool.Waiting.{Waiting}
+use Rattle.kernel_records.specs.Words.{unbind_thread}
+use Rattle.server_pool.specs.declared.facts.BindFacts.{BindFacts}
 use Rattle.server_pool.specs.Ordered.{change_at_number}
-use Rattle.server_pool.specs.Pool.{PoolValue, empty_pool}
+use Rattle.server_pool.specs.Pool.{PoolValue, empty_pool, pool_size}
 
 -- The door that each thread is bound to, at the thread's place; the pools that processes have in common, by process; the pools
 -- of private doors, by door, where a door that is not private has an empty one; the spare threads of each process that were
@@ -89,3 +94,21 @@ without_spare t spares = filter (is_another_spare t) spares
 
 abbrev pub change_spares : PoolsValue → ℕ → (List ℕ → List ℕ) → PoolsValue
 change_spares pools p change = record pools { spares = change_at_number pools.spares p change }
+
+-- how much waits and is parked in all pools
+abbrev pub size_in : PoolsValue → ℕ
+size_in pools = sum_by pool_size pools.common + sum_by pool_size pools.private
+
+-- bindings
+
+-- what binding a thread to a door is refused with, of which this is known
+abbrev pub may_bind_to : Bool → Bool → Bool → Result Unit Errno
+may_bind_to valid is_private own = if valid then (if is_private && own then Ok tt else Err EINVAL) else Err EBADF
+
+abbrev pub may_bind : BindFacts → Result Unit Errno
+may_bind facts = may_bind_to facts.valid facts.is_private facts.own
+
+-- these threads are bound to none
+abbrev pub unbind_each : List (Option ℕ) → List Tid → List (Option ℕ)
+unbind_each bindings [] = bindings
+unbind_each bindings (t ∷ ts) = unbind_each (unbind_thread bindings t.0) ts

@@ -1,6 +1,7 @@
 -- Parked threads in the order in which they parked, and which of them is picked.
 use Rattle.std.specs.Prelude.{◌≡◌, ℕ, ◌<◌, ◌⊎◌, List, Option, Bool, ◌==◌, not, None, filter}
 use Rattle.std.specs.List.{AllByRecursion, fold}
+use Rattle.dk_base.specs.declared.number.Tid.{Tid}
 use Rattle.kernel_records.specs.declared.pool.Parked.{Parked}
 use Rattle.kernel_records.specs.Words.{later_parked}
 use Rattle.server_pool.specs.Ordered.{IsOrderedBy}
@@ -30,3 +31,6 @@ is_another_thread t x = not (is_thread t x)
 -- without every place of a thread
 abbrev pub without_thread : ℕ → List Parked → List Parked
 without_thread t parked = filter (is_another_thread t) parked
+
+abbrev pub thread_of : Parked → Tid
+thread_of x = x.thread

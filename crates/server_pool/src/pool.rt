@@ -1,13 +1,14 @@
 //! One server pool.
-ghost use Rattle.std.specs.Prelude.{◌≡◌, ◌+◌, ◌<◌, ◌≤◌, ◌↔◌, Err, Ok, IfNone, IsTrue, OnErr, OnOk, OnSome, if◌then◌else◌, true, vec_capacity};
+ghost use Rattle.std.specs.Prelude.{◌≡◌, ◌+◌, ◌++◌, ◌∷◌, ◌<◌, ◌≤◌, ◌↔◌, [], Err, Ok, IfNone, IsTrue, OnErr, OnOk, OnSome, false, if◌then◌else◌, length, map, true, vec_capacity};
 ghost use Rattle.std.specs.List.{list_any};
 ghost use Rattle.std.specs.VecDeque.{deque_capacity};
 ghost use Rattle.dk_base.specs.declared.error.Errno.TheVariants.{EAGAIN};
-ghost use Rattle.server_pool.specs.Words.{AllParkedBefore, IsStack, ParkedBefore, count_calls, empty_pool, enqueue_in, first_match, is_call, is_call_too_many, is_item, is_thread, is_waiting_as, match_in, next_of, park_in, pick_of, unpark_in, with_room, withdraw_in, without_item, without_thread};
+ghost use Rattle.server_pool.specs.Words.{AllParkedBefore, IsStack, ParkedBefore, count_calls, drop_door_in, drop_threads_in, empty_pool, enqueue_in, first_match, is_call, is_call_too_many, is_item, is_thread, is_waiting_as, items_at, items_waiting_at, match_in, next_of, park_in, pick_of, thread_of, unpark_in, with_room, withdraw_in, without_door, without_item, without_thread};
 
 use crate::facts::Match;
 use dk_base::error::{Errno, NoMemory};
 use dk_base::limits::QUEUE_MAX;
+use dk_base::list::Room;
 use dk_base::number::Tid;
 use dk_base::object::Item;
 use kernel_records::pool::{Parked, Waiting};
@@ -106,6 +107,45 @@ fn remove_item(waiting: &mut VecDeque<Waiting>, item: Item)
     ensures capacity { deque_capacity waiting.new ≡ deque_capacity waiting.old }
 {
     waiting.retain(|w| !is_waiting_as(item, w));
+}
+
+/// An item follows what is in `into` where it waits at a door.
+fn list_item(w: Waiting, d: u32, into: &mut Room<Item>)
+    requires { items_waiting_at d (w ∷ []) ≤ into.old.spare }
+    ensures items { into.new.items ≡ into.old.items ++ items_at d (w ∷ []) }
+    ensures spare { into.old.spare ≤ into.new.spare + items_waiting_at d (w ∷ []) }
+{
+    if w.door == d {
+        into.push(w.item);
+    }
+}
+
+/// The items that wait at a door follow what is in `into`, the oldest first. It takes no memory.
+fn list_items(waiting: &VecDeque<Waiting>, d: u32, into: &mut Room<Item>)
+    requires { items_waiting_at d waiting.now.items ≤ into.old.spare }
+    ensures items { into.new.items ≡ into.old.items ++ items_at d waiting.now.items }
+    ensures spare { into.old.spare ≤ into.new.spare + items_waiting_at d waiting.now.items }
+{
+    for i in 0..waiting.len() {
+        list_item(waiting[i], d, into);
+    }
+}
+
+fn remove_door(waiting: &mut VecDeque<Waiting>, d: u32)
+    ensures items { waiting.new.items ≡ without_door d waiting.old.items }
+    ensures capacity { deque_capacity waiting.new ≡ deque_capacity waiting.old }
+{
+    waiting.retain(|w| w.door != d);
+}
+
+/// The threads follow what is in `into`, in the order in which they parked. It takes no memory.
+fn list_threads(parked: &[Parked], into: &mut Room<Tid>)
+    requires { length parked.now ≤ into.old.spare }
+    ensures { into.new.items ≡ into.old.items ++ map thread_of parked.now }
+{
+    for x in parked {
+        into.push(x.thread);
+    }
 }
 
 impl ServerPool {
@@ -234,20 +274,29 @@ impl ServerPool {
         self.calls
     }
 
-    /// An item waits behind the others, which takes no memory. EAGAIN for a call where 32 calls wait, which changes nothing.
+    /// An item waits behind the others: a notice, or a call where fewer than 32 calls wait. It takes no memory.
+    pub fn enqueue_fitting(&mut self, w: Waiting)
+        requires room { 0 < self.old.item_room }
+        requires few { is_call_too_many w self.old.waiting ≡ false }
+        ensures { self.new ≡ enqueue_in w self.old }
+    {
+        if is_call(w.item) {
+            self.calls += 1;
+        }
+        self.waiting.push_back_reserved(w);
+    }
+
+    /// The same. EAGAIN for a call where 32 calls wait, which changes nothing.
     pub fn enqueue(&mut self, w: Waiting) -> Result<(), Errno>
         requires { 0 < self.old.item_room }
         ensures result { result ≡ (if is_call_too_many w self.old.waiting then Err EAGAIN else Ok tt) }
         ensures ok { OnOk result (self.new ≡ enqueue_in w self.old) }
         ensures err { OnErr result (self.new ≡ self.old) }
     {
-        if is_call(w.item) {
-            if self.calls >= QUEUE_MAX {
-                return Err(Errno::EAGAIN);
-            }
-            self.calls += 1;
+        if is_call(w.item) && self.calls >= QUEUE_MAX {
+            return Err(Errno::EAGAIN);
         }
-        self.waiting.push_back_reserved(w);
+        self.enqueue_fitting(w);
         Ok(())
     }
 
@@ -260,5 +309,48 @@ impl ServerPool {
         remove_item(&mut self.waiting, item);
         self.calls = count_calls(&self.waiting);
         there
+    }
+    /// How many items wait.
+    pub fn waiting_count(&self) -> usize
+        ensures { result ≡ length self.now.waiting }
+    {
+        self.waiting.len()
+    }
+
+    /// How many items wait at a door.
+    pub fn waiting_at(&self, d: u32) -> usize
+        ensures { result ≡ items_waiting_at d self.now.waiting }
+    {
+        self.waiting.iter().filter(|w| w.door == d).count()
+    }
+
+    /// The items that wait at a door leave, and follow what is in `into`, the oldest first. The others keep their order. It takes no
+    /// memory.
+    pub fn drop_items(&mut self, d: u32, into: &mut Room<Item>)
+        requires { items_waiting_at d self.old.waiting ≤ into.old.spare }
+        ensures pool { self.new ≡ drop_door_in d self.old }
+        ensures items { into.new.items ≡ into.old.items ++ items_at d self.old.waiting }
+        ensures spare { into.old.spare ≤ into.new.spare + items_waiting_at d self.old.waiting }
+    {
+        list_items(&self.waiting, d, into);
+        remove_door(&mut self.waiting, d);
+        self.calls = count_calls(&self.waiting);
+    }
+
+    /// How many threads are parked.
+    pub fn parked_count(&self) -> usize
+        ensures { result ≡ length self.now.parked }
+    {
+        self.parked.len()
+    }
+
+    /// All threads leave, and follow what is in `into`, in the order in which they parked. It takes no memory.
+    pub fn drop_threads(&mut self, into: &mut Room<Tid>)
+        requires { length self.old.parked ≤ into.old.spare }
+        ensures pool { self.new ≡ drop_threads_in self.old }
+        ensures threads { into.new.items ≡ into.old.items ++ map thread_of self.old.parked }
+    {
+        list_threads(&self.parked, into);
+        self.parked.clear();
     }
 }

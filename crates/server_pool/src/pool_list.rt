@@ -1,14 +1,15 @@
 //! Pools that are numbered from 1. A number that no pool has is that of no pool: nothing changes.
-ghost use Rattle.std.specs.Prelude.{◌≡◌, ◌+◌, ◌<◌, ◌≤◌, Err, Ok, IfNone, IfSome, None, OnErr, OnOk, OnSome, if◌then◌else◌, is_some, length, true};
+ghost use Rattle.std.specs.Prelude.{◌≡◌, ◌+◌, ◌<◌, ◌≤◌, ◌++◌, Err, Ok, IfNone, IfSome, None, OnErr, OnOk, OnSome, false, if◌then◌else◌, is_some, length, map, min, sum_by, true};
 ghost use Rattle.std.specs.List.{list_any};
 ghost use Rattle.dk_base.specs.declared.error.Errno.TheVariants.{EAGAIN};
 ghost use Rattle.dk_base.specs.ByNumber.{at_number};
-ghost use Rattle.server_pool.specs.Words.{AllParkedBefore, PoolValue, change_at_number, enqueue_in, first_match, is_call_too_many, is_thread, is_waiting_as, match_in, park_in, pool_or_empty, unpark_in, with_room, withdraw_in};
+ghost use Rattle.server_pool.specs.Words.{AllParkedBefore, PoolValue, change_at_number, drop_door_in, drop_threads_in, enqueue_in, first_match, is_call_too_many, is_thread, is_waiting_as, items_at, items_waiting_at, match_in, park_in, pool_or_empty, pool_size, thread_of, unpark_in, with_room, withdraw_in};
 
 use crate::facts::Match;
 use crate::numbered::place_of;
 use crate::pool::ServerPool;
 use dk_base::error::{Errno, NoMemory};
+use dk_base::list::Room;
 use dk_base::number::Tid;
 use dk_base::object::Item;
 use kernel_records::pool::{Parked, Waiting};
@@ -109,6 +110,19 @@ pub fn unpark_at(pools: &mut [ServerPool], number: u32, t: Tid) -> bool
     }
 }
 
+/// An item waits behind the others, where it is a notice or fewer than 32 calls wait. It takes no memory.
+#[tactic(auto, using(kernel_records::proofs::Places::numbered_here))]
+pub fn enqueue_fitting_at(pools: &mut [ServerPool], number: u32, w: Waiting)
+    requires room { 0 < (pool_or_empty (at_number pools.old number)).item_room }
+    requires few { is_call_too_many w (pool_or_empty (at_number pools.old number)).waiting ≡ false }
+    ensures { pools.new ≡ change_at_number pools.old number (enqueue_in w) }
+{
+    if let Some(place) = place_of(pools, number) {
+        let pool = &mut pools[place];
+        pool.enqueue_fitting(w);
+    }
+}
+
 /// An item waits behind the others, which takes no memory. EAGAIN for a call where 32 calls wait.
 #[tactic(auto, using(kernel_records::proofs::Places::numbered_here))]
 pub fn enqueue_at(pools: &mut [ServerPool], number: u32, w: Waiting) -> Result<(), Errno>
@@ -139,4 +153,44 @@ pub fn withdraw_at(pools: &mut [ServerPool], number: u32, item: Item) -> bool
         }
         None => false,
     }
+}
+
+/// The items of a pool that wait at a door leave it, and follow what is in `into`. It takes no memory.
+#[tactic(auto, using(kernel_records::proofs::Places::numbered_here))]
+pub fn drop_items_at(pools: &mut [ServerPool], number: u32, d: u32, into: &mut Room<Item>)
+    requires { items_waiting_at d (pool_or_empty (at_number pools.old number)).waiting ≤ into.old.spare }
+    ensures pools { pools.new ≡ change_at_number pools.old number (drop_door_in d) }
+    ensures items { into.new.items ≡ into.old.items ++ items_at d (pool_or_empty (at_number pools.old number)).waiting }
+    ensures spare { into.old.spare ≤ into.new.spare + items_waiting_at d (pool_or_empty (at_number pools.old number)).waiting }
+{
+    if let Some(place) = place_of(pools, number) {
+        let pool = &mut pools[place];
+        pool.drop_items(d, into);
+    }
+}
+
+/// The threads of a pool leave it, and follow what is in `into`. It takes no memory.
+#[tactic(auto, using(kernel_records::proofs::Places::numbered_here))]
+pub fn drop_threads_at(pools: &mut [ServerPool], number: u32, into: &mut Room<Tid>)
+    requires { length (pool_or_empty (at_number pools.old number)).parked ≤ into.old.spare }
+    ensures pools { pools.new ≡ change_at_number pools.old number drop_threads_in }
+    ensures threads { into.new.items ≡ into.old.items ++ map thread_of (pool_or_empty (at_number pools.old number)).parked }
+{
+    if let Some(place) = place_of(pools, number) {
+        let pool = &mut pools[place];
+        pool.drop_threads(into);
+    }
+}
+
+/// How many threads and items there are in all, where the number can be told.
+pub fn size_of(pools: &[ServerPool]) -> usize
+    ensures { result ≡ min (sum_by pool_size pools.now) usize.MAX }
+{
+    let mut size = 0usize;
+    for pool in pools {
+        size = size
+            .saturating_add(pool.parked_count())
+            .saturating_add(pool.waiting_count());
+    }
+    size
 }

@@ -1,22 +1,24 @@
 //! All server pools, with the bindings of threads and the spare threads of each process.
-ghost use Rattle.std.specs.Prelude.{◌≡◌, ℕ, ◌-◌, ◌<◌, ◌≤◌, ◌++◌, ◌↔◌, [], ◌∷◌, Err, Ok, IfOk, IfNone, IsTrue, OnErr, OnOk, OnSome, if◌then◌else◌, is_some, length, ok_or, true};
+ghost use Rattle.std.specs.Prelude.{◌≡◌, ℕ, ◌+◌, ◌-◌, ◌<◌, ◌≤◌, ◌++◌, ◌↔◌, [], ◌∷◌, Err, Ok, IfOk, IfNone, IsTrue, OnErr, OnOk, OnSome, if◌then◌else◌, is_some, length, map, min, ok_or, sum_by, true, false};
 ghost use Rattle.std.specs.List.{list_any};
 ghost use Rattle.std.specs.Option.{option_copied, option_map};
 ghost use Rattle.dk_base.specs.declared.error.Errno.TheVariants.{EAGAIN, EBADF};
 ghost use Rattle.dk_base.specs.declared.limits.TheConstants.{THREADS_MAX};
+ghost use Rattle.kernel_records.specs.declared.pool.Pool.TheVariants.{Private};
 ghost use Rattle.kernel_records.specs.Words.{bind_thread, bound_at, unbind_thread};
-ghost use Rattle.server_pool.specs.Words.{AllBelow, AllParkedBefore, IsAscending, IsStack, change_pool, change_spares, count_calls, empty_pool, enqueue_in, first_match, is_call_too_many, is_thread, is_waiting_as, item_room_in, lowest_spare, match_in, next_of, no_pools, park_in, pick_of, pool_at, queue_in, spares_of, stack_in, thread_room_in, unpark_in, with_room, with_spare, withdraw_in, without_highest, without_lowest, without_spare};
+ghost use Rattle.server_pool.specs.Words.{AllBelow, AllParkedBefore, IsAscending, IsStack, change_pool, change_spares, count_calls, drop_door_in, drop_threads_in, empty_pool, enqueue_in, first_match, is_call_too_many, is_thread, is_waiting_as, item_room_in, items_at, items_waiting_at, lowest_spare, match_in, may_bind, next_of, no_pools, park_in, pick_of, pool_at, queue_in, size_in, spares_of, stack_in, thread_of, thread_room_in, unbind_each, unpark_in, with_room, with_spare, withdraw_in, without_highest, without_lowest, without_spare};
 
 use crate::bindings::{bound_at, no_bindings, set_binding};
-use crate::facts::Match;
+use crate::facts::{BindFacts, Match};
 use crate::pool::ServerPool;
 use crate::pool_list::{
-    enqueue_at, match_at, park_at, room_at, room_for_items_at, room_for_threads_at, unpark_at,
-    withdraw_at,
+    drop_items_at, drop_threads_at, enqueue_at, enqueue_fitting_at, match_at, park_at, room_at,
+    room_for_items_at, room_for_threads_at, size_of, unpark_at, withdraw_at,
 };
 use crate::spares::{Spares, add_spare_at, take_back_at, take_spare_at, withdraw_spare_at};
 use dk_base::error::{Errno, NoMemory};
 use dk_base::limits::THREADS_MAX;
+use dk_base::list::Room;
 use dk_base::number::{Pid, Tid};
 use dk_base::object::Item;
 use kernel_records::numbered::numbered_item;
@@ -154,6 +156,30 @@ impl Pools {
         set_binding(&mut self.bindings, t, Some(d));
     }
 
+    /// The same, of a door of which this is known: EBADF where it is not valid, EINVAL where it is not private or another process's.
+    /// An error changes nothing.
+    pub fn try_bind(&mut self, t: Tid, d: u32, facts: BindFacts) -> Result<(), Errno>
+        ensures result { result ≡ may_bind facts }
+        ensures ok { OnOk result (self.new ≡ record self.old { bindings = bind_thread self.old.bindings t.0 d }) }
+        ensures err { OnErr result (self.new ≡ self.old) }
+    {
+        if !facts.valid {
+            return Err(Errno::EBADF);
+        }
+        if !facts.is_private || !facts.own {
+            return Err(Errno::EINVAL);
+        }
+        self.bind(t, d);
+        Ok(())
+    }
+
+    /// A thread is bound to no door.
+    pub fn drop_binding(&mut self, t: Tid)
+        ensures { self.new ≡ record self.old { bindings = unbind_thread self.old.bindings t.0 } }
+    {
+        set_binding(&mut self.bindings, t, None);
+    }
+
     /// door_unbind(3C): a thread is bound to no door, and the one that it was bound to is answered. EBADF for a thread that is
     /// bound to none, which changes nothing.
     pub fn unbind(&mut self, t: Tid) -> Result<u32, Errno>
@@ -164,7 +190,7 @@ impl Pools {
         let Some(door) = self.bound(t) else {
             return Err(Errno::EBADF);
         };
-        set_binding(&mut self.bindings, t, None);
+        self.drop_binding(t);
         Ok(door)
     }
 
@@ -271,6 +297,18 @@ impl Pools {
         }
     }
 
+    /// An item waits in a pool, behind the others: a notice, or a call where fewer than 32 calls wait there. It takes no memory.
+    pub fn enqueue_fitting(&mut self, pool: Pool, w: Waiting)
+        requires room { 0 < item_room_in self.old pool }
+        requires few { is_call_too_many w (queue_in self.old pool) ≡ false }
+        ensures { self.new ≡ change_pool self.old pool (enqueue_in w) }
+    {
+        match pool {
+            Pool::Common(p) => enqueue_fitting_at(&mut self.common, p.0, w),
+            Pool::Private(d) => enqueue_fitting_at(&mut self.private, d, w),
+        }
+    }
+
     /// An item waits in a pool, behind the others, which takes no memory. EAGAIN for a call where 32 calls wait there, which
     /// changes nothing (door_call(3C)).
     pub fn enqueue(&mut self, pool: Pool, w: Waiting) -> Result<(), Errno>
@@ -294,6 +332,80 @@ impl Pools {
             Pool::Common(p) => withdraw_at(&mut self.common, p.0, item),
             Pool::Private(d) => withdraw_at(&mut self.private, d, item),
         }
+    }
+
+    /// How many items of a pool wait at a door.
+    pub fn waiting_at(&self, pool: Pool, d: u32) -> usize
+        ensures { result ≡ items_waiting_at d (queue_in self.now pool) }
+    {
+        match self.pool(pool) {
+            Some(pool) => pool.waiting_at(d),
+            None => 0,
+        }
+    }
+
+    /// The items that wait at a door leave the pool that serves it, and follow what is in `into`, the oldest first. The others keep
+    /// their order. It takes no memory.
+    pub fn drop_items(&mut self, pool: Pool, d: u32, into: &mut Room<Item>)
+        requires { items_waiting_at d (queue_in self.old pool) ≤ into.old.spare }
+        ensures pool { self.new ≡ change_pool self.old pool (drop_door_in d) }
+        ensures items { into.new.items ≡ into.old.items ++ items_at d (queue_in self.old pool) }
+        ensures spare { into.old.spare ≤ into.new.spare + items_waiting_at d (queue_in self.old pool) }
+    {
+        match pool {
+            Pool::Common(p) => drop_items_at(&mut self.common, p.0, d, into),
+            Pool::Private(e) => drop_items_at(&mut self.private, e, d, into),
+        }
+    }
+
+    /// How many threads are parked in a pool.
+    pub fn parked_in(&self, pool: Pool) -> usize
+        ensures { result ≡ length (stack_in self.now pool) }
+    {
+        match self.pool(pool) {
+            Some(pool) => pool.parked_count(),
+            None => 0,
+        }
+    }
+
+    /// The threads that are parked in the pool of a private door leave it, in the order in which they parked.
+    fn drop_threads(&mut self, d: u32, into: &mut Room<Tid>)
+        requires { length (stack_in self.old (Private d)) ≤ into.old.spare }
+        ensures pool { self.new ≡ change_pool self.old (Private d) drop_threads_in }
+        ensures threads { into.new.items ≡ into.old.items ++ map thread_of (stack_in self.old (Private d)) }
+    {
+        drop_threads_at(&mut self.private, d, into);
+    }
+
+    /// These threads are bound to no door.
+    fn unbind_all(&mut self, threads: &[Tid])
+        ensures { self.new ≡ record self.old { bindings = unbind_each self.old.bindings threads.now } }
+    {
+        for t in threads {
+            self.drop_binding(*t);
+        }
+    }
+
+    /// A door is lost: the items that wait at it leave the pool that serves it, and the threads that are parked in the pool of its own,
+    /// if it is private, leave that and are unbound. Both follow what is in the lists, in their order. It takes no memory.
+    pub fn drop_door(&mut self, pool: Pool, d: u32, items: &mut Room<Item>, threads: &mut Room<Tid>)
+        requires items { items_waiting_at d (queue_in self.old pool) ≤ items.old.spare }
+        requires threads { length (stack_in self.old (Private d)) ≤ threads.old.spare }
+        requires none_listed { threads.old.items ≡ [] }
+        ensures pools { let left = change_pool (change_pool self.old pool (drop_door_in d)) (Private d) drop_threads_in in self.new ≡ record left { bindings = unbind_each self.old.bindings threads.new.items } }
+        ensures items { items.new.items ≡ items.old.items ++ items_at d (queue_in self.old pool) }
+        ensures threads { threads.new.items ≡ map thread_of (stack_in self.old (Private d)) }
+    {
+        self.drop_items(pool, d, items);
+        self.drop_threads(d, threads);
+        self.unbind_all(threads.slice());
+    }
+
+    /// How many items wait and how many threads are parked, in all pools, where the number can be told.
+    pub fn size(&self) -> usize
+        ensures { result ≡ min (size_in self.now) usize.MAX }
+    {
+        size_of(&self.common).saturating_add(size_of(&self.private))
     }
 
     /// Whether a number is above those of all spares of a process.
