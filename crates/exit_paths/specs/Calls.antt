@@ -1,0 +1,43 @@
+-- Calls that are left one at a time, at one event.
+use Rattle.std.specs.Prelude.{ℕ, ◌≡◌, ◌<◌, ◌≤◌, ◌==◌, ◌&&◌, Bool, false, if◌then◌else◌, List, Option, Some, None, find, length}
+use Rattle.dk_base.specs.declared.error.Errno.TheVariants.{EBADF}
+use Rattle.kernel_records.specs.declared.record.CallStage.TheVariants as stage
+use Rattle.kernel_records.specs.Words.{CallTree, ProcessTable, is_queued, process_in, thread_at}
+use Rattle.written_kernel.specs.Types.{Call}
+use Rattle.call_tree.specs.Words.{LeftSoFar, calls_so_far, nothing_left, refuse_call}
+use Rattle.exit_paths.specs.Exits.{transit}
+
+-- how many objects are in transit with calls
+abbrev pub in_transit : List Call → ℕ
+in_transit calls = length (transit calls)
+
+-- calls at doors that are lost
+
+-- a call, if there is one, that waits at a door that is lost
+abbrev pub refused_caller : (ℕ → Bool) → Option Call → CallTree → CallTree
+refused_caller loses None tree = tree
+refused_caller loses (Some r) tree = if is_queued r.stage && loses r.door then refuse_call tree r.number EBADF else tree
+
+-- these have ended, of the callers up to n
+pub record AreRefused (loses : ℕ → Bool) (n : ℕ) (tree now : CallTree) : Type 0 where
+  pub refused : ℕ → Bool
+  pub so_far : now ≡ calls_so_far (record nothing_left { refused = refused }) tree
+  pub those : (p : Call → Bool) (r : Call) → find p tree.calls ≡ Some r → r.stage ≡ stage.Queued → r.caller.0 ≤ n → refused r.number ≡ loses r.door
+  pub others : (p : Call → Bool) (r : Call) → find p tree.calls ≡ Some r → n < r.caller.0 → refused r.number ≡ false
+
+-- threads that end
+
+abbrev pub is_thread_of : ProcessTable → ℕ → ℕ → Bool
+is_thread_of table p t = process_in (thread_at table t) == p
+
+-- callers that end serve no longer
+abbrev pub all_left : (ℕ → Bool) → (ℕ → Bool) → LeftSoFar
+all_left ended refused = record { ended = ended; interrupted = λ t. false; servers = ended; refused = refused }
+
+-- of the threads 1 to n those have ended that meet a test
+pub record HaveEnded (ends : ℕ → Bool) (refused : ℕ → Bool) (n : ℕ) (tree now : CallTree) : Type 0 where
+  pub ended : ℕ → Bool
+  pub so_far : now ≡ calls_so_far (all_left ended refused) tree
+  pub those : (t : ℕ) → 0 < t → t ≤ n → ended t ≡ ends t
+  pub none : ended 0 ≡ false
+  pub others : (t : ℕ) → n < t → ended t ≡ false

@@ -1,0 +1,187 @@
+//! What becomes of calls, one after the other, and what leaves transit with them.
+ghost use Rattle.std.specs.Prelude.{◌≡◌, ℕ, ◌+◌, ◌≤◌, ◌++◌, ◌==◌, ◌&&◌, [], Bool, List, IfOk, IsSome, find, flat_map, false, if◌then◌else◌, length, true};
+ghost use Rattle.dk_base.specs.declared.error.Errno.TheVariants.{EBADF};
+ghost use Rattle.dk_base.specs.declared.limits.TheConstants.{THREADS_MAX};
+ghost use Rattle.kernel_records.specs.Words.{CallTree, Leaving, ProcessTable, is_queued_as, leaving_of, left_calls, live_calls};
+ghost use Rattle.written_kernel.specs.Types.{Call, Door, Obj};
+ghost use Rattle.written_kernel.specs.Words.{objects_in_call};
+ghost use Rattle.call_tree.specs.Words.{AreSound, abandon_call, calls_so_far, dropped_objects, is_called_by, lose_server, refuse_call};
+ghost use Rattle.call_tree.specs.declared.parts.Leave.TheVariants.{Finished, Interrupted};
+ghost use Rattle.exit_paths.specs.Words.{AreRefused, DropsTransit, HaveEnded, all_left, in_transit, is_thread_of, refused_caller};
+
+use crate::fates::loses;
+use call_tree::calls::Calls;
+use call_tree::laws::parts_of_leaving;
+use call_tree::parts::Leave;
+use call_tree::stage::is_queued;
+use dk_base::error::{Errno, NoMemory};
+use dk_base::limits::THREADS_MAX;
+use dk_base::list::{ObjList, Room};
+use dk_base::number::{Pid, Tid};
+use dk_base::object::Obj;
+use door_object::doors::Doors;
+use kernel_records::leaving::Leaver;
+use kernel_records::record::{Call, CallStage};
+use proc_table::procs::Procs;
+use std::alloc::Global;
+
+/// How many objects are in transit with a call.
+fn objects_in(call: &Call) -> usize
+    ensures { result ≡ length (objects_in_call call.now) }
+{
+    match &call.stage {
+        CallStage::Queued | CallStage::Given { .. } => call.objects.len(),
+        CallStage::Returned { objects, .. } => objects.len(),
+        _ => 0,
+    }
+}
+
+/// How many objects are in transit with calls, where the number can be told.
+fn count_transit(calls: &Calls) -> Result<usize, NoMemory>
+    ensures { IfOk result (λ n. n ≡ in_transit calls.now.tree.calls) }
+{
+    let mut total = 0usize;
+    for place in 0..calls.len() {
+        match total.checked_add(objects_in(calls.at_place(place))) {
+            Some(next) => total = next,
+            None => return Err(NoMemory),
+        }
+    }
+    Ok(total)
+}
+
+/// Room for all objects that are in transit.
+pub fn room_for_transit(alloc: Global, calls: &Calls) -> Result<Room<Obj>, NoMemory>
+    ensures empty { IfOk result (λ room. room.items ≡ []) }
+    ensures spare { IfOk result (λ room. in_transit calls.now.tree.calls ≤ room.spare) }
+{
+    let total = count_transit(calls)?;
+    Room::with_room(alloc, total)
+}
+
+/// The caller of a call leaves it, if it waits in one. What is no longer in transit is handed out.
+pub fn leave_call(alloc: Global, calls: &mut Calls, t: Tid, why: Leave) -> ObjList
+    ensures tree { calls.new.tree ≡ abandon_call calls.old.tree t.0 why }
+    ensures dropped { DropsTransit calls.old.tree.calls calls.new.tree.calls result }
+    ensures spare { calls.old.spare ≤ calls.new.spare }
+{
+    calls.are_sound();
+    parts_of_leaving();
+    if calls.called_by(t).is_none() {
+        return ObjList::new(alloc);
+    }
+    calls.abandon(t, why).dropped
+}
+
+/// A caller ends. What is no longer in transit follows what is in `into`. It takes no memory.
+pub fn end_caller(alloc: Global, calls: &mut Calls, t: Tid, into: &mut Room<Obj>)
+    requires { in_transit calls.old.tree.calls ≤ into.old.spare }
+    ensures tree { calls.new.tree ≡ abandon_call calls.old.tree t.0 Finished }
+    ensures dropped { (first : List Call) → DropsTransit first calls.old.tree.calls into.old.items → DropsTransit first calls.new.tree.calls into.new.items }
+    ensures room { in_transit calls.new.tree.calls ≤ into.new.spare }
+    ensures spare { calls.old.spare ≤ calls.new.spare }
+{
+    let dropped = leave_call(alloc, calls, t, Leave::Finished);
+    into.append(dropped.slice());
+}
+
+/// A thread that serves a call ends. What is no longer in transit follows what is in `into`. It takes no memory.
+pub fn end_server(calls: &mut Calls, u: Tid, into: &mut Room<Obj>)
+    requires { in_transit calls.old.tree.calls ≤ into.old.spare }
+    ensures tree { calls.new.tree ≡ lose_server calls.old.tree u.0 }
+    ensures dropped { (first : List Call) → DropsTransit first calls.old.tree.calls into.old.items → DropsTransit first calls.new.tree.calls into.new.items }
+    ensures room { in_transit calls.new.tree.calls ≤ into.new.spare }
+    ensures spare { calls.old.spare ≤ calls.new.spare }
+{
+    let dropped = calls.server_left(u);
+    into.append(dropped.slice());
+}
+
+/// A call that waits at a door that is lost ends with EBADF. What is no longer in transit follows what is in `into`. It takes no memory.
+fn refuse(calls: &mut Calls, c: u32, into: &mut Room<Obj>)
+    requires queued { IsSome (find (is_queued_as c) calls.old.tree.calls) }
+    requires room { in_transit calls.old.tree.calls ≤ into.old.spare }
+    ensures tree { calls.new.tree ≡ refuse_call calls.old.tree c EBADF }
+    ensures dropped { (first : List Call) → DropsTransit first calls.old.tree.calls into.old.items → DropsTransit first calls.new.tree.calls into.new.items }
+    ensures room { in_transit calls.new.tree.calls ≤ into.new.spare }
+    ensures spare { calls.old.spare ≤ calls.new.spare }
+{
+    calls.are_sound();
+    let dropped = calls.refuse(c, Errno::EBADF);
+    into.append(dropped.slice());
+}
+
+/// The call in which a thread waits ends EBADF, if it waits at a door that is lost. It takes no memory.
+fn refuse_caller(calls: &mut Calls, doors: &Doors, who: Leaver, t: Tid, into: &mut Room<Obj>)
+    requires { in_transit calls.old.tree.calls ≤ into.old.spare }
+    ensures tree { (table : ProcessTable) → calls.new.tree ≡ refused_caller (leaving_of table doors.now.items who).loses (find (is_called_by t.0) calls.old.tree.calls) calls.old.tree }
+    ensures dropped { (first : List Call) → DropsTransit first calls.old.tree.calls into.old.items → DropsTransit first calls.new.tree.calls into.new.items }
+    ensures room { in_transit calls.new.tree.calls ≤ into.new.spare }
+    ensures spare { calls.old.spare ≤ calls.new.spare }
+{
+    calls.are_sound();
+    let Some(call) = calls.called_by(t) else {
+        return;
+    };
+    if is_queued(&call.stage) && loses(who, doors, call.door) {
+        let c = call.number;
+        refuse(calls, c, into);
+    }
+}
+
+/// All calls that wait at doors that are lost end EBADF. What is no longer in transit follows what is in `into`. It takes no memory.
+pub fn refuse_lost(calls: &mut Calls, doors: &Doors, who: Leaver, into: &mut Room<Obj>)
+    requires { in_transit calls.old.tree.calls ≤ into.old.spare }
+    ensures tree { (table : ProcessTable) → AreRefused (leaving_of table doors.now.items who).loses THREADS_MAX calls.old.tree calls.new.tree }
+    ensures dropped { (first : List Call) → DropsTransit first calls.old.tree.calls into.old.items → DropsTransit first calls.new.tree.calls into.new.items }
+    ensures room { in_transit calls.new.tree.calls ≤ into.new.spare }
+    ensures spare { calls.old.spare ≤ calls.new.spare }
+{
+    calls.are_sound();
+    parts_of_leaving();
+    for i in 0..THREADS_MAX {
+        calls.are_sound();
+        refuse_caller(calls, doors, who, Tid(i + 1), into);
+    }
+}
+
+/// A thread that ends leaves its call, and the call that it serves ends. It takes no memory.
+fn end_thread(alloc: Global, calls: &mut Calls, t: Tid, into: &mut Room<Obj>)
+    requires { in_transit calls.old.tree.calls ≤ into.old.spare }
+    ensures tree { calls.new.tree ≡ lose_server (abandon_call calls.old.tree t.0 Finished) t.0 }
+    ensures dropped { (first : List Call) → DropsTransit first calls.old.tree.calls into.old.items → DropsTransit first calls.new.tree.calls into.new.items }
+    ensures room { in_transit calls.new.tree.calls ≤ into.new.spare }
+    ensures spare { calls.old.spare ≤ calls.new.spare }
+{
+    end_caller(alloc, calls, t, into);
+    end_server(calls, t, into);
+}
+
+/// The same where it ends.
+fn end_where(alloc: Global, calls: &mut Calls, t: Tid, ends: bool, into: &mut Room<Obj>)
+    requires { in_transit calls.old.tree.calls ≤ into.old.spare }
+    ensures tree { calls.new.tree ≡ (if ends then lose_server (abandon_call calls.old.tree t.0 Finished) t.0 else calls.old.tree) }
+    ensures dropped { (first : List Call) → DropsTransit first calls.old.tree.calls into.old.items → DropsTransit first calls.new.tree.calls into.new.items }
+    ensures room { in_transit calls.new.tree.calls ≤ into.new.spare }
+    ensures spare { calls.old.spare ≤ calls.new.spare }
+{
+    if ends {
+        end_thread(alloc, calls, t, into);
+    }
+}
+
+/// All threads of a process that end leave their calls, and the calls that they serve end. It takes no memory.
+pub fn end_all(alloc: Global, calls: &mut Calls, procs: &Procs, p: Pid, into: &mut Room<Obj>)
+    requires { in_transit calls.old.tree.calls ≤ into.old.spare }
+    ensures tree { (tree : CallTree) (refused : ℕ → Bool) → AreSound tree → calls.old.tree ≡ calls_so_far (all_left (λ t. false) refused) tree → HaveEnded (is_thread_of procs.now p.0) refused (length procs.now.threads) tree calls.new.tree }
+    ensures dropped { (first : List Call) → DropsTransit first calls.old.tree.calls into.old.items → DropsTransit first calls.new.tree.calls into.new.items }
+    ensures room { in_transit calls.new.tree.calls ≤ into.new.spare }
+    ensures spare { calls.old.spare ≤ calls.new.spare }
+{
+    parts_of_leaving();
+    for i in 0..procs.thread_count() {
+        let t = Tid(i + 1);
+        let ends = procs.process_of(t).0 == p.0;
+        end_where(alloc, calls, t, ends, into);
+    }
+}

@@ -1,0 +1,180 @@
+//! The four exit paths.
+ghost use Rattle.std.specs.Prelude.{◌≡◌, ℕ, IfOk, OnErr, is_some, true};
+ghost use Rattle.dk_base.specs.ByNumber.{at_number};
+ghost use Rattle.kernel_records.specs.Words.{interruption, process_end, revocation, thread_end};
+ghost use Rattle.exit_paths.specs.Words.{AreLost, CanExit, HasExited, IsAsBefore};
+
+use crate::calls::{end_all, end_caller, end_server, leave_call, refuse_lost, room_for_transit};
+use crate::fates::{
+    desert_server, deserted_by, end_thread, leave_threads, make_room, parked_of, room_for_server,
+    woken_of,
+};
+use crate::left::Left;
+use crate::marks::{
+    has_turned, is_idle_thread, list_new, list_one, note_idle, note_ready, room_for_all,
+    room_for_one,
+};
+use crate::queues::{drop_doors, room_for_items, withdraw_all, withdraw_caller};
+use call_tree::calls::Calls;
+use call_tree::laws::parts_of_leaving;
+use call_tree::parts::Leave;
+use dk_base::error::NoMemory;
+use dk_base::list::{ItemList, TidList};
+use dk_base::number::{Pid, Tid};
+use door_object::doors::Doors;
+use kernel_records::leaving::Leaver;
+use proc_table::procs::Procs;
+use server_pool::pools::Pools;
+use std::alloc::Global;
+
+/// A thread is interrupted: its call ends EINTR, unless it was returned or has ended, and its wait for the events of a port is marked.
+/// The thread that was given the call is parked again; the one that is in it is told so by its flag, unless the call's door has
+/// DOOR_NO_CANCEL (door_create(3C)). Want of memory leaves all as it was.
+pub fn interrupt(
+    alloc: Global,
+    procs: &mut Procs,
+    calls: &mut Calls,
+    pools: &mut Pools,
+    doors: &Doors,
+    t: Tid,
+    step: u64,
+) -> Result<Left, NoMemory>
+    requires { CanExit step doors.now.items (record { procs = procs.old; calls = calls.old; pools = pools.old }) }
+    ensures left { IfOk result (HasExited (interruption t.0) step doors.now.items (record { procs = procs.old; calls = calls.old; pools = pools.old }) (record { procs = procs.new; calls = calls.new; pools = pools.new })) }
+    ensures as_before { OnErr result (IsAsBefore (record { procs = procs.old; calls = calls.old; pools = pools.old }) (record { procs = procs.new; calls = calls.new; pools = pools.new })) }
+{
+    calls.are_sound();
+    parts_of_leaving();
+    let deserted = deserted_by(calls, t);
+    room_for_server(pools, procs, deserted)?;
+    let parked = room_for_one(alloc)?;
+    let woken = room_for_one(alloc)?;
+    let server = parked_of(deserted, t);
+    let was_idle = is_idle_thread(procs, server);
+    let was_ready = calls.ready(t);
+    withdraw_caller(pools, doors, calls, t);
+    procs.interrupt(t);
+    desert_server(procs, pools, deserted, step);
+    let dropped = leave_call(alloc, calls, t, Leave::Interrupted);
+    let parks = has_turned(was_idle, is_idle_thread(procs, server));
+    let wakes = has_turned(was_ready, calls.ready(t));
+    Ok(Left {
+        dropped,
+        parked: list_one(parked, server, parks),
+        woken: list_one(woken, t, wakes),
+        untaken: ItemList::new(alloc),
+    })
+}
+
+/// A thread ends, and its process goes on: its call is forgotten, as for `interrupt` for the thread that serves it, and the call that it
+/// serves ends EINTR. Want of memory leaves all as it was.
+pub fn thread_exit(
+    alloc: Global,
+    procs: &mut Procs,
+    calls: &mut Calls,
+    pools: &mut Pools,
+    doors: &Doors,
+    t: Tid,
+    step: u64,
+) -> Result<Left, NoMemory>
+    requires { CanExit step doors.now.items (record { procs = procs.old; calls = calls.old; pools = pools.old }) }
+    ensures left { IfOk result (HasExited (thread_end t.0) step doors.now.items (record { procs = procs.old; calls = calls.old; pools = pools.old }) (record { procs = procs.new; calls = calls.new; pools = pools.new })) }
+    ensures as_before { OnErr result (IsAsBefore (record { procs = procs.old; calls = calls.old; pools = pools.old }) (record { procs = procs.new; calls = calls.new; pools = pools.new })) }
+{
+    calls.are_sound();
+    parts_of_leaving();
+    let deserted = deserted_by(calls, t);
+    room_for_server(pools, procs, deserted)?;
+    let parked = room_for_one(alloc)?;
+    let woken = room_for_one(alloc)?;
+    let mut dropped = room_for_transit(alloc, calls)?;
+    let server = parked_of(deserted, t);
+    let client = woken_of(calls, t);
+    let was_idle = is_idle_thread(procs, server);
+    let was_ready = calls.ready(client);
+    withdraw_caller(pools, doors, calls, t);
+    desert_server(procs, pools, deserted, step);
+    end_thread(procs, pools, t);
+    end_caller(alloc, calls, t, &mut dropped);
+    end_server(calls, t, &mut dropped);
+    let parks = has_turned(was_idle, is_idle_thread(procs, server));
+    let wakes = has_turned(was_ready, calls.ready(client));
+    Ok(Left {
+        dropped: dropped.into_list(),
+        parked: list_one(parked, server, parks),
+        woken: list_one(woken, client, wakes),
+        untaken: ItemList::new(alloc),
+    })
+}
+
+/// A process ends with all its threads and doors. `lost` are the numbers of its doors at which something may wait: calls there end
+/// EBADF, and notices leave their queues. The process itself, and its doors, end by the calls that end these. Want of memory leaves all
+/// as it was.
+pub fn proc_exit(
+    alloc: Global,
+    procs: &mut Procs,
+    calls: &mut Calls,
+    pools: &mut Pools,
+    doors: &Doors,
+    p: Pid,
+    lost: &[u32],
+    step: u64,
+) -> Result<Left, NoMemory>
+    requires can { CanExit step doors.now.items (record { procs = procs.old; calls = calls.old; pools = pools.old }) }
+    requires declared { is_some (at_number procs.old.processes p.0) ≡ true }
+    requires lost { AreLost (process_end procs.old doors.now.items p.0) lost.now pools.old }
+    ensures left { IfOk result (HasExited (process_end procs.old doors.now.items p.0) step doors.now.items (record { procs = procs.old; calls = calls.old; pools = pools.old }) (record { procs = procs.new; calls = calls.new; pools = pools.new })) }
+    ensures as_before { OnErr result (IsAsBefore (record { procs = procs.old; calls = calls.old; pools = pools.old }) (record { procs = procs.new; calls = calls.new; pools = pools.new })) }
+{
+    calls.are_sound();
+    parts_of_leaving();
+    make_room(pools, procs)?;
+    let parked = room_for_all(alloc)?;
+    let woken = room_for_all(alloc)?;
+    let mut dropped = room_for_transit(alloc, calls)?;
+    let mut untaken = room_for_items(alloc, pools, doors, lost)?;
+    let was_idle = note_idle(procs);
+    let was_ready = note_ready(calls);
+    let who = Leaver::EndedProcess { process: p };
+    drop_doors(pools, doors, lost, &mut untaken);
+    withdraw_all(pools, doors, calls, procs, p);
+    leave_threads(procs, pools, who, calls, step);
+    refuse_lost(calls, doors, who, &mut dropped);
+    end_all(alloc, calls, procs, p, &mut dropped);
+    Ok(Left {
+        dropped: dropped.into_list(),
+        parked: list_new(parked, &was_idle, &note_idle(procs)),
+        woken: list_new(woken, &was_ready, &note_ready(calls)),
+        untaken: untaken.into_list(),
+    })
+}
+
+/// A door is revoked (door_revoke(3C)): calls that wait there end EBADF, and notices leave their queues. Calls and notices that were
+/// given or entered go on. Threads that are parked at it wake by what follows every act. Want of memory leaves all as it was.
+pub fn revoke_all(
+    alloc: Global,
+    procs: &Procs,
+    calls: &mut Calls,
+    pools: &mut Pools,
+    doors: &Doors,
+    d: u32,
+) -> Result<Left, NoMemory>
+    ensures left { (step : ℕ) → IfOk result (HasExited (revocation d) step doors.now.items (record { procs = procs.now; calls = calls.old; pools = pools.old }) (record { procs = procs.now; calls = calls.new; pools = pools.new })) }
+    ensures as_before { OnErr result (IsAsBefore (record { procs = procs.now; calls = calls.old; pools = pools.old }) (record { procs = procs.now; calls = calls.new; pools = pools.new })) }
+{
+    calls.are_sound();
+    parts_of_leaving();
+    let woken = room_for_all(alloc)?;
+    let mut dropped = room_for_transit(alloc, calls)?;
+    let mut untaken = room_for_items(alloc, pools, doors, &[d])?;
+    let was_ready = note_ready(calls);
+    let who = Leaver::Revoked { door: d };
+    drop_doors(pools, doors, &[d], &mut untaken);
+    refuse_lost(calls, doors, who, &mut dropped);
+    Ok(Left {
+        dropped: dropped.into_list(),
+        parked: TidList::new(alloc),
+        woken: list_new(woken, &was_ready, &note_ready(calls)),
+        untaken: untaken.into_list(),
+    })
+}
