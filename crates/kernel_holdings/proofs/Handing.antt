@@ -1,18 +1,20 @@
 -- What is handed out of a call that is looked for by its number: it is the call that another test finds.
 use Rattle.std.proofs.Common.{◌≡◌, ℕ, ◌+◌, ◌≤◌, ◌==◌, ◌&&◌, Bool, true, List, [], ◌∷◌, Option, Some, None, IsSome, find, length, refl, sym, subst, ap, ◌∙◌, arith}
 use Rattle.std.proofs.lemmas.Bool.Decides.{nat_tests}
-use Rattle.dk_base.specs.declared.error.Errno.TheVariants.{EBADF}
 use Rattle.dk_base.specs.declared.number.Tid.{Tid}
 use Rattle.kernel_records.proofs.NumberedLists.{find-passes}
-use Rattle.kernel_records.specs.Words.{CallTree, collect_call, count_object, enter_call, fail_call, is_given_as, is_given_to, is_queued, is_queued_as, is_to_collect, is_to_collect_as, live_calls}
-use Rattle.call_tree.specs.Calls.{args_in}
-use Rattle.call_tree.specs.Words.{AreSound, argument_objects, arguments_at, is_call, is_called_by, is_given, is_given_call, is_ready_of, is_waiting_as, refuse_call}
+use Rattle.kernel_records.specs.Words.{CallTree, collect_call, count_object, enter_call, fail_call, is_given_as, is_given_to, is_to_collect, is_to_collect_as, live_calls}
+use Rattle.call_tree.specs.Calls.{args_in, outcome_at}
+use Rattle.call_tree.specs.declared.parts.Outcome.{Outcome}
+use Rattle.kernel_records.specs.declared.record.CallStage.TheVariants as stage
+use Rattle.dk_base.specs.declared.limits.TheConstants.{PASS_MAX}
+use Rattle.kernel_holdings.specs.Words.{CarryFew, results_in}
+use Rattle.kernel_holdings.proofs.Bounds.{few_found}
+use Rattle.call_tree.specs.Words.{AreSound, argument_objects, arguments_at, is_call, is_called_by, is_given, is_given_call, is_ready_of, is_waiting_as, outcome_in}
 use Rattle.call_tree.specs.declared.parts.Args.{Args}
-use Rattle.unref_notice.specs.Words.{AreCounted}
-use Rattle.written_kernel.specs.Types.{Call, CallStage, Name, Obj}
-use Rattle.written_kernel.specs.Words.{objects_collected, objects_collected_in, objects_in_transit}
-use Rattle.kernel_holdings.specs.Words.{IsCountOf}
-use Rattle.kernel_holdings.proofs.TransitCounts.{collect_call-in_transit, collected_within, found_counted, enter_call-in_transit, fail_call-in_transit, given_transit, if_found, in_transit, refuse_call-in_transit, transit_of}
+use Rattle.written_kernel.specs.Types.{Call, CallStage, Obj}
+use Rattle.written_kernel.specs.Words.{objects_collected, objects_collected_in, objects_in_call, objects_in_transit}
+use Rattle.kernel_holdings.proofs.TransitCounts.{collect_call-in_transit, enter_call-in_transit, fail_call-in_transit, given_transit, if_found, in_transit, transit_of}
 
 -- what one test finds another does, if it passes that too
 found_also : (p q : Call → Bool) (rs : List Call) (x : Call) → find p rs ≡ Some x → q x ≡ true → IsSome (find q rs)
@@ -44,20 +46,24 @@ given_waits c t rs h =
     let x = some_call (find (is_given_as c t) rs) h in
     found_also (is_given_as c t) (is_waiting_as c) rs x.0 x.1 (waiting_at t c x.0 x.0.stage refl (find-passes (is_given_as c t) rs x.0 x.1))
 
-queued_at : (c : ℕ) (r : Call) (s : CallStage) → r.stage ≡ s → ((r.number == c) && is_queued s) ≡ true → (is_waiting_as c r ≡ true) × ((r.number == c) ≡ true) × (is_queued r.stage ≡ true)
-queued_at c r s e h = (grind (arith, nat_tests), grind (arith, nat_tests), grind (arith, nat_tests))
-
-pub queued_waits : (c : ℕ) (rs : List Call) → IsSome (find (is_queued_as c) rs) → IsSome (find (is_waiting_as c) rs)
-queued_waits c rs h =
-    let x = some_call (find (is_queued_as c) rs) h in
-    found_also (is_queued_as c) (is_waiting_as c) rs x.0 x.1 (queued_at c x.0 x.0.stage refl (find-passes (is_queued_as c) rs x.0 x.1)).0
-
 collected_at : (c : ℕ) (r : Call) → is_to_collect_as c r ≡ true → ((r.number == c) ≡ true) × (is_to_collect r.stage ≡ true)
 collected_at c r h = (grind arith, grind arith)
+
+given_carries : (r : Call) (s : CallStage) → is_given s ≡ true → objects_in_transit r s ≡ r.objects
+given_carries r s h = grind (arith, nat_tests)
+
+abbrev some_results : Option Outcome → List Obj
+some_results None = []
+some_results (Some o) = results_in o
 
 abbrev arg_objects : Option Args → List Obj
 arg_objects None = []
 arg_objects (Some a) = a.objects
+
+results_at : (r : Call) (s : CallStage) (o : Outcome) → is_to_collect s ≡ true → outcome_at r.rsize s ≡ Some o → results_in o ≡ objects_in_transit r s
+results_at r (stage.Returned bytes objects) o h e = sym (ap some_results e)
+results_at r (stage.Ended error) o h e = sym (ap some_results e)
+results_at r _ o h e = cc
 
 module _ (tree : CallTree) (sound : AreSound tree) where
   -- what a test finds that asks for the number is found by the number
@@ -92,8 +98,12 @@ module _ (tree : CallTree) (sound : AreSound tree) where
           ap (count_object o) (same_objects a e),
         )
 
-    pub args_within : (o : Obj) (a : Args) → args_in (find (is_call c) tree.calls) ≡ Some a → count_object o a.objects ≤ transit_of o x.0
-    args_within o a e = omega (arith, given_transit o c t x.0 test, ap (count_object o) (same_objects a e))
+    -- they are what was in transit
+    pub args_few : (a : Args) → args_in (find (is_call c) tree.calls) ≡ Some a → a.objects ≡ objects_in_call x.0
+    args_few a e = same_objects a e ∙ sym (given_carries x.0 x.0.stage (grind (arith, nat_tests, test)))
+
+    pub given_few : CarryFew tree.calls → (a : Args) → args_in (find (is_call c) tree.calls) ≡ Some a → length a.objects ≤ PASS_MAX
+    given_few few a e = omega (arith, few_found (is_given_as c t) tree.calls x.0 few x.1, ap length (args_few a e))
 
     arguments_given : (s : CallStage) → is_given_to t s ≡ true → arguments_at s x.0.objects ≡ x.0.objects
     arguments_given s h = grind (arith, nat_tests)
@@ -110,11 +120,16 @@ module _ (tree : CallTree) (sound : AreSound tree) where
           ap (count_object o) (arguments_given x.0.stage to),
         )
 
-  pub lost : (o : Obj) (c : ℕ) → IsSome (find (is_queued_as c) tree.calls) → in_transit o (refuse_call tree c EBADF).calls + count_object o (argument_objects (find (is_call c) tree.calls)) ≡ in_transit o tree.calls
-  lost o c there =
-      let x = some_call (find (is_queued_as c) tree.calls) there in
-      let test = queued_at c x.0 x.0.stage refl (find-passes (is_queued_as c) tree.calls x.0 x.1) in
-      refuse_call-in_transit o tree c EBADF x.0 (named (is_queued_as c) c x.0 x.1 test.1) test.2
+    pub failed_few : CarryFew tree.calls → length (argument_objects (find (is_call c) tree.calls)) ≤ PASS_MAX
+    failed_few few =
+        let to : is_given_to t x.0.stage ≡ true = grind (arith, test) in
+        omega (
+          arith,
+          few_found (is_given_as c t) tree.calls x.0 few x.1,
+          ap (λ y. length (argument_objects y)) by_number,
+          ap length (arguments_given x.0.stage to),
+          ap length (given_carries x.0 x.0.stage (given_call_at t x.0.stage to)),
+        )
 
   -- a call that is collected
 
@@ -147,6 +162,14 @@ module _ (tree : CallTree) (sound : AreSound tree) where
     results_of : (o : Obj) (r : Call) (s : CallStage) → is_to_collect s ≡ true → count_object o (objects_collected s) ≡ count_object o (objects_in_transit r s)
     results_of o r s h = grind (arith, nat_tests)
 
+    -- its results are what was in transit
+    pub results_few : (o : Outcome) → outcome_in (Some y.0) ≡ Some o → results_in o ≡ objects_in_call y.0
+    results_few o e = results_at y.0 y.0.stage o to_collect.1 e
+
+    pub collected_few : CarryFew tree.calls → (o : Outcome) → outcome_in (find (is_called_by caller.0) tree.calls) ≡ Some o → length (results_in o) ≤ PASS_MAX
+    collected_few few o e =
+        omega (arith, few_found (is_to_collect_as c) tree.calls y.0 few y.1, ap length (results_few o (sym (ap outcome_in by_caller) ∙ e)))
+
     pub collected :
         (new : CallTree) → ((call : Call) → find (is_called_by caller.0) tree.calls ≡ Some call → (at : ℕ) → new ≡ live_calls (collect_call tree call.number at)) →
         (o : Obj) → in_transit o new.calls + count_object o (objects_collected_in (Some y.0)) ≡ in_transit o tree.calls
@@ -158,10 +181,3 @@ module _ (tree : CallTree) (sound : AreSound tree) where
           ap (if_found (transit_of o)) y.1,
           results_of o y.0 y.0.stage to_collect.1,
         )
-
-pub collected_counted :
-    (counts : List ℕ) (tables : List (List (Option Obj))) (names : List Name) (calls : List Call) → IsCountOf counts tables names calls → (opening : List ℕ) (c : ℕ) (r : Call) →
-    length counts ≡ length opening → find (is_to_collect_as c) calls ≡ Some r → AreCounted opening (objects_collected_in (find (is_to_collect_as c) calls))
-collected_counted counts tables names calls held opening c r alike one =
-    subst (λ o. AreCounted opening (objects_collected_in o)) (sym one)
-    (found_counted counts tables names calls held opening (is_to_collect_as c) r (objects_collected_in (Some r)) alike one (λ o. collected_within o r))

@@ -4,4 +4,6 @@ pub mod TableCounts
 pub mod Lowering
 pub mod NameCounts
 pub mod TransitCounts
+pub mod Bounds
 pub mod Handing
+pub mod Telling

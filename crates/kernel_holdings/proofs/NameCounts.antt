@@ -1,5 +1,5 @@
 -- How often names name a door, with one name fewer.
-use Rattle.std.proofs.Common.{◌≡◌, ℕ, ◌+◌, ◌-◌, ◌≤◌, ◌==◌, not, Bool, true, false, cond, nat_eq, List, [], ◌∷◌, Option, Some, None, Ok, ok_or, option_map, length, map, refl, ap, ◌∙◌, arith}
+use Rattle.std.proofs.Common.{◌≡◌, ℕ, ◌+◌, ◌-◌, ◌≤◌, ◌==◌, not, Bool, true, false, cond, nat_eq, List, [], ◌∷◌, Option, Some, None, Ok, ok_or, option_map, map, refl, ap, ◌∙◌, arith}
 use Rattle.std.proofs.lemmas.Bool.Decides.{nat_tests}
 use Rattle.std.proofs.lemmas.Map.Keys.{IsDistinct-head, IsDistinct-tail}
 use Rattle.std.specs.List.{AllByRecursion}
@@ -10,9 +10,9 @@ use Rattle.kernel_records.specs.Words.{count_object, has_path, name_in, without_
 use Rattle.written_kernel.specs.Types.{Call, Name, Obj}
 use Rattle.written_kernel.specs.Words.{named_object}
 use Rattle.name_space.specs.Words.{HaveDistinctPaths, attached_door, door_of_name, path_number}
-use Rattle.unref_notice.specs.Words.{AreCounted, count_of}
+use Rattle.unref_notice.specs.Words.{ObjectCounts, count_of}
 use Rattle.kernel_holdings.specs.Words.{IsCountOf}
-use Rattle.kernel_holdings.proofs.Referring.{count_object-cons, references_in-parts, uncounted}
+use Rattle.kernel_holdings.proofs.Referring.{count_object-cons, references_to-parts}
 
 -- of one object, among what names name
 abbrev named : Obj → List Name → ℕ
@@ -48,7 +48,8 @@ without_one o path door (n ∷ ns) d e =
         omega (arith, ap (named o) kept, named-cons o n ns, ap (λ k. count_object o (obj.Door k ∷ [])) same)
     go false h e ih = omega (arith, ih e, named-cons o n (without_name ns path), named-cons o n ns)
 
-attached_within :
+-- a door that is attached is named
+pub attached_within :
     (o : Obj) (path : PathId) (door : ℕ) (ns : List Name) → attached_door ns path ≡ Some door →
     count_object o (obj.Door door ∷ []) ≤ named o ns
 attached_within o path door [] e = cc
@@ -63,34 +64,22 @@ attached_within o path door (n ∷ ns) e = go (has_path path n) e (attached_with
         omega (arith, named-cons o n ns, ap (λ k. count_object o (obj.Door k ∷ [])) same)
     go false e ih = omega (arith, ih e, named-cons o n ns)
 
-found_door : (x : Option ℕ) (error : Errno) (door : ℕ) → Ok door ≡ ok_or x error → x ≡ Some door
+pub found_door : (x : Option ℕ) (error : Errno) (door : ℕ) → Ok door ≡ ok_or x error → x ≡ Some door
 found_door None error door e = cc
 found_door (Some n) error door e = cc
 
-module _ (counts : List ℕ) (tables : List (List (Option Obj))) (names : List Name) (calls : List Call) (held : IsCountOf counts tables names calls) where
+module _ (counts : ObjectCounts) (tables : List (List (Option Obj))) (names : List Name) (calls : List Call) (held : IsCountOf counts tables names calls) where
   -- a door that is detached has one reference fewer
   pub name_fewer :
-      (lowered : List ℕ) (path : PathId) (error : Errno) (door : ℕ) → HaveDistinctPaths names → Ok door ≡ ok_or (attached_door names path) error →
-      ((d : ℕ) → count_of lowered d ≡ count_of counts d - count_object (obj.Door d) (obj.Door door ∷ [])) →
+      (lowered : ObjectCounts) (path : PathId) (error : Errno) (door : ℕ) → HaveDistinctPaths names → Ok door ≡ ok_or (attached_door names path) error →
+      ((o : Obj) → count_of lowered o ≡ count_of counts o - count_object o (obj.Door door ∷ [])) →
       IsCountOf lowered tables (without_name names path) calls
-  name_fewer lowered path error door distinct found down = λ d.
+  name_fewer lowered path error door distinct found down = λ o.
       omega (
         arith,
-        held d,
-        down d,
-        without_one (obj.Door d) path door names distinct (found_door (attached_door names path) error door found),
-        references_in-parts tables names calls d,
-        references_in-parts tables (without_name names path) calls d,
-      )
-
-  -- a door that is attached is counted
-  pub attached_counted :
-      (opening : List ℕ) (path : PathId) (error : Errno) (door : ℕ) → length counts ≡ length opening → Ok door ≡ ok_or (attached_door names path) error →
-      AreCounted opening (obj.Door door ∷ [])
-  attached_counted opening path error door alike found = λ d none.
-      omega (
-        arith,
-        uncounted counts opening tables names calls d held alike none,
-        references_in-parts tables names calls d,
-        attached_within (obj.Door d) path door names (found_door (attached_door names path) error door found),
+        held o,
+        down o,
+        without_one o path door names distinct (found_door (attached_door names path) error door found),
+        references_to-parts tables names calls o,
+        references_to-parts tables (without_name names path) calls o,
       )

@@ -2,7 +2,7 @@
 use Rattle.std.proofs.Common.{◌≡◌, ℕ, zero, suc, ◌+◌, ◌-◌, ◌<◌, ◌≤◌, true, false, List, [], ◌∷◌, ◌++◌, Option, None, Some, is_none, is_some, flat_map, filter, length, position, slice_get, slice_set, unwrap_or, refl, sym, ap, ◌∙◌, arith}
 use Rattle.std.specs.Option.{option_to_list}
 use Rattle.std.specs.List.{cons_option}
-use Rattle.std.specs.Prelude.{Err, IfSome, Ok, OnErr, OnOk, Result}
+use Rattle.std.specs.Prelude.{Err, Ok, OnErr, OnOk, Result}
 use Rattle.std.proofs.lemmas.Bool.{false≢true}
 use Rattle.std.proofs.lemmas.Grind.{flat_map-append}
 use Rattle.std.proofs.lemmas.List.Quantifiers.{position-Some}
@@ -10,16 +10,15 @@ use Rattle.std.proofs.lemmas.List.Sums.{count_by-le-length}
 use Rattle.std.proofs.lemmas.Option.{slice_get-get_or}
 use Rattle.dk_base.specs.ByNumber.{at_number}
 use Rattle.dk_base.specs.declared.number.Fd.{Fd}
-use Rattle.dk_base.specs.declared.object.Obj.TheVariants as obj
 use Rattle.kernel_records.specs.Words.{close_row, close_table, count_object, empty_table, free_place, free_rows, has_double_release, insert_row, insert_rows, is_object, lowest_free, object_in, object_named, object_passed, objects_of, objects_passed, release_rows, table_in, with_table}
 use Rattle.kernel_records.proofs.Passing.{count_object-release_rows}
 use Rattle.fd_table.proofs.Lowest.{free_taken_at, free_there, place_is, some_place}
 use Rattle.written_kernel.specs.Types.{Call, Name, NoMemory, Obj, Pass}
 use Rattle.kernel_records.proofs.Lists.{at_number-suc, with_at_number-suc}
-use Rattle.unref_notice.specs.Words.{AreCounted, count_of}
+use Rattle.unref_notice.specs.Words.{ObjectCounts, count_of}
 use Rattle.kernel_holdings.specs.Words.{IsCountOf, is_released}
 use Rattle.kernel_holdings.proofs.NoTable.{no_table, none_changed}
-use Rattle.kernel_holdings.proofs.Referring.{count_object-append, count_object-cons, references_in-parts, uncounted}
+use Rattle.kernel_holdings.proofs.Referring.{count_object-append, count_object-cons, references_to-parts}
 
 -- how often the tables name an object
 abbrev pub count_in : Obj → List (List (Option Obj)) → ℕ
@@ -197,38 +196,38 @@ count_in-install o ts p xs free =
     (λ e. omega (arith, rows, ap (λ u. count_object o (objects_of u)) e, ap free_rows e, free, count_by-le-length (is_object o) xs)) in
     omega (arith, changed, rows)
 
--- the counts of doors, after as much was counted up or down as tables changed
+-- the counts of objects, after as much was counted up or down as tables changed
 
 pub held_more :
-    (now later : List ℕ) (ts us : List (List (Option Obj))) (names : List Name) (calls : List Call) (os : List Obj) →
+    (now later : ObjectCounts) (ts us : List (List (Option Obj))) (names : List Name) (calls : List Call) (os : List Obj) →
     IsCountOf now ts names calls →
-    ((d : ℕ) → count_of later d ≡ count_of now d + count_object (obj.Door d) os) →
+    ((o : Obj) → count_of later o ≡ count_of now o + count_object o os) →
     ((o : Obj) → count_in o us ≡ count_in o ts + count_object o os) →
     IsCountOf later us names calls
-held_more now later ts us names calls os held up more d =
+held_more now later ts us names calls os held up more o =
     omega (
       arith,
-      held d,
-      up d,
-      more (obj.Door d),
-      references_in-parts ts names calls d,
-      references_in-parts us names calls d,
+      held o,
+      up o,
+      more o,
+      references_to-parts ts names calls o,
+      references_to-parts us names calls o,
     )
 
 pub held_fewer :
-    (now later : List ℕ) (ts us : List (List (Option Obj))) (names : List Name) (calls : List Call) (os : List Obj) →
+    (now later : ObjectCounts) (ts us : List (List (Option Obj))) (names : List Name) (calls : List Call) (os : List Obj) →
     IsCountOf now ts names calls →
-    ((d : ℕ) → count_of later d ≡ count_of now d - count_object (obj.Door d) os) →
+    ((o : Obj) → count_of later o ≡ count_of now o - count_object o os) →
     ((o : Obj) → count_in o us + count_object o os ≡ count_in o ts) →
     IsCountOf later us names calls
-held_fewer now later ts us names calls os held down fewer d =
+held_fewer now later ts us names calls os held down fewer o =
     omega (
       arith,
-      held d,
-      down d,
-      fewer (obj.Door d),
-      references_in-parts ts names calls d,
-      references_in-parts us names calls d,
+      held o,
+      down o,
+      fewer o,
+      references_to-parts ts names calls o,
+      references_to-parts us names calls o,
     )
 
 -- another table, which names nothing
@@ -250,42 +249,25 @@ count_in-empty o ts limit =
     none_in_new (suc n) = none_in_new n
 
 pub held_added :
-    (now : List ℕ) (ts us : List (List (Option Obj))) (names : List Name) (calls : List Call) (limit : ℕ) (r : Result Unit NoMemory) →
+    (now : ObjectCounts) (ts us : List (List (Option Obj))) (names : List Name) (calls : List Call) (limit : ℕ) (r : Result Unit NoMemory) →
     IsCountOf now ts names calls → OnOk r (us ≡ ts ++ empty_table limit ∷ []) → OnErr r (us ≡ ts) → IsCountOf now us names calls
-held_added now ts us names calls limit (Ok x) held ok err d =
+held_added now ts us names calls limit (Ok x) held ok err o =
     omega (
       arith,
-      held d,
-      ap (count_in (obj.Door d)) ok,
-      count_in-empty (obj.Door d) ts limit,
-      references_in-parts ts names calls d,
-      references_in-parts us names calls d,
+      held o,
+      ap (count_in o) ok,
+      count_in-empty o ts limit,
+      references_to-parts ts names calls o,
+      references_to-parts us names calls o,
     )
-held_added now ts us names calls limit (Err x) held ok err d = rw err (held d)
+held_added now ts us names calls limit (Err x) held ok err o = rw err (held o)
 
--- the doors that tables name are counted
+-- what tables name
 
-uncounted_in :
-    (now opening : List ℕ) (ts : List (List (Option Obj))) (names : List Name) (calls : List Call) (d : ℕ) →
-    IsCountOf now ts names calls → length now ≡ length opening → at_number opening d ≡ None → count_in (obj.Door d) ts ≡ 0
-uncounted_in now opening ts names calls d held alike none =
-    omega (arith, uncounted now opening ts names calls d held alike none, references_in-parts ts names calls d)
+pub named_held : (o : Obj) (ts : List (List (Option Obj))) (p : ℕ) (fd : Fd) (x : Option Obj) → x ≡ object_named (table_in ts p) fd → count_object o (option_to_list x) ≤ count_in o ts
+named_held o ts p fd x is = omega (arith, count_in-close o ts p fd, ap (λ y. count_object o (option_to_list y)) is)
 
-pub named_counted :
-    (now opening : List ℕ) (ts : List (List (Option Obj))) (names : List Name) (calls : List Call) (p : ℕ) (fd : Fd) (x : Option Obj) →
-    IsCountOf now ts names calls → length now ≡ length opening → x ≡ object_named (table_in ts p) fd →
-    IfSome x (λ o. AreCounted opening (o ∷ []))
-named_counted now opening ts names calls p fd None held alike is = tt
-named_counted now opening ts names calls p fd (Some o) held alike is =
-    λ d none.
-    omega (
-      arith,
-      uncounted_in now opening ts names calls d held alike none,
-      count_in-close (obj.Door d) ts p fd,
-      ap (λ y. count_object (obj.Door d) (option_to_list y)) is,
-    )
-
-none_passed : (o : Obj) (t : List (Option Obj)) (pass : List Pass) → count_object o (objects_of t) ≡ 0 → count_object o (objects_passed t pass) ≡ 0
+pub none_passed : (o : Obj) (t : List (Option Obj)) (pass : List Pass) → count_object o (objects_of t) ≡ 0 → count_object o (objects_passed t pass) ≡ 0
 none_passed o t [] h = refl
 none_passed o t (x ∷ xs) h =
     omega (
@@ -299,9 +281,6 @@ none_passed o t (x ∷ xs) h =
     one_more None = omega arith
     one_more (Some y) = count_object-cons o y (objects_passed t xs)
 
-pub passed_counted :
-    (now opening : List ℕ) (ts : List (List (Option Obj))) (names : List Name) (calls : List Call) (p : ℕ) (pass : List Pass) →
-    IsCountOf now ts names calls → length now ≡ length opening → AreCounted opening (objects_passed (table_in ts p) pass)
-passed_counted now opening ts names calls p pass held alike d none =
-    let zero_in = uncounted_in now opening ts names calls d held alike none in
-    none_passed (obj.Door d) (table_in ts p) pass (omega (arith, zero_in, count_in-close_all (obj.Door d) ts p))
+pub passed_held :
+    (o : Obj) (ts : List (List (Option Obj))) (p : ℕ) (pass : List Pass) → count_in o ts ≡ 0 → count_object o (objects_passed (table_in ts p) pass) ≡ 0
+passed_held o ts p pass none = none_passed o (table_in ts p) pass (omega (arith, none, count_in-close_all o ts p))

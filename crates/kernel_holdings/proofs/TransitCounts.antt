@@ -1,21 +1,15 @@
 -- What is in transit of an object, as calls are made, go on, end and are forgotten.
-use Rattle.std.proofs.Common.{◌≡◌, ℕ, ◌+◌, ◌-◌, ◌≤◌, ◌==◌, ◌&&◌, ◌||◌, not, Bool, true, false, cond, if◌then◌else◌, List, [], ◌∷◌, ◌++◌, Option, Some, None, is_some, filter, length, find, flat_map, refl, sym, ap, ◌∙◌, arith, append-nil, true≢false}
-use Rattle.std.proofs.lemmas.Bool.Decides.{nat_tests}
+use Rattle.std.proofs.Common.{◌≡◌, ℕ, ◌+◌, ◌-◌, ◌≤◌, ◌==◌, ◌&&◌, not, Bool, true, false, cond, if◌then◌else◌, List, [], ◌∷◌, ◌++◌, Option, Some, None, is_some, filter, find, flat_map, refl, sym, ap, ◌∙◌, arith, append-nil, true≢false}
 use Rattle.std.proofs.lemmas.Grind.{flat_map-append}
-use Rattle.dk_base.specs.declared.object.Obj.TheVariants as obj
-use Rattle.dk_base.specs.declared.error.Errno.{Errno}
-use Rattle.dk_base.specs.declared.error.Errno.TheVariants.{EINTR, EMFILE}
+use Rattle.dk_base.specs.declared.error.Errno.TheVariants.{EMFILE}
 use Rattle.kernel_records.specs.declared.record.CallStage.TheVariants as stage
-use Rattle.kernel_records.specs.Words.{CallTree, at_stage, change_first, collect_call, count_object, enter_call, fail_call, give_call, is_client_call_of, is_entered_by, is_given_as, is_given_to, is_live_call, is_queued, is_queued_as, is_served_by, is_to_collect_as, left_call, live_calls, open_call, return_call, tid, without_arguments_at}
-use Rattle.call_tree.specs.Words.{abandon_call, argument_objects, arguments_at, dropped_at, dropped_objects, is_call, is_called_by, leaving_for, lose_server, refuse_call}
-use Rattle.call_tree.specs.declared.parts.Leave.{Leave}
-use Rattle.call_tree.specs.declared.parts.Leave.TheVariants.{Finished, Interrupted}
-use Rattle.unref_notice.specs.Words.{AreCounted, count_of}
+use Rattle.kernel_records.specs.Words.{CallTree, at_stage, change_first, collect_call, count_object, enter_call, fail_call, give_call, is_client_call_of, is_entered_by, is_given_as, is_given_to, is_live_call, is_queued, is_queued_as, is_to_collect_as, live_calls, open_call, return_call, tid, without_arguments_at}
+use Rattle.unref_notice.specs.Words.{ObjectCounts, count_of}
 use Rattle.written_kernel.specs.Types.{Call, CallStage, Name, Obj}
-use Rattle.written_kernel.specs.Words.{objects_collected, objects_collected_in, objects_in_call, objects_in_transit}
+use Rattle.written_kernel.specs.Words.{objects_in_call, objects_in_transit}
 use Rattle.written_kernel.proofs.CallLists.{objects-live}
 use Rattle.kernel_holdings.specs.Words.{IsCountOf}
-use Rattle.kernel_holdings.proofs.Referring.{count_object-append, references_in-parts, uncounted}
+use Rattle.kernel_holdings.proofs.Referring.{count_object-append, references_to-parts}
 
 -- of one object, in transit with calls
 abbrev pub in_transit : Obj → List Call → ℕ
@@ -138,65 +132,6 @@ module _ (o : Obj) (tree : CallTree) where
       where_found None = refl
       where_found (Some r) = refl
 
--- where callers, threads and doors leave, one at a time: what is handed out is no longer in transit
-
-left_parts :
-    (o : Obj) (why : Leave) (t : ℕ) (s : CallStage) (r : Call) → r.stage ≡ s → (r.caller.0 == t) ≡ true →
-    transit_of o (left_call (leaving_for why t) r) + count_object o (dropped_at why s r.objects) ≡ count_object o (objects_in_transit r s)
-left_parts o Interrupted t s r e f = grind (arith, nat_tests)
-left_parts o Finished t s r e f = grind (arith, nat_tests)
-
-served_holds :
-    (o : Obj) (t : ℕ) (s : CallStage) (r : Call) → (is_given_to t s || is_entered_by t s) ≡ true →
-    count_object o (arguments_at s r.objects) ≡ count_object o (objects_in_transit r s)
-served_holds o t s r e = grind (arith, nat_tests)
-
-module _ (o : Obj) (tree : CallTree) where
-  of_dropped : (why : Leave) (x : Option Call) → if_found (λ r. count_object o (dropped_at why r.stage r.objects)) x ≡ count_object o (dropped_objects why x)
-  of_dropped why None = refl
-  of_dropped why (Some r) = refl
-
-  pub abandon_call-in_transit :
-      (t : ℕ) (why : Leave) → in_transit o (abandon_call tree t why).calls + count_object o (dropped_objects why (find (is_called_by t) tree.calls)) ≡ in_transit o tree.calls
-  abandon_call-in_transit t why =
-      let change = left_call (leaving_for why t) in
-      let e =
-      change_first-in_transit o (is_called_by t) change (λ r. count_object o (dropped_at why r.stage r.objects)) nothing
-      (λ r f. omega (arith, left_parts o why t r.stage r refl f)) tree.calls in
-      omega (arith, e, none_found (find (is_called_by t) tree.calls), of_dropped why (find (is_called_by t) tree.calls), in_transit-live o (change_first (is_called_by t) change tree.calls))
-
-  of_arguments : (x : Option Call) → if_found (λ r. count_object o (arguments_at r.stage r.objects)) x ≡ count_object o (argument_objects x)
-  of_arguments None = refl
-  of_arguments (Some r) = refl
-
-  pub lose_server-in_transit :
-      (u : ℕ) → in_transit o (lose_server tree u).calls + count_object o (argument_objects (find (is_served_by u) tree.calls)) ≡ in_transit o tree.calls
-  lose_server-in_transit u =
-      let e =
-      change_first-in_transit o (is_served_by u) (without_arguments_at (stage.Ended EINTR)) (λ r. count_object o (arguments_at r.stage r.objects)) nothing
-      (λ r f. omega (arith, served_holds o u r.stage r (right_of (not r.abandoned) (is_given_to u r.stage || is_entered_by u r.stage) f))) tree.calls in
-      omega (arith, e, none_found (find (is_served_by u) tree.calls), of_arguments (find (is_served_by u) tree.calls))
-
-  -- a call that waits is refused
-  pub refuse_call-in_transit :
-      (c : ℕ) (e : Errno) (x : Call) → find (is_call c) tree.calls ≡ Some x → is_queued x.stage ≡ true →
-      in_transit o (refuse_call tree c e).calls + count_object o (argument_objects (find (is_call c) tree.calls)) ≡ in_transit o tree.calls
-  refuse_call-in_transit c e x found queued =
-      let h =
-      change_first-in_transit o (is_call c) (without_arguments_at (stage.Ended e)) (transit_of o) nothing
-      (λ r f. omega arith) tree.calls in
-      omega (
-        arith,
-        h,
-        none_found (find (is_call c) tree.calls),
-        ap (if_found (transit_of o)) found,
-        ap (λ y. count_object o (argument_objects y)) found,
-        waiting_holds x.stage x queued,
-      )
-    where
-      waiting_holds : (s : CallStage) (r : Call) → is_queued s ≡ true → count_object o (objects_in_transit r s) ≡ count_object o (arguments_at s r.objects)
-      waiting_holds s r q = grind (arith, nat_tests)
-
 -- one call of a list is in it
 
 pub in_transit-found : (o : Obj) (test : Call → Bool) (rs : List Call) → if_found (transit_of o) (find test rs) ≤ in_transit o rs
@@ -209,48 +144,26 @@ in_transit-found o test (r ∷ rs) = go (test r) (in_transit-found o test rs)
 
 -- the counts go with what is in transit
 
-module _ (counts : List ℕ) (tables : List (List (Option Obj))) (names : List Name) (calls : List Call) (held : IsCountOf counts tables names calls) where
+module _ (counts : ObjectCounts) (tables : List (List (Option Obj))) (names : List Name) (calls : List Call) (held : IsCountOf counts tables names calls) where
   pub transit_fewer :
-      (lowered : List ℕ) (after : List Call) (less : ℕ → ℕ) → ((d : ℕ) → count_of lowered d ≡ count_of counts d - less d) →
-      ((d : ℕ) → in_transit (obj.Door d) after + less d ≡ in_transit (obj.Door d) calls) → IsCountOf lowered tables names after
-  transit_fewer lowered after less down fewer = λ d.
-      omega (arith, held d, down d, fewer d, references_in-parts tables names calls d, references_in-parts tables names after d)
+      (lowered : ObjectCounts) (after : List Call) (less : Obj → ℕ) → ((o : Obj) → count_of lowered o ≡ count_of counts o - less o) →
+      ((o : Obj) → in_transit o after + less o ≡ in_transit o calls) → IsCountOf lowered tables names after
+  transit_fewer lowered after less down fewer = λ o.
+      omega (arith, held o, down o, fewer o, references_to-parts tables names calls o, references_to-parts tables names after o)
 
   -- these objects are handed out
   pub handed_out :
-      (lowered : List ℕ) (after : List Call) (handed os : List Obj) → handed ≡ os →
-      ((d : ℕ) → count_of lowered d ≡ count_of counts d - count_object (obj.Door d) handed) →
+      (lowered : ObjectCounts) (after : List Call) (handed os : List Obj) → handed ≡ os →
+      ((o : Obj) → count_of lowered o ≡ count_of counts o - count_object o handed) →
       ((o : Obj) → in_transit o after + count_object o os ≡ in_transit o calls) → IsCountOf lowered tables names after
   handed_out lowered after handed os same down out =
-      transit_fewer lowered after (λ d. count_object (obj.Door d) os) (λ d. down d ∙ ap (λ xs. count_of counts d - count_object (obj.Door d) xs) same) (λ d. out (obj.Door d))
+      transit_fewer lowered after (λ o. count_object o os) (λ o. down o ∙ ap (λ xs. count_of counts o - count_object o xs) same) out
 
   pub transit_more :
-      (raised : List ℕ) (after : List Call) (more : ℕ → ℕ) → ((d : ℕ) → count_of raised d ≡ count_of counts d + more d) →
-      ((d : ℕ) → in_transit (obj.Door d) after ≡ in_transit (obj.Door d) calls + more d) → IsCountOf raised tables names after
-  transit_more raised after more up further = λ d.
-      omega (arith, held d, up d, further d, references_in-parts tables names calls d, references_in-parts tables names after d)
+      (raised : ObjectCounts) (after : List Call) (more : Obj → ℕ) → ((o : Obj) → count_of raised o ≡ count_of counts o + more o) →
+      ((o : Obj) → in_transit o after ≡ in_transit o calls + more o) → IsCountOf raised tables names after
+  transit_more raised after more up further = λ o.
+      omega (arith, held o, up o, further o, references_to-parts tables names calls o, references_to-parts tables names after o)
 
-  pub transit_same : (after : List Call) → ((d : ℕ) → in_transit (obj.Door d) after ≡ in_transit (obj.Door d) calls) → IsCountOf counts tables names after
-  transit_same after same = λ d. omega (arith, held d, same d, references_in-parts tables names calls d, references_in-parts tables names after d)
-
-  -- what a call has in transit is counted
-  pub found_counted :
-      (opening : List ℕ) (test : Call → Bool) (r : Call) (os : List Obj) → length counts ≡ length opening → find test calls ≡ Some r →
-      ((o : Obj) → count_object o os ≤ transit_of o r) → AreCounted opening os
-  found_counted opening test r os alike one within = λ d none.
-      omega (
-        arith,
-        uncounted counts opening tables names calls d held alike none,
-        references_in-parts tables names calls d,
-        in_transit-found (obj.Door d) test calls,
-        ap (if_found (transit_of (obj.Door d))) one,
-        within (obj.Door d),
-      )
-
--- a call that is collected hands over its results
-pub collected_within : (o : Obj) (r : Call) → count_object o (objects_collected_in (Some r)) ≤ transit_of o r
-collected_within o r = at r.stage
-  where
-    at : (s : CallStage) → count_object o (objects_collected s) ≤ count_object o (objects_in_transit r s)
-    at (stage.Returned bytes objects) = omega arith
-    at _ = omega arith
+  pub transit_same : (after : List Call) → ((o : Obj) → in_transit o after ≡ in_transit o calls) → IsCountOf counts tables names after
+  transit_same after same = λ o. omega (arith, held o, same o, references_to-parts tables names calls o, references_to-parts tables names after o)

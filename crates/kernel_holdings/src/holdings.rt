@@ -1,33 +1,42 @@
-//! Descriptors, names and calls, with the references of each door counted.
-ghost use Rattle.std.specs.Prelude.{◌≡◌, ◌+◌, ◌<◌, ◌≤◌, ◌^◌, ◌++◌, ◌∷◌, ℕ, [], true, false, filter, find, is_some, length, IfSome, IsSome, None, OnOk, OnErr, Some};
+//! Descriptors, names and calls, with the references of each object counted.
+ghost use Rattle.std.specs.Prelude.{◌≡◌, ◌+◌, ◌<◌, ◌≤◌, ◌^◌, ◌++◌, ◌∷◌, ℕ, [], true, false, filter, find, is_some, length, IfOk, IfSome, IsSome, None, OnOk, OnErr, Some};
+ghost use Rattle.dk_base.specs.declared.limits.TheConstants.{DESCRIPTORS_MAX, PASS_MAX, PROCESSES_MAX};
+ghost use Rattle.dk_base.specs.declared.object.Obj.{Obj};
 ghost use Rattle.dk_base.specs.declared.object.Obj.TheVariants as obj;
-ghost use Rattle.dk_base.specs.declared.error.Errno.TheVariants.{EBADF};
 ghost use Rattle.kernel_records.specs.declared.record.Call.{Call};
-ghost use Rattle.kernel_records.specs.Words.{AreNumbered, close_row, close_table, collect_call, descriptor, door_attached, empty_table, enter_call, fail_call, free_place, free_rows, give_call, has_double_release, insert_row, insert_rows, is_given_as, is_queued_as, is_served_by, is_to_collect_as, live_calls, lowest_free, name_in, new_descriptors, notice_doors, object_named, objects_passed, open_call, release_rows, return_call, table_in, with_name, with_table, without_name};
+ghost use Rattle.kernel_records.specs.Words.{AreNumbered, close_row, close_table, collect_call, count_object, descriptor, door_attached, empty_table, enter_call, fail_call, free_place, free_rows, give_call, has_double_release, insert_row, insert_rows, is_client_call_of, is_given_as, is_queued_as, is_served_by, is_to_collect_as, leaving_of, live_calls, lowest_free, name_in, new_descriptors, notice_doors, object_named, objects_passed, open_call, release_rows, return_call, table_in, with_name, with_table, without_name};
 ghost use Rattle.written_kernel.specs.Words.{objects_collected_in};
 ghost use Rattle.name_space.specs.Words.{HasRoomForName};
 ghost use Rattle.call_tree.specs.Calls.{args_in};
-ghost use Rattle.call_tree.specs.Words.{HasRoomForCall, IsThread, abandon_call, is_called_by, lose_server, outcome_in, queued_call, refuse_call};
-ghost use Rattle.unref_notice.specs.declared.counts.TheConstants.{REFERENCES_ROOM};
-ghost use Rattle.unref_notice.specs.Words.{AreCounted, count_of, was_shared};
-ghost use Rattle.kernel_holdings.specs.Words.{HasRoomToHold, has_fallen_to_one, references_in};
+ghost use Rattle.call_tree.specs.Words.{HasRoomForCall, IsThread, is_called_by, outcome_in, queued_call};
+ghost use Rattle.exit_paths.specs.Words.{CanExit, HasExited, IsAsBefore};
+ghost use Rattle.unref_notice.specs.declared.counts.TheConstants.{STEP_MAX};
+ghost use Rattle.unref_notice.specs.Words.{count_of, was_shared};
+ghost use Rattle.kernel_holdings.specs.Words.{CanEnd, HasRoomToHold, TRANSIT_MAX, has_fallen_to_one, references_in, references_of, references_to, results_in};
 
+use crate::fallen::tell;
+use crate::leaving::leave;
 use crate::lowered::{lower_released, lower_results, lower_table};
 use crate::tables::Tables;
 use call_tree::calls::Calls;
-use call_tree::parts::{Args, Leave, Outcome};
+use call_tree::parts::{Args, Outcome};
 use dk_base::error::{Errno, NoMemory};
 use dk_base::list::{Bytes, FdList, ObjList, PassList, Room};
 use dk_base::number::{Fd, PathId, Pid, Tid};
 use dk_base::object::Obj;
 use door_object::doors::Doors;
+use exit_paths::left::Left;
+use kernel_records::leaving::Leaver;
 use name_space::names::Names;
+use proc_table::procs::Procs;
+use server_pool::pools::Pools;
 use std::alloc::Global;
 use std::marker::Model;
-use unref_notice::counts::Counts;
+use unref_notice::counts::{Counts, STEP_MAX};
 
-/// What refers to objects. At every moment the count of each door is that of the descriptors that name it, of its names, and of
-/// what is in transit of it with calls. Clauses see tables, names and calls, and of the counts those at the beginning of the step.
+/// What refers to objects. At every moment the count of each object is that of the descriptors that name it, of its names, and of
+/// what is in transit of it with calls. Clauses see tables, names and calls, of the counts those at the beginning of the step, and how
+/// often a reference may yet come or go in the step (`left`).
 #[derive(Drop)]
 pub struct Holdings {
     tables: Tables,
@@ -37,14 +46,13 @@ pub struct Holdings {
 }
 
 impl Model for Holdings {
-    ghost use Rattle.std.specs.Prelude.{◌≡◌, length};
-    ghost use Rattle.kernel_holdings.specs.Words.{HoldingsValue, IsCountOf};
+    ghost use Rattle.kernel_holdings.specs.Words.{HoldFew, HoldingsValue, IsCountOf};
 
     ghost Value = { HoldingsValue };
 
-    ghost view = { λ h. record { tables = h.tables; names = h.names; calls = h.calls; opening = h.counts.opening; door_room = h.counts.door_room; reference_room = h.counts.reference_room } };
+    ghost view = { λ h. record { tables = h.tables; names = h.names; calls = h.calls; opening = h.counts.opening; left = h.counts.left } };
 
-    ghost invariant = { λ h. IsCountOf h.counts.now h.tables h.names.names h.calls.tree.calls × (length h.counts.now ≡ length h.counts.opening) };
+    ghost invariant = { λ h. IsCountOf h.counts.counts h.tables h.names.names h.calls.tree.calls × HoldFew h.tables h.calls.tree.calls };
 }
 
 impl Holdings {
@@ -87,13 +95,13 @@ impl Holdings {
     pub fn references(&self, d: u32) -> u64
         ensures { result ≡ references_in self.now.tables self.now.names.names self.now.calls.tree.calls d }
     {
-        self.counts.count(d)
+        self.counts.count(Obj::Door(d))
     }
 
     /// What a descriptor of a process names.
     pub fn object_at(&self, p: Pid, fd: Fd) -> Option<Obj>
         ensures object { result ≡ object_named (table_in self.now.tables p.0) fd }
-        ensures counted { IfSome result (λ o. AreCounted self.now.opening (o ∷ [])) }
+        ensures held { IfSome result (λ x. (o : Obj) → count_object o (x ∷ []) ≤ references_of self.now o) }
     {
         self.tables.object_at(p, fd)
     }
@@ -101,7 +109,7 @@ impl Holdings {
     /// The number of the door that is attached to a path, 0 for none.
     pub fn door_attached(&self, path: PathId) -> u32
         ensures door { result ≡ door_attached (name_in self.now.names.names path) }
-        ensures counted { is_some (name_in self.now.names.names path) ≡ true → AreCounted self.now.opening (obj.Door result ∷ []) }
+        ensures held { is_some (name_in self.now.names.names path) ≡ true → (o : Obj) → count_object o (obj.Door result ∷ []) ≤ references_of self.now o }
     {
         match self.names.look(path) {
             Ok(door) => door,
@@ -109,30 +117,40 @@ impl Holdings {
         }
     }
 
+    /// No object has more references than can be counted, were there some more.
+    fn are_few(&self)
+        ensures { (o : Obj) → references_to self.now.tables self.now.names.names self.now.calls.tree.calls o + STEP_MAX ≤ 18446744073709551615 }
+    {
+        self.calls.are_sound();
+        self.names.len();
+    }
+
     // memory
 
-    /// Room for another name, call and door, and for more references than any list has. Want of memory changes nothing but room.
+    /// Room for another name and another call. Want of memory changes nothing but room.
     pub fn reserve(&mut self) -> Result<(), NoMemory>
         ensures tables { self.new.tables ≡ self.old.tables }
         ensures names { self.new.names.names ≡ self.old.names.names }
         ensures calls { self.new.calls.tree ≡ self.old.calls.tree }
         ensures opening { self.new.opening ≡ self.old.opening }
+        ensures left { self.new.left ≡ self.old.left }
         ensures room { OnOk result (HasRoomToHold self.new) }
     {
         self.names.reserve()?;
-        self.calls.reserve()?;
-        self.counts.room(1)
+        self.calls.reserve()
     }
 
     // steps
 
-    /// A step begins, with as many references to each door as there are now.
-    pub fn start_step(&mut self)
-        ensures same { self.new ≡ record (self.old) { opening = self.new.opening } }
-        ensures opening { (d : ℕ) → count_of self.new.opening d ≡ references_in self.old.tables self.old.names.names self.old.calls.tree.calls d }
-        ensures len { length self.new.opening ≡ length self.old.opening }
+    /// A step begins, with as many references to each object as there are now. References may come and go in it as often as in any
+    /// step, which takes no memory then. Want of memory leaves all else as it was.
+    pub fn start_step(&mut self) -> Result<(), NoMemory>
+        ensures same { self.new ≡ record (self.old) { opening = self.new.opening; left = self.new.left } }
+        ensures opening { (o : Obj) → count_of self.new.opening o ≡ references_to self.old.tables self.old.names.names self.old.calls.tree.calls o }
+        ensures left { OnOk result (STEP_MAX ≤ self.new.left) }
     {
         self.counts.start_step();
+        self.counts.room(STEP_MAX)
     }
 
     /// The doors that take notices, had more than one reference when the step began, and have one now, in the order of their
@@ -142,26 +160,23 @@ impl Holdings {
         requires room { length (filter (was_shared self.old.opening) (notice_doors doors.now.items)) ≤ into.old.spare }
         ensures same { self.new ≡ self.old }
         ensures items { into.new.items ≡ into.old.items ++ filter (has_fallen_to_one self.old) (notice_doors doors.now.items) }
+        ensures few { length into.new.items ≤ length into.old.items + STEP_MAX }
     {
-        self.counts.end_of_step(doors, into);
+        self.counts.end_of_step();
+        tell(self.counts.fallen(), doors, into);
     }
 
     // what is counted
 
     /// The table of another process, which may have so many descriptors. Want of memory changes nothing.
     pub fn add_table(&mut self, alloc: Global, limit: u32) -> Result<(), NoMemory>
+        requires processes { length self.old.tables < PROCESSES_MAX }
+        requires limit { limit ≤ DESCRIPTORS_MAX }
         ensures ok { OnOk result (self.new ≡ record (self.old) { tables = self.old.tables ++ empty_table limit ∷ [] }) }
         ensures err { OnErr result (self.new ≡ self.old) }
+        ensures references { (o : Obj) → references_of self.new o ≤ references_of self.old o }
     {
         self.tables.add(alloc, limit)
-    }
-
-    /// Another door, under the next number. It takes no memory.
-    pub fn add_door(&mut self)
-        requires { 0 < self.old.door_room }
-        ensures same { self.new ≡ record (self.old) { opening = self.old.opening ++ 0 ∷ []; door_room = self.new.door_room } }
-    {
-        self.counts.add();
     }
 
     // descriptors
@@ -169,20 +184,24 @@ impl Holdings {
     /// An object gets the lowest free descriptor of a process that has one.
     pub fn insert(&mut self, p: Pid, object: Obj) -> Fd
         requires free { is_some (lowest_free (table_in self.old.tables p.0)) ≡ true }
-        requires counted { AreCounted self.old.opening (object ∷ []) }
-        requires room { REFERENCES_ROOM ≤ self.old.reference_room }
-        ensures same { self.new ≡ record (self.old) { tables = with_table self.old.tables p.0 (insert_row (table_in self.old.tables p.0) object); reference_room = self.new.reference_room } }
+        requires left { 1 ≤ self.old.left }
+        ensures same { self.new ≡ record (self.old) { tables = with_table self.old.tables p.0 (insert_row (table_in self.old.tables p.0) object); left = self.new.left } }
         ensures fd { result ≡ descriptor (free_place (table_in self.old.tables p.0)) }
+        ensures left { self.old.left ≤ self.new.left + 1 }
+        ensures references { (o : Obj) → references_of self.new o ≤ references_of self.old o + count_object o (object ∷ []) }
     {
+        self.are_few();
         self.counts.up(object);
         self.tables.insert(p, object)
     }
 
     /// Closes a descriptor of a process that names something.
     pub fn close(&mut self, p: Pid, fd: Fd)
-        requires { is_some (object_named (table_in self.old.tables p.0) fd) ≡ true }
-        ensures same { self.new ≡ record (self.old) { tables = with_table self.old.tables p.0 (close_row (table_in self.old.tables p.0) fd.0); reference_room = self.new.reference_room } }
-        ensures references { self.old.reference_room ≤ self.new.reference_room }
+        requires named { is_some (object_named (table_in self.old.tables p.0) fd) ≡ true }
+        requires left { 1 ≤ self.old.left }
+        ensures same { self.new ≡ record (self.old) { tables = with_table self.old.tables p.0 (close_row (table_in self.old.tables p.0) fd.0); left = self.new.left } }
+        ensures left { self.old.left ≤ self.new.left + 1 }
+        ensures references { (o : Obj) → references_of self.new o ≤ references_of self.old o }
     {
         if let Some(object) = self.tables.object_at(p, fd) {
             self.tables.close(p, fd);
@@ -192,8 +211,10 @@ impl Holdings {
 
     /// Closes each descriptor of a process.
     pub fn close_all(&mut self, p: Pid)
-        ensures same { self.new ≡ record (self.old) { tables = with_table self.old.tables p.0 (close_table (table_in self.old.tables p.0)); reference_room = self.new.reference_room } }
-        ensures references { self.old.reference_room ≤ self.new.reference_room }
+        requires left { DESCRIPTORS_MAX ≤ self.old.left }
+        ensures same { self.new ≡ record (self.old) { tables = with_table self.old.tables p.0 (close_table (table_in self.old.tables p.0)); left = self.new.left } }
+        ensures left { self.old.left ≤ self.new.left + DESCRIPTORS_MAX }
+        ensures references { (o : Obj) → references_of self.new o ≤ references_of self.old o }
     {
         lower_table(&mut self.counts, &self.tables, p);
         self.tables.close_all(p);
@@ -203,10 +224,12 @@ impl Holdings {
     pub fn take_out(&mut self, p: Pid, pass: &PassList, into: &mut Room<Obj>)
         requires once { has_double_release pass.now ≡ false }
         requires room { length pass.now ≤ into.old.spare }
-        ensures same { self.new ≡ record (self.old) { tables = with_table self.old.tables p.0 (release_rows (table_in self.old.tables p.0) pass.now); reference_room = self.new.reference_room } }
+        requires left { DESCRIPTORS_MAX ≤ self.old.left }
+        ensures same { self.new ≡ record (self.old) { tables = with_table self.old.tables p.0 (release_rows (table_in self.old.tables p.0) pass.now); left = self.new.left } }
         ensures items { into.new.items ≡ into.old.items ++ objects_passed (table_in self.old.tables p.0) pass.now }
-        ensures counted { AreCounted self.new.opening (objects_passed (table_in self.old.tables p.0) pass.now) }
-        ensures references { self.old.reference_room ≤ self.new.reference_room }
+        ensures left { self.old.left ≤ self.new.left + DESCRIPTORS_MAX }
+        ensures references { (o : Obj) → references_of self.new o ≤ references_of self.old o }
+        ensures held { (o : Obj) → references_of self.old o ≡ 0 → count_object o (objects_passed (table_in self.old.tables p.0) pass.now) ≡ 0 }
     {
         lower_released(&mut self.counts, &self.tables, p, pass);
         self.tables.take_out(p, pass, into);
@@ -217,11 +240,13 @@ impl Holdings {
         requires empty { fds.items ≡ [] }
         requires fds_room { length objects.now ≤ fds.spare }
         requires free { length objects.now ≤ free_rows (table_in self.old.tables p.0) }
-        requires counted { AreCounted self.old.opening objects.now }
-        requires room { REFERENCES_ROOM ≤ self.old.reference_room }
-        ensures same { self.new ≡ record (self.old) { tables = with_table self.old.tables p.0 (insert_rows (table_in self.old.tables p.0) objects.now); reference_room = self.new.reference_room } }
+        requires left { length objects.now ≤ self.old.left }
+        ensures same { self.new ≡ record (self.old) { tables = with_table self.old.tables p.0 (insert_rows (table_in self.old.tables p.0) objects.now); left = self.new.left } }
         ensures fds { result ≡ new_descriptors (table_in self.old.tables p.0) objects.now }
+        ensures left { self.old.left ≤ self.new.left + length objects.now }
+        ensures references { (o : Obj) → references_of self.new o ≤ references_of self.old o + count_object o objects.now }
     {
+        self.are_few();
         self.counts.up_all(objects.slice());
         self.tables.install(p, objects, fds)
     }
@@ -232,20 +257,24 @@ impl Holdings {
     pub fn attach(&mut self, path: PathId, door: u32)
         requires name_room { HasRoomForName self.old.names }
         requires free { is_some (name_in self.old.names.names path) ≡ false }
-        requires counted { AreCounted self.old.opening (obj.Door door ∷ []) }
-        requires room { REFERENCES_ROOM ≤ self.old.reference_room }
+        requires left { 1 ≤ self.old.left }
         ensures names { self.new.names.names ≡ with_name self.old.names.names path door }
-        ensures same { self.new ≡ record (self.old) { names = self.new.names; reference_room = self.new.reference_room } }
+        ensures same { self.new ≡ record (self.old) { names = self.new.names; left = self.new.left } }
+        ensures left { self.old.left ≤ self.new.left + 1 }
+        ensures references { (o : Obj) → references_of self.new o ≤ references_of self.old o + count_object o (obj.Door door ∷ []) }
     {
+        self.are_few();
         self.counts.up(Obj::Door(door));
         let _ = self.names.attach(path, door);
     }
 
     /// A path has no door any more.
     pub fn detach(&mut self, path: PathId)
+        requires left { 1 ≤ self.old.left }
         ensures names { self.new.names.names ≡ without_name self.old.names.names path }
-        ensures same { self.new ≡ record (self.old) { names = self.new.names; reference_room = self.new.reference_room } }
-        ensures references { self.old.reference_room ≤ self.new.reference_room }
+        ensures same { self.new ≡ record (self.old) { names = self.new.names; left = self.new.left } }
+        ensures left { self.old.left ≤ self.new.left + 1 }
+        ensures references { (o : Obj) → references_of self.new o ≤ references_of self.old o }
     {
         if let Ok(door) = self.names.detach(path) {
             self.counts.down(Obj::Door(door));
@@ -264,17 +293,20 @@ impl Holdings {
         no_cancel: bool,
         made: u64,
     ) -> u32
+        requires few { length args.objects ≤ PASS_MAX }
         requires call_room { HasRoomForCall self.old.calls }
         requires numbers { self.old.calls.tree.made + 1 < 2 ^ 32 }
         requires thread { IsThread caller.0 }
         requires waits_not { find (is_called_by caller.0) self.old.calls.tree.calls ≡ None }
-        requires counted { AreCounted self.old.opening args.objects }
-        requires room { REFERENCES_ROOM ≤ self.old.reference_room }
+        requires left { PASS_MAX ≤ self.old.left }
         ensures number { result ≡ self.old.calls.tree.made + 1 }
         ensures calls { self.new.calls.tree ≡ open_call self.old.calls.tree (queued_call result made caller.0 door args.bytes args.objects rsize no_cancel) }
         ensures spare { self.old.calls.spare ≤ self.new.calls.spare + 1 }
-        ensures same { self.new ≡ record (self.old) { calls = self.new.calls; reference_room = self.new.reference_room } }
+        ensures same { self.new ≡ record (self.old) { calls = self.new.calls; left = self.new.left } }
+        ensures left { self.old.left ≤ self.new.left + PASS_MAX }
+        ensures references { (o : Obj) → references_of self.new o ≤ references_of self.old o + count_object o args.objects }
     {
+        self.are_few();
         self.counts.up_all(args.objects.slice());
         self.calls
             .open_call(caller, door, args, rsize, no_cancel, made)
@@ -288,18 +320,22 @@ impl Holdings {
         requires thread { IsThread to.0 }
         ensures calls { self.new.calls.tree ≡ give_call self.old.calls.tree c to.0 }
         ensures same { self.new ≡ record (self.old) { calls = self.new.calls } }
+        ensures references { (o : Obj) → references_of self.new o ≤ references_of self.old o }
     {
         self.calls.give(c, to);
     }
 
     /// The thread that a call was given to enters it. The arguments are handed out: their objects are no longer in transit.
     pub fn enter_call(&mut self, c: u32, t: Tid) -> Args
-        requires { IsSome (find (is_given_as c t.0) self.old.calls.tree.calls) }
+        requires given { IsSome (find (is_given_as c t.0) self.old.calls.tree.calls) }
+        requires left { PASS_MAX ≤ self.old.left }
         ensures calls { self.new.calls.tree ≡ enter_call self.old.calls.tree c t.0 }
         ensures args { args_in (find (is_given_as c t.0) self.old.calls.tree.calls) ≡ Some result }
-        ensures counted { AreCounted self.new.opening result.objects }
-        ensures same { self.new ≡ record (self.old) { calls = self.new.calls; reference_room = self.new.reference_room } }
-        ensures references { self.old.reference_room ≤ self.new.reference_room }
+        ensures same { self.new ≡ record (self.old) { calls = self.new.calls; left = self.new.left } }
+        ensures left { self.old.left ≤ self.new.left + PASS_MAX }
+        ensures few { length result.objects ≤ PASS_MAX }
+        ensures references { (o : Obj) → references_of self.new o ≤ references_of self.old o }
+        ensures held { (o : Obj) → count_object o result.objects ≤ references_of self.old o }
     {
         self.calls.are_sound();
         let args = self.calls.enter_inv(c);
@@ -309,10 +345,12 @@ impl Holdings {
 
     /// The call that a thread was given ends EMFILE. The objects of its arguments are no longer in transit, and are handed out.
     pub fn fail_call(&mut self, c: u32, t: Tid) -> ObjList
-        requires { IsSome (find (is_given_as c t.0) self.old.calls.tree.calls) }
+        requires given { IsSome (find (is_given_as c t.0) self.old.calls.tree.calls) }
+        requires left { PASS_MAX ≤ self.old.left }
         ensures calls { self.new.calls.tree ≡ fail_call self.old.calls.tree c t.0 }
-        ensures same { self.new ≡ record (self.old) { calls = self.new.calls; reference_room = self.new.reference_room } }
-        ensures references { self.old.reference_room ≤ self.new.reference_room }
+        ensures same { self.new ≡ record (self.old) { calls = self.new.calls; left = self.new.left } }
+        ensures left { self.old.left ≤ self.new.left + PASS_MAX }
+        ensures references { (o : Obj) → references_of self.new o ≤ references_of self.old o }
     {
         self.calls.are_sound();
         let objects = self.calls.refuse(c, Errno::EMFILE);
@@ -322,14 +360,17 @@ impl Holdings {
 
     /// A thread returns to its client (door_return(3C)). Without a client nothing changes, and the results are dropped.
     pub fn give_back(&mut self, t: Tid, bytes: Bytes, objects: ObjList)
-        requires counted { AreCounted self.old.opening objects }
-        requires room { REFERENCES_ROOM ≤ self.old.reference_room }
+        requires few { is_some (find (is_client_call_of t.0) self.old.calls.tree.calls) ≡ true → length objects ≤ PASS_MAX }
+        requires left { PASS_MAX ≤ self.old.left }
         ensures calls { self.new.calls.tree ≡ return_call self.old.calls.tree t.0 bytes objects }
-        ensures same { self.new ≡ record (self.old) { calls = self.new.calls; reference_room = self.new.reference_room } }
+        ensures same { self.new ≡ record (self.old) { calls = self.new.calls; left = self.new.left } }
+        ensures left { self.old.left ≤ self.new.left + PASS_MAX }
+        ensures references { (o : Obj) → references_of self.new o ≤ references_of self.old o + count_object o objects }
     {
         if self.calls.client(t).is_none() {
             return;
         }
+        self.are_few();
         self.counts.up_all(objects.slice());
         self.calls.finish(t, bytes, objects);
     }
@@ -347,12 +388,15 @@ impl Holdings {
 
     /// A call that is ready is collected, and is forgotten: its results are no longer in transit.
     pub fn collect_call(&mut self, c: u32) -> Outcome
-        requires { IsSome (find (is_to_collect_as c) self.old.calls.tree.calls) }
+        requires ready { IsSome (find (is_to_collect_as c) self.old.calls.tree.calls) }
+        requires left { PASS_MAX ≤ self.old.left }
         ensures calls { (at : ℕ) → self.new.calls.tree ≡ live_calls (collect_call self.old.calls.tree c at) }
         ensures outcome { outcome_in (find (is_to_collect_as c) self.old.calls.tree.calls) ≡ Some result }
-        ensures counted { AreCounted self.new.opening (objects_collected_in (find (is_to_collect_as c) self.old.calls.tree.calls)) }
-        ensures same { self.new ≡ record (self.old) { calls = self.new.calls; reference_room = self.new.reference_room } }
-        ensures references { self.old.reference_room ≤ self.new.reference_room }
+        ensures same { self.new ≡ record (self.old) { calls = self.new.calls; left = self.new.left } }
+        ensures left { self.old.left ≤ self.new.left + PASS_MAX }
+        ensures few { length (results_in result) ≤ PASS_MAX }
+        ensures references { (o : Obj) → references_of self.new o ≤ references_of self.old o }
+        ensures held { (o : Obj) → count_object o (results_in result) ≤ references_of self.old o }
     {
         self.calls.are_sound();
         let caller = self.collector(c);
@@ -361,38 +405,32 @@ impl Holdings {
         outcome
     }
 
-    // leaving, one part at a time
-
-    /// A caller leaves its call.
-    pub fn abandon(&mut self, caller: Tid, why: Leave)
-        requires { IsSome (find (is_called_by caller.0) self.old.calls.tree.calls) }
-        ensures calls { self.new.calls.tree ≡ abandon_call self.old.calls.tree caller.0 why }
-        ensures same { self.new ≡ record (self.old) { calls = self.new.calls; reference_room = self.new.reference_room } }
-        ensures spare { self.old.calls.spare ≤ self.new.calls.spare }
-    {
-        let left = self.calls.abandon(caller, why);
-        self.counts.down_all(left.dropped.slice());
-    }
-
-    /// A thread ends. The call that it serves ends EINTR.
-    pub fn server_left(&mut self, u: Tid)
-        ensures calls { self.new.calls.tree ≡ lose_server self.old.calls.tree u.0 }
-        ensures same { self.new ≡ record (self.old) { calls = self.new.calls; reference_room = self.new.reference_room } }
-        ensures spare { self.new.calls.spare ≡ self.old.calls.spare }
-    {
-        let objects = self.calls.server_left(u);
-        self.counts.down_all(objects.slice());
-    }
-
-    /// A call that waits ends EBADF, since its door is lost.
-    pub fn lose_door(&mut self, c: u32)
-        requires { IsSome (find (is_queued_as c) self.old.calls.tree.calls) }
-        ensures calls { self.new.calls.tree ≡ refuse_call self.old.calls.tree c EBADF }
-        ensures same { self.new ≡ record (self.old) { calls = self.new.calls; reference_room = self.new.reference_room } }
-        ensures spare { self.new.calls.spare ≡ self.old.calls.spare }
+    /// Callers, threads and doors leave, of which it is told: threads, calls and pools are left together, and what is in transit with
+    /// calls that end is dropped. `lost` are the doors of a process that ends at which something may wait. Want of memory leaves all as
+    /// it was.
+    pub fn leave(
+        &mut self,
+        alloc: Global,
+        who: Leaver,
+        procs: &mut Procs,
+        pools: &mut Pools,
+        doors: &Doors,
+        lost: &[u32],
+        step: u64,
+    ) -> Result<Left, NoMemory>
+        requires can { CanExit step doors.now.items (record { procs = procs.old; calls = self.old.calls; pools = pools.old }) }
+        requires ends { CanEnd who lost.now procs.old doors.now.items pools.old }
+        requires left { TRANSIT_MAX ≤ self.old.left }
+        ensures left { IfOk result (λ left. HasExited (leaving_of procs.old doors.now.items who) step doors.now.items (record { procs = procs.old; calls = self.old.calls; pools = pools.old }) (record { procs = procs.new; calls = self.new.calls; pools = pools.new }) left) }
+        ensures as_before { OnErr result (IsAsBefore (record { procs = procs.old; calls = self.old.calls; pools = pools.old }) (record { procs = procs.new; calls = self.new.calls; pools = pools.new })) }
+        ensures same { self.new ≡ record (self.old) { calls = self.new.calls; left = self.new.left } }
+        ensures uses { self.old.left ≤ self.new.left + TRANSIT_MAX }
+        ensures unused { OnErr result (self.new.left ≡ self.old.left) }
+        ensures references { (o : Obj) → references_of self.new o ≤ references_of self.old o }
     {
         self.calls.are_sound();
-        let objects = self.calls.refuse(c, Errno::EBADF);
-        self.counts.down_all(objects.slice());
+        let left = leave(alloc, who, procs, &mut self.calls, pools, doors, lost, step)?;
+        self.counts.down_all(left.dropped.slice());
+        Ok(left)
     }
 }

@@ -1,13 +1,13 @@
 //! References that go: of a table that is closed, of descriptors that are released, and of results that are collected.
-ghost use Rattle.std.specs.Prelude.{◌≡◌, ◌-◌, ◌≤◌, ℕ, Some, filter, length};
+ghost use Rattle.std.specs.Prelude.{◌≡◌, ◌+◌, ◌-◌, ◌≤◌, Some, filter, length};
 ghost use Rattle.std.specs.Option.{option_to_list};
-ghost use Rattle.dk_base.specs.declared.object.Obj.TheVariants as obj;
+ghost use Rattle.dk_base.specs.declared.object.Obj.{Obj};
 ghost use Rattle.kernel_records.specs.declared.record.Call.{Call};
 ghost use Rattle.kernel_records.specs.Words.{count_object, object_named, objects_of, objects_passed, table_in};
 ghost use Rattle.written_kernel.specs.Words.{objects_collected_in};
 ghost use Rattle.call_tree.specs.Words.{outcome_in};
 ghost use Rattle.unref_notice.specs.Words.{count_of};
-ghost use Rattle.kernel_holdings.specs.Words.{is_released};
+ghost use Rattle.kernel_holdings.specs.Words.{is_released, results_in};
 
 use crate::tables::Tables;
 use call_tree::parts::Outcome;
@@ -17,11 +17,10 @@ use unref_notice::counts::Counts;
 
 /// One reference fewer to each object of a call's results.
 pub fn lower_results(counts: &mut Counts, outcome: &Outcome)
-    ensures counts { (d : ℕ) (call : Call) → outcome_in (Some call) ≡ Some outcome.now → count_of counts.new.now d ≡ count_of counts.old.now d - count_object (obj.Door d) (objects_collected_in (Some call)) }
-    ensures len { length counts.new.now ≡ length counts.old.now }
+    requires left { length (results_in outcome.now) ≤ counts.old.left }
+    ensures counts { (o : Obj) (call : Call) → outcome_in (Some call) ≡ Some outcome.now → count_of counts.new.counts o ≡ count_of counts.old.counts o - count_object o (objects_collected_in (Some call)) }
     ensures opening { counts.new.opening ≡ counts.old.opening }
-    ensures doors { counts.new.door_room ≡ counts.old.door_room }
-    ensures references { counts.old.reference_room ≤ counts.new.reference_room }
+    ensures left { counts.old.left ≤ counts.new.left + length (results_in outcome.now) }
 {
     if let Outcome::Results { objects, .. } = outcome {
         counts.down_all(objects.slice());
@@ -30,11 +29,10 @@ pub fn lower_results(counts: &mut Counts, outcome: &Outcome)
 
 /// One reference fewer to what a descriptor names, if it names anything.
 fn lower_row(counts: &mut Counts, tables: &Tables, p: Pid, fd: Fd)
-    ensures counts { (d : ℕ) → count_of counts.new.now d ≡ count_of counts.old.now d - count_object (obj.Door d) (option_to_list (object_named (table_in tables.now p.0) fd)) }
-    ensures len { length counts.new.now ≡ length counts.old.now }
+    requires left { length (option_to_list (object_named (table_in tables.now p.0) fd)) ≤ counts.old.left }
+    ensures counts { (o : Obj) → count_of counts.new.counts o ≡ count_of counts.old.counts o - count_object o (option_to_list (object_named (table_in tables.now p.0) fd)) }
     ensures opening { counts.new.opening ≡ counts.old.opening }
-    ensures doors { counts.new.door_room ≡ counts.old.door_room }
-    ensures references { counts.old.reference_room ≤ counts.new.reference_room }
+    ensures left { counts.old.left ≤ counts.new.left + length (option_to_list (object_named (table_in tables.now p.0) fd)) }
 {
     if let Some(object) = tables.object_at(p, fd) {
         counts.down(object);
@@ -43,11 +41,10 @@ fn lower_row(counts: &mut Counts, tables: &Tables, p: Pid, fd: Fd)
 
 /// One reference fewer to what each descriptor of a process names.
 pub fn lower_table(counts: &mut Counts, tables: &Tables, p: Pid)
-    ensures counts { (d : ℕ) → count_of counts.new.now d ≡ count_of counts.old.now d - count_object (obj.Door d) (objects_of (table_in tables.now p.0)) }
-    ensures len { length counts.new.now ≡ length counts.old.now }
+    requires left { length (table_in tables.now p.0) ≤ counts.old.left }
+    ensures counts { (o : Obj) → count_of counts.new.counts o ≡ count_of counts.old.counts o - count_object o (objects_of (table_in tables.now p.0)) }
     ensures opening { counts.new.opening ≡ counts.old.opening }
-    ensures doors { counts.new.door_room ≡ counts.old.door_room }
-    ensures references { counts.old.reference_room ≤ counts.new.reference_room }
+    ensures left { counts.old.left ≤ counts.new.left + length (table_in tables.now p.0) }
 {
     for fd in 0..tables.row_count(p) {
         lower_row(counts, tables, p, Fd(fd));
@@ -56,11 +53,10 @@ pub fn lower_table(counts: &mut Counts, tables: &Tables, p: Pid)
 
 /// One reference fewer to what each of these descriptors of a process names that is released.
 pub fn lower_released(counts: &mut Counts, tables: &Tables, p: Pid, pass: &PassList)
-    ensures counts { (d : ℕ) → count_of counts.new.now d ≡ count_of counts.old.now d - count_object (obj.Door d) (objects_passed (table_in tables.now p.0) (filter is_released pass.now)) }
-    ensures len { length counts.new.now ≡ length counts.old.now }
+    requires left { length (objects_passed (table_in tables.now p.0) (filter is_released pass.now)) ≤ counts.old.left }
+    ensures counts { (o : Obj) → count_of counts.new.counts o ≡ count_of counts.old.counts o - count_object o (objects_passed (table_in tables.now p.0) (filter is_released pass.now)) }
     ensures opening { counts.new.opening ≡ counts.old.opening }
-    ensures doors { counts.new.door_room ≡ counts.old.door_room }
-    ensures references { counts.old.reference_room ≤ counts.new.reference_room }
+    ensures left { counts.old.left ≤ counts.new.left + length (objects_passed (table_in tables.now p.0) (filter is_released pass.now)) }
 {
     for passed in pass.slice() {
         if passed.release {

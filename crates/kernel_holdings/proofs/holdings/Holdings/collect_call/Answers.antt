@@ -1,13 +1,21 @@
-use Rattle.std.proofs.Common.{Some, length, refl, sym, ap, ◌∙◌}
+use Rattle.std.proofs.Common.{Some, refl, sym, ap, ◌∙◌, arith}
 use Rattle.written_kernel.specs.Words.{objects_collected_in}
 use Rattle.call_tree.specs.Words.{outcome_in}
-use Rattle.kernel_holdings.proofs.Handing.{by_caller, collected, collected_counted, collected_tree, ready_there, some_call}
+use Rattle.kernel_holdings.proofs.Handing.{collected_few, by_caller, collected, collected_tree, ready_there, some_call}
 use Rattle.kernel_holdings.proofs.TransitCounts.{handed_out}
+use Rattle.kernel_holdings.proofs.Bounds.{few_changed, few_live, holds_calls}
+use Rattle.kernel_records.specs.Words.{is_to_collect_as}
+use Rattle.kernel_holdings.specs.Words.{HoldingsValue}
+use Rattle.kernel_records.specs.Words.{count_object}
+use Rattle.kernel_holdings.specs.Words.{HoldingsValue, references_of}
+use Rattle.kernel_holdings.proofs.Handing.{results_few}
+use Rattle.kernel_holdings.proofs.Referring.{references_to-parts}
+use Rattle.kernel_holdings.proofs.TransitCounts.{if_found, in_transit-found, transit_of}
 use Rattle.kernel_holdings.proofs.holdings.Holdings.collect_call.Goals as goal
 
 pub collect-outcome-requires : goal.collect-outcome-requires
 collect-outcome-requires c =
-    ready_there c.self.inside.calls.tree c.are_sound.ensures c.args.c (rw (← c.self.view_is) at c.requires) c.collector-caller.result
+    ready_there c.self.inside.calls.tree c.are_sound.ensures c.args.c (rw (← c.self.view_is) at c.requires.ready) c.collector-caller.result
     (rw (← c.self.view_is) at c.collector-caller.ensures)
 
 pub invariant_of-self : goal.invariant_of-self
@@ -15,19 +23,19 @@ invariant_of-self c =
     let h = c.self.inside in
     let tree = h.calls.tree in
     let down = c.lower_results.ensures in
-    let there = rw (← c.self.view_is) at c.requires in
+    let there = rw (← c.self.view_is) at c.requires.ready in
     let his = rw (← c.self.view_is) at c.collector-caller.ensures in
     let x = some_call _ there in
     let told = ap outcome_in (sym (by_caller tree c.are_sound.ensures c.args.c there c.collector-caller.result his)) ∙ c.collect-outcome.ensures.outcome in (
-      handed_out h.counts.now h.tables h.names.names tree.calls c.self.invariant.0 c.lower_results.new.counts.now c.collect-outcome.new.self.tree.calls
+      handed_out h.counts.counts h.tables h.names.names tree.calls c.self.invariant.0 c.lower_results.new.counts.counts c.collect-outcome.new.self.tree.calls
           (objects_collected_in (Some x.0)) (objects_collected_in (Some x.0)) refl (λ d. down.counts d x.0 told)
           (λ o. collected tree c.are_sound.ensures c.args.c there c.collector-caller.result his c.collect-outcome.new.self.tree c.collect-outcome.ensures.tree o),
-      down.len ∙ c.self.invariant.1 ∙ ap length (sym down.opening),
+      holds_calls h.tables h.calls.tree.calls _ c.self.invariant.1 (rw (collected_tree tree c.are_sound.ensures c.args.c there c.collector-caller.result his c.collect-outcome.new.self.tree c.collect-outcome.ensures.tree 0) (few_live _ (few_changed (is_to_collect_as c.args.c) _ (λ r t l. omega arith) tree.calls c.self.invariant.1.transit))),
     )
 
 pub returns-clause-calls : goal.returns-clause-calls
 returns-clause-calls c at =
-    let there = rw (← c.self.view_is) at c.requires in
+    let there = rw (← c.self.view_is) at c.requires.ready in
     let his = rw (← c.self.view_is) at c.collector-caller.ensures in
     rw (← c.self.view_is)
     (collected_tree c.self.inside.calls.tree c.are_sound.ensures c.args.c there c.collector-caller.result his c.collect-outcome.new.self.tree c.collect-outcome.ensures.tree at)
@@ -35,16 +43,54 @@ returns-clause-calls c at =
 pub returns-clause-outcome : goal.returns-clause-outcome
 returns-clause-outcome c =
     let tree = c.self.inside.calls.tree in
-    let there = rw (← c.self.view_is) at c.requires in
+    let there = rw (← c.self.view_is) at c.requires.ready in
     let his = rw (← c.self.view_is) at c.collector-caller.ensures in
     rw (← c.self.view_is)
     (ap outcome_in (some_call _ there).1 ∙ ap outcome_in (sym (by_caller tree c.are_sound.ensures c.args.c there c.collector-caller.result his))
     ∙ c.collect-outcome.ensures.outcome)
 
-pub returns-clause-counted : goal.returns-clause-counted
-returns-clause-counted c =
-    let h = c.self.inside in
-    let there = rw (← c.self.view_is) at c.requires in
+pub lower_results-requires : goal.lower_results-requires
+lower_results-requires c =
+    let there = rw (← c.self.view_is) at c.requires.ready in
+    let his = rw (← c.self.view_is) at c.collector-caller.ensures in
+    let few = collected_few c.self.inside.calls.tree c.are_sound.ensures c.args.c there c.collector-caller.result his c.self.invariant.1.transit c.collect-outcome.result c.collect-outcome.ensures.outcome in
+    omega (arith, ap (λ (v : HoldingsValue). v.left) c.self.view_is, few, c.requires.left)
+
+pub returns-clause-few : goal.returns-clause-few
+returns-clause-few c =
+    let there = rw (← c.self.view_is) at c.requires.ready in
+    let his = rw (← c.self.view_is) at c.collector-caller.ensures in
+    collected_few c.self.inside.calls.tree c.are_sound.ensures c.args.c there c.collector-caller.result his c.self.invariant.1.transit c.collect-outcome.result c.collect-outcome.ensures.outcome
+
+pub returns-clause-left : goal.returns-clause-left
+returns-clause-left c =
+    let there = rw (← c.self.view_is) at c.requires.ready in
+    let his = rw (← c.self.view_is) at c.collector-caller.ensures in
+    let few = collected_few c.self.inside.calls.tree c.are_sound.ensures c.args.c there c.collector-caller.result his c.self.invariant.1.transit c.collect-outcome.result c.collect-outcome.ensures.outcome in
+    omega (arith, ap (λ (v : HoldingsValue). v.left) c.self.view_is, few, c.lower_results.ensures.left)
+
+pub returns-clause-references : goal.returns-clause-references
+returns-clause-references c = λ o.
+    let tree = c.self.inside.calls.tree in
+    let there = rw (← c.self.view_is) at c.requires.ready in
+    let his = rw (← c.self.view_is) at c.collector-caller.ensures in
     let x = some_call _ there in
-    rw (← c.self.view_is, c.lower_results.ensures.opening)
-    (collected_counted h.counts.now h.tables h.names.names h.calls.tree.calls c.self.invariant.0 h.counts.opening c.args.c x.0 c.self.invariant.1 x.1)
+    let told = ap outcome_in (sym (by_caller tree c.are_sound.ensures c.args.c there c.collector-caller.result his)) ∙ c.collect-outcome.ensures.outcome in
+    omega (arith, (invariant_of-self c).0 o, c.self.invariant.0 o, c.lower_results.ensures.counts o x.0 told, ap (λ (v : HoldingsValue). references_of v o) c.self.view_is)
+
+pub returns-clause-held : goal.returns-clause-held
+returns-clause-held c = λ o.
+    let h = c.self.inside in
+    let tree = h.calls.tree in
+    let there = rw (← c.self.view_is) at c.requires.ready in
+    let his = rw (← c.self.view_is) at c.collector-caller.ensures in
+    let one = some_call _ there in
+    let told = ap outcome_in (sym (by_caller tree c.are_sound.ensures c.args.c there c.collector-caller.result his)) ∙ c.collect-outcome.ensures.outcome in
+    omega (
+      arith,
+      in_transit-found o (is_to_collect_as c.args.c) tree.calls,
+      ap (if_found (transit_of o)) one.1,
+      ap (count_object o) (results_few tree c.are_sound.ensures c.args.c there c.collector-caller.result his c.collect-outcome.result told),
+      references_to-parts h.tables h.names.names h.calls.tree.calls o,
+      ap (λ (v : HoldingsValue). references_of v o) c.self.view_is,
+    )

@@ -1,12 +1,16 @@
-use Rattle.std.proofs.Common.{◌≡◌, ◌+◌, ℕ, Bor, true, false, None, Option, Some, cond, is_some, find, length, refl, sym, ap, ◌∙◌}
+use Rattle.std.proofs.Common.{◌≡◌, ◌+◌, Bor, true, false, None, Option, Some, cond, is_some, find, length, refl, sym, ap, ◌∙◌, arith}
 use Rattle.std.specs.Option.{option_copied}
-use Rattle.dk_base.specs.declared.object.Obj.TheVariants as obj
 use Rattle.kernel_records.proofs.Places.{change_first-none}
 use Rattle.kernel_records.specs.declared.record.CallStage.TheVariants as stage
 use Rattle.kernel_records.specs.Words.{count_object, is_client_call_of, without_arguments_at}
 use Rattle.unref_notice.specs.Words.{count_of}
 use Rattle.written_kernel.specs.Types.{Call}
 use Rattle.kernel_holdings.proofs.TransitCounts.{in_transit, return_call-in_transit, transit_more}
+use Rattle.kernel_holdings.proofs.Bounds.{few_changed, holds_calls}
+use Rattle.dk_base.specs.declared.object.Obj.{Obj}
+use Rattle.kernel_holdings.specs.Words.{HoldingsValue, references_to}
+use Rattle.kernel_records.specs.Words.{count_object}
+use Rattle.kernel_holdings.specs.Words.{HoldingsValue, references_of}
 use Rattle.kernel_holdings.proofs.holdings.Holdings.give_back.Goals as goal
 
 copied : (r : Option (Bor Call)) → is_some (option_copied r) ≡ is_some r
@@ -31,15 +35,27 @@ invariant_of-self c =
     let h = c.self.inside in
     let tree = h.calls.tree in
     let up = c.up_all.ensures in
-    let more = λ (d : ℕ). count_object (obj.Door d) c.args.objects in
+    let more = λ (o : Obj). count_object o c.args.objects in
     let there : is_some (find (is_client_call_of c.args.t.0) tree.calls) ≡ true =
     ap is_some (sym c.client.ensures) ∙ copied c.client.result ∙ c.if-is_none.ensures in
-    let raised : (d : ℕ) → count_of c.up_all.new.self.now d ≡ count_of h.counts.now d + more d =
-    λ d. up.counts d ∙ ap (λ os. count_of h.counts.now d + count_object (obj.Door d) os) c.slice.ensures in
-    let further : (d : ℕ) → in_transit (obj.Door d) c.finish.new.self.tree.calls ≡ in_transit (obj.Door d) tree.calls + more d =
-    λ d. rw c.finish.ensures.tree
-    (return_call-in_transit (obj.Door d) tree c.args.t.0 c.args.bytes c.args.objects
-    ∙ ap (λ b. in_transit (obj.Door d) tree.calls + cond b (more d) 0) there) in (
-      transit_more h.counts.now h.tables h.names.names tree.calls c.self.invariant.0 c.up_all.new.self.now c.finish.new.self.tree.calls more raised further,
-      up.len ∙ c.self.invariant.1 ∙ ap length (sym up.opening),
+    let raised : (o : Obj) → count_of c.up_all.new.self.counts o ≡ count_of h.counts.counts o + more o =
+    λ o. up.counts o ∙ ap (λ os. count_of h.counts.counts o + count_object o os) c.slice.ensures in
+    let further : (o : Obj) → in_transit o c.finish.new.self.tree.calls ≡ in_transit o tree.calls + more o =
+    λ o. rw c.finish.ensures.tree
+    (return_call-in_transit o tree c.args.t.0 c.args.bytes c.args.objects
+    ∙ ap (λ b. in_transit o tree.calls + cond b (more o) 0) there) in (
+      transit_more h.counts.counts h.tables h.names.names tree.calls c.self.invariant.0 c.up_all.new.self.counts c.finish.new.self.tree.calls more raised further,
+      holds_calls h.tables h.calls.tree.calls _ c.self.invariant.1 (rw c.finish.ensures.tree (few_changed (is_client_call_of c.args.t.0) _ (λ r t l. (c.requires.few (rw (← c.self.view_is) (ap is_some (sym c.client.ensures) ∙ copied c.client.result ∙ c.if-is_none.ensures)))) tree.calls c.self.invariant.1.transit)),
     )
+
+pub up_all-requires-clause-few : goal.up_all-requires-clause-few
+up_all-requires-clause-few c = λ o. omega (arith, c.self.invariant.0 o, c.are_few.ensures o, ap (λ (v : HoldingsValue). references_to v.tables v.names.names v.calls.tree.calls o) c.self.view_is, (c.requires.few (rw (← c.self.view_is) (ap is_some (sym c.client.ensures) ∙ copied c.client.result ∙ c.if-is_none.ensures))), ap length c.slice.ensures)
+
+pub returns-clause-references : goal.returns-clause-references
+returns-clause-references c = λ o. omega (arith, (invariant_of-self c).0 o, c.self.invariant.0 o, c.up_all.ensures.counts o, ap (count_object o) c.slice.ensures, ap (λ (v : HoldingsValue). references_of v o) c.self.view_is)
+
+pub up_all-requires-clause-left : goal.up_all-requires-clause-left
+up_all-requires-clause-left c = omega (arith, (c.requires.few (rw (← c.self.view_is) (ap is_some (sym c.client.ensures) ∙ copied c.client.result ∙ c.if-is_none.ensures))), c.requires.left, ap length c.slice.ensures, ap (λ (v : HoldingsValue). v.left) c.self.view_is)
+
+pub returns-clause-left : goal.returns-clause-left
+returns-clause-left c = omega (arith, (c.requires.few (rw (← c.self.view_is) (ap is_some (sym c.client.ensures) ∙ copied c.client.result ∙ c.if-is_none.ensures))), c.up_all.ensures.left, ap length c.slice.ensures, ap (λ (v : HoldingsValue). v.left) c.self.view_is)
