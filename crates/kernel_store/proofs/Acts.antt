@@ -1,14 +1,13 @@
 -- What the pools hold agrees with the records after an act on one thread.
-use Rattle.std.proofs.Common.{◌≡◌, ℕ, ◌+◌, ◌<◌, ◌≤◌, ◌⊎◌, ◌&&◌, Bool, true, false, List, [], Option, Some, None, is_some, is_ok, Ok, Err, OnOk, Result, ok_or, refl, sym, ap, ◌∙◌, subst, subst₂, arith}
+use Rattle.std.proofs.Common.{◌≡◌, ℕ, ◌+◌, ◌<◌, ◌≤◌, ◌⊎◌, ◌&&◌, Bool, true, false, List, [], Option, Some, None, is_some, is_ok, Ok, Err, OnOk, Result, refl, sym, ap, ◌∙◌, subst, subst₂, arith}
 use Rattle.std.proofs.lemmas.Bool.Decides.{nat_tests}
 use Rattle.dk_base.specs.ByNumber.{with_at_number}
-use Rattle.dk_base.specs.declared.error.Errno.TheVariants.{EBADF}
 use Rattle.dk_base.specs.declared.object.Item.TheVariants as item
 use Rattle.kernel_records.specs.declared.pool.Pool.TheVariants.{Common, Private}
 use Rattle.kernel_records.specs.declared.record.ThreadState.TheVariants as is
 use Rattle.kernel_records.specs.Words.{bound_at, end_thread, enter_call, enter_notice, enter_thread, is_dormant, is_done, is_idle, park_thread, process_in, set_thread_state, state_in, thread_at, tid}
 use Rattle.written_kernel.specs.Types.{Pool, Thread, ThreadState}
-use Rattle.written_kernel.specs.Words.{bound_of, is_running, is_running_state, state_of}
+use Rattle.written_kernel.specs.Words.{is_running, is_running_state, state_of}
 use Rattle.kernel_invariant.specs.Core.{is_outside}
 use Rattle.server_pool.specs.Words.{AllParkedBefore, PoolValue, PoolsValue, change_pool, item_room_in, park_in, pool_at, stack_in, thread_room_in}
 use Rattle.pool_agreement.specs.Words.{Agrees, IsGivenOut, IsGivenOutBut, own_pool, pool_by}
@@ -39,8 +38,9 @@ given_out_bound {s} {now} same bindings given = go (subst (λ (v : StoreValue). 
 
 pub fills :
     {a b : StoreValue} → (IsGivenOut a.pools → IsGivenOut b.pools) → b.latest ≡ a.latest → b.opening ≡ a.opening → a.notices.spare ≤ b.notices.spare →
-    ((pool : Pool) → item_room_in a.pools pool ≤ item_room_in b.pools pool) → FillsNoPool a b
-fills given latest opening notices items = record { given_out = given; latest = latest; opening = opening; notice_room = notices; items = items }
+    a.short_room ≤ b.short_room + 1 → ((pool : Pool) → item_room_in a.pools pool ≤ item_room_in b.pools pool) → FillsNoPool a b
+fills given latest opening notices short items =
+    record { given_out = given; latest = latest; opening = opening; notice_room = notices; short_room = short; items = items }
 
 pub fills_same : {a b : StoreValue} → KeepsPools a b → FillsNoPool a b
 fills_same {a} {b} k =
@@ -49,6 +49,7 @@ fills_same {a} {b} k =
       latest = k.latest;
       opening = k.opening;
       notice_room = k.notice_room;
+      short_room = omega (arith, k.short_room);
       items = λ pool. subst (λ v. item_room_in a.pools pool ≤ item_room_in v pool) (sym k.pools) (omega arith);
     }
 
@@ -86,15 +87,6 @@ thread_there (Some x) e = (x, refl)
 pub holds_ok : {X E P : Type 0} (r : Result X E) → is_ok r ≡ true → OnOk r P → P
 holds_ok (Ok x) e p = p
 holds_ok (Err x) e p = cc
-
--- where a thread is bound to a door, to unbind it is not refused
-pub leaves_door :
-    {s now : StoreValue} → s ≡ now → (t : ℕ) → is_some (bound_of (stored_state now) t) ≡ true → is_ok (ok_or (bound_of (stored_state s) t) EBADF) ≡ true
-leaves_door {s} {now} same t e = go (bound_of (stored_state s) t) (ap (λ (v : StoreValue). is_some (bound_of (stored_state v) t)) same ∙ e)
-  where
-    go : (o : Option ℕ) → is_some o ≡ true → is_ok (ok_or o EBADF) ≡ true
-    go None f = cc
-    go (Some d) f = refl
 
 -- a store `s` as its fields say, which is `now` in the clauses
 module _ {s now : StoreValue} (h : IsAgreed s) (same : s ≡ now) where

@@ -10,7 +10,7 @@ use Rattle.server_pool.specs.Words.{PoolValue, PoolsValue, change_pool, empty_po
 use Rattle.pool_agreement.specs.Words.{Agrees, IsGivenOut, IsGivenOutIn, IsQueueOf, IsStackOf}
 use Rattle.pool_agreement.proofs.Leaving.{read_kept}
 use Rattle.pool_agreement.proofs.Readers.{bindings-change_pool, common-change_pool, private-change_pool, spares-change_pool}
-pub use Rattle.kernel_store.specs.Leaving.{HoldsSame}
+pub use Rattle.exit_paths.specs.Words.{HoldsSame}
 
 -- room for a door, and for a thread and an item of a pool
 pub same_in_room :
@@ -104,3 +104,11 @@ given_out_process v w private common = given_out_made v w same
     same : (pool : Pool) → pool_or_empty (pool_at w pool) ≡ pool_or_empty (pool_at v pool)
     same (Common p) = ap (λ xs. pool_or_empty (at_number xs p.0)) common ∙ made_empty v.common p.0
     same (Private d) = ap (λ xs. pool_or_empty (at_number xs d)) private
+
+pub items_process :
+    (v w : PoolsValue) → w.private ≡ v.private → w.common ≡ v.common ++ empty_pool ∷ [] → (pool : Pool) → item_room_in v pool ≤ item_room_in w pool
+items_process v w private common pool = subst (λ n. item_room_in v pool ≤ n) (sym (same pool)) (le_refl (item_room_in v pool))
+  where
+    same : (q : Pool) → item_room_in w q ≡ item_room_in v q
+    same (Common p) = ap (λ xs. (pool_or_empty (at_number xs p.0)).item_room) common ∙ ap (λ (x : PoolValue). x.item_room) (made_empty v.common p.0)
+    same (Private d) = ap (λ xs. (pool_or_empty (at_number xs d)).item_room) private

@@ -1,15 +1,14 @@
 -- What follows an act that can touch many pools, of a store: idle threads that lost their doors wake, what waits is given pool by
 -- pool, and spares start.
-use Rattle.std.proofs.Common.{◌≡◌, ℕ, ◌+◌, ◌<◌, ◌≤◌, ◌==◌, ◌&&◌, ◌||◌, Bool, true, false, not, nat_le, if◌then◌else◌, List, [], ◌∷◌, ◌++◌, Option, None, Some, is_none, is_some, is_ok, OnOk, Result, ok_or, length, refl, sym, subst, ap, ap₂, ◌∙◌, add-one, length-append, arith}
+use Rattle.std.proofs.Common.{◌≡◌, ℕ, ◌+◌, ◌<◌, ◌≤◌, ◌==◌, ◌&&◌, ◌||◌, Bool, true, false, not, nat_le, if◌then◌else◌, List, [], ◌∷◌, ◌++◌, Option, None, Some, is_none, is_some, length, refl, sym, subst, ap, ap₂, ◌∙◌, add-one, length-append, arith}
 use Rattle.std.proofs.lemmas.Bool.Decides.{nat_tests}
 use Rattle.dk_base.specs.ByNumber.{at_number}
 use Rattle.dk_base.specs.Words.{RoomValue}
-use Rattle.dk_base.specs.declared.error.Errno.TheVariants.{EBADF}
 use Rattle.kernel_records.specs.declared.pool.Pool.TheVariants.{Common, Private}
 use Rattle.kernel_records.specs.declared.record.ThreadState.TheVariants as is
-use Rattle.kernel_records.specs.Words.{ProcessTable, bound_at, is_idle, is_pool, pid, set_thread_state, state_in, thread_at, thread_at_state, unbind_thread}
-use Rattle.written_kernel.specs.Types.{Errno, Parked, Pool}
-use Rattle.written_kernel.specs.Words.{State, fail_each, fail_one, fail_returns, give, give_and_start, has_first_common_door, has_invalid_door, has_lost_door, is_bound_to_invalid, needs_spare, pick, start_each, start_one, start_spares}
+use Rattle.kernel_records.specs.Words.{ProcessTable, is_idle, is_pool, pid, set_thread_state, state_in, thread_at, thread_at_state, unbind_thread}
+use Rattle.written_kernel.specs.Types.{Parked, Pool}
+use Rattle.written_kernel.specs.Words.{State, fail_each, fail_one, fail_returns, give, give_and_start, has_first_common_door, has_invalid_door, has_lost_door, needs_spare, pick, start_each, start_one, start_spares}
 use Rattle.kernel_records.proofs.Lists.{is_some-at_number, numbered_push}
 use Rattle.written_kernel.proofs.Settling.{fail_returns-all}
 use Rattle.written_kernel.proofs.Threads.{processes-change_thread}
@@ -23,7 +22,6 @@ use Rattle.pool_agreement.proofs.Stacks.{pick_agrees}
 use Rattle.kernel_store.specs.Flags.{flag_in, is_flagged}
 use Rattle.kernel_store.specs.Giving.{HasGiven}
 use Rattle.kernel_store.specs.Stored.{IsAgreed, StoreValue, stored_state}
-use Rattle.kernel_store.proofs.Acts.{holds_ok}
 use Rattle.pool_agreement.proofs.WaitingLists.{both_true}
 
 -- an idle thread that lost its door wakes
@@ -36,17 +34,6 @@ module _
       both_true (is_idle (state_in (thread_at s.processes t))) (has_invalid_door (stored_state s) t)
       (ap (λ v. has_lost_door (stored_state v) t) same ∙ lost)
 
-  bound_here : is_some (bound_at s.pools.bindings t) ≡ true
-  bound_here = go (bound_at s.pools.bindings t) lost_here.1
-    where
-      go : (o : Option ℕ) → is_bound_to_invalid (stored_state s) o ≡ true → is_some o ≡ true
-      go None e = cc
-      go (Some d) e = refl
-
-  unbinds : (o : Option ℕ) → is_some o ≡ true → is_ok (ok_or o EBADF) ≡ true
-  unbinds None e = cc
-  unbinds (Some d) e = refl
-
   parked : IsParkedSomewhere s.processes s.pools.bindings t
   parked = idle_is_parked s.processes s.pools.bindings t lost_here.0
 
@@ -54,17 +41,14 @@ module _
   failed_pools = record (change_pool s.pools pool (unpark_in t)) { bindings = unbind_thread s.pools.bindings t }
 
   module _
-      (table : ProcessTable) (unparked left : PoolsValue) (r : Result ℕ Errno)
+      (table : ProcessTable) (unparked left : PoolsValue)
       (failed : table ≡ set_thread_state s.processes t is.FailedReturn) (leaves : unparked ≡ change_pool s.pools pool (unpark_in t))
-      (answer : r ≡ ok_or (bound_at unparked.bindings t) EBADF)
-      (unbound : OnOk r (left ≡ record unparked { bindings = unbind_thread unparked.bindings t })) where
+      (unbound : left ≡ record unparked { bindings = unbind_thread unparked.bindings t }) where
     bindings_kept : unparked.bindings ≡ s.pools.bindings
     bindings_kept = ap (λ (v : PoolsValue). v.bindings) leaves ∙ bindings-change_pool s.pools pool (unpark_in t)
 
     left_is : left ≡ failed_pools
     left_is =
-        holds_ok r
-        (ap is_ok answer ∙ unbinds (bound_at unparked.bindings t) (ap (λ b. is_some (bound_at b t)) bindings_kept ∙ bound_here))
         unbound
         ∙ ap₂ (λ (v : PoolsValue) (b : List (Option ℕ)). record v { bindings = unbind_thread b t }) leaves bindings_kept
 

@@ -1,17 +1,18 @@
 mod Acts
 mod Alike
-mod Counted
+mod There
 mod Giving
 mod GivingAll
 mod ItemRoom
-mod Left
 mod LeftStore
-mod LeftThreads
 mod Made
 mod MadeNotice
 mod MadeRoom
-mod NoticeRoom
+pub mod Short
 mod Spares
 mod Threads
 mod Parking
-mod LeftOneByOne
+mod Lost
+pub mod Turns
+mod HeldNotices
+pub mod Knowing

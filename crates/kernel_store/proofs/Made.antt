@@ -1,17 +1,14 @@
 -- Calls that are made, which wait in the pool of their door.
-use Rattle.std.proofs.Common.{◌≡◌, inl, inr, refl, Some, ℕ, ◌+◌, ◌<◌, ◌≤◌, ◌&&◌, Bool, true, false, if◌then◌else◌, nat_le, List, is_some, Result, Err, Ok, OnOk, ap, ◌∙◌, sym, subst, arith, None, Option}
+use Rattle.std.proofs.Common.{◌≡◌, inl, inr, refl, Some, ℕ, ◌<◌, ◌&&◌, Bool, true, false, nat_le, List, is_some, ◌∙◌, arith, None, Option}
 use Rattle.std.proofs.lemmas.Bool.Decides.{nat_tests}
 use Rattle.dk_base.specs.ByNumber.{at_number}
 use Rattle.dk_base.specs.declared.limits.TheConstants.{QUEUE_MAX}
-use Rattle.dk_base.specs.declared.error.Errno.{Errno}
-use Rattle.dk_base.specs.declared.error.Errno.TheVariants.{EAGAIN}
 use Rattle.kernel_records.specs.Words.{CallTree, NoticeList, is_pool, is_valid_in, pool_in, ProcessTable}
-use Rattle.written_kernel.specs.Types.{Door, Pool, Waiting}
-use Rattle.server_pool.specs.Words.{PoolValue, PoolsValue, change_pool, count_calls, is_call_too_many, is_waiting_call, pool_at}
+use Rattle.written_kernel.specs.Types.{Door, Pool}
+use Rattle.server_pool.specs.Words.{PoolValue, PoolsValue, change_pool, pool_at}
 use Rattle.pool_agreement.specs.Words.{Agrees, HasPlaces, IsGivenOutIn}
 use Rattle.pool_agreement.proofs.Queues.{door_pool_there}
 use Rattle.pool_agreement.proofs.Readers.{queue-change_other, stack-change_other}
-use Rattle.kernel_store.specs.Stored.{StoreValue}
 
 -- the pool of a valid door
 pub served_there :
@@ -24,16 +21,9 @@ served_there {n} {table} {doors} {tree} {list} {v} h places d e = go (at_number 
     go None f k = grind arith
     go (Some x) f k = door_pool_there h places d x f k
 
-not_too_many : (b : Bool) (k : ℕ) → k < QUEUE_MAX → (b && nat_le QUEUE_MAX k) ≡ false
+pub not_too_many : (b : Bool) (k : ℕ) → k < QUEUE_MAX → (b && nat_le QUEUE_MAX k) ≡ false
 not_too_many true k l = grind (arith, nat_tests)
 not_too_many false k l = refl
-
--- what a pool takes that has fewer than the most calls
-pub enqueued :
-    {P : Type 0} (r : Result (Unit {0}) Errno) (w : Waiting) (queue : List Waiting) → r ≡ (if is_call_too_many w queue then Err EAGAIN else Ok tt) →
-    count_calls queue < QUEUE_MAX → OnOk r P → P
-enqueued {P} r w queue e l h =
-    subst (λ r. OnOk r P) (e ∙ ap (λ (b : Bool). if b then Err EAGAIN else Ok tt) (not_too_many (is_waiting_call w) (count_calls queue) l)) h
 
 -- the other pools, after one of them changed
 pub given_out_elsewhere :
@@ -41,11 +31,3 @@ pub given_out_elsewhere :
     IsGivenOutIn (change_pool v pool change) q
 given_out_elsewhere v pool q change e (inl s) = inl (stack-change_other v pool q change e ∙ s)
 given_out_elsewhere v pool q change e (inr s) = inr (queue-change_other v pool q change e ∙ s)
-
--- a call that is made at this event is later than all that waits
-pub made_later :
-    {s now : StoreValue} → s ≡ now → (made : ℕ) → made ≡ now.events + 1 → now.latest ≤ now.events → s.latest < made
-made_later {s} {now} same made e first =
-    let l : s.latest ≤ s.events = subst (λ (v : StoreValue). v.latest ≤ v.events) (sym same) first in
-    let k : made ≡ s.events + 1 = e ∙ ap (λ (v : StoreValue). v.events + 1) (sym same) in
-    omega arith

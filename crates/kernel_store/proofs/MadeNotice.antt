@@ -1,16 +1,15 @@
 -- A notice that is made, and the room that it leaves for others.
-use Rattle.std.proofs.Common.{◌≡◌, ℕ, ◌+◌, ◌<◌, ◌≤◌, Bool, true, false, if◌then◌else◌, List, ◌∷◌, Option, Some, None, option_map, count_by, is_some, length, refl, sym, ap, ◌∙◌, subst, arith}
+use Rattle.std.proofs.Common.{◌≡◌, ℕ, ◌+◌, ◌<◌, ◌≤◌, Bool, true, false, if◌then◌else◌, List, ◌∷◌, count_by, is_some, length, refl, sym, ap, ◌∙◌, subst, arith}
 use Rattle.dk_base.specs.ByNumber.{at_number}
 use Rattle.dk_base.specs.Words.{RoomValue}
 use Rattle.kernel_records.specs.Words.{is_pool, pool_in}
 use Rattle.written_kernel.specs.Types.{Door, Pool, Waiting}
 use Rattle.written_kernel.specs.Words.{pool_of}
-use Rattle.server_pool.specs.Words.{PoolValue, PoolsValue, change_pool, enqueue_in, item_room_in, pool_at}
-use Rattle.server_pool.proofs.Changed.{pool_changed, pool_kept}
+use Rattle.server_pool.specs.Words.{change_pool, enqueue_in, item_room_in, pool_at}
 use Rattle.unref_notice.specs.declared.notices.TheConstants.{NOTICES_MAX}
 use Rattle.pool_agreement.proofs.Readers.{is_pool-self, is_pool-sym}
 use Rattle.kernel_store.specs.Stored.{CanMake, StoreValue, count_served, stored_state}
-use Rattle.kernel_store.proofs.ItemRoom.{count_cons, room_elsewhere, room_enqueued}
+use Rattle.kernel_store.proofs.ItemRoom.{count_cons, room_elsewhere, room_enqueued, there_changed}
 
 module _ {s now : StoreValue} (same : s ≡ now) (d : ℕ) (room : (ds : List ℕ) × CanMake now (d ∷ ds)) where
   can : CanMake s (d ∷ room.0)
@@ -18,6 +17,9 @@ module _ {s now : StoreValue} (same : s ≡ now) (d : ℕ) (room : (ds : List �
 
   pub record_room : 0 < s.notices.spare
   record_room = let l : length (d ∷ room.0) ≤ s.notices.spare = can.records in omega arith
+
+  pub listing_left : 0 < s.short_room
+  listing_left = let l : length (d ∷ room.0) ≤ s.short_room = can.short in omega arith
 
   pub number_left : s.notices.list.made < NOTICES_MAX
   number_left = let l : s.notices.list.made + length (d ∷ room.0) ≤ NOTICES_MAX = can.numbers in omega arith
@@ -34,27 +36,16 @@ module _ {s now : StoreValue} (same : s ≡ now) (d : ℕ) (room : (ds : List �
       one true e l = omega arith
       one false e l = cc
 
-there_changed :
-    (v : PoolsValue) (pool q : Pool) (change : PoolValue → PoolValue) → is_some (pool_at (change_pool v pool change) q) ≡ is_some (pool_at v q)
-there_changed v pool q change = go (is_pool pool q) refl
-  where
-    kept : (o : Option PoolValue) → is_some (option_map change o) ≡ is_some o
-    kept None = refl
-    kept (Some x) = refl
-
-    go : (b : Bool) → is_pool pool q ≡ b → is_some (pool_at (change_pool v pool change) q) ≡ is_some (pool_at v q)
-    go true e = ap is_some (pool_changed v pool q change e) ∙ kept (pool_at v q)
-    go false e = ap is_some (pool_kept v pool q change e)
-
 -- the notices of the other doors can still be made
 pub can_make_others :
     (s after : StoreValue) (d : ℕ) (ds : List ℕ) (pool : Pool) (w : Waiting) → pool ≡ pool_of (stored_state s) d →
     after.pools ≡ change_pool s.pools pool (enqueue_in w) → after.doors ≡ s.doors → s.notices.spare ≤ after.notices.spare + 1 →
-    after.notices.list.made ≡ s.notices.list.made + 1 → CanMake s (d ∷ ds) → CanMake after ds
-can_make_others s after d ds pool w own pools doors spare made make =
+    after.notices.list.made ≡ s.notices.list.made + 1 → s.short_room ≤ after.short_room + 1 → CanMake s (d ∷ ds) → CanMake after ds
+can_make_others s after d ds pool w own pools doors spare made listed make =
     record {
       records = let l : length (d ∷ ds) ≤ s.notices.spare = make.records in omega arith;
       numbers = let l : s.notices.list.made + length (d ∷ ds) ≤ NOTICES_MAX = make.numbers in omega arith;
+      short = let l : length (d ∷ ds) ≤ s.short_room = make.short in omega (arith, l, listed);
       items =
           λ q there.
           let before : is_some (pool_at s.pools q) ≡ true =

@@ -1,15 +1,12 @@
 -- Room that is made for threads.
-use Rattle.std.proofs.Common.{◌≡◌, ℕ, ◌≤◌, Bool, true, false, List, Option, Some, None, option_map, is_some, length, refl, sym, ap, ◌∙◌, subst, le_refl, arith}
+use Rattle.std.proofs.Common.{◌≡◌, ℕ, ◌≤◌, Bool, true, false, Option, Some, None, option_map, is_some, refl, sym, ap, ◌∙◌, subst, le_refl, arith}
 use Rattle.kernel_records.specs.declared.pool.Pool.TheVariants.{Common, Private}
 use Rattle.kernel_records.specs.Words.{is_pool}
 use Rattle.written_kernel.specs.Types.{Pool}
-use Rattle.dk_base.specs.ByNumber.{at_number}
 use Rattle.written_kernel.proofs.Giving.{same_pool}
-use Rattle.kernel_records.proofs.Lists.{numbered_within}
-use Rattle.pool_agreement.proofs.Readers.{there_is}
 use Rattle.server_pool.specs.Words.{PoolValue, PoolsValue, change_pool, item_room_in, pool_at, pool_or_empty, thread_room_in, with_room}
 use Rattle.server_pool.proofs.Changed.{pool_changed, pool_kept}
-use Rattle.kernel_store.specs.Leaving.{HasNoLessRoom, HoldsSame}
+use Rattle.exit_paths.specs.Words.{HasNoLessRoom, HoldsSame}
 use Rattle.kernel_store.proofs.Alike.{same_in_room}
 
 pub holds_self : (v : PoolsValue) → HoldsSame v v
@@ -91,7 +88,3 @@ room_made v w pool threads items e more_threads more_items =
         subst (λ (o : Option PoolValue). item_room_in v q ≤ (pool_or_empty o).item_room) (sym (other q f)) (le_refl (item_room_in v q))
 
 -- a number that is there is not above the length
-pub numbered_low : {X : Type 0} (xs : List X) (k : ℕ) → is_some (at_number xs k) ≡ true → k ≤ length xs
-numbered_low xs k e =
-    let x : (x : _) × (at_number xs k ≡ Some x) = there_is (at_number xs k) e in
-    let within : (1 ≤ k) × (k ≤ length xs) = numbered_within xs k x.0 x.1 in within.1

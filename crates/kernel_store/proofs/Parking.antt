@@ -1,16 +1,26 @@
 -- A thread that parks at the present event, at which none parked yet.
-use Rattle.std.proofs.Common.{◌≡◌, ◌<◌, ◌≤◌, ◌+◌, ℕ, false, is_some, sym, subst, ap, ◌∙◌, arith}
-use Rattle.kernel_records.specs.Words.{is_done, is_dormant, is_idle, park_thread, tid}
-use Rattle.unref_notice.specs.Words.{count_of}
+use Rattle.std.proofs.Common.{◌≡◌, ◌<◌, ◌≤◌, ◌+◌, ℕ, Bool, true, false, Option, None, Some, option_map, is_some, refl, sym, subst, ap, ◌∙◌, arith}
+use Rattle.kernel_records.specs.Words.{is_done, is_dormant, is_idle, is_pool, park_thread, tid}
 use Rattle.written_kernel.specs.Types.{Parked, Pool}
 use Rattle.written_kernel.specs.Words.{state_of}
-use Rattle.server_pool.specs.Words.{PoolsValue, change_pool, item_room_in, park_in, thread_room_in}
+use Rattle.server_pool.specs.Words.{PoolValue, PoolsValue, change_pool, item_room_in, park_in, pool_at, pool_or_empty, thread_room_in}
 use Rattle.pool_agreement.specs.Words.{Agrees, IsGivenOut, IsGivenOutBut, own_pool}
 use Rattle.kernel_store.specs.Frames.{CanAct, FillsOnePool}
-use Rattle.kernel_store.specs.Leaving.{CanParkAgain, own_pool_in}
+use Rattle.exit_paths.specs.Words.{CanParkAgain, own_pool_in}
 use Rattle.kernel_store.specs.Stored.{IsAgreed, StoreValue, stored_state}
 use Rattle.kernel_store.proofs.Acts.{above, given_out_but, own, parked, room_there, thread}
-use Rattle.kernel_store.proofs.Left.{items_parked}
+use Rattle.server_pool.proofs.Changed.{pool_changed, pool_kept}
+
+pub items_parked : (v : PoolsValue) (pool : Pool) (y : Parked) (q : Pool) → item_room_in (change_pool v pool (park_in y)) q ≡ item_room_in v q
+items_parked v pool y q = go (is_pool pool q) refl
+  where
+    there : (o : Option PoolValue) → (pool_or_empty (option_map (park_in y) o)).item_room ≡ (pool_or_empty o).item_room
+    there None = refl
+    there (Some x) = refl
+
+    go : (b : Bool) → is_pool pool q ≡ b → item_room_in (change_pool v pool (park_in y)) q ≡ item_room_in v q
+    go true e = ap (λ (o : Option PoolValue). (pool_or_empty o).item_room) (pool_changed v pool q (park_in y) e) ∙ there (pool_at v q)
+    go false e = ap (λ (o : Option PoolValue). (pool_or_empty o).item_room) (pool_kept v pool q (park_in y) e)
 
 -- a store `s` as its fields say, which is `now` in the clauses
 module _ {s now : StoreValue} (h : IsAgreed s) (same : s ≡ now) (t : ℕ) (can : CanAct (own_pool (stored_state now) t) now) (there : is_done (state_of (stored_state now) t) ≡ false) where
@@ -40,17 +50,19 @@ module _ {s now : StoreValue} (h : IsAgreed s) (same : s ≡ now) (t : ℕ) (can
       ≡ change_pool s.pools (own_pool_in s.processes s.pools.bindings t)
       (park_in (record { thread = tid t; pool = own_pool_in s.processes s.pools.bindings t; since = s.events + 1 })) →
       after.latest ≡ s.events + 1 → after.opening ≡ s.opening → s.notices.spare ≤ after.notices.spare →
-      FillsOnePool (own_pool (stored_state now) t) now after
-  parked_keeps after pools latest opening notices =
+      after.short_room ≡ s.short_room → FillsOnePool (own_pool (stored_state now) t) now after
+  parked_keeps after pools latest opening notices short =
       let place : Parked = record { thread = tid t; pool = own_pool_in s.processes s.pools.bindings t; since = s.events + 1 } in
       let events = ap (λ (v : StoreValue). v.events) same in
       let before = ap (λ (v : StoreValue). v.notices.spare) same in
+      let listed = ap (λ (v : StoreValue). v.short_room) same in
       record {
         kept =
             record {
               latest = omega (arith, latest, events);
-              opening = λ d. ap (λ os. count_of os d) (opening ∙ ap (λ (v : StoreValue). v.opening) same);
+              opening = opening ∙ ap (λ (v : StoreValue). v.opening) same;
               notice_room = omega (arith, notices, before);
+              short_room = omega (arith, short, listed);
               items =
                   λ pool.
                   let left = ap (λ (v : PoolsValue). item_room_in v pool) pools ∙ items_parked s.pools place.pool place pool in

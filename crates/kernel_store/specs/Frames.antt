@@ -1,15 +1,18 @@
 -- What an act needs of a store before it, and what it keeps beside the state that it makes.
-use Rattle.std.specs.Prelude.{ℕ, ◌≡◌, ◌+◌, ◌<◌, ◌≤◌, [], false}
+use Rattle.std.specs.Prelude.{ℕ, ◌≡◌, ◌+◌, ◌<◌, ◌≤◌, List, [], false, is_some, true}
 use Rattle.dk_base.specs.Words.{RoomValue}
 use Rattle.dk_base.specs.declared.limits.TheConstants.{EVENTS_MAX}
-use Rattle.kernel_records.specs.Words.{is_done, is_dormant, is_idle}
+use Rattle.dk_base.specs.ByNumber.{at_number}
+use Rattle.kernel_records.specs.declared.leaving.Leaver.{Leaver}
+use Rattle.kernel_records.specs.declared.leaving.Leaver.TheVariants.{EndedProcess}
+use Rattle.kernel_records.specs.Words.{is_done, is_dormant, is_idle, valid_doors_of}
 use Rattle.written_kernel.specs.Types.{Pool, ThreadState}
-use Rattle.written_kernel.specs.Words.{has_lost_door, now}
+use Rattle.written_kernel.specs.Words.{State, has_lost_door, now}
 use Rattle.call_agreement.specs.Words.{is_calling, is_given_item}
 use Rattle.server_pool.specs.Words.{item_room_in}
-use Rattle.unref_notice.specs.Words.{count_of}
 use Rattle.pool_agreement.specs.Words.{IsGivenOut, IsGivenOutBut}
-use Rattle.kernel_store.specs.Stored.{ArePlaced, HasRoom, HasRoomToLeave, StoreValue, stored_state}
+use Rattle.kernel_store.specs.Held.{AreHeld}
+use Rattle.kernel_store.specs.Stored.{ArePlaced, HasRoom, HasWholeStep, StoreValue, WaitAtValidDoors, stored_state}
 
 -- an empty list with room for n items
 pub record IsRoomFor {X : Type 0} (n : ℕ) (list : RoomValue X) : Type 0 where
@@ -55,7 +58,19 @@ pub record CanLeave (store : StoreValue) : Type 0 where
   pub few : store.events < EVENTS_MAX
   pub placed : ArePlaced (stored_state store)
   pub latest : NothingAfter store.events store
-  pub room : HasRoomToLeave store
+  pub waiting : WaitAtValidDoors (stored_state store)
+  pub held : AreHeld (stored_state store)
+  pub references : HasWholeStep store
+
+-- a process that ends is there
+abbrev pub IsDeclared : Leaver → State → Type 0
+IsDeclared (EndedProcess p) m = is_some (at_number m.process_table.processes p.0) ≡ true
+IsDeclared _ m = Unit {0}
+
+-- these are its valid doors
+abbrev pub AreItsDoors : Leaver → State → List ℕ → Type 0
+AreItsDoors (EndedProcess p) m lost = lost ≡ valid_doors_of p.0 m.doors
+AreItsDoors _ m lost = Unit {0}
 
 -- after the act of an event, which is not yet counted
 
@@ -80,20 +95,24 @@ pub record KeepsPools (before after : StoreValue) : Type 0 where
   pub latest : after.latest ≡ before.latest
   pub opening : after.opening ≡ before.opening
   pub notice_room : before.notices.spare ≤ after.notices.spare
+  pub short_room : after.short_room ≡ before.short_room
 
--- neither a thread nor an item is put into a pool
+-- neither a thread nor an item is put into a pool, and at most one pool is made
 pub record FillsNoPool (before after : StoreValue) : Type 0 where
   pub given_out : AllIsGivenOut before → AllIsGivenOut after
   pub latest : after.latest ≡ before.latest
   pub opening : after.opening ≡ before.opening
   pub notice_room : before.notices.spare ≤ after.notices.spare
+  pub short_room : before.short_room ≤ after.short_room + 1
   pub items : (pool : Pool) → item_room_in before.pools pool ≤ item_room_in after.pools pool
 
--- what every act keeps for the notices that are made after it: it puts at most one item into each pool
+-- what every act keeps for the notices that are made after it: it puts at most one item into each pool, and lists at most one pool as
+-- short of room
 pub record KeepsForNotices (before after : StoreValue) : Type 0 where
   pub latest : NothingAfter (now (stored_state before)) after
-  pub opening : (d : ℕ) → count_of after.opening d ≡ count_of before.opening d
+  pub opening : after.opening ≡ before.opening
   pub notice_room : before.notices.spare ≤ after.notices.spare
+  pub short_room : before.short_room ≤ after.short_room + 1
   pub items : (pool : Pool) → item_room_in before.pools pool ≤ item_room_in after.pools pool + 1
 
 -- the same of an act that puts a thread or an item into this pool alone

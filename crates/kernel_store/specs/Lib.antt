@@ -1,8 +1,8 @@
 pub mod Flags
 pub mod Frames
 pub mod Giving
-pub mod Leaving
+pub mod Held
 pub mod Noticing
-pub mod Parting
 pub mod Stored
+pub mod Turning
 pub mod Words

@@ -1,18 +1,24 @@
--- How much room the pools of doors have to have for notices.
-use Rattle.std.specs.Prelude.{ℕ, ◌≡◌, ◌+◌, ◌<◌, ◌≤◌, List, Some, is_some, length, slice_get, true}
-use Rattle.dk_base.specs.ByNumber.{at_number}
+-- The room for items that each pool keeps for notices, whether or not it has any, and which pools may have less.
+use Rattle.std.specs.Prelude.{◌≡◌, ◌+◌, ◌≤◌, ℕ, Bool, List, false, is_some, true}
+use Rattle.std.specs.List.{list_any}
 use Rattle.kernel_records.specs.declared.pool.Pool.TheVariants.{Common, Private}
-use Rattle.kernel_records.specs.Words.{pool_in}
-use Rattle.written_kernel.specs.Types.{Door, Pool}
+use Rattle.kernel_records.specs.Words.{is_pool}
+use Rattle.written_kernel.specs.Types.{Pool}
 use Rattle.server_pool.specs.Words.{PoolsValue, item_room_in, pool_at}
+use Rattle.unref_notice.specs.declared.counts.TheConstants.{STEP_MAX}
 
--- a notice of each of n doors and one more item: a private pool serves one door alone
-abbrev pub items_for : ℕ → Pool → ℕ
-items_for n (Common p) = n + 1
-items_for n (Private d) = 2
+-- a notice of each door that can fall in one event, and one more item: a private pool serves one door alone
+abbrev pub items_for : Pool → ℕ
+items_for (Common p) = STEP_MAX + 1
+items_for (Private d) = 2
 
--- the pool of each of the first k doors has so much room, if it is there
-abbrev pub HasItemRoom : List Door → List ℕ → ℕ → PoolsValue → Type 0
-HasItemRoom doors ds k pools =
-    (i d : ℕ) → i < k → slice_get ds i ≡ Some d → is_some (pool_at pools (pool_in (at_number doors d))) ≡ true →
-    items_for (length ds) (pool_in (at_number doors d)) ≤ item_room_in pools (pool_in (at_number doors d))
+-- a pool has so much room, if it is there
+abbrev pub HasItemRoom : PoolsValue → Pool → Type 0
+HasItemRoom pools pool = is_some (pool_at pools pool) ≡ true → items_for pool ≤ item_room_in pools pool
+
+abbrev pub is_listed : Pool → List Pool → Bool
+is_listed pool pools = list_any (λ other. is_pool other pool) pools
+
+-- all pools have it but those that are listed as short of it
+abbrev pub HaveItemRoomBut : List Pool → PoolsValue → Type 0
+HaveItemRoomBut short pools = (pool : Pool) → is_listed pool short ≡ false → HasItemRoom pools pool

@@ -1,16 +1,21 @@
 -- What a store holds, by the values of its parts, and the written state that this is.
-use Rattle.std.specs.Prelude.{ℕ, ◌≡◌, ◌+◌, ◌<◌, ◌≤◌, ◌==◌, ◌&&◌, Bool, List, None, Option, Some, count_by, false, is_some, length, true}
+use Rattle.std.specs.Prelude.{ℕ, ◌≡◌, ◌+◌, ◌<◌, ◌≤◌, ◌==◌, ◌&&◌, Bool, List, None, Option, Some, count_by, false, is_some, length, min, slice_get, true, []}
+use Rattle.dk_base.specs.ByNumber.{at_number}
 use Rattle.dk_base.specs.Words.{RoomValue}
-use Rattle.written_kernel.specs.Types.{Door, Obj, Pool}
-use Rattle.kernel_records.specs.Words.{ProcessTable, is_pool, thread_at}
+use Rattle.written_kernel.specs.Types.{Call, Door, Notice, Obj, Pool}
+use Rattle.kernel_records.specs.Words.{ProcessTable, count_object, is_pool, is_queued, is_valid_in, is_waiting_stage, notice_doors}
 use Rattle.written_kernel.specs.Words.{State, door_of, may_have_notice, pool_of, reference_count}
 use Rattle.name_space.specs.Words.{HasRoomForName, NameTable}
 use Rattle.server_pool.specs.Words.{PoolsValue, item_room_in, pool_at, thread_room_in}
 use Rattle.call_tree.specs.Words.{CallsValue, HasRoomForCall}
-use Rattle.unref_notice.specs.Words.{AreCounted, NoticesValue, count_of, was_shared}
-use Rattle.unref_notice.specs.declared.counts.TheConstants.{REFERENCES_ROOM}
+use Rattle.unref_notice.specs.Words.{NoticesValue, ObjectCounts, count_of, was_shared}
+use Rattle.dk_base.specs.declared.limits.TheConstants.{PASS_MAX}
+use Rattle.dk_base.specs.declared.object.Obj.TheVariants as obj
+use Rattle.kernel_holdings.specs.Words.{HoldingsValue, references_of}
+use Rattle.unref_notice.specs.declared.counts.TheConstants.{STEP_MAX}
 use Rattle.unref_notice.specs.declared.notices.TheConstants.{NOTICES_MAX}
-use Rattle.pool_agreement.specs.Words.{Agrees, HasPlaces, own_pool}
+use Rattle.pool_agreement.specs.Words.{Agrees, HasPlaces}
+use Rattle.kernel_store.specs.Noticing.{HaveItemRoomBut}
 
 pub record StoreValue : Type 0 where
   pub processes : ProcessTable
@@ -25,11 +30,11 @@ pub record StoreValue : Type 0 where
   pub events : ℕ
   -- no thread parked, and no call or notice was made, after this event
   pub latest : ℕ
-  -- how many references each door had when the step began
-  pub opening : List ℕ
-  -- how many more doors can be counted without memory, and how many more references
-  pub door_room : ℕ
-  pub reference_room : ℕ
+  -- how many references each object had when the step began, and how often one may yet come or go in this step
+  pub opening : ObjectCounts
+  pub left : ℕ
+  -- how many more pools take no memory in the list of those that may be short of room for notices
+  pub short_room : ℕ
 
 abbrev pub stored_state : StoreValue → State
 stored_state store =
@@ -52,42 +57,53 @@ IsAgreed store = Agrees store.latest store.processes store.doors.items store.cal
 abbrev pub ArePlaced : State → Type 0
 ArePlaced m = HasPlaces m.process_table m.bindings m.doors m.call_tree.calls m.notice_list.notices
 
+-- what waits does so at valid doors
+pub record WaitAtValidDoors (m : State) : Type 0 where
+  pub calls : (i : ℕ) (r : Call) → slice_get m.call_tree.calls i ≡ Some r → is_queued r.stage ≡ true → is_valid_in (at_number m.doors r.door) ≡ true
+  pub notices : (i : ℕ) (n : Notice) → slice_get m.notice_list.notices i ≡ Some n → is_waiting_stage n.stage ≡ true → is_valid_in (at_number m.doors n.door) ≡ true
+
 -- memory
 
--- further references can be counted
+-- as many references may come or go in this step as a call has objects
 abbrev pub HasRoomForReferences : StoreValue → Type 0
-HasRoomForReferences store = REFERENCES_ROOM ≤ store.reference_room
+HasRoomForReferences store = PASS_MAX ≤ store.left
 
--- and these objects have counts: they get descriptors, or a name, without memory
-pub record CanCount (store : StoreValue) (objects : List Obj) : Type 0 where
-  pub counted : AreCounted store.opening objects
-  pub room : HasRoomForReferences store
+-- the doors among these objects are there
+abbrev pub AreThere : List Door → List Obj → Type 0
+AreThere doors objects = (d : ℕ) → at_number doors d ≡ None → count_object (obj.Door d) objects ≡ 0
 
--- another door can be made
+-- and so are those that anything refers to
+abbrev pub ReferToDoors : List Door → HoldingsValue → Type 0
+ReferToDoors doors held = (d : ℕ) → at_number doors d ≡ None → references_of held (obj.Door d) ≡ 0
+
+-- these objects get descriptors, or a name, without memory
+pub record CanHold (store : StoreValue) (objects : List Obj) : Type 0 where
+  pub there : AreThere store.doors.items objects
+  pub room : length objects ≤ store.left
+
+-- another door can be made, and its pool listed as short of room
 pub record HasRoomForDoor (store : StoreValue) : Type 0 where
   pub doors : 0 < store.doors.spare
   pub pools : 0 < store.pools.door_room
-  pub counts : 0 < store.door_room
+  pub short : 0 < store.short_room
 
 -- another name
 pub record HasRoomToAttach (store : StoreValue) : Type 0 where
   pub names : HasRoomForName store.names
   pub references : HasRoomForReferences store
 
--- another name, door and call, another thread and another item in this pool, and further references
+-- as many as in any step
+abbrev pub HasWholeStep : StoreValue → Type 0
+HasWholeStep store = STEP_MAX ≤ store.left
+
+-- another name, door and call, another thread and another item in this pool; an act that makes a call makes no door, so the pool of either
+-- is listed in the same place
 pub record HasRoom (store : StoreValue) (touched : Pool) : Type 0 where
   pub names : HasRoomForName store.names
   pub door : HasRoomForDoor store
   pub calls : HasRoomForCall store.calls
-  pub references : HasRoomForReferences store
   pub threads : is_some (pool_at store.pools touched) ≡ true → 0 < thread_room_in store.pools touched
   pub items : is_some (pool_at store.pools touched) ≡ true → 0 < item_room_in store.pools touched
-
--- the pool of each thread, if it is there, has room for as many more threads as there are threads in all
-abbrev pub HasRoomToLeave : StoreValue → Type 0
-HasRoomToLeave store =
-    (t : ℕ) → is_some (thread_at store.processes t) ≡ true → is_some (pool_at store.pools (own_pool (stored_state store) t)) ≡ true →
-    length store.processes.threads ≤ thread_room_in store.pools (own_pool (stored_state store) t)
 
 -- Notices that an event may make, each of one of these doors: they can be numbered, and their records and their places in the queues
 -- that are there take no memory.
@@ -99,24 +115,24 @@ count_served m pool ds = count_by (λ d. is_pool pool (pool_of m d)) ds
 pub record CanMake (store : StoreValue) (ds : List ℕ) : Type 0 where
   pub records : length ds ≤ store.notices.spare
   pub numbers : store.notices.list.made + length ds ≤ NOTICES_MAX
+  pub short : length ds ≤ store.short_room
   pub items :
       (pool : Pool) → is_some (pool_at store.pools pool) ≡ true → count_served (stored_state store) pool ds ≤ item_room_in store.pools pool
 
--- before the act of the event, which may take the place of one item
-pub record HasRoomForNotices (store : StoreValue) (ds : List ℕ) : Type 0 where
-  pub records : length ds ≤ store.notices.spare
-  pub numbers : store.notices.list.made + length ds ≤ NOTICES_MAX
-  pub items :
-      (pool : Pool) → is_some (pool_at store.pools pool) ≡ true → 0 < count_served (stored_state store) pool ds →
-      count_served (stored_state store) pool ds < item_room_in store.pools pool
+-- before the act of the event, which may take the place of one item: room for as many as can be made, whichever the doors are
+pub record HasRoomForNotices (store : StoreValue) : Type 0 where
+  pub records : min (length (notice_doors store.doors.items)) STEP_MAX ≤ store.notices.spare
+  pub numbers : store.notices.list.made + STEP_MAX ≤ NOTICES_MAX
+  pub short : STEP_MAX < store.short_room
+  pub items : HaveItemRoomBut [] store.pools
 
 -- the step of an event began in this state: `opening` has the counts of its references
 pub record HasBegun (store : StoreValue) (m : State) : Type 0 where
-  pub counts : (d : ℕ) → count_of store.opening d ≡ reference_count m d
-  pub none : (d : ℕ) → door_of m d ≡ None → count_of store.opening d ≡ 0
+  pub counts : (d : ℕ) → count_of store.opening (obj.Door d) ≡ reference_count m d
+  pub none : (d : ℕ) → door_of m d ≡ None → count_of store.opening (obj.Door d) ≡ 0
 
 -- a door had more than one reference when the step began, and has one in this state
-abbrev pub has_fallen_since : List ℕ → State → ℕ → Bool
+abbrev pub has_fallen_since : ObjectCounts → State → ℕ → Bool
 has_fallen_since opening m d = was_shared opening d && (reference_count m d == 1)
 
 -- another notice can be made of the door of a number, if it is there

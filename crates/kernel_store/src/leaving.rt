@@ -1,43 +1,61 @@
-//! What becomes of pools, threads, calls and notices where callers are interrupted, threads end and doors are lost, part by part.
-ghost use Rattle.std.specs.Prelude.{◌≡◌, ℕ, ◌+◌, ◌<◌, ◌≤◌, ◌&&◌, List, OnOk, Some, true, find, is_some, length};
+//! Threads that park, and what becomes of notices where threads end and doors are lost.
+ghost use Rattle.std.specs.Prelude.{◌≡◌, ◌+◌, ◌<◌, ◌≤◌, ◌++◌, ℕ, List, Some, true, IfOk, length};
+ghost use Rattle.std.specs.List.{list_any};
+ghost use Rattle.dk_base.specs.declared.object.Item.TheVariants as item;
 ghost use Rattle.dk_base.specs.ByNumber.{at_number};
-ghost use Rattle.kernel_records.specs.Words.{CallTree, NoticeList, ProcessTable, change_thread, deserted_in, end_thread, interrupted_where, is_owned_by, is_queued, is_served_by, kept_notices, leaving_of, left_calls, left_notices, left_thread_of, left_threads, live_calls, parked_at, park_thread, thread_at};
-ghost use Rattle.written_kernel.specs.Types.{Door, Parked, Pool, Thread};
-ghost use Rattle.server_pool.specs.Words.{AllParkedBefore, change_pool, item_room_in, park_in, pool_at, stack_in, thread_room_in};
-ghost use Rattle.pool_agreement.specs.Words.{Agrees, AgreesSomehow, leaves_queue, notice_leaves_queue};
-ghost use Rattle.kernel_store.specs.Leaving.{CanParkAgain, HasNoLessRoom, HoldsSame, KeepsItems, deserted_as, fated, own_pool_in};
+ghost use Rattle.kernel_records.specs.declared.leaving.Leaver.TheVariants.{Ended};
+ghost use Rattle.kernel_records.specs.Words.{ProcessTable, end_notice, is_owned_by, kept_notices, leaving_of, left_notices, park_thread};
+ghost use Rattle.written_kernel.specs.Types.{Door};
+ghost use Rattle.server_pool.specs.Words.{change_pool, park_in};
+ghost use Rattle.exit_paths.specs.Words.{CanParkAgain, own_pool_in};
+ghost use Rattle.unref_notice.specs.Words.{AreAllLeft, IsAllEntered, is_notice_item};
+ghost use Rattle.kernel_store.specs.Held.{TellsHeld, held_at};
 
-use call_tree::calls::Calls;
 use dk_base::error::NoMemory;
+use dk_base::list::Room;
 use dk_base::number::{Pid, Tid};
 use dk_base::object::Item;
 use door_object::doors::Doors;
 use kernel_records::leaving::Leaver;
 use kernel_records::pool::Pool;
-use kernel_records::record::{Call, CallStage, Notice, NoticeStage, ThreadState};
+use kernel_records::record::ThreadState;
 use proc_table::procs::Procs;
 use server_pool::pools::Pools;
+use std::alloc::Global;
 use unref_notice::notices::Notices;
+
+// threads
+
+/// The pool in which a thread parks.
+pub fn own_pool(processes: &Procs, pools: &Pools, t: Tid) -> Pool
+    ensures { result ≡ own_pool_in processes.now pools.now.bindings t.0 }
+{
+    match pools.bound(t) {
+        Some(door) => Pool::Private(door),
+        None => Pool::Common(processes.process_of(t)),
+    }
+}
+
+/// A thread that is there, and that no pool has, parks at an event, after all that are parked in its pool. It takes no memory.
+pub fn park(processes: &mut Procs, pools: &mut Pools, t: Tid, since: u64)
+    requires { CanParkAgain processes.old pools.old t.0 since }
+    ensures thread { processes.new ≡ park_thread processes.old t.0 since }
+    ensures pools { pools.new ≡ change_pool pools.old (own_pool_in processes.old pools.old.bindings t.0) (park_in (record { thread = t; pool = own_pool_in processes.old pools.old.bindings t.0; since = since })) }
+{
+    let pool = own_pool(processes, pools, t);
+    pools.park(t, pool, since);
+    processes.park(t, since);
+}
 
 // who leaves
 
 /// Whether a thread ends.
-pub fn ends(who: Leaver, processes: &Procs, t: Tid) -> bool
+fn ends(who: Leaver, processes: &Procs, t: Tid) -> bool
     ensures { (doors : List Door) → result ≡ (leaving_of processes.now doors who).ends t.0 }
 {
     match who {
         Leaver::Ended { thread } => t.0 == thread.0,
         Leaver::EndedProcess { process } => processes.process_of(t).0 == process.0,
-        _ => false,
-    }
-}
-
-/// Whether the call of a thread is interrupted, and its wait for events.
-pub fn interrupts(who: Leaver, t: Tid) -> bool
-    ensures { (table : ProcessTable) (doors : List Door) → result ≡ (leaving_of table doors who).interrupts t.0 }
-{
-    match who {
-        Leaver::Interrupted { thread } => t.0 == thread.0,
         _ => false,
     }
 }
@@ -53,7 +71,7 @@ fn is_owned(doors: &Doors, d: u32, p: Pid) -> bool
 }
 
 /// Whether a door becomes invalid.
-pub fn loses(who: Leaver, doors: &Doors, d: u32) -> bool
+fn loses(who: Leaver, doors: &Doors, d: u32) -> bool
     ensures { (table : ProcessTable) → result ≡ (leaving_of table doors.now.items who).loses d }
 {
     match who {
@@ -63,274 +81,94 @@ pub fn loses(who: Leaver, doors: &Doors, d: u32) -> bool
     }
 }
 
-// waiting calls
-
-fn is_queued(stage: &CallStage) -> bool
-    ensures { result ≡ is_queued stage.now }
-{
-    matches!(stage, CallStage::Queued)
-}
-
-/// Whether a call waits and does so no longer.
-fn is_withdrawn(call: &Call, who: Leaver, processes: &Procs, doors: &Doors) -> bool
-    ensures { result ≡ (is_queued call.now.stage && leaves_queue (leaving_of processes.now doors.now.items who) call.now) }
-{
-    is_queued(&call.stage)
-        && (ends(who, processes, call.caller)
-            || interrupts(who, call.caller)
-            || loses(who, doors, call.door))
-}
-
-/// The calls that wait no longer leave their pools. The calls themselves stay as they are.
-pub fn withdraw_calls(
-    pools: &mut Pools,
-    who: Leaver,
-    processes: &Procs,
-    doors: &Doors,
-    calls: &Calls,
-)
-    ensures agreed { (n : ℕ) (list : NoticeList) → Agrees n processes.now doors.now.items calls.now.tree list pools.old → Agrees n processes.now doors.now.items (live_calls (left_calls (leaving_of processes.now doors.now.items who) calls.now.tree)) list pools.new }
-    ensures bindings { pools.new.bindings ≡ pools.old.bindings }
-    ensures room { (pool : Pool) → thread_room_in pools.new pool ≡ thread_room_in pools.old pool }
-    ensures items { (pool : Pool) → item_room_in pools.old pool ≤ item_room_in pools.new pool }
-{
-    for place in 0..calls.len() {
-        let call = calls.at_place(place);
-        if is_withdrawn(call, who, processes, doors) {
-            let pool = doors.pool_of(call.door);
-            let _ = pools.withdraw(pool, Item::Call(call.number));
-        }
-    }
-}
-
-// waiting notices
-
-/// Whether a notice waits and does so no longer.
-fn is_notice_withdrawn(notice: Notice, who: Leaver, doors: &Doors) -> bool
-    ensures { (table : ProcessTable) → result ≡ notice_leaves_queue (leaving_of table doors.now.items who) notice }
-{
-    matches!(notice.stage, NoticeStage::Waiting) && loses(who, doors, notice.door)
-}
-
-/// The notices that wait no longer leave their pools. The notices themselves stay as they are.
-pub fn withdraw_notices(
-    pools: &mut Pools,
-    who: Leaver,
-    processes: &Procs,
-    doors: &Doors,
-    notices: &Notices,
-)
-    ensures agreed { (n : ℕ) (tree : CallTree) → Agrees n processes.now doors.now.items tree notices.now.list pools.old → Agrees n processes.now doors.now.items tree (kept_notices doors.now.items (left_notices (leaving_of processes.now doors.now.items who) notices.now.list)) pools.new }
-    ensures bindings { pools.new.bindings ≡ pools.old.bindings }
-    ensures room { (pool : Pool) → thread_room_in pools.new pool ≡ thread_room_in pools.old pool }
-    ensures items { (pool : Pool) → item_room_in pools.old pool ≤ item_room_in pools.new pool }
-{
-    for place in 0..notices.len() {
-        let notice = notices.at(place);
-        if is_notice_withdrawn(notice, who, doors) {
-            let pool = doors.pool_of(notice.door);
-            let _ = pools.withdraw(pool, Item::Notice(notice.number));
-        }
-    }
-}
-
-// threads
-
-/// What becomes of a thread whose caller leaves.
-#[derive(Clone, Copy)]
-enum Desertion {
-    /// It goes on.
-    Stays,
-    /// It is parked again.
-    Parks,
-    /// It goes on, with the flag of its invocation set.
-    IsCancelled,
-}
-
-/// What becomes of a thread: the end comes before all else.
-#[derive(Clone, Copy)]
-struct Fate {
-    ends: bool,
-    interrupted: bool,
-    desertion: Desertion,
-}
-
-/// What the caller of a thread's call leaves it at: parked again where it was given the call, with the flag of its invocation set
-/// where it has entered the call, unless the call's door has DOOR_NO_CANCEL (door_create(3C)).
-fn desertion_of(who: Leaver, processes: &Procs, calls: &Calls, t: Tid) -> Desertion
-    ensures { (doors : List Door) (now : ℕ) (x : Thread) → deserted_in (leaving_of processes.now doors who) now (find (is_served_by t.0) calls.now.tree.calls) x ≡ deserted_as now result x }
-{
-    let Some(call) = calls.served_by(t) else {
-        return Desertion::Stays;
-    };
-    if !ends(who, processes, call.caller) && !interrupts(who, call.caller) {
-        return Desertion::Stays;
-    }
-    match call.stage {
-        CallStage::Given { .. } => Desertion::Parks,
-        CallStage::Entered { .. } if !call.no_cancel => Desertion::IsCancelled,
-        _ => Desertion::Stays,
-    }
-}
-
-/// What becomes of a thread, as long as the calls and the processes of threads are as they were.
-fn fate_of(who: Leaver, processes: &Procs, calls: &Calls, t: Tid) -> Fate
-    ensures { (doors : List Door) (now : ℕ) (x : Thread) → x.number ≡ t.0 → left_thread_of (leaving_of processes.now doors who) now calls.now.tree.calls x ≡ fated now result x }
-{
-    Fate {
-        ends: ends(who, processes, t),
-        interrupted: interrupts(who, t),
-        desertion: desertion_of(who, processes, calls, t),
-    }
-}
-
-/// The pool in which a thread parks.
-pub fn own_pool(processes: &Procs, pools: &Pools, t: Tid) -> Pool
-    ensures { result ≡ own_pool_in processes.now pools.now.bindings t.0 }
-{
-    match pools.bound(t) {
-        Some(door) => Pool::Private(door),
-        None => Pool::Common(processes.process_of(t)),
-    }
-}
-
-/// A thread leaves its pool where it is parked, and the spares of its process where it is one. Its own record stays as it is.
-fn take_out(pools: &mut Pools, processes: &Procs, t: Tid)
-    ensures agreed { (n : ℕ) (doors : List Door) (tree : CallTree) (list : NoticeList) → Agrees n processes.now doors tree list pools.old → Agrees n (end_thread processes.now t.0) doors tree list pools.new }
-    ensures keeps { KeepsItems pools.old pools.new }
-    ensures room { (pool : Pool) → thread_room_in pools.old pool ≤ thread_room_in pools.new pool }
-    ensures above { (pool : Pool) (x : Parked) → AllParkedBefore (stack_in pools.old pool) x → AllParkedBefore (stack_in pools.new pool) x }
-{
-    match processes.state(t) {
-        ThreadState::Idle { .. } => {
-            let pool = own_pool(processes, pools, t);
-            let _ = pools.unpark(t, pool);
-        }
-        ThreadState::Dormant => pools.withdraw_spare(processes.process_of(t), t),
-        _ => {}
-    }
-}
-
-/// A thread ends.
-fn end_thread(processes: &mut Procs, pools: &mut Pools, t: Tid)
-    ensures thread { processes.new ≡ end_thread processes.old t.0 }
-    ensures agreed { (n : ℕ) (doors : List Door) (tree : CallTree) (list : NoticeList) → Agrees n processes.old doors tree list pools.old → Agrees n processes.new doors tree list pools.new }
-    ensures keeps { KeepsItems pools.old pools.new }
-    ensures room { (pool : Pool) → thread_room_in pools.old pool ≤ thread_room_in pools.new pool }
-{
-    take_out(pools, processes, t);
-    let _ = processes.end_thread(t);
-}
-
-/// A thread that is there, and that no pool has, parks at an event, after all that are parked in its pool. It takes no memory.
-pub fn park(processes: &mut Procs, pools: &mut Pools, t: Tid, since: u64)
-    requires { CanParkAgain processes.old pools.old t.0 since }
-    ensures thread { processes.new ≡ park_thread processes.old t.0 since }
-    ensures pools { pools.new ≡ change_pool pools.old (own_pool_in processes.old pools.old.bindings t.0) (park_in (record { thread = t; pool = own_pool_in processes.old pools.old.bindings t.0; since = since })) }
-{
-    let pool = own_pool(processes, pools, t);
-    pools.park(t, pool, since);
-    processes.park(t, since);
-}
-
-/// A thread that is there parks at an event, after all that are parked in its pool. It takes no memory.
-fn park_again(processes: &mut Procs, pools: &mut Pools, t: Tid, since: u64)
-    requires { CanParkAgain processes.old pools.old t.0 since }
-    ensures thread { processes.new ≡ park_thread processes.old t.0 since }
-    ensures agreed { (doors : List Door) (tree : CallTree) (list : NoticeList) → Agrees since processes.old doors tree list pools.old → Agrees since processes.new doors tree list pools.new }
-    ensures keeps { KeepsItems pools.old pools.new }
-    ensures room_left { (pool : Pool) → thread_room_in pools.old pool ≤ thread_room_in pools.new pool + 1 }
-{
-    let pool = own_pool(processes, pools, t);
-    take_out(pools, processes, t);
-    pools.park(t, pool, since);
-    processes.park(t, since);
-}
-
-/// A thread that is there goes on as its caller has left it.
-fn desert(processes: &mut Procs, pools: &mut Pools, t: Tid, desertion: Desertion, now: u64)
-    requires { CanParkAgain processes.old pools.old t.0 now }
-    ensures thread { processes.new ≡ change_thread processes.old t.0 (deserted_as now desertion) }
-    ensures agreed { (doors : List Door) (tree : CallTree) (list : NoticeList) → Agrees now processes.old doors tree list pools.old → Agrees now processes.new doors tree list pools.new }
-    ensures keeps { KeepsItems pools.old pools.new }
-    ensures room_left { (pool : Pool) → thread_room_in pools.old pool ≤ thread_room_in pools.new pool + 1 }
-{
-    match desertion {
-        Desertion::Stays => {}
-        Desertion::Parks => park_again(processes, pools, t, now),
-        Desertion::IsCancelled => processes.cancel(t),
-    }
-}
-
-/// A thread is interrupted, or stays as it is.
-fn interrupt_where(processes: &mut Procs, t: Tid, interrupted: bool)
-    ensures { processes.new ≡ change_thread processes.old t.0 (interrupted_where interrupted) }
-{
-    if interrupted {
-        processes.interrupt(t);
-    }
-}
-
-/// One thread that is there meets its fate.
-fn leave_thread(processes: &mut Procs, pools: &mut Pools, t: Tid, fate: Fate, now: u64)
-    requires { CanParkAgain processes.old pools.old t.0 now }
-    ensures thread { processes.new ≡ change_thread processes.old t.0 (fated now fate) }
-    ensures agreed { (doors : List Door) (tree : CallTree) (list : NoticeList) → Agrees now processes.old doors tree list pools.old → Agrees now processes.new doors tree list pools.new }
-    ensures keeps { KeepsItems pools.old pools.new }
-    ensures room_left { (pool : Pool) → thread_room_in pools.old pool ≤ thread_room_in pools.new pool + 1 }
-{
-    if fate.ends {
-        end_thread(processes, pools, t);
-        return;
-    }
-    interrupt_where(processes, t, fate.interrupted);
-    desert(processes, pools, t, fate.desertion, now);
-}
-
-/// What becomes of all threads at an event, the lowest first. It takes no memory. The calls are not yet changed.
-pub fn leave_threads(processes: &mut Procs, pools: &mut Pools, who: Leaver, calls: &Calls, now: u64)
-    requires agreed { AgreesSomehow now processes.old pools.old }
-    requires numbered { (t : ℕ) (x : Thread) → thread_at processes.old t ≡ Some x → x.number ≡ t }
-    requires earlier { (t : ℕ) (x : Parked) → parked_at processes.old pools.old.bindings t ≡ Some x → x.since < now }
-    requires room { (t : ℕ) → is_some (thread_at processes.old t) ≡ true → length processes.old.threads ≤ thread_room_in pools.old (own_pool_in processes.old pools.old.bindings t) }
-    ensures threads { (doors : List Door) → processes.new ≡ left_threads (leaving_of processes.old doors who) now calls.now.tree.calls processes.old }
-    ensures agreed { (doors : List Door) (tree : CallTree) (list : NoticeList) → Agrees now processes.old doors tree list pools.old → Agrees now processes.new doors tree list pools.new }
-    ensures keeps { KeepsItems pools.old pools.new }
-{
-    for i in 0..processes.thread_count() {
-        let t = Tid(i + 1);
-        let fate = fate_of(who, processes, calls, t);
-        leave_thread(processes, pools, t, fate, now);
-    }
-}
-
 // notices
 
-/// What becomes of the notices, after the threads. Those that are past and that no rule asks for again are forgotten.
-pub fn leave_notices(notices: &mut Notices, who: Leaver, processes: &Procs, doors: &Doors)
-    ensures list { notices.new.list ≡ kept_notices doors.now.items (left_notices (leaving_of processes.now doors.now.items who) notices.old.list) }
+/// The item that a thread was given, or that its invocation is of.
+pub fn held_by(processes: &Procs, t: Tid) -> Option<Item>
+    ensures { result ≡ held_at processes.now t.0 }
+{
+    match processes.state(t) {
+        ThreadState::Given { item } => Some(*item),
+        _ => match processes.invocation(t) {
+            Some(invocation) => Some(invocation.item),
+            None => None,
+        },
+    }
+}
+
+/// What a thread has follows what is in `into`, if the thread ends. It takes no memory.
+fn note_held(processes: &Procs, who: Leaver, t: Tid, into: &mut Room<Item>)
+    requires { 0 < into.old.spare }
+    ensures spare { into.old.spare ≤ into.new.spare + 1 }
+    ensures kept { (c : ℕ) → list_any (is_notice_item c) into.old.items ≡ true → list_any (is_notice_item c) into.new.items ≡ true }
+    ensures noted { (doors : List Door) (c : ℕ) → (leaving_of processes.now doors who).ends t.0 ≡ true → held_at processes.now t.0 ≡ Some (item.Notice c) → list_any (is_notice_item c) into.new.items ≡ true }
+{
+    if !ends(who, processes, t) {
+        return;
+    }
+    if let Some(item) = held_by(processes, t) {
+        into.push(item);
+    }
+}
+
+/// What the threads have that end, all of a process.
+fn held_by_all(alloc: Global, processes: &Procs, who: Leaver) -> Result<Room<Item>, NoMemory>
+    ensures { IfOk result (λ held. (doors : List Door) → TellsHeld (leaving_of processes.now doors who) processes.now (length processes.now.threads) held.items) }
+{
+    let count = processes.thread_count();
+    let mut held = Room::with_room(alloc, count as usize)?;
+    for i in 0..count {
+        note_held(processes, who, Tid(i + 1), &mut held);
+    }
+    Ok(held)
+}
+
+/// What a thread has that ends.
+fn held_by_one(alloc: Global, processes: &Procs, thread: Tid) -> Result<Room<Item>, NoMemory>
+    ensures { IfOk result (λ held. (doors : List Door) → TellsHeld (leaving_of processes.now doors (Ended thread)) processes.now (length processes.now.threads) held.items) }
+{
+    let mut held = Room::with_room(alloc, 1)?;
+    note_held(processes, Leaver::Ended { thread }, thread, &mut held);
+    Ok(held)
+}
+
+/// The items that threads have which end, before they do.
+pub fn held_items(alloc: Global, processes: &Procs, who: Leaver) -> Result<Room<Item>, NoMemory>
+    ensures { IfOk result (λ held. (doors : List Door) → TellsHeld (leaving_of processes.now doors who) processes.now (length processes.now.threads) held.items) }
+{
+    match who {
+        Leaver::Ended { thread } => held_by_one(alloc, processes, thread),
+        Leaver::EndedProcess { .. } => held_by_all(alloc, processes, who),
+        _ => Ok(Room::new(alloc)),
+    }
+}
+
+/// What becomes of the notices, after the threads: of those that waited at lost doors, and of those that threads had which ended. Those
+/// that are past then and that no rule asks for again are forgotten.
+pub fn leave_notices(
+    notices: &mut Notices,
+    who: Leaver,
+    waiting: &[Item],
+    held: &[Item],
+    processes: &Procs,
+    doors: &Doors,
+)
+    ensures list { AreAllLeft (leaving_of processes.now doors.now.items who) (waiting.now ++ held.now) notices.old.list.notices → kept_notices doors.now.items notices.old.list ≡ notices.old.list → notices.new.list ≡ kept_notices doors.now.items (left_notices (leaving_of processes.now doors.now.items who) notices.old.list) }
     ensures room { notices.old.spare ≤ notices.new.spare }
 {
     notices.leave(
-        doors,
+        waiting,
+        held,
         |t| ends(who, processes, Tid(t)),
         |d| loses(who, doors, d),
+        |d| doors.takes_many(d),
     );
 }
 
-// memory
-
-/// Room in the pool of each thread for as many more threads as there are in all. Want of memory changes nothing but room, of which
-/// there is never less than before.
-pub fn make_room(pools: &mut Pools, processes: &Procs) -> Result<(), NoMemory>
-    ensures same { HoldsSame pools.old pools.new }
-    ensures kept { HasNoLessRoom pools.old pools.new }
-    ensures room { OnOk result ((t : ℕ) → is_some (thread_at processes.now t) ≡ true → is_some (pool_at pools.new (own_pool_in processes.now pools.new.bindings t)) ≡ true → length processes.now.threads ≤ thread_room_in pools.new (own_pool_in processes.now pools.new.bindings t)) }
+/// The notice that a thread has entered, which the item is that it serves, is over. It is forgotten, unless a rule asks for it again.
+pub fn end_notice(notices: &mut Notices, serves: Option<Item>, t: Tid, doors: &Doors)
+    ensures list { IsAllEntered serves t.0 notices.old.list.notices → kept_notices doors.now.items notices.old.list ≡ notices.old.list → notices.new.list ≡ kept_notices doors.now.items (end_notice notices.old.list t.0) }
+    ensures room { notices.old.spare ≤ notices.new.spare }
 {
-    let count = processes.thread_count();
-    for i in 0..count {
-        let pool = own_pool(processes, pools, Tid(i + 1));
-        pools.room_for_threads(pool, count as usize)?;
-    }
-    Ok(())
+    notices.end(serves, t, |d| doors.takes_many(d));
 }

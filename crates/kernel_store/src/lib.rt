@@ -4,6 +4,6 @@
 
 mod leaving;
 mod notices;
-mod parting;
+mod paths;
 mod starting;
 pub mod store;

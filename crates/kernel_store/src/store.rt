@@ -1,13 +1,14 @@
 //! What the kernel holds, by subject.
-ghost use Rattle.std.specs.Prelude.{◌≡◌, ◌<◌, ◌∷◌, [], length, true, is_none, is_some, IfOk, IfSome};
+ghost use Rattle.std.specs.Prelude.{◌≡◌, ℕ, ◌<◌, ◌∷◌, [], length, true, is_none, is_some, IfOk, IfSome};
 ghost use Rattle.dk_base.specs.declared.limits.TheConstants.{EVENTS_MAX};
 ghost use Rattle.dk_base.specs.declared.object.Obj.TheVariants as obj;
 ghost use Rattle.kernel_records.specs.Words.{door_attached, is_bad_pass, lowest_free};
 ghost use Rattle.written_kernel.specs.Words.{bound_of, calls_waiting, door_of, has_invalid_door, has_room, name_of, no_process, now, object_at, pool_of, reference_count, table_of};
 ghost use Rattle.pool_agreement.specs.Words.{own_pool};
-ghost use Rattle.unref_notice.specs.Words.{AreCounted};
 ghost use Rattle.kernel_store.specs.Frames.{IsAtRest};
-ghost use Rattle.kernel_store.specs.Stored.{IsAgreed, may_have_notice_in, stored_state};
+ghost use Rattle.kernel_store.specs.Turning.{can_turn};
+ghost use Rattle.thread_set.specs.Words.{has};
+ghost use Rattle.kernel_store.specs.Stored.{AreThere, IsAgreed, may_have_notice_in, stored_state};
 
 mod calls;
 mod descriptors;
@@ -18,7 +19,7 @@ mod threads;
 use crate::leaving::own_pool;
 use call_tree::calls::Calls;
 use dk_base::error::NoMemory;
-use dk_base::list::{ObjList, PassList};
+use dk_base::list::{ObjList, PassList, Room};
 use dk_base::number::{Fd, PathId, Pid, Tid};
 use dk_base::object::Obj;
 use door_object::doors::Doors;
@@ -29,11 +30,13 @@ use proc_table::procs::Procs;
 use server_pool::pools::Pools;
 use std::alloc::Global;
 use std::marker::Model;
+use thread_set::set::ThreadSet;
 use unref_notice::notices::Notices;
 
 /// What the kernel holds. It keeps the calls that are live, and the notices that are not past or that a rule asks for again. At
 /// every moment the pools hold the threads, the calls and the notices that the records have there, and the caller and the server of
-/// each call are threads that say so.
+/// each call are threads that say so; what refers to a door refers to one that is there; who waits for a path, and whether a door is
+/// attached to it, is known without a look at the names; and which pools may be short of room for notices.
 #[derive(Drop)]
 pub struct Store {
     processes: Procs,
@@ -44,19 +47,24 @@ pub struct Store {
     events: u64,
     /// No thread parked, and no call or notice was made, after this event.
     latest: u64,
+    /// Of the threads that wait for a path, those where a door is attached to it.
+    named: ThreadSet,
+    /// The pools that were made or got an item since room for notices was last taken. All others have it.
+    short: Room<Pool>,
 }
 
 impl Model for Store {
-    ghost use Rattle.std.specs.Prelude.{◌≡◌, length};
     ghost use Rattle.call_agreement.specs.Words.{AreBacked};
     ghost use Rattle.pool_agreement.specs.Words.{Agrees};
-    ghost use Rattle.kernel_store.specs.Stored.{StoreValue};
+    ghost use Rattle.kernel_store.specs.Noticing.{HaveItemRoomBut};
+    ghost use Rattle.kernel_store.specs.Stored.{ReferToDoors, StoreValue};
+    ghost use Rattle.kernel_store.specs.Turning.{KnowsPaths};
 
     ghost Value = { StoreValue };
 
-    ghost view = { λ s. record { processes = s.processes; pools = s.pools; tables = s.held.tables; names = s.held.names; doors = s.doors; calls = s.held.calls; notices = s.notices; events = s.events; latest = s.latest; opening = s.held.opening; door_room = s.held.door_room; reference_room = s.held.reference_room } };
+    ghost view = { λ s. record { processes = s.processes; pools = s.pools; tables = s.held.tables; names = s.held.names; doors = s.doors; calls = s.held.calls; notices = s.notices; events = s.events; latest = s.latest; opening = s.held.opening; left = s.held.left; short_room = s.short.spare } };
 
-    ghost invariant = { λ s. Agrees s.latest s.processes s.doors.items s.held.calls.tree s.notices.list s.pools × (length s.held.opening ≡ length s.doors.items) × AreBacked s.processes s.held.calls.tree.calls };
+    ghost invariant = { λ s. Agrees s.latest s.processes s.doors.items s.held.calls.tree s.notices.list s.pools × ReferToDoors s.doors.items s.held × AreBacked s.processes s.held.calls.tree.calls × KnowsPaths s.processes s.held.names.names s.named × HaveItemRoomBut s.short.items s.pools };
 }
 
 impl Store {
@@ -72,6 +80,8 @@ impl Store {
             notices: Notices::new(alloc),
             events: 0,
             latest: 0,
+            named: ThreadSet::new(),
+            short: Room::new(alloc),
         })
     }
 
@@ -159,7 +169,7 @@ impl Store {
     /// What a descriptor of a process names.
     pub fn object_at(&self, p: Pid, fd: Fd) -> Option<Obj>
         ensures object { result ≡ object_at (stored_state self.now) p.0 fd }
-        ensures counted { IfSome result (λ o. AreCounted self.now.opening (o ∷ [])) }
+        ensures there { IfSome result (λ o. AreThere self.now.doors.items (o ∷ [])) }
     {
         self.held.object_at(p, fd)
     }
@@ -195,9 +205,19 @@ impl Store {
     /// The number of the door that is attached to a path, 0 for none.
     pub fn door_attached(&self, path: PathId) -> u32
         ensures door { result ≡ door_attached (name_of (stored_state self.now) path) }
-        ensures counted { is_some (name_of (stored_state self.now) path) ≡ true → AreCounted self.now.opening (obj.Door result ∷ []) }
+        ensures there { is_some (name_of (stored_state self.now) path) ≡ true → AreThere self.now.doors.items (obj.Door result ∷ []) }
     {
         self.held.door_attached(path)
+    }
+
+    /// The threads that can take a turn.
+    pub fn runnable(&self) -> ThreadSet
+        ensures { (t : ℕ) → has result t ≡ can_turn (stored_state self.now) t }
+    {
+        let going = self.processes.going();
+        let collecting = self.held.calls().collecting();
+        let found = self.processes.awaiting().and(self.named);
+        going.or(collecting).or(found)
     }
 
     pub fn door(&self, d: u32) -> Option<Door>

@@ -1,18 +1,19 @@
 //! Calls and notices, and the threads that serve them.
-ghost use Rattle.std.specs.Prelude.{◌≡◌, ℕ, ◌+◌, ◌<◌, ◌≤◌, ◌^◌, ◌∷◌, List, true, find, is_some, IfNone, IsSome, OnSome, Some};
+ghost use Rattle.std.specs.Prelude.{◌≡◌, ℕ, ◌+◌, ◌<◌, ◌≤◌, ◌^◌, ◌∷◌, List, true, find, length, is_some, IfNone, IsSome, OnSome, Some};
 ghost use Rattle.dk_base.specs.declared.object.Item.TheVariants as item;
-ghost use Rattle.dk_base.specs.declared.limits.TheConstants.{QUEUE_MAX};
+ghost use Rattle.dk_base.specs.declared.limits.TheConstants.{PASS_MAX, QUEUE_MAX};
 ghost use Rattle.kernel_records.specs.declared.record.ThreadState.TheVariants as is;
-ghost use Rattle.kernel_records.specs.Words.{collect_call, end_invocation, end_notice, enter_call, enter_notice, enter_thread, fail_call, is_given_as, is_given_notice_as, is_to_collect_as, kept_notices, live_calls, make_notice, open_call, park_thread, return_call, set_thread_state, unbind_thread};
+ghost use Rattle.kernel_records.specs.Words.{collect_call, end_invocation, end_notice, enter_call, enter_notice, enter_thread, fail_call, is_client_call_of, is_given_as, is_given_notice_as, is_to_collect_as, kept_notices, live_calls, make_notice, open_call, park_thread, return_call, set_thread_state, unbind_thread};
 ghost use Rattle.call_tree.specs.Calls.{args_in};
 ghost use Rattle.call_tree.specs.Words.{outcome_in, queued_call};
-ghost use Rattle.written_kernel.specs.Words.{bound_of, calls_waiting, is_running, is_valid, now, objects_collected_in, pool_of, state_of};
+ghost use Rattle.written_kernel.specs.Words.{bound_of, calls_waiting, is_running, is_valid, now, pool_of, state_of};
 ghost use Rattle.pool_agreement.specs.Words.{own_pool};
-ghost use Rattle.unref_notice.specs.Words.{AreCounted};
+ghost use Rattle.kernel_holdings.specs.Words.{results_in};
 ghost use Rattle.kernel_store.specs.Frames.{CanAct, FillsNoPool, FillsNoQueue, FillsOnePool, IsInEvent, KeepsPools};
-ghost use Rattle.kernel_store.specs.Stored.{CanMake, HasRoomForReferences, stored_state};
+ghost use Rattle.kernel_store.specs.Held.{AreHeld};
+ghost use Rattle.kernel_store.specs.Stored.{AreThere, CanMake, HasRoomForReferences, stored_state};
 
-use crate::leaving::park;
+use crate::leaving::{end_notice, held_by, park};
 use crate::store::Store;
 use call_tree::parts::{Args, Outcome};
 use dk_base::list::{Bytes, ObjList};
@@ -31,8 +32,10 @@ impl Store {
         requires running { is_running (stored_state self.old) t.0 ≡ true }
         requires door { is_valid (stored_state self.old) door ≡ true }
         requires can_act { CanAct (pool_of (stored_state self.old) door) self.old }
+        requires references { HasRoomForReferences self.old }
         requires few { calls_waiting (stored_state self.old) (pool_of (stored_state self.old) door) < QUEUE_MAX }
-        requires counted { AreCounted self.old.opening args.objects }
+        requires there { AreThere self.old.doors.items args.objects }
+        requires small { length args.objects ≤ PASS_MAX }
         ensures number { result ≡ (stored_state self.old).call_tree.made + 1 }
         ensures state { stored_state self.new ≡ record (stored_state self.old) { process_table = set_thread_state (stored_state self.old).process_table t.0 (is.Calling result); call_tree = open_call (stored_state self.old).call_tree (queued_call result (now (stored_state self.old)) t.0 door args.bytes args.objects rsize no_cancel) } }
         ensures keeps { FillsOnePool (pool_of (stored_state self.old) door) self.old self.new }
@@ -48,7 +51,8 @@ impl Store {
             made: self.latest,
             door,
         };
-        let _ = self.pools.enqueue(pool, waiting);
+        self.pools.enqueue_fitting(pool, waiting);
+        self.short.push(pool);
         self.processes.turn(t, ThreadState::Calling { call });
         call
     }
@@ -57,10 +61,12 @@ impl Store {
     pub fn enter_call(&mut self, c: u32, t: Tid) -> Args
         requires given { state_of (stored_state self.old) t.0 ≡ is.Given (item.Call c) }
         requires there { IsSome (find (is_given_as c t.0) (stored_state self.old).call_tree.calls) }
+        requires references { HasRoomForReferences self.old }
         ensures state { stored_state self.new ≡ record (stored_state self.old) { process_table = enter_thread (stored_state self.old).process_table t.0 (item.Call c); call_tree = enter_call (stored_state self.old).call_tree c t.0 } }
         ensures args { args_in (find (is_given_as c t.0) (stored_state self.old).call_tree.calls) ≡ Some result }
-        ensures counted { AreCounted self.new.opening result.objects }
-        ensures references { self.old.reference_room ≤ self.new.reference_room }
+        ensures there { AreThere self.new.doors.items result.objects }
+        ensures small { length result.objects ≤ PASS_MAX }
+        ensures left { self.old.left ≤ self.new.left + PASS_MAX }
         ensures keeps { KeepsPools self.old self.new }
     {
         let args = self.held.enter_call(c, t);
@@ -73,6 +79,7 @@ impl Store {
         requires given { state_of (stored_state self.old) t.0 ≡ is.Given (item.Call c) }
         requires there { IsSome (find (is_given_as c t.0) (stored_state self.old).call_tree.calls) }
         requires can_act { CanAct (own_pool (stored_state self.old) t.0) self.old }
+        requires references { HasRoomForReferences self.old }
         ensures state { stored_state self.new ≡ record (stored_state self.old) { process_table = park_thread (stored_state self.old).process_table t.0 (now (stored_state self.old)); call_tree = fail_call (stored_state self.old).call_tree c t.0 } }
         ensures keeps { FillsOnePool (own_pool (stored_state self.old) t.0) self.old self.new }
         ensures queues { FillsNoQueue self.old self.new }
@@ -86,15 +93,19 @@ impl Store {
     pub fn return_call(&mut self, t: Tid, bytes: Bytes, objects: ObjList)
         requires running { is_running (stored_state self.old) t.0 ≡ true }
         requires can_act { CanAct (own_pool (stored_state self.old) t.0) self.old }
-        requires counted { AreCounted self.old.opening objects }
+        requires held { AreHeld (stored_state self.old) }
+        requires references { HasRoomForReferences self.old }
+        requires there { AreThere self.old.doors.items objects }
+        requires small { is_some (find (is_client_call_of t.0) (stored_state self.old).call_tree.calls) ≡ true → length objects ≤ PASS_MAX }
         ensures state { stored_state self.new ≡ record (stored_state self.old) { process_table = park_thread (stored_state self.old).process_table t.0 (now (stored_state self.old)); call_tree = return_call (stored_state self.old).call_tree t.0 bytes objects; notice_list = kept_notices (stored_state self.old).doors (end_notice (stored_state self.old).notice_list t.0) } }
         ensures keeps { FillsOnePool (own_pool (stored_state self.old) t.0) self.old self.new }
         ensures queues { FillsNoQueue self.old self.new }
     {
+        let serves = held_by(&self.processes, t);
         self.latest = self.events + 1;
         park(&mut self.processes, &mut self.pools, t, self.latest);
         self.held.give_back(t, bytes, objects);
-        self.notices.end(t, &self.doors);
+        end_notice(&mut self.notices, serves, t, &self.doors);
     }
 
     /// A thread that runs and is bound returns to its client, if it has one, or its notice is over, and it is bound to no door; it
@@ -102,25 +113,30 @@ impl Store {
     pub fn return_unbound(&mut self, t: Tid, bytes: Bytes, objects: ObjList)
         requires running { is_running (stored_state self.old) t.0 ≡ true }
         requires bound { is_some (bound_of (stored_state self.old) t.0) ≡ true }
-        requires counted { AreCounted self.old.opening objects }
+        requires held { AreHeld (stored_state self.old) }
+        requires there { AreThere self.old.doors.items objects }
+        requires small { is_some (find (is_client_call_of t.0) (stored_state self.old).call_tree.calls) ≡ true → length objects ≤ PASS_MAX }
         requires references { HasRoomForReferences self.old }
         ensures state { stored_state self.new ≡ record (stored_state self.old) { process_table = end_invocation (stored_state self.old).process_table t.0; bindings = unbind_thread (stored_state self.old).bindings t.0; call_tree = return_call (stored_state self.old).call_tree t.0 bytes objects; notice_list = kept_notices (stored_state self.old).doors (end_notice (stored_state self.old).notice_list t.0) } }
         ensures keeps { FillsNoPool self.old self.new }
     {
+        let serves = held_by(&self.processes, t);
         self.processes.end_invocation(t);
-        let _ = self.pools.unbind(t);
+        self.pools.drop_binding(t);
         self.held.give_back(t, bytes, objects);
-        self.notices.end(t, &self.doors);
+        end_notice(&mut self.notices, serves, t, &self.doors);
     }
 
     /// A caller collects its call, which is forgotten, and goes on.
     pub fn collect_call(&mut self, c: u32, t: Tid) -> Outcome
         requires calling { state_of (stored_state self.old) t.0 ≡ is.Calling c }
         requires ready { IsSome (find (is_to_collect_as c) (stored_state self.old).call_tree.calls) }
+        requires references { HasRoomForReferences self.old }
         ensures state { (at : ℕ) → stored_state self.new ≡ record (stored_state self.old) { process_table = set_thread_state (stored_state self.old).process_table t.0 is.Running; call_tree = live_calls (collect_call (stored_state self.old).call_tree c at) } }
         ensures outcome { outcome_in (find (is_to_collect_as c) (stored_state self.old).call_tree.calls) ≡ Some result }
-        ensures counted { AreCounted self.new.opening (objects_collected_in (find (is_to_collect_as c) (stored_state self.old).call_tree.calls)) }
-        ensures references { self.old.reference_room ≤ self.new.reference_room }
+        ensures there { AreThere self.new.doors.items (results_in result) }
+        ensures small { length (results_in result) ≤ PASS_MAX }
+        ensures left { self.old.left ≤ self.new.left + PASS_MAX }
         ensures keeps { KeepsPools self.old self.new }
     {
         let outcome = self.held.collect_call(c);
@@ -147,7 +163,8 @@ impl Store {
             made: self.latest,
             door: d,
         };
-        let _ = self.pools.enqueue(pool, waiting);
+        self.pools.enqueue_fitting(pool, waiting);
+        self.short.push(pool);
     }
 
     /// The thread that was given a notice enters it. The record as it was is handed out, if there is one.

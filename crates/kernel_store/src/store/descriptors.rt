@@ -1,15 +1,15 @@
 //! Descriptors, names, and doors.
 ghost use Rattle.std.specs.Prelude.{◌≡◌, ◌+◌, ◌<◌, ◌≤◌, ◌++◌, ◌∷◌, [], length, None, true, false, is_some};
-ghost use Rattle.dk_base.specs.declared.limits.TheConstants.{EVENTS_MAX};
+ghost use Rattle.dk_base.specs.declared.limits.TheConstants.{DESCRIPTORS_MAX, EVENTS_MAX};
 ghost use Rattle.dk_base.specs.declared.object.Obj.TheVariants as obj;
 ghost use Rattle.name_space.specs.Words.{HasRoomForName};
 ghost use Rattle.written_kernel.specs.Types.{Pool};
 ghost use Rattle.kernel_records.specs.Words.{close_row, descriptor, first_refusal, free_place, has_double_release, has_told_attributes, insert_row, lowest_free, new_descriptors, objects_passed, revoke_door, revoke_tests, set_param, set_param_tests, with_door, with_name, without_name};
 ghost use Rattle.written_kernel.specs.Words.{door_of, has_room, name_of, object_at, table_of, tables_after_pass, tables_with, with_table_of};
-ghost use Rattle.unref_notice.specs.Words.{AreCounted};
 ghost use Rattle.kernel_store.specs.Frames.{FillsNoPool, IsRoomFor, KeepsPools};
-ghost use Rattle.kernel_store.specs.Stored.{ArePlaced, CanCount, HasRoom, HasRoomForDoor, stored_state};
+ghost use Rattle.kernel_store.specs.Stored.{ArePlaced, AreThere, CanHold, HasRoom, HasRoomForDoor, HasRoomForReferences, stored_state};
 
+use crate::paths::find_all;
 use crate::store::Store;
 use dk_base::list::{FdList, ObjList, PassList, Room};
 use dk_base::number::{Fd, PathId, Pid};
@@ -24,7 +24,7 @@ impl Store {
     /// An object gets the lowest free descriptor of a process that has one.
     pub fn insert(&mut self, p: Pid, object: Obj) -> Fd
         requires free { is_some (lowest_free (table_of (stored_state self.old) p.0)) ≡ true }
-        requires counted { CanCount self.old (object ∷ []) }
+        requires can_hold { CanHold self.old (object ∷ []) }
         ensures state { stored_state self.new ≡ with_table_of (stored_state self.old) p.0 (insert_row (table_of (stored_state self.old) p.0) object) }
         ensures fd { result ≡ descriptor (free_place (table_of (stored_state self.old) p.0)) }
         ensures keeps { KeepsPools self.old self.new }
@@ -34,7 +34,8 @@ impl Store {
 
     /// Closes a descriptor of a process that names something.
     pub fn close(&mut self, p: Pid, fd: Fd)
-        requires { is_some (object_at (stored_state self.old) p.0 fd) ≡ true }
+        requires named { is_some (object_at (stored_state self.old) p.0 fd) ≡ true }
+        requires references { HasRoomForReferences self.old }
         ensures state { stored_state self.new ≡ with_table_of (stored_state self.old) p.0 (close_row (table_of (stored_state self.old) p.0) fd.0) }
         ensures keeps { KeepsPools self.old self.new }
     {
@@ -45,10 +46,11 @@ impl Store {
     pub fn take_out(&mut self, p: Pid, pass: &PassList, into: &mut Room<Obj>)
         requires once { has_double_release pass.now ≡ false }
         requires room { length pass.now ≤ into.old.spare }
+        requires references { DESCRIPTORS_MAX ≤ self.old.left }
         ensures state { stored_state self.new ≡ record (stored_state self.old) { tables = tables_after_pass (stored_state self.old) p.0 pass.now } }
         ensures items { into.new.items ≡ into.old.items ++ objects_passed (table_of (stored_state self.old) p.0) pass.now }
-        ensures counted { AreCounted self.new.opening (objects_passed (table_of (stored_state self.old) p.0) pass.now) }
-        ensures references { self.old.reference_room ≤ self.new.reference_room }
+        ensures there { AreThere self.new.doors.items (objects_passed (table_of (stored_state self.old) p.0) pass.now) }
+        ensures left { self.old.left ≤ self.new.left + DESCRIPTORS_MAX }
         ensures keeps { KeepsPools self.old self.new }
         ensures kept { (touched : Pool) → HasRoom self.old touched → HasRoom self.new touched }
     {
@@ -59,7 +61,7 @@ impl Store {
     pub fn install(&mut self, p: Pid, objects: &ObjList, fds: Room<Fd>) -> FdList
         requires room { IsRoomFor (length objects.now) fds }
         requires free { has_room (stored_state self.old) p.0 objects.now ≡ true }
-        requires counted { CanCount self.old objects.now }
+        requires can_hold { CanHold self.old objects.now }
         ensures state { stored_state self.new ≡ record (stored_state self.old) { tables = tables_with (stored_state self.old) p.0 objects.now } }
         ensures fds { result ≡ new_descriptors (table_of (stored_state self.old) p.0) objects.now }
         ensures keeps { KeepsPools self.old self.new }
@@ -71,19 +73,22 @@ impl Store {
     pub fn attach(&mut self, path: PathId, door: u32)
         requires room { HasRoomForName self.old.names }
         requires free { is_some (name_of (stored_state self.old) path) ≡ false }
-        requires counted { CanCount self.old (obj.Door door ∷ []) }
+        requires can_hold { CanHold self.old (obj.Door door ∷ []) }
         ensures state { stored_state self.new ≡ record (stored_state self.old) { names = with_name (stored_state self.old).names path door } }
         ensures keeps { KeepsPools self.old self.new }
     {
         self.held.attach(path, door);
+        self.named = find_all(&self.processes, self.held.names());
     }
 
     /// A path has no door any more.
     pub fn detach(&mut self, path: PathId)
+        requires { HasRoomForReferences self.old }
         ensures state { stored_state self.new ≡ record (stored_state self.old) { names = without_name (stored_state self.old).names path } }
         ensures keeps { KeepsPools self.old self.new }
     {
         self.held.detach(path);
+        self.named = find_all(&self.processes, self.held.names());
     }
 
     // doors
@@ -96,16 +101,15 @@ impl Store {
         requires allowed { has_told_attributes attrs ≡ false }
         ensures state { stored_state self.new ≡ record (stored_state self.old) { doors = with_door (stored_state self.old).doors owner.0 entry cookie attrs } }
         ensures number { result ≡ length (stored_state self.old).doors + 1 }
-        ensures counted { AreCounted self.new.opening (obj.Door result ∷ []) }
-        ensures opening { self.new.opening ≡ self.old.opening ++ 0 ∷ [] }
-        ensures references { self.new.reference_room ≡ self.old.reference_room }
-        ensures keeps { FillsNoPool self.old (record (self.new) { opening = self.old.opening }) }
+        ensures there { AreThere self.new.doors.items (obj.Door result ∷ []) }
+        ensures left { self.new.left ≡ self.old.left }
+        ensures keeps { FillsNoPool self.old self.new }
     {
         let Ok(number) = self.doors.create(owner, entry, cookie, attrs) else {
             return 0;
         };
         self.pools.add_door();
-        self.held.add_door();
+        self.short.push(Pool::Private(number));
         number
     }
 

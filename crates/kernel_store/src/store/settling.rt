@@ -126,7 +126,7 @@ impl Store {
         }
         let pool = self.own_pool(t);
         self.pools.unpark(t, pool);
-        let _ = self.pools.unbind(t);
+        self.pools.drop_binding(t);
         self.processes.fail(t);
     }
 

@@ -1,36 +1,43 @@
 //! The processes and threads of the opening, the memory that an event can need, and where its step begins and ends.
 ghost use Rattle.std.specs.Prelude.{◌≡◌, ℕ, ◌+◌, ◌<◌, ◌≤◌, ◌++◌, Bool, List, filter, length, true, IfOk, OnOk, OnErr};
-ghost use Rattle.dk_base.specs.declared.limits.TheConstants.{PROCESSES_MAX, THREADS_MAX, EVENTS_MAX};
+ghost use Rattle.dk_base.specs.declared.limits.TheConstants.{DESCRIPTORS_MAX, PROCESSES_MAX, THREADS_MAX, EVENTS_MAX};
 ghost use Rattle.written_kernel.specs.Types.{Pool};
 ghost use Rattle.kernel_records.specs.Words.{notice_doors};
 ghost use Rattle.written_kernel.specs.Words.{is_live_process, with_event_counted, with_new_process, with_new_thread};
 ghost use Rattle.unref_notice.specs.Words.{was_shared};
+ghost use Rattle.unref_notice.specs.declared.counts.TheConstants.{STEP_MAX};
+ghost use Rattle.unref_notice.specs.declared.notices.TheConstants.{NOTICES_MAX};
 ghost use Rattle.kernel_store.specs.Frames.{FillsNoPool, IsAtRest, KeepsPools};
-ghost use Rattle.kernel_store.specs.Stored.{ArePlaced, HasBegun, HasRoom, HasRoomForNotices, HasRoomToLeave, has_fallen_since, stored_state};
+ghost use Rattle.kernel_store.specs.Stored.{ArePlaced, HasBegun, HasRoom, HasRoomForNotices, HasWholeStep, has_fallen_since, stored_state};
 
-use crate::leaving::make_room;
-use crate::notices::room_for_notices;
+use crate::notices::renew_room;
 use crate::store::Store;
 use dk_base::error::NoMemory;
 use dk_base::list::Room;
 use dk_base::number::{Pid, Tid};
 use kernel_records::pool::Pool;
 use std::alloc::Global;
+use unref_notice::counts::STEP_MAX;
 
 impl Store {
     // before the first event
 
     /// Another process, under the next number. Want of memory lets the store go.
     pub fn with_process(mut self, alloc: Global, limit: u32) -> Result<Self, NoMemory>
-        requires { length self.processes.processes < PROCESSES_MAX }
+        requires processes { length self.processes.processes < PROCESSES_MAX }
+        requires tables { length self.tables < PROCESSES_MAX }
+        requires limit { limit ≤ DESCRIPTORS_MAX }
         ensures state { IfOk result (λ s. stored_state s ≡ with_new_process (stored_state self) limit) }
         ensures rest { IfOk result (λ s. (n : ℕ) → IsAtRest n self → IsAtRest n s) }
     {
         self.held.add_table(alloc, limit)?;
+        self.short.reserve(1)?;
         if self.processes.add_proc(limit).is_err() {
             return Err(NoMemory);
         }
         self.pools.add_process()?;
+        let number = Pid(self.processes.process_count());
+        self.short.push(Pool::Common(number));
         Ok(self)
     }
 
@@ -63,48 +70,43 @@ impl Store {
     pub fn reserve(&mut self, touched: Pool) -> Result<(), NoMemory>
         ensures state { stored_state self.new ≡ stored_state self.old }
         ensures keeps { FillsNoPool self.old self.new }
+        ensures left { self.new.left ≡ self.old.left }
         ensures room { OnOk result (HasRoom self.new touched) }
     {
         self.held.reserve()?;
         self.doors.reserve()?;
+        self.short.reserve(1)?;
         self.pools.reserve_door()?;
         self.pools.room(touched)
     }
 
-    /// Takes the memory for a notice of each of these doors, beside a call of the same event: they are among those of which notices
-    /// can be made, in order. It changes nothing else.
-    pub fn reserve_notices(&mut self, ds: &[u32]) -> Result<(), NoMemory>
-        requires placed { ArePlaced (stored_state self.old) }
-        requires listed { (is_listed : ℕ → Bool) × (ds.now ≡ filter is_listed (notice_doors (stored_state self.old).doors)) }
+    /// Takes the memory for the notices that an event can make, beside a call of the same event. Only the pools are looked at that were
+    /// made or got an item since it was last taken. It changes nothing else.
+    pub fn reserve_notices(&mut self) -> Result<(), NoMemory>
+        requires { self.old.notices.list.made + STEP_MAX ≤ NOTICES_MAX }
         ensures state { stored_state self.new ≡ stored_state self.old }
         ensures keeps { FillsNoPool self.old self.new }
-        ensures room { OnOk result (HasRoomForNotices self.new ds.now) }
+        ensures left { self.new.left ≡ self.old.left }
+        ensures room { OnOk result (HasRoomForNotices self.new) }
         ensures kept { (touched : Pool) → HasRoom self.old touched → HasRoom self.new touched }
-        ensures kept_to_leave { HasRoomToLeave self.old → HasRoomToLeave self.new }
     {
-        self.notices.reserve(ds.len())?;
-        room_for_notices(&mut self.pools, &self.doors, ds)
-    }
-
-    /// Takes the memory that threads can need which park again as their callers leave. It changes nothing else.
-    pub fn reserve_leaving(&mut self) -> Result<(), NoMemory>
-        ensures state { stored_state self.new ≡ stored_state self.old }
-        ensures keeps { FillsNoPool self.old self.new }
-        ensures room { OnOk result (HasRoomToLeave self.new) }
-        ensures kept { (touched : Pool) → HasRoom self.old touched → HasRoom self.new touched }
-        ensures kept_for_notices { (ds : List ℕ) → HasRoomForNotices self.old ds → HasRoomForNotices self.new ds }
-    {
-        make_room(&mut self.pools, &self.processes)
+        self.notices
+            .reserve(self.doors.notice_doors().len().min(STEP_MAX))?;
+        renew_room(&mut self.pools, self.short.slice())?;
+        self.short.clear();
+        self.short.reserve(STEP_MAX + 1)
     }
 
     // steps
 
-    /// The step begins that an event is: the references that each door has now are those at its beginning. It takes no memory.
-    pub fn start_step(&mut self)
-        ensures same { self.new ≡ record (self.old) { opening = self.new.opening } }
+    /// The step begins that an event is: the references that each object has now are those at its beginning. They may come and go in
+    /// it as often as in any step, which takes no memory then. Want of memory leaves all else as it was.
+    pub fn start_step(&mut self) -> Result<(), NoMemory>
+        ensures same { self.new ≡ record (self.old) { opening = self.new.opening; left = self.new.left } }
         ensures opened { HasBegun self.new (stored_state self.old) }
+        ensures left { OnOk result (HasWholeStep self.new) }
     {
-        self.held.start_step();
+        self.held.start_step()
     }
 
     /// The doors that take notices, had more than one reference when the step began, and have one now, in the order of their
@@ -114,6 +116,7 @@ impl Store {
         requires room { length (filter (was_shared self.old.opening) (notice_doors (stored_state self.old).doors)) ≤ into.old.spare }
         ensures same { self.new ≡ self.old }
         ensures items { into.new.items ≡ into.old.items ++ filter (has_fallen_since self.old.opening (stored_state self.old)) (notice_doors (stored_state self.old).doors) }
+        ensures few { length into.new.items ≤ length into.old.items + STEP_MAX }
     {
         self.held.end_of_step(&self.doors, into);
     }

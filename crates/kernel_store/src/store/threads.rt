@@ -1,18 +1,23 @@
 //! Threads: what they wait for, the doors that they are bound to, and how they and their processes end.
-ghost use Rattle.std.specs.Prelude.{◌≡◌, false, true, is_some};
+ghost use Rattle.std.specs.Prelude.{◌≡◌, ◌+◌, ◌≤◌, false, true, is_some, IfOk, OnErr, OnOk};
 ghost use Rattle.call_agreement.specs.Words.{is_calling};
 ghost use Rattle.kernel_invariant.specs.Core.{is_outside};
 ghost use Rattle.kernel_records.specs.Words.{bind_thread, close_table, end_owner, end_process, leaving_of, unbind_thread, with_table};
 ghost use Rattle.written_kernel.specs.Words.{bound_of, forget, is_running, leave, state_of, table_of, with_state};
-ghost use Rattle.kernel_store.specs.Frames.{CanLeave, FillsNoPool, FillsNoQueue, IsActive, KeepsForNotices, KeepsPools};
+ghost use Rattle.dk_base.specs.declared.limits.TheConstants.{DESCRIPTORS_MAX};
+ghost use Rattle.kernel_holdings.specs.Words.{TRANSIT_MAX};
+ghost use Rattle.kernel_store.specs.Frames.{AreItsDoors, CanLeave, IsDeclared, FillsNoPool, FillsNoQueue, IsActive, KeepsForNotices, KeepsPools};
 ghost use Rattle.kernel_store.specs.Stored.{stored_state};
 
-use crate::leaving::{leave_notices, leave_threads, withdraw_calls, withdraw_notices};
-use crate::parting::leave_calls;
+use crate::leaving::{held_items, leave_notices};
+use crate::paths::note_turn;
 use crate::store::Store;
+use dk_base::error::NoMemory;
+use dk_base::list::DoorList;
 use dk_base::number::{Pid, Tid};
 use kernel_records::leaving::Leaver;
 use kernel_records::record::ThreadState;
+use std::alloc::Global;
 
 impl Store {
     /// A thread turns to another state. In both it takes turns or waits, but for no item and for no call.
@@ -22,8 +27,10 @@ impl Store {
         requires to_not_calling { is_calling state ≡ false }
         ensures state { stored_state self.new ≡ with_state (stored_state self.old) t.0 state }
         ensures keeps { KeepsPools self.old self.new }
-        ensures references { self.new.reference_room ≡ self.old.reference_room }
+        ensures left { self.new.left ≡ self.old.left }
     {
+        let _threads = self.processes.thread_count();
+        note_turn(&mut self.named, self.held.names(), t, &state);
         self.processes.turn(t, state)
     }
 
@@ -43,49 +50,60 @@ impl Store {
         ensures state { stored_state self.new ≡ record (stored_state self.old) { bindings = unbind_thread (stored_state self.old).bindings t.0 } }
         ensures keeps { FillsNoPool self.old self.new }
     {
-        let _ = self.pools.unbind(t);
+        self.pools.drop_binding(t);
     }
 
     // ends
 
-    /// Callers are interrupted, threads end and doors are lost, of which it is told: the calls and notices that wait no longer leave
-    /// their pools, threads end or are parked again, or learn that their callers have left, and calls and notices end. It takes no memory.
-    pub fn leave(&mut self, who: Leaver)
-        requires { CanLeave self.old }
-        ensures state { stored_state self.new ≡ forget (leave (stored_state self.old) (leaving_of (stored_state self.old).process_table (stored_state self.old).doors who)) }
-        ensures keeps { KeepsForNotices self.old self.new }
-        ensures queues { FillsNoQueue self.old self.new }
+    /// The doors of a process that ends at which something may wait.
+    fn lost_doors(&self, alloc: Global, who: Leaver) -> Result<DoorList, NoMemory>
+        ensures { IfOk result (AreItsDoors who (stored_state self.now)) }
     {
-        let _threads = self.processes.thread_count();
+        match who {
+            Leaver::EndedProcess { process } => self.doors.owned(alloc, process),
+            _ => Ok(DoorList::new(alloc)),
+        }
+    }
+
+    /// Callers are interrupted, threads end and doors are lost, of which it is told: the calls and notices that wait no longer leave
+    /// their pools, threads end or are parked again, or learn that their callers have left, and calls and notices end. Want of memory
+    /// leaves all as it was.
+    pub fn leave(&mut self, alloc: Global, who: Leaver) -> Result<(), NoMemory>
+        requires can { CanLeave self.old }
+        requires declared { IsDeclared who (stored_state self.old) }
+        ensures state { OnOk result (stored_state self.new ≡ forget (leave (stored_state self.old) (leaving_of (stored_state self.old).process_table (stored_state self.old).doors who))) }
+        ensures keeps { OnOk result (KeepsForNotices self.old self.new) }
+        ensures left { OnOk result (self.old.left ≤ self.new.left + TRANSIT_MAX) }
+        ensures as_before { OnErr result (stored_state self.new ≡ stored_state self.old) }
+        ensures fills { OnErr result (FillsNoPool self.old self.new) }
+    {
+        let lost = self.lost_doors(alloc, who)?;
+        let had = held_items(alloc, &self.processes, who)?;
         self.held.calls().are_sound();
-        self.latest = self.events + 1;
-        withdraw_calls(
-            &mut self.pools,
+        let left = self.held.leave(
+            alloc,
             who,
-            &self.processes,
-            &self.doors,
-            self.held.calls(),
-        );
-        withdraw_notices(
-            &mut self.pools,
-            who,
-            &self.processes,
-            &self.doors,
-            &self.notices,
-        );
-        leave_threads(
             &mut self.processes,
             &mut self.pools,
+            &self.doors,
+            lost.slice(),
+            self.events + 1,
+        )?;
+        self.latest = self.events + 1;
+        leave_notices(
+            &mut self.notices,
             who,
-            self.held.calls(),
-            self.latest,
+            left.untaken.slice(),
+            had.slice(),
+            &self.processes,
+            &self.doors,
         );
-        leave_calls(&mut self.held, who, &self.processes, &self.doors);
-        leave_notices(&mut self.notices, who, &self.processes, &self.doors);
+        Ok(())
     }
 
     /// A process that has no thread left has ended: its descriptors are closed, and its doors are invalid.
     pub fn end_process(&mut self, p: Pid)
+        requires { DESCRIPTORS_MAX ≤ self.old.left }
         ensures state { stored_state self.new ≡ record (stored_state self.old) { process_table = end_process (stored_state self.old).process_table p.0; tables = with_table (stored_state self.old).tables p.0 (close_table (table_of (stored_state self.old) p.0)); doors = end_owner (stored_state self.old).doors p.0 } }
         ensures keeps { KeepsPools self.old self.new }
     {

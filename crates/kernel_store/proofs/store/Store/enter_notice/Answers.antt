@@ -1,3 +1,4 @@
+use Rattle.kernel_store.proofs.Knowing.{entered_still, knows_changed}
 use Rattle.std.proofs.Common.{◌≡◌, ap, sym, ◌∙◌}
 use Rattle.kernel_records.specs.declared.record.NoticeStage.TheVariants as stage
 use Rattle.kernel_records.specs.Words.{is_given_notice_as, notice_at}
@@ -11,7 +12,7 @@ use Rattle.call_agreement.proofs.Backing.{noticed_turns}
 use Rattle.kernel_store.proofs.store.Store.enter_notice.Goals as goal
 
 pub invariant_of-self : goal.invariant_of-self
-invariant_of-self c = (rw c.enter.ensures.list (agrees_enter_notice c.self.invariant.0 c.args.n c.args.t.0), c.self.invariant.1, c.self.invariant.2)
+invariant_of-self c = (rw c.enter.ensures.list (agrees_enter_notice c.self.invariant.0 c.args.n c.args.t.0), c.self.invariant.1, c.self.invariant.2, c.self.invariant.3, c.self.invariant.4)
 
 pub returns-in_default-clause-none : goal.returns-in_default-clause-none
 returns-in_default-clause-none c =
@@ -29,4 +30,6 @@ invariant_of-self-2 c =
       c.self.invariant.1,
       rw c.enter-2.ensures
           (noticed_turns c.self.inside.processes c.self.inside.held.calls.tree c.self.invariant.0.calls c.self.invariant.2 c.args.t.0 (thread_in_invocation (item.Notice c.args.n)) c.args.n given),
+      rw c.enter-2.ensures (knows_changed c.self.inside.processes c.args.t.0 (thread_in_invocation (item.Notice c.args.n)) (entered_still (item.Notice c.args.n)) c.self.invariant.3),
+      c.self.invariant.4,
     )

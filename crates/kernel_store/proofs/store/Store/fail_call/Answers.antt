@@ -1,9 +1,13 @@
+use Rattle.kernel_store.proofs.Knowing.{idle_still, knows_changed}
 use Rattle.std.proofs.Common.{◌+◌, ap, refl, rules, ◌∙◌}
-use Rattle.kernel_records.specs.Words.{is_done, is_dormant, is_idle, idle_thread}
+use Rattle.kernel_records.specs.Words.{is_done, is_dormant, is_idle, idle_thread, tid}
+use Rattle.exit_paths.specs.Words.{own_pool_in}
 use Rattle.call_agreement.proofs.Backing.{failed_turns, some_call}
 use Rattle.pool_agreement.proofs.Queues.{agrees_fail}
 use Rattle.kernel_store.proofs.Parking.{can_park, parked_here, parked_keeps, parked_queues}
 use Rattle.kernel_store.proofs.Acts.{state_is}
+use Rattle.kernel_store.proofs.There.{there_fewer}
+use Rattle.kernel_store.proofs.Short.{parked_room}
 use Rattle.kernel_store.proofs.store.Store.fail_call.Goals as goal
 
 pub park-requires : goal.park-requires
@@ -15,14 +19,17 @@ invariant_of-self c =
     let x = some_call _ (rw (← c.self.view_is) at c.requires.there) in
     rw (c.fail_call.ensures.same, c.fail_call.ensures.calls, c.park.ensures.thread, c.park.ensures.pools) (
       agrees_fail (parked_here c.self.invariant.0 c.self.view_is c.args.t.0 c.requires.can_act (ap is_done given) (ap is_idle given) (ap is_dormant given)) c.args.c c.args.t.0,
-      c.self.invariant.1,
+      rw (c.fail_call.ensures.same, c.fail_call.ensures.calls) at (there_fewer c.self.inside.doors.items c.self.inside.held c.fail_call.new.self c.self.invariant.1 c.fail_call.ensures.references),
       failed_turns c.self.inside.processes c.self.inside.held.calls.tree c.self.invariant.0.calls c.self.invariant.2 c.args.c c.args.t.0
           (state_is c.self.invariant.0 c.self.view_is c.args.t.0 ∙ given) x.0 x.1 (idle_thread (c.self.inside.events + 1)),
+      knows_changed c.self.inside.processes c.args.t.0 _ (idle_still _) c.self.invariant.3,
+      parked_room c.self.inside.short.items c.self.inside.pools c.self.invariant.4 (own_pool_in c.self.inside.processes c.self.inside.pools.bindings c.args.t.0)
+          (record { thread = tid c.args.t.0; pool = own_pool_in c.self.inside.processes c.self.inside.pools.bindings c.args.t.0; since = c.self.inside.events + 1 }),
     )
 
 pub returns-clause-keeps : goal.returns-clause-keeps
 returns-clause-keeps c =
-    parked_keeps c.self.invariant.0 c.self.view_is c.args.t.0 c.requires.can_act (ap is_done c.requires.given) _ c.park.ensures.pools refl (search rules) (search rules)
+    parked_keeps c.self.invariant.0 c.self.view_is c.args.t.0 c.requires.can_act (ap is_done c.requires.given) _ c.park.ensures.pools refl (search rules) (search rules) (search rules)
 
 pub returns-clause-queues : goal.returns-clause-queues
 returns-clause-queues c =

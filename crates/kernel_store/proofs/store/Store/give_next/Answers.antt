@@ -1,4 +1,6 @@
+use Rattle.kernel_store.proofs.Knowing.{knows_changed, turned_still}
 use Rattle.std.proofs.Common.{ap, sym, subst, ◌∙◌}
+use Rattle.server_pool.specs.Words.{match_in}
 use Rattle.pool_agreement.specs.Words.{IsGivenOutIn}
 use Rattle.kernel_store.specs.Stored.{IsAgreed}
 use Rattle.kernel_store.proofs.Giving.{agrees_given, agrees_given_notice, gives_on, gives_on_notice, matched_is_idle, matched_waits, nothing_to_give}
@@ -7,6 +9,8 @@ use Rattle.kernel_records.specs.declared.record.ThreadState.TheVariants as is
 use Rattle.kernel_records.specs.Words.{thread_at_state}
 use Rattle.call_agreement.proofs.Backing.{call_given, idle_serves_not, idle_there, idle_turns, idle_waits_not, some_call}
 use Rattle.call_agreement.proofs.Free.{is_thread}
+use Rattle.kernel_store.proofs.There.{there_fewer}
+use Rattle.kernel_store.proofs.Short.{matched_room, room_changed}
 use Rattle.kernel_store.proofs.store.Store.give_next.Goals as goal
 
 pub returns-in_default-clause-none : goal.returns-in_default-clause-none
@@ -42,9 +46,11 @@ invariant_of-self-in-Call c =
     rw c.give_call.ensures.same (
       agrees_given (the_view c.self.inside) c.self.invariant.0 c.args.pool c.in-Some.next (sym c.in-Some.ensures.result) c.in-Call.c
           c.in-Call.is _ _ c.give_call.new.self.calls c.give.ensures c.in-Some.ensures.some c.give_call.ensures.calls,
-      c.self.invariant.1,
+      rw c.give_call.ensures.same at (there_fewer c.self.inside.doors.items c.self.inside.held c.give_call.new.self c.self.invariant.1 c.give_call.ensures.references),
       rw (c.give.ensures, c.in-Call.is, c.give_call.ensures.calls)
           (call_given table tree c.self.invariant.0.calls c.self.invariant.2 u idle c.in-Call.c x.0 x.1),
+      rw c.give.ensures (knows_changed table u (thread_at_state (is.Given c.in-Some.next.item)) (turned_still (is.Given c.in-Some.next.item) (λ path e. absurd cc)) c.self.invariant.3),
+      rw c.in-Some.ensures.some (room_changed c.self.inside.short.items c.self.inside.pools c.self.invariant.4 c.args.pool match_in matched_room),
     )
 
 pub invariant_of-self-in-Notice : goal.invariant_of-self-in-Notice
@@ -56,6 +62,8 @@ invariant_of-self-in-Notice c =
       rw c.give.ensures
           (idle_turns c.self.inside.processes c.self.inside.held.calls.tree c.self.invariant.0.calls c.self.invariant.2 c.in-Some.next.thread.0 idle
           (thread_at_state (is.Given c.in-Some.next.item))),
+      rw c.give.ensures (knows_changed c.self.inside.processes c.in-Some.next.thread.0 (thread_at_state (is.Given c.in-Some.next.item)) (turned_still (is.Given c.in-Some.next.item) (λ path e. absurd cc)) c.self.invariant.3),
+      rw c.in-Some.ensures.some (room_changed c.self.inside.short.items c.self.inside.pools c.self.invariant.4 c.args.pool match_in matched_room),
     )
 
 pub returns-in-Call-clause-given : goal.returns-in-Call-clause-given

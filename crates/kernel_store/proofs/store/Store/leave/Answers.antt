@@ -1,85 +1,72 @@
-use Rattle.std.proofs.Common.{◌≡◌, ◌+◌, ◌<◌, ◌≤◌, sym, ap, ◌∙◌, subst, subst₂, arith, rules}
-use Rattle.call_tree.specs.Words.{CallsValue}
-use Rattle.kernel_records.specs.Words.{CallTree, ProcessTable, kept_notices, leaving_of, left_calls, left_notices, left_threads, live_calls, parked_at}
+use Rattle.kernel_store.specs.Turning.{KnowsPaths}
+use Rattle.kernel_store.proofs.Knowing.{knows_left}
+use Rattle.std.proofs.Common.{◌≡◌, ◌+◌, ◌++◌, ◌<◌, length, sym, ap, ◌∙◌, subst, subst₂, arith, rules}
+use Rattle.call_agreement.proofs.Leaving.{calls_left}
+use Rattle.call_agreement.specs.Words.{AreBacked}
+use Rattle.kernel_holdings.specs.Words.{HoldingsValue}
+use Rattle.kernel_records.specs.Words.{CallTree, ProcessTable, kept_notices, leaving_of, left_notices}
 use Rattle.written_kernel.specs.Words.{forget, leave}
 use Rattle.server_pool.specs.Words.{item_room_in}
 use Rattle.pool_agreement.specs.Words.{Agrees}
 use Rattle.pool_agreement.proofs.Stacks.{agrees_later}
-use Rattle.kernel_store.specs.Leaving.{own_pool_in}
+use Rattle.pool_agreement.proofs.Noticing.{list_is_kept}
+use Rattle.unref_notice.specs.Words.{AreAllLeft}
+use Rattle.kernel_store.specs.Held.{AreHeld}
+use Rattle.kernel_store.proofs.HeldNotices.{all_are_left}
 use Rattle.kernel_store.specs.Stored.{ArePlaced, StoreValue, stored_state}
-use Rattle.kernel_store.proofs.LeftStore.{early, parked_early, room_to_leave, withdrawn}
-use Rattle.kernel_store.proofs.LeftThreads.{leaving_after}
-use Rattle.call_agreement.specs.Words.{AreBacked}
-use Rattle.call_agreement.proofs.Leaving.{calls_left}
+use Rattle.kernel_store.proofs.LeftStore.{early, leaving_after, parked_early}
+use Rattle.kernel_store.proofs.Lost.{can_end}
+use Rattle.kernel_store.proofs.There.{there_fewer}
+use Rattle.kernel_store.proofs.Short.{no_less_items, there_before}
 use Rattle.kernel_store.proofs.store.Store.leave.Goals as goal
 
-pub leave_threads-requires-clause-agreed : goal.leave_threads-requires-clause-agreed
-leave_threads-requires-clause-agreed c =
+pub leave-requires-clause-can : goal.leave-requires-clause-can
+leave-requires-clause-can c =
     let s = c.self.inside in
-    let doors = s.doors.items in
-    let who = leaving_of s.processes doors c.args.who in
-    let tree = live_calls (left_calls who s.held.calls.tree) in
-    let l : s.latest < s.events + 1 = early c.self.invariant.0 c.self.view_is c.requires.latest in
+    let l : s.latest < s.events + 1 = early c.self.invariant.0 c.self.view_is c.requires.can.latest in
     record {
-      doors = doors;
-      tree = tree;
-      list = kept_notices doors (left_notices who s.notices.list);
-      agrees =
-          agrees_later
-          (c.withdraw_notices.ensures.agreed s.latest tree
-          (withdrawn who c.calls-2.result.now s.held.calls c.calls-2.ensures (c.withdraw_calls.ensures.agreed s.latest s.notices.list) c.self.invariant.0))
-          (s.events + 1) (omega arith);
+      list = s.notices.list;
+      agreed = agrees_later c.self.invariant.0 (s.events + 1) (omega arith);
+      placed = subst (λ (v : StoreValue). ArePlaced (stored_state v)) (sym c.self.view_is) c.requires.can.placed;
+      earlier = λ t x e. omega (arith, l, parked_early c.self.invariant.0 t x e);
     }
 
-pub leave_threads-requires-clause-earlier : goal.leave_threads-requires-clause-earlier
-leave_threads-requires-clause-earlier c = λ t x e.
-    let s = c.self.inside in
-    let l : s.latest < s.events + 1 = early c.self.invariant.0 c.self.view_is c.requires.latest in
-    let since : x.since ≤ s.latest =
-    parked_early c.self.invariant.0 t x
-    (ap (λ bs. parked_at s.processes bs t) (sym (c.withdraw_notices.ensures.bindings ∙ c.withdraw_calls.ensures.bindings)) ∙ e) in
-    omega arith
+pub leave-requires-clause-ends : goal.leave-requires-clause-ends
+leave-requires-clause-ends c =
+    let placed = subst (λ (v : StoreValue). ArePlaced (stored_state v)) (sym c.self.view_is) c.requires.can.placed in
+    rw c.slice.ensures
+    (can_end c.self.view_is c.self.invariant.0 placed.door_number c.requires.can.waiting c.args.who c.in_ok-lost.lost c.requires.declared (rw (← c.self.view_is) at c.in_ok-lost.ensures))
 
-pub leave_threads-requires-clause-room : goal.leave_threads-requires-clause-room
-leave_threads-requires-clause-room c = λ t there.
-    let s = c.self.inside in
-    rw c.withdraw_notices.ensures.bindings
-    (rw c.withdraw_calls.ensures.bindings
-    (rw (c.withdraw_notices.ensures.room (own_pool_in s.processes s.pools.bindings t))
-    (rw (c.withdraw_calls.ensures.room (own_pool_in s.processes s.pools.bindings t))
-    (room_to_leave c.self.invariant.0 c.self.view_is c.requires.placed c.requires.room t there))))
-
-pub leave_calls-requires : goal.leave_calls-requires
-leave_calls-requires c = record { table = c.self.inside.processes; backed = c.self.invariant.2; few = c.thread_count-threads.ensures.few }
-
-pub invariant_of-self : goal.invariant_of-self
-invariant_of-self c =
+pub invariant_of-self-2 : goal.invariant_of-self-2
+invariant_of-self-2 c =
     let s = c.self.inside in
     let doors = s.doors.items in
     let who = leaving_of s.processes doors c.args.who in
-    let tree = live_calls (left_calls who s.held.calls.tree) in
-    let list = kept_notices doors (left_notices who s.notices.list) in
-    let l : s.latest < s.events + 1 = early c.self.invariant.0 c.self.view_is c.requires.latest in
-    let left : c.leave_threads.new.processes ≡ left_threads who (s.events + 1) s.held.calls.tree.calls s.processes =
-    c.leave_threads.ensures.threads doors
-    ∙ ap (λ (v : CallsValue). left_threads who (s.events + 1) v.tree.calls s.processes) c.calls-3.ensures in
-    let after : leaving_of c.leave_threads.new.processes doors c.args.who ≡ who =
-    ap (λ (t : ProcessTable). leaving_of t doors c.args.who) left
-    ∙ leaving_after s.processes doors c.args.who who (s.events + 1) s.held.calls.tree.calls in
-    let calls : c.leave_calls.new.held.calls.tree ≡ tree = c.leave_calls.ensures.calls ∙ ap (λ w. live_calls (left_calls w s.held.calls.tree)) after in
-    let notices : c.leave_notices.new.notices.list ≡ list =
-    c.leave_notices.ensures.list ∙ ap (λ w. kept_notices doors (left_notices w s.notices.list)) after in
-    let placed = subst (λ (v : StoreValue). ArePlaced (stored_state v)) (sym c.self.view_is) c.requires.placed in
-    rw c.leave_calls.ensures.same (
-      subst₂ (λ tree list. Agrees (s.events + 1) c.leave_threads.new.processes doors tree list c.leave_threads.new.pools) (sym calls) (sym notices)
-          (c.leave_threads.ensures.agreed doors tree list
-          (agrees_later
-          (c.withdraw_notices.ensures.agreed s.latest tree
-          (withdrawn who c.calls-2.result.now s.held.calls c.calls-2.ensures (c.withdraw_calls.ensures.agreed s.latest s.notices.list) c.self.invariant.0))
-          (s.events + 1) (omega arith))),
-      c.self.invariant.1,
-      subst₂ AreBacked (sym left) (ap (λ (t : CallTree). t.calls) (sym calls))
-          (calls_left s.processes s.held.calls.tree (rw c.calls.ensures at c.are_sound.ensures) c.self.invariant.2 placed.thread_number who (s.events + 1)),
+    let tree = s.held.calls.tree in
+    let exited = c.in_ok-left.ensures.left in
+    let placed = subst (λ (v : StoreValue). ArePlaced (stored_state v)) (sym c.self.view_is) c.requires.can.placed in
+    let l : s.latest < s.events + 1 = early c.self.invariant.0 c.self.view_is c.requires.can.latest in
+    let after : leaving_of c.leave.new.procs doors c.args.who ≡ who =
+    ap (λ (t : ProcessTable). leaving_of t doors c.args.who) exited.threads ∙ leaving_after s.processes doors c.args.who who (s.events + 1) tree.calls in
+    let notices : c.leave_notices.new.notices.list ≡ kept_notices doors (left_notices who s.notices.list) =
+    c.leave_notices.ensures.list
+    (subst (λ w. AreAllLeft w (c.slice-2.result.now ++ c.slice-3.result.now) s.notices.list.notices) (sym after)
+    (rw (c.slice-2.ensures, c.slice-3.ensures)
+    (all_are_left who s.processes s.notices.list.notices c.in_ok-left.left.untaken c.in_ok-had.had.items (subst (λ (v : StoreValue). AreHeld (stored_state v)) (sym c.self.view_is) c.requires.can.held)
+    (exited.untaken s.notices.list (agrees_later c.self.invariant.0 (s.events + 1) (let l = early c.self.invariant.0 c.self.view_is c.requires.can.latest in omega arith))) (c.in_ok-had.ensures doors))))
+    (list_is_kept c.self.invariant.0)
+    ∙ ap (λ w. kept_notices doors (left_notices w s.notices.list)) after in
+    let agreed = exited.agreed s.notices.list (agrees_later c.self.invariant.0 (s.events + 1) (omega arith)) in (
+      subst (λ list. Agrees (s.events + 1) c.leave.new.procs doors c.leave.new.self.calls.tree list c.leave.new.pools) (sym notices)
+          agreed,
+      there_fewer doors s.held c.leave.new.self c.self.invariant.1 c.leave.ensures.references,
+      subst₂ AreBacked (sym exited.threads) (ap (λ (t : CallTree). t.calls) (sym exited.calls))
+          (calls_left s.processes tree (rw c.calls.ensures at c.are_sound.ensures) c.self.invariant.2 placed.thread_number who (s.events + 1)),
+      subst₂ (λ table names. KnowsPaths table names s.named) (sym exited.threads) (ap (λ (h : HoldingsValue). h.names.names) (sym c.in_ok-left.ensures.same))
+          (knows_left s.processes who (s.events + 1) tree.calls c.self.invariant.3),
+      no_less_items s.short.items s.pools c.leave.new.pools c.self.invariant.4
+          (there_before s.pools c.leave.new.pools (agreed.common ∙ ap (λ (t : ProcessTable). length t.processes) exited.threads ∙ sym c.self.invariant.0.common) (agreed.private ∙ sym c.self.invariant.0.private))
+          exited.items,
     )
 
 pub returns-clause-state : goal.returns-clause-state
@@ -87,32 +74,32 @@ returns-clause-state c =
     let s = c.self.inside in
     let doors = s.doors.items in
     let who = leaving_of s.processes doors c.args.who in
-    let left : c.leave_threads.new.processes ≡ left_threads who (s.events + 1) s.held.calls.tree.calls s.processes =
-    c.leave_threads.ensures.threads doors
-    ∙ ap (λ (v : CallsValue). left_threads who (s.events + 1) v.tree.calls s.processes) c.calls-3.ensures in
-    let after : leaving_of c.leave_threads.new.processes doors c.args.who ≡ who =
-    ap (λ (t : ProcessTable). leaving_of t doors c.args.who) left
-    ∙ leaving_after s.processes doors c.args.who who (s.events + 1) s.held.calls.tree.calls in
-    let calls : c.leave_calls.new.held.calls.tree ≡ live_calls (left_calls who s.held.calls.tree) =
-    c.leave_calls.ensures.calls ∙ ap (λ w. live_calls (left_calls w s.held.calls.tree)) after in
+    let tree = s.held.calls.tree in
+    let exited = c.in_ok-left.ensures.left in
+    let after : leaving_of c.leave.new.procs doors c.args.who ≡ who =
+    ap (λ (t : ProcessTable). leaving_of t doors c.args.who) exited.threads ∙ leaving_after s.processes doors c.args.who who (s.events + 1) tree.calls in
     let notices : c.leave_notices.new.notices.list ≡ kept_notices doors (left_notices who s.notices.list) =
-    c.leave_notices.ensures.list ∙ ap (λ w. kept_notices doors (left_notices w s.notices.list)) after in
-    rw c.leave_calls.ensures.same
-    (rw left
-    (rw (c.leave_threads.ensures.keeps.bindings ∙ c.withdraw_notices.ensures.bindings ∙ c.withdraw_calls.ensures.bindings)
-    (rw calls
-    (rw notices
-    (ap (λ (v : StoreValue). forget (leave (stored_state v) (leaving_of v.processes v.doors.items c.args.who))) c.self.view_is)))))
+    c.leave_notices.ensures.list
+    (subst (λ w. AreAllLeft w (c.slice-2.result.now ++ c.slice-3.result.now) s.notices.list.notices) (sym after)
+    (rw (c.slice-2.ensures, c.slice-3.ensures)
+    (all_are_left who s.processes s.notices.list.notices c.in_ok-left.left.untaken c.in_ok-had.had.items (subst (λ (v : StoreValue). AreHeld (stored_state v)) (sym c.self.view_is) c.requires.can.held)
+    (exited.untaken s.notices.list (agrees_later c.self.invariant.0 (s.events + 1) (let l = early c.self.invariant.0 c.self.view_is c.requires.can.latest in omega arith))) (c.in_ok-had.ensures doors))))
+    (list_is_kept c.self.invariant.0)
+    ∙ ap (λ w. kept_notices doors (left_notices w s.notices.list)) after in
+    rw c.in_ok-left.ensures.same
+    (rw (exited.threads, exited.bindings, exited.calls, notices)
+    (ap (λ (v : StoreValue). forget (leave (stored_state v) (leaving_of v.processes v.doors.items c.args.who))) c.self.view_is))
 
 pub returns-clause-keeps : goal.returns-clause-keeps
-returns-clause-keeps c = record {
-  latest = search rules;
-  opening = search rules;
-  notice_room = search rules;
-  items = λ pool.
-      let s = c.self.inside in
-      let a : item_room_in s.pools pool ≤ item_room_in c.withdraw_calls.new.pools pool = c.withdraw_calls.ensures.items pool in
-      let b : item_room_in c.withdraw_calls.new.pools pool ≤ item_room_in c.withdraw_notices.new.pools pool = c.withdraw_notices.ensures.items pool in
-      let e : item_room_in c.leave_threads.new.pools pool ≡ item_room_in c.withdraw_notices.new.pools pool = c.leave_threads.ensures.keeps.items pool in
-      subst (λ (v : StoreValue). item_room_in v.pools pool ≤ item_room_in c.leave_threads.new.pools pool + 1) c.self.view_is (omega arith);
-}
+returns-clause-keeps c =
+    let exited = c.in_ok-left.ensures.left in
+    record {
+      latest = search rules;
+      opening = search rules;
+      notice_room = search rules;
+      short_room = search rules;
+      items = λ pool.
+          let kept = exited.items pool in
+          let here = ap (λ (v : StoreValue). item_room_in v.pools pool) c.self.view_is in
+          omega (arith, kept, here);
+    }

@@ -2,10 +2,11 @@ use Rattle.std.proofs.Common.{◌≤◌, ◌∙◌, ap, rules, sym, subst}
 use Rattle.server_pool.specs.Words.{PoolsValue, item_room_in, thread_room_in}
 use Rattle.pool_agreement.specs.Words.{IsGivenOut}
 use Rattle.kernel_store.specs.Stored.{StoreValue}
-use Rattle.kernel_store.specs.Leaving.{HasNoLessRoom}
-use Rattle.kernel_store.proofs.Acts.{fills_same}
+use Rattle.exit_paths.specs.Words.{HasNoLessRoom}
+use Rattle.kernel_store.proofs.Acts.{fills, fills_same}
 use Rattle.kernel_store.proofs.MadeRoom.{room_made}
 use Rattle.kernel_store.proofs.Alike.{HoldsSame, agrees_same, given_out_same, same_in_room}
+use Rattle.kernel_store.proofs.Short.{no_less_room, room_doors}
 use Rattle.kernel_store.proofs.store.Store.reserve.Goals as goal
 
 pub returns-in_err-reserve-clause-keeps : goal.returns-in_err-reserve-clause-keeps
@@ -15,7 +16,14 @@ pub returns-in_err-reserve-2-clause-keeps : goal.returns-in_err-reserve-2-clause
 returns-in_err-reserve-2-clause-keeps c = fills_same (search rules)
 
 pub returns-in_err-reserve_door-clause-keeps : goal.returns-in_err-reserve_door-clause-keeps
-returns-in_err-reserve_door-clause-keeps c = fills_same (search rules)
+returns-in_err-reserve_door-clause-keeps c =
+    fills
+    (λ h. subst IsGivenOut (sym c.in_err-reserve_door.ensures.err) (subst (λ (s : StoreValue). IsGivenOut s.pools) (sym c.self.view_is) h))
+    (search rules) (search rules) (search rules) (search rules) (λ pool. search rules)
+
+pub returns-in_err-reserve-3-clause-keeps : goal.returns-in_err-reserve-3-clause-keeps
+returns-in_err-reserve-3-clause-keeps c =
+    fills (λ h. subst (λ (s : StoreValue). IsGivenOut s.pools) (sym c.self.view_is) h) (search rules) (search rules) (search rules) (search rules) (λ pool. search rules)
 
 pub invariant_of-self-2 : goal.invariant_of-self-2
 invariant_of-self-2 c =
@@ -24,7 +32,14 @@ invariant_of-self-2 c =
     (thread_room_in c.room.new.self c.args.touched) (item_room_in c.room.new.self c.args.touched) c.args.touched
     c.reserve_door.ensures.same c.room.ensures.same in
     rw c.reserve.ensures.calls
-    (rw c.reserve.ensures.opening (rw c.reserve-2.ensures.items (agrees_same c.self.invariant.0 same, c.self.invariant.1, c.self.invariant.2)))
+    (rw (c.reserve.ensures.tables, c.reserve.ensures.names) (rw c.reserve-2.ensures.items (
+      agrees_same c.self.invariant.0 same,
+      c.self.invariant.1,
+      c.self.invariant.2,
+      c.self.invariant.3,
+      rw c.reserve-3.ensures.items (no_less_room c.self.inside.short.items c.reserve_door.new.self c.room.new.self (rw c.reserve_door.ensures.same (room_doors c.self.inside.short.items c.self.inside.pools c.self.invariant.4 c.reserve_door.new.self.door_room)) (room_made c.reserve_door.new.self c.room.new.self c.args.touched (thread_room_in c.room.new.self c.args.touched)
+          (item_room_in c.room.new.self c.args.touched) c.room.ensures.same c.room.ensures.threads c.room.ensures.items)),
+    )))
 
 pub returns-clause-keeps : goal.returns-clause-keeps
 returns-clause-keeps c = record {
@@ -37,6 +52,7 @@ returns-clause-keeps c = record {
   latest = search rules;
   opening = search rules;
   notice_room = search rules;
+  short_room = search rules;
   items = λ pool.
       let made : HasNoLessRoom c.reserve_door.new.self c.room.new.self =
       room_made c.reserve_door.new.self c.room.new.self c.args.touched (thread_room_in c.room.new.self c.args.touched)

@@ -1,26 +1,37 @@
-use Rattle.std.proofs.Common.{◌≡◌, ◌∙◌, ap, filter, length, refl, sym, subst}
-use Rattle.kernel_records.specs.Words.{notice_doors}
-use Rattle.pool_agreement.specs.Words.{Agrees}
-use Rattle.kernel_store.specs.contracts.store.Store.{the_view}
-use Rattle.kernel_store.specs.Stored.{ArePlaced, StoreValue, stored_state}
-use Rattle.kernel_store.proofs.Alike.{agrees_same}
-use Rattle.kernel_store.proofs.NoticeRoom.{ok_then, room_made_for}
+use Rattle.std.proofs.Common.{rules, subst, sym, ap, arith}
+use Rattle.pool_agreement.specs.Words.{IsGivenOut}
+use Rattle.server_pool.specs.Words.{item_room_in}
+use Rattle.kernel_store.specs.Stored.{StoreValue}
+use Rattle.kernel_store.proofs.Acts.{fills}
+use Rattle.kernel_store.proofs.Alike.{given_out_same}
 use Rattle.kernel_store.proofs.store.Store.reserve_notices.Goals as goal
 
-pub invariant_of-self-2 : goal.invariant_of-self-2
-invariant_of-self-2 c = (
-  subst (λ list. Agrees c.self.inside.latest c.self.inside.processes c.self.inside.doors.items c.self.inside.held.calls.tree list c.room_for_notices.new.pools)
-      (sym c.reserve.ensures.list) (agrees_same c.self.invariant.0 c.room_for_notices.ensures.same),
-  c.self.invariant.1,
-  c.self.invariant.2,
-)
+pub returns-in_err-reserve-clause-keeps : goal.returns-in_err-reserve-clause-keeps
+returns-in_err-reserve-clause-keeps c =
+    fills (λ h. subst (λ (s : StoreValue). IsGivenOut s.pools) (sym c.self.view_is) h) (search rules) (search rules) (search rules) (search rules) (λ pool. search rules)
 
-pub returns-clause-room : goal.returns-clause-room
-returns-clause-room c =
-    let placed = subst (λ (s : StoreValue). ArePlaced (stored_state s)) (sym c.self.view_is) c.requires.placed in
-    let listed : c.args.ds.now ≡ filter c.requires.listed.0 (notice_doors c.self.inside.doors.items) =
-    c.requires.listed.1 ∙ ap (λ (s : StoreValue). filter c.requires.listed.0 (notice_doors s.doors.items)) (sym c.self.view_is) in
-    ok_then c.room_for_notices.result
-    (room_made_for (the_view c.self.inside) c.room_for_notices.new.pools c.reserve.new.self (length c.args.ds.now) c.requires.listed.0 c.args.ds.now refl
-    c.in_ok-reserve.ensures.room c.in_ok-reserve.ensures.numbers placed listed)
-    c.room_for_notices.ensures.room
+pub returns-in_err-renew_room-clause-keeps : goal.returns-in_err-renew_room-clause-keeps
+returns-in_err-renew_room-clause-keeps c = record {
+  given_out = λ h. given_out_same c.self.inside.pools c.renew_room.new.pools c.renew_room.ensures.same (subst (λ (s : StoreValue). IsGivenOut s.pools) (sym c.self.view_is) h);
+  latest = search rules;
+  opening = search rules;
+  notice_room = search rules;
+  short_room = search rules;
+  items = λ pool.
+      let kept = c.renew_room.ensures.kept.items pool in
+      let here = ap (λ (s : StoreValue). item_room_in s.pools pool) c.self.view_is in
+      omega (arith, kept, here);
+}
+
+pub returns-clause-keeps : goal.returns-clause-keeps
+returns-clause-keeps c = record {
+  given_out = λ h. given_out_same c.self.inside.pools c.renew_room.new.pools c.renew_room.ensures.same (subst (λ (s : StoreValue). IsGivenOut s.pools) (sym c.self.view_is) h);
+  latest = search rules;
+  opening = search rules;
+  notice_room = search rules;
+  short_room = search rules;
+  items = λ pool.
+      let kept = c.renew_room.ensures.kept.items pool in
+      let here = ap (λ (s : StoreValue). item_room_in s.pools pool) c.self.view_is in
+      omega (arith, kept, here);
+}

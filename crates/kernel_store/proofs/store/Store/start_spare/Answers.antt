@@ -1,6 +1,7 @@
+use Rattle.kernel_store.proofs.Knowing.{knows_changed, turned_still}
 use Rattle.std.proofs.Common.{true, ap, ◌∙◌}
 use Rattle.written_kernel.specs.Words.{start_one}
-use Rattle.server_pool.specs.Words.{change_spares, without_lowest}
+use Rattle.server_pool.specs.Words.{change_at_number, change_spares, without_lowest}
 use Rattle.kernel_store.specs.Stored.{stored_state}
 use Rattle.kernel_store.specs.contracts.store.Store.{the_view}
 use Rattle.kernel_store.proofs.Spares.{agrees_started, agrees_unstarted, given_out-spares, spare_is_dormant, spare_not_done, spare_not_idle, state_started, state_unstarted}
@@ -8,6 +9,7 @@ use Rattle.kernel_store.proofs.GivingAll.{picks_kept}
 use Rattle.kernel_records.specs.declared.record.ThreadState.TheVariants as is
 use Rattle.kernel_records.specs.Words.{thread_at_state}
 use Rattle.call_agreement.proofs.Backing.{dormant_turns}
+use Rattle.kernel_store.proofs.Short.{room_spares}
 use Rattle.kernel_store.proofs.store.Store.start_spare.Goals as goal
 
 pub turn-requires-clause-not_done : goal.turn-requires-clause-not_done
@@ -25,6 +27,8 @@ invariant_of-self c =
           c.take_spare.new.self c.turn.ensures c.take_spare.ensures.left,
       c.self.invariant.1,
       rw c.turn.ensures (dormant_turns c.self.inside.processes c.self.inside.held.calls.tree c.self.invariant.0.calls c.self.invariant.2 c.in-Some.t.0 (thread_at_state is.Running) dormant),
+      rw c.turn.ensures (knows_changed c.self.inside.processes c.in-Some.t.0 (thread_at_state is.Running) (turned_still is.Running (λ path e. absurd cc)) c.self.invariant.3),
+      rw c.take_spare.ensures.left (room_spares c.self.inside.short.items c.self.inside.pools c.self.invariant.4 (change_at_number c.self.inside.pools.spares c.args.p.0 without_lowest)),
     )
 
 pub invariant_of-self-in_default : goal.invariant_of-self-in_default
@@ -33,6 +37,8 @@ invariant_of-self-in_default c = (
       c.take_spare.ensures.left,
   c.self.invariant.1,
   c.self.invariant.2,
+  c.self.invariant.3,
+  rw c.take_spare.ensures.left (room_spares c.self.inside.short.items c.self.inside.pools c.self.invariant.4 (change_at_number c.self.inside.pools.spares c.args.p.0 without_lowest)),
 )
 
 pub returns-in-Some-clause-state : goal.returns-in-Some-clause-state

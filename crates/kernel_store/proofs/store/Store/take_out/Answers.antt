@@ -1,10 +1,10 @@
-use Rattle.std.proofs.Common.{subst}
-use Rattle.kernel_records.specs.Words.{objects_passed, table_in}
-use Rattle.unref_notice.specs.Words.{AreCounted}
-use Rattle.kernel_store.specs.Stored.{StoreValue}
+use Rattle.std.proofs.Common.{rules}
+use Rattle.dk_base.specs.declared.object.Obj.TheVariants as obj
+use Rattle.kernel_store.proofs.There.{there_fewer}
 use Rattle.kernel_store.proofs.store.Store.take_out.Goals as goal
 
-pub returns-clause-counted : goal.returns-clause-counted
-returns-clause-counted c =
-    subst (λ (s : StoreValue). AreCounted c.take_out.new.self.opening (objects_passed (table_in s.tables c.args.p.0) c.args.pass.now))
-    c.self.view_is c.take_out.ensures.counted
+pub invariant_of-self : goal.invariant_of-self
+invariant_of-self c = (search rules, there_fewer c.self.inside.doors.items c.self.inside.held c.take_out.new.self c.self.invariant.1 c.take_out.ensures.references, search rules, search rules, c.self.invariant.4)
+
+pub returns-clause-there : goal.returns-clause-there
+returns-clause-there c = λ d none. rw (← c.self.view_is) (c.take_out.ensures.held (obj.Door d) (c.self.invariant.1 d none))

@@ -1,3 +1,6 @@
+use Rattle.name_space.specs.Words.{NameTable}
+use Rattle.kernel_store.specs.Turning.{is_found_at}
+use Rattle.kernel_store.proofs.Knowing.{knows_turned}
 use Rattle.std.proofs.Common.{ap, ◌∙◌}
 use Rattle.call_agreement.specs.Words.{is_calling, is_given_item}
 use Rattle.kernel_records.specs.Words.{is_done}
@@ -15,4 +18,7 @@ invariant_of-self c =
       turned_backed c.self.inside.processes c.self.inside.held.calls.tree c.self.invariant.0.calls c.self.invariant.2 c.args.t.0 c.args.state
           (ap is_calling state ∙ c.requires.active.not_calling) (ap is_given_item state ∙ c.requires.active.not_given) (ap is_done state ∙ c.requires.active.not_done)
           c.requires.to_inside,
+      knows_turned c.self.inside.processes c.self.inside.held.names.names c.self.inside.named c.note_turn.new.named c.args.t.0 c.args.state
+          (c.note_turn.ensures.here ∙ ap (λ (n : NameTable). is_found_at n.names c.args.state) c.names.ensures) c.note_turn.ensures.others c.self.invariant.3,
+      c.self.invariant.4,
     )

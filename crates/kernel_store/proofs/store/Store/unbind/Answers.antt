@@ -1,19 +1,22 @@
-use Rattle.std.proofs.Common.{rules, None, is_ok, ap, ◌∙◌}
+use Rattle.std.proofs.Common.{rules, None}
 use Rattle.kernel_records.specs.Words.{unbind_thread}
-use Rattle.kernel_store.proofs.Acts.{fills, bound, given_out_bound, holds_ok, leaves_door}
+use Rattle.kernel_store.proofs.Acts.{fills, bound, given_out_bound}
+use Rattle.kernel_store.proofs.Short.{room_bound}
 use Rattle.kernel_store.proofs.store.Store.unbind.Goals as goal
 
 pub invariant_of-self : goal.invariant_of-self
 invariant_of-self c = (
-  rw (holds_ok c.unbind.result (ap is_ok c.unbind.ensures.result ∙ leaves_door c.self.view_is c.args.t.0 c.requires.bound) c.unbind.ensures.ok)
+  rw c.drop_binding.ensures
       (bound c.self.invariant.0 c.self.view_is c.args.t.0 None c.requires.running),
   c.self.invariant.1,
   c.self.invariant.2,
+  c.self.invariant.3,
+  rw c.drop_binding.ensures (room_bound c.self.inside.short.items c.self.inside.pools c.self.invariant.4 (unbind_thread c.self.inside.pools.bindings c.args.t.0)),
 )
 
 pub returns-clause-keeps : goal.returns-clause-keeps
 returns-clause-keeps c =
     fills
-    (λ given. rw (holds_ok c.unbind.result (ap is_ok c.unbind.ensures.result ∙ leaves_door c.self.view_is c.args.t.0 c.requires.bound) c.unbind.ensures.ok)
+    (λ given. rw c.drop_binding.ensures
     (given_out_bound c.self.view_is (unbind_thread c.self.inside.pools.bindings c.args.t.0) given))
-    (search rules) (search rules) (search rules) (λ pool. search rules)
+    (search rules) (search rules) (search rules) (search rules) (λ pool. search rules)

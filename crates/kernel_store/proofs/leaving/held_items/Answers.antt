@@ -1,0 +1,4 @@
+use Rattle.kernel_store.proofs.leaving.held_items.Goals as goal
+
+pub returns-in-Ended : goal.returns-in-Ended
+returns-in-Ended c = rw c.in-Ended.is c.held_by_one.ensures

@@ -1,9 +1,0 @@
-use Rattle.std.proofs.Common.{sym, ap, ◌∙◌}
-use Rattle.kernel_records.specs.Words.{change_thread, interrupted_where}
-use Rattle.kernel_store.proofs.Left.{change_nothing}
-use Rattle.kernel_store.proofs.leaving.interrupt_where.Goals as goal
-
-pub returns-else-interrupted : goal.returns-else-interrupted
-returns-else-interrupted c =
-    sym (change_nothing c.args.processes.now c.args.t.0)
-    ∙ ap (λ b. change_thread c.args.processes.now c.args.t.0 (interrupted_where b)) (sym c.if-interrupted.false)

@@ -1,0 +1,6 @@
+use Rattle.std.proofs.Common.{rules}
+use Rattle.kernel_store.proofs.There.{there_fewer}
+use Rattle.kernel_store.proofs.store.Store.detach.Goals as goal
+
+pub invariant_of-self : goal.invariant_of-self
+invariant_of-self c = (search rules, there_fewer c.self.inside.doors.items c.self.inside.held c.detach.new.self c.self.invariant.1 c.detach.ensures.references, search rules, search rules, c.self.invariant.4)

@@ -1,0 +1,27 @@
+-- Which threads can take a turn.
+use Rattle.std.specs.Prelude.{ℕ, ◌≡◌, Bool, List, false, is_some}
+use Rattle.dk_base.specs.declared.number.PathId.{PathId}
+use Rattle.kernel_records.specs.declared.record.ThreadState.TheVariants as is
+use Rattle.kernel_records.specs.Words.{ProcessTable, name_in, state_in, thread_at}
+use Rattle.thread_set.specs.declared.set.ThreadSet.{ThreadSet}
+use Rattle.thread_set.specs.Words.{has}
+use Rattle.written_kernel.specs.Types.{Name, ThreadState}
+use Rattle.written_kernel.specs.Words.{State, can_go_on, state_of}
+use Rattle.exit_paths.specs.Words.{has_ready}
+
+-- as `can_go_on`, where a caller goes on by a call of its own that can be collected
+abbrev pub can_turn_at : State → ℕ → ThreadState → Bool
+can_turn_at m t (is.Calling c) = has_ready m.call_tree t
+can_turn_at m t s = can_go_on m s
+
+abbrev pub can_turn : State → ℕ → Bool
+can_turn m t = can_turn_at m t (state_of m t)
+
+-- a thread at this waits for a path that a door is attached to
+abbrev pub is_found_at : List Name → ThreadState → Bool
+is_found_at names (is.Awaiting path) = is_some (name_in names path)
+is_found_at names _ = false
+
+-- of each thread that waits for a path, whether a door is attached to it
+pub record KnowsPaths (table : ProcessTable) (names : List Name) (named : ThreadSet) : Type 0 where
+  pub known : (t : ℕ) (path : PathId) → state_in (thread_at table t) ≡ is.Awaiting path → has named t ≡ is_some (name_in names path)
