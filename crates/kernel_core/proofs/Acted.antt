@@ -1,21 +1,24 @@
 -- The room for notices that was taken before an act suffices after it.
-use Rattle.std.proofs.Common.{◌≡◌, ℕ, zero, suc, ◌+◌, ◌<◌, ◌≤◌, Bool, true, false, if◌then◌else◌, List, [], ◌∷◌, ◌++◌, Option, None, Some, cond, filter, is_some, length, refl, sym, subst, ap, ap₂, ◌∙◌, arith, true≢false}
+use Rattle.std.proofs.Common.{◌≡◌, ℕ, zero, suc, ◌+◌, ◌<◌, ◌≤◌, Bool, true, false, if◌then◌else◌, List, [], ◌∷◌, ◌++◌, Option, None, Some, cond, filter, is_some, length, min, refl, sym, subst, ap, ap₂, ◌∙◌, arith, true≢false}
 use Rattle.std.specs.List.{AllByRecursion}
 use Rattle.std.proofs.lemmas.Bool.Decides.{nat_tests}
+use Rattle.std.proofs.Math.Nat.{le-min}
 use Rattle.std.proofs.lemmas.List.Sums.{count_by-le-length, length-filter, sum_by-cons}
-use Rattle.dk_base.specs.ByNumber.{at_number}
+use Rattle.dk_base.specs.declared.object.Obj.TheVariants as obj
 use Rattle.kernel_records.specs.declared.pool.Pool.TheVariants.{Common, Private}
 use Rattle.written_kernel.proofs.Moves.{Moves, act_moves}
 use Rattle.written_kernel.specs.Types.{Door, Pool, Request}
 use Rattle.kernel_records.specs.Words.{AreNumbered, is_pool, is_private, notice_doors, numbers_where, pool_in, takes_notices_in}
 use Rattle.written_kernel.specs.Words.{ActResult, State, act, door_of, pool_of}
-use Rattle.kernel_records.proofs.Lists.{numbered_there, numbered_within}
-use Rattle.server_pool.specs.Words.{item_room_in, pool_at}
+use Rattle.server_pool.specs.Words.{IsAscending, item_room_in, pool_at}
+use Rattle.server_pool.proofs.Order.{ordered_filter}
 use Rattle.unref_notice.specs.Words.{count_of}
-use Rattle.kernel_store.specs.Words.{CanMake, IsAgreed, HasBegun, StoreValue, count_served, stored_state}
+use Rattle.kernel_store.specs.Words.{CanMake, IsAgreed, HasBegun, StoreValue, count_served, items_for, stored_state}
+use Rattle.kernel_store.proofs.Short.{there_by_length}
 use Rattle.kernel_core.specs.Watched.{HadRoomForNotices, IsKeptDoor, KeepsDoors, fallen, is_watched, watched}
 use Rattle.kernel_records.proofs.DoorNumbers.{notice_doors_numbered}
 use Rattle.kernel_core.proofs.Fallen.{fallen_watched, has_one}
+use Rattle.kernel_core.proofs.Served.{few_served, noticed_ascend}
 
 -- an act makes no notice
 
@@ -30,8 +33,8 @@ pub made-act : (m : State) (t : ℕ) (q : Option Request) → made (act m t q).s
 made-act m t q = made-move m t q (act m t q) (act_moves m t q)
 
 -- nor does it change the counts at its beginning
-pub opened_kept : (b n : StoreValue) (m : State) → ((d : ℕ) → count_of n.opening d ≡ count_of b.opening d) → HasBegun b m → HasBegun n m
-opened_kept b n m same h = record { counts = λ d. same d ∙ h.counts d; none = λ d e. same d ∙ h.none d e }
+pub opened_kept : (b n : StoreValue) (m : State) → n.opening ≡ b.opening → HasBegun b m → HasBegun n m
+opened_kept b n m same h = record { counts = λ d. ap (λ os. count_of os (obj.Door d)) same ∙ h.counts d; none = λ d e. ap (λ os. count_of os (obj.Door d)) same ∙ h.none d e }
 
 -- the doors that are watched are there
 
@@ -114,66 +117,65 @@ served_there m e (d ∷ ds) numbered k c =
     go true f l ih = at (door_of m d) refl k.0 f
     go false f l ih = ih (omega arith)
 
--- as many places as numbers
-there_by_length : {X Y : Type 0} (xs : List X) (ys : List Y) (i : ℕ) → length ys ≡ length xs → is_some (at_number xs i) ≡ true → is_some (at_number ys i) ≡ true
-there_by_length xs ys i same e = go (at_number xs i) refl e
-  where
-    go : (o : Option _) → at_number xs i ≡ o → is_some o ≡ true → is_some (at_number ys i) ≡ true
-    go None f g = absurd (true≢false (sym g))
-    go (Some x) f g = let w : (1 ≤ i) × (i ≤ length xs) = numbered_within xs i x f in numbered_there ys i w.0 (omega arith)
-
 pool_before :
-    (b n : StoreValue) (ds : List ℕ) (pool : Pool) → HadRoomForNotices b n ds → IsAgreed n →
+    (b n : StoreValue) (ds : List ℕ) (pool : Pool) → HadRoomForNotices b n → IsAgreed n →
     AllByRecursion (λ d. takes_notices_in (door_of (stored_state b) d) ≡ true) ds → is_some (pool_at n.pools pool) ≡ true →
     0 < count_served (stored_state b) pool ds → is_some (pool_at b.pools pool) ≡ true
 pool_before b n ds (Common p) h a k there c =
     there_by_length n.pools.common b.pools.common p.0 (h.agreed.common ∙ sym h.processes ∙ sym a.common) there
 pool_before b n ds (Private e) h a k there c =
-    there_by_length b.doors.items b.pools.private e h.agreed.private (served_there (stored_state b) e ds h.were.doors.numbered k c)
+    there_by_length b.doors.items b.pools.private e h.agreed.private (served_there (stored_state b) e ds h.began.doors.numbered k c)
 
--- so notices can be made of them
-can_make : (b n : StoreValue) (ds : List ℕ) → HadRoomForNotices b n ds → IsAgreed n → CanMake n ds
-can_make b n ds h a =
+-- so notices can be made of those that fell
+
+all_fallen : (b n : StoreValue) → HadRoomForNotices b n → AllByRecursion (λ d. takes_notices_in (door_of (stored_state b) d) ≡ true) (filter (has_one (stored_state n)) (watched (stored_state b)))
+all_fallen b n h =
+    all_filter (λ d. takes_notices_in (door_of (stored_state b) d) ≡ true) (has_one (stored_state n)) (watched (stored_state b))
+    (watched_there (stored_state b) h.began.doors.numbered)
+
+fewer_fallen : (b n : StoreValue) → length (filter (has_one (stored_state n)) (watched (stored_state b))) ≤ length (notice_doors b.doors.items)
+fewer_fallen b n =
+    omega (
+      arith,
+      length-filter (has_one (stored_state n)) (watched (stored_state b)),
+      count_by-le-length (has_one (stored_state n)) (watched (stored_state b)),
+      length-filter (is_watched (stored_state b)) (notice_doors b.doors.items),
+      count_by-le-length (is_watched (stored_state b)) (notice_doors b.doors.items),
+    )
+
+can_make : (b n : StoreValue) (ds : List ℕ) → ds ≡ filter (has_one (stored_state n)) (watched (stored_state b)) → HadRoomForNotices b n → IsAgreed n → length ds ≤ 1280 → CanMake n ds
+can_make b n ds is h a few =
+    let l : length ds ≤ min (length (notice_doors b.doors.items)) 1280 = le-min (omega (arith, ap length is, fewer_fallen b n)) few in
     record {
-      records = omega (arith, h.room.records, h.keeps.notice_room);
-      numbers = omega (arith, h.room.numbers, h.made);
+      records = omega (arith, l, h.room.records, h.keeps.notice_room);
+      numbers = omega (arith, few, h.room.numbers, h.made);
+      short = omega (arith, few, h.room.short, h.keeps.short_room);
       items = λ pool there. enough pool there;
     }
   where
-    all : AllByRecursion (λ d. takes_notices_in (door_of (stored_state b) d) ≡ true) ds
-    all = subst (AllByRecursion (λ d. takes_notices_in (door_of (stored_state b) d) ≡ true)) (sym h.were.watched) (watched_there (stored_state b) h.were.doors.numbered)
+    m : State
+    m = stored_state b
 
-    fits : (pool : Pool) (c : ℕ) → (0 < c → c < item_room_in b.pools pool) → c ≤ item_room_in n.pools pool
-    fits pool zero f = omega arith
-    fits pool (suc c) f = let l : suc c < item_room_in b.pools pool = f (omega arith) in omega (arith, h.keeps.items pool)
+    all : AllByRecursion (λ d. takes_notices_in (door_of m d) ≡ true) ds
+    all = subst (AllByRecursion (λ d. takes_notices_in (door_of m d) ≡ true)) (sym is) (all_fallen b n h)
+
+    ascends : IsAscending ds
+    ascends =
+        subst IsAscending (sym is)
+        (ordered_filter _ (has_one (stored_state n)) (watched m)
+        (ordered_filter _ (is_watched m) (notice_doors m.doors) (noticed_ascend m.doors h.began.doors.numbered)))
+
+    fits : (pool : Pool) (c : ℕ) → c < items_for pool → (0 < c → items_for pool ≤ item_room_in b.pools pool) → c ≤ item_room_in n.pools pool
+    fits pool zero l f = omega arith
+    fits pool (suc c) l f = let r = f (omega arith) in omega (arith, l, r, h.keeps.items pool)
 
     enough : (pool : Pool) → is_some (pool_at n.pools pool) ≡ true → count_served (stored_state n) pool ds ≤ item_room_in n.pools pool
     enough pool there =
-        subst (λ c. c ≤ item_room_in n.pools pool) (sym (same_count (stored_state b) (stored_state n) pool ds h.were.doors all))
-        (fits pool (count_served (stored_state b) pool ds) (λ l. h.room.items pool (pool_before b n ds pool h a all there l) l))
-
--- a notice of each of them, or of fewer
-
-fewer_served : (q : ℕ → Bool) (m : State) (pool : Pool) (ds : List ℕ) → count_served m pool (filter q ds) ≤ count_served m pool ds
-fewer_served q m pool [] = omega arith
-fewer_served q m pool (d ∷ ds) = go (q d) (fewer_served q m pool ds)
-  where
-    go :
-        (b : Bool) → count_served m pool (filter q ds) ≤ count_served m pool ds →
-        count_served m pool (if b then d ∷ filter q ds else filter q ds) ≤ count_served m pool (d ∷ ds)
-    go true ih = omega (arith, ih, served_first m pool d (filter q ds), served_first m pool d ds)
-    go false ih = omega (arith, ih, served_first m pool d ds)
-
-can_make_fewer : (n : StoreValue) (q : ℕ → Bool) (ds : List ℕ) → CanMake n ds → CanMake n (filter q ds)
-can_make_fewer n q ds h =
-    let l : length (filter q ds) ≤ length ds = omega (arith, length-filter q ds, count_by-le-length q ds) in
-    record {
-      records = omega (arith, h.records, l);
-      numbers = omega (arith, h.numbers, l);
-      items = λ pool there. omega (arith, h.items pool there, fewer_served q (stored_state n) pool ds);
-    }
+        subst (λ c. c ≤ item_room_in n.pools pool) (sym (same_count m (stored_state n) pool ds h.began.doors all))
+        (fits pool (count_served m pool ds) (few_served m.doors h.began.doors.numbered pool ds ascends few)
+        (λ l. h.room.items pool refl (pool_before b n ds pool h a all there l)))
 
 pub can_make_fallen :
-    (b n : StoreValue) (ds : List ℕ) → HadRoomForNotices b n ds → IsAgreed n → AreNumbered n.doors.items → CanMake n (fallen (stored_state b) (stored_state n))
-can_make_fallen b n ds h a numbered =
-    subst (CanMake n) (sym (fallen_watched h.were numbered)) (can_make_fewer n (has_one (stored_state n)) ds (can_make b n ds h a))
+    (b n : StoreValue) → HadRoomForNotices b n → IsAgreed n → AreNumbered n.doors.items → length (fallen (stored_state b) (stored_state n)) ≤ 1280 →
+    CanMake n (fallen (stored_state b) (stored_state n))
+can_make_fallen b n h a numbered few = can_make b n (fallen (stored_state b) (stored_state n)) (fallen_watched h.began numbered) h a few

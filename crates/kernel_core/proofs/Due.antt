@@ -32,7 +32,7 @@ due_among-is : (m n : State) (k : ℕ) → due_among m n k ≡ numbers_where (λ
 due_among-is m n zero = refl
 due_among-is m n (suc k) = ap (λ ds. ds ++ (if is_due m n (suc k) (door_of n (suc k)) then suc k ∷ [] else [])) (due_among-is m n k)
 
-due_doors-fallen : (m n : State) → AreNumbered n.doors → due_doors m n ≡ filter (may_have n) (fallen m n)
+pub due_doors-fallen : (m n : State) → AreNumbered n.doors → due_doors m n ≡ filter (may_have n) (fallen m n)
 due_doors-fallen m n numbered =
     due_among-is m n (length n.doors)
     ∙ numbers_where-same (λ d. is_due m n d (door_of n d)) (λ d. (takes_notices_in (door_of n d) && falls_to_one m n d) && may_have n d) (due_at m n) (length n.doors)

@@ -7,7 +7,7 @@ use Rattle.written_kernel.specs.Words.{State, door_of, falls_to_one, reference_c
 use Rattle.kernel_records.proofs.Lists.{numbered_past, numbered_there, numbered_within}
 use Rattle.unref_notice.specs.Words.{was_shared}
 use Rattle.kernel_store.specs.Words.{HasBegun, StoreValue, has_fallen_since, stored_state}
-use Rattle.kernel_core.specs.Watched.{IsKeptDoor, KeepsDoors, WereWatched, fallen, is_watched}
+use Rattle.kernel_core.specs.Watched.{BeganIn, IsKeptDoor, KeepsDoors, fallen, is_watched, watched}
 use Rattle.kernel_records.proofs.DoorNumbers.{filter-numbers_where, notice_doors_numbered, numbers_where-past, numbers_where-same}
 use Rattle.pool_agreement.proofs.WaitingLists.{same_filter}
 
@@ -54,11 +54,11 @@ watched_at m s d h o = go (door_of m d) refl
         let k : IsKeptDoor x (door_of (stored_state s) d) = h.kept d x e in
         ap (λ b. b && is_watched m d) (ap takes_notices_in k.there ∙ ap takes_notices k.same.attrs)
 
-module _ {m : State} {ds : List ℕ} {s : StoreValue} (w : WereWatched m ds s) where
+module _ {m : State} {s : StoreValue} (w : BeganIn m s) where
   abbrev n : State
   n = stored_state s
 
-  watched_after : AreNumbered n.doors → filter (is_watched m) (notice_doors n.doors) ≡ ds
+  watched_after : AreNumbered n.doors → filter (is_watched m) (notice_doors n.doors) ≡ watched m
   watched_after numbered =
       ap (filter (is_watched m)) (notice_doors_numbered n.doors numbered)
       ∙ filter-numbers_where (is_watched m) (λ d. takes_notices_in (door_of n d)) (length n.doors)
@@ -68,10 +68,9 @@ module _ {m : State} {ds : List ℕ} {s : StoreValue} (w : WereWatched m ds s) w
       (λ d l. ap (λ x. takes_notices_in x && is_watched m d) (numbered_past m.doors d l))
       ∙ sym (filter-numbers_where (is_watched m) (λ d. takes_notices_in (door_of m d)) (length m.doors))
       ∙ ap (filter (is_watched m)) (sym (notice_doors_numbered m.doors w.doors.numbered))
-      ∙ sym w.watched
 
   -- the doors that had more than one reference when the step began
-  pub shared_after : AreNumbered n.doors → filter (was_shared s.opening) (notice_doors n.doors) ≡ ds
+  pub shared_after : AreNumbered n.doors → filter (was_shared s.opening) (notice_doors n.doors) ≡ watched m
   shared_after numbered =
       same_filter (was_shared s.opening) (is_watched m) (notice_doors n.doors) (λ i d e. ap (nat_lt 1) (w.opened.counts d)) ∙ watched_after numbered
 
@@ -81,5 +80,5 @@ module _ {m : State} {ds : List ℕ} {s : StoreValue} (w : WereWatched m ds s) w
       same_filter (has_fallen_since s.opening n) (falls_to_one m n) (notice_doors n.doors)
       (λ i d e. ap (λ k. nat_lt 1 k && (reference_count n d == 1)) (w.opened.counts d))
 
-  pub fallen_watched : AreNumbered n.doors → fallen m n ≡ filter (has_one n) ds
+  pub fallen_watched : AreNumbered n.doors → fallen m n ≡ filter (has_one n) (watched m)
   fallen_watched numbered = filter-both (is_watched m) (has_one n) (notice_doors n.doors) ∙ ap (filter (has_one n)) (watched_after numbered)

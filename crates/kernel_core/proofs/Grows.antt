@@ -186,7 +186,7 @@ passes true e xs h = absurd (grind arith)
 passes false e xs h = (refl, h)
 
 -- few of these bytes and descriptors
-abbrev IsFew : List ℕ → List Pass → Type 0
+abbrev pub IsFew : List ℕ → List Pass → Type 0
 IsFew bytes pass = (length bytes ≤ 4096) × (length pass ≤ 16)
 
 few_of : (bytes : List ℕ) (pass : List Pass) → (nat_lt 4096 (length bytes) || nat_lt 16 (length pass)) ≡ false → IsFew bytes pass
@@ -200,12 +200,12 @@ few_more : (n : ℕ) (o : Option Obj) (os : List Obj) → length os ≤ n → le
 few_more n None os h = omega arith
 few_more n (Some p) os h = omega arith
 
-few_passed : (table : List (Option Obj)) (pass : List Pass) → length (objects_passed table pass) ≤ length pass
+pub few_passed : (table : List (Option Obj)) (pass : List Pass) → length (objects_passed table pass) ≤ length pass
 few_passed table [] = omega arith
 few_passed table (x ∷ xs) = few_more (length xs) (object_passed table x) (objects_passed table xs) (few_passed table xs)
 
 -- what goes with a call that is not refused
-few_arguments :
+pub few_arguments :
     (m : State) (p : ℕ) (fd : Fd) (bytes : List ℕ) (pass : List Pass) → first_refusal (call_tests m p fd bytes pass) ≡ None → IsFew bytes pass
 few_arguments m p fd bytes pass e =
     let valid = passes (not (is_valid_in o)) EBADF from_size e in
@@ -258,7 +258,7 @@ call-tidy m t p fd bytes pass rsize few =
     }
 
 -- the results of a return that is not refused go to a client only where they are few
-few_results :
+pub few_results :
     (m : State) (t p : ℕ) (bytes : List ℕ) (pass : List Pass) → first_refusal (return_tests m t p bytes pass) ≡ None →
     is_some (client_call m t) ≡ true → IsFew bytes pass
 few_results m t p bytes pass e h =

@@ -1,23 +1,27 @@
 -- A kernel's events keep that what it keeps comes from a written state, and a refused entry changes nothing else.
-use Rattle.std.proofs.Common.{◌≡◌, ℕ, ◌+◌, ◌<◌, zero, suc, Bool, true, false, cond, not, List, [], ◌∷◌, Option, Some, None, Result, Ok, Err, IfOk, OnOk, OnErr, filter, slice_get, length, refl, subst, sym, ap, ◌∙◌, arith, All, is_some}
+use Rattle.std.proofs.Common.{◌≡◌, ℕ, ◌+◌, ◌<◌, Bool, true, false, not, List, Option, Some, None, Result, Ok, Err, IfOk, OnOk, OnErr, slice_get, length, refl, subst, sym, ap, ◌∙◌, arith, All, is_some}
 use Rattle.kernel_records.proofs.NumberedLists.{find-slice_get}
-use Rattle.written_kernel.specs.Types.{Call, Door, Errno, NoMemory, Notice, Process, Request, Stepped, Thread, Tid}
+use Rattle.written_kernel.specs.Types.{Call, CallStage, Door, Errno, NoMemory, Notice, NoticeStage, Process, Request, Stepped, Thread, ThreadState, Tid}
 use Rattle.dk_base.specs.declared.answer.Answer.TheVariants.{Failure}
 use Rattle.dk_base.specs.declared.limits.TheConstants.{EVENTS_MAX, THREADS_MAX}
-use Rattle.written_kernel.specs.Words.{IsOpening, IsStep, MayTurn, StandsFor, State, act, effect, forget, has_lost_door, opening, pick, pool_of, process_of, refusal_of, step, unless_refused, waiting_items, with_event_counted, with_new_thread, is_live_process, door_of, thread_of}
+use Rattle.written_kernel.specs.Words.{IsOpening, IsStep, MayTurn, StandsFor, State, act, effect, forget, has_lost_door, opening, pick, pool_of, invocation_of, state_of, process_of, refusal_of, step, unless_refused, waiting_items, with_event_counted, with_new_thread, is_live_process, door_of, thread_of}
 use Rattle.written_kernel.specs.Opening.IsOpening.{processes, thread}
 use Rattle.written_kernel.proofs.Forget.{IsStep-stands_for, act-forget, is_runnable-forget, refusal_of-forget, waiting_items-forget}
 use Rattle.dk_base.specs.ByNumber.{at_number}
 use Rattle.std.proofs.lemmas.Bool.Decides.{nat_tests}
-use Rattle.kernel_records.specs.Words.{call_number, is_kept_notice, is_live_call, is_live_in, is_live_stage, is_owned_by, is_valid_door, notice_number, process_in}
+use Rattle.kernel_records.specs.declared.record.CallStage.TheVariants as stage
+use Rattle.kernel_records.specs.declared.record.NoticeStage.TheVariants as notice
+use Rattle.kernel_records.specs.declared.record.ThreadState.TheVariants as is
+use Rattle.dk_base.specs.declared.object.Item.TheVariants as item
+use Rattle.kernel_records.specs.Words.{call_number, is_kept_notice, is_live_call, is_live_in, is_live_stage, is_owned_by, is_queued, is_valid_door, is_valid_in, is_waiting_stage, notice_number, process_in, tid}
 use Rattle.kernel_records.proofs.Lists.{numbered_there}
-use Rattle.written_kernel.proofs.Opening.{IsDeclaredIn, forget-opening, opened, opening_threads}
+use Rattle.written_kernel.proofs.Opening.{IsDeclaredIn, forget-opening, opened}
 use Rattle.written_kernel.proofs.Steps.{events-step}
-use Rattle.kernel_invariant.specs.Core.{notice_in, noticed_door_in, number_in}
+use Rattle.kernel_invariant.specs.Core.{door_in, is_outside, notice_in, noticed_door_in, number_in}
 use Rattle.kernel_invariant.specs.Events.{Keeps, may_lose_door}
 use Rattle.kernel_invariant.specs.Invariant.{IsConsistent}
-use Rattle.kernel_invariant.specs.Records.{notice_of, owner_in}
-use Rattle.kernel_store.specs.Words.{ArePlaced, stored_state}
+use Rattle.kernel_invariant.specs.Records.{item_in, notice_of, owner_in, stage_in}
+use Rattle.kernel_store.specs.Words.{AreHeld, ArePlaced, WaitAtValidDoors, held_as, stored_state}
 use Rattle.kernel_core.specs.declared.event.Parts.{Parts}
 use Rattle.kernel_core.specs.Acted.{CanStep, IsBetweenEvents}
 use Rattle.kernel_core.proofs.Live.{stands_live}
@@ -26,12 +30,13 @@ use Rattle.kernel_invariant.proofs.Openings.{opening_keeps}
 use Rattle.kernel_invariant.proofs.Refusals.{refused_gives}
 use Rattle.kernel_invariant.proofs.Settling.{no_lost_door}
 use Rattle.kernel_invariant.proofs.Steps.{act_does}
-use Rattle.kernel_core.specs.declared.runnable.Runnable.{Runnable}
 use Rattle.kernel_core.specs.Kept.{IsKept}
 use Rattle.kernel_core.specs.Watched.{IsReadyForNotices}
 use Rattle.kernel_core.specs.Within.{IsWithin}
 use Rattle.kernel_core.proofs.Watching.{act_keeps_doors, kept_keeps_doors}
-use Rattle.kernel_core.specs.Woken.{IsCurrent, runnables}
+use Rattle.kernel_core.specs.Woken.{HasTurns, HasTurnsAfter}
+use Rattle.kernel_core.proofs.Readers.{kept_of}
+use Rattle.kernel_core.proofs.Turning.{turns_consistent}
 
 -- a turn of what is kept is a turn of what it stands for
 may_stands : (m : State) (t : ℕ) (q : Option Request) → MayTurn (forget m) t q → MayTurn m t q
@@ -180,7 +185,7 @@ pub thread_kept :
 thread_kept old new p spare k z there few e = subst IsKept (sym e) (opening_kept (thread p spare there.0 there.1 few (k.opening z)))
 
 within_thread : (m : State) (p : ℕ) (spare : Bool) → IsWithin m → IsWithin (with_new_thread m p spare)
-within_thread m p spare w = record { events = w.events; doors = w.doors; calls_made = w.calls_made; small = w.small }
+within_thread m p spare w = record { events = w.events; doors = w.doors; calls_made = w.calls_made; notices_made = w.notices_made; small = w.small }
 
 -- another thread of a kernel that has made no event
 pub thread_result :
@@ -191,15 +196,13 @@ thread_result old new p spare k w z there few (Ok t) h e =
     (thread_kept old new p spare k z there few h, subst IsWithin (sym h) (within_thread old p spare w))
 thread_result old new p spare k w z there few (Err x) h e = (subst IsKept (sym e) k, subst IsWithin (sym e) w)
 
--- an opening without threads
-pub opening_current : (r : Runnable) (limits : List ℕ) (m : State) → m ≡ opening limits → r.list.items ≡ [] → IsCurrent r m
-opening_current r limits m e h =
-    let none : length m.process_table.threads ≡ 0 =
-    ap (λ (k : State). length k.process_table.threads) e ∙ ap length (opening_threads limits) in
-    record {
-      items = h ∙ ap (runnables m) (sym none);
-      room = record { list = omega (arith, none); next = omega (arith, none) };
-    }
+queued_stage : (s : CallStage) → is_queued s ≡ true → s ≡ stage.Queued
+queued_stage stage.Queued e = refl
+queued_stage s e = grind arith
+
+waiting_stage : (s : NoticeStage) → is_waiting_stage s ≡ true → s ≡ notice.Waiting
+waiting_stage notice.Waiting e = refl
+waiting_stage s e = grind arith
 
 -- processes and doors are where threads, bindings, calls and notices say
 
@@ -243,18 +246,47 @@ module _ (m : State) (h : IsConsistent m) where
         notice_door = noticed_is;
       }
 
--- what is kept of a list is in the list
-kept_of :
-    {X : Type 0} (p : X → Bool) (rs : List X) (i : ℕ) (r : X) → slice_get (filter p rs) i ≡ Some r → (k : ℕ) × (slice_get rs k ≡ Some r)
-kept_of p [] i r e = grind arith
-kept_of p (x ∷ rs) i r e = go (p x) (λ j f. kept_of p rs j r f) i e
-  where
-    go :
-        (b : Bool) → ((j : ℕ) → slice_get (filter p rs) j ≡ Some r → (k : ℕ) × (slice_get rs k ≡ Some r)) →
-        (i : ℕ) → slice_get (cond b (x ∷ filter p rs) (filter p rs)) i ≡ Some r → (k : ℕ) × (slice_get (x ∷ rs) k ≡ Some r)
-    go true ih zero f = (0, f)
-    go true ih (suc j) f = let more = ih j f in (suc more.0, more.1)
-    go false ih j f = let more = ih j f in (suc more.0, more.1)
+  waiting_valid : (i : ℕ) (r : Call) → slice_get m.call_tree.calls i ≡ Some r → is_queued r.stage ≡ true → is_valid_in (door_of m r.door) ≡ true
+  waiting_valid i r e q =
+      let found = find-slice_get call_number m.call_tree.calls 0 i r h.in_order e in
+      ap (λ o. is_valid_in (door_of m (door_in o))) (sym found)
+      ∙ h.coherent.at_doors.waiting_valid r.number (ap stage_in found ∙ ap Some (queued_stage r.stage q))
+
+  notice_valid : (i : ℕ) (n : Notice) → slice_get m.notice_list.notices i ≡ Some n → is_waiting_stage n.stage ≡ true → is_valid_in (door_of m n.door) ≡ true
+  notice_valid i n e w =
+      let found : notice_of m n.number ≡ Some n = find-slice_get notice_number m.notice_list.notices 0 i n h.notices_in_order e in
+      ap (λ o. is_valid_in (door_of m (noticed_door_in o))) (sym found)
+      ∙ h.coherent.notices_at_doors.notice_valid n.number (ap notice_in found ∙ ap Some (waiting_stage n.stage w))
+
+  waits : WaitAtValidDoors m
+  waits = record { calls = waiting_valid; notices = notice_valid }
+
+  -- a thread that has entered a notice is not given another item
+  entered_held : (t c : ℕ) → item_in (invocation_of m t) ≡ Some (item.Notice c) → held_as (state_of m t) (invocation_of m t) ≡ Some (item.Notice c)
+  entered_held t c e = go (state_of m t) refl
+    where
+      go : (s : ThreadState) → state_of m t ≡ s → held_as (state_of m t) (invocation_of m t) ≡ Some (item.Notice c)
+      go (is.Given i) f = let out = h.coherent.servers.outside t (ap is_outside f) in absurd (cc)
+      go s f = ap (λ k. held_as k (invocation_of m t)) f ∙ e
+
+  held : AreHeld m
+  held i t x e has = go x.stage refl
+    where
+      found : notice_of m x.number ≡ Some x
+      found = find-slice_get notice_number m.notice_list.notices 0 i x h.notices_in_order e
+
+      stage_is : (s : NoticeStage) → x.stage ≡ s → notice_in (notice_of m x.number) ≡ Some s
+      stage_is s f = ap notice_in found ∙ ap (λ k. Some k) f
+
+      go : (s : NoticeStage) → x.stage ≡ s → held_as (state_of m t) (invocation_of m t) ≡ Some (item.Notice x.number)
+      go (notice.Given u) f =
+          let whose : u.0 ≡ t = grind (arith, nat_tests) in
+          ap (λ k. held_as k (invocation_of m t))
+          (h.coherent.notices_given.notice_given x.number t (stage_is (notice.Given u) f ∙ ap (λ k. Some (notice.Given (tid k))) whose))
+      go (notice.Entered u) f =
+          let whose : u.0 ≡ t = grind (arith, nat_tests) in
+          entered_held t x.number (h.coherent.notices_entered.notice_entered x.number t (stage_is (notice.Entered u) f ∙ ap (λ k. Some (notice.Entered (tid k))) whose))
+      go s f = absurd (grind arith)
 
 placed-forget : (n : State) → ArePlaced n → ArePlaced (forget n)
 placed-forget n h =
@@ -269,6 +301,29 @@ placed-forget n h =
       notice_door = λ i x e. let at = kept_of (is_kept_notice n.doors) n.notice_list.notices i x e in h.notice_door at.0 x at.1;
     }
 
+waits-forget : (n : State) → WaitAtValidDoors n → WaitAtValidDoors (forget n)
+waits-forget n h =
+    record {
+      calls = λ i r e q. let at = kept_of is_live_call n.call_tree.calls i r e in h.calls at.0 r at.1 q;
+      notices = λ i x e w. let at = kept_of (is_kept_notice n.doors) n.notice_list.notices i x e in h.notices at.0 x at.1 w;
+    }
+
+held-forget : (n : State) → AreHeld n → AreHeld (forget n)
+held-forget n h i t x e has = let at = kept_of (is_kept_notice n.doors) n.notice_list.notices i x e in h at.0 t x at.1 has
+
+-- who can take a turn, now and after an event
+
+pub turns_kept : (m : State) → IsKept m → HasTurns m
+turns_kept m k = subst HasTurns (sym k.stands) (turns_consistent k.written k.invariant.consistent)
+
+pub turning :
+    (kept m : State) (t : ℕ) (q : Option Request) → kept ≡ m → IsKept kept → MayTurn m t q → HasTurnsAfter kept t q
+turning kept m t q same k may =
+    let after = step kept t q in
+    turns_kept (forget after.state)
+    (kept_step kept (forget after.state) t q (record { answer = after.answer; woken = after.woken }) k (subst (λ n. MayTurn n t q) (sym same) may)
+    (record { state = refl; answer = refl; woken = refl }))
+
 pub can_step :
     (p : Parts) (m : State) → stored_state p.store ≡ m →
     IsKept (stored_state p.store) × IsWithin (stored_state p.store) × IsBetweenEvents p →
@@ -277,10 +332,13 @@ can_step p m same k few =
     let w : IsWithin (stored_state p.store) = k.1 in
     let early : p.store.events < EVENTS_MAX = omega (arith, ap (λ (n : State). n.events) same) in
     record {
-      numbers = record { events = early; doors = omega arith; calls = omega arith };
+      numbers = record { events = early; doors = omega arith; calls = omega arith; notices = omega (arith, w.notices_made, early) };
       none_past = stands_live (stored_state p.store) k.0.written k.0.stands;
       placed = subst ArePlaced (sym k.0.stands) (placed-forget k.0.written (places k.0.written k.0.invariant.consistent));
+      waiting = subst WaitAtValidDoors (sym k.0.stands) (waits-forget k.0.written (waits k.0.written k.0.invariant.consistent));
+      held = subst AreHeld (sym k.0.stands) (held-forget k.0.written (held k.0.written k.0.invariant.consistent));
       between = k.2;
+      turns = turns_kept (stored_state p.store) k.0;
     }
 
 -- what the notices after the act of a turn stand on

@@ -5,7 +5,6 @@ pub mod Steps
 pub mod Readers
 pub mod Kept
 pub mod Tests
-pub mod Opening
 pub mod Collected
 pub mod Due
 pub mod Endings
@@ -13,5 +12,8 @@ pub mod Fallen
 pub mod Watching
 pub mod Making
 pub mod Acted
+pub mod Numbering
 pub mod Finishing
 mod Told
+pub mod Turning
+mod Served

@@ -1,20 +1,13 @@
 -- What is read of a kept state is read of each state that it stands for, and which threads can take a turn.
-use Rattle.std.proofs.Common.{◌≡◌, ℕ, ◌+◌, ◌<◌, ◌++◌, ◌∷◌, [], ◌-◌, zero, suc, Bool, true, false, List, Option, Some, None, length, get_or, inl, inr, not, ◌&&◌, refl, sym, ap, ap₂, ◌∙◌, arith, length-append, add-one}
-use Rattle.std.proofs.lemmas.List.{get_or_append_left}
+use Rattle.std.proofs.Common.{◌≡◌, ℕ, ◌+◌, ◌<◌, ◌∷◌, [], zero, suc, Bool, true, false, List, Option, Some, None, length, slice_get, filter, cond, inl, inr, refl, sym, ap, ap₂, ◌∙◌, arith}
 use Rattle.std.proofs.lemmas.Bool.{cases_lt}
-use Rattle.std.proofs.lemmas.Grind.{common_steps}
-use Rattle.std.proofs.Math.Seq.{get_or-append_seam}
 use Rattle.std.specs.Option.{option_map_or}
-use Rattle.written_kernel.specs.Types.{Call, Tid}
-use Rattle.kernel_records.specs.Words.{is_served_by, tid}
+use Rattle.written_kernel.specs.Types.{Call}
+use Rattle.kernel_records.specs.Words.{is_served_by}
 use Rattle.call_tree.specs.Words.{root_in, walk_up, caller_in as called_in}
-use Rattle.written_kernel.specs.Words.{StandsFor, State, caller_in, find_call, is_runnable, least_among, least_or, least_runnable, root, walk, woken_among}
+use Rattle.written_kernel.specs.Words.{StandsFor, State, caller_in, find_call, is_runnable, least_among, least_or, least_runnable, root, walk}
 use Rattle.written_kernel.proofs.Forget.{is_runnable-forget, root-forget}
-use Rattle.std.proofs.lemmas.Option.{slice_get-get_or}
-use Rattle.std.proofs.lemmas.Bool.Decides.{nat_tests}
-use Rattle.dk_base.specs.ByNumber.{at_number}
-use Rattle.kernel_records.proofs.Lists.{numbered_past, numbered_there, numbered_within}
-use Rattle.kernel_core.specs.Woken.{runnables}
+use Rattle.kernel_records.proofs.Lists.{numbered_past}
 
 pub runnable_stands : (kept m : State) (t : ℕ) → StandsFor kept m → is_runnable kept t ≡ is_runnable m t
 runnable_stands kept m t e = ap (λ k. is_runnable k t) e ∙ is_runnable-forget m t
@@ -22,30 +15,18 @@ runnable_stands kept m t e = ap (λ k. is_runnable k t) e ∙ is_runnable-forget
 pub root_stands : (kept m : State) (t : ℕ) → StandsFor kept m → root kept t ≡ root m t
 root_stands kept m t e = ap (λ k. root k t) e ∙ root-forget m t
 
-pub length_runnables : (m : State) (n : ℕ) → length (runnables m n) ≡ n
-length_runnables m zero = refl
-length_runnables m (suc n) = omega (arith, length-append (runnables m n) (is_runnable m (suc n) ∷ []), length_runnables m n)
-
-pub runnables_at : (m : State) (n i : ℕ) (d : Bool) → i < n → get_or (runnables m n) i d ≡ is_runnable m (i + 1)
-runnables_at m zero i d h = absurd (omega arith)
-runnables_at m (suc n) i d h =
-    elim (cases_lt i n) [
-      | inl k ↦ get_or_append_left (runnables m n) (is_runnable m (suc n) ∷ []) d i (omega (arith, length_runnables m n)) ∙ runnables_at m n i d k
-      | inr k ↦ let e : i ≡ n = omega arith in rw (e, add-one) (ap (λ j. get_or (runnables m n ++ is_runnable m (suc n) ∷ []) j d) (sym (length_runnables m n)) ∙ get_or-append_seam (runnables m n) (is_runnable m (suc n)) [] d)
-    ]
-
--- the list of those that an event woke, at a thread that it woke and at another
-pub woken_one :
-    (before after : State) (i : ℕ) (was here : Bool) (xs : List Tid) → was ≡ is_runnable before (i + 1) → here ≡ is_runnable after (i + 1) →
-    (not was && here) ≡ true → xs ≡ woken_among before after i →
-    xs ++ tid (i + 1) ∷ [] ≡ woken_among before after (i + 1)
-woken_one before after i was here xs e g f h = let k : i + 1 ≡ suc i = omega arith in grind arith
-
-pub woken_none :
-    (before after : State) (i : ℕ) (was here : Bool) (xs : List Tid) → was ≡ is_runnable before (i + 1) → here ≡ is_runnable after (i + 1) →
-    (not was && here) ≡ false → xs ≡ woken_among before after i →
-    xs ≡ woken_among before after (i + 1)
-woken_none before after i was here xs e g f h = let k : i + 1 ≡ suc i = omega arith in grind (arith, common_steps)
+-- what is kept of a list is in the list
+pub kept_of :
+    {X : Type 0} (p : X → Bool) (rs : List X) (i : ℕ) (r : X) → slice_get (filter p rs) i ≡ Some r → (k : ℕ) × (slice_get rs k ≡ Some r)
+kept_of p [] i r e = grind arith
+kept_of p (x ∷ rs) i r e = go (p x) (λ j f. kept_of p rs j r f) i e
+  where
+    go :
+        (b : Bool) → ((j : ℕ) → slice_get (filter p rs) j ≡ Some r → (k : ℕ) × (slice_get rs k ≡ Some r)) →
+        (i : ℕ) → slice_get (cond b (x ∷ filter p rs) (filter p rs)) i ≡ Some r → (k : ℕ) × (slice_get (x ∷ rs) k ≡ Some r)
+    go true ih zero f = (0, f)
+    go true ih (suc j) f = let more = ih j f in (suc more.0, more.1)
+    go false ih j f = let more = ih j f in (suc more.0, more.1)
 
 -- the walk along the calls is the walk of the written kernel
 walked : (n : ℕ) (m : State) (t : ℕ) → walk_up n m.call_tree.calls t ≡ walk n m t
@@ -70,38 +51,7 @@ root_walked m t = walked m.call_tree.made m t
 pub none_runnable : (m : State) (t : ℕ) → length m.process_table.threads < t → is_runnable m t ≡ false
 none_runnable m t h = let e = numbered_past m.process_table.threads t h in grind arith
 
--- what a list of them says at a number
-
-pub listed_there :
-    (m : State) (list : List Bool) (t : ℕ) (b : Bool) → list ≡ runnables m (length m.process_table.threads) →
-    at_number list t ≡ Some b → b ≡ is_runnable m t
-listed_there m list t b e h =
-    let within = numbered_within list t b h in
-    let long : length list ≡ length m.process_table.threads = ap length e ∙ length_runnables m (length m.process_table.threads) in
-    let read : get_or list (t - 1) false ≡ is_runnable m (t - 1 + 1) =
-    ap (λ xs. get_or xs (t - 1) false) e ∙ runnables_at m (length m.process_table.threads) (t - 1) false (omega (arith, within.0, within.1)) in
-    let same : t - 1 + 1 ≡ t = omega (arith, within.0) in
-    let found = slice_get-get_or list (t - 1) false (omega (arith, within.0, within.1)) in
-    grind (arith, nat_tests)
-
-pub listed_nowhere :
-    (m : State) (list : List Bool) (t : ℕ) → list ≡ runnables m (length m.process_table.threads) → at_number list t ≡ None →
-    false ≡ is_runnable m t
-listed_nowhere m list zero e h = refl
-listed_nowhere m list (suc t) e h =
-    let long : length list ≡ length m.process_table.threads = ap length e ∙ length_runnables m (length m.process_table.threads) in
-    elim (cases_lt t (length list)) [
-      | inl k ↦ absurd (let there = numbered_there list (suc t) (omega arith) (omega arith) in grind arith)
-      | inr k ↦ sym (none_runnable m (suc t) (omega arith))
-    ]
-
--- the least of the threads: none up to one that cannot take a turn, or the first that can
-
-pub least_none :
-    (m : State) (i : ℕ) → least_among m i ≡ None → is_runnable m (i + 1) ≡ false → least_among m (i + 1) ≡ None
-least_none m i none here =
-    let k : i + 1 ≡ suc i = omega arith in
-    ap (least_among m) k ∙ ap₂ (λ o b. least_or o b (suc i)) none (ap (is_runnable m) (sym k) ∙ here)
+-- the least of the threads: the first that can take a turn
 
 pub least_found :
     (m : State) (i n : ℕ) → i < n → least_among m i ≡ None → is_runnable m (i + 1) ≡ true → least_among m n ≡ Some (i + 1)

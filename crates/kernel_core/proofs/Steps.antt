@@ -1,12 +1,9 @@
 -- What a step keeps within.
-use Rattle.std.proofs.Common.{◌≡◌, ℕ, ◌<◌, ◌&&◌, not, Bool, true, false, Some, if◌then◌else◌, is_none, length, List, [], ◌∷◌, Option, None, refl, Result, Ok, Err, IfOk, OnErr, subst, sym, ap, ◌∙◌, arith}
+use Rattle.std.proofs.Common.{◌≡◌, ℕ, ◌+◌, ◌<◌, ◌≤◌, ◌&&◌, not, Bool, true, false, Some, if◌then◌else◌, is_none, length, List, [], ◌∷◌, Option, None, refl, Result, Ok, Err, IfOk, OnErr, OnOk, subst, sym, ap, ◌∙◌, arith}
 use Rattle.written_kernel.specs.Types.{Answer, Errno, Item, NoMemory, Request, Stepped}
 use Rattle.kernel_core.specs.declared.event.Parts.{Parts}
-use Rattle.kernel_core.specs.declared.runnable.Runnable.{Runnable}
 use Rattle.kernel_core.specs.declared.event.Taken.{Taken}
-use Rattle.kernel_store.specs.Words.{stored_state}
-use Rattle.kernel_core.specs.Woken.{HasListRoom, IsCurrent, IsReady, IsReadyToSettle}
-use Rattle.kernel_core.proofs.Readers.{length_runnables}
+use Rattle.kernel_core.specs.Woken.{IsReady, IsReadyToSettle}
 use Rattle.dk_base.specs.declared.object.Item.TheVariants as item
 use Rattle.kernel_records.specs.Words.{first_refusal, has_common_door, is_live_call, is_private}
 use Rattle.written_kernel.proofs.Failing.{doors-fail_returns}
@@ -25,9 +22,9 @@ use Rattle.written_kernel.proofs.Forget.{IsStep-stands_for, forget-forget, settl
 use Rattle.kernel_core.proofs.Live.{live_state, settle_past}
 use Rattle.kernel_core.proofs.Grows.{Grows, act-tidy, filter-small, grows_kept, settle-grows}
 
-pub step-within : (m : State) (t : ℕ) (r : Option Request) → IsWithin m → m.events < 1000000 → IsWithin (forget (step m t r).state)
+pub step-within : (m : State) (t : ℕ) (r : Option Request) → IsWithin m → m.events < 1000000 → (step m t r).state.notice_list.made ≤ m.notice_list.made + 1280 → IsWithin (forget (step m t r).state)
 unfolding step
-step-within m t r w few =
+step-within m t r w few made =
     let n = (act m t r).state in
     let g = (act-tidy m t r).grows in
     let h = settle-grows m n in
@@ -35,6 +32,7 @@ step-within m t r w few =
       events = omega arith;
       doors = omega arith;
       calls_made = omega arith;
+      notices_made = omega (arith, w.notices_made, made, h.events, g.events);
       small = filter-small is_live_call (settle m n).call_tree.calls (h.small (g.small w.small));
     }
 
@@ -52,11 +50,11 @@ step_stands kept old new t r (Err e) same h = tt
 
 pub step_within :
     (kept old new : State) (t : ℕ) (r : Option Request) (o : Result Stepped NoMemory) → kept ≡ old → IsWithin kept →
-    old.events < 1000000 → IfOk o (λ s. IsStep (step kept t r) new s) → OnErr o (new ≡ kept) → IsWithin new
-step_within kept old new t r (Ok s) same w few h e =
+    old.events < 1000000 → IfOk o (λ s. IsStep (step kept t r) new s) → OnOk o (new.notice_list.made ≤ kept.notice_list.made + 1280) → OnErr o (new ≡ kept) → IsWithin new
+step_within kept old new t r (Ok s) same w few h made e =
     let same_events : kept.events ≡ old.events = ap (λ m. m.events) same in
-    subst IsWithin (sym h.state) (step-within kept t r w (omega arith))
-step_within kept old new t r (Err x) same w few h e = subst IsWithin (sym e) w
+    subst IsWithin (sym h.state) (step-within kept t r w (omega arith) (omega (arith, made, ap (λ (m : State). m.notice_list.made) h.state)))
+step_within kept old new t r (Err x) same w few h made e = subst IsWithin (sym e) w
 
 pub step_small :
     (kept new : State) (t : ℕ) (r : Option Request) (o : Result Stepped NoMemory) → IsWithin kept →
@@ -67,10 +65,10 @@ step_small kept new t r (Err e) w h = tt
 with_processes-within : (limits : List ℕ) (m : State) → IsWithin m → IsWithin (with_processes m limits)
 with_processes-within [] m w = w
 with_processes-within (limit ∷ limits) m w =
-    with_processes-within limits (with_new_process m limit) (record { events = w.events; doors = w.doors; calls_made = w.calls_made; small = w.small })
+    with_processes-within limits (with_new_process m limit) (record { events = w.events; doors = w.doors; calls_made = w.calls_made; notices_made = w.notices_made; small = w.small })
 
 no_process-within : IsWithin no_process
-no_process-within = record { events = omega arith; doors = omega arith; calls_made = omega arith; small = tt }
+no_process-within = record { events = omega arith; doors = omega arith; calls_made = omega arith; notices_made = omega arith; small = tt }
 
 pub opening-within : (limits : List ℕ) (none m : State) → none ≡ no_process → m ≡ with_processes none limits → IsWithin m
 opening-within limits none m e h = subst IsWithin (sym (h ∙ ap (λ n. with_processes n limits) e)) (with_processes-within limits no_process no_process-within)
@@ -101,6 +99,12 @@ stepped m n new t r s h e answer state woken_is =
         (subst (λ k. forget (settle k n) ≡ forget (settle m (act m t r).state)) (live_state m h)
         (settle-forget m n (act m t r).state alike))
 
+pub stepped_state :
+    (m n new : State) (t : ℕ) (r : Option Request) → HasNothingPast m → StandsFor n (act m t r).state →
+    new ≡ forget (with_event_counted (settle m n)) → StandsFor new (step m t r).state
+stepped_state m n new t r h e state =
+    (stepped m n new t r (record { answer = (act m t r).answer; woken = woken_threads m (with_event_counted (settle m n)) }) h e refl state refl).state
+
 -- what settles is kept whole
 pub settled_kept :
     (before m n : State) → HasNothingPast m → n ≡ with_event_counted (settle before m) →
@@ -109,18 +113,8 @@ settled_kept before m n h e = e ∙ ap with_event_counted (sym (live_state (sett
 
 -- what was taken before an event suffices after its act and what follows it
 pub ready_after :
-    (p x : Parts) (taken : Taken) → IsReady p taken → length x.store.processes.threads ≡ length p.store.processes.threads →
-    x.runnable ≡ p.runnable → IsCurrent p.runnable (stored_state p.store) → IsReadyToSettle x taken.woken
-ready_after p x taken h g same k =
-    record {
-      woken = record { empty = h.woken.empty; spare = omega (arith, h.woken.spare, g) };
-      listed =
-          ap (λ (r : Runnable). length r.list.items) same ∙ ap length k.items
-          ∙ length_runnables (stored_state p.store) (length p.store.processes.threads) ∙ sym g;
-      room =
-          subst (λ (r : Runnable). HasListRoom r (length x.store.processes.threads)) (sym same)
-          (subst (HasListRoom p.runnable) (sym g) k.room);
-    }
+    (p x : Parts) (taken : Taken) → IsReady p taken → length x.store.processes.threads ≡ length p.store.processes.threads → IsReadyToSettle x taken.woken
+ready_after p x taken h g = record { few = omega (arith, h.few, g); woken = record { empty = h.woken.empty; spare = omega (arith, h.woken.spare, g) } }
 
 -- an act leaves as many processes as before
 pub processes_after :

@@ -4,25 +4,27 @@ use Rattle.dk_base.specs.declared.limits.TheConstants.{EVENTS_MAX}
 use Rattle.written_kernel.specs.Types.{Answer, Request}
 use Rattle.written_kernel.specs.Words.{StandsFor, State, act, forget, give, has_first_common_door}
 use Rattle.pool_agreement.specs.Words.{is_this}
-use Rattle.kernel_store.specs.Words.{ArePlaced, IsAtRest, KeepsForNotices, stored_state}
+use Rattle.kernel_store.specs.Words.{AreHeld, ArePlaced, IsAtRest, KeepsForNotices, WaitAtValidDoors, stored_state}
 use Rattle.kernel_core.specs.declared.event.Parts.{Parts}
 use Rattle.kernel_core.specs.declared.event.Taken.{Taken}
 use Rattle.kernel_core.specs.Kept.{HasNothingPast}
 use Rattle.kernel_core.specs.Numbers.{HasNumbersLeft}
 use Rattle.kernel_core.specs.Watched.{IsReadyForNotices}
-use Rattle.kernel_core.specs.Woken.{IsCurrent, IsReady}
+use Rattle.kernel_core.specs.Woken.{HasTurns, HasTurnsAfter, IsReady}
 
 -- what holds of the parts of a kernel between two events
-pub record IsBetweenEvents (parts : Parts) : Type 0 where
-  pub current : IsCurrent parts.runnable (stored_state parts.store)
-  pub rest : IsAtRest parts.store.events parts.store
+abbrev pub IsBetweenEvents : Parts → Type 0
+IsBetweenEvents parts = IsAtRest parts.store.events parts.store
 
 -- and there can be another one
 pub record CanStep (parts : Parts) : Type 0 where
   pub numbers : HasNumbersLeft (stored_state parts.store)
   pub none_past : HasNothingPast (stored_state parts.store)
   pub placed : ArePlaced (stored_state parts.store)
+  pub waiting : WaitAtValidDoors (stored_state parts.store)
+  pub held : AreHeld (stored_state parts.store)
   pub between : IsBetweenEvents parts
+  pub turns : HasTurns (stored_state parts.store)
 
 -- notices can be made after the act of a turn
 abbrev pub CanNoticeAfter : State → ℕ → Option Request → Type 0
@@ -32,12 +34,11 @@ CanNoticeAfter m t q = IsReadyForNotices m (forget (act m t q).state)
 pub record HasActed (start : Parts) (t : ℕ) (q : Option Request) (before after : Parts) (taken : Taken) (first : Option ℕ) (answer : Answer) : Type 0 where
   pub few : start.store.events < EVENTS_MAX
   pub none_past : HasNothingPast (stored_state start.store)
-  pub current : IsCurrent start.runnable (stored_state start.store)
+  pub turns : HasTurns (stored_state start.store)
   pub noticing : CanNoticeAfter (stored_state start.store) t q
+  pub turning : HasTurnsAfter (stored_state start.store) t q
   pub same : stored_state before.store ≡ stored_state start.store
-  pub listed : before.runnable ≡ start.runnable
   pub ready : IsReady before taken
-  pub runnable : after.runnable ≡ before.runnable
   pub acted : StandsFor (stored_state after.store) (act (stored_state start.store) t q).state
   pub answered : answer ≡ (act (stored_state start.store) t q).answer
   pub first_common : (p : ℕ) → has_first_common_door (stored_state start.store) (give (stored_state after.store)) p ≡ is_this p first

@@ -1,5 +1,6 @@
--- Unreferenced notices, as the kernel makes them: before the act of an event it lists the doors that it watches, which take notices
--- and have more than one reference, and after the act it makes a notice of each whose references have fallen to one.
+-- Unreferenced notices, as the kernel makes them: before the act of an event it has room for as many as an event can make, and after the
+-- act it makes a notice of each door that takes notices and whose references have fallen to one. Only doors with more than one reference
+-- are watched for that.
 use Rattle.std.specs.Prelude.{ℕ, ◌≡◌, if◌then◌else◌, List, [], ◌∷◌, Option, Bool, Some, filter, length, nat_lt}
 use Rattle.written_kernel.specs.Types.{Door}
 use Rattle.kernel_records.specs.Words.{AreNumbered, make_notice, notice_doors}
@@ -38,16 +39,15 @@ pub record IsReadyForNotices (m n : State) : Type 0 where
   pub doors : KeepsDoors m n
   pub placed : ArePlaced n
 
--- these doors were watched in the state m, in which the step began that has led to a store
-pub record WereWatched (m : State) (ds : List ℕ) (store : StoreValue) : Type 0 where
-  pub watched : ds ≡ watched m
+-- the step began in the state m, and has led to a store
+pub record BeganIn (m : State) (store : StoreValue) : Type 0 where
   pub doors : KeepsDoors m (stored_state store)
   pub opened : HasBegun store m
 
--- before the act there was room for a notice of each of them, and the act made none
-pub record HadRoomForNotices (before after : StoreValue) (ds : List ℕ) : Type 0 where
-  pub were : WereWatched (stored_state before) ds after
-  pub room : HasRoomForNotices before ds
+-- before the act there was room for the notices that an event can make, and the act made none
+pub record HadRoomForNotices (before after : StoreValue) : Type 0 where
+  pub began : BeganIn (stored_state before) after
+  pub room : HasRoomForNotices before
   pub agreed : IsAgreed before
   pub processes : length after.processes.processes ≡ length before.processes.processes
   pub made : after.notices.list.made ≡ before.notices.list.made

@@ -1,9 +1,10 @@
 -- What a kernel's numbers, bytes and objects in transit stay within.
-use Rattle.std.specs.Prelude.{◌≤◌, length, List, [], ◌∷◌}
+use Rattle.std.specs.Prelude.{◌≤◌, ◌*◌, length, List, [], ◌∷◌}
 use Rattle.written_kernel.specs.Types.{Answer, Call, CallStage}
 use Rattle.dk_base.specs.declared.answer.Answer.TheVariants as answer
 use Rattle.kernel_records.specs.declared.record.CallStage.TheVariants as stage
 use Rattle.dk_base.specs.declared.limits.TheConstants.{DATA_MAX, EVENTS_MAX, PASS_MAX, ANSWER_ITEMS_MAX}
+use Rattle.unref_notice.specs.declared.counts.TheConstants.{STEP_MAX}
 use Rattle.written_kernel.specs.Words.{State}
 
 abbrev pub IsSmallStage : CallStage → Type 0
@@ -20,11 +21,13 @@ abbrev pub AreSmall : List Call → Type 0
 AreSmall [] = Unit {0}
 AreSmall (r ∷ rs) = IsSmallCall r × AreSmall rs
 
--- each event makes at most one door and one call, and no more than a million are made
+-- each event makes at most one door and one call, and of each object to which references come or go by it at most one notice; and no
+-- more than a million are made
 pub record IsWithin (m : State) : Type 0 where
   pub events : m.events ≤ EVENTS_MAX
   pub doors : length m.doors ≤ m.events
   pub calls_made : m.call_tree.made ≤ m.events
+  pub notices_made : m.notice_list.made ≤ STEP_MAX * m.events
   pub small : AreSmall m.call_tree.calls
 
 -- at most 4,096 bytes, 16 descriptors and 64 events

@@ -1,40 +1,46 @@
--- Which threads can take a turn.
-use Rattle.std.specs.Prelude.{ℕ, ◌≡◌, ◌≤◌, ◌+◌, length, ◌++◌, List, [], ◌∷◌, Bool, zero, suc}
+-- Which threads can take a turn, and which an event wakes.
+use Rattle.std.specs.Prelude.{ℕ, ◌≡◌, ◌≤◌, ◌&&◌, length, List, Option, map, not}
+use Rattle.dk_base.specs.declared.limits.TheConstants.{THREADS_MAX}
 use Rattle.dk_base.specs.declared.number.Tid.{Tid}
 use Rattle.dk_base.specs.Words.{RoomValue}
+use Rattle.kernel_records.specs.Words.{numbers_where, tid}
+use Rattle.thread_set.specs.declared.set.ThreadSet.{ThreadSet}
+use Rattle.thread_set.specs.Words.{has}
 use Rattle.kernel_core.specs.declared.event.Parts.{Parts}
 use Rattle.kernel_core.specs.declared.event.Taken.{Taken}
-use Rattle.kernel_core.specs.declared.runnable.Runnable.{Runnable}
-use Rattle.written_kernel.specs.Words.{State, is_runnable}
-use Rattle.kernel_store.specs.Words.{HasBegun, HasRoomForNotices, IsAgreed, IsRoomFor, stored_state}
+use Rattle.written_kernel.specs.Types.{Request}
+use Rattle.written_kernel.specs.Words.{State, forget, is_runnable, step}
+use Rattle.kernel_store.specs.Words.{HasBegun, HasRoomForNotices, IsAgreed, IsRoomFor, can_turn, stored_state}
 use Rattle.kernel_core.specs.Watched.{watched}
 
--- of each of the threads 1 to n whether it can take a turn
-abbrev pub runnables : State → ℕ → List Bool
-runnables m zero = []
-runnables m (suc n) = runnables m n ++ is_runnable m (suc n) ∷ []
+-- the threads that can take a turn
+abbrev pub AreTurns : ThreadSet → State → Type 0
+AreTurns set m = (t : ℕ) → has set t ≡ can_turn m t
 
--- both lists have room for so many threads
-pub record HasListRoom (r : Runnable) (n : ℕ) : Type 0 where
-  pub list : n ≤ length r.list.items + r.list.spare
-  pub next : n ≤ length r.next.items + r.next.spare
+-- those that could not take a turn and can, in order
+abbrev pub turned_threads : State → State → List Tid
+turned_threads before after = map tid (numbers_where (λ t. can_turn after t && not (can_turn before t)) (length after.process_table.threads))
 
--- the list is that of a state, and both have room for its threads
-pub record IsCurrent (r : Runnable) (m : State) : Type 0 where
-  pub items : r.list.items ≡ runnables m (length m.process_table.threads)
-  pub room : HasListRoom r (length m.process_table.threads)
+-- a caller waits for the call that is its own, so it can take a turn exactly where the written kernel says so
+abbrev pub HasTurns : State → Type 0
+HasTurns m = (t : ℕ) → can_turn m t ≡ is_runnable m t
+
+-- the same of what is kept after an event
+abbrev pub HasTurnsAfter : State → ℕ → Option Request → Type 0
+HasTurnsAfter m t q = HasTurns (forget (step m t q).state)
 
 -- what was taken before an event suffices for what follows it
 pub record IsReady (parts : Parts) (taken : Taken) : Type 0 where
+  pub were : AreTurns taken.were (stored_state parts.store)
+  pub few : length parts.store.processes.threads ≤ THREADS_MAX
   pub woken : IsRoomFor (length parts.store.processes.threads) taken.woken
   pub flags : IsRoomFor (length parts.store.processes.processes) taken.had
-  pub watched : taken.watched.items ≡ watched (stored_state parts.store)
-  pub notices : HasRoomForNotices parts.store taken.watched.items
+  pub fallen : length (watched (stored_state parts.store)) ≤ taken.fallen.spare
+  pub notices : HasRoomForNotices parts.store
   pub opened : HasBegun parts.store (stored_state parts.store)
   pub agreed : IsAgreed parts.store
 
 -- the same once its act is done
 pub record IsReadyToSettle (parts : Parts) (list : RoomValue Tid) : Type 0 where
+  pub few : length parts.store.processes.threads ≤ THREADS_MAX
   pub woken : IsRoomFor (length parts.store.processes.threads) list
-  pub listed : length parts.runnable.list.items ≡ length parts.store.processes.threads
-  pub room : HasListRoom parts.runnable (length parts.store.processes.threads)

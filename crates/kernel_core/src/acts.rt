@@ -1,5 +1,5 @@
 //! The act of a turn: an entry, unless it is refused, or the end of a wait.
-ghost use Rattle.std.specs.Prelude.{◌≡◌, ◌&&◌, if◌then◌else◌, not, Some, None, false, length, true};
+ghost use Rattle.std.specs.Prelude.{◌≡◌, ◌&&◌, if◌then◌else◌, not, Some, None, false, length, true, IfOk, OnErr, OnOk};
 ghost use Rattle.std.specs.Option.{option_map};
 ghost use Rattle.kernel_records.specs.Words.{has_common_door, is_private};
 ghost use Rattle.kernel_invariant.specs.Events.{is_leaving};
@@ -9,13 +9,15 @@ ghost use Rattle.kernel_core.specs.Handed.{count_passed, ending_of, objects_at_e
 ghost use Rattle.kernel_core.specs.Kept.{HasNothingPast};
 ghost use Rattle.kernel_core.specs.Numbers.{HasNumbersLeft};
 ghost use Rattle.pool_agreement.specs.Words.{own_pool, pool_of_request};
-ghost use Rattle.kernel_store.specs.Words.{CanAct, CanLeave, FillsOnePool, IsActive, IsRoomFor, KeepsForNotices, KeepsPools, stored_state};
+ghost use Rattle.kernel_store.specs.Words.{AreHeld, CanAct, CanLeave, FillsNoPool, FillsOnePool, HasWholeStep, IsActive, IsRoomFor, KeepsForNotices, KeepsPools, stored_state};
 
 use crate::descriptors::{self, door_named, found};
 use crate::doors::{self, accept, collect};
 use crate::leaving::{self, wake};
 use crate::{binding, information};
+use bitflags::Flags;
 use dk_base::answer::Answer;
+use dk_base::error::NoMemory;
 use dk_base::list::{Bytes, Room};
 use dk_base::number::{Fd, Pid, Tid};
 use dk_base::object::{Item, Obj};
@@ -43,8 +45,7 @@ pub struct Needs {
 fn may_make_first(store: &Store, p: Pid, attrs: Attrs) -> Option<Pid>
     ensures { option_map (λ p. p.0) result ≡ (if not (is_private attrs) && not (has_common_door (stored_state store.now).doors p.0) then Some p.0 else None) }
 {
-    let is_private = attrs.0 & Attrs::PRIVATE.0 == Attrs::PRIVATE.0;
-    if is_private || store.doors().has_common(p) {
+    if attrs.contains(Attrs::PRIVATE) || store.doors().has_common(p) {
         None
     } else {
         Some(p)
@@ -100,42 +101,53 @@ pub fn made_first(answer: &Answer, first: Option<Pid>) -> Option<Pid>
 
 /// A kernel entry of thread `t` of process `p`, which runs, in the file of its subject. What it passes goes into `objects`.
 #[tactic(auto, using(crate::proofs::Live::entry_kept, crate::proofs::Live::live_state))]
-pub fn enter(store: &mut Store, t: Tid, p: Pid, request: Request, objects: Room<Obj>) -> Answer
+pub fn enter(
+    store: &mut Store,
+    alloc: Global,
+    t: Tid,
+    p: Pid,
+    request: Request,
+    objects: Room<Obj>,
+) -> Result<Answer, NoMemory>
+    requires references { HasWholeStep store.old }
     requires numbers { HasNumbersLeft (stored_state store.old) }
     requires can_act { CanAct (pool_of_request (stored_state store.old) t.0 request) store.old }
     requires can_leave { is_leaving request ≡ true → CanLeave store.old }
     requires none_past { HasNothingPast (stored_state store.old) }
     requires running { is_running (stored_state store.old) t.0 ≡ true }
+    requires held { AreHeld (stored_state store.old) }
     requires own { p.0 ≡ process_of (stored_state store.old) t.0 }
     requires room { IsRoomFor (count_passed request) objects }
-    ensures state { StandsFor (stored_state store.new) (enter (stored_state store.old) t.0 p.0 request).state }
-    ensures answer { result ≡ (enter (stored_state store.old) t.0 p.0 request).answer }
-    ensures keeps { KeepsForNotices store.old store.new }
-    ensures others { is_leaving request ≡ false → FillsOnePool (pool_of_request (stored_state store.old) t.0 request) store.old store.new }
+    ensures state { OnOk result (StandsFor (stored_state store.new) (enter (stored_state store.old) t.0 p.0 request).state) }
+    ensures answer { IfOk result (λ answer. answer ≡ (enter (stored_state store.old) t.0 p.0 request).answer) }
+    ensures keeps { OnOk result (KeepsForNotices store.old store.new) }
+    ensures others { is_leaving request ≡ false → OnOk result (FillsOnePool (pool_of_request (stored_state store.old) t.0 request) store.old store.new) }
+    ensures as_before { OnErr result (stored_state store.new ≡ stored_state store.old) }
+    ensures fills { OnErr result (FillsNoPool store.old store.new) }
 {
     match request {
         Request::Create { .. } | Request::Call { .. } | Request::Return { .. } => {
-            doors::enter(store, t, p, request, objects)
+            Ok(doors::enter(store, t, p, request, objects))
         }
         Request::Bind { .. } | Request::Unbind | Request::InfoQuery => {
-            binding::enter(store, t, p, request)
+            Ok(binding::enter(store, t, p, request))
         }
         Request::Info { .. }
         | Request::GetParam { .. }
         | Request::SetParam { .. }
-        | Request::Cred => information::enter(store, t, p, request),
+        | Request::Cred => Ok(information::enter(store, t, p, request)),
         Request::Close { .. }
         | Request::Dup { .. }
         | Request::Attach { .. }
         | Request::Detach { .. }
         | Request::Open { .. }
-        | Request::Await { .. } => descriptors::enter(store, t, p, request),
+        | Request::Await { .. } => Ok(descriptors::enter(store, t, p, request)),
         Request::Revoke { .. }
         | Request::Interrupt { .. }
         | Request::Kill { .. }
         | Request::Exit
-        | Request::TestCancel => leaving::enter(store, t, p, request),
-        _ => Answer::Done,
+        | Request::TestCancel => leaving::enter(store, alloc, t, p, request),
+        _ => Ok(Answer::Done),
     }
 }
 
@@ -187,6 +199,7 @@ pub fn go_on(
     ending: Ending,
     fds: Room<Fd>,
 ) -> Answer
+    requires references { HasWholeStep store.old }
     requires can_act { CanAct (own_pool (stored_state store.old) t.0) store.old }
     requires none_past { HasNothingPast (stored_state store.old) }
     requires own { p.0 ≡ process_of (stored_state store.old) t.0 }

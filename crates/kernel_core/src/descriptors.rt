@@ -4,7 +4,7 @@ ghost use Rattle.std.specs.Prelude.{◌≡◌, ◌∷◌, [], None, false, is_no
 ghost use Rattle.kernel_records.specs.Words.{first_refusal, lowest_free};
 ghost use Rattle.written_kernel.specs.Words.{Subject, attach, attach_tests, await, close, close_tests, detach, detach_tests, door_named, dup, dup_tests, end_await, insert_object, is_running, object_at, open_path, open_tests, state_of, table_of};
 ghost use Rattle.kernel_core.specs.Entries.{entry_about};
-ghost use Rattle.kernel_store.specs.Words.{CanCount, HasRoomForReferences, HasRoomToAttach, IsActive, KeepsPools, stored_state};
+ghost use Rattle.kernel_store.specs.Words.{CanHold, HasRoomForReferences, HasRoomToAttach, IsActive, KeepsPools, stored_state};
 
 use dk_base::answer::Answer;
 use dk_base::error::Errno;
@@ -27,7 +27,7 @@ pub fn door_named(store: &Store, p: Pid, fd: Fd) -> u32
 /// An object gets the lowest descriptor that is free, of which there is one.
 pub fn add_row(store: &mut Store, p: Pid, object: Obj) -> Answer
     requires free { is_none (lowest_free (table_of (stored_state store.old) p.0)) ≡ false }
-    requires counted { CanCount store.old (object ∷ []) }
+    requires can_hold { CanHold store.old (object ∷ []) }
     ensures state { stored_state store.new ≡ (insert_object (stored_state store.old) p.0 object).state }
     ensures answer { result ≡ (insert_object (stored_state store.old) p.0 object).answer }
     ensures keeps { KeepsPools store.old store.new }
@@ -48,7 +48,8 @@ pub fn close_refusal(store: &Store, p: Pid, fd: Fd) -> Option<Errno>
 
 /// close(2): the descriptor is free again.
 pub fn close(store: &mut Store, p: Pid, fd: Fd) -> Answer
-    requires { first_refusal (close_tests (stored_state store.old) p.0 fd) ≡ None }
+    requires references { HasRoomForReferences store.old }
+    requires allowed { first_refusal (close_tests (stored_state store.old) p.0 fd) ≡ None }
     ensures state { stored_state store.new ≡ (close (stored_state store.old) p.0 fd).state }
     ensures answer { result ≡ (close (stored_state store.old) p.0 fd).answer }
     ensures keeps { KeepsPools store.old store.new }
@@ -122,6 +123,7 @@ pub fn detach_refusal(store: &Store, path: PathId) -> Option<Errno>
 
 /// fdetach(3C): the path has no door any more.
 pub fn detach(store: &mut Store, path: PathId) -> Answer
+    requires { HasRoomForReferences store.old }
     ensures state { stored_state store.new ≡ (detach (stored_state store.old) path).state }
     ensures answer { result ≡ (detach (stored_state store.old) path).answer }
     ensures keeps { KeepsPools store.old store.new }

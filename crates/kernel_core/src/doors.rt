@@ -11,10 +11,11 @@ ghost use Rattle.kernel_core.specs.Numbers.{HasNumbersLeft};
 ghost use Rattle.pool_agreement.specs.Words.{own_pool, pool_of_request};
 ghost use Rattle.call_tree.specs.Words.{outcome_in};
 ghost use Rattle.kernel_core.specs.Entries.{entry_about};
-ghost use Rattle.kernel_store.specs.Words.{AllIsGivenOut, ArePlaced, CanAct, CanCount, FillsOnePool, HasRoomForDoor, HasRoomForReferences, IsRoomFor, KeepsForNotices, KeepsPools, NothingAfter, stored_state};
+ghost use Rattle.kernel_store.specs.Words.{AllIsGivenOut, AreHeld, ArePlaced, CanAct, CanHold, FillsOnePool, HasRoomForDoor, HasRoomForReferences, HasWholeStep, IsRoomFor, KeepsForNotices, KeepsPools, NothingAfter, stored_state};
 
 use crate::acts::Ending;
 use crate::descriptors::{add_row, door_named};
+use bitflags::Flags;
 use call_tree::parts::{Args, Outcome};
 use dk_base::answer::Answer;
 use dk_base::error::Errno;
@@ -102,7 +103,7 @@ fn has_no_cancel(store: &Store, d: u32) -> bool
     ensures { result ≡ no_cancel_of (door_of (stored_state store.now) d) }
 {
     match store.door(d) {
-        Some(door) => door.attrs.0 & Attrs::NO_CANCEL.0 == Attrs::NO_CANCEL.0,
+        Some(door) => door.attrs.contains(Attrs::NO_CANCEL),
         None => false,
     }
 }
@@ -118,6 +119,7 @@ pub fn call(
     rsize: u64,
     mut objects: Room<Obj>,
 ) -> Answer
+    requires references { HasWholeStep store.old }
     requires numbers { HasNumbersLeft (stored_state store.old) }
     requires can_act { CanAct (pool_of (stored_state store.old) (door_named (object_at (stored_state store.old) p.0 fd))) store.old }
     requires running { is_running (stored_state store.old) t.0 ≡ true }
@@ -168,9 +170,11 @@ pub fn return_from(
     pass: &PassList,
     mut objects: Room<Obj>,
 ) -> Answer
+    requires references { HasWholeStep store.old }
     requires can_act { CanAct (own_pool (stored_state store.old) t.0) store.old }
     requires none_past { HasNothingPast (stored_state store.old) }
     requires running { is_running (stored_state store.old) t.0 ≡ true }
+    requires held { AreHeld (stored_state store.old) }
     requires allowed { first_refusal (return_tests (stored_state store.old) t.0 p.0 bytes pass.now) ≡ None }
     requires room { IsRoomFor (length pass.now) objects }
     ensures state { StandsFor (stored_state store.new) (return (stored_state store.old) t.0 p.0 bytes pass.now).state }
@@ -190,10 +194,12 @@ pub fn return_from(
 /// An entry about doors, by a thread that runs. What it passes goes into `objects`.
 #[tactic(auto, using(crate::proofs::Live::entry_kept, crate::proofs::Live::live_state))]
 pub fn enter(store: &mut Store, t: Tid, p: Pid, request: Request, objects: Room<Obj>) -> Answer
+    requires references { HasWholeStep store.old }
     requires numbers { HasNumbersLeft (stored_state store.old) }
     requires can_act { CanAct (pool_of_request (stored_state store.old) t.0 request) store.old }
     requires none_past { HasNothingPast (stored_state store.old) }
     requires running { is_running (stored_state store.old) t.0 ≡ true }
+    requires held { AreHeld (stored_state store.old) }
     requires own { p.0 ≡ process_of (stored_state store.old) t.0 }
     requires room { IsRoomFor (count_passed request) objects }
     ensures state { StandsFor (stored_state store.new) (entry_about Subject.doors (stored_state store.old) t.0 p.0 request).state }
@@ -277,7 +283,7 @@ fn begin_call(store: &mut Store, t: Tid, p: Pid, c: u32, fds: Room<Fd>) -> Answe
     requires given { state_of (stored_state store.old) t.0 ≡ is.Given (item.Call c) }
     requires fds { IsRoomFor (length (objects_given (stored_state store.old) t.0 c)) fds }
     requires room { has_room (stored_state store.old) p.0 (objects_given (stored_state store.old) t.0 c) ≡ true }
-    requires references { HasRoomForReferences store.old }
+    requires references { HasWholeStep store.old }
     ensures state { stored_state store.new ≡ (accept_call (stored_state store.old) t.0 p.0 c (find_call (stored_state store.old) (is_given_as c t.0))).state }
     ensures answer { result ≡ (accept_call (stored_state store.old) t.0 p.0 c (find_call (stored_state store.old) (is_given_as c t.0))).answer }
     ensures keeps { KeepsPools store.old store.new }
@@ -299,6 +305,7 @@ fn begin_call(store: &mut Store, t: Tid, p: Pid, c: u32, fds: Room<Fd>) -> Answe
 
 /// The call that a thread was given ends EMFILE, and the thread is parked again.
 fn fail_begin(store: &mut Store, t: Tid, p: Pid, c: u32) -> Answer
+    requires references { HasRoomForReferences store.old }
     requires given { state_of (stored_state store.old) t.0 ≡ is.Given (item.Call c) }
     requires can_act { CanAct (own_pool (stored_state store.old) t.0) store.old }
     requires full { has_room (stored_state store.old) p.0 (objects_given (stored_state store.old) t.0 c) ≡ false }
@@ -317,6 +324,7 @@ fn fail_begin(store: &mut Store, t: Tid, p: Pid, c: u32) -> Answer
 /// The end of the wait of a thread that was given a call: its invocation begins where its process has a descriptor for each
 /// object of the call, else the call ends EMFILE.
 fn accept_call(store: &mut Store, t: Tid, p: Pid, c: u32, fds: Room<Fd>) -> Answer
+    requires references { HasWholeStep store.old }
     requires given { state_of (stored_state store.old) t.0 ≡ is.Given (item.Call c) }
     requires can_act { CanAct (own_pool (stored_state store.old) t.0) store.old }
     requires room { IsRoomFor (length (objects_given (stored_state store.old) t.0 c)) fds }
@@ -352,6 +360,7 @@ fn accept_notice(store: &mut Store, t: Tid, n: u32) -> Answer
 
 /// The end of the wait of a thread that was given an item: its invocation begins, or the item cannot be entered.
 pub fn accept(store: &mut Store, t: Tid, p: Pid, item: Item, fds: Room<Fd>) -> Answer
+    requires references { HasWholeStep store.old }
     requires given { state_of (stored_state store.old) t.0 ≡ is.Given item }
     requires can_act { CanAct (own_pool (stored_state store.old) t.0) store.old }
     requires room { IsRoomFor (length (objects_with (stored_state store.old) t.0 item)) fds }
@@ -375,7 +384,7 @@ fn hand_results(
     fds: Room<Fd>,
 ) -> Answer
     requires room { IsRoomFor (length objects.now) fds }
-    requires counted { CanCount store.old objects.now }
+    requires can_hold { CanHold store.old objects.now }
     ensures state { stored_state store.new ≡ record (stored_state store.old) { tables = tables_after_collect (stored_state store.old) p.0 objects.now } }
     ensures answer { (r : Call) → nat_lt r.rsize (length bytes) ≡ grown → result ≡ results_answer (stored_state store.old) p.0 r bytes objects.now }
     ensures keeps { KeepsPools store.old store.new }
@@ -393,7 +402,7 @@ fn hand_results(
 /// What a caller is told of the call that it collects.
 fn tell(store: &mut Store, p: Pid, outcome: Outcome, fds: Room<Fd>) -> Answer
     requires room { IsRoomFor (length (objects_told outcome)) fds }
-    requires counted { CanCount store.old (objects_told outcome) }
+    requires can_hold { CanHold store.old (objects_told outcome) }
     ensures state { stored_state store.new ≡ record (stored_state store.old) { tables = tables_after_collect (stored_state store.old) p.0 (objects_told outcome) } }
     ensures answer { (call : Option Call) → outcome_in call ≡ Some outcome → result ≡ collect_answer_in (stored_state store.old) p.0 call }
     ensures keeps { KeepsPools store.old store.new }
@@ -414,7 +423,7 @@ pub fn collect(store: &mut Store, t: Tid, p: Pid, c: u32, fds: Room<Fd>) -> Answ
     requires calling { state_of (stored_state store.old) t.0 ≡ is.Calling c }
     requires ready { has_answer (stored_state store.old) c ≡ true }
     requires room { IsRoomFor (length (objects_to_collect (stored_state store.old) c)) fds }
-    requires references { HasRoomForReferences store.old }
+    requires references { HasWholeStep store.old }
     ensures state { StandsFor (stored_state store.new) (collect (stored_state store.old) t.0 p.0 c).state }
     ensures answer { result ≡ (collect (stored_state store.old) t.0 p.0 c).answer }
     ensures keeps { KeepsPools store.old store.new }

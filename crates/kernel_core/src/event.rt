@@ -1,19 +1,20 @@
 //! One event: the memory that it can need is taken first, then the act, and what follows it.
-ghost use Rattle.std.specs.Prelude.{◌≡◌, ℕ, ◌+◌, ◌<◌, List, Option, false, length, true, Some, None, IfOk, OnOk, OnErr};
+ghost use Rattle.std.specs.Prelude.{◌≡◌, ℕ, ◌+◌, ◌<◌, ◌≤◌, List, Option, false, length, true, Some, None, IfOk, OnOk, OnErr};
 ghost use Rattle.std.specs.Option.{option_map};
 ghost use Rattle.dk_base.specs.declared.limits.TheConstants.{EVENTS_MAX, THREADS_MAX};
-ghost use Rattle.written_kernel.specs.Words.{IsStep, State, act, has_invalid_door, has_lost_door, is_live_process, is_runnable, is_running, step, with_event_counted, with_new_thread, woken_threads};
+ghost use Rattle.written_kernel.specs.Words.{IsStep, State, act, has_invalid_door, has_lost_door, is_runnable, is_running, step, with_event_counted};
 ghost use Rattle.kernel_invariant.specs.Events.{is_leaving};
-ghost use Rattle.kernel_store.specs.Words.{ArePlaced, CanSettle, FillsNoPool, HasRoom, HasRoomForNotices, HasRoomToLeave, IsAtRest, stored_state};
-ghost use Rattle.written_kernel.specs.Types.{Pool, Request};
+ghost use Rattle.kernel_store.specs.Words.{ArePlaced, CanSettle, HasRoom, HasWholeStep, IsAtRest, stored_state};
+ghost use Rattle.written_kernel.specs.Types.{Request};
+ghost use Rattle.unref_notice.specs.declared.counts.TheConstants.{STEP_MAX};
 ghost use Rattle.kernel_core.specs.Acted.{CanNoticeAfter, CanStep, HasActed, IsBetweenEvents};
 ghost use Rattle.kernel_core.specs.declared.event.Parts.{Parts};
-ghost use Rattle.kernel_core.specs.Woken.{IsCurrent, IsReady, IsReadyToSettle};
+ghost use Rattle.kernel_core.specs.Numbers.{HasNumbersLeft};
+ghost use Rattle.kernel_core.specs.Woken.{AreTurns, HasTurnsAfter, IsReady, IsReadyToSettle, turned_threads};
 
 use crate::acts::{ending_of, enter, go_on, made_first, needs_of};
 use crate::doors::count_at_end;
-use crate::notices::{settle, watched_doors};
-use crate::runnable::Runnable;
+use crate::notices::settle;
 use dk_base::answer::Answer;
 use dk_base::error::NoMemory;
 use dk_base::event::Stepped;
@@ -24,100 +25,70 @@ use kernel_records::pool::Pool;
 use kernel_store::store::Store;
 use std::alloc::Global;
 use std::mem;
+use thread_set::set::ThreadSet;
 
-/// A kernel's store; who can take a turn; and the room of two lists that each event makes anew.
+/// A kernel's store, and the room of two lists that each event makes anew.
 #[derive(Drop)]
 pub struct Parts {
     pub store: Store,
-    pub runnable: Runnable,
-    /// Room for the doors that an event watches.
-    pub watched: Room<u32>,
+    /// Room for the doors whose references fall to one by an event.
+    pub fallen: Room<u32>,
     /// Room for a flag of each process.
     pub had: Room<bool>,
 }
 
-/// The memory of one event: for the threads that it wakes, for the doors of which it may make notices, and for a flag of each
-/// process.
+/// What is taken before an event: the threads that can take a turn; and memory for the threads that it wakes, for the doors of which
+/// it may make notices, and for a flag of each process.
 #[derive(Drop)]
 struct Taken {
+    were: ThreadSet,
     woken: Room<Tid>,
-    watched: Room<u32>,
+    fallen: Room<u32>,
     had: Room<bool>,
 }
 
-/// Takes the memory that threads can need which park again as their callers leave, if they leave.
-fn reserve_leaving(store: &mut Store, leaves: bool) -> Result<(), NoMemory>
-    ensures state { stored_state store.new ≡ stored_state store.old }
-    ensures keeps { FillsNoPool store.old store.new }
-    ensures room { leaves ≡ true → OnOk result (HasRoomToLeave store.new) }
-    ensures kept { (touched : Pool) → HasRoom store.old touched → HasRoom store.new touched }
-    ensures kept_for_notices { (ds : List ℕ) → HasRoomForNotices store.old ds → HasRoomForNotices store.new ds }
-{
-    if leaves {
-        store.reserve_leaving()
-    } else {
-        Ok(())
-    }
-}
-
 impl Parts {
-    /// Another thread of a process.
-    pub fn add_thread(&mut self, process: Pid, spare: bool) -> Result<Tid, NoMemory>
-        requires few { length self.old.store.processes.threads < THREADS_MAX }
-        requires lives { is_live_process (stored_state self.old.store) process.0 ≡ true }
-        requires current { IsCurrent self.old.runnable (stored_state self.old.store) }
-        ensures ok { OnOk result (stored_state self.new.store ≡ with_new_thread (stored_state self.old.store) process.0 spare) }
-        ensures number { IfOk result (λ t. t.0 ≡ length self.old.store.processes.threads + 1) }
-        ensures current { IsCurrent self.new.runnable (stored_state self.new.store) }
-        ensures err { OnErr result (stored_state self.new.store ≡ stored_state self.old.store) }
-        ensures rest { (n : ℕ) → IsAtRest n self.old.store → IsAtRest n self.new.store }
-    {
-        self.runnable.reserve(&self.store)?;
-        let thread = self.store.add_thread(process, spare)?;
-        self.runnable.list_all(&self.store);
-        Ok(thread)
-    }
-
-    /// The step begins that an event is, and takes the memory that it can need where it touches this pool and where callers, threads or
-    /// doors may leave by it, which changes nothing else. One that hands over objects needs room for them besides.
-    fn reserve(&mut self, alloc: Global, touched: Pool, leaves: bool) -> Result<Taken, NoMemory>
-        requires { ArePlaced (stored_state self.old.store) }
+    /// The step begins that an event is, and takes the memory that it can need where it touches this pool, which changes nothing
+    /// else. One that hands over objects needs room for them besides, and one by which callers, threads or doors leave takes its own.
+    fn reserve(&mut self, alloc: Global, touched: Pool) -> Result<Taken, NoMemory>
+        requires placed { ArePlaced (stored_state self.old.store) }
+        requires numbers { HasNumbersLeft (stored_state self.old.store) }
         ensures state { stored_state self.new.store ≡ stored_state self.old.store }
-        ensures runnable { self.new.runnable ≡ self.old.runnable }
         ensures rest { IsAtRest self.old.store.events self.old.store → IsAtRest self.new.store.events self.new.store }
         ensures room { OnOk result (HasRoom self.new.store touched) }
-        ensures leaving_room { leaves ≡ true → OnOk result (HasRoomToLeave self.new.store) }
+        ensures references { OnOk result (HasWholeStep self.new.store) }
         ensures ready { IfOk result (λ taken. IsReady self.new taken) }
     {
-        self.store.start_step();
+        self.store.start_step()?;
         self.store.reserve(touched)?;
-        watched_doors(&self.store, &mut self.watched)?;
-        self.store.reserve_notices(self.watched.slice())?;
-        reserve_leaving(&mut self.store, leaves)?;
+        self.store.reserve_notices()?;
+        self.fallen.clear();
+        self.fallen
+            .reserve(self.store.doors().notice_doors().len())?;
         self.store.notices();
         self.had.clear();
         self.had
             .reserve(self.store.processes().process_count() as usize)?;
         let woken = Room::with_room(alloc, self.store.processes().thread_count() as usize)?;
         Ok(Taken {
+            were: self.store.runnable(),
             woken,
-            watched: mem::replace(&mut self.watched, Room::new(alloc)),
+            fallen: mem::replace(&mut self.fallen, Room::new(alloc)),
             had: mem::replace(&mut self.had, Room::new(alloc)),
         })
     }
 
-    /// The event is counted once all that follows its act is done, and who can take a turn is listed anew.
-    fn end_event(&mut self, mut woken: Room<Tid>, answer: Answer) -> Stepped
+    /// The event is counted once all that follows its act is done. `were` are the threads that could take a turn before it.
+    fn end_event(&mut self, were: ThreadSet, mut woken: Room<Tid>, answer: Answer) -> Stepped
         requires few { self.old.store.events < EVENTS_MAX }
         requires ready { IsReadyToSettle self.old woken }
         ensures state { stored_state self.new.store ≡ with_event_counted (stored_state self.old.store) }
         ensures answer { result.answer ≡ answer }
-        ensures woken { (before : State) → IsCurrent self.old.runnable before → result.woken ≡ woken_threads before (with_event_counted (stored_state self.old.store)) }
-        ensures current { IsCurrent self.new.runnable (stored_state self.new.store) }
+        ensures woken { (before : State) → AreTurns were before → result.woken ≡ turned_threads before (stored_state self.new.store) }
         ensures rest { (n : ℕ) → IsAtRest n self.old.store → IsAtRest n self.new.store }
     {
         self.store.count();
-        self.runnable.advance(&self.store, &mut woken);
+        self.store.runnable().without(were).list(&mut woken);
         Stepped {
             answer,
             woken: woken.into_list(),
@@ -137,16 +108,18 @@ impl Parts {
         requires acted { (start : Parts) × (t : ℕ) × (q : Option Request) × (before : Parts) × HasActed start t q before self.old taken (option_map (λ p. p.0) first) answer }
         requires can_settle { leaves ≡ false → CanSettle touched self.old.store }
         ensures step { (start : Parts) (t : ℕ) (q : Option Request) (before : Parts) → HasActed start t q before self.old taken (option_map (λ p. p.0) first) answer → IsStep (step (stored_state start.store) t q) (stored_state self.new.store) result }
+        ensures made { (start : Parts) (t : ℕ) (q : Option Request) (before : Parts) → HasActed start t q before self.old taken (option_map (λ p. p.0) first) answer → self.new.store.notices.list.made ≤ start.store.notices.list.made + STEP_MAX }
         ensures between { IsBetweenEvents self.new }
     {
         let Taken {
+            were,
             woken,
-            mut watched,
+            mut fallen,
             had,
         } = taken;
-        let had = settle(&mut self.store, &mut watched, had, touched, leaves, first);
-        let stepped = self.end_event(woken, answer);
-        self.watched = watched;
+        let had = settle(&mut self.store, &mut fallen, had, touched, leaves, first);
+        let stepped = self.end_event(were, woken, answer);
+        self.fallen = fallen;
         self.had = had;
         stepped
     }
@@ -156,16 +129,18 @@ impl Parts {
         requires running { is_running (stored_state self.old.store) t.0 ≡ true }
         requires can_step { CanStep self.old }
         requires noticing { CanNoticeAfter (stored_state self.old.store) t.0 (Some request) }
+        requires turning { HasTurnsAfter (stored_state self.old.store) t.0 (Some request) }
         requires none_lost { is_leaving request ≡ false → (u : ℕ) → has_lost_door (act (stored_state self.old.store) t.0 (Some request)).state u ≡ false }
         ensures step { IfOk result (λ s. IsStep (step (stored_state self.old.store) t.0 (Some request)) (stored_state self.new.store) s) }
+        ensures made { OnOk result (self.new.store.notices.list.made ≤ self.old.store.notices.list.made + STEP_MAX) }
         ensures err { OnErr result (stored_state self.new.store ≡ stored_state self.old.store) }
         ensures between { IsBetweenEvents self.new }
     {
         let p = self.store.processes().process_of(t);
         let needs = needs_of(&self.store, t, p, &request);
         let objects = Room::with_room(alloc, needs.passed)?;
-        let taken = self.reserve(alloc, needs.touched, needs.leaves)?;
-        let answer = enter(&mut self.store, t, p, request, objects);
+        let taken = self.reserve(alloc, needs.touched)?;
+        let answer = enter(&mut self.store, alloc, t, p, request, objects)?;
         let first = made_first(&answer, needs.first);
         Ok(self.finish(taken, needs.touched, needs.leaves, first, answer))
     }
@@ -175,8 +150,10 @@ impl Parts {
         requires can_step { CanStep self.old }
         requires runnable { is_runnable (stored_state self.old.store) t.0 ≡ true }
         requires noticing { CanNoticeAfter (stored_state self.old.store) t.0 None }
+        requires turning { HasTurnsAfter (stored_state self.old.store) t.0 None }
         requires none_lost { has_invalid_door (stored_state self.old.store) t.0 ≡ false → (u : ℕ) → has_lost_door (act (stored_state self.old.store) t.0 None).state u ≡ false }
         ensures step { IfOk result (λ s. IsStep (step (stored_state self.old.store) t.0 None) (stored_state self.new.store) s) }
+        ensures made { OnOk result (self.new.store.notices.list.made ≤ self.old.store.notices.list.made + STEP_MAX) }
         ensures err { OnErr result (stored_state self.new.store ≡ stored_state self.old.store) }
         ensures between { IsBetweenEvents self.new }
     {
@@ -185,7 +162,7 @@ impl Parts {
         let p = self.store.processes().process_of(t);
         let ending = ending_of(self.store.processes().state(t));
         let fds = Room::with_room(alloc, count_at_end(&self.store, t, ending))?;
-        let taken = self.reserve(alloc, touched, false)?;
+        let taken = self.reserve(alloc, touched)?;
         let answer = go_on(&mut self.store, alloc, t, p, ending, fds);
         Ok(self.finish(taken, touched, loses, None, answer))
     }

@@ -1,9 +1,10 @@
 ghost use Rattle.std.specs.Prelude.{ℕ, ◌≡◌, ◌+◌, ◌<◌, ◌≤◌, ◌↔◌, Some, None, true, length, IfOk, OnOk, OnErr};
 ghost use Rattle.std.specs.Option.{option_map};
+ghost use Rattle.std.specs.List.{AllByRecursion};
 ghost use Rattle.dk_base.specs.declared.answer.Answer.TheVariants.{Failure};
 ghost use Rattle.dk_base.specs.declared.error.ProcFault.TheVariants.{Full};
 ghost use Rattle.written_kernel.specs.Types.{Errno};
-ghost use Rattle.dk_base.specs.declared.limits.TheConstants.{PROCESSES_MAX, THREADS_MAX, EVENTS_MAX};
+ghost use Rattle.dk_base.specs.declared.limits.TheConstants.{DESCRIPTORS_MAX, PROCESSES_MAX, THREADS_MAX, EVENTS_MAX};
 ghost use Rattle.capabilities.specs.declared.table.TheConstants.{BUILT};
 ghost use Rattle.capabilities.specs.Words.{capability_of};
 ghost use Rattle.written_kernel.specs.Words.{IsFit, IsStep, MayGoOn, StandsFor, State, is_runnable, is_running, least_runnable, opening, process_of, refusal_of, root, state_of, step, with_event_counted, with_new_thread, with_processes};
@@ -13,7 +14,6 @@ ghost use Rattle.kernel_core.specs.Within.{IsWithin, IsSmall};
 ghost use Rattle.kernel_core.specs.Acted.{IsBetweenEvents};
 
 use crate::event::Parts;
-use crate::runnable::Runnable;
 use crate::turns::{self, is_running_state};
 use dk_base::error::{NoMemory, ProcFault};
 use dk_base::event::Stepped;
@@ -45,15 +45,14 @@ impl Model for Kernel {
 impl Kernel {
     /// Processes with these limits of descriptors, numbered from 1, and nothing else.
     pub fn new(alloc: Global, limits: &IdList) -> Result<Self, NoMemory>
-        requires { length limits.now ≤ PROCESSES_MAX }
+        requires processes { length limits.now ≤ PROCESSES_MAX }
+        requires limits { AllByRecursion (λ n. n ≤ DESCRIPTORS_MAX) limits.now }
         ensures { IfOk result (λ k. k ≡ opening limits.now) }
     {
         let store = with_processes(Store::new(alloc)?, alloc, limits.slice())?;
-        let runnable = Runnable::new(alloc)?;
         let parts = Parts {
             store,
-            runnable,
-            watched: Room::new(alloc),
+            fallen: Room::new(alloc),
             had: Room::new(alloc),
         };
         Ok(Kernel { alloc, parts })
@@ -71,7 +70,7 @@ impl Kernel {
         if self.parts.store.processes().thread_count() == THREADS_MAX {
             return Err(ProcFault::Full);
         }
-        match self.parts.add_thread(process, spare) {
+        match self.parts.store.add_thread(process, spare) {
             Ok(thread) => Ok(thread),
             Err(_) => Err(ProcFault::Memory),
         }
@@ -108,7 +107,7 @@ impl Kernel {
         ensures kept { result ≡ is_runnable self.now t.0 }
         ensures stands { (m : State) → StandsFor self.now m → result ≡ is_runnable m t.0 }
     {
-        self.parts.runnable.has(t)
+        self.parts.store.runnable().has(t)
     }
 
     /// The least thread that can take a turn.
@@ -116,9 +115,7 @@ impl Kernel {
         ensures kept { option_map (λ t. t.0) result ≡ least_runnable self.now }
         ensures stands { (m : State) → StandsFor self.now m → option_map (λ t. t.0) result ≡ least_runnable m }
     {
-        self.parts
-            .runnable
-            .least(self.parts.store.processes().thread_count())
+        self.parts.store.runnable().least()
     }
 
     pub fn is_running(&self, t: Tid) -> bool
@@ -163,7 +160,9 @@ impl Kernel {
 }
 
 fn with_processes(mut store: Store, alloc: Global, limits: &[u32]) -> Result<Store, NoMemory>
-    requires { length store.processes.processes + length limits.now ≤ PROCESSES_MAX }
+    requires processes { length store.processes.processes + length limits.now ≤ PROCESSES_MAX }
+    requires tables { length store.tables + length limits.now ≤ PROCESSES_MAX }
+    requires limits { AllByRecursion (λ n. n ≤ DESCRIPTORS_MAX) limits.now }
     ensures state { IfOk result (λ s. stored_state s ≡ with_processes (stored_state store) limits.now) }
     ensures rest { IfOk result (λ s. (n : ℕ) → IsAtRest n store → IsAtRest n s) }
 {

@@ -1,71 +1,84 @@
 //! The acts of leaving, and how a server learns that its client has left. What becomes of calls, notices and threads
 //! stands in the store.
-ghost use Rattle.std.specs.Prelude.{◌≡◌, None, false, true};
+ghost use Rattle.std.specs.Prelude.{◌≡◌, None, false, is_some, true, IfOk, OnErr, OnOk};
+ghost use Rattle.dk_base.specs.ByNumber.{at_number};
 ghost use Rattle.kernel_records.specs.Words.{first_refusal};
 ghost use Rattle.written_kernel.specs.Words.{StandsFor, Subject, exit, interrupt, kill, leave_process, revoke, revoking_tests, state_of, test_cancel, wake};
 ghost use Rattle.kernel_core.specs.Kept.{HasNothingPast};
 ghost use Rattle.kernel_invariant.specs.Events.{is_leaving};
 ghost use Rattle.kernel_core.specs.Entries.{entry_about};
-ghost use Rattle.kernel_store.specs.Words.{CanLeave, IsActive, KeepsForNotices, KeepsPools, NothingAfter, stored_state};
+ghost use Rattle.kernel_store.specs.Words.{CanLeave, FillsNoPool, IsActive, KeepsForNotices, KeepsPools, NothingAfter, stored_state};
 
 use crate::descriptors::door_named;
 use dk_base::answer::Answer;
-use dk_base::error::Errno;
+use dk_base::error::{Errno, NoMemory};
 use dk_base::number::{Fd, Pid, Tid};
 use dk_base::request::Request;
 use kernel_records::leaving::Leaver;
 use kernel_records::record::ThreadState;
 use kernel_store::store::Store;
+use std::alloc::Global;
 
 /// A thread is interrupted: its call ends with EINTR, or its wait for the events of a port. Any other thread goes on.
-pub fn interrupt(store: &mut Store, thread: Tid) -> Answer
+pub fn interrupt(store: &mut Store, alloc: Global, thread: Tid) -> Result<Answer, NoMemory>
     requires can_leave { CanLeave store.old }
-    ensures state { StandsFor (stored_state store.new) (interrupt (stored_state store.old) thread.0).state }
-    ensures answer { result ≡ (interrupt (stored_state store.old) thread.0).answer }
-    ensures keeps { KeepsForNotices store.old store.new }
+    ensures state { OnOk result (StandsFor (stored_state store.new) (interrupt (stored_state store.old) thread.0).state) }
+    ensures answer { IfOk result (λ answer. answer ≡ (interrupt (stored_state store.old) thread.0).answer) }
+    ensures keeps { OnOk result (KeepsForNotices store.old store.new) }
+    ensures as_before { OnErr result (stored_state store.new ≡ stored_state store.old) }
+    ensures fills { OnErr result (FillsNoPool store.old store.new) }
 {
-    store.leave(Leaver::Interrupted { thread });
-    Answer::Done
+    store.leave(alloc, Leaver::Interrupted { thread })?;
+    Ok(Answer::Done)
 }
 
 /// All threads of a process end, its doors become invalid, and its descriptors are closed.
-fn leave_process(store: &mut Store, p: Pid)
+fn leave_process(store: &mut Store, alloc: Global, p: Pid) -> Result<(), NoMemory>
     requires can_leave { CanLeave store.old }
-    ensures state { StandsFor (stored_state store.new) (leave_process (stored_state store.old) p.0) }
-    ensures keeps { KeepsForNotices store.old store.new }
+    requires declared { is_some (at_number (stored_state store.old).process_table.processes p.0) ≡ true }
+    ensures state { OnOk result (StandsFor (stored_state store.new) (leave_process (stored_state store.old) p.0)) }
+    ensures keeps { OnOk result (KeepsForNotices store.old store.new) }
+    ensures as_before { OnErr result (stored_state store.new ≡ stored_state store.old) }
+    ensures fills { OnErr result (FillsNoPool store.old store.new) }
 {
-    store.leave(Leaver::EndedProcess { process: p });
+    store.leave(alloc, Leaver::EndedProcess { process: p })?;
     store.end_process(p);
+    Ok(())
 }
 
 /// A thread ends, and its process with it where the thread is its last that is neither done nor dormant.
-pub fn exit(store: &mut Store, t: Tid, p: Pid) -> Answer
+pub fn exit(store: &mut Store, alloc: Global, t: Tid, p: Pid) -> Result<Answer, NoMemory>
     requires can_leave { CanLeave store.old }
-    ensures state { StandsFor (stored_state store.new) (exit (stored_state store.old) t.0 p.0).state }
-    ensures answer { result ≡ (exit (stored_state store.old) t.0 p.0).answer }
-    ensures keeps { KeepsForNotices store.old store.new }
+    requires declared { is_some (at_number (stored_state store.old).process_table.processes p.0) ≡ true }
+    ensures state { OnOk result (StandsFor (stored_state store.new) (exit (stored_state store.old) t.0 p.0).state) }
+    ensures answer { IfOk result (λ answer. answer ≡ (exit (stored_state store.old) t.0 p.0).answer) }
+    ensures keeps { OnOk result (KeepsForNotices store.old store.new) }
+    ensures as_before { OnErr result (stored_state store.new ≡ stored_state store.old) }
+    ensures fills { OnErr result (FillsNoPool store.old store.new) }
 {
     if store.processes().is_last(t, p) {
-        leave_process(store, p);
-    } else {
-        store.leave(Leaver::Ended { thread: t });
+        leave_process(store, alloc, p)?;
+        return Ok(Answer::Done);
     }
-    Answer::Done
+    store.leave(alloc, Leaver::Ended { thread: t })?;
+    Ok(Answer::Done)
 }
 
 /// A process ends, whoever asks. One that has ended stays so.
-pub fn kill(store: &mut Store, p: Pid) -> Answer
+pub fn kill(store: &mut Store, alloc: Global, p: Pid) -> Result<Answer, NoMemory>
     requires none_past { HasNothingPast (stored_state store.old) }
     requires can_leave { CanLeave store.old }
-    ensures state { StandsFor (stored_state store.new) (kill (stored_state store.old) p.0).state }
-    ensures answer { result ≡ (kill (stored_state store.old) p.0).answer }
-    ensures keeps { KeepsForNotices store.old store.new }
+    ensures state { OnOk result (StandsFor (stored_state store.new) (kill (stored_state store.old) p.0).state) }
+    ensures answer { IfOk result (λ answer. answer ≡ (kill (stored_state store.old) p.0).answer) }
+    ensures keeps { OnOk result (KeepsForNotices store.old store.new) }
+    ensures as_before { OnErr result (stored_state store.new ≡ stored_state store.old) }
+    ensures fills { OnErr result (FillsNoPool store.old store.new) }
 {
     if !store.processes().is_live(p) {
-        return Answer::Done;
+        return Ok(Answer::Done);
     }
-    leave_process(store, p);
-    Answer::Done
+    leave_process(store, alloc, p)?;
+    Ok(Answer::Done)
 }
 
 /// door_revoke(3C): EBADF for no door or an invalid one, EPERM for another process's.
@@ -76,18 +89,20 @@ pub fn revoke_refusal(store: &Store, p: Pid, fd: Fd) -> Option<Errno>
 }
 
 /// door_revoke(3C): the door is invalid, and its descriptor is closed.
-pub fn revoke(store: &mut Store, p: Pid, fd: Fd) -> Answer
+pub fn revoke(store: &mut Store, alloc: Global, p: Pid, fd: Fd) -> Result<Answer, NoMemory>
     requires allowed { first_refusal (revoking_tests (stored_state store.old) p.0 fd) ≡ None }
     requires can_leave { CanLeave store.old }
-    ensures state { StandsFor (stored_state store.new) (revoke (stored_state store.old) p.0 fd).state }
-    ensures answer { result ≡ (revoke (stored_state store.old) p.0 fd).answer }
-    ensures keeps { KeepsForNotices store.old store.new }
+    ensures state { OnOk result (StandsFor (stored_state store.new) (revoke (stored_state store.old) p.0 fd).state) }
+    ensures answer { IfOk result (λ answer. answer ≡ (revoke (stored_state store.old) p.0 fd).answer) }
+    ensures keeps { OnOk result (KeepsForNotices store.old store.new) }
+    ensures as_before { OnErr result (stored_state store.new ≡ stored_state store.old) }
+    ensures fills { OnErr result (FillsNoPool store.old store.new) }
 {
     let door = door_named(store, p, fd);
-    store.leave(Leaver::Revoked { door });
+    store.leave(alloc, Leaver::Revoked { door })?;
     store.close(p, fd);
     store.revoke(door, p);
-    Answer::Done
+    Ok(Answer::Done)
 }
 
 /// Whether the client of a thread's invocation has left it. A thread without an invocation is told no.
@@ -114,24 +129,33 @@ pub fn wake(store: &mut Store, t: Tid) -> Answer
 
 /// An entry by which callers, threads or doors leave, or which asks whether a client has left.
 #[tactic(auto, using(crate::proofs::Live::entry_kept, crate::proofs::Live::live_state))]
-pub fn enter(store: &mut Store, t: Tid, p: Pid, request: Request) -> Answer
+pub fn enter(
+    store: &mut Store,
+    alloc: Global,
+    t: Tid,
+    p: Pid,
+    request: Request,
+) -> Result<Answer, NoMemory>
     requires none_past { HasNothingPast (stored_state store.old) }
     requires latest { NothingAfter store.old.events store.old }
     requires can_leave { is_leaving request ≡ true → CanLeave store.old }
-    ensures state { StandsFor (stored_state store.new) (entry_about Subject.leaving (stored_state store.old) t.0 p.0 request).state }
-    ensures answer { result ≡ (entry_about Subject.leaving (stored_state store.old) t.0 p.0 request).answer }
-    ensures keeps { KeepsForNotices store.old store.new }
+    requires declared { is_some (at_number (stored_state store.old).process_table.processes p.0) ≡ true }
+    ensures state { OnOk result (StandsFor (stored_state store.new) (entry_about Subject.leaving (stored_state store.old) t.0 p.0 request).state) }
+    ensures answer { IfOk result (λ answer. answer ≡ (entry_about Subject.leaving (stored_state store.old) t.0 p.0 request).answer) }
+    ensures keeps { OnOk result (KeepsForNotices store.old store.new) }
     ensures stays { is_leaving request ≡ false → store.new ≡ store.old }
+    ensures as_before { OnErr result (stored_state store.new ≡ stored_state store.old) }
+    ensures fills { OnErr result (FillsNoPool store.old store.new) }
 {
     match request {
         Request::Revoke { fd } => match revoke_refusal(store, p, fd) {
-            Some(error) => Answer::Failure(error),
-            None => revoke(store, p, fd),
+            Some(error) => Ok(Answer::Failure(error)),
+            None => revoke(store, alloc, p, fd),
         },
-        Request::Interrupt { thread } => interrupt(store, thread),
-        Request::Kill { process } => kill(store, process),
-        Request::Exit => exit(store, t, p),
-        Request::TestCancel => test_cancel(store, t),
-        _ => Answer::Done,
+        Request::Interrupt { thread } => interrupt(store, alloc, thread),
+        Request::Kill { process } => kill(store, alloc, process),
+        Request::Exit => exit(store, alloc, t, p),
+        Request::TestCancel => Ok(test_cancel(store, t)),
+        _ => Ok(Answer::Done),
     }
 }

@@ -11,5 +11,4 @@ mod information;
 pub mod kernel;
 mod leaving;
 mod notices;
-mod runnable;
 mod turns;

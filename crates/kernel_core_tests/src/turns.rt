@@ -1,5 +1,7 @@
 //! A kernel of two processes, and the turns of a thread of each.
 ghost use Rattle.std.specs.Prelude.{ℕ, ◌≡◌, ◌≤◌, Option, IfOk, length};
+ghost use Rattle.std.specs.List.{AllByRecursion};
+ghost use Rattle.dk_base.specs.declared.limits.TheConstants.{DESCRIPTORS_MAX};
 ghost use Rattle.capabilities.specs.Capability.{capability_of_pass};
 ghost use Rattle.capabilities.specs.Words.{capability_of};
 ghost use Rattle.capabilities.specs.declared.table.TheConstants.{BUILT};
@@ -197,7 +199,8 @@ fn right_turns_of_two(alloc: Global, kernel: &mut Kernel, rows: &[Row]) -> usize
 /// The same of a kernel whose processes have these limits of descriptors.
 #[tactic(auto, using(written_kernel::proofs::Opening::opening_processes))]
 pub fn right_turns_of_new(alloc: Global, limits: &IdList, rows: &[Row]) -> usize
-    requires { length limits.now ≡ 2 }
+    requires two { length limits.now ≡ 2 }
+    requires limits { AllByRecursion (λ n. n ≤ DESCRIPTORS_MAX) limits.now }
 {
     match Kernel::new(alloc, limits) {
         Ok(mut kernel) => right_turns_of_two(alloc, &mut kernel, rows),

@@ -1,7 +1,10 @@
 -- Opening a kernel process by process and thread by thread.
 use Rattle.std.proofs.Common.{◌≡◌, ℕ, ◌+◌, List, [], ◌∷◌, ◌++◌, take, drop, Option, None, Some, Bool, false, length, arith, refl, ap, sym, ◌∙◌, zero, suc, map, option_map}
 use Rattle.std.proofs.Common.{Result, Ok, Err}
-use Rattle.std.specs.Prelude.{slice_get, OnOk}
+use Rattle.std.specs.Prelude.{◌≤◌, All, slice_get, OnOk}
+use Rattle.std.specs.List.{AllByRecursion}
+use Rattle.std.proofs.lemmas.List.Elements.{All-head, All-tail}
+use Rattle.dk_base.specs.declared.limits.TheConstants.{DESCRIPTORS_MAX}
 use Rattle.std.specs.Result.{is_err}
 use Rattle.written_kernel.specs.Types.{Pid}
 use Rattle.std.proofs.lemmas.List.{length-map}
@@ -11,7 +14,7 @@ use Rattle.kernel_records.proofs.Lists.{at_number-suc}
 use Rattle.dk_base.specs.ByNumber.{at_number}
 use Rattle.script_lang.specs.Words.{ScriptValue}
 use Rattle.script_requests.specs.Types.{ScriptProcess, ScriptThread}
-use Rattle.script_requests.specs.Words.{IsProcess, IsSound, IsSoundThread}
+use Rattle.script_requests.specs.Words.{IsNarrow, IsProcess, IsSound, IsSoundThread}
 use Rattle.script_requests.proofs.Elements.{All-at_number}
 use Rattle.written_script.specs.Words.{limit_of, with_script_threads}
 
@@ -88,3 +91,8 @@ threads_more xs opening old new k process spare h p s e =
 pub not_err : {A E : Type 0} (r : Result A E) (P : Type 0) → OnOk r P → is_err r ≡ false → P
 not_err (Ok x) P h e = h
 not_err (Err x) P h e = cc
+
+-- no process of a sound script may have more descriptors than a process can
+pub narrow_limits : (ps : List ScriptProcess) → All IsNarrow ps → AllByRecursion (λ n. n ≤ DESCRIPTORS_MAX) (map limit_of ps)
+narrow_limits [] h = tt
+narrow_limits (p ∷ ps) h = (All-head IsNarrow p ps h, narrow_limits ps (All-tail IsNarrow p ps h))

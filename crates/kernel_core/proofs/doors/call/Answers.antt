@@ -1,10 +1,11 @@
-use Rattle.std.proofs.Common.{◌≡◌, ◌<◌, ◌++◌, ap, sym, subst, ◌∙◌}
+use Rattle.std.proofs.Common.{◌≡◌, ◌<◌, ◌++◌, ap, sym, subst, ◌∙◌, length, arith}
 use Rattle.dk_base.specs.declared.limits.TheConstants.{QUEUE_MAX}
 use Rattle.kernel_records.specs.Words.{objects_passed}
 use Rattle.written_kernel.specs.Words.{State, calls_waiting, is_valid, pool_of, table_of}
-use Rattle.unref_notice.specs.Words.{AreCounted}
+use Rattle.kernel_store.specs.Words.{AreThere}
 use Rattle.kernel_store.specs.Words.{stored_state}
 use Rattle.kernel_core.proofs.Tests.{called_once, called_valid, not_full}
+use Rattle.kernel_core.proofs.Grows.{few_arguments, few_passed}
 use Rattle.kernel_core.proofs.doors.call.Goals as goal
 
 pub open_call-requires-clause-few : goal.open_call-requires-clause-few
@@ -25,8 +26,17 @@ pub take_out-requires-clause-once : goal.take_out-requires-clause-once
 take_out-requires-clause-once c =
     called_once (stored_state c.args.store.now) c.args.p.0 c.args.fd c.args.bytes c.args.pass.now c.requires.allowed
 
-pub open_call-requires-clause-counted : goal.open_call-requires-clause-counted
-open_call-requires-clause-counted c =
+pub open_call-requires-clause-there : goal.open_call-requires-clause-there
+open_call-requires-clause-there c =
     let passed = objects_passed (table_of (stored_state c.args.store.now) c.args.p.0) c.args.pass.now in
     let objects : c.into_list.result ≡ passed = c.into_list.ensures ∙ c.take_out.ensures.items ∙ ap (λ os. os ++ passed) c.requires.room.empty in
-    subst (AreCounted c.take_out.new.self.opening) (sym objects) c.take_out.ensures.counted
+    subst (AreThere c.take_out.new.self.doors.items) (sym objects) c.take_out.ensures.there
+
+pub open_call-requires-clause-small : goal.open_call-requires-clause-small
+open_call-requires-clause-small c =
+    let m = stored_state c.args.store.now in
+    let table = table_of m c.args.p.0 in
+    let passed = objects_passed table c.args.pass.now in
+    let objects : c.into_list.result ≡ passed = c.into_list.ensures ∙ c.take_out.ensures.items ∙ ap (λ os. os ++ passed) c.requires.room.empty in
+    let few = few_arguments m c.args.p.0 c.args.fd c.args.bytes c.args.pass.now c.requires.allowed in
+    omega (arith, ap length objects, few_passed table c.args.pass.now, few.1)

@@ -1,10 +1,11 @@
-use Rattle.std.proofs.Common.{◌≡◌, ◌++◌, true, false, ap, sym, subst, ◌∙◌}
-use Rattle.kernel_records.specs.Words.{end_invocation, end_notice, kept_notices, objects_passed, park_thread, return_call, unbind_thread}
+use Rattle.std.proofs.Common.{◌≡◌, ◌++◌, true, false, ap, sym, subst, ◌∙◌, length, arith, is_some, find}
+use Rattle.kernel_records.specs.Words.{end_invocation, end_notice, kept_notices, objects_passed, park_thread, return_call, unbind_thread, is_client_call_of}
 use Rattle.written_kernel.specs.Words.{State, has_invalid_door, now, table_of, tables_after_pass}
-use Rattle.unref_notice.specs.Words.{AreCounted}
+use Rattle.kernel_store.specs.Words.{AreThere}
 use Rattle.kernel_store.specs.Words.{stored_state}
 use Rattle.kernel_core.proofs.Live.{return_stands}
 use Rattle.kernel_core.proofs.Tests.{returned_once}
+use Rattle.kernel_core.proofs.Grows.{few_passed, few_results}
 use Rattle.kernel_core.proofs.doors.return_from.Goals as goal
 
 pub returns-then-has_invalid_door-clause-state : goal.returns-then-has_invalid_door-clause-state
@@ -71,16 +72,40 @@ pub take_out-requires-clause-once : goal.take_out-requires-clause-once
 take_out-requires-clause-once c =
     returned_once (stored_state c.args.store.now) c.args.t.0 c.args.p.0 c.args.bytes c.args.pass.now c.requires.allowed
 
-pub return_unbound-requires-clause-counted : goal.return_unbound-requires-clause-counted
-return_unbound-requires-clause-counted c =
+pub return_unbound-requires-clause-there : goal.return_unbound-requires-clause-there
+return_unbound-requires-clause-there c =
     let passed = objects_passed (table_of (stored_state c.args.store.now) c.args.p.0) c.args.pass.now in
     let objects : c.into_list-objects.result ≡ passed =
     c.into_list-objects.ensures ∙ c.take_out.ensures.items ∙ ap (λ os. os ++ passed) c.requires.room.empty in
-    subst (AreCounted c.take_out.new.self.opening) (sym objects) c.take_out.ensures.counted
+    subst (AreThere c.take_out.new.self.doors.items) (sym objects) c.take_out.ensures.there
 
-pub return_call-requires-clause-counted : goal.return_call-requires-clause-counted
-return_call-requires-clause-counted c =
+pub return_call-requires-clause-there : goal.return_call-requires-clause-there
+return_call-requires-clause-there c =
     let passed = objects_passed (table_of (stored_state c.args.store.now) c.args.p.0) c.args.pass.now in
     let objects : c.into_list-objects.result ≡ passed =
     c.into_list-objects.ensures ∙ c.take_out.ensures.items ∙ ap (λ os. os ++ passed) c.requires.room.empty in
-    subst (AreCounted c.take_out.new.self.opening) (sym objects) c.take_out.ensures.counted
+    subst (AreThere c.take_out.new.self.doors.items) (sym objects) c.take_out.ensures.there
+
+pub return_unbound-requires-clause-small : goal.return_unbound-requires-clause-small
+return_unbound-requires-clause-small c =
+    λ client.
+    let m = stored_state c.args.store.now in
+    let table = table_of m c.args.p.0 in
+    let passed = objects_passed table c.args.pass.now in
+    let objects : c.into_list-objects.result ≡ passed =
+    c.into_list-objects.ensures ∙ c.take_out.ensures.items ∙ ap (λ os. os ++ passed) c.requires.room.empty in
+    let there = ap (λ (k : State). is_some (find (is_client_call_of c.args.t.0) k.call_tree.calls)) (sym c.take_out.ensures.state) ∙ client in
+    let few = few_results m c.args.t.0 c.args.p.0 c.args.bytes c.args.pass.now c.requires.allowed there in
+    omega (arith, ap length objects, few_passed table c.args.pass.now, few.1)
+
+pub return_call-requires-clause-small : goal.return_call-requires-clause-small
+return_call-requires-clause-small c =
+    λ client.
+    let m = stored_state c.args.store.now in
+    let table = table_of m c.args.p.0 in
+    let passed = objects_passed table c.args.pass.now in
+    let objects : c.into_list-objects.result ≡ passed =
+    c.into_list-objects.ensures ∙ c.take_out.ensures.items ∙ ap (λ os. os ++ passed) c.requires.room.empty in
+    let there = ap (λ (k : State). is_some (find (is_client_call_of c.args.t.0) k.call_tree.calls)) (sym c.take_out.ensures.state) ∙ client in
+    let few = few_results m c.args.t.0 c.args.p.0 c.args.bytes c.args.pass.now c.requires.allowed there in
+    omega (arith, ap length objects, few_passed table c.args.pass.now, few.1)

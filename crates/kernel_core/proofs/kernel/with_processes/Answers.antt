@@ -1,6 +1,6 @@
 use Rattle.std.proofs.Common.{ap, drop, get_or, length, sym, ◌+◌, ◌∙◌, ◌∷◌, [], arith, length-append}
 use Rattle.std.proofs.lemmas.List.{drop_more}
-use Rattle.kernel_records.specs.Words.{new_process}
+use Rattle.kernel_records.specs.Words.{empty_table, new_process}
 use Rattle.written_kernel.specs.Words.{State, with_processes}
 use Rattle.kernel_store.specs.Words.{stored_state}
 use Rattle.kernel_core.proofs.kernel.with_processes.Goals as goal
@@ -18,5 +18,6 @@ loop-limit-preserved c =
           ∙ ap (with_processes m) (sym (drop_more limits i 0 (omega arith)))
           ∙ c.loop-limit.invariant.added;
       few = omega (arith, one, longer, c.loop-limit.invariant.few);
+      tables = omega (arith, ap (λ (k : State). length k.tables) c.in_ok-store.ensures.state, length-append m.tables (empty_table (get_or limits i 0) ∷ []), c.loop-limit.invariant.tables);
       rest = λ n h. c.in_ok-store.ensures.rest n (c.loop-limit.invariant.rest n h);
     }

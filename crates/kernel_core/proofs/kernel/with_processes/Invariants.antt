@@ -8,5 +8,6 @@ invariant-loop-limit l =
     record {
       added : with_processes (stored_state l.store) (drop l.limit-index l.limits) ≡ with_processes (stored_state l.fn.store) l.limits;
       few : length l.store.processes.processes + length l.limits ≤ 64 + l.limit-index;
+      tables : length l.store.tables + length l.limits ≤ 64 + l.limit-index;
       rest : (n : ℕ) → IsAtRest n l.fn.store → IsAtRest n l.store;
     }

@@ -12,7 +12,7 @@ returns-clause-state c =
     let lives : is_live_process m c.args.p.0 ≡ true =
     ap (λ (table : ProcessTable). is_live_in (at_number table.processes c.args.p.0)) (sym c.processes.ensures) ∙ sym c.is_live.ensures ∙ c.if-not-is_live.false in
     subst (λ (b : Bool). StandsFor (stored_state c.leave_process.new.store) (if b then leave_process m c.args.p.0 else m)) (sym lives)
-    c.leave_process.ensures.state
+    c.in_ok-leave_process.ensures.state
 
 pub returns-then-not-is_live-clause-state : goal.returns-then-not-is_live-clause-state
 returns-then-not-is_live-clause-state c =

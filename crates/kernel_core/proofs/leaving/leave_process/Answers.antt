@@ -17,4 +17,4 @@ returns-clause-state c =
       tables = with_table k.tables p (close_table (table_of k p));
       doors = end_owner k.doors p;
     })
-    c.leave.ensures.state)
+    c.in_ok-leave.ensures.state)

@@ -12,4 +12,4 @@ returns-clause-state c =
     revoke_stands (stored_state c.args.store.now) (stored_state c.revoke.new.self) p door c.args.fd c.door_named-door.ensures
     (c.revoke.ensures.state
     ∙ ap (λ (k : State). record k { doors = revoke_door k.doors door })
-    (c.close.ensures.state ∙ ap (λ (k : State). with_table_of k p (close_row (table_of k p) c.args.fd.0)) c.leave.ensures.state))
+    (c.close.ensures.state ∙ ap (λ (k : State). with_table_of k p (close_row (table_of k p) c.args.fd.0)) c.in_ok-leave.ensures.state))

@@ -1,4 +1,4 @@
-use Rattle.std.proofs.Common.{◌≡◌, ◌++◌, ◌∙◌, ap, ap₂, length, filter, sym, subst, arith}
+use Rattle.std.proofs.Common.{◌≡◌, ◌≤◌, ◌++◌, ◌∙◌, ap, ap₂, length, filter, sym, subst, arith}
 use Rattle.kernel_records.specs.Words.{notice_doors}
 use Rattle.written_kernel.specs.Words.{State}
 use Rattle.kernel_store.specs.Words.{CanMake, StoreValue, has_fallen_since, stored_state}
@@ -11,20 +11,22 @@ use Rattle.kernel_core.proofs.notices.make_notices.Goals as goal
 
 pub end_of_step-requires-clause-room : goal.end_of_step-requires-clause-room
 end_of_step-requires-clause-room c =
-    omega (arith, ap length (shared_after c.requires.room.1.were c.requires.within.placed.door_number), c.clear.ensures.spare)
+    omega (arith, ap length (shared_after c.requires.room.1.began c.requires.within.placed.door_number), c.requires.room.2, c.clear.ensures.spare)
 
 pub make_all-requires-clause-room : goal.make_all-requires-clause-room
 make_all-requires-clause-room c =
     let b = stored_state c.requires.room.0 in
     let n = stored_state c.args.store.now in
     let h = c.requires.room.1 in
-    let listed : c.slice.result.now ≡ fallen b n =
-    c.slice.ensures ∙ c.end_of_step.ensures.items
+    let items =
+    c.end_of_step.ensures.items
     ∙ ap (λ ds. ds ++ filter (has_fallen_since c.args.store.now.opening n) (notice_doors n.doors)) c.clear.ensures.items
-    ∙ fallen_is h.were in
+    ∙ fallen_is h.began in
+    let listed : c.slice.result.now ≡ fallen b n = c.slice.ensures ∙ items in
+    let few : length (fallen b n) ≤ 1280 = omega (arith, ap length items, ap length c.clear.ensures.items, c.end_of_step.ensures.few) in
     subst (λ (s : StoreValue). CanMake s c.slice.result.now) (sym c.end_of_step.ensures.same)
     (subst (CanMake c.args.store.now) (sym listed)
-    (can_make_fallen c.requires.room.0 c.args.store.now c.args.ds.now.items h c.notices.ensures.agreed c.requires.within.placed.door_number))
+    (can_make_fallen c.requires.room.0 c.args.store.now h c.notices.ensures.agreed c.requires.within.placed.door_number few))
 
 pub returns-clause-state : goal.returns-clause-state
 returns-clause-state c =
@@ -43,3 +45,13 @@ returns-clause-processes c =
     ap (λ (k : State). length k.process_table.processes)
     (c.make_all.ensures.state ∙ make_of-alone (stored_state c.end_of_step.new.self) c.slice.result.now)
     ∙ ap (λ (s : StoreValue). length s.processes.processes) c.end_of_step.ensures.same
+
+pub returns-clause-few : goal.returns-clause-few
+returns-clause-few c =
+    λ before were.
+    let n = stored_state c.args.store.now in
+    let listed =
+    c.end_of_step.ensures.items
+    ∙ ap (λ ds. ds ++ filter (has_fallen_since c.args.store.now.opening n) (notice_doors n.doors)) c.clear.ensures.items
+    ∙ fallen_is were in
+    omega (arith, ap length listed, ap length c.clear.ensures.items, c.end_of_step.ensures.few)

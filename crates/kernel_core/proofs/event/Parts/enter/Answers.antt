@@ -8,16 +8,24 @@ finish-requires-clause-acted c = (
   c.args.t.0,
   Some c.args.request,
   c.reserve.new.self,
-  entry_acted c.args.self.now c.reserve.new.self c.enter-answer.new.store c.args.t.0 c.process_of-p.result.0 c.args.request c.in_ok-taken.taken
-      c.enter-answer.result _ _ c.requires.can_step c.requires.noticing c.reserve.ensures.state c.reserve.ensures.runnable c.in_ok-taken.ensures.ready
-      (search rules) c.enter-answer.ensures.state c.enter-answer.ensures.answer c.needs_of-needs.ensures.first c.made_first-first.ensures
-      c.enter-answer.ensures.keeps,
+  entry_acted c.args.self.now c.reserve.new.self c.enter.new.store c.args.t.0 c.process_of-p.result.0 c.args.request c.in_ok-taken.taken
+      c.in_ok-answer.answer _ _ c.requires.can_step c.requires.noticing c.requires.turning c.reserve.ensures.state c.in_ok-taken.ensures.ready
+      (search rules) c.in_ok-answer.ensures.state c.in_ok-answer.ensures.answer c.needs_of-needs.ensures.first c.made_first-first.ensures
+      c.in_ok-answer.ensures.keeps,
 )
 
 pub returns-clause-step : goal.returns-clause-step
 returns-clause-step c =
     c.finish.ensures.step c.args.self.now c.args.t.0 (Some c.args.request) c.reserve.new.self
-    (entry_acted c.args.self.now c.reserve.new.self c.enter-answer.new.store c.args.t.0 c.process_of-p.result.0 c.args.request c.in_ok-taken.taken
-    c.enter-answer.result _ _ c.requires.can_step c.requires.noticing c.reserve.ensures.state c.reserve.ensures.runnable c.in_ok-taken.ensures.ready
-    (search rules) c.enter-answer.ensures.state c.enter-answer.ensures.answer c.needs_of-needs.ensures.first c.made_first-first.ensures
-    c.enter-answer.ensures.keeps)
+    (entry_acted c.args.self.now c.reserve.new.self c.enter.new.store c.args.t.0 c.process_of-p.result.0 c.args.request c.in_ok-taken.taken
+    c.in_ok-answer.answer _ _ c.requires.can_step c.requires.noticing c.requires.turning c.reserve.ensures.state c.in_ok-taken.ensures.ready
+    (search rules) c.in_ok-answer.ensures.state c.in_ok-answer.ensures.answer c.needs_of-needs.ensures.first c.made_first-first.ensures
+    c.in_ok-answer.ensures.keeps)
+
+pub returns-clause-made : goal.returns-clause-made
+returns-clause-made c =
+    c.finish.ensures.made c.args.self.now c.args.t.0 (Some c.args.request) c.reserve.new.self
+    (entry_acted c.args.self.now c.reserve.new.self c.enter.new.store c.args.t.0 c.process_of-p.result.0 c.args.request c.in_ok-taken.taken
+    c.in_ok-answer.answer _ _ c.requires.can_step c.requires.noticing c.requires.turning c.reserve.ensures.state c.in_ok-taken.ensures.ready
+    (search rules) c.in_ok-answer.ensures.state c.in_ok-answer.ensures.answer c.needs_of-needs.ensures.first c.made_first-first.ensures
+    c.in_ok-answer.ensures.keeps)

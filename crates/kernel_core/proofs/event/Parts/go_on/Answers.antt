@@ -9,7 +9,7 @@ finish-requires-clause-acted c = (
   None,
   c.reserve.new.self,
   end_acted c.args.self.now c.reserve.new.self c.go_on-answer.new.store c.args.t.0 c.in_ok-taken.taken c.go_on-answer.result c.requires.can_step
-      c.requires.noticing c.reserve.ensures.state c.reserve.ensures.runnable c.in_ok-taken.ensures.ready c.go_on-answer.ensures.state
+      c.requires.noticing c.requires.turning c.reserve.ensures.state c.in_ok-taken.ensures.ready c.go_on-answer.ensures.state
       c.go_on-answer.ensures.answer c.go_on-answer.ensures.keeps.kept,
 )
 
@@ -17,5 +17,12 @@ pub returns-clause-step : goal.returns-clause-step
 returns-clause-step c =
     c.finish.ensures.step c.args.self.now c.args.t.0 None c.reserve.new.self
     (end_acted c.args.self.now c.reserve.new.self c.go_on-answer.new.store c.args.t.0 c.in_ok-taken.taken c.go_on-answer.result c.requires.can_step
-    c.requires.noticing c.reserve.ensures.state c.reserve.ensures.runnable c.in_ok-taken.ensures.ready c.go_on-answer.ensures.state
+    c.requires.noticing c.requires.turning c.reserve.ensures.state c.in_ok-taken.ensures.ready c.go_on-answer.ensures.state
+    c.go_on-answer.ensures.answer c.go_on-answer.ensures.keeps.kept)
+
+pub returns-clause-made : goal.returns-clause-made
+returns-clause-made c =
+    c.finish.ensures.made c.args.self.now c.args.t.0 None c.reserve.new.self
+    (end_acted c.args.self.now c.reserve.new.self c.go_on-answer.new.store c.args.t.0 c.in_ok-taken.taken c.go_on-answer.result c.requires.can_step
+    c.requires.noticing c.requires.turning c.reserve.ensures.state c.in_ok-taken.ensures.ready c.go_on-answer.ensures.state
     c.go_on-answer.ensures.answer c.go_on-answer.ensures.keeps.kept)

@@ -1,3 +1,10 @@
+use Rattle.std.proofs.Common.{ℕ, ◌≡◌, ◌≤◌, ap, arith, length, rules, ◌∙◌}
+use Rattle.std.proofs.lemmas.List.Sums.{count_by-le-length, length-filter}
+use Rattle.dk_base.specs.Words.{RoomValue}
+use Rattle.kernel_records.specs.Words.{notice_doors}
+use Rattle.kernel_store.specs.Words.{stored_state}
+use Rattle.kernel_core.specs.Watched.{is_watched, watched}
+use Rattle.written_kernel.specs.Words.{State}
 use Rattle.kernel_core.proofs.Finishing.{rest_reserved, rest_started}
 use Rattle.kernel_core.proofs.event.Parts.reserve.Goals as goal
 
@@ -7,30 +14,51 @@ returns-in_err-reserve_notices-clause-rest c = λ h.
     (rest_reserved c.reserve.ensures.state c.reserve.ensures.keeps
     (rest_started c.args.self.now.store c.start_step.new.self c.start_step.ensures.same h))
 
-pub returns-in_err-reserve_leaving-clause-rest : goal.returns-in_err-reserve_leaving-clause-rest
-returns-in_err-reserve_leaving-clause-rest c = λ h.
-    rest_reserved c.reserve_leaving.ensures.state c.reserve_leaving.ensures.keeps
-    (rest_reserved c.reserve_notices.ensures.state c.reserve_notices.ensures.keeps
-    (rest_reserved c.reserve.ensures.state c.reserve.ensures.keeps
-    (rest_started c.args.self.now.store c.start_step.new.self c.start_step.ensures.same h)))
-
 pub returns-in_err-reserve-2-clause-rest : goal.returns-in_err-reserve-2-clause-rest
 returns-in_err-reserve-2-clause-rest c = λ h.
-    rest_reserved c.reserve_leaving.ensures.state c.reserve_leaving.ensures.keeps
-    (rest_reserved c.reserve_notices.ensures.state c.reserve_notices.ensures.keeps
+    rest_reserved c.reserve_notices.ensures.state c.reserve_notices.ensures.keeps
     (rest_reserved c.reserve.ensures.state c.reserve.ensures.keeps
-    (rest_started c.args.self.now.store c.start_step.new.self c.start_step.ensures.same h)))
+    (rest_started c.args.self.now.store c.start_step.new.self c.start_step.ensures.same h))
 
 pub returns-in_err-woken-clause-rest : goal.returns-in_err-woken-clause-rest
 returns-in_err-woken-clause-rest c = λ h.
-    rest_reserved c.reserve_leaving.ensures.state c.reserve_leaving.ensures.keeps
-    (rest_reserved c.reserve_notices.ensures.state c.reserve_notices.ensures.keeps
+    rest_reserved c.reserve_notices.ensures.state c.reserve_notices.ensures.keeps
     (rest_reserved c.reserve.ensures.state c.reserve.ensures.keeps
-    (rest_started c.args.self.now.store c.start_step.new.self c.start_step.ensures.same h)))
+    (rest_started c.args.self.now.store c.start_step.new.self c.start_step.ensures.same h))
 
 pub returns-clause-rest : goal.returns-clause-rest
 returns-clause-rest c = λ h.
-    rest_reserved c.reserve_leaving.ensures.state c.reserve_leaving.ensures.keeps
-    (rest_reserved c.reserve_notices.ensures.state c.reserve_notices.ensures.keeps
+    rest_reserved c.reserve_notices.ensures.state c.reserve_notices.ensures.keeps
     (rest_reserved c.reserve.ensures.state c.reserve.ensures.keeps
-    (rest_started c.args.self.now.store c.start_step.new.self c.start_step.ensures.same h)))
+    (rest_started c.args.self.now.store c.start_step.new.self c.start_step.ensures.same h))
+
+pub returns-in_err-reserve-3-clause-rest : goal.returns-in_err-reserve-3-clause-rest
+returns-in_err-reserve-3-clause-rest c = λ h.
+    rest_reserved c.reserve_notices.ensures.state c.reserve_notices.ensures.keeps
+    (rest_reserved c.reserve.ensures.state c.reserve.ensures.keeps
+    (rest_started c.args.self.now.store c.start_step.new.self c.start_step.ensures.same h))
+
+pub returns-clause-ready : goal.returns-clause-ready
+returns-clause-ready c =
+    let n = stored_state c.reserve_notices.new.self in
+    let fewer : length (watched n) ≤ length (notice_doors n.doors) =
+    omega (arith, length-filter (is_watched n) (notice_doors n.doors), count_by-le-length (is_watched n) (notice_doors n.doors)) in
+    let all : c.notice_doors.result.now ≡ notice_doors n.doors = search rules in
+    let here = ap length all in
+    let room = c.in_ok-reserve-2.ensures.spare in
+    let moved = ap (λ (r : RoomValue ℕ). r.spare) c.replace.ensures.value in
+    record {
+      were = search rules;
+      few = search rules;
+      woken = search rules;
+      flags = search rules;
+      fallen = omega (arith, fewer, here, room, moved);
+      notices = c.in_ok-reserve_notices.ensures.room;
+      opened = search rules;
+      agreed = search rules;
+    }
+
+pub reserve_notices-requires : goal.reserve_notices-requires
+reserve_notices-requires c =
+    let state = c.reserve.ensures.state ∙ ap stored_state c.start_step.ensures.same in
+    omega (arith, ap (λ (k : State). k.notice_list.made) state, c.requires.numbers.notices)

@@ -15,13 +15,13 @@ invariant_of-self c =
     let few : length old.process_table.threads < THREADS_MAX =
     omega (arith, many, c.thread_count.ensures.few, c.thread_count.ensures.count, c.if-thread_count-eq-THREADS_MAX.false) in
     let kept =
-    thread_result old (stored_state c.add_thread.new.self.store) c.args.process.0 c.args.spare c.self.invariant.0 c.self.invariant.1
+    thread_result old (stored_state c.add_thread.new.self) c.args.process.0 c.args.spare c.self.invariant.0 c.self.invariant.1
     (ap (λ (k : State). k.events) c.self.view_is ∙ c.requires.opening) there few c.add_thread.result c.add_thread.ensures.ok c.add_thread.ensures.err in
     let opened : old.events ≡ 0 = ap (λ (k : State). k.events) c.self.view_is ∙ c.requires.opening in
-    let rest = c.add_thread.ensures.rest old.events c.self.invariant.2.rest in (
+    let rest = c.add_thread.ensures.rest old.events c.self.invariant.2 in (
       kept.0,
       kept.1,
-      record { current = c.add_thread.ensures.current; rest = record { given_out = rest.given_out; latest = omega (arith, rest.latest, opened) } },
+      record { given_out = rest.given_out; latest = omega (arith, rest.latest, opened) },
     )
 
 pub add_thread-requires-clause-lives : goal.add_thread-requires-clause-lives

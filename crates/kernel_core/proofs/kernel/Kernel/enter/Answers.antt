@@ -1,6 +1,6 @@
 use Rattle.std.proofs.Common.{◌∙◌, Some}
 use Rattle.kernel_store.specs.Words.{stored_state}
-use Rattle.kernel_core.proofs.Kept.{can_step, kept_result, none_lost, noticing, refused_result, refused_stands}
+use Rattle.kernel_core.proofs.Kept.{can_step, kept_result, none_lost, noticing, refused_result, refused_stands, turning}
 use Rattle.kernel_core.proofs.Steps.{step_stands, step_within, step_small}
 use Rattle.kernel_core.proofs.kernel.Kernel.enter.Goals as goal
 
@@ -9,7 +9,7 @@ invariant_of-self c =
     let kept = stored_state c.self.inside.parts.store in
     let new = stored_state c.enter.new.self.store in (
       kept_result kept c.args.self.now new c.args.t.0 (Some c.args.request) c.enter.result c.self.view_is c.self.invariant.0 (record { running = c.requires.running; fit = c.requires.fit; built = c.requires.built; few = c.requires.few }) c.enter.ensures.step c.enter.ensures.err,
-      step_within kept c.args.self.now new c.args.t.0 (Some c.args.request) c.enter.result c.self.view_is c.self.invariant.1 c.requires.few c.enter.ensures.step c.enter.ensures.err,
+      step_within kept c.args.self.now new c.args.t.0 (Some c.args.request) c.enter.result c.self.view_is c.self.invariant.1 c.requires.few c.enter.ensures.step c.enter.ensures.made c.enter.ensures.err,
       c.enter.ensures.between,
     )
 
@@ -40,3 +40,6 @@ enter-requires-clause-none_lost c =
 pub enter-requires-clause-noticing : goal.enter-requires-clause-noticing
 enter-requires-clause-noticing c =
     noticing (stored_state c.self.inside.parts.store) c.args.self.now c.args.t.0 (Some c.args.request) c.self.view_is c.self.invariant.0 (record { running = c.requires.running; fit = c.requires.fit; built = c.requires.built; few = c.requires.few })
+
+pub enter-requires-clause-turning : goal.enter-requires-clause-turning
+enter-requires-clause-turning c = turning (stored_state c.self.inside.parts.store) c.args.self.now c.args.t.0 (Some c.args.request) c.self.view_is c.self.invariant.0 (record { running = c.requires.running; fit = c.requires.fit; built = c.requires.built; few = c.requires.few })

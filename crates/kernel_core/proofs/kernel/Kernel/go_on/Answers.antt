@@ -1,6 +1,6 @@
 use Rattle.std.proofs.Common.{None}
 use Rattle.kernel_store.specs.Words.{stored_state}
-use Rattle.kernel_core.proofs.Kept.{can_step, kept_result, none_lost, noticing}
+use Rattle.kernel_core.proofs.Kept.{can_step, kept_result, none_lost, noticing, turning}
 use Rattle.kernel_core.proofs.Steps.{step_stands, step_within, step_small}
 use Rattle.kernel_core.proofs.kernel.Kernel.go_on.Goals as goal
 
@@ -9,7 +9,7 @@ invariant_of-self c =
     let kept = stored_state c.self.inside.parts.store in
     let new = stored_state c.go_on.new.self.store in (
       kept_result kept c.args.self.now new c.args.t.0 None c.go_on.result c.self.view_is c.self.invariant.0 c.requires c.go_on.ensures.step c.go_on.ensures.err,
-      step_within kept c.args.self.now new c.args.t.0 None c.go_on.result c.self.view_is c.self.invariant.1 c.requires.few c.go_on.ensures.step c.go_on.ensures.err,
+      step_within kept c.args.self.now new c.args.t.0 None c.go_on.result c.self.view_is c.self.invariant.1 c.requires.few c.go_on.ensures.step c.go_on.ensures.made c.go_on.ensures.err,
       c.go_on.ensures.between,
     )
 
@@ -32,3 +32,6 @@ go_on-requires-clause-none_lost c =
 pub go_on-requires-clause-noticing : goal.go_on-requires-clause-noticing
 go_on-requires-clause-noticing c =
     noticing (stored_state c.self.inside.parts.store) c.args.self.now c.args.t.0 None c.self.view_is c.self.invariant.0 c.requires
+
+pub go_on-requires-clause-turning : goal.go_on-requires-clause-turning
+go_on-requires-clause-turning c = turning (stored_state c.self.inside.parts.store) c.args.self.now c.args.t.0 None c.self.view_is c.self.invariant.0 c.requires

@@ -1,7 +1,7 @@
 use Rattle.std.proofs.Common.{ap, arith, ◌∙◌}
 use Rattle.written_kernel.specs.Words.{with_processes}
 use Rattle.kernel_store.specs.Words.{stored_state}
-use Rattle.kernel_core.proofs.Kept.{processes_kept, opening_current}
+use Rattle.kernel_core.proofs.Kept.{processes_kept}
 use Rattle.kernel_core.proofs.Steps.{opening-within}
 use Rattle.kernel_core.proofs.kernel.Kernel.new.Goals as goal
 
@@ -13,8 +13,5 @@ invariant_of-result c =
     let rest = c.in_ok-store.ensures.rest 0 c.in_ok-new.ensures.rest in (
       processes_kept limits m is,
       opening-within limits (stored_state c.in_ok-new.field-0) m c.in_ok-new.ensures.state c.in_ok-store.ensures.state,
-      record {
-        current = opening_current c.in_ok-runnable.runnable limits m is c.in_ok-runnable.ensures;
-        rest = record { given_out = rest.given_out; latest = omega (arith, rest.latest) };
-      },
+      record { given_out = rest.given_out; latest = omega (arith, rest.latest) },
     )
