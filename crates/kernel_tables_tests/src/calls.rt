@@ -117,8 +117,8 @@ fn calls_go_through_their_stages(rt: HostRuntime) {
     assert!(rt; is_served(alloc, &mut calls, Tid(1), Tid(2)));
     assert!(rt; is_served(alloc, &mut calls, Tid(2), Tid(3)) && is_chain(&calls, Tid(1), Tid(3)));
     assert!(rt; returns(alloc, &mut calls, Tid(3), b"yes") && is_chain(&calls, Tid(1), Tid(2)));
-    assert!(rt; calls.has_ready() && calls.ready_call(2).is_some());
-    assert!(rt; collects(&mut calls, Tid(2), b"yes", true) && !calls.has_ready());
+    assert!(rt; calls.collecting().least() == Some(Tid(2)) && calls.ready_call(2).is_some());
+    assert!(rt; collects(&mut calls, Tid(2), b"yes", true) && calls.collecting().least().is_none());
     assert!(rt;
         returns(alloc, &mut calls, Tid(2), b"no") && collects(&mut calls, Tid(1), b"no", false)
     );

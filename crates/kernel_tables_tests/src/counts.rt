@@ -1,108 +1,80 @@
-//! References of doors: they come and go, and doors that fall to one reference in a step are told, where they take notices.
-ghost use Rattle.std.specs.Prelude.{◌≡◌, ◌≤◌, true, [], length};
-ghost use Rattle.unref_notice.specs.declared.counts.TheConstants.{REFERENCES_ROOM};
-ghost use Rattle.kernel_records.specs.Words.{AreNumbered};
+//! References of objects: they come and go, and doors that fall to one reference in a step are told.
+ghost use Rattle.std.specs.Prelude.{◌≡◌, ◌≤◌, true, []};
 
-use dk_base::list::Room;
-use dk_base::number::Pid;
 use dk_base::object::Obj;
-use dk_base::set::Attrs;
-use door_object::doors::Doors;
-use std::alloc::Global;
 use unref_notice::counts::Counts;
 
-/// The door that takes notices.
-const WATCHED: u32 = 1;
+/// A door, and the number of a port and of a pipe.
+const FIRST: u32 = 1;
 
-/// The door that takes none.
-const PLAIN: u32 = 2;
+/// Another door.
+const SECOND: u32 = 2;
 
-/// Whether another door is made.
-fn is_door_made(doors: &mut Doors, attrs: Attrs) -> bool
-    requires { AreNumbered doors.old.items }
-    ensures { AreNumbered doors.new.items }
+/// Whether a step begins, in which references may come and go eight times.
+fn is_begun(counts: &mut Counts) -> bool
+    ensures counts { counts.new.counts ≡ counts.old.counts }
+    ensures left { result ≡ true → 8 ≤ counts.new.left }
 {
-    if doors.reserve().is_err() || doors.count() >= 3 {
-        return false;
-    }
-    match doors.create(Pid(1), 7, 9, attrs) {
-        Ok(_) => true,
-        Err(_) => false,
-    }
+    counts.start_step();
+    counts.room(8).is_ok()
 }
 
-/// Whether two doors are counted, without a reference.
-fn are_two_counted(counts: &mut Counts) -> bool
-    requires { counts.old.opening ≡ [] }
-    ensures two { result ≡ true → length counts.new.opening ≡ 2 }
-    ensures room { result ≡ true → REFERENCES_ROOM ≤ counts.new.reference_room }
-{
-    if counts.room(2).is_err() {
-        return false;
-    }
-    counts.add();
-    counts.add();
-    counts.count(WATCHED) == 0 && counts.count(PLAIN) == 0
-}
-
-/// Whether there are two references to each then. What is no door is not counted.
+/// Whether two references to each of two doors, to a port and to the reading end of a pipe are counted apart.
 fn rise_to_two(counts: &mut Counts) -> bool
-    requires two { length counts.old.opening ≡ 2 }
-    requires room { REFERENCES_ROOM ≤ counts.old.reference_room }
+    requires none { counts.old.counts ≡ [] }
+    requires left { 8 ≤ counts.old.left }
 {
     counts.up_all(&[
-        Obj::Door(WATCHED),
-        Obj::Door(WATCHED),
-        Obj::Door(PLAIN),
-        Obj::Port(PLAIN),
+        Obj::Door(FIRST),
+        Obj::Door(FIRST),
+        Obj::Door(SECOND),
+        Obj::Door(SECOND),
+        Obj::Port(FIRST),
+        Obj::Port(FIRST),
+        Obj::PipeIn(FIRST),
+        Obj::PipeIn(FIRST),
     ]);
-    counts.up(Obj::Door(PLAIN));
-    counts.count(WATCHED) == 2 && counts.count(PLAIN) == 2
+    counts.count(Obj::Door(FIRST)) == 2
+        && counts.count(Obj::Port(FIRST)) == 2
+        && counts.count(Obj::PipeIn(FIRST)) == 2
+        && counts.count(Obj::PipeOut(FIRST)) == 0
 }
 
-/// Whether there is one reference to each then.
-fn fall_to_one(counts: &mut Counts) -> bool {
-    counts.down(Obj::Door(WATCHED));
-    counts.down_all(&[Obj::Door(PLAIN), Obj::Port(WATCHED)]);
-    counts.count(WATCHED) == 1 && counts.count(PLAIN) == 1
+/// Whether there is one reference to each then. There is none to go of the writing end.
+fn fall_to_one(counts: &mut Counts) -> bool
+    requires { 8 ≤ counts.old.left }
+{
+    counts.down(Obj::Door(SECOND));
+    counts.down_all(&[
+        Obj::Door(FIRST),
+        Obj::Port(FIRST),
+        Obj::PipeIn(FIRST),
+        Obj::PipeOut(FIRST),
+    ]);
+    counts.count(Obj::Door(SECOND)) == 1
+        && counts.count(Obj::Port(FIRST)) == 1
+        && counts.count(Obj::PipeIn(FIRST)) == 1
+        && counts.count(Obj::PipeOut(FIRST)) == 0
 }
 
 /// Whether these doors are told at the end of the step.
-fn are_told(alloc: Global, counts: &mut Counts, doors: &Doors, expected: &[u32]) -> bool
-    requires { AreNumbered doors.now.items }
-{
-    match Room::with_room(alloc, doors.notice_doors().len()) {
-        Ok(mut told) => {
-            counts.end_of_step(doors, &mut told);
-            told.slice() == expected
-        }
-        Err(_) => false,
-    }
+fn are_told(counts: &mut Counts, expected: &[u32]) -> bool {
+    counts.end_of_step();
+    counts.fallen() == expected
 }
 
-/// Whether the first step tells no door, for it ends with two references, the second the one that fell to one, and the third none.
-fn are_told_once(alloc: Global, counts: &mut Counts, doors: &Doors) -> bool
-    requires { AreNumbered doors.now.items }
-{
-    if !are_told(alloc, counts, doors, &[]) {
+/// Whether the second step tells both doors, in order, and neither the port nor the pipe, and the third step none.
+fn are_told_once(counts: &mut Counts) -> bool {
+    if !(is_begun(counts) && fall_to_one(counts) && are_told(counts, &[FIRST, SECOND])) {
         return false;
     }
-    counts.start_step();
-    if !(fall_to_one(counts) && are_told(alloc, counts, doors, &[WATCHED])) {
-        return false;
-    }
-    counts.start_step();
-    are_told(alloc, counts, doors, &[])
+    is_begun(counts) && are_told(counts, &[])
 }
 
 #[test]
 fn doors_that_fall_to_one_reference_are_told(rt: HostRuntime) {
-    let alloc = rt.alloc();
-    let mut doors = Doors::new(alloc);
-    let made = is_door_made(&mut doors, Attrs::UNREF) && is_door_made(&mut doors, Attrs(0));
-    let mut counts = Counts::new(alloc);
-    let counted = are_two_counted(&mut counts);
-    assert!(rt; made && counted);
-    assert!(rt; rise_to_two(&mut counts));
-    assert!(rt; are_told_once(alloc, &mut counts, &doors));
+    let mut counts = Counts::new(rt.alloc());
+    assert!(rt; is_begun(&mut counts) && rise_to_two(&mut counts));
+    assert!(rt; are_told(&mut counts, &[]));
+    assert!(rt; are_told_once(&mut counts));
 }

@@ -1,5 +1,5 @@
 //! Tests of the tables of the kernel: descriptors, and those that are passed, names, processes and threads, doors, server pools,
-//! calls, notices, and the references that are counted.
+//! calls, exit paths, notices, and the references that are counted.
 #![tactic(auto)]
 
 #[cfg(test)]
@@ -10,6 +10,8 @@ mod counts;
 mod descriptors;
 #[cfg(test)]
 mod doors;
+#[cfg(test)]
+mod exits;
 #[cfg(test)]
 mod names;
 #[cfg(test)]

@@ -1,7 +1,10 @@
 //! Unreferenced notices: one through its stages, at a door that has at most one and at a door that may have more, and what is left
 //! of notices where threads end and doors are lost.
+ghost use Rattle.std.specs.Prelude.{◌≡◌, ◌+◌, ◌<◌, ◌≤◌};
+ghost use Rattle.unref_notice.specs.declared.notices.TheConstants.{NOTICES_MAX};
 
 use dk_base::number::{Pid, Tid};
+use dk_base::object::Item;
 use dk_base::set::Attrs;
 use door_object::doors::Doors;
 use kernel_records::record::NoticeStage;
@@ -19,12 +22,17 @@ fn is_door_made(doors: &mut Doors, attrs: Attrs) -> bool {
 }
 
 /// Whether a notice of a door is made under this number.
-fn is_made(notices: &mut Notices, d: u32, number: u32) -> bool {
+fn is_made(notices: &mut Notices, d: u32, number: u32) -> bool
+    requires { notices.old.list.made < NOTICES_MAX }
+    ensures { notices.new.list.made ≤ notices.old.list.made + 1 }
+{
     notices.reserve(1).is_ok() && notices.make(d, 5) == number
 }
 
 /// Whether a notice is given to a thread, which enters it.
-fn is_entered(notices: &mut Notices, n: u32, t: Tid) -> bool {
+fn is_entered(notices: &mut Notices, n: u32, t: Tid) -> bool
+    ensures { notices.new.list.made ≡ notices.old.list.made }
+{
     notices.give(n, t);
     matches!(notices.enter(n, t), Some(notice) if notice.number == n)
         && notices.enter(n, t).is_none()
@@ -43,23 +51,20 @@ fn stage_at(notices: &Notices, place: usize, number: u32) -> Option<NoticeStage>
     }
 }
 
-/// The notice that a thread has entered is over, where those that are past were forgotten before.
-fn ends(notices: &mut Notices, doors: &Doors, t: Tid) {
-    notices.leave(doors, |_| false, |_| false);
-    notices.end(t, doors);
-}
-
 /// What is over of a door that has at most one notice stays, so that it has no other; of another door it is forgotten.
-fn are_ended(notices: &mut Notices, doors: &Doors) -> bool {
+fn are_ended(notices: &mut Notices, doors: &Doors) -> bool
+    requires { notices.old.list.made + 4 ≤ NOTICES_MAX }
+{
     if !(is_made(notices, ONE, 1) && is_made(notices, MANY, 2) && is_made(notices, MANY, 3)) {
         return false;
     }
     if !(is_entered(notices, 1, Tid(4)) && is_entered(notices, 2, Tid(6))) {
         return false;
     }
-    ends(notices, doors, Tid(4));
-    ends(notices, doors, Tid(6));
-    ends(notices, doors, Tid(6));
+    notices.end(Some(Item::Notice(1)), Tid(4), |d| doors.takes_many(d));
+    notices.end(Some(Item::Notice(2)), Tid(6), |d| doors.takes_many(d));
+    notices.end(None, Tid(6), |d| doors.takes_many(d));
+    notices.end(Some(Item::Call(3)), Tid(6), |d| doors.takes_many(d));
     notices.len() == 2
         && matches!(stage_at(notices, 0, 1), Some(NoticeStage::Over))
         && matches!(stage_at(notices, 1, 3), Some(NoticeStage::Waiting))
@@ -93,8 +98,10 @@ fn a_notice_ends_with_its_invocation(rt: HostRuntime) {
 }
 
 /// Of four notices, the first waits at a door that is lost, threads that end were given the second and have entered the third, and
-/// the fourth waits.
-fn are_left(notices: &mut Notices, doors: &Doors) -> bool {
+/// the fourth waits. Items that name no notice are passed over.
+fn are_left(notices: &mut Notices, doors: &Doors) -> bool
+    requires { notices.old.list.made + 4 ≤ NOTICES_MAX }
+{
     if !(is_made(notices, ONE, 1) && is_made(notices, MANY, 2) && is_made(notices, MANY, 3)) {
         return false;
     }
@@ -102,7 +109,15 @@ fn are_left(notices: &mut Notices, doors: &Doors) -> bool {
         return false;
     }
     notices.give(2, Tid(6));
-    notices.leave(doors, |t| t == 6 || t == 7, |d| d == ONE);
+    let waiting = [Item::Call(4), Item::Notice(1)];
+    let held = [Item::Notice(3), Item::Notice(9), Item::Notice(2)];
+    notices.leave(
+        &waiting,
+        &held,
+        |t| t == 6 || t == 7,
+        |d| d == ONE,
+        |d| doors.takes_many(d),
+    );
     notices.len() == 2
         && matches!(stage_at(notices, 0, 1), Some(NoticeStage::Dropped))
         && matches!(stage_at(notices, 1, 4), Some(NoticeStage::Waiting))

@@ -1,10 +1,13 @@
 //! Server pools: who is picked, what is served first, when the queue is full, bindings and spare threads.
 
 use dk_base::error::Errno;
+use dk_base::list::Room;
 use dk_base::number::{Pid, Tid};
 use dk_base::object::Item;
 use kernel_records::pool::{Pool, Waiting};
+use server_pool::facts::BindFacts;
 use server_pool::pools::Pools;
+use std::alloc::Global;
 use std::test::Fail;
 
 const SERVED: Pool = Pool::Common(Pid(1));
@@ -208,6 +211,63 @@ fn a_thread_is_bound_to_one_door(rt: HostRuntime) -> Result<(), Fail> {
 }
 
 /// Whether a spare with a number above those of the others is added.
+/// What a thread is told that is bound to a door of which this is known.
+fn told(pools: &mut Pools, valid: bool, is_private: bool, own: bool) -> Option<Errno> {
+    let facts = BindFacts {
+        valid,
+        is_private,
+        own,
+    };
+    pools.try_bind(Tid(3), 7, facts).err()
+}
+
+#[test]
+fn only_a_private_door_of_the_process_is_bound(rt: HostRuntime) -> Result<(), Fail> {
+    let mut pools = Pools::new(rt.alloc())?;
+    assert!(rt;
+        told(&mut pools, false, false, false) == Some(Errno::EBADF)
+            && told(&mut pools, true, false, true) == Some(Errno::EINVAL)
+            && told(&mut pools, true, true, false) == Some(Errno::EINVAL)
+            && pools.bound(Tid(3)).is_none()
+            && told(&mut pools, true, true, true).is_none()
+            && pools.bound(Tid(3)) == Some(7)
+    );
+    Ok(())
+}
+
+/// Two calls and a notice wait at door 1, which threads 5 and 2 are bound to and parked at.
+fn is_door_in_use(pools: &mut Pools) -> bool {
+    pools.bind(Tid(5), 1);
+    pools.bind(Tid(2), 1);
+    are_two_pools_added(pools)
+        && are_queued(pools, 1, 3)
+        && is_queued(pools, SERVED, Item::Notice(1))
+        && is_parked(pools, Tid(5), Pool::Private(1), 3)
+        && is_parked(pools, Tid(2), Pool::Private(1), 7)
+        && pools.size() == 5
+}
+
+/// Whether what waits at door 1 leaves with the threads that are parked there.
+fn is_door_dropped(alloc: Global, pools: &mut Pools) -> bool {
+    let waiting = pools.waiting_at(SERVED, 1);
+    let parked = pools.parked_in(Pool::Private(1));
+    let Ok(mut items) = Room::with_room(alloc, waiting) else {
+        return false;
+    };
+    let Ok(mut threads) = Room::with_room(alloc, parked) else {
+        return false;
+    };
+    pools.drop_door(SERVED, 1, &mut items, &mut threads);
+    items.len() == 3 && threads.len() == 2 && pools.bound(Tid(5)).is_none() && pools.size() == 0
+}
+
+#[test]
+fn a_door_is_dropped_with_what_waits_there(rt: HostRuntime) -> Result<(), Fail> {
+    let mut pools = Pools::new(rt.alloc())?;
+    assert!(rt; is_door_in_use(&mut pools) && is_door_dropped(rt.alloc(), &mut pools));
+    Ok(())
+}
+
 fn is_spare_added(pools: &mut Pools, p: Pid, t: Tid) -> bool {
     pools.is_above_spares(p, t) && pools.add_spare(p, t).is_ok()
 }

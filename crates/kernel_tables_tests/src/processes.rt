@@ -84,3 +84,23 @@ fn a_spare_thread_keeps_no_process(rt: HostRuntime) {
     let mut procs = Procs::new(rt.alloc());
     assert!(rt; are_last_threads_known(&mut procs));
 }
+
+fn is_done(procs: &Procs, t: Tid) -> bool {
+    matches!(procs.state(t), ThreadState::Done)
+}
+
+/// The process ends with its spare, and the other one goes on.
+fn is_process_ended(procs: &mut Procs) -> bool {
+    procs.end_proc(Pid(1));
+    is_done(procs, Tid(1))
+        && is_done(procs, Tid(2))
+        && !procs.is_live(Pid(1))
+        && procs.is_live(Pid(2))
+        && procs.active_threads(Pid(2)) == 2
+}
+
+#[test]
+fn a_process_ends_with_all_its_threads(rt: HostRuntime) {
+    let mut procs = Procs::new(rt.alloc());
+    assert!(rt; are_two_processes_added(&mut procs) && is_process_ended(&mut procs));
+}
