@@ -2,11 +2,9 @@
 use Rattle.std.proofs.Common.{◌≡◌, ℕ, ◌+◌, ◌≤◌, ◌==◌, ◌&&◌, ◌||◌, Bool, true, false, cond, if◌then◌else◌, List, [], ◌∷◌, Option, None, Some, length, refl, ap, ◌∙◌, arith}
 use Rattle.std.proofs.lemmas.Bool.Decides.{nat_tests}
 use Rattle.std.proofs.lemmas.List.Sums.{sum_by-cons}
-use Rattle.std.proofs.lemmas.Map.Keys.{IsDistinct-head, IsDistinct-tail}
-use Rattle.std.specs.List.{AllByRecursion, IsDistinct}
 use Rattle.unref_notice.specs.declared.key.Key.{Key}
 use Rattle.unref_notice.specs.declared.key.Key.TheVariants as key
-use Rattle.unref_notice.specs.Counting.{IsStill, ObjectCounts, and_door, fallen_among, fallen_of, fell, is_touched, same_key}
+use Rattle.unref_notice.specs.Counting.{AreApart, IsStill, ObjectCounts, and_door, fallen_among, fallen_of, fell, is_touched, same_key}
 use Rattle.unref_notice.specs.Words.{how_many}
 
 abbrev once : Bool → ℕ
@@ -49,16 +47,11 @@ module _ (now opening : ObjectCounts) where
   doors_alike d (key.PipeIn e) h = cc
   doors_alike d (key.PipeOut e) h = cc
 
-  -- a key that stands apart is not touched
-  untouched : (k : Key) (ks : List Key) → AllByRecursion (λ q. same_key k q ≡ false) ks → is_touched ks k ≡ false
-  untouched k [] h = refl
-  untouched k (q ∷ qs) h = ap (λ b. b || is_touched qs k) h.0 ∙ untouched k qs h.1
-
-  among : (d : ℕ) (ks : List Key) → IsDistinct same_key ks → how_many d (fallen_among now opening ks) ≡ once (is_touched ks (key.Door d) && fell now opening (key.Door d))
+  among : (d : ℕ) (ks : List Key) → AreApart ks → how_many d (fallen_among now opening ks) ≡ once (is_touched ks (key.Door d) && fell now opening (key.Door d))
   among d [] h = refl
   among d (k ∷ ks) h =
       counted d (fallen_of now opening k) (fallen_among now opening ks)
-      ∙ go (same_key (key.Door d) k) refl (is_it d (fallen_of now opening k)) refl (own d k) (among d ks (IsDistinct-tail same_key k ks h))
+      ∙ go (same_key (key.Door d) k) refl (is_it d (fallen_of now opening k)) refl (own d k) (among d ks h.1)
     where
       go :
           (b : Bool) → same_key (key.Door d) k ≡ b → (c : Bool) → is_it d (fallen_of now opening k) ≡ c →
@@ -66,12 +59,12 @@ module _ (now opening : ObjectCounts) where
           how_many d (fallen_among now opening ks) ≡ once (is_touched ks (key.Door d) && fell now opening (key.Door d)) →
           once c + how_many d (fallen_among now opening ks) ≡ once ((b || is_touched ks (key.Door d)) && fell now opening (key.Door d))
       go true e c f is ih =
-          let apart : is_touched ks (key.Door d) ≡ false = ap (is_touched ks) (doors_alike d k e) ∙ untouched k ks (IsDistinct-head same_key k ks h) in
+          let apart : is_touched ks (key.Door d) ≡ false = ap (is_touched ks) (doors_alike d k e) ∙ h.0 in
           grind arith
       go false e c f is ih = grind arith
 
   pub fallen_each :
-      (d : ℕ) (ks : List Key) → IsDistinct same_key ks → IsStill now opening ks →
+      (d : ℕ) (ks : List Key) → AreApart ks → IsStill now opening ks →
       how_many d (fallen_among now opening ks) ≡ once (fell now opening (key.Door d))
   fallen_each d ks h still = among d ks h ∙ go (is_touched ks (key.Door d)) refl
     where

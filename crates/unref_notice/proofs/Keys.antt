@@ -30,7 +30,7 @@ key_alike (obj.PipeOut a) (obj.Door b) = refl
 key_alike (obj.PipeOut a) (obj.Port b) = refl
 key_alike (obj.PipeOut a) (obj.PipeIn b) = refl
 
-flipped : (a b : Key) → same_key b a ≡ same_key a b
+pub flipped : (a b : Key) → same_key b a ≡ same_key a b
 flipped (key.Door a) (key.Door b) = either_way b a
 flipped (key.Port a) (key.Port b) = either_way b a
 flipped (key.PipeIn a) (key.PipeIn b) = either_way b a
@@ -48,7 +48,7 @@ flipped (key.PipeOut a) (key.Door b) = refl
 flipped (key.PipeOut a) (key.Port b) = refl
 flipped (key.PipeOut a) (key.PipeIn b) = refl
 
-same_keys : (a b : Key) → same_key a b ≡ true → a ≡ b
+pub same_keys : (a b : Key) → same_key a b ≡ true → a ≡ b
 same_keys (key.Door a) (key.Door b) e = let h : a ≡ b = grind (arith, nat_tests) in ap (λ n. key.Door n) h
 same_keys (key.Port a) (key.Port b) e = let h : a ≡ b = grind (arith, nat_tests) in ap (λ n. key.Port n) h
 same_keys (key.PipeIn a) (key.PipeIn b) e = let h : a ≡ b = grind (arith, nat_tests) in ap (λ n. key.PipeIn n) h
@@ -66,19 +66,9 @@ same_keys (key.PipeOut a) (key.Door b) e = cc
 same_keys (key.PipeOut a) (key.Port b) e = cc
 same_keys (key.PipeOut a) (key.PipeIn b) e = cc
 
-one_counted : (b : Bool) (v : ℕ) (o : Option ℕ) → unwrap_or (cond b (Some v) o) 0 ≡ (if b then v else unwrap_or o 0)
-one_counted true v o = refl
-one_counted false v o = refl
-
 -- the counts as one key gets another
 
 module _ (old new : ObjectCounts) (k : Key) (v : ℕ) (inserted : (q : Key) → lookup (same_key q) new ≡ cond (same_key k q) (Some v) (lookup (same_key q) old)) where
-  pub recounted : (x o : Obj) → k ≡ key_of x → count_of new o ≡ (if is_object o x then v else count_of old o)
-  recounted x o e =
-      ap (λ y. unwrap_or y 0) (inserted (key_of o))
-      ∙ one_counted (same_key k (key_of o)) v (lookup (same_key (key_of o)) old)
-      ∙ ap (λ b. if b then v else count_of old o) (ap (λ j. same_key j (key_of o)) e ∙ key_alike x o)
-
   -- that of now: what is still to come stays as it is
   pub settled : (now : ObjectCounts) (ks : List Key) → v ≡ count_at now k → IsStill now old (k ∷ ks) → IsStill now new ks
   settled now ks e still q apart =

@@ -1,11 +1,12 @@
 -- The counts of objects as they are kept, and what is read of them.
-use Rattle.std.specs.Prelude.{ℕ, ◌≡◌, ◌==◌, ◌&&◌, Bool, false, List, [], ◌∷◌, Option, None, Some, if◌then◌else◌, nat_lt, unwrap_or}
+use Rattle.std.specs.Prelude.{ℕ, ◌≡◌, ◌==◌, ◌&&◌, Bool, false, List, [], ◌∷◌, map, Option, None, Some, if◌then◌else◌, nat_lt, unwrap_or}
 use Rattle.std.specs.List.{list_any}
 use Rattle.std.specs.Map.{lookup}
 use Rattle.dk_base.specs.declared.object.Obj.{Obj}
 use Rattle.dk_base.specs.declared.object.Obj.TheVariants as obj
 use Rattle.unref_notice.specs.declared.key.Key.{Key}
 use Rattle.unref_notice.specs.declared.key.Key.TheVariants as key
+use Rattle.unref_notice.specs.declared.tally.Tally.{Tally}
 use Rattle.unref_notice.specs.contracts.key.KeyPartialEq.TheImpl as key_eq
 
 -- the count of each object that is or was counted
@@ -34,6 +35,27 @@ is_touched touched k = list_any (same_key k) touched
 -- the count of what is not touched is what it was when the step began
 abbrev pub IsStill : ObjectCounts → ObjectCounts → List Key → Type 0
 IsStill now opening touched = (k : Key) → is_touched touched k ≡ false → count_at opening k ≡ count_at now k
+
+-- what is kept of each object that is or was counted
+abbrev pub Tallies : Type 0
+Tallies = List (Key × Tally)
+
+abbrev pub counts_in : Tallies → ObjectCounts
+counts_in ts = map (λ e. (e.0, e.1.now)) ts
+
+-- of an object that never was counted as of one without references
+abbrev pub tally_at : Tallies → Key → Tally
+tally_at ts k = unwrap_or (lookup (same_key k) ts) (record { now = 0; touched = false })
+
+-- no two of these objects are one
+abbrev pub AreApart : List Key → Type 0
+AreApart [] = Unit
+AreApart (k ∷ ks) = (is_touched ks k ≡ false) × AreApart ks
+
+-- an object is marked where it is among these, each of which stands there once
+pub record AreMarked (ts : Tallies) (touched : List Key) : Type 0 where
+  pub marked : (k : Key) → (tally_at ts k).touched ≡ is_touched touched k
+  pub apart : AreApart touched
 
 -- a door has fallen to one reference
 abbrev pub fell : ObjectCounts → ObjectCounts → Key → Bool

@@ -1,18 +1,19 @@
 //! How many references each object has, and which doors had more than one when the step began, and have one.
-ghost use Rattle.std.specs.Prelude.{◌≡◌, ◌+◌, ◌-◌, ◌<◌, ◌≤◌, ◌++◌, ◌∷◌, ℕ, [], IsSorted, OnErr, OnOk, if◌then◌else◌, length, vec_capacity, vec_len};
+ghost use Rattle.std.specs.Prelude.{◌≡◌, ◌+◌, ◌-◌, ◌<◌, ◌≤◌, ◌++◌, ◌∷◌, ℕ, [], IsSorted, OnErr, OnOk, if◌then◌else◌, length, true, vec_capacity, vec_len};
 ghost use Rattle.std.specs.Ordering.{nat_cmp};
 ghost use Rattle.dk_base.specs.declared.object.Obj.{Obj};
-ghost use Rattle.indexmap.specs.IndexMap.{spare};
+ghost use Rattle.indexmap.specs.IndexMap.{KeepsRoom, spare};
 ghost use Rattle.kernel_records.specs.Words.{count_object, is_object};
 ghost use Rattle.unref_notice.specs.declared.counts.TheConstants.{STEP_MAX};
 ghost use Rattle.unref_notice.specs.declared.key.Key.{Key};
-ghost use Rattle.unref_notice.specs.Counting.{IsStill, count_at, fallen_among, fallen_of};
+ghost use Rattle.unref_notice.specs.Counting.{AreMarked, IsStill, count_at, counts_in, fallen_among, fallen_of, is_touched, same_key, tally_at};
 ghost use Rattle.unref_notice.specs.Words.{count_of, has_fallen, how_many};
 
 use crate::key::{Key, key_of};
+use crate::tally::Tally;
 use dk_base::error::NoMemory;
 use dk_base::object::Obj;
-use indexmap::{IndexMap, IndexSet};
+use indexmap::IndexMap;
 use std::alloc::Global;
 use std::marker::Model;
 
@@ -25,12 +26,12 @@ pub const STEP_MAX: usize = 1280;
 /// references may come or go in this step (`left`), which takes no memory, and the doors that the end of a step told (`fallen`).
 #[derive(Drop)]
 pub struct Counts {
-    /// The count of each object that is or was counted.
-    counts: IndexMap<Key, u64>,
-    /// The same when the step began.
+    /// Of each object that is or was counted.
+    tallies: IndexMap<Key, Tally>,
+    /// The count of each when the step began, of those that are not touched that of now.
     opening: IndexMap<Key, u64>,
-    /// The objects to which references came or went since.
-    touched: IndexSet<Key>,
+    /// The objects to which references came or went since the step began, each once.
+    touched: Vec<Key>,
     /// The doors that the end of a step tells.
     fallen: Vec<u32>,
     left: usize,
@@ -39,62 +40,119 @@ pub struct Counts {
 impl Model for Counts {
     ghost use Rattle.std.specs.Prelude.{◌≤◌, ◌+◌, length, vec_capacity};
     ghost use Rattle.indexmap.specs.IndexMap.{spare};
-    ghost use Rattle.indexmap.specs.IndexSet.{spare as set_spare};
     ghost use Rattle.unref_notice.specs.declared.counts.TheConstants.{STEP_MAX};
-    ghost use Rattle.unref_notice.specs.Counting.{IsStill};
+    ghost use Rattle.unref_notice.specs.Counting.{AreMarked, IsStill, counts_in};
     ghost use Rattle.unref_notice.specs.Words.{CountsValue};
 
     ghost Value = { CountsValue };
 
-    ghost view = { λ c. record { counts = c.counts.entries; opening = c.opening.entries; touched = length c.touched.keys; left = c.left; fallen = c.fallen.items } };
+    ghost view = { λ c. record { counts = counts_in c.tallies.entries; opening = c.opening.entries; touched = length c.touched.items; left = c.left; fallen = c.fallen.items } };
 
-    ghost invariant = { λ c. IsStill c.counts.entries c.opening.entries c.touched.keys × (c.left ≤ spare c.counts) × (c.left ≤ set_spare c.touched) × (length c.touched.keys + c.left ≤ spare c.opening) × (length c.touched.keys + c.left ≤ vec_capacity c.fallen) × (length c.touched.keys + c.left ≤ STEP_MAX) };
+    ghost invariant = { λ c. IsStill (counts_in c.tallies.entries) c.opening.entries c.touched.items × AreMarked c.tallies.entries c.touched.items × (c.left ≤ spare c.tallies) × (length c.touched.items + c.left ≤ spare c.opening) × (length c.touched.items + c.left ≤ vec_capacity c.touched) × (length c.touched.items + c.left ≤ vec_capacity c.fallen) × (length c.touched.items + c.left ≤ STEP_MAX) };
 }
 
-/// The count of an object, 0 where it never was counted.
-fn count_at(counts: &IndexMap<Key, u64>, key: Key) -> u64
-    ensures { result ≡ count_at counts.now.entries key }
+/// What is kept of an object.
+fn tally_at(tallies: &IndexMap<Key, Tally>, key: Key) -> Tally
+    ensures { result ≡ tally_at tallies.now.entries key }
 {
-    match counts.get(&key) {
+    match tallies.get(&key) {
+        Some(tally) => *tally,
+        None => Tally {
+            now: 0,
+            touched: false,
+        },
+    }
+}
+
+/// The count of an object now, 0 where it never was counted.
+fn now_at(tallies: &IndexMap<Key, Tally>, key: Key) -> u64
+    ensures { result ≡ count_at (counts_in tallies.now.entries) key }
+{
+    tally_at(tallies, key).now
+}
+
+/// The count of an object when the step began, 0 where it never was counted.
+fn count_at(opening: &IndexMap<Key, u64>, key: Key) -> u64
+    ensures { result ≡ count_at opening.now.entries key }
+{
+    match opening.get(&key) {
         Some(count) => *count,
         None => 0,
     }
 }
 
-/// The objects that are touched had as many references when the step began as they have now.
-fn settle(now: &IndexMap<Key, u64>, opening: &mut IndexMap<Key, u64>, touched: &[Key])
+/// The object of this key has so many references now, and is among those that are touched. Whether it was so far is given.
+fn recount(
+    tallies: &mut IndexMap<Key, Tally>,
+    touched: &mut Vec<Key>,
+    key: Key,
+    was_touched: bool,
+    now: u64,
+)
+    requires marked { AreMarked tallies.old.entries touched.old.items }
+    requires was { was_touched ≡ is_touched touched.old.items key }
+    requires spare { 0 < spare tallies.old }
+    requires room { vec_len touched.old < vec_capacity touched.old }
+    ensures tallies { (k : Key) → tally_at tallies.new.entries k ≡ (if same_key key k then record { now = now; touched = true } else tally_at tallies.old.entries k) }
+    ensures touched { (k : Key) → is_touched touched.new.items k ≡ (if same_key key k then true else is_touched touched.old.items k) }
+    ensures marked { AreMarked tallies.new.entries touched.new.items }
+    ensures spare { spare tallies.old ≤ spare tallies.new + 1 }
+    ensures more { vec_len touched.new ≤ vec_len touched.old + 1 }
+    ensures capacity { vec_capacity touched.new ≡ vec_capacity touched.old }
+{
+    if !was_touched {
+        touched.push_reserved(key);
+    }
+    tallies.insert(key, Tally { now, touched: true }).unwrap();
+}
+
+/// The objects that are touched had as many references when the step began as they have now, and are touched no more.
+fn settle(tallies: &mut IndexMap<Key, Tally>, opening: &mut IndexMap<Key, u64>, touched: &[Key])
     requires room { length touched.now ≤ spare opening.old }
-    requires still { IsStill now.now.entries opening.old.entries touched.now }
-    ensures { (k : Key) → count_at opening.new.entries k ≡ count_at now.now.entries k }
+    requires still { IsStill (counts_in tallies.old.entries) opening.old.entries touched.now }
+    requires marked { AreMarked tallies.old.entries touched.now }
+    ensures counts { counts_in tallies.new.entries ≡ counts_in tallies.old.entries }
+    ensures opening { (k : Key) → count_at opening.new.entries k ≡ count_at (counts_in tallies.new.entries) k }
+    ensures marked { AreMarked tallies.new.entries [] }
 {
     for key in touched {
-        opening.insert(*key, count_at(now, *key)).unwrap();
+        let now = now_at(tallies, *key);
+        opening.insert(*key, now).unwrap();
+        tallies
+            .insert(
+                *key,
+                Tally {
+                    now,
+                    touched: false,
+                },
+            )
+            .unwrap();
     }
 }
 
 /// The door that an object is, if it had more than one reference and has one.
-fn fallen_of(now: &IndexMap<Key, u64>, opening: &IndexMap<Key, u64>, key: Key) -> Option<u32>
-    ensures { result ≡ fallen_of now.now.entries opening.now.entries key }
+fn fallen_of(tallies: &IndexMap<Key, Tally>, opening: &IndexMap<Key, u64>, key: Key) -> Option<u32>
+    ensures { result ≡ fallen_of (counts_in tallies.now.entries) opening.now.entries key }
 {
     match key {
-        Key::Door(d) if count_at(opening, key) > 1 && count_at(now, key) == 1 => Some(d),
+        Key::Door(d) if count_at(opening, key) > 1 && now_at(tallies, key) == 1 => Some(d),
         _ => None,
     }
 }
 
 /// The doors among these objects that have fallen to one reference follow what is in `into`.
 fn tell(
-    now: &IndexMap<Key, u64>,
+    tallies: &IndexMap<Key, Tally>,
     opening: &IndexMap<Key, u64>,
     touched: &[Key],
     into: &mut Vec<u32>,
 )
     requires { vec_len into.old + length touched.now ≤ vec_capacity into.old }
-    ensures items { into.new.items ≡ into.old.items ++ fallen_among now.now.entries opening.now.entries touched.now }
+    ensures items { into.new.items ≡ into.old.items ++ fallen_among (counts_in tallies.now.entries) opening.now.entries touched.now }
     ensures capacity { vec_capacity into.new ≡ vec_capacity into.old }
 {
     for key in touched {
-        if let Some(d) = fallen_of(now, opening, *key) {
+        if let Some(d) = fallen_of(tallies, opening, *key) {
             into.push_reserved(d);
         }
     }
@@ -107,9 +165,9 @@ impl Counts {
         ensures opening { result.opening ≡ [] }
     {
         Counts {
-            counts: IndexMap::new(alloc),
+            tallies: IndexMap::new(alloc),
             opening: IndexMap::new(alloc),
-            touched: IndexSet::new(alloc),
+            touched: Vec::new(alloc),
             fallen: Vec::new(alloc),
             left: 0,
         }
@@ -125,28 +183,15 @@ impl Counts {
         ensures err { OnErr result (self.new ≡ self.old) }
     {
         let all = self.touched.len() + n;
-        if self.counts.reserve(n).is_err()
-            || self.touched.reserve(n).is_err()
+        if self.tallies.reserve(n).is_err()
             || self.opening.reserve(all).is_err()
+            || self.touched.reserve(n).is_err()
             || self.fallen.reserve(all).is_err()
         {
             return Err(NoMemory);
         }
         self.left = n;
         Ok(())
-    }
-
-    /// An object has so many references now.
-    fn recount(&mut self, object: Obj, now: u64)
-        requires left { 0 < self.old.left }
-        ensures counts { (o : Obj) → count_of self.new.counts o ≡ (if is_object o object then now else count_of self.old.counts o) }
-        ensures opening { self.new.opening ≡ self.old.opening }
-        ensures left { self.old.left ≤ self.new.left + 1 }
-    {
-        let key = key_of(object);
-        self.touched.insert(key).unwrap();
-        self.counts.insert(key, now).unwrap();
-        self.left -= 1;
     }
 
     /// Another reference to an object.
@@ -157,8 +202,16 @@ impl Counts {
         ensures opening { self.new.opening ≡ self.old.opening }
         ensures left { self.old.left ≤ self.new.left + 1 }
     {
-        let now = self.count(object);
-        self.recount(object, now + 1);
+        let key = key_of(object);
+        let kept = tally_at(&self.tallies, key);
+        recount(
+            &mut self.tallies,
+            &mut self.touched,
+            key,
+            kept.touched,
+            kept.now + 1,
+        );
+        self.left -= 1;
     }
 
     /// One reference to an object fewer, if there is one.
@@ -168,9 +221,17 @@ impl Counts {
         ensures opening { self.new.opening ≡ self.old.opening }
         ensures left { self.old.left ≤ self.new.left + 1 }
     {
-        let now = self.count(object);
-        if now > 0 {
-            self.recount(object, now - 1);
+        let key = key_of(object);
+        let kept = tally_at(&self.tallies, key);
+        if kept.now > 0 {
+            recount(
+                &mut self.tallies,
+                &mut self.touched,
+                key,
+                kept.touched,
+                kept.now - 1,
+            );
+            self.left -= 1;
         }
     }
 
@@ -203,7 +264,7 @@ impl Counts {
     pub fn count(&self, object: Obj) -> u64
         ensures { result ≡ count_of self.now.counts object }
     {
-        count_at(&self.counts, key_of(object))
+        now_at(&self.tallies, key_of(object))
     }
 
     /// A step begins: the counts of its beginning become those of now. Only the objects are looked at that are touched.
@@ -215,7 +276,7 @@ impl Counts {
         if self.touched.is_empty() {
             return;
         }
-        settle(&self.counts, &mut self.opening, self.touched.as_slice());
+        settle(&mut self.tallies, &mut self.opening, &self.touched);
         self.touched.clear();
         self.left = 0;
     }
@@ -230,9 +291,9 @@ impl Counts {
     {
         self.fallen.clear();
         tell(
-            &self.counts,
+            &self.tallies,
             &self.opening,
-            self.touched.as_slice(),
+            &self.touched,
             &mut self.fallen,
         );
         self.fallen.sort_unstable();

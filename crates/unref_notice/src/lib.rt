@@ -10,3 +10,4 @@ mod key;
 mod leave;
 pub mod notices;
 mod stage;
+mod tally;
