@@ -83,8 +83,8 @@ fn list_objects(table: &FdTable, pass: &[Pass], into: &mut Room<Obj>)
 fn release_row(table: &mut FdTable, passed: Pass)
     ensures { table.new ≡ release_row table.old passed }
 {
-    if passed.release {
-        let _ = table.remove(passed.fd);
+    if passed.release && object_passed(table, passed).is_some() {
+        table.close(passed.fd);
     }
 }
 
@@ -132,4 +132,15 @@ pub fn install(table: &mut FdTable, objects: &ObjList, into: &mut Room<Fd>) -> R
     ensures same { OnErr result (into.new ≡ into.old) }
 {
     table.insert_all(objects, into)
+}
+
+/// The same, of a table with a free descriptor for each of the objects.
+pub fn install_fitting(table: &mut FdTable, objects: &ObjList, into: &mut Room<Fd>)
+    requires spare { length objects.now ≤ into.old.spare }
+    requires free { length objects.now ≤ free_rows table.old }
+    ensures rows { table.new ≡ insert_rows table.old objects.now }
+    ensures fds { into.new.items ≡ into.old.items ++ new_descriptors table.old objects.now }
+    ensures spare { into.old.spare ≤ into.new.spare + length objects.now }
+{
+    table.insert_each(objects.slice(), into);
 }

@@ -352,7 +352,7 @@ impl Calls {
     {
         let key = known(self.index.of_server(u));
         let returned = CallStage::Returned { bytes, objects };
-        let _ = self.index.end(self.alloc, key, returned, false);
+        self.index.end(self.alloc, key, returned, false);
     }
 
     /// A thread without a client returns. Its caller cut the chain when it left, so nothing is left to do.

@@ -1,5 +1,5 @@
 //! The doors of a kernel.
-ghost use Rattle.std.specs.Prelude.{◌≡◌, ◌+◌, ◌<◌, ◌≤◌, [], ◌∷◌, ◌++◌, vec_len, vec_capacity, false, length, if◌then◌else◌, None, Ok, Some, Err, IfOk, OnOk, OnErr};
+ghost use Rattle.std.specs.Prelude.{◌≡◌, ℕ, ◌+◌, ◌<◌, ◌≤◌, [], ◌∷◌, ◌++◌, vec_len, vec_capacity, false, length, if◌then◌else◌, None, Ok, Some, Err, IfOk, OnOk, OnErr};
 ghost use Rattle.dk_base.specs.declared.error.Errno.TheVariants.{EINVAL};
 ghost use Rattle.dk_base.specs.declared.limits.TheConstants.{EVENTS_MAX};
 ghost use Rattle.dk_base.specs.ByNumber.{at_number};
@@ -196,6 +196,18 @@ impl Doors {
         if let Some(error) = Doors::check_create(attrs) {
             return Err(error);
         }
+        Ok(self.create_allowed(owner, entry, cookie, attrs))
+    }
+
+    /// The same, with attributes that `check_create` does not refuse.
+    pub fn create_allowed(&mut self, owner: Pid, entry: u32, cookie: u64, attrs: Attrs) -> u32
+        requires room { 0 < self.old.spare }
+        requires few { length self.old.items < EVENTS_MAX }
+        requires allowed { has_told_attributes attrs ≡ false }
+        ensures number { result ≡ length self.old.items + 1 }
+        ensures made { self.new.items ≡ with_door self.old.items owner.0 entry cookie attrs }
+        ensures spare { self.old.spare ≤ self.new.spare + 1 }
+    {
         let number = self.doors.len() as u32 + 1;
         list_noticed(&mut self.with_notices, number, attrs);
         let list = list_of(owner);
@@ -204,7 +216,7 @@ impl Doors {
         note_common(&mut self.common, owner, attrs);
         self.doors
             .push_reserved(new_door(number, owner, entry, cookie, attrs));
-        Ok(number)
+        number
     }
 
     /// The door of a number, if there is one, valid or not.
@@ -298,8 +310,16 @@ impl Doors {
         if let Some(error) = self.check_revoke(d, by) {
             return Err(error);
         }
-        revoke_at(&mut self.doors, d);
+        self.revoke_allowed(d);
         Ok(())
+    }
+
+    /// A door is revoked that a process may revoke, as `check_revoke` tells.
+    pub fn revoke_allowed(&mut self, d: u32)
+        requires { (by : ℕ) × (first_refusal (revoke_tests by (at_number self.old.items d)) ≡ None) }
+        ensures { self.new ≡ record self.old { items = revoke_door self.old.items d } }
+    {
+        revoke_at(&mut self.doors, d);
     }
 
     /// The doors of a process that are valid, in order. Only want of memory fails.
@@ -349,8 +369,16 @@ impl Doors {
         if let Some(error) = self.check_param(d, by, param, value) {
             return Err(error);
         }
-        set_param_at(&mut self.doors, d, param, value);
+        self.set_param_allowed(d, param, value);
         Ok(())
+    }
+
+    /// A parameter of a door is set that a process may set so, as `check_param` tells.
+    pub fn set_param_allowed(&mut self, d: u32, param: Param, value: u64)
+        requires { (by : ℕ) × (first_refusal (set_param_tests by (at_number self.old.items d) param value) ≡ None) }
+        ensures { self.new ≡ record self.old { items = set_param self.old.items d param value } }
+    {
+        set_param_at(&mut self.doors, d, param, value);
     }
 
     /// What door_call(3C) is refused with by a door's limits (see `check_limits`).

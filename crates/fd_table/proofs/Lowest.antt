@@ -1,5 +1,5 @@
 -- The lowest free row and the number of free rows, after a row is taken or closed.
-use Rattle.std.proofs.Common.{◌≡◌, ℕ, zero, suc, ◌+◌, ◌<◌, ◌≤◌, min, cond, inl, inr, true, false, List, [], ◌∷◌, Option, Some, None, is_none, length, get_or, set, drop, slice_get, refl, sym, ap, ◌∙◌, arith, length-drop}
+use Rattle.std.proofs.Common.{◌≡◌, ℕ, zero, suc, ◌+◌, ◌<◌, ◌≤◌, min, cond, inl, inr, true, false, List, [], ◌∷◌, Option, Some, None, is_none, is_some, length, get_or, set, drop, slice_get, refl, sym, ap, ◌∙◌, arith, length-drop}
 use Rattle.std.specs.Option.{unwrap_or}
 use Rattle.std.proofs.lemmas.Bool.{cases_lt}
 use Rattle.std.proofs.lemmas.Bool.Decides.{nat_tests}
@@ -41,12 +41,15 @@ place_is t h = ap (λ r. unwrap_or r 0) (lowest_some t h)
 pub some_place : (t : List (Option Obj)) → 0 < free_rows t → lowest_free t ≡ Some (free_place t)
 some_place t h = let there = free_there t h in lowest_some t there ∙ ap (λ p. Some p) (sym (place_is t there))
 
-pub free_or_full : (t : List (Option Obj)) → is_none (lowest_free t) ≡ false → 0 < free_rows t
-free_or_full t h =
+pub some_free : (t : List (Option Obj)) → is_some (lowest_free t) ≡ true → 0 < free_rows t
+some_free t h =
     elim (cases_lt 0 (free_rows t)) [
       | inl some ↦ some
-      | inr none ↦ let e = ap is_none (lowest_none t (none_free t (omega arith))) in cc
+      | inr none ↦ let e = ap is_some (lowest_none t (none_free t (omega arith))) in cc
     ]
+
+pub free_some : (t : List (Option Obj)) → 0 < free_rows t → is_some (lowest_free t) ≡ true
+free_some t h = ap is_some (some_place t h)
 
 pub full_none : (t : List (Option Obj)) → is_none (lowest_free t) ≡ true → lowest_free t ≡ None
 full_none t h = grind (arith, nat_tests)
@@ -102,10 +105,11 @@ row_taken t n o is h =
 
 -- a row is closed
 
-pub named_there : (t : List (Option Obj)) (n : ℕ) (o : Obj) → object_in (slice_get t n) ≡ Some o → (n < length t) × (get_or t n None ≡ Some o)
-named_there [] n o h = cc
-named_there (row ∷ t) zero o h = (omega arith, h)
-named_there (row ∷ t) (suc n) o h = let there = named_there t n o h in (omega arith, there.1)
+pub named_there : (t : List (Option Obj)) (n : ℕ) → is_some (object_in (slice_get t n)) ≡ true → (n < length t) × (is_none (get_or t n None) ≡ false)
+named_there [] n h = cc
+named_there (None ∷ t) zero h = cc
+named_there (Some o ∷ t) zero h = (omega arith, refl)
+named_there (row ∷ t) (suc n) h = let there = named_there t n h in (omega arith, there.1)
 
 pub lowest_closed : (t : List (Option Obj)) (n : ℕ) → n < length t → lowest_row (set t n None) ≡ min (lowest_row t) n
 lowest_closed [] n h = absurd (omega arith)
@@ -114,8 +118,8 @@ lowest_closed (Some o ∷ t) zero h = omega arith
 lowest_closed (None ∷ t) (suc n) h = omega arith
 lowest_closed (Some o ∷ t) (suc n) h = omega (arith, lowest_closed t n (omega arith))
 
-pub free_closed : (t : List (Option Obj)) (n : ℕ) (o : Obj) → n < length t → get_or t n None ≡ Some o → free_rows (set t n None) ≡ free_rows t + 1
-free_closed t n o h read =
+pub free_closed : (t : List (Option Obj)) (n : ℕ) → n < length t → is_none (get_or t n None) ≡ false → free_rows (set t n None) ≡ free_rows t + 1
+free_closed t n h read =
     let e = sum_by-set (λ (row : Option Obj). cond (is_none row) 1 0) t n None None h in
     let k = rw read at e in
     omega arith

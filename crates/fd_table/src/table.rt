@@ -1,5 +1,5 @@
 //! The table of a process's descriptors.
-ghost use Rattle.std.specs.Prelude.{◌≡◌, ◌+◌, ◌<◌, ◌≤◌, ◌++◌, List, Option, Some, None, IfOk, IfErr, OnOk, OnErr, is_none, length};
+ghost use Rattle.std.specs.Prelude.{◌≡◌, ◌+◌, ◌<◌, ◌≤◌, ◌++◌, List, Option, Some, None, IfOk, IfErr, OnOk, OnErr, is_none, is_some, length, true};
 ghost use Rattle.kernel_records.specs.Words.{close_row, close_table, descriptor, empty_table, first_refusal, free_place, free_rows, insert_row, insert_rows, lowest_free, new_descriptors, object_named, objects_of};
 ghost use Rattle.fd_table.specs.Duplicated.{dup_row, dup_tests};
 
@@ -92,9 +92,9 @@ impl FdTable {
         }
     }
 
-    /// The object gets the lowest free descriptor, of which there is one.
-    fn give_lowest(&mut self, object: Obj) -> Fd
-        requires { 0 < free_rows self.old }
+    /// The object gets the lowest free descriptor (open(2)), of a table with a free row.
+    pub fn insert_free(&mut self, object: Obj) -> Fd
+        requires { is_some (lowest_free self.old) ≡ true }
         ensures row { self.new ≡ insert_row self.old object }
         ensures fd { result ≡ descriptor (free_place self.old) }
         ensures free { free_rows self.new + 1 ≡ free_rows self.old }
@@ -117,7 +117,7 @@ impl FdTable {
         if self.is_full() {
             return Err(Errno::EMFILE);
         }
-        Ok(self.give_lowest(object))
+        Ok(self.insert_free(object))
     }
 
     /// Each object in turn gets the lowest free descriptor, and their numbers follow what is in `into` (door_call(3C)). EMFILE
@@ -136,11 +136,13 @@ impl FdTable {
         if (self.free as usize) < objects.len() {
             return Err(Errno::EMFILE);
         }
-        self.give_each(objects.slice(), into);
+        self.insert_each(objects.slice(), into);
         Ok(())
     }
 
-    fn give_each(&mut self, objects: &[Obj], into: &mut Room<Fd>)
+    /// Each object in turn gets the lowest free descriptor (door_call(3C)), of a table with a free row for each, and their numbers
+    /// follow what is in `into`.
+    pub fn insert_each(&mut self, objects: &[Obj], into: &mut Room<Fd>)
         requires free { length objects.now ≤ free_rows self.old }
         requires spare { length objects.now ≤ into.old.spare }
         ensures rows { self.new ≡ insert_rows self.old objects.now }
@@ -148,7 +150,7 @@ impl FdTable {
         ensures spare { into.old.spare ≤ into.new.spare + length objects.now }
     {
         for object in objects {
-            let fd = self.give_lowest(*object);
+            let fd = self.insert_free(*object);
             into.push(fd);
         }
     }
@@ -164,10 +166,18 @@ impl FdTable {
         let Some(object) = self.get(fd) else {
             return Err(Errno::EBADF);
         };
+        self.close(fd);
+        Ok(object)
+    }
+
+    /// A descriptor that names something is closed (close(2)).
+    pub fn close(&mut self, fd: Fd)
+        requires { is_some (object_named self.old fd) ≡ true }
+        ensures { self.new ≡ close_row self.old fd.0 }
+    {
         self.rows[fd.0 as usize] = None;
         self.lowest = self.lowest.min(fd.0);
         self.free += 1;
-        Ok(object)
     }
 
     /// The lowest free descriptor names what `fd` names (dup(2)). EBADF where `fd` names nothing, then EMFILE where no row is

@@ -1,5 +1,5 @@
 //! The doors attached to paths: fattach(3C), fdetach(3C), and open(2) of such a path.
-ghost use Rattle.std.specs.Prelude.{◌≡◌, ◌+◌, ◌<◌, ◌≤◌, ◌^◌, [], if◌then◌else◌, is_ok, is_some, length, ok_or, slice_get, IsOk, OnOk, OnErr};
+ghost use Rattle.std.specs.Prelude.{◌≡◌, ◌+◌, ◌<◌, ◌≤◌, ◌^◌, [], false, if◌then◌else◌, is_ok, is_some, length, ok_or, slice_get, IsOk, OnOk, OnErr};
 ghost use Rattle.kernel_records.specs.Words.{name_in, with_name, without_name};
 ghost use Rattle.name_space.specs.NameTable.{HasRoomForName, HaveDistinctPaths, attached_door};
 
@@ -64,8 +64,18 @@ impl Names {
         if self.has(path) {
             return Err(Errno::EBUSY);
         }
-        self.doors.insert(path.0, door).unwrap();
+        self.attach_free(path, door);
         Ok(())
+    }
+
+    /// Attaches a door to a path that has none, as the last name (fattach(3C)). It takes no memory.
+    pub fn attach_free(&mut self, path: PathId, door: u32)
+        requires room { HasRoomForName self.old }
+        requires free { is_some (name_in self.old.names path) ≡ false }
+        ensures names { self.new.names ≡ with_name self.old.names path door }
+        ensures spare { self.old.spare ≤ self.new.spare + 1 }
+    {
+        self.doors.insert(path.0, door).unwrap();
     }
 
     /// Detaches the door of a path, and tells its number (fdetach(3C)). The other names keep their order. EINVAL where the path

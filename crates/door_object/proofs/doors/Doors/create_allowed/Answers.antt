@@ -4,7 +4,7 @@ use Rattle.kernel_records.specs.declared.record.Door.{Door}
 use Rattle.kernel_records.specs.Words.{new_door}
 use Rattle.door_object.specs.OwnerLists.{as_made, made}
 use Rattle.door_object.proofs.OwnerLists.{AreListed-pushed}
-use Rattle.door_object.proofs.doors.Doors.create.Goals as goal
+use Rattle.door_object.proofs.doors.Doors.create_allowed.Goals as goal
 
 pub invariant_of-self : goal.invariant_of-self
 invariant_of-self c =

@@ -1,7 +1,7 @@
 use Rattle.std.proofs.Common.{◌≡◌, ap, rules, ◌∙◌}
 use Rattle.door_object.specs.OwnerLists.{as_made}
 use Rattle.door_object.proofs.AsMade.{as_made-set, as_made-written}
-use Rattle.door_object.proofs.doors.Doors.setparam.Goals as goal
+use Rattle.door_object.proofs.doors.Doors.set_param_allowed.Goals as goal
 
 pub invariant_of-self : goal.invariant_of-self
 invariant_of-self c =
