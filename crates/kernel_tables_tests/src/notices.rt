@@ -1,7 +1,8 @@
 //! Unreferenced notices: one through its stages, at a door that has at most one and at a door that may have more, and what is left
 //! of notices where threads end and doors are lost.
-ghost use Rattle.std.specs.Prelude.{◌≡◌, ◌+◌, ◌<◌, ◌≤◌};
-ghost use Rattle.unref_notice.specs.declared.notices.TheConstants.{NOTICES_MAX};
+ghost use Rattle.std.specs.Prelude.{◌≡◌, [], false, true};
+ghost use Rattle.kernel_records.specs.Words.{enter_notice, give_notice};
+ghost use Rattle.unref_notice.specs.Words.{takes_many_in};
 
 use dk_base::number::{Pid, Tid};
 use dk_base::object::Item;
@@ -21,21 +22,14 @@ fn is_door_made(doors: &mut Doors, attrs: Attrs) -> bool {
     doors.reserve().is_ok() && doors.count() < 3 && doors.create(Pid(1), 7, 9, attrs).is_ok()
 }
 
-/// Whether a notice of a door is made under this number.
-fn is_made(notices: &mut Notices, d: u32, number: u32) -> bool
-    requires { notices.old.list.made < NOTICES_MAX }
-    ensures { notices.new.list.made ≤ notices.old.list.made + 1 }
-{
-    notices.reserve(1).is_ok() && notices.make(d, 5) == number
-}
-
-/// Whether a notice is given to a thread, which enters it.
+/// Whether a notice is given to a thread, which enters it once.
 fn is_entered(notices: &mut Notices, n: u32, t: Tid) -> bool
-    ensures { notices.new.list.made ≡ notices.old.list.made }
+    ensures { notices.new.list ≡ enter_notice (enter_notice (give_notice notices.old.list n t.0) n t.0) n t.0 }
 {
     notices.give(n, t);
-    matches!(notices.enter(n, t), Some(notice) if notice.number == n)
-        && notices.enter(n, t).is_none()
+    let entered = notices.enter(n, t);
+    let again = notices.enter(n, t);
+    matches!(entered, Some(notice) if notice.number == n) && again.is_none()
 }
 
 /// Where the notice at a place stands, if it has this number.
@@ -53,19 +47,25 @@ fn stage_at(notices: &Notices, place: usize, number: u32) -> Option<NoticeStage>
 
 /// What is over of a door that has at most one notice stays, so that it has no other; of another door it is forgotten.
 fn are_ended(notices: &mut Notices, doors: &Doors) -> bool
-    requires { notices.old.list.made + 4 ≤ NOTICES_MAX }
+    requires none { notices.old.list ≡ record { made = 0; notices = [] } }
+    requires one { takes_many_in doors.now.items 1 ≡ false }
+    requires many { takes_many_in doors.now.items 2 ≡ true }
 {
-    if !(is_made(notices, ONE, 1) && is_made(notices, MANY, 2) && is_made(notices, MANY, 3)) {
+    if notices.reserve(3).is_err() {
         return false;
     }
-    if !(is_entered(notices, 1, Tid(4)) && is_entered(notices, 2, Tid(6))) {
-        return false;
-    }
+    let one = notices.make(ONE, 5);
+    let two = notices.make(MANY, 5);
+    let three = notices.make(MANY, 5);
+    let first = is_entered(notices, 1, Tid(4));
+    let second = is_entered(notices, 2, Tid(6));
     notices.end(Some(Item::Notice(1)), Tid(4), |d| doors.takes_many(d));
     notices.end(Some(Item::Notice(2)), Tid(6), |d| doors.takes_many(d));
     notices.end(None, Tid(6), |d| doors.takes_many(d));
     notices.end(Some(Item::Call(3)), Tid(6), |d| doors.takes_many(d));
-    notices.len() == 2
+    (one == 1 && two == 2 && three == 3)
+        && (first && second)
+        && notices.len() == 2
         && matches!(stage_at(notices, 0, 1), Some(NoticeStage::Over))
         && matches!(stage_at(notices, 1, 3), Some(NoticeStage::Waiting))
         && notices.has(ONE)
@@ -100,14 +100,16 @@ fn a_notice_ends_with_its_invocation(rt: HostRuntime) {
 /// Of four notices, the first waits at a door that is lost, threads that end were given the second and have entered the third, and
 /// the fourth waits. Items that name no notice are passed over.
 fn are_left(notices: &mut Notices, doors: &Doors) -> bool
-    requires { notices.old.list.made + 4 ≤ NOTICES_MAX }
+    requires { notices.old.list ≡ record { made = 0; notices = [] } }
 {
-    if !(is_made(notices, ONE, 1) && is_made(notices, MANY, 2) && is_made(notices, MANY, 3)) {
+    if notices.reserve(4).is_err() {
         return false;
     }
-    if !(is_made(notices, MANY, 4) && is_entered(notices, 3, Tid(7))) {
-        return false;
-    }
+    notices.make(ONE, 5);
+    notices.make(MANY, 5);
+    notices.make(MANY, 5);
+    let four = notices.make(MANY, 5);
+    let entered = is_entered(notices, 3, Tid(7));
     notices.give(2, Tid(6));
     let waiting = [Item::Call(4), Item::Notice(1)];
     let held = [Item::Notice(3), Item::Notice(9), Item::Notice(2)];
@@ -118,7 +120,8 @@ fn are_left(notices: &mut Notices, doors: &Doors) -> bool
         |d| d == ONE,
         |d| doors.takes_many(d),
     );
-    notices.len() == 2
+    (four == 4 && entered)
+        && notices.len() == 2
         && matches!(stage_at(notices, 0, 1), Some(NoticeStage::Dropped))
         && matches!(stage_at(notices, 1, 4), Some(NoticeStage::Waiting))
 }

@@ -8,6 +8,11 @@ use Rattle.kernel_records.specs.declared.record.Door.{Door}
 use Rattle.kernel_records.specs.declared.record.Notice.{Notice}
 use Rattle.kernel_records.specs.Words.{Leaving, has_many, is_notice_entered_by, left_notice}
 
+-- who leaves, and the doors that there are
+pub record ExitPath : Type 0 where
+  pub who : Leaving
+  pub doors : List Door
+
 -- this item is notice n
 abbrev pub is_notice_item : ℕ → Item → Bool
 is_notice_item n (item.Notice m) = n == m

@@ -1,9 +1,9 @@
 //! The notices of a kernel, in the order in which they were made.
-ghost use Rattle.std.specs.Prelude.{◌≡◌, ◌+◌, ◌<◌, ◌≤◌, ◌++◌, ℕ, Bool, List, [], OnOk, find, get_or, length};
+ghost use Rattle.std.specs.Prelude.{◌≡◌, ◌+◌, ◌<◌, ◌≤◌, ◌++◌, List, [], OnOk, find, get_or, length};
 ghost use Rattle.kernel_records.specs.declared.record.Door.{Door};
 ghost use Rattle.kernel_records.specs.declared.record.Notice.{Notice};
-ghost use Rattle.kernel_records.specs.Words.{AnswersAs, Leaving, end_notice, enter_notice, give_notice, has_notice, is_given_notice_as, kept_notices, left_notices, make_notice};
-ghost use Rattle.unref_notice.specs.Left.{AreAllLeft, IsAllEntered, takes_many_in};
+ghost use Rattle.kernel_records.specs.Words.{AnswersAs, end_notice, enter_notice, give_notice, has_notice, is_given_notice_as, kept_notices, left_notices, make_notice};
+ghost use Rattle.unref_notice.specs.Left.{AreAllLeft, ExitPath, IsAllEntered, takes_many_in};
 ghost use Rattle.unref_notice.specs.declared.notices.TheConstants.{NOTICES_MAX};
 
 use crate::change::{end_at, enter_given, give_waiting, place_entered};
@@ -132,8 +132,12 @@ impl Notices {
     /// The notice that a thread has entered, which the item is that it serves, is over, and is forgotten where its door may have
     /// others, of which the test tells by the door's number. Where the thread has entered none, nothing changes.
     pub fn end<M: Fn(u32) -> bool>(&mut self, serves: Option<Item>, t: Tid, takes_many: M)
-        requires { M.IsAlwaysCallable takes_many }
-        ensures list { (doors : List Door) → AnswersAs (M.post takes_many) (takes_many_in doors) → IsAllEntered serves t.0 self.old.list.notices → kept_notices doors self.old.list ≡ self.old.list → self.new.list ≡ kept_notices doors (end_notice self.old.list t.0) }
+        ghost doors: { List Door }
+        requires many { M.IsAlwaysCallable takes_many }
+        requires many_as { AnswersAs (M.post takes_many) (takes_many_in doors) }
+        requires entered { IsAllEntered serves t.0 self.old.list.notices }
+        requires kept { kept_notices doors self.old.list ≡ self.old.list }
+        ensures list { self.new.list ≡ kept_notices doors (end_notice self.old.list t.0) }
         ensures spare { self.old.spare ≤ self.new.spare }
     {
         let Some(place) = place_entered(&self.notices, serves, t) else {
@@ -141,7 +145,7 @@ impl Notices {
         };
         let door = self.notices[place].door;
         if holds(&takes_many, door) {
-            let _ = self.notices.remove(place);
+            self.notices.remove(place);
             self.of_doors.take(door);
         } else {
             end_at(&mut self.notices, place);
@@ -159,10 +163,16 @@ impl Notices {
         loses: L,
         takes_many: M,
     )
+        ghost path: { ExitPath }
         requires ends { E.IsAlwaysCallable ends }
         requires loses { L.IsAlwaysCallable loses }
         requires many { M.IsAlwaysCallable takes_many }
-        ensures list { (who : Leaving) (doors : List Door) → AnswersAs (E.post ends) who.ends → AnswersAs (L.post loses) who.loses → AnswersAs (M.post takes_many) (takes_many_in doors) → AreAllLeft who (waiting.now ++ held.now) self.old.list.notices → kept_notices doors self.old.list ≡ self.old.list → self.new.list ≡ kept_notices doors (left_notices who self.old.list) }
+        requires ends_as { AnswersAs (E.post ends) path.who.ends }
+        requires loses_as { AnswersAs (L.post loses) path.who.loses }
+        requires many_as { AnswersAs (M.post takes_many) (takes_many_in path.doors) }
+        requires left { AreAllLeft path.who (waiting.now ++ held.now) self.old.list.notices }
+        requires kept { kept_notices path.doors self.old.list ≡ self.old.list }
+        ensures list { self.new.list ≡ kept_notices path.doors (left_notices path.who self.old.list) }
         ensures spare { self.old.spare ≤ self.new.spare }
     {
         leave_all(&mut self.notices, waiting, &ends, &loses);

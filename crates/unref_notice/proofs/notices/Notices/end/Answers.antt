@@ -13,11 +13,12 @@ use Rattle.kernel_records.proofs.Places.{changed_nowhere}
 use Rattle.unref_notice.proofs.notices.Notices.end.Goals as goal
 
 pub returns-in_default-clause-list : goal.returns-in_default-clause-list
-returns-in_default-clause-list g c doors m all still =
+returns-in_default-clause-list g c =
+    let doors = g.doors in
     let kept = is_kept_notice doors in
     let ns = c.self.inside.notices.items in
-    let before = kept_inside doors c.args.self.now.list ns (ap (λ (v : NoticesValue). v.list.notices) c.self.view_is) still in
-    let here = subst (λ (v : NoticesValue). IsAllEntered c.args.serves c.args.t.0 v.list.notices) (sym c.self.view_is) all in
+    let before = kept_inside doors c.args.self.now.list ns (ap (λ (v : NoticesValue). v.list.notices) c.self.view_is) c.requires.1.1.1.1 in
+    let here = subst (λ (v : NoticesValue). IsAllEntered c.args.serves c.args.t.0 v.list.notices) (sym c.self.view_is) c.requires.1.1.1.0 in
     rw (← c.self.view_is)
     (ap (λ (ms : List Notice). record { made = c.self.inside.made; notices = ms })
     (sym (ap (filter kept) (changed_nowhere (is_notice_entered_by c.args.t.0) (notice_at stage.Over) ns (sym (c.place_entered.ensures.place here) ∙ c.in_default.is)) ∙ before)))
@@ -47,25 +48,27 @@ invariant_of-self-else-holds g c =
     )
 
 pub returns-then-holds-clause-list : goal.returns-then-holds-clause-list
-returns-then-holds-clause-list g c doors m all still =
+returns-then-holds-clause-list g c =
+    let doors = g.doors in
     let kept = is_kept_notice doors in
     let ns = c.self.inside.notices.items in
-    let before = kept_inside doors c.args.self.now.list ns (ap (λ (v : NoticesValue). v.list.notices) c.self.view_is) still in
-    let here = subst (λ (v : NoticesValue). IsAllEntered c.args.serves c.args.t.0 v.list.notices) (sym c.self.view_is) all in
+    let before = kept_inside doors c.args.self.now.list ns (ap (λ (v : NoticesValue). v.list.notices) c.self.view_is) c.requires.1.1.1.1 in
+    let here = subst (λ (v : NoticesValue). IsAllEntered c.args.serves c.args.t.0 v.list.notices) (sym c.self.view_is) c.requires.1.1.1.0 in
     let left : c.remove.new.self.items ≡ remove ns c.in-Some.place = search rules in
-    let many = ap (λ (n : Notice). not (has_many (at_number doors n.door))) (sym c.index.ensures) ∙ ap not (sym (c.holds.ensures (takes_many_in doors) m) ∙ c.if-holds.true) in
+    let many = ap (λ (n : Notice). not (has_many (at_number doors n.door))) (sym c.index.ensures) ∙ ap not (sym (c.holds.ensures (takes_many_in doors) c.requires.1.1.0) ∙ c.if-holds.true) in
     rw (← c.self.view_is)
     (ap (λ (ms : List Notice). record { made = c.self.inside.made; notices = ms })
     (left
     ∙ removed_there kept (is_notice_entered_by c.args.t.0) (notice_at stage.Over) ns c.in-Some.place c.index.result.now before (sym (c.place_entered.ensures.place here) ∙ c.in-Some.is) many))
 
 pub returns-clause-list : goal.returns-clause-list
-returns-clause-list g c doors m all still =
+returns-clause-list g c =
+    let doors = g.doors in
     let kept = is_kept_notice doors in
     let ns = c.self.inside.notices.items in
-    let before = kept_inside doors c.args.self.now.list ns (ap (λ (v : NoticesValue). v.list.notices) c.self.view_is) still in
-    let here = subst (λ (v : NoticesValue). IsAllEntered c.args.serves c.args.t.0 v.list.notices) (sym c.self.view_is) all in
-    let one = ap (λ (n : Notice). not (has_many (at_number doors n.door))) (sym c.index.ensures) ∙ ap not (sym (c.holds.ensures (takes_many_in doors) m) ∙ c.if-holds.false) in
+    let before = kept_inside doors c.args.self.now.list ns (ap (λ (v : NoticesValue). v.list.notices) c.self.view_is) c.requires.1.1.1.1 in
+    let here = subst (λ (v : NoticesValue). IsAllEntered c.args.serves c.args.t.0 v.list.notices) (sym c.self.view_is) c.requires.1.1.1.0 in
+    let one = ap (λ (n : Notice). not (has_many (at_number doors n.door))) (sym c.index.ensures) ∙ ap not (sym (c.holds.ensures (takes_many_in doors) c.requires.1.1.0) ∙ c.if-holds.false) in
     rw (← c.self.view_is)
     (ap (λ (ms : List Notice). record { made = c.self.inside.made; notices = ms })
     (c.end_at.ensures.changed c.index.result.now

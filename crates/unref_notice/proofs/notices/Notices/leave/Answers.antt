@@ -23,8 +23,16 @@ invariant_of-self g c =
     )
 
 pub returns-clause-list : goal.returns-clause-list
-returns-clause-list g c who doors e l m all still =
+returns-clause-list g c =
     let s = c.self.inside in
+    let who = g.path.who in
+    let doors = g.path.doors in
+    let answers = c.requires.1.1.1.1.1.1 in
+    let e = answers.0 in
+    let l = answers.1.0 in
+    let m = answers.1.1.0 in
+    let all = answers.1.1.1.0 in
+    let still = answers.1.1.1.1 in
     let ns = s.notices.items in
     let kept = is_kept_notice doors in
     let is = c.args.waiting.now in
