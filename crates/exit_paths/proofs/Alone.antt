@@ -20,12 +20,12 @@ apart j k ne = go (j == k) refl
 equal : (k : ℕ) → (k == k) ≡ true
 equal k = grind (arith, nat_tests)
 
-none_low : (u n : ℕ) → n < u → numbers_where (λ k. (k == u) && true) n ≡ []
+pub none_low : (u n : ℕ) → n < u → numbers_where (λ k. (k == u) && true) n ≡ []
 none_low u zero l = refl
 none_low u (suc n) l =
     ap₂ (λ xs b. xs ++ (if b && true then suc n ∷ [] else [])) (none_low u n (omega arith)) (apart (suc n) u (λ e. omega (arith, e)))
 
-one_number : (u n : ℕ) → 0 < u → u ≤ n → numbers_where (λ k. (k == u) && true) n ≡ u ∷ []
+pub one_number : (u n : ℕ) → 0 < u → u ≤ n → numbers_where (λ k. (k == u) && true) n ≡ u ∷ []
 one_number u zero p l = absurd (omega arith)
 one_number u (suc n) p l = ⊎_elim here (λ m. before m (one_number u n p (omega arith))) (eq-or-lt_of_le l)
   where
@@ -45,7 +45,7 @@ none_above u zero l b = refl
 none_above u (suc n) l b =
     ap₂ (λ xs c. xs ++ (if c && b then suc n ∷ [] else [])) (none_above u n (omega arith) b) (apart (suc n) u (λ e. omega (arith, e)))
 
-none_zero : (n : ℕ) (b : Bool) → numbers_where (λ k. (k == 0) && b) n ≡ []
+pub none_zero : (n : ℕ) (b : Bool) → numbers_where (λ k. (k == 0) && b) n ≡ []
 none_zero zero b = refl
 none_zero (suc n) b = ap₂ (λ xs c. xs ++ (if c && b then suc n ∷ [] else [])) (none_zero n b) (apart (suc n) 0 (λ e. omega (arith, e)))
 

@@ -1,5 +1,7 @@
 -- An exit path as a whole: room is made, items leave their queues, threads meet their fates, and calls are left.
-use Rattle.std.proofs.Common.{◌≡◌, inl, ℕ, ◌<◌, ◌≤◌, ◌==◌, Bool, true, false, if◌then◌else◌, List, Option, None, Some, IfSome, option_map, is_some, length, slice_get, refl, sym, ap, ◌∙◌, subst, subst₂, arith}
+use Rattle.std.proofs.Common.{◌≡◌, ◌⊎◌, inl, inr, ℕ, ◌+◌, ◌<◌, ◌≤◌, ◌==◌, Bool, true, false, if◌then◌else◌, List, Option, None, Some, IfSome, option_map, is_some, count_by, length, slice_get, refl, sym, ap, ◌∙◌, subst, subst₂, arith}
+use Rattle.std.proofs.lemmas.List.{length-map}
+use Rattle.dk_base.specs.declared.limits.TheConstants.{THREADS_MAX}
 use Rattle.kernel_records.specs.Words.{CallTree, Leaving, NoticeList, ProcessTable, bound_at, change_thread, left_calls, left_notices, left_threads, kept_notices, live_calls, parked_at, process_in, thread_at, tid}
 use Rattle.written_kernel.specs.Types.{Door, Parked, Pool, Thread, Waiting}
 use Rattle.call_tree.specs.Words.{AreSound}
@@ -9,11 +11,13 @@ use Rattle.written_kernel.proofs.Places.{place_of}
 use Rattle.pool_agreement.proofs.Parked.{all_in}
 use Rattle.pool_agreement.proofs.Readers.{there_is}
 use Rattle.pool_agreement.proofs.Stacks.{own_pool_there}
-use Rattle.exit_paths.specs.Words.{AreTogether, CanExit, CanParkAgain, DropsTransit, HasExited, HasNoLessRoom, HaveLeft, HoldsSame, KeepsItems, Kept, TellsUntaken, became_idle, became_ready, own_pool_in, threads_where}
+use Rattle.exit_paths.specs.Words.{AreTogether, CanExit, CanParkAgain, DropsTransit, HasExited, HasNoLessRoom, HaveLeft, HoldsSame, IsUntaken, KeepsItems, Kept, TellsUntaken, became_idle, became_ready, own_pool_in, parks_in, threads_where}
 use Rattle.exit_paths.specs.declared.fates.Deserted.{Deserted}
 use Rattle.exit_paths.specs.declared.left.Left.{Left}
 use Rattle.exit_paths.proofs.Alike.{agrees_same}
 use Rattle.exit_paths.proofs.KeptTogether.{together_kept}
+use Rattle.exit_paths.proofs.LeftThreads.{process_kept}
+use Rattle.exit_paths.proofs.RoomLeft.{stack_left}
 use Rattle.exit_paths.proofs.OneLeaves.{at_changed}
 use Rattle.exit_paths.proofs.QueuesLeft.{GoAs, agrees_gone}
 
@@ -59,12 +63,27 @@ module _
     (threads : l.procs ≡ left_threads who now k.calls.tree.calls k.procs)
     (agreed : (tree : CallTree) (list : NoticeList) → Agrees now k.procs doors tree list q → Agrees now l.procs doors tree list l.pools)
     (keeps : KeepsItems q l.pools) (sound : AreSound k.calls.tree) (calls : l.calls.tree ≡ live_calls (left_calls who k.calls.tree)) (spare : k.calls.spare ≤ l.calls.spare) where
+  stacks_left :
+      (CanExit now doors k × (length k.procs.threads ≤ THREADS_MAX)) ⊎ ((pool : Pool) → stack_in l.pools pool ≡ stack_in k.pools pool) → (pool : Pool) →
+      length (stack_in l.pools pool) ≤ length (stack_in k.pools pool) + count_by (parks_in l.procs l.pools.bindings pool) (threads_where (became_idle k.procs l.procs))
+  stacks_left (inr stay) pool =
+      let a : length (stack_in l.pools pool) ≡ length (stack_in k.pools pool) = ap length (stay pool) in omega arith
+  stacks_left (inl may) pool =
+      let can = may.0 in
+      stack_left can.agreed
+      (agreed (live_calls (left_calls who k.calls.tree)) (kept_notices doors (left_notices who can.list)) (agrees_gone (agrees_same can.agreed same) left (goes can.list can.agreed)))
+      (λ t. ap (λ (x : ProcessTable). process_in (thread_at x t)) threads ∙ process_kept who now k.calls.tree.calls k.procs t)
+      (keeps.bindings ∙ left.bindings ∙ same.bindings)
+      (subst (λ (x : ProcessTable). length x.threads ≤ THREADS_MAX) (sym threads) (subst (λ n. n ≤ THREADS_MAX) (sym (length-map k.procs.threads _)) may.1)) pool
+
+  -- threads park, as pools agree, or stacks stay
   pub exited :
+      (CanExit now doors k × (length k.procs.threads ≤ THREADS_MAX)) ⊎ ((pool : Pool) → stack_in l.pools pool ≡ stack_in k.pools pool) →
       (told : Left) → DropsTransit k.calls.tree.calls l.calls.tree.calls told.dropped → told.parked ≡ threads_where (became_idle k.procs l.procs) →
       told.woken ≡ threads_where (became_ready k.calls.tree l.calls.tree) →
       ((list : NoticeList) → Agrees now k.procs doors k.calls.tree list k.pools → TellsUntaken who list.notices told.untaken) →
-      HasExited who now doors k l told
-  exited told dropped parked woken untaken =
+      IsUntaken who doors k.pools told.untaken → HasExited who now doors k l told
+  exited stacks told dropped parked woken untaken all_untaken =
       record {
         threads = threads;
         calls = calls;
@@ -78,9 +97,23 @@ module _
         parked = parked;
         woken = woken;
         untaken = untaken;
+        all_untaken = all_untaken;
         spare = spare;
         items = λ pool. let a = room.items pool in let b = left.items pool in let c = keeps.items pool in omega (arith, a, b, c);
+        door_room = let a = room.doors in let b = left.doors in let c = keeps.doors in omega (arith, a, b, c);
+        threads_room = λ pool. room_left pool (ap (count_by (parks_in l.procs l.pools.bindings pool)) parked);
       }
+    where
+      room_left :
+          (pool : Pool) → count_by (parks_in l.procs l.pools.bindings pool) told.parked ≡ count_by (parks_in l.procs l.pools.bindings pool) (threads_where (became_idle k.procs l.procs)) →
+          thread_room_in k.pools pool ≤ thread_room_in l.pools pool + count_by (parks_in l.procs l.pools.bindings pool) told.parked
+      room_left pool e =
+          let a : thread_room_in k.pools pool ≤ thread_room_in p pool = room.threads pool in
+          let b : thread_room_in q pool ≡ thread_room_in p pool = left.threads pool in
+          let c : length (stack_in q pool) ≡ length (stack_in k.pools pool) = ap length (left.stacks pool ∙ same.stacks pool) in
+          let d : thread_room_in q pool + length (stack_in q pool) ≤ thread_room_in l.pools pool + length (stack_in l.pools pool) = keeps.places pool in
+          let f : length (stack_in l.pools pool) ≤ length (stack_in k.pools pool) + count_by (parks_in l.procs l.pools.bindings pool) (threads_where (became_idle k.procs l.procs)) = stacks_left stacks pool in
+          omega arith
 
 -- the thread that a caller leaves can park again, with the threads as they are when it does
 

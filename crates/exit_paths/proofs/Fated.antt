@@ -1,18 +1,20 @@
 -- What becomes of one thread and of its pool, where callers leave and threads end.
-use Rattle.std.proofs.Common.{◌≡◌, ℕ, zero, suc, ◌+◌, ◌≤◌, ◌==◌, ◌&&◌, Bool, true, false, if◌then◌else◌, List, [], ◌∷◌, Option, Some, None, option_map, is_some, length, filter, slice_get, slice_set, refl, sym, ap, ◌∙◌, subst, le_refl, length-append, arith}
+use Rattle.std.proofs.Common.{◌≡◌, ℕ, zero, suc, ◌+◌, ◌≤◌, ◌==◌, ◌&&◌, Bool, true, false, if◌then◌else◌, List, [], ◌∷◌, Option, Some, None, option_map, is_some, length, filter, slice_get, slice_set, refl, sym, ap, ◌∙◌, subst, le_refl, le_trans, length-append, arith}
 use Rattle.std.specs.List.{AllByRecursion}
 use Rattle.dk_base.specs.ByNumber.{at_number, with_at_number}
+use Rattle.kernel_records.specs.declared.pool.Pool.TheVariants.{Common, Private}
 use Rattle.kernel_records.specs.declared.record.ThreadState.TheVariants as is
 use Rattle.kernel_records.specs.Words.{CallTree, NoticeList, ProcessTable, bound_at, cancelled_thread, change_thread, change_thread_in, end_thread, ended_thread, idle_thread, interrupted_state, interrupted_where, is_dormant, is_idle, is_pool, is_spare_of, park_thread, parked_in, pool_of_thread, process_in, thread_at, tid}
 use Rattle.written_kernel.specs.Types.{Door, Parked, Pool, Thread, ThreadState}
 use Rattle.kernel_records.proofs.Lists.{at_number-suc, with_at_number-suc}
-use Rattle.server_pool.specs.Words.{AllParkedBefore, ParkedBefore, PoolValue, PoolsValue, change_pool, is_another_thread, park_in, pool_at, pool_or_empty, stack_in, thread_room_in, unpark_in, without_thread, item_room_in}
+use Rattle.server_pool.specs.Words.{AllParkedBefore, ParkedBefore, PoolValue, PoolsValue, change_pool, change_spares, is_another_thread, park_in, pool_at, pool_or_empty, stack_in, thread_room_in, unpark_in, with_parked, without_thread, item_room_in}
 use Rattle.server_pool.proofs.Changed.{pool_changed, pool_kept}
 use Rattle.pool_agreement.specs.Words.{Agrees, pool_by}
 use Rattle.pool_agreement.proofs.Leaving.{read_change}
+use Rattle.pool_agreement.proofs.Readers.{bindings-change_pool}
 use Rattle.pool_agreement.proofs.Stacks.{state_changed, thread_there}
 use Rattle.pool_agreement.proofs.Unparking.{agrees_alike, agrees_park_after, change_twice}
-use Rattle.exit_paths.specs.Words.{own_pool_in}
+use Rattle.exit_paths.specs.Words.{KeepsItems, own_pool_in, places_in}
 
 -- the record of one thread
 
@@ -132,17 +134,66 @@ room_parked v pool y q = go (is_pool pool q) refl
     go true e = subst (λ (o : Option PoolValue). thread_room_in v q ≤ (pool_or_empty o).thread_room + 1) (sym (pool_changed v pool q (park_in y) e)) (there (pool_at v q))
     go false e = subst (λ (o : Option PoolValue). thread_room_in v q ≤ (pool_or_empty o).thread_room + 1) (sym (pool_kept v pool q (park_in y) e)) (omega arith)
 
--- which leaves the room for items
-pub items_parked : (v : PoolsValue) (pool : Pool) (y : Parked) (q : Pool) → item_room_in (change_pool v pool (park_in y)) q ≡ item_room_in v q
-items_parked v pool y q = go (is_pool pool q) refl
-  where
-    there : (o : Option PoolValue) → (pool_or_empty (option_map (park_in y) o)).item_room ≡ (pool_or_empty o).item_room
-    there None = refl
-    there (Some x) = refl
+-- places stay
 
-    go : (b : Bool) → is_pool pool q ≡ b → item_room_in (change_pool v pool (park_in y)) q ≡ item_room_in v q
-    go true e = ap (λ (o : Option PoolValue). (pool_or_empty o).item_room) (pool_changed v pool q (park_in y) e) ∙ there (pool_at v q)
-    go false e = ap (λ (o : Option PoolValue). (pool_or_empty o).item_room) (pool_kept v pool q (park_in y) e)
+module _ (v : PoolsValue) (pool : Pool) (threads : List Parked → List Parked) where
+  abbrev with_threads : PoolValue → PoolValue
+  with_threads x = with_parked (threads x.parked) x
+
+  places_kept : (q : Pool) → places_in v q ≤ places_in (change_pool v pool with_threads) q
+  places_kept q = go (is_pool pool q) refl
+    where
+      places : Option PoolValue → ℕ
+      places o = (pool_or_empty o).thread_room + length (pool_or_empty o).parked
+
+      there : (o : Option PoolValue) → places o ≤ places (option_map with_threads o)
+      there None = le_refl 0
+      there (Some x) = omega arith
+
+      go : (b : Bool) → is_pool pool q ≡ b → places_in v q ≤ places_in (change_pool v pool with_threads) q
+      go true e = subst (λ (o : Option PoolValue). places_in v q ≤ places o) (sym (pool_changed v pool q with_threads e)) (there (pool_at v q))
+      go false e = subst (λ (o : Option PoolValue). places_in v q ≤ places o) (sym (pool_kept v pool q with_threads e)) (le_refl (places_in v q))
+
+  doors_kept : (change_pool v pool with_threads).door_room ≡ v.door_room
+  doors_kept = go pool
+    where
+      go : (q : Pool) → (change_pool v q with_threads).door_room ≡ v.door_room
+      go (Common p) = refl
+      go (Private d) = refl
+
+  items_kept : (q : Pool) → item_room_in (change_pool v pool with_threads) q ≡ item_room_in v q
+  items_kept q = read_change (λ (x : PoolValue). x.item_room) (λ n. n) with_threads (λ x. refl) refl v pool q ∙ go (is_pool pool q)
+    where
+      go : (b : Bool) → (if b then item_room_in v q else item_room_in v q) ≡ item_room_in v q
+      go true = refl
+      go false = refl
+
+  pub keeps_threads : (w : PoolsValue) → w ≡ change_pool v pool with_threads → KeepsItems v w
+  keeps_threads w e =
+      subst (KeepsItems v) (sym e) (record { bindings = bindings-change_pool v pool with_threads; items = items_kept; places = places_kept; doors = doors_kept })
+
+pub keeps_self : (v : PoolsValue) → KeepsItems v v
+keeps_self v = record { bindings = refl; items = λ q. refl; places = λ q. le_refl (places_in v q); doors = refl }
+
+pub keeps_then : (u v w : PoolsValue) → KeepsItems u v → KeepsItems v w → KeepsItems u w
+keeps_then u v w h k =
+    record {
+      bindings = k.bindings ∙ h.bindings;
+      items = λ q. k.items q ∙ h.items q;
+      places = λ q. le_trans (h.places q) (k.places q);
+      doors = k.doors ∙ h.doors;
+    }
+
+pub keeps_spares : (v w : PoolsValue) (p : ℕ) (change : List ℕ → List ℕ) → w ≡ change_spares v p change → KeepsItems v w
+keeps_spares v w p change e = subst (KeepsItems v) (sym e) (record { bindings = refl; items = items; places = places; doors = refl })
+  where
+    items : (q : Pool) → item_room_in (change_spares v p change) q ≡ item_room_in v q
+    items (Common k) = refl
+    items (Private d) = refl
+
+    places : (q : Pool) → places_in v q ≤ places_in (change_spares v p change) q
+    places (Common k) = le_refl (places_in v (Common k))
+    places (Private d) = le_refl (places_in v (Private d))
 
 pub all_kept : {X : Type 0} (P : X → Type 0) (p : X → Bool) (xs : List X) → AllByRecursion P xs → AllByRecursion P (filter p xs)
 all_kept P p [] a = tt

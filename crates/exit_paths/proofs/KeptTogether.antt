@@ -325,9 +325,6 @@ module _ {table : ProcessTable} {tree : CallTree} (h : AreTogether table tree) (
       same : {a b : CallStage} → Some a ≡ Some b → a ≡ b
       same m = cc
 
-  number_of : (c : ℕ) (r : Call) → find (is_call c) tree.calls ≡ Some r → r.number ≡ c
-  number_of c r e = same_number r.number c (find-passes (is_call c) tree.calls r e)
-
   -- a call that is given to, or entered by, a thread is served by it
   served : (c u : ℕ) (r : Call) → find (is_call c) tree.calls ≡ Some r → is_to_collect r.stage ≡ false → (is_given_to u r.stage || is_entered_by u r.stage) ≡ true → find (is_served_by u) tree.calls ≡ Some r
   served c u r e p q = sound.server (is_call c) r u e (ap₂ (λ a b. a && b) (go r.abandoned refl) q)

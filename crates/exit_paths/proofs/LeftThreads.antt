@@ -70,15 +70,6 @@ pub record HasLeft (who : Leaving) (now : ℕ) (calls : List Call) (i : ℕ) (be
   pub left : (t : ℕ) → t ≤ i → thread_at after t ≡ option_map (left_thread_of who now calls) (thread_at before t)
   pub others : (t : ℕ) → i < t → thread_at after t ≡ thread_at before t
 
-pub none_left : (who : Leaving) (now : ℕ) (calls : List Call) (table : ProcessTable) → HasLeft who now calls 0 table table
-none_left who now calls table =
-    record {
-      processes = refl;
-      number = refl;
-      left = λ t l. let none : t ≡ 0 = omega arith in subst (λ k. thread_at table k ≡ option_map (left_thread_of who now calls) (thread_at table k)) (sym none) refl;
-      others = λ t l. refl;
-    }
-
 pub or_later : (m n : ℕ) → (m ≤ n) ⊎ (n < m)
 or_later m zero = go m
   where
@@ -203,13 +194,17 @@ fate_now {now} {calls} {i} {before} {after} doors who h f t fate x e =
     ap (λ l. left_thread_of l now calls x) (sym (leaving_same after before doors who (same_process h))) ∙ fate x e
 
 -- and after all of them
-pub leaving_after :
-    (table : ProcessTable) (doors : List Door) (who : Leaver) (l : Leaving) (now : ℕ) (calls : List Call) →
-    leaving_of (left_threads l now calls table) doors who ≡ leaving_of table doors who
-leaving_after table doors who l now calls =
-    leaving_same (left_threads l now calls table) table doors who
-    (λ u. ap process_in (at_number-map (left_thread_of l now calls) table.threads u) ∙ go (thread_at table u))
+
+pub process_kept :
+    (l : Leaving) (now : ℕ) (calls : List Call) (table : ProcessTable) (t : ℕ) → process_in (thread_at (left_threads l now calls table) t) ≡ process_in (thread_at table t)
+process_kept l now calls table t = ap process_in (at_number-map (left_thread_of l now calls) table.threads t) ∙ go (thread_at table t)
   where
     go : (o : Option Thread) → process_in (option_map (left_thread_of l now calls) o) ≡ process_in o
     go None = refl
     go (Some x) = left_process l now calls x
+
+pub leaving_after :
+    (table : ProcessTable) (doors : List Door) (who : Leaver) (l : Leaving) (now : ℕ) (calls : List Call) →
+    leaving_of (left_threads l now calls table) doors who ≡ leaving_of table doors who
+leaving_after table doors who l now calls =
+    leaving_same (left_threads l now calls table) table doors who (process_kept l now calls table)

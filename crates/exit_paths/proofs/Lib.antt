@@ -1,7 +1,7 @@
-mod Alike
+pub mod Alike
 mod Fated
-mod LeftThreads
-mod MadeRoom
+pub mod LeftThreads
+pub mod MadeRoom
 mod ItemsLeft
 mod Noted
 mod Transit
@@ -13,7 +13,9 @@ mod DoorsLost
 mod Untaken
 mod Unmoved
 mod Alone
+mod RoomLeft
 mod OneLeaves
 mod KeptTogether
+pub mod Together
 pub mod First
 pub mod Owned

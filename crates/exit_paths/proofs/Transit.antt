@@ -18,7 +18,7 @@ use Rattle.written_kernel.specs.Types.{Call, CallStage, Obj}
 use Rattle.written_kernel.specs.Words.{objects_in_call, objects_in_transit}
 use Rattle.exit_paths.specs.Words.{DropsTransit, transit}
 
-count_append : (p : Obj → Bool) (xs ys : List Obj) → count_by p (xs ++ ys) ≡ count_by p xs + count_by p ys
+pub count_append : {X : Type 0} (p : X → Bool) (xs ys : List X) → count_by p (xs ++ ys) ≡ count_by p xs + count_by p ys
 count_append p xs ys = sum_by-append _ xs ys
 
 -- however objects are counted

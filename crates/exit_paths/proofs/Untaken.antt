@@ -1,5 +1,5 @@
 -- What waited at doors that are lost, as it is told: a notice is among it exactly where it waited at one of them.
-use Rattle.std.proofs.Common.{◌≡◌, ℕ, zero, suc, ◌<◌, ◌≤◌, ◌==◌, ◌&&◌, ◌||◌, not, Bool, true, false, if◌then◌else◌, List, [], ◌∷◌, Some, filter, map, slice_get, refl, sym, ap, ap₂, ◌∙◌, subst, arith}
+use Rattle.std.proofs.Common.{◌≡◌, ℕ, zero, suc, ◌<◌, ◌≤◌, ◌==◌, ◌&&◌, ◌||◌, not, Bool, true, false, if◌then◌else◌, List, [], ◌∷◌, ◌++◌, Some, filter, map, slice_get, refl, sym, ap, ap₂, ◌∙◌, subst, arith}
 use Rattle.std.specs.List.{AllByRecursion, list_any}
 use Rattle.std.proofs.lemmas.Bool.Decides.{nat_tests}
 use Rattle.std.proofs.lemmas.List.Folds.{list_any-append}
@@ -11,7 +11,7 @@ use Rattle.written_kernel.proofs.Giving.{same_pool}
 use Rattle.server_pool.specs.Words.{PoolsValue, change_pool, drop_door_in, is_call, is_item, is_waiting_at, items_at, queue_in}
 use Rattle.pool_agreement.specs.Words.{Agrees, is_notice_waiting, is_waiting_notice_in}
 use Rattle.pool_agreement.proofs.Readers.{is_pool-self, same_number}
-use Rattle.exit_paths.specs.Words.{AreLost, HoldsSame, TellsUntaken, dropped_items, kept_where, pool_of_number}
+use Rattle.exit_paths.specs.Words.{AreLost, HoldsSame, IsUntaken, TellsUntaken, dropped_items, kept_where, pool_of_number}
 use Rattle.exit_paths.proofs.CallersLeft.{or_false}
 use Rattle.exit_paths.proofs.DoorsLost.{notice_listed}
 use Rattle.exit_paths.proofs.ItemsLeft.{left_pool}
@@ -216,3 +216,31 @@ lost_alone d v = λ q. go (queue_in v q)
     go : (ws : List Waiting) → AllByRecursion (λ w. list_any (λ e. is_waiting_at e w) (d ∷ []) ≡ (w.door == d)) ws
     go [] = tt
     go (w ∷ ws) = (or_false (w.door == d), go ws)
+
+-- all of it
+
+-- from pools with the same queues the same is dropped
+dropped_same : (doors : List Door) (ds : List ℕ) (v w : PoolsValue) → ((q : Pool) → queue_in w q ≡ queue_in v q) → dropped_items doors ds w ≡ dropped_items doors ds v
+dropped_same doors [] v w same = refl
+dropped_same doors (d ∷ ds) v w same =
+    ap₂ (λ xs ys. items_at d xs ++ ys) (same pool)
+    (dropped_same doors ds (change_pool v pool (drop_door_in d)) (change_pool w pool (drop_door_in d))
+    (λ q.
+    (left_pool w pool (is_waiting_at d)).queues q ∙ ap (filter (kept_where (λ x. is_pool pool q && is_waiting_at d x))) (same q)
+    ∙ sym ((left_pool v pool (is_waiting_at d)).queues q)))
+  where
+    pool : Pool
+    pool = pool_of_number doors d
+
+pub untaken_there :
+    {who : Leaving} (lost : List ℕ) (doors : List Door) {v w : PoolsValue} → HoldsSame v w → AreLost who lost v → (untaken : List Item) →
+    untaken ≡ dropped_items doors lost w → IsUntaken who doors v untaken
+untaken_there lost doors {v} {w} same listed untaken is = record { lost = lost; those = listed; told = is ∙ dropped_same doors lost v w same.queues }
+
+-- no door is lost
+pub none_untaken : (who : Leaving) (doors : List Door) (v : PoolsValue) → ((d : ℕ) → who.loses d ≡ false) → (untaken : List Item) → untaken ≡ [] → IsUntaken who doors v untaken
+none_untaken who doors v none untaken is = record { lost = []; those = λ q. go (queue_in v q); told = is }
+  where
+    go : (ws : List Waiting) → AllByRecursion (λ w. false ≡ who.loses w.door) ws
+    go [] = tt
+    go (w ∷ ws) = (sym (none w.door), go ws)

@@ -1,17 +1,18 @@
 -- What an exit path leaves of processes, calls and pools, where callers are interrupted, threads end and doors are lost; what it needs;
 -- and what it tells.
-use Rattle.std.specs.Prelude.{ℕ, ◌≡◌, ◌+◌, ◌<◌, ◌≤◌, ◌&&◌, Bool, not, List, Some, count_by, find, flat_map, is_some, length, map, slice_get}
+use Rattle.std.specs.Prelude.{ℕ, ◌≡◌, ◌+◌, ◌<◌, ◌≤◌, ◌&&◌, Bool, not, List, Option, Some, count_by, find, flat_map, is_some, length, map, slice_get}
 use Rattle.std.specs.List.{AllByRecursion, list_any}
 use Rattle.dk_base.specs.declared.number.Tid.{Tid}
 use Rattle.dk_base.specs.declared.limits.TheConstants.{THREADS_MAX}
 use Rattle.dk_base.specs.declared.object.Item.TheVariants as item
-use Rattle.kernel_records.specs.Words.{CallTree, Leaving, NoticeList, ProcessTable, is_idle, is_waiting_stage, kept_notices, left_calls, left_notices, left_threads, live_calls, numbers_where, parked_at, state_in, thread_at, tid}
+use Rattle.kernel_records.specs.Words.{CallTree, Leaving, NoticeList, ProcessTable, is_idle, is_pool, is_waiting_stage, kept_notices, left_calls, left_notices, left_threads, live_calls, numbers_where, parked_at, state_in, thread_at, tid}
 use Rattle.written_kernel.specs.Types.{Call, Door, Item, Notice, Obj, Parked, Pool}
 use Rattle.written_kernel.specs.Words.{objects_in_call}
-use Rattle.server_pool.specs.Words.{PoolsValue, is_item, is_waiting_at, item_room_in, queue_in}
+use Rattle.server_pool.specs.Words.{PoolsValue, is_item, is_waiting_at, item_room_in, queue_in, thread_room_in}
 use Rattle.call_tree.specs.Words.{CallsValue, is_ready_of}
 use Rattle.pool_agreement.specs.Words.{Agrees, HasPlaces}
-use Rattle.exit_paths.specs.Pools.{HasNoLessRoom, HoldsSame}
+use Rattle.exit_paths.specs.Pools.{HasNoLessRoom, HoldsSame, own_pool_in}
+use Rattle.exit_paths.specs.Queues.{dropped_items}
 use Rattle.exit_paths.specs.Together.{AreTogether}
 use Rattle.exit_paths.specs.declared.left.Left.{Left}
 
@@ -49,6 +50,10 @@ is_idle_at table t = is_idle (state_in (thread_at table t))
 abbrev pub became_idle : ProcessTable → ProcessTable → ℕ → Bool
 became_idle before after t = not (is_idle_at before t) && is_idle_at after t
 
+-- whether a thread's pool is this one
+abbrev pub parks_in : ProcessTable → List (Option ℕ) → Pool → Tid → Bool
+parks_in table bindings pool t = is_pool pool (own_pool_in table bindings t.0)
+
 -- a thread's call was returned or has ended
 abbrev pub has_ready : CallTree → ℕ → Bool
 has_ready tree t = is_some (find (is_ready_of t) tree.calls)
@@ -56,11 +61,22 @@ has_ready tree t = is_some (find (is_ready_of t) tree.calls)
 abbrev pub became_ready : CallTree → CallTree → ℕ → Bool
 became_ready before after t = not (has_ready before t) && has_ready after t
 
--- the notices that waited at a door that is lost
+-- what waits in any pool is at a door that is lost exactly where the door is listed
+abbrev pub AreLost : Leaving → List ℕ → PoolsValue → Type 0
+AreLost who lost pools = (pool : Pool) → AllByRecursion (λ w. list_any (λ d. is_waiting_at d w) lost ≡ who.loses w.door) (queue_in pools pool)
+
+-- by their records, those notices are told that waited at a door that is lost
 abbrev pub TellsUntaken : Leaving → List Notice → List Item → Type 0
 TellsUntaken who notices untaken =
     (i : ℕ) (n : Notice) → slice_get notices i ≡ Some n →
     list_any (is_item (item.Notice n.number)) untaken ≡ (is_waiting_stage n.stage && who.loses n.door)
+
+-- All that waited at a door that is lost, each once, in the order in which it left its queue: door after door, and of one door the
+-- oldest first. Where no door is lost that is nothing.
+pub record IsUntaken (who : Leaving) (doors : List Door) (pools : PoolsValue) (untaken : List Item) : Type 0 where
+  pub lost : List ℕ
+  pub those : AreLost who lost pools
+  pub told : untaken ≡ dropped_items doors lost pools
 
 -- want of memory: all is as before, in whatever room
 pub record IsAsBefore (before after : Kept) : Type 0 where
@@ -85,10 +101,11 @@ pub record HasExited (who : Leaving) (now : ℕ) (doors : List Door) (before aft
   pub woken : left.woken ≡ threads_where (became_ready before.calls.tree after.calls.tree)
   pub untaken :
       (list : NoticeList) → Agrees now before.procs doors before.calls.tree list before.pools → TellsUntaken who list.notices left.untaken
+  pub all_untaken : IsUntaken who doors before.pools left.untaken
   -- room
   pub spare : before.calls.spare ≤ after.calls.spare
   pub items : (pool : Pool) → item_room_in before.pools pool ≤ item_room_in after.pools pool
-
--- what waits in any pool is at a door that is lost exactly where the door is listed
-abbrev pub AreLost : Leaving → List ℕ → PoolsValue → Type 0
-AreLost who lost pools = (pool : Pool) → AllByRecursion (λ w. list_any (λ d. is_waiting_at d w) lost ≡ who.loses w.door) (queue_in pools pool)
+  pub door_room : before.pools.door_room ≤ after.pools.door_room
+  -- a thread that became Idle has taken one place in its own pool, and none else has
+  pub threads_room :
+      (pool : Pool) → thread_room_in before.pools pool ≤ thread_room_in after.pools pool + count_by (parks_in after.procs after.pools.bindings pool) left.parked

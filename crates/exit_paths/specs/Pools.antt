@@ -1,5 +1,5 @@
 -- What becomes of pools where threads park and end, and where waiting items leave.
-use Rattle.std.specs.Prelude.{ℕ, ◌≡◌, ◌<◌, ◌≤◌, Bool, true, List, Option, filter, is_some, length, not}
+use Rattle.std.specs.Prelude.{ℕ, ◌≡◌, ◌+◌, ◌<◌, ◌≤◌, Bool, true, List, Option, filter, is_some, length, not}
 use Rattle.kernel_records.specs.Words.{ProcessTable, bound_at, process_in, thread_at, tid}
 use Rattle.written_kernel.specs.Types.{Pool, Waiting}
 use Rattle.server_pool.specs.Words.{AllParkedBefore, PoolsValue, item_room_in, pool_at, queue_in, spares_of, stack_in, thread_room_in}
@@ -17,10 +17,16 @@ pub record CanParkAgain (table : ProcessTable) (pools : PoolsValue) (t now : ℕ
       AllParkedBefore (stack_in pools (own_pool_in table pools.bindings t))
       (record { thread = tid t; pool = own_pool_in table pools.bindings t; since = now })
 
--- no binding changes, and no item comes or goes
+-- the places for threads in a pool, taken and free
+abbrev pub places_in : PoolsValue → Pool → ℕ
+places_in pools pool = thread_room_in pools pool + length (stack_in pools pool)
+
+-- no binding changes, no item comes or goes, and a thread takes a free place or leaves one
 pub record KeepsItems (v w : PoolsValue) : Type 0 where
   pub bindings : w.bindings ≡ v.bindings
   pub items : (pool : Pool) → item_room_in w pool ≡ item_room_in v pool
+  pub places : (pool : Pool) → places_in v pool ≤ places_in w pool
+  pub doors : w.door_room ≡ v.door_room
 
 -- the pools hold the same, in whatever room
 pub record HoldsSame (v w : PoolsValue) : Type 0 where

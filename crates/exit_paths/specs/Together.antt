@@ -37,6 +37,7 @@ serves_in table t = invocation_in (thread_at table t)
 
 -- Who waits for which call, and who serves which: a call is given to, or entered by, the thread that says so; a thread is Calling the live
 -- call that is its own; threads outside of calls have no invocation, and a call is later than the one that its caller serves.
+-- So it is in what a kernel keeps of each written state of which the invariant holds (`kept_together` in proofs/Together.antt).
 pub record AreTogether (table : ProcessTable) (tree : CallTree) : Type 0 where
   pub waits : AreWaits (role_of table) (call_of tree)
   pub invocations : AreInvocations (serves_in table) (call_of tree)

@@ -1,15 +1,15 @@
 //! What becomes of calls, one after the other, and what leaves transit with them.
-ghost use Rattle.std.specs.Prelude.{◌≡◌, ℕ, ◌+◌, ◌≤◌, ◌++◌, ◌==◌, ◌&&◌, [], Bool, List, IfOk, IsSome, find, flat_map, false, if◌then◌else◌, length, true};
+ghost use Rattle.std.specs.Prelude.{◌≡◌, ℕ, ◌+◌, ◌≤◌, ◌==◌, ◌&&◌, [], Bool, List, IfOk, IsSome, find, false, if◌then◌else◌, length};
 ghost use Rattle.dk_base.specs.declared.error.Errno.TheVariants.{EBADF};
 ghost use Rattle.dk_base.specs.declared.limits.TheConstants.{THREADS_MAX};
-ghost use Rattle.kernel_records.specs.Words.{CallTree, Leaving, ProcessTable, is_queued_as, leaving_of, left_calls, live_calls};
-ghost use Rattle.written_kernel.specs.Types.{Call, Door, Obj};
+ghost use Rattle.kernel_records.specs.Words.{CallTree, ProcessTable, is_queued_as, leaving_of};
+ghost use Rattle.written_kernel.specs.Types.{Call, Obj};
 ghost use Rattle.written_kernel.specs.Words.{objects_in_call};
-ghost use Rattle.call_tree.specs.Words.{AreSound, abandon_call, calls_so_far, dropped_objects, is_called_by, lose_server, refuse_call};
-ghost use Rattle.call_tree.specs.declared.parts.Leave.TheVariants.{Finished, Interrupted};
+ghost use Rattle.call_tree.specs.Words.{AreSound, abandon_call, calls_so_far, is_called_by, lose_server, refuse_call};
+ghost use Rattle.call_tree.specs.declared.parts.Leave.TheVariants.{Finished};
 ghost use Rattle.exit_paths.specs.Words.{AreRefused, DropsTransit, HaveEnded, all_left, in_transit, is_thread_of, refused_caller};
 
-use crate::fates::loses;
+use crate::who_leaves::loses;
 use call_tree::calls::Calls;
 use call_tree::laws::parts_of_leaving;
 use call_tree::parts::Leave;

@@ -6,8 +6,8 @@ ghost use Rattle.exit_paths.specs.Words.{AreLost, CanExit, HasExited, IsAsBefore
 
 use crate::calls::{end_all, end_caller, end_server, leave_call, refuse_lost, room_for_transit};
 use crate::fates::{
-    desert_server, deserted_by, end_thread, leave_threads, make_room, parked_of, room_for_server,
-    woken_of,
+    are_few, desert_server, deserted_by, end_thread, leave_threads, make_room, parked_of,
+    room_for_server, woken_of,
 };
 use crate::left::Left;
 use crate::marks::{
@@ -44,6 +44,7 @@ pub fn interrupt(
     ensures as_before { OnErr result (IsAsBefore (record { procs = procs.old; calls = calls.old; pools = pools.old }) (record { procs = procs.new; calls = calls.new; pools = pools.new })) }
 {
     calls.are_sound();
+    are_few(procs);
     parts_of_leaving();
     let deserted = deserted_by(calls, t);
     room_for_server(pools, procs, deserted)?;
@@ -82,6 +83,7 @@ pub fn thread_exit(
     ensures as_before { OnErr result (IsAsBefore (record { procs = procs.old; calls = calls.old; pools = pools.old }) (record { procs = procs.new; calls = calls.new; pools = pools.new })) }
 {
     calls.are_sound();
+    are_few(procs);
     parts_of_leaving();
     let deserted = deserted_by(calls, t);
     room_for_server(pools, procs, deserted)?;
@@ -127,6 +129,7 @@ pub fn proc_exit(
     ensures as_before { OnErr result (IsAsBefore (record { procs = procs.old; calls = calls.old; pools = pools.old }) (record { procs = procs.new; calls = calls.new; pools = pools.new })) }
 {
     calls.are_sound();
+    are_few(procs);
     parts_of_leaving();
     make_room(pools, procs)?;
     let parked = room_for_all(alloc)?;

@@ -1,66 +1,21 @@
 //! What becomes of threads and of their pools where callers are interrupted, threads end and doors are lost.
 ghost use Rattle.std.specs.Prelude.{◌≡◌, ℕ, ◌+◌, ◌<◌, ◌≤◌, List, IfSome, OnOk, true, find, is_some, length};
-ghost use Rattle.dk_base.specs.ByNumber.{at_number};
-ghost use Rattle.kernel_records.specs.Words.{CallTree, NoticeList, ProcessTable, change_thread, deserted_in, end_thread, interrupted_where, is_owned_by, is_served_by, leaving_of, left_thread_of, left_threads, parked_at, park_thread, thread_at};
+ghost use Rattle.dk_base.specs.declared.limits.TheConstants.{THREADS_MAX};
+ghost use Rattle.kernel_records.specs.Words.{CallTree, NoticeList, change_thread, deserted_in, end_thread, interrupted_where, is_served_by, leaving_of, left_thread_of, left_threads, parked_at, park_thread, thread_at};
 ghost use Rattle.written_kernel.specs.Types.{Door, Parked, Pool, Thread};
 ghost use Rattle.server_pool.specs.Words.{AllParkedBefore, pool_at, stack_in, thread_room_in};
 ghost use Rattle.call_tree.specs.Words.{caller_among, is_called_by};
 ghost use Rattle.pool_agreement.specs.Words.{Agrees, AgreesSomehow};
 ghost use Rattle.exit_paths.specs.Words.{CanParkAgain, HasNoLessRoom, HoldsSame, KeepsItems, deserted_as, deserted_in_call, fated, own_pool_in, parked_of, with_deserted, woken_of};
 
+use crate::who_leaves::{ends, interrupts, own_pool};
 use call_tree::calls::Calls;
 use dk_base::error::NoMemory;
-use dk_base::number::{Pid, Tid};
-use door_object::doors::Doors;
+use dk_base::number::Tid;
 use kernel_records::leaving::Leaver;
-use kernel_records::pool::Pool;
 use kernel_records::record::{CallStage, ThreadState};
 use proc_table::procs::Procs;
 use server_pool::pools::Pools;
-
-// who leaves
-
-/// Whether a thread ends.
-pub fn ends(who: Leaver, processes: &Procs, t: Tid) -> bool
-    ensures { (doors : List Door) → result ≡ (leaving_of processes.now doors who).ends t.0 }
-{
-    match who {
-        Leaver::Ended { thread } => t.0 == thread.0,
-        Leaver::EndedProcess { process } => processes.process_of(t).0 == process.0,
-        _ => false,
-    }
-}
-
-/// Whether the call of a thread is interrupted, and its wait for events.
-pub fn interrupts(who: Leaver, t: Tid) -> bool
-    ensures { (table : ProcessTable) (doors : List Door) → result ≡ (leaving_of table doors who).interrupts t.0 }
-{
-    match who {
-        Leaver::Interrupted { thread } => t.0 == thread.0,
-        _ => false,
-    }
-}
-
-/// Whether a process made a door.
-fn is_owned(doors: &Doors, d: u32, p: Pid) -> bool
-    ensures { result ≡ is_owned_by p.0 (at_number doors.now.items d) }
-{
-    match doors.door(d) {
-        Some(door) => door.owner.0 == p.0,
-        None => false,
-    }
-}
-
-/// Whether a door becomes invalid.
-pub fn loses(who: Leaver, doors: &Doors, d: u32) -> bool
-    ensures { (table : ProcessTable) → result ≡ (leaving_of table doors.now.items who).loses d }
-{
-    match who {
-        Leaver::EndedProcess { process } => is_owned(doors, d, process),
-        Leaver::Revoked { door } => d == door,
-        _ => false,
-    }
-}
 
 // threads
 
@@ -109,16 +64,6 @@ fn fate_of(who: Leaver, processes: &Procs, calls: &Calls, t: Tid) -> Fate
         ends: ends(who, processes, t),
         interrupted: interrupts(who, t),
         desertion: desertion_of(who, processes, calls, t),
-    }
-}
-
-/// The pool in which a thread parks.
-pub fn own_pool(processes: &Procs, pools: &Pools, t: Tid) -> Pool
-    ensures { result ≡ own_pool_in processes.now pools.now.bindings t.0 }
-{
-    match pools.bound(t) {
-        Some(door) => Pool::Private(door),
-        None => Pool::Common(processes.process_of(t)),
     }
 }
 
@@ -266,6 +211,13 @@ pub fn woken_of(calls: &Calls, t: Tid) -> Tid
         Some(client) => client,
         None => t,
     }
+}
+
+/// There are no more threads than there may be.
+pub fn are_few(processes: &Procs)
+    ensures { length processes.now.threads ≤ THREADS_MAX }
+{
+    processes.thread_count();
 }
 
 /// Whether a thread is there.

@@ -8,3 +8,4 @@ mod fates;
 pub mod left;
 mod marks;
 mod queues;
+pub mod who_leaves;

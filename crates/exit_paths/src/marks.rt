@@ -3,7 +3,7 @@ ghost use Rattle.std.specs.Prelude.{◌≡◌, ℕ, ◌+◌, ◌<◌, ◌≤◌,
 ghost use Rattle.dk_base.specs.declared.limits.TheConstants.{THREADS_MAX};
 ghost use Rattle.kernel_records.specs.Words.{is_idle, tid};
 ghost use Rattle.exit_paths.specs.Exits.{has_ready, is_idle_at, threads_where};
-ghost use Rattle.exit_paths.specs.Marks.{AreMarks, is_marked};
+ghost use Rattle.exit_paths.specs.Marks.{AreMarks};
 
 use call_tree::calls::Calls;
 use dk_base::error::NoMemory;

@@ -1,4 +1,4 @@
-use Rattle.std.proofs.Common.{◌≡◌, ◌==◌, ◌&&◌, true, false, not, refl, ap, ap₂, ◌∙◌, subst}
+use Rattle.std.proofs.Common.{inl, ◌≡◌, ◌==◌, ◌&&◌, true, false, not, refl, ap, ap₂, ◌∙◌, subst}
 use Rattle.std.specs.List.{list_any}
 use Rattle.dk_base.specs.declared.object.Item.TheVariants as item
 use Rattle.kernel_records.specs.Words.{ProcessTable, change_thread, interrupted_thread, interruption, is_waiting_stage}
@@ -8,6 +8,7 @@ use Rattle.exit_paths.proofs.CallersLeft.{and_false, caller_goes, interrupted_ca
 use Rattle.exit_paths.proofs.Exited.{exited, server_parks, server_parks_changed}
 use Rattle.exit_paths.proofs.Fated.{agrees_interrupted}
 use Rattle.exit_paths.proofs.OneLeaves.{interrupt_parks, interrupt_readies, interrupted_threads, told_one}
+use Rattle.exit_paths.proofs.Untaken.{none_untaken}
 use Rattle.exit_paths.proofs.exits.interrupt.Goals as goal
 
 pub desert_server-requires : goal.desert_server-requires
@@ -37,6 +38,7 @@ returns-clause-left c =
     (λ tree list h. c.desert_server.ensures.agreed doors tree list (rw c.interrupt.ensures (agrees_interrupted h t true))) c.desert_server.ensures.keeps
     c.are_sound.ensures
     calls c.leave_call-dropped.ensures.spare
+    (inl (c.requires, c.are_few.ensures))
     (record { dropped = c.leave_call-dropped.result; parked = c.list_one.result; woken = c.list_one-2.result; untaken = c.new.result })
     c.leave_call-dropped.ensures.dropped
     (c.list_one.ensures
@@ -50,3 +52,4 @@ returns-clause-left c =
     (c.has_turned-wakes.ensures ∙ ap₂ (λ a b. not a && b) c.ready-was_ready.ensures c.ready.ensures)
     (λ k e. ap (λ x. became_ready tree x k) calls ∙ interrupt_readies c.are_sound.ensures t k e))
     (λ list h i n e. ap (list_any (is_item (item.Notice n.number))) c.new.ensures ∙ and_false (is_waiting_stage n.stage))
+    (none_untaken (interruption t) doors c.args.pools.now (λ d. refl) c.new.result c.new.ensures)

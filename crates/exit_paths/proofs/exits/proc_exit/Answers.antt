@@ -1,9 +1,9 @@
-use Rattle.std.proofs.Common.{◌++◌, length, sym, ap, ◌∙◌, subst, le_trans}
+use Rattle.std.proofs.Common.{inl, ◌≡◌, ◌++◌, length, sym, ap, ◌∙◌, subst, le_trans}
 use Rattle.kernel_records.specs.Words.{Leaving, ProcessTable, process_end}
 use Rattle.kernel_records.specs.declared.leaving.Leaver.TheVariants.{EndedProcess}
 use Rattle.exit_paths.specs.Words.{DropsTransit, dropped_items, has_ready, is_idle_at, is_thread_of}
 use Rattle.exit_paths.proofs.Alike.{agrees_same}
-use Rattle.exit_paths.proofs.Untaken.{lost_same, tells_dropped}
+use Rattle.exit_paths.proofs.Untaken.{lost_same, tells_dropped, untaken_there}
 use Rattle.exit_paths.proofs.DoorsLost.{process_calls, process_goes}
 use Rattle.exit_paths.proofs.Exited.{exited, room_there, somehow}
 use Rattle.exit_paths.proofs.ItemsLeft.{left_then}
@@ -32,6 +32,8 @@ returns-clause-left c =
     let parts = c.parts_of_leaving.ensures tree c.are_sound.ensures in
     let refused = c.refuse_lost.ensures.tree table in
     let who = EndedProcess c.args.p in
+    let told : c.into_list-2.result ≡ dropped_items doors c.args.lost.now c.make_room.new.pools =
+    c.into_list-2.ensures ∙ c.drop_doors.ensures.told ∙ ap (λ xs. xs ++ dropped_items doors c.args.lost.now c.make_room.new.pools) c.in_ok-untaken.ensures.empty in
     exited c.make_room.ensures.same c.make_room.ensures.kept (left_then c.drop_doors.ensures.left c.withdraw_all.ensures)
     (λ list h. process_goes h c.are_sound.ensures p c.args.lost.now c.requires.declared c.requires.lost)
     (c.leave_threads.ensures.threads doors) (λ tree list h. c.leave_threads.ensures.agreed doors tree list h) c.leave_threads.ensures.keeps
@@ -42,6 +44,7 @@ returns-clause-left c =
     (ap (λ (x : ProcessTable). length x.threads) (c.leave_threads.ensures.threads doors) ∙ length-map table.threads _) refused
     (c.end_all.ensures.tree tree refused.refused c.are_sound.ensures refused.so_far))
     (le_trans c.refuse_lost.ensures.spare c.end_all.ensures.spare)
+    (inl (c.requires.can, c.are_few.ensures))
     (record { dropped = c.into_list.result; parked = c.list_new.result; woken = c.list_new-2.result; untaken = c.into_list-2.result })
     (subst (DropsTransit tree.calls c.end_all.new.calls.tree.calls) (sym c.into_list.ensures)
     (c.end_all.ensures.dropped tree.calls
@@ -50,5 +53,5 @@ returns-clause-left c =
     (c.list_new-2.ensures (has_ready tree) (has_ready c.end_all.new.calls.tree) c.note_ready-was_ready.ensures c.note_ready.ensures)
     (λ list h.
     tells_dropped (agrees_same h c.make_room.ensures.same) (process_end table doors p) c.args.lost.now
-    (lost_same (process_end table doors p) c.args.lost.now c.make_room.ensures.same c.requires.lost) c.into_list-2.result
-    (c.into_list-2.ensures ∙ c.drop_doors.ensures.told ∙ ap (λ xs. xs ++ dropped_items doors c.args.lost.now c.make_room.new.pools) c.in_ok-untaken.ensures.empty))
+    (lost_same (process_end table doors p) c.args.lost.now c.make_room.ensures.same c.requires.lost) c.into_list-2.result told)
+    (untaken_there c.args.lost.now doors c.make_room.ensures.same c.requires.lost c.into_list-2.result told)

@@ -1,4 +1,4 @@
-use Rattle.std.proofs.Common.{◌≡◌, ◌==◌, ◌&&◌, false, not, refl, sym, ap, ap₂, ◌∙◌, subst, le_trans}
+use Rattle.std.proofs.Common.{inl, ◌≡◌, ◌==◌, ◌&&◌, false, not, refl, sym, ap, ap₂, ◌∙◌, subst, le_trans}
 use Rattle.std.specs.List.{list_any}
 use Rattle.dk_base.specs.declared.object.Item.TheVariants as item
 use Rattle.kernel_records.specs.Words.{ProcessTable, end_thread, thread_end, is_waiting_stage}
@@ -6,9 +6,11 @@ use Rattle.server_pool.specs.Words.{is_item}
 use Rattle.exit_paths.specs.Words.{DropsTransit, became_idle, became_ready, with_deserted}
 use Rattle.exit_paths.proofs.CallersLeft.{and_false, caller_goes, ended_calls, or_false}
 use Rattle.exit_paths.proofs.Exited.{exited, server_parks}
+use Rattle.exit_paths.proofs.Fated.{keeps_then}
 use Rattle.exit_paths.proofs.OneLeaves.{end_parks, end_readies, ended_threads, told_one}
 use Rattle.exit_paths.proofs.Transit.{drops_nothing}
 use Rattle.call_tree.specs.Words.{lose_server}
+use Rattle.exit_paths.proofs.Untaken.{none_untaken}
 use Rattle.exit_paths.proofs.exits.thread_exit.Goals as goal
 
 pub desert_server-requires : goal.desert_server-requires
@@ -34,12 +36,10 @@ returns-clause-left c =
     (moved ∙ ap (λ p. end_thread (with_deserted c.args.step p table) t) c.deserted_by-deserted.ensures
     ∙ ended_threads c.are_sound.ensures table c.requires.placed.thread_number t c.args.step)
     (λ tree list h. c.end_thread.ensures.agreed c.args.step doors tree list (c.desert_server.ensures.agreed doors tree list h))
-    (record {
-      bindings = c.end_thread.ensures.keeps.bindings ∙ c.desert_server.ensures.keeps.bindings;
-      items = λ q. c.end_thread.ensures.keeps.items q ∙ c.desert_server.ensures.keeps.items q;
-    })
+    (keeps_then c.withdraw_caller.new.pools c.desert_server.new.pools c.end_thread.new.pools c.desert_server.ensures.keeps c.end_thread.ensures.keeps)
     c.are_sound.ensures
     calls (le_trans c.end_caller.ensures.spare c.end_server.ensures.spare)
+    (inl (c.requires, c.are_few.ensures))
     (record { dropped = c.into_list.result; parked = c.list_one.result; woken = c.list_one-2.result; untaken = c.new.result })
     (subst (DropsTransit tree.calls c.end_server.new.calls.tree.calls) (sym c.into_list.ensures)
     (c.end_server.ensures.dropped tree.calls (c.end_caller.ensures.dropped tree.calls (subst (DropsTransit tree.calls tree.calls) (sym c.in_ok-dropped.ensures.empty) (drops_nothing tree.calls)))))
@@ -54,3 +54,4 @@ returns-clause-left c =
     (c.has_turned-wakes.ensures ∙ ap₂ (λ a b. not a && b) c.ready-was_ready.ensures c.ready.ensures)
     (λ k e. ap (λ x. became_ready tree x k) calls ∙ end_readies c.are_sound.ensures t k (subst (λ u. (k == u) ≡ false) c.woken_of-client.ensures e)))
     (λ list h i n e. ap (list_any (is_item (item.Notice n.number))) c.new.ensures ∙ and_false (is_waiting_stage n.stage))
+    (none_untaken (thread_end t) doors c.args.pools.now (λ d. refl) c.new.result c.new.ensures)

@@ -1,6 +1,7 @@
-use Rattle.std.proofs.Common.{◌+◌, ◌<◌, ◌≤◌, length, refl, ◌∙◌, arith}
+use Rattle.std.proofs.Common.{◌+◌, ◌<◌, ◌≤◌, length, refl, arith}
 use Rattle.server_pool.specs.Words.{thread_room_in}
 use Rattle.exit_paths.specs.Words.{fated, own_pool_in}
+use Rattle.exit_paths.proofs.Fated.{keeps_then}
 use Rattle.exit_paths.proofs.LeftThreads.{all_left, fate_now, next_later, next_left, next_room, next_there}
 use Rattle.exit_paths.proofs.fates.leave_threads.Goals as goal
 
@@ -30,10 +31,7 @@ loop-i-preserved c = (
       (c.fate_of-fate.ensures doors c.args.now))
       (c.requires.numbered (c.loop-i.i + 1)),
   λ doors tree list h. c.leave_thread.ensures.agreed doors tree list (c.loop-i.invariant.1 doors tree list h),
-  record {
-    bindings = c.leave_thread.ensures.keeps.bindings ∙ c.loop-i.invariant.2.bindings;
-    items = λ pool. c.leave_thread.ensures.keeps.items pool ∙ c.loop-i.invariant.2.items pool;
-  },
+  keeps_then c.args.pools.now c.loop-i.pools c.leave_thread.new.pools c.loop-i.invariant.2 c.leave_thread.ensures.keeps,
   λ pool.
       let a : thread_room_in c.args.pools.now pool ≤ thread_room_in c.loop-i.pools pool + c.loop-i.i = c.loop-i.invariant.3 pool in
       let b : thread_room_in c.loop-i.pools pool ≤ thread_room_in c.leave_thread.new.pools pool + 1 = c.leave_thread.ensures.room_left pool in

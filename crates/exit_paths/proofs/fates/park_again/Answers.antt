@@ -1,8 +1,8 @@
-use Rattle.std.proofs.Common.{◌∙◌, ap, rules, ◌≡◌, ◌+◌, ◌<◌, ◌≤◌, is_some, true, refl, arith}
-use Rattle.server_pool.specs.Words.{PoolsValue, item_room_in, pool_at, thread_room_in}
+use Rattle.std.proofs.Common.{◌∷◌, ◌++◌, [], ◌≡◌, ◌+◌, ◌<◌, ◌≤◌, is_some, true, refl, arith}
+use Rattle.server_pool.specs.Words.{pool_at, thread_room_in}
 use Rattle.server_pool.proofs.Changed.{thread_room_there}
 use Rattle.exit_paths.specs.Words.{own_pool_in}
-use Rattle.exit_paths.proofs.Fated.{items_parked, parked_again, room_parked}
+use Rattle.exit_paths.proofs.Fated.{keeps_then, keeps_threads, parked_again, room_parked}
 use Rattle.exit_paths.proofs.fates.park_again.Goals as goal
 
 pub park-requires-clause-later : goal.park-requires-clause-later
@@ -33,10 +33,6 @@ returns-clause-room_left c = λ pool.
     omega arith
 
 pub returns-clause-keeps : goal.returns-clause-keeps
-returns-clause-keeps c = record {
-  bindings = search rules;
-  items = λ pool.
-      ap (λ (v : PoolsValue). item_room_in v pool) c.park.ensures
-      ∙ items_parked c.take_out.new.pools c.own_pool-pool.result (record { thread = c.args.t; pool = c.own_pool-pool.result; since = c.args.since }) pool
-      ∙ c.take_out.ensures.keeps.items pool;
-}
+returns-clause-keeps c =
+    keeps_then c.args.pools.now c.take_out.new.pools c.park.new.self c.take_out.ensures.keeps
+    (keeps_threads c.take_out.new.pools c.own_pool-pool.result (λ xs. xs ++ record { thread = c.args.t; pool = c.own_pool-pool.result; since = c.args.since } ∷ []) c.park.new.self c.park.ensures)
