@@ -265,7 +265,7 @@ impl Holdings {
     {
         self.are_few();
         self.counts.up(Obj::Door(door));
-        let _ = self.names.attach(path, door);
+        self.names.attach_free(path, door);
     }
 
     /// A path has no door any more.

@@ -3,7 +3,7 @@ ghost use Rattle.std.specs.Prelude.{◌≡◌, ◌+◌, ◌<◌, ◌≤◌, ◌+
 ghost use Rattle.dk_base.specs.ByNumber.{at_number};
 ghost use Rattle.kernel_records.specs.Words.{close_row, close_table, descriptor, empty_table, free_place, free_rows, insert_row, insert_rows, is_bad_pass, lowest_free, new_descriptors, object_named, objects_passed, release_rows, table_in, with_table};
 
-use arg_transfer::passing::{check_pass, install, take_out};
+use arg_transfer::passing::{check_pass, install_fitting, take_out};
 use dk_base::error::NoMemory;
 use dk_base::list::{FdList, ObjList, PassList, Room};
 use dk_base::number::{Fd, Pid};
@@ -97,10 +97,7 @@ impl Tables {
         ensures fd { result ≡ descriptor (free_place (table_in self.old p.0)) }
     {
         let table = &mut self.tables[p.0 as usize - 1];
-        match table.insert(object) {
-            Ok(fd) => fd,
-            Err(_) => Fd(0),
-        }
+        table.insert_free(object)
     }
 
     /// Closes a descriptor of a process that names something.
@@ -109,7 +106,7 @@ impl Tables {
         ensures { self.new ≡ with_table self.old p.0 (close_row (table_in self.old p.0) fd.0) }
     {
         let table = &mut self.tables[p.0 as usize - 1];
-        let _ = table.remove(fd);
+        table.close(fd);
     }
 
     /// Closes each descriptor of a process.
@@ -166,7 +163,7 @@ impl Tables {
             return fds.into_list();
         };
         let table = &mut self.tables[place];
-        let _ = install(table, objects, &mut fds);
+        install_fitting(table, objects, &mut fds);
         fds.into_list()
     }
 }
