@@ -1,59 +1,13 @@
--- Pools that hold the same threads, items and spares, and pools that hold no more: what that keeps.
-use Rattle.std.proofs.Common.{◌≡◌, inl, inr, ℕ, ◌+◌, ◌≤◌, ◌==◌, Bool, true, false, if◌then◌else◌, List, [], ◌∷◌, ◌++◌, Some, length, refl, sym, ap, ◌∙◌, subst, subst₂, le_refl, arith}
+-- What is given out stays so, in pools that hold the same threads and items, or no more of either.
+use Rattle.std.proofs.Common.{◌≡◌, inl, inr, ℕ, ◌+◌, ◌≤◌, ◌==◌, Bool, true, false, if◌then◌else◌, List, [], ◌∷◌, ◌++◌, Some, length, refl, sym, ap, ◌∙◌, subst, le_refl, arith}
 use Rattle.std.proofs.lemmas.Bool.Decides.{nat_tests}
 use Rattle.dk_base.specs.ByNumber.{at_number}
 use Rattle.kernel_records.specs.declared.pool.Pool.TheVariants.{Common, Private}
-use Rattle.kernel_records.specs.Words.{CallTree, NoticeList, ProcessTable}
-use Rattle.written_kernel.specs.Types.{Door, Pool}
+use Rattle.written_kernel.specs.Types.{Pool}
 use Rattle.kernel_records.proofs.Lists.{numbered_past, numbered_push}
-use Rattle.server_pool.specs.Words.{PoolValue, PoolsValue, change_pool, empty_pool, item_room_in, pool_at, pool_or_empty, queue_in, spares_of, stack_in, with_room}
-use Rattle.pool_agreement.specs.Words.{Agrees, IsGivenOut, IsGivenOutIn, IsQueueOf, IsStackOf}
-use Rattle.pool_agreement.proofs.Leaving.{read_kept}
-use Rattle.pool_agreement.proofs.Readers.{bindings-change_pool, common-change_pool, private-change_pool, spares-change_pool}
-pub use Rattle.exit_paths.specs.Words.{HoldsSame}
-
--- room for a door, and for a thread and an item of a pool
-pub same_in_room :
-    (v u w : PoolsValue) (doors threads items : ℕ) (pool : Pool) → u ≡ record v { door_room = doors } →
-    w ≡ change_pool u pool (with_room threads items) → HoldsSame v w
-same_in_room v u w doors threads items pool e f =
-    subst (HoldsSame v) (sym (f ∙ ap (λ x. change_pool x pool (with_room threads items)) e)) same
-  where
-    x : PoolsValue
-    x = record v { door_room = doors }
-
-    room : PoolValue → PoolValue
-    room = with_room threads items
-
-    same : HoldsSame v (change_pool x pool room)
-    same =
-        record {
-          bindings = bindings-change_pool x pool room;
-          stacks = read_kept (λ (y : PoolValue). y.parked) room (λ y. refl) x pool;
-          queues = read_kept (λ (y : PoolValue). y.waiting) room (λ y. refl) x pool;
-          spares = λ p. ap (λ spares. spares_of (record v { spares = spares }) p) (spares-change_pool x pool room);
-          common = common-change_pool x pool room;
-          spare_lists = ap length (spares-change_pool x pool room);
-          private = private-change_pool x pool room;
-        }
-
-pub agrees_same :
-    {n : ℕ} {table : ProcessTable} {doors : List Door} {tree : CallTree} {list : NoticeList} {v w : PoolsValue} →
-    Agrees n table doors tree list v → HoldsSame v w → Agrees n table doors tree list w
-agrees_same {n} {table} {doors} {tree} {list} {v} {w} h same =
-    record {
-      stacks = λ q. subst₂ (λ b s. IsStackOf table b n q s) (sym same.bindings) (sym (same.stacks q)) (h.stacks q);
-      queues = λ q. subst (IsQueueOf doors tree.calls list.notices q) (sym (same.queues q)) (h.queues q);
-      spares = λ p. same.spares p ∙ h.spares p;
-      calls = h.calls;
-      call_dates = h.call_dates;
-      notices = h.notices;
-      notice_dates = h.notice_dates;
-      kept = h.kept;
-      common = same.common ∙ h.common;
-      spare_lists = same.spare_lists ∙ h.spare_lists;
-      private = same.private ∙ h.private;
-    }
+use Rattle.server_pool.specs.Words.{PoolValue, PoolsValue, empty_pool, item_room_in, pool_at, pool_or_empty, queue_in, stack_in}
+use Rattle.pool_agreement.specs.Words.{IsGivenOut, IsGivenOutIn}
+use Rattle.exit_paths.specs.Words.{HoldsSame}
 
 -- what is given out stays so, where no thread and no item is added
 pub given_out_less :

@@ -39,12 +39,6 @@ held_there table t i e = go (thread_at table t) refl
     go None f = absurd (cc)
     go (Some x) f = numbered_within table.threads t x f
 
-pub tells_all :
-    (who : Leaving) (table : ProcessTable) (items : List Item) →
-    ((t c : ℕ) → 1 ≤ t → t ≤ length table.threads → who.ends t ≡ true → held_at table t ≡ Some (item.Notice c) → list_any (is_notice_item c) items ≡ true) →
-    (t c : ℕ) → who.ends t ≡ true → held_at table t ≡ Some (item.Notice c) → list_any (is_notice_item c) items ≡ true
-tells_all who table items all t c e f = let w = held_there table t (item.Notice c) f in all t c w.0 w.1 e f
-
 -- what a thread serves is the one notice that it has entered
 pub entered_held : (table : ProcessTable) (ns : List Notice) (t : ℕ) → AreHeldIn table ns → IsAllEntered (held_at table t) t ns
 entered_held table ns t held i x e f = held i t x e (ap (λ b. is_given_stage t x.stage || b) f ∙ either_true (is_given_stage t x.stage))

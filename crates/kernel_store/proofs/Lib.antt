@@ -7,7 +7,6 @@ mod ItemRoom
 mod LeftStore
 mod Made
 mod MadeNotice
-mod MadeRoom
 pub mod Short
 mod Spares
 mod Threads

@@ -8,7 +8,7 @@ use Rattle.server_pool.specs.Words.{AllBelow, PoolsValue, change_at_number, chan
 use Rattle.server_pool.proofs.Changed.{changed_elsewhere, changed_here}
 use Rattle.pool_agreement.specs.Words.{Agrees, spare_at, spare_in, spares_among}
 use Rattle.pool_agreement.proofs.Readers.{length-change_at_number, same_number}
-use Rattle.kernel_store.proofs.Alike.{HoldsSame}
+use Rattle.exit_paths.specs.Words.{HoldsSame}
 
 pub is_there : (o : Option Process) → is_live_in o ≡ true → is_some o ≡ true
 is_there None e = cc

@@ -2,9 +2,8 @@
 ghost use Rattle.std.specs.Prelude.{◌≡◌, ◌+◌, ◌<◌, ◌≤◌, ◌++◌, ℕ, List, Some, true, IfOk, length};
 ghost use Rattle.std.specs.List.{list_any};
 ghost use Rattle.dk_base.specs.declared.object.Item.TheVariants as item;
-ghost use Rattle.dk_base.specs.ByNumber.{at_number};
 ghost use Rattle.kernel_records.specs.declared.leaving.Leaver.TheVariants.{Ended};
-ghost use Rattle.kernel_records.specs.Words.{ProcessTable, end_notice, is_owned_by, kept_notices, leaving_of, left_notices, park_thread};
+ghost use Rattle.kernel_records.specs.Words.{end_notice, kept_notices, leaving_of, left_notices, park_thread};
 ghost use Rattle.written_kernel.specs.Types.{Door};
 ghost use Rattle.server_pool.specs.Words.{change_pool, park_in};
 ghost use Rattle.exit_paths.specs.Words.{CanParkAgain, own_pool_in};
@@ -13,11 +12,11 @@ ghost use Rattle.kernel_store.specs.Held.{TellsHeld, held_at};
 
 use dk_base::error::NoMemory;
 use dk_base::list::Room;
-use dk_base::number::{Pid, Tid};
+use dk_base::number::Tid;
 use dk_base::object::Item;
 use door_object::doors::Doors;
+use exit_paths::who_leaves::{ends, loses, own_pool};
 use kernel_records::leaving::Leaver;
-use kernel_records::pool::Pool;
 use kernel_records::record::ThreadState;
 use proc_table::procs::Procs;
 use server_pool::pools::Pools;
@@ -25,16 +24,6 @@ use std::alloc::Global;
 use unref_notice::notices::Notices;
 
 // threads
-
-/// The pool in which a thread parks.
-pub fn own_pool(processes: &Procs, pools: &Pools, t: Tid) -> Pool
-    ensures { result ≡ own_pool_in processes.now pools.now.bindings t.0 }
-{
-    match pools.bound(t) {
-        Some(door) => Pool::Private(door),
-        None => Pool::Common(processes.process_of(t)),
-    }
-}
 
 /// A thread that is there, and that no pool has, parks at an event, after all that are parked in its pool. It takes no memory.
 pub fn park(processes: &mut Procs, pools: &mut Pools, t: Tid, since: u64)
@@ -45,40 +34,6 @@ pub fn park(processes: &mut Procs, pools: &mut Pools, t: Tid, since: u64)
     let pool = own_pool(processes, pools, t);
     pools.park(t, pool, since);
     processes.park(t, since);
-}
-
-// who leaves
-
-/// Whether a thread ends.
-fn ends(who: Leaver, processes: &Procs, t: Tid) -> bool
-    ensures { (doors : List Door) → result ≡ (leaving_of processes.now doors who).ends t.0 }
-{
-    match who {
-        Leaver::Ended { thread } => t.0 == thread.0,
-        Leaver::EndedProcess { process } => processes.process_of(t).0 == process.0,
-        _ => false,
-    }
-}
-
-/// Whether a process made a door.
-fn is_owned(doors: &Doors, d: u32, p: Pid) -> bool
-    ensures { result ≡ is_owned_by p.0 (at_number doors.now.items d) }
-{
-    match doors.door(d) {
-        Some(door) => door.owner.0 == p.0,
-        None => false,
-    }
-}
-
-/// Whether a door becomes invalid.
-fn loses(who: Leaver, doors: &Doors, d: u32) -> bool
-    ensures { (table : ProcessTable) → result ≡ (leaving_of table doors.now.items who).loses d }
-{
-    match who {
-        Leaver::EndedProcess { process } => is_owned(doors, d, process),
-        Leaver::Revoked { door } => d == door,
-        _ => false,
-    }
 }
 
 // notices
@@ -153,7 +108,9 @@ pub fn leave_notices(
     processes: &Procs,
     doors: &Doors,
 )
-    ensures list { AreAllLeft (leaving_of processes.now doors.now.items who) (waiting.now ++ held.now) notices.old.list.notices → kept_notices doors.now.items notices.old.list ≡ notices.old.list → notices.new.list ≡ kept_notices doors.now.items (left_notices (leaving_of processes.now doors.now.items who) notices.old.list) }
+    requires left { AreAllLeft (leaving_of processes.now doors.now.items who) (waiting.now ++ held.now) notices.old.list.notices }
+    requires kept { kept_notices doors.now.items notices.old.list ≡ notices.old.list }
+    ensures list { notices.new.list ≡ kept_notices doors.now.items (left_notices (leaving_of processes.now doors.now.items who) notices.old.list) }
     ensures room { notices.old.spare ≤ notices.new.spare }
 {
     notices.leave(
@@ -167,7 +124,9 @@ pub fn leave_notices(
 
 /// The notice that a thread has entered, which the item is that it serves, is over. It is forgotten, unless a rule asks for it again.
 pub fn end_notice(notices: &mut Notices, serves: Option<Item>, t: Tid, doors: &Doors)
-    ensures list { IsAllEntered serves t.0 notices.old.list.notices → kept_notices doors.now.items notices.old.list ≡ notices.old.list → notices.new.list ≡ kept_notices doors.now.items (end_notice notices.old.list t.0) }
+    requires entered { IsAllEntered serves t.0 notices.old.list.notices }
+    requires kept { kept_notices doors.now.items notices.old.list ≡ notices.old.list }
+    ensures list { notices.new.list ≡ kept_notices doors.now.items (end_notice notices.old.list t.0) }
     ensures room { notices.old.spare ≤ notices.new.spare }
 {
     notices.end(serves, t, |d| doors.takes_many(d));

@@ -16,13 +16,13 @@ mod settling;
 mod steps;
 mod threads;
 
-use crate::leaving::own_pool;
 use call_tree::calls::Calls;
 use dk_base::error::NoMemory;
 use dk_base::list::{ObjList, PassList, Room};
 use dk_base::number::{Fd, PathId, Pid, Tid};
 use dk_base::object::Obj;
 use door_object::doors::Doors;
+use exit_paths::who_leaves::own_pool;
 use kernel_holdings::holdings::Holdings;
 use kernel_records::pool::Pool;
 use kernel_records::record::Door;

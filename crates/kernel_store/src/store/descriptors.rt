@@ -105,9 +105,7 @@ impl Store {
         ensures left { self.new.left ≡ self.old.left }
         ensures keeps { FillsNoPool self.old self.new }
     {
-        let Ok(number) = self.doors.create(owner, entry, cookie, attrs) else {
-            return 0;
-        };
+        let number = self.doors.create_allowed(owner, entry, cookie, attrs);
         self.pools.add_door();
         self.short.push(Pool::Private(number));
         number
@@ -119,7 +117,7 @@ impl Store {
         ensures state { stored_state self.new ≡ record (stored_state self.old) { doors = set_param (stored_state self.old).doors d param value } }
         ensures keeps { KeepsPools self.old self.new }
     {
-        let _ = self.doors.setparam(d, p, param, value);
+        self.doors.set_param_allowed(d, param, value);
     }
 
     /// A door is revoked, where door_revoke(3C) by process `p` is not refused.
@@ -128,6 +126,6 @@ impl Store {
         ensures state { stored_state self.new ≡ record (stored_state self.old) { doors = revoke_door (stored_state self.old).doors d } }
         ensures keeps { KeepsPools self.old self.new }
     {
-        let _ = self.doors.revoke(d, p);
+        self.doors.revoke_allowed(d);
     }
 }

@@ -1,11 +1,15 @@
 //! The processes and threads of the opening, the memory that an event can need, and where its step begins and ends.
-ghost use Rattle.std.specs.Prelude.{◌≡◌, ℕ, ◌+◌, ◌<◌, ◌≤◌, ◌++◌, Bool, List, filter, length, true, IfOk, OnOk, OnErr};
+ghost use Rattle.std.specs.Prelude.{◌≡◌, ℕ, ◌+◌, ◌<◌, ◌≤◌, ◌++◌, ◌∷◌, [], Bool, List, filter, length, true, IfOk, OnOk, OnErr};
 ghost use Rattle.dk_base.specs.declared.limits.TheConstants.{DESCRIPTORS_MAX, PROCESSES_MAX, THREADS_MAX, EVENTS_MAX};
+ghost use Rattle.dk_base.specs.declared.object.Obj.{Obj};
 ghost use Rattle.written_kernel.specs.Types.{Pool};
-ghost use Rattle.kernel_records.specs.Words.{notice_doors};
+ghost use Rattle.kernel_records.specs.declared.pool.Pool.TheVariants as pool;
+ghost use Rattle.kernel_records.specs.Words.{empty_table, new_process, notice_doors, pid};
 ghost use Rattle.written_kernel.specs.Words.{is_live_process, with_event_counted, with_new_process, with_new_thread};
+ghost use Rattle.server_pool.specs.Words.{empty_pool};
 ghost use Rattle.unref_notice.specs.Words.{was_shared};
 ghost use Rattle.unref_notice.specs.declared.counts.TheConstants.{STEP_MAX};
+ghost use Rattle.kernel_holdings.specs.Words.{references_of};
 ghost use Rattle.unref_notice.specs.declared.notices.TheConstants.{NOTICES_MAX};
 ghost use Rattle.kernel_store.specs.Frames.{FillsNoPool, IsAtRest, KeepsPools};
 ghost use Rattle.kernel_store.specs.Stored.{ArePlaced, HasBegun, HasRoom, HasRoomForNotices, HasWholeStep, has_fallen_since, stored_state};
@@ -15,9 +19,40 @@ use crate::store::Store;
 use dk_base::error::NoMemory;
 use dk_base::list::Room;
 use dk_base::number::{Pid, Tid};
+use kernel_holdings::holdings::Holdings;
 use kernel_records::pool::Pool;
+use proc_table::procs::Procs;
+use server_pool::pools::Pools;
 use std::alloc::Global;
 use unref_notice::counts::STEP_MAX;
+
+/// Another process, under the next number, in all that is kept of processes. Want of memory leaves what the caller lets go.
+fn add_process(
+    alloc: Global,
+    limit: u32,
+    held: &mut Holdings,
+    processes: &mut Procs,
+    pools: &mut Pools,
+    short: &mut Room<Pool>,
+) -> Result<(), NoMemory>
+    requires few { length processes.old.processes < PROCESSES_MAX }
+    requires tables { length held.old.tables < PROCESSES_MAX }
+    requires limit { limit ≤ DESCRIPTORS_MAX }
+    ensures held { OnOk result (held.new ≡ record (held.old) { tables = held.old.tables ++ empty_table limit ∷ [] }) }
+    ensures references { (o : Obj) → references_of held.new o ≤ references_of held.old o }
+    ensures processes { OnOk result (processes.new ≡ record (processes.old) { processes = processes.old.processes ++ new_process (length processes.old.processes + 1) limit ∷ [] }) }
+    ensures pools { OnOk result (pools.new ≡ record (pools.old) { common = pools.old.common ++ empty_pool ∷ []; spares = pools.old.spares ++ [] ∷ [] }) }
+    ensures short { OnOk result (short.new.items ≡ short.old.items ++ pool.Common (pid (length processes.old.processes + 1)) ∷ []) }
+{
+    held.add_table(alloc, limit)?;
+    short.reserve(1)?;
+    let Ok(number) = processes.add_proc(limit) else {
+        return Err(NoMemory);
+    };
+    pools.add_process()?;
+    short.push(Pool::Common(number));
+    Ok(())
+}
 
 impl Store {
     // before the first event
@@ -30,14 +65,14 @@ impl Store {
         ensures state { IfOk result (λ s. stored_state s ≡ with_new_process (stored_state self) limit) }
         ensures rest { IfOk result (λ s. (n : ℕ) → IsAtRest n self → IsAtRest n s) }
     {
-        self.held.add_table(alloc, limit)?;
-        self.short.reserve(1)?;
-        if self.processes.add_proc(limit).is_err() {
-            return Err(NoMemory);
-        }
-        self.pools.add_process()?;
-        let number = Pid(self.processes.process_count());
-        self.short.push(Pool::Common(number));
+        add_process(
+            alloc,
+            limit,
+            &mut self.held,
+            &mut self.processes,
+            &mut self.pools,
+            &mut self.short,
+        )?;
         Ok(self)
     }
 

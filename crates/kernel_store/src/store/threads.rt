@@ -73,6 +73,7 @@ impl Store {
         requires declared { IsDeclared who (stored_state self.old) }
         ensures state { OnOk result (stored_state self.new ≡ forget (leave (stored_state self.old) (leaving_of (stored_state self.old).process_table (stored_state self.old).doors who))) }
         ensures keeps { OnOk result (KeepsForNotices self.old self.new) }
+        ensures queues { FillsNoQueue self.old self.new }
         ensures left { OnOk result (self.old.left ≤ self.new.left + TRANSIT_MAX) }
         ensures as_before { OnErr result (stored_state self.new ≡ stored_state self.old) }
         ensures fills { OnErr result (FillsNoPool self.old self.new) }

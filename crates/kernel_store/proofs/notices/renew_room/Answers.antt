@@ -5,7 +5,7 @@ use Rattle.kernel_records.specs.Words.{pid}
 use Rattle.server_pool.specs.Words.{item_room_in, thread_room_in}
 use Rattle.exit_paths.specs.Words.{HasNoLessRoom}
 use Rattle.kernel_store.specs.Noticing.{HaveItemRoomBut}
-use Rattle.kernel_store.proofs.MadeRoom.{holds_room, holds_then, room_made, room_then}
+use Rattle.exit_paths.proofs.MadeRoom.{holds_room, holds_then, room_made, room_then}
 use Rattle.kernel_store.proofs.Short.{room_again}
 use Rattle.kernel_store.proofs.notices.renew_room.Goals as goal
 

@@ -9,7 +9,7 @@ use Rattle.pool_agreement.proofs.Starting.{agrees_spare, agrees_thread}
 use Rattle.kernel_store.specs.Noticing.{HaveItemRoomBut}
 use Rattle.kernel_store.specs.Stored.{ReferToDoors, StoreValue}
 use Rattle.kernel_store.proofs.Short.{room_spares}
-use Rattle.kernel_store.proofs.Alike.{agrees_same}
+use Rattle.exit_paths.proofs.Alike.{agrees_same}
 use Rattle.kernel_store.proofs.Threads.{is_there, same_taken_back, spares_below}
 use Rattle.call_agreement.specs.Words.{AreBacked}
 use Rattle.call_agreement.proofs.Backing.{thread_added}

@@ -14,7 +14,8 @@ use Rattle.unref_notice.specs.Words.{AreAllLeft}
 use Rattle.kernel_store.specs.Held.{AreHeld}
 use Rattle.kernel_store.proofs.HeldNotices.{all_are_left}
 use Rattle.kernel_store.specs.Stored.{ArePlaced, StoreValue, stored_state}
-use Rattle.kernel_store.proofs.LeftStore.{early, leaving_after, parked_early}
+use Rattle.exit_paths.proofs.LeftThreads.{leaving_after}
+use Rattle.kernel_store.proofs.LeftStore.{early, parked_early}
 use Rattle.kernel_store.proofs.Lost.{can_end}
 use Rattle.kernel_store.proofs.There.{there_fewer}
 use Rattle.kernel_store.proofs.Short.{no_less_items, there_before}
@@ -37,6 +38,23 @@ leave-requires-clause-ends c =
     rw c.slice.ensures
     (can_end c.self.view_is c.self.invariant.0 placed.door_number c.requires.can.waiting c.args.who c.in_ok-lost.lost c.requires.declared (rw (← c.self.view_is) at c.in_ok-lost.ensures))
 
+pub leave_notices-requires-clause-left : goal.leave_notices-requires-clause-left
+leave_notices-requires-clause-left c =
+    let s = c.self.inside in
+    let doors = s.doors.items in
+    let who = leaving_of s.processes doors c.args.who in
+    let tree = s.held.calls.tree in
+    let exited = c.in_ok-left.ensures.left in
+    let after : leaving_of c.leave.new.procs doors c.args.who ≡ who =
+    ap (λ (t : ProcessTable). leaving_of t doors c.args.who) exited.threads ∙ leaving_after s.processes doors c.args.who who (s.events + 1) tree.calls in
+    subst (λ w. AreAllLeft w (c.slice-2.result.now ++ c.slice-3.result.now) s.notices.list.notices) (sym after)
+    (rw (c.slice-2.ensures, c.slice-3.ensures)
+    (all_are_left who s.processes s.notices.list.notices c.in_ok-left.left.untaken c.in_ok-had.had.items (subst (λ (v : StoreValue). AreHeld (stored_state v)) (sym c.self.view_is) c.requires.can.held)
+    (exited.untaken s.notices.list (agrees_later c.self.invariant.0 (s.events + 1) (let l = early c.self.invariant.0 c.self.view_is c.requires.can.latest in omega arith))) (c.in_ok-had.ensures doors)))
+
+pub leave_notices-requires-clause-kept : goal.leave_notices-requires-clause-kept
+leave_notices-requires-clause-kept c = list_is_kept c.self.invariant.0
+
 pub invariant_of-self-2 : goal.invariant_of-self-2
 invariant_of-self-2 c =
     let s = c.self.inside in
@@ -49,13 +67,7 @@ invariant_of-self-2 c =
     let after : leaving_of c.leave.new.procs doors c.args.who ≡ who =
     ap (λ (t : ProcessTable). leaving_of t doors c.args.who) exited.threads ∙ leaving_after s.processes doors c.args.who who (s.events + 1) tree.calls in
     let notices : c.leave_notices.new.notices.list ≡ kept_notices doors (left_notices who s.notices.list) =
-    c.leave_notices.ensures.list
-    (subst (λ w. AreAllLeft w (c.slice-2.result.now ++ c.slice-3.result.now) s.notices.list.notices) (sym after)
-    (rw (c.slice-2.ensures, c.slice-3.ensures)
-    (all_are_left who s.processes s.notices.list.notices c.in_ok-left.left.untaken c.in_ok-had.had.items (subst (λ (v : StoreValue). AreHeld (stored_state v)) (sym c.self.view_is) c.requires.can.held)
-    (exited.untaken s.notices.list (agrees_later c.self.invariant.0 (s.events + 1) (let l = early c.self.invariant.0 c.self.view_is c.requires.can.latest in omega arith))) (c.in_ok-had.ensures doors))))
-    (list_is_kept c.self.invariant.0)
-    ∙ ap (λ w. kept_notices doors (left_notices w s.notices.list)) after in
+    c.leave_notices.ensures.list ∙ ap (λ w. kept_notices doors (left_notices w s.notices.list)) after in
     let agreed = exited.agreed s.notices.list (agrees_later c.self.invariant.0 (s.events + 1) (omega arith)) in (
       subst (λ list. Agrees (s.events + 1) c.leave.new.procs doors c.leave.new.self.calls.tree list c.leave.new.pools) (sym notices)
           agreed,
@@ -79,27 +91,23 @@ returns-clause-state c =
     let after : leaving_of c.leave.new.procs doors c.args.who ≡ who =
     ap (λ (t : ProcessTable). leaving_of t doors c.args.who) exited.threads ∙ leaving_after s.processes doors c.args.who who (s.events + 1) tree.calls in
     let notices : c.leave_notices.new.notices.list ≡ kept_notices doors (left_notices who s.notices.list) =
-    c.leave_notices.ensures.list
-    (subst (λ w. AreAllLeft w (c.slice-2.result.now ++ c.slice-3.result.now) s.notices.list.notices) (sym after)
-    (rw (c.slice-2.ensures, c.slice-3.ensures)
-    (all_are_left who s.processes s.notices.list.notices c.in_ok-left.left.untaken c.in_ok-had.had.items (subst (λ (v : StoreValue). AreHeld (stored_state v)) (sym c.self.view_is) c.requires.can.held)
-    (exited.untaken s.notices.list (agrees_later c.self.invariant.0 (s.events + 1) (let l = early c.self.invariant.0 c.self.view_is c.requires.can.latest in omega arith))) (c.in_ok-had.ensures doors))))
-    (list_is_kept c.self.invariant.0)
-    ∙ ap (λ w. kept_notices doors (left_notices w s.notices.list)) after in
+    c.leave_notices.ensures.list ∙ ap (λ w. kept_notices doors (left_notices w s.notices.list)) after in
     rw c.in_ok-left.ensures.same
     (rw (exited.threads, exited.bindings, exited.calls, notices)
     (ap (λ (v : StoreValue). forget (leave (stored_state v) (leaving_of v.processes v.doors.items c.args.who))) c.self.view_is))
 
+pub returns-clause-queues : goal.returns-clause-queues
+returns-clause-queues c = λ pool.
+    let kept = c.in_ok-left.ensures.left.items pool in
+    let here = ap (λ (v : StoreValue). item_room_in v.pools pool) c.self.view_is in
+    omega (arith, kept, here)
+
 pub returns-clause-keeps : goal.returns-clause-keeps
 returns-clause-keeps c =
-    let exited = c.in_ok-left.ensures.left in
     record {
       latest = search rules;
       opening = search rules;
       notice_room = search rules;
       short_room = search rules;
-      items = λ pool.
-          let kept = exited.items pool in
-          let here = ap (λ (v : StoreValue). item_room_in v.pools pool) c.self.view_is in
-          omega (arith, kept, here);
+      items = λ pool. let kept = returns-clause-queues c pool in omega (arith, kept);
     }

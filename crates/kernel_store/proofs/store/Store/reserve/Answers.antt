@@ -2,10 +2,11 @@ use Rattle.std.proofs.Common.{◌≤◌, ◌∙◌, ap, rules, sym, subst}
 use Rattle.server_pool.specs.Words.{PoolsValue, item_room_in, thread_room_in}
 use Rattle.pool_agreement.specs.Words.{IsGivenOut}
 use Rattle.kernel_store.specs.Stored.{StoreValue}
-use Rattle.exit_paths.specs.Words.{HasNoLessRoom}
+use Rattle.exit_paths.specs.Words.{HasNoLessRoom, HoldsSame}
 use Rattle.kernel_store.proofs.Acts.{fills, fills_same}
-use Rattle.kernel_store.proofs.MadeRoom.{room_made}
-use Rattle.kernel_store.proofs.Alike.{HoldsSame, agrees_same, given_out_same, same_in_room}
+use Rattle.exit_paths.proofs.MadeRoom.{room_made}
+use Rattle.exit_paths.proofs.Alike.{agrees_same, same_in_room}
+use Rattle.kernel_store.proofs.Alike.{given_out_same}
 use Rattle.kernel_store.proofs.Short.{no_less_room, room_doors}
 use Rattle.kernel_store.proofs.store.Store.reserve.Goals as goal
 

@@ -19,11 +19,18 @@ use Rattle.kernel_store.proofs.store.Store.return_call.Goals as goal
 pub park-requires : goal.park-requires
 park-requires c = can_park c.self.invariant.0 c.self.view_is c.args.t.0 c.requires.can_act (running_not_done _ c.requires.running)
 
+pub end_notice-requires-clause-entered : goal.end_notice-requires-clause-entered
+end_notice-requires-clause-entered c =
+    let s = c.self.inside in
+    subst (λ o. IsAllEntered o c.args.t.0 s.notices.list.notices) (sym c.held_by-serves.ensures) (entered_held s.processes s.notices.list.notices c.args.t.0 (subst (λ (v : StoreValue). AreHeld (stored_state v)) (sym c.self.view_is) c.requires.held))
+
+pub end_notice-requires-clause-kept : goal.end_notice-requires-clause-kept
+end_notice-requires-clause-kept c = list_is_kept c.self.invariant.0
+
 pub invariant_of-self : goal.invariant_of-self
 invariant_of-self c =
     let s = c.self.inside in
-    let all = subst (λ o. IsAllEntered o c.args.t.0 s.notices.list.notices) (sym c.held_by-serves.ensures) (entered_held s.processes s.notices.list.notices c.args.t.0 (subst (λ (v : StoreValue). AreHeld (stored_state v)) (sym c.self.view_is) c.requires.held)) in
-    let ended = c.end_notice.ensures.list all (list_is_kept c.self.invariant.0) in
+    let ended = c.end_notice.ensures.list in
     let running = c.requires.running in
     rw (c.give_back.ensures.same, c.give_back.ensures.calls, ended, c.park.ensures.thread, c.park.ensures.pools) (
       agrees_end_notice
@@ -50,6 +57,5 @@ returns-clause-queues c =
 pub returns-clause-state : goal.returns-clause-state
 returns-clause-state c =
     let s = c.self.inside in
-    let all = subst (λ o. IsAllEntered o c.args.t.0 s.notices.list.notices) (sym c.held_by-serves.ensures) (entered_held s.processes s.notices.list.notices c.args.t.0 (subst (λ (v : StoreValue). AreHeld (stored_state v)) (sym c.self.view_is) c.requires.held)) in
-    let ended = c.end_notice.ensures.list all (list_is_kept c.self.invariant.0) in
+    let ended = c.end_notice.ensures.list in
     search (rules, ended)

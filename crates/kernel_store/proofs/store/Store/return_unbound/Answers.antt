@@ -15,11 +15,18 @@ use Rattle.kernel_store.proofs.There.{there_more}
 use Rattle.kernel_store.proofs.Short.{room_bound}
 use Rattle.kernel_store.proofs.store.Store.return_unbound.Goals as goal
 
+pub end_notice-requires-clause-entered : goal.end_notice-requires-clause-entered
+end_notice-requires-clause-entered c =
+    let s = c.self.inside in
+    subst (λ o. IsAllEntered o c.args.t.0 s.notices.list.notices) (sym c.held_by-serves.ensures) (entered_held s.processes s.notices.list.notices c.args.t.0 (subst (λ (v : StoreValue). AreHeld (stored_state v)) (sym c.self.view_is) c.requires.held))
+
+pub end_notice-requires-clause-kept : goal.end_notice-requires-clause-kept
+end_notice-requires-clause-kept c = list_is_kept c.self.invariant.0
+
 pub invariant_of-self : goal.invariant_of-self
 invariant_of-self c =
     let s = c.self.inside in
-    let all = subst (λ o. IsAllEntered o c.args.t.0 s.notices.list.notices) (sym c.held_by-serves.ensures) (entered_held s.processes s.notices.list.notices c.args.t.0 (subst (λ (v : StoreValue). AreHeld (stored_state v)) (sym c.self.view_is) c.requires.held)) in
-    let ended = c.end_notice.ensures.list all (list_is_kept c.self.invariant.0) in
+    let ended = c.end_notice.ensures.list in
     rw c.give_back.ensures.same (
       rw c.end_invocation.ensures
           (rw c.give_back.ensures.calls
@@ -49,6 +56,5 @@ returns-clause-keeps c =
 pub returns-clause-state : goal.returns-clause-state
 returns-clause-state c =
     let s = c.self.inside in
-    let all = subst (λ o. IsAllEntered o c.args.t.0 s.notices.list.notices) (sym c.held_by-serves.ensures) (entered_held s.processes s.notices.list.notices c.args.t.0 (subst (λ (v : StoreValue). AreHeld (stored_state v)) (sym c.self.view_is) c.requires.held)) in
-    let ended = c.end_notice.ensures.list all (list_is_kept c.self.invariant.0) in
+    let ended = c.end_notice.ensures.list in
     search (rules, ended)

@@ -1,17 +1,17 @@
-use Rattle.std.proofs.Common.{◌≡◌, None, is_ok, ap, sym, ◌∙◌, arith}
-use Rattle.kernel_records.specs.Words.{first_refusal, revoke_tests, unless_refused_with}
+use Rattle.std.proofs.Common.{ap, sym, ◌∙◌, arith}
+use Rattle.kernel_records.specs.Words.{first_refusal, revoke_tests}
 use Rattle.written_kernel.specs.Words.{door_of}
 use Rattle.pool_agreement.proofs.Leaving.{agrees_revoke}
-use Rattle.kernel_store.specs.contracts.store.Store.{the_view}
 use Rattle.kernel_store.specs.Stored.{StoreValue, stored_state}
-use Rattle.kernel_store.proofs.Acts.{holds_ok}
 use Rattle.kernel_store.proofs.There.{there_doors}
 use Rattle.kernel_store.proofs.store.Store.revoke.Goals as goal
+
+pub revoke_allowed-requires : goal.revoke_allowed-requires
+revoke_allowed-requires c =
+    (c.args.p.0, ap (λ (s : StoreValue). first_refusal (revoke_tests c.args.p.0 (door_of (stored_state s) c.args.d))) c.self.view_is ∙ c.requires)
 
 pub invariant_of-self : goal.invariant_of-self
 invariant_of-self c =
     let agreed = agrees_revoke c.self.invariant.0 c.args.d in
-    let allowed : first_refusal (revoke_tests c.args.p.0 (door_of (stored_state (the_view c.self.inside)) c.args.d)) ≡ None =
-    ap (λ (s : StoreValue). first_refusal (revoke_tests c.args.p.0 (door_of (stored_state s) c.args.d))) c.self.view_is ∙ c.requires in
-    rw (holds_ok c.revoke.result (ap is_ok (c.revoke.ensures.result ∙ ap unless_refused_with allowed)) c.revoke.ensures.ok)
+    rw c.revoke_allowed.ensures
     (agreed, there_doors c.self.inside.doors.items _ c.self.inside.held (omega (arith, sym c.self.invariant.0.private ∙ agreed.private)) c.self.invariant.1, c.self.invariant.2, c.self.invariant.3, c.self.invariant.4)

@@ -1,18 +1,19 @@
-use Rattle.std.proofs.Common.{◌≡◌, None, is_ok, ap, sym, ◌∙◌, arith}
-use Rattle.kernel_records.specs.Words.{first_refusal, set_param_tests, unless_refused_with}
+use Rattle.std.proofs.Common.{ap, sym, ◌∙◌, arith}
+use Rattle.kernel_records.specs.Words.{first_refusal, set_param_tests}
 use Rattle.written_kernel.specs.Words.{door_of}
 use Rattle.pool_agreement.proofs.Queues.{agrees_param}
-use Rattle.kernel_store.specs.contracts.store.Store.{the_view}
 use Rattle.kernel_store.specs.Stored.{StoreValue, stored_state}
-use Rattle.kernel_store.proofs.Acts.{holds_ok}
 use Rattle.kernel_store.proofs.There.{there_doors}
 use Rattle.kernel_store.proofs.store.Store.set_param.Goals as goal
 
+pub set_param_allowed-requires : goal.set_param_allowed-requires
+set_param_allowed-requires c = (
+  c.args.p.0,
+  ap (λ (s : StoreValue). first_refusal (set_param_tests c.args.p.0 (door_of (stored_state s) c.args.d) c.args.param c.args.value)) c.self.view_is ∙ c.requires,
+)
+
 pub invariant_of-self : goal.invariant_of-self
 invariant_of-self c =
-    let allowed : first_refusal (set_param_tests c.args.p.0 (door_of (stored_state (the_view c.self.inside)) c.args.d) c.args.param c.args.value) ≡ None =
-    ap (λ (s : StoreValue). first_refusal (set_param_tests c.args.p.0 (door_of (stored_state s) c.args.d) c.args.param c.args.value)) c.self.view_is
-    ∙ c.requires in
     let agreed = agrees_param c.self.invariant.0 c.args.d c.args.param c.args.value in
-    rw (holds_ok c.setparam.result (ap is_ok (c.setparam.ensures.result ∙ ap unless_refused_with allowed)) c.setparam.ensures.ok)
+    rw c.set_param_allowed.ensures
     (agreed, there_doors c.self.inside.doors.items _ c.self.inside.held (omega (arith, sym c.self.invariant.0.private ∙ agreed.private)) c.self.invariant.1, c.self.invariant.2, c.self.invariant.3, c.self.invariant.4)
