@@ -9,7 +9,8 @@ use Rattle.call_tree.specs.Calls.{args_in}
 use Rattle.call_tree.specs.Words.{outcome_at, outcome_in}
 use Rattle.call_tree.specs.declared.parts.Args.{Args}
 use Rattle.call_tree.specs.declared.parts.Outcome.{Outcome}
-use Rattle.kernel_core.specs.Handed.{objects_given, objects_of_call, objects_told}
+use Rattle.kernel_store.specs.Words.{results_in}
+use Rattle.kernel_core.specs.Handed.{objects_given, objects_of_call}
 
 same_args : (r : Call) (a : Args) → args_in (Some r) ≡ Some a → a ≡ record { bytes = r.bytes; objects = r.objects }
 same_args r a e = cc
@@ -31,11 +32,11 @@ begins m t p c r a entry cookie fds found args room entry_is cookie_is fds_is =
     ∙ ap (λ k. answer.Entered r.number (entry_of (door_of m r.door)) k a.bytes fds) cookie_is
     ∙ ap₂ (λ (b : Args) ds. answer.Entered r.number (entry_of (door_of m r.door)) (cookie_of (door_of m r.door)) b.bytes ds) is descriptors))
 
-pub told_objects : (o : Option Call) (x : Outcome) → outcome_in o ≡ Some x → objects_told x ≡ objects_collected_in o
-told_objects None x e = cc
-told_objects (Some r) x e = at r.stage e
+pub told_results : (o : Option Call) (x : Outcome) → outcome_in o ≡ Some x → results_in x ≡ objects_collected_in o
+told_results None x e = cc
+told_results (Some r) x e = at r.stage e
   where
-    at : (s : CallStage) → outcome_at r.rsize s ≡ Some x → objects_told x ≡ objects_collected s
+    at : (s : CallStage) → outcome_at r.rsize s ≡ Some x → results_in x ≡ objects_collected s
     at (stage.Returned bytes objects) f = cc
     at (stage.Ended y) f = cc
     at stage.Queued f = cc

@@ -6,8 +6,6 @@ use Rattle.dk_base.specs.declared.request.Request.TheVariants as request
 use Rattle.kernel_records.specs.declared.record.ThreadState.TheVariants as is
 use Rattle.kernel_records.specs.Words.{is_given_as, is_to_collect_as}
 use Rattle.written_kernel.specs.Words.{State, find_call, objects_collected_in}
-use Rattle.call_tree.specs.declared.parts.Outcome.{Outcome}
-use Rattle.call_tree.specs.declared.parts.Outcome.TheVariants.{Ended, Results}
 use Rattle.kernel_core.specs.declared.acts.Ending.{Ending}
 use Rattle.kernel_core.specs.declared.acts.Ending.TheVariants as ending
 
@@ -28,11 +26,6 @@ objects_given m t c = objects_of_call (find_call m (is_given_as c t))
 
 abbrev pub objects_to_collect : State → ℕ → List Obj
 objects_to_collect m c = objects_collected_in (find_call m (is_to_collect_as c))
-
--- what a caller is told of brings these
-abbrev pub objects_told : Outcome → List Obj
-objects_told (Results bytes objects grown) = objects
-objects_told (Ended e) = []
 
 abbrev pub objects_with : State → ℕ → Item → List Obj
 objects_with m t (item.Call c) = objects_given m t c

@@ -4,14 +4,14 @@ ghost use Rattle.dk_base.specs.declared.object.Item.TheVariants as item;
 ghost use Rattle.kernel_records.specs.declared.record.ThreadState.TheVariants as is;
 ghost use Rattle.kernel_records.specs.Words.{cookie_of, entry_of, first_refusal, is_given_as, is_given_notice_as, limit_tests, no_cancel_of};
 ghost use Rattle.written_kernel.specs.Types.{Call};
-ghost use Rattle.written_kernel.specs.Words.{StandsFor, Subject, accept, accept_call, accept_notice, call, call_tests, collect, collect_answer_in, create, create_tests, door_named, door_of, find_call, find_notice, has_answer, has_room, is_running, object_at, objects_collected_in, pass_tests, pool_of, pool_tests, process_of, results_answer, return, return_tests, state_of, tables_after_collect};
-ghost use Rattle.kernel_core.specs.Handed.{count_passed, objects_at_end, objects_given, objects_to_collect, objects_told, objects_with};
+ghost use Rattle.written_kernel.specs.Words.{StandsFor, Subject, accept, accept_call, accept_notice, call, call_tests, collect, collect_answer_in, create, create_tests, door_named, door_of, find_call, find_notice, has_answer, has_room, is_running, object_at, pass_tests, pool_of, pool_tests, process_of, results_answer, return, return_tests, state_of, tables_after_collect};
+ghost use Rattle.kernel_core.specs.Handed.{count_passed, objects_at_end, objects_given, objects_to_collect, objects_with};
 ghost use Rattle.kernel_core.specs.Kept.{HasNothingPast};
 ghost use Rattle.kernel_core.specs.Numbers.{HasNumbersLeft};
 ghost use Rattle.pool_agreement.specs.Words.{own_pool, pool_of_request};
 ghost use Rattle.call_tree.specs.Words.{outcome_in};
 ghost use Rattle.kernel_core.specs.Entries.{entry_about};
-ghost use Rattle.kernel_store.specs.Words.{AllIsGivenOut, AreHeld, ArePlaced, CanAct, CanHold, FillsOnePool, HasRoomForDoor, HasRoomForReferences, HasWholeStep, IsRoomFor, KeepsForNotices, KeepsPools, NothingAfter, stored_state};
+ghost use Rattle.kernel_store.specs.Words.{AllIsGivenOut, AreHeld, ArePlaced, CanAct, CanHold, FillsOnePool, HasRoomForDoor, HasRoomForReferences, HasWholeStep, IsRoomFor, KeepsForNotices, KeepsPools, NothingAfter, results_in, stored_state};
 
 use crate::acts::Ending;
 use crate::descriptors::{add_row, door_named};
@@ -401,9 +401,9 @@ fn hand_results(
 
 /// What a caller is told of the call that it collects.
 fn tell(store: &mut Store, p: Pid, outcome: Outcome, fds: Room<Fd>) -> Answer
-    requires room { IsRoomFor (length (objects_told outcome)) fds }
-    requires can_hold { CanHold store.old (objects_told outcome) }
-    ensures state { stored_state store.new ≡ record (stored_state store.old) { tables = tables_after_collect (stored_state store.old) p.0 (objects_told outcome) } }
+    requires room { IsRoomFor (length (results_in outcome)) fds }
+    requires can_hold { CanHold store.old (results_in outcome) }
+    ensures state { stored_state store.new ≡ record (stored_state store.old) { tables = tables_after_collect (stored_state store.old) p.0 (results_in outcome) } }
     ensures answer { (call : Option Call) → outcome_in call ≡ Some outcome → result ≡ collect_answer_in (stored_state store.old) p.0 call }
     ensures keeps { KeepsPools store.old store.new }
 {

@@ -1,31 +1,23 @@
-use Rattle.std.proofs.Common.{◌≡◌, ap, arith, length, refl, sym, subst, ◌∙◌}
+use Rattle.std.proofs.Common.{ap, arith, length, sym, subst, ◌∙◌}
 use Rattle.kernel_records.specs.declared.record.ThreadState.TheVariants as is
 use Rattle.kernel_records.specs.Words.{collect_call, is_to_collect_as, live_calls, set_thread_state}
 use Rattle.written_kernel.specs.Words.{State, find_call, now, tables_after_collect}
-use Rattle.kernel_store.specs.Words.{AreThere, results_in}
-use Rattle.call_tree.specs.declared.parts.Outcome.{Outcome}
-use Rattle.call_tree.specs.declared.parts.Outcome.TheVariants.{Ended, Results}
-use Rattle.kernel_store.specs.Words.{IsRoomFor, stored_state}
-use Rattle.kernel_core.specs.Handed.{objects_told}
+use Rattle.kernel_store.specs.Words.{IsRoomFor, results_in, stored_state}
 use Rattle.kernel_core.proofs.Live.{collect_stands}
 use Rattle.kernel_core.proofs.Collected.{told_alike}
-use Rattle.kernel_core.proofs.Told.{told_objects}
+use Rattle.kernel_core.proofs.Told.{told_results}
 use Rattle.kernel_core.proofs.doors.collect.Goals as goal
-
-told_are : (o : Outcome) → results_in o ≡ objects_told o
-told_are (Results bytes objects grown) = refl
-told_are (Ended e) = refl
 
 pub tell-requires : goal.tell-requires
 tell-requires c =
     let o = find_call (stored_state c.args.store.now) (is_to_collect_as c.args.c) in
-    let told = told_objects o c.collect_call-outcome.result c.collect_call-outcome.ensures.outcome in
+    let told = told_results o c.collect_call-outcome.result c.collect_call-outcome.ensures.outcome in
     record {
       room = subst (λ os. IsRoomFor (length os) c.args.fds) (sym told) c.requires.room;
       can_hold =
           record {
-            there = subst (AreThere c.collect_call-outcome.new.self.doors.items) (told_are c.collect_call-outcome.result) c.collect_call-outcome.ensures.there;
-            room = omega (arith, c.collect_call-outcome.ensures.small, c.collect_call-outcome.ensures.left, c.requires.references, ap length (told_are c.collect_call-outcome.result));
+            there = c.collect_call-outcome.ensures.there;
+            room = omega (arith, c.collect_call-outcome.ensures.small, c.collect_call-outcome.ensures.left, c.requires.references);
           };
     }
 
@@ -33,10 +25,10 @@ pub returns-clause-state : goal.returns-clause-state
 returns-clause-state c =
     let m = stored_state c.args.store.now in
     let o = find_call m (is_to_collect_as c.args.c) in
-    let told = told_objects o c.collect_call-outcome.result c.collect_call-outcome.ensures.outcome in
+    let told = told_results o c.collect_call-outcome.result c.collect_call-outcome.ensures.outcome in
     collect_stands m (stored_state c.tell.new.store) c.args.t.0 c.args.p.0 c.args.c c.requires.none_past
     (c.tell.ensures.state
-    ∙ ap (λ (k : State). record k { tables = tables_after_collect k c.args.p.0 (objects_told c.collect_call-outcome.result) })
+    ∙ ap (λ (k : State). record k { tables = tables_after_collect k c.args.p.0 (results_in c.collect_call-outcome.result) })
     (c.collect_call-outcome.ensures.state (now m))
     ∙ ap
     (λ os.
