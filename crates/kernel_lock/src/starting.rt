@@ -121,12 +121,13 @@ fn start_all<
     let mut number = 0;
     for share in shares {
         number += 1;
-        let _ = drivers.push(if number <= most {
+        let driver = if number <= most {
             start(rt, scope, shared, gate, Tid(number), share)
         } else {
             refuse(rt, shared, Tid(number));
             Driver::Refused(share)
-        });
+        };
+        drivers.push_reserved(driver);
     }
     drivers
 }

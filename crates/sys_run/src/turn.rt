@@ -82,8 +82,9 @@ fn push_event(journal: &mut Vec<Event>, t: Tid, root: Tid, what: What, stepped: 
     ensures woken { result ≡ stepped.woken }
 {
     let Stepped { answer, woken } = stepped;
-    let _ = journal.push(Event {
-        number: journal.len() as u32 + 1,
+    let number = journal.len() as u32 + 1;
+    journal.push_reserved(Event {
+        number,
         thread: t,
         root,
         what,
