@@ -211,7 +211,7 @@ impl<T: Drop> Room<T> {
         ensures items { self.new.items ≡ self.old.items ++ item ∷ [] }
         ensures spare { self.old.spare ≤ self.new.spare + 1 }
     {
-        let _ = self.items.push(item);
+        self.items.push_reserved(item);
     }
 
     /// The list alone. It takes no memory.

@@ -160,7 +160,7 @@ impl Sink for MemSink {
             return Err(Failed);
         }
         let n = self.piece.min(piece.len()).min(self.room - self.held.len());
-        let _ = self.held.extend_from_slice(&piece[..n]);
+        self.held.extend_from_slice(&piece[..n]).unwrap();
         Ok(n)
     }
 }
