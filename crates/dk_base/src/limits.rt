@@ -24,6 +24,12 @@ pub const PASS_MAX: usize = 16;
 /// The most calls that wait in a door's pool.
 pub const QUEUE_MAX: usize = 32;
 
+/// The most bytes that a pipe holds.
+pub const PIPE_MAX: usize = 4096;
+
+/// The most user events that are queued at a port (port_send(3C)).
+pub const USER_EVENTS_MAX: usize = 1024;
+
 /// The most events of a port that one answer has (port_getn(3C)), and the most errors.
 pub const ANSWER_ITEMS_MAX: u32 = 64;
 

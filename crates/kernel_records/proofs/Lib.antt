@@ -3,4 +3,5 @@ pub mod NumberedLists
 pub mod KeptLists
 pub mod DoorNumbers
 pub mod Places
+pub mod ChangedNumbers
 pub mod Passing

@@ -10,5 +10,7 @@ pub mod Doors
 pub mod Calls
 pub mod Notices
 pub mod Pools
+pub mod Pipes
+pub mod Ports
 pub mod Leaving
 pub mod Words
