@@ -1,0 +1,3 @@
+-- The words of this crate's specs, from one place, for the crates above.
+pub use Rattle.event_port.specs.Answers.{AnswersOrWants, answer_of}
+pub use Rattle.event_port.specs.Room.{HasRoomAt, KeepsRoom, KeepsRoomAtOthers, KeepsRoomButNamed, KeepsRoomButOne, PortValue, PortsValue, port_with, room_with, times_named, without_oldest}
