@@ -9,7 +9,7 @@ use Rattle.dk_base.specs.declared.error.Errno.TheVariants.{EINVAL, EMFILE}
 use Rattle.kernel_records.specs.declared.record.ThreadState.TheVariants as is
 use Rattle.dk_base.specs.ByNumber.{at_number, with_at_number}
 use Rattle.kernel_records.specs.Words.{NoticeList, ProcessTable, bind_tests, call_number, first_refusal, has_notice, has_told_attributes, is_live_in, is_private_in, lowest_free, new_door, refused_where, set_param, unbind_thread, with_door, with_param}
-use Rattle.written_kernel.specs.Words.{ActResult, State, bind, binding_tests, create, create_tests, door_at, door_of, find_call, process_of, state_of, unbind, with_state, with_table_of}
+use Rattle.written_kernel.specs.Words.{ActResult, Channels, State, bind, binding_tests, create, create_tests, door_at, door_of, find_call, process_of, state_of, unbind, with_state, with_table_of}
 pub use Rattle.written_kernel.proofs.Moves.{act_result}
 use Rattle.kernel_invariant.specs.Records.{has_notice_number, notice_of, owner_in, record_of}
 use Rattle.kernel_invariant.specs.Core.{core, ended_in}
@@ -22,7 +22,7 @@ use Rattle.written_kernel.proofs.Doors.{at_number-change_door}
 use Rattle.kernel_records.proofs.Lists.{numbered_push, at_number-with_at_number, length-with_at_number, numbered_past, numbered_there, numbered_within}
 use Rattle.kernel_invariant.proofs.Later.{by_act_later, notice_by_act_later}
 use Rattle.kernel_invariant.proofs.Cores.{Turns, at_one, set_thread_state-turns, upd}
-use Rattle.kernel_invariant.proofs.Consistent.{AreTables, act_consistent, after_act, beside_consistent, call_consistent, calls_counted, change-call, changed_tree, not_ended, notices_counted, own_tables, same_tables, there, thread_consistent}
+use Rattle.kernel_invariant.proofs.Consistent.{AreTables, act_consistent, after_act, beside_consistent, call_consistent, calls_counted, channels_consistent, change-call, changed_tree, not_ended, notices_counted, own_tables, same_tables, there, thread_consistent}
 use Rattle.written_kernel.proofs.Moves.{is_quiet}
 use Rattle.kernel_invariant.proofs.DoorMoves.{IsSameButLimits, door_keeps, limits_keep}
 use Rattle.kernel_invariant.proofs.Parts.{is_free, role_keeps}
@@ -196,6 +196,37 @@ pub rows_does :
     (m : State) (t : ℕ) (q : Option Request) (table : List (Option Obj)) (a : Answer) → IsConsistent m → state_of m t ≡ is.Running →
     Does m t q (act_result (with_table_of m (process_of m t) table) a)
 rows_does m t q table a h e = record { consistent = with_table_of_keeps m t table h e; arrows = λ c. stays; notices = λ c. notice_stays; kept = same_list m.notice_list }
+
+-- pipes and ports
+
+pub channels_does :
+    (m : State) (t : ℕ) (q : Option Request) (c : Channels) (a : Answer) → IsConsistent m → Does m t q (act_result (record m { channels = c }) a)
+channels_does m t q c a h =
+    record { consistent = channels_consistent m c h; arrows = λ n. stays; notices = λ n. notice_stays; kept = same_list m.notice_list }
+
+-- with the descriptors of what is made
+pub made_channel_does :
+    (m : State) (t : ℕ) (q : Option Request) (table : List (Option Obj)) (c : Channels) (a : Answer) → IsConsistent m →
+    state_of m t ≡ is.Running → Does m t q (act_result (record (with_table_of m (process_of m t) table) { channels = c }) a)
+made_channel_does m t q table c a h e =
+    record {
+      consistent = channels_consistent (with_table_of m (process_of m t) table) c (with_table_of_keeps m t table h e);
+      arrows = λ n. stays;
+      notices = λ n. notice_stays;
+      kept = same_list m.notice_list;
+    }
+
+-- by a thread that goes on
+pub retrieve_does :
+    (m : State) (t : ℕ) (q : Option Request) (c : Channels) (a : Answer) → IsConsistent m → is_quiet (state_of m t) ≡ true →
+    Does m t q (act_result (record (with_state m t is.Running) { channels = c }) a)
+retrieve_does m t q c a h e =
+    record {
+      consistent = channels_consistent (with_state m t is.Running) c (turned_to m t q is.Running a h e refl refl).consistent;
+      arrows = λ n. stays;
+      notices = λ n. notice_stays;
+      kept = same_list m.notice_list;
+    }
 
 -- doors
 

@@ -4,17 +4,19 @@ use Rattle.std.proofs.Common.{refl, subst, ◌∙◌}
 use native.Mathlib.Omega.{arith}
 use Rattle.std.proofs.lemmas.Bool.Decides.{nat_tests}
 use Rattle.kernel_records.proofs.NumberedLists.{find-push}
-use Rattle.written_kernel.specs.Types.{Answer, Call, CallStage, Errno, Fd, Pass, Request}
+use Rattle.written_kernel.specs.Types.{Answer, Call, CallStage, Errno, Fd, Pass, Queued, Request}
 use Rattle.dk_base.specs.declared.request.Request.TheVariants as request
 use Rattle.dk_base.specs.declared.answer.Answer.TheVariants as answer
 use Rattle.kernel_records.specs.declared.record.ThreadState.TheVariants as is
 use Rattle.kernel_records.specs.declared.record.CallStage.TheVariants as stage
 use Rattle.dk_base.specs.declared.error.Errno.TheVariants.{EMFILE}
 use Rattle.kernel_records.specs.Words.{call_number, is_to_collect_as, objects_passed}
-use Rattle.written_kernel.specs.Words.{ActResult, State, act, call, collect, collect_answer, collect_answer_in, door_named, find_call, has_room, new_call, object_at, process_of, state_of, table_of}
-use Rattle.written_kernel.proofs.Moves.{Moves, act_moves}
+use Rattle.written_kernel.specs.Words.{ActResult, Channels, State, act, call, collect, collect_answer, collect_answer_in, door_named, event_answer, find_call, found_answer, has_room, new_call, object_at, port_at, process_of, state_of, table_of}
+use Rattle.written_kernel.proofs.Moves.{IsPassing, Moves, act_moves}
+use Rattle.written_kernel.proofs.Moves.IsPassing.{alerts, gets, gets_many, reads, sends, sends_each, writes}
 use Rattle.written_kernel.proofs.Moves.IsSaid.{refused}
 use Rattle.written_kernel.proofs.Moves.IsRow.{closes}
+use Rattle.written_kernel.proofs.Moves.IsMaking.{makes_port}
 use Rattle.written_kernel.proofs.Moves.IsTurn.{awaits}
 use Rattle.kernel_invariant.specs.Records.{record_of}
 use Rattle.kernel_invariant.specs.Invariant.{IsConsistent}
@@ -71,6 +73,25 @@ collect_tells m t p c e = go (find_call m (is_to_collect_as c))
     go None = nothing m t _
     go (Some r) = at r r.stage
 
+-- what a get finds is no call
+found_one : (m : State) (t : ℕ) {q : Option Request} (n : State) (o : Option Queued) → Tells m t q (act_result n (event_answer o))
+found_one m t n None = record { told = tt; there = tt }
+found_one m t n (Some x) = record { told = tt; there = tt }
+
+found_tells :
+    (m : State) (t : ℕ) {q : Option Request} (n : State) (port max : ℕ) (one : Bool) → Tells m t q (act_result n (found_answer m port max one))
+found_tells m t n port max true = found_one m t n _
+found_tells m t n port max false = record { told = tt; there = tt }
+
+passing_tells : (m : State) (t : ℕ) (r : Request) (c : Channels) (a : Answer) → IsPassing m t r c a → Tells m t (Some r) (act_result (record m { channels = c }) a)
+passing_tells m t r c a (writes fd bytes f) = record { told = tt; there = tt }
+passing_tells m t r c a (reads fd max f) = record { told = tt; there = tt }
+passing_tells m t r c a (sends fd events user f) = record { told = tt; there = tt }
+passing_tells m t r c a (sends_each fds events user) = record { told = tt; there = tt }
+passing_tells m t r c a (alerts fd mode events user f) = record { told = tt; there = tt }
+passing_tells m t r c a (gets fd wait f e) = found_tells m t (record m { channels = c }) (port_at m (process_of m t) fd) 1 true
+passing_tells m t r c a (gets_many fd max nget wait f z e) = record { told = tt; there = tt }
+
 move_tells : (m : State) (t : ℕ) (q : Option Request) (a : ActResult) → IsConsistent m → Moves m t q a → Tells m t q a
 move_tells m t q a h (Moves.nothing x (refused r e f)) = record { told = tt; there = tt }
 move_tells m t q a h (Moves.rows r place o x (closes fd f)) = record { told = tt; there = tt }
@@ -80,6 +101,9 @@ move_tells m t q a h (Moves.enters r e room) = record { told = (refl, e.given); 
 move_tells m t q a h (Moves.fails r e full) = record { told = (refl, e.given); there = tt }
 move_tells m t q a h (Moves.enters_notice n e) = record { told = (refl, e.given); there = tt }
 move_tells m t q a h (Moves.collects c e) = collect_tells m t (process_of m t) c e
+move_tells m t q a h (Moves.passes r c x e) = passing_tells m t r c x e
+move_tells m t q a h (Moves.makes_channel r c objects x (makes_port f)) = record { told = tt; there = tt }
+move_tells m t q a h (Moves.retrieves port max nget one _) = found_tells m t _ port max one
 move_tells m t q a h _ = record { told = tt; there = tt }
 
 pub act_tells : (m : State) (t : ℕ) (q : Option Request) → IsConsistent m → Tells m t q (act m t q)

@@ -37,6 +37,15 @@ entry_built m t (request.Await path) h = tt
 entry_built m t (request.Interrupt thread) h = tt
 entry_built m t (request.Kill process) h = tt
 entry_built m t request.Exit h = tt
+entry_built m t request.Pipe h = tt
+entry_built m t (request.Write fd bytes) h = tt
+entry_built m t (request.Read fd max) h = tt
+entry_built m t request.PortCreate h = tt
+entry_built m t (request.Get fd wait) h = tt
+entry_built m t (request.GetN fd max nget wait) h = tt
+entry_built m t (request.Send fd events user) h = tt
+entry_built m t (request.SendN fds events user) h = tt
+entry_built m t (request.Alert fd mode events user) h = tt
 entry_built m t r h = omega arith
 
 made_of : {X : Type 0} (o : Option X) → is_some o ≡ true → IsMade o
@@ -49,6 +58,8 @@ end_built :
 end_built m t (is.Given (item.Call c)) h e f g u = made_of _ (given_found m t c h e)
 end_built m t (is.Given (item.Notice c)) h e f g u = made_of _ (given_notice_found m t c h e)
 end_built m t (is.Calling c) h e f g u = made_of _ f
+end_built m t (is.Getting port max nget one marked) h e f g u =
+    (f, grind (arith, u))
 end_built m t (is.Awaiting path) h e f g u = made_of _ f
 end_built m t is.FailedReturn h e f g u = tt
 end_built m t s h e f g u = grind arith

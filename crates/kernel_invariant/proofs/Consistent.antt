@@ -10,7 +10,7 @@ use Rattle.kernel_records.proofs.Lists.{at_number-with_at_number, length-with_at
 use Rattle.kernel_records.proofs.NumberedLists.{counted-change_first, counted-push, find-change_first, find-found}
 use Rattle.kernel_records.proofs.Places.{length-change_first}
 use Rattle.written_kernel.specs.Types.{Call, Door, Fd, Inv, Name, Notice, NoticeStage, Obj, ThreadState}
-use Rattle.written_kernel.specs.Words.{State, find_call, find_notice, process_of, state_of}
+use Rattle.written_kernel.specs.Words.{Channels, State, find_call, find_notice, process_of, state_of}
 use Rattle.kernel_invariant.specs.Records.{has_notice_number, has_number, notice_of}
 use Rattle.kernel_invariant.specs.Core.{core, ended_in, notice_in, noticed_door_in}
 use Rattle.kernel_invariant.specs.Coherent.{IsCoherent}
@@ -108,6 +108,20 @@ beside_consistent m doors bindings names events h places k =
       notices_in_order = h.notices_in_order;
       notices_counted = h.notices_counted;
       places = places;
+    }
+
+-- a change of pipes and ports, of which it says nothing
+pub channels_consistent : (m : State) (c : Channels) → IsConsistent m → IsConsistent (record m { channels = c })
+channels_consistent m c h =
+    record {
+      in_order = h.in_order;
+      counted = h.counted;
+      coherent = h.coherent;
+      tables = h.tables;
+      no_rows = h.no_rows;
+      notices_in_order = h.notices_in_order;
+      notices_counted = h.notices_counted;
+      places = h.places;
     }
 
 -- a change of a thread and tables

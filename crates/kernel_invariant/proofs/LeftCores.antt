@@ -8,7 +8,7 @@ use Rattle.written_kernel.specs.Types.{Call, Inv, Item, NoticeStage, ThreadState
 use Rattle.kernel_records.specs.declared.record.ThreadState.TheVariants as is
 use Rattle.kernel_records.specs.declared.record.CallStage.TheVariants as stage
 use Rattle.kernel_records.specs.declared.record.NoticeStage.TheVariants as notice
-use Rattle.kernel_records.specs.Words.{Leaving, cancelled_invocation, is_left, is_live, is_private_in, is_valid_in, left_call, no_cancel_of, tid}
+use Rattle.kernel_records.specs.Words.{Leaving, cancelled_invocation, interrupted_state, is_left, is_live, is_private_in, is_valid_in, left_call, no_cancel_of, tid}
 use Rattle.kernel_invariant.specs.Core.{Core, caller_number, door_in, ended_in, has_arguments, is_outside, is_underway, live_in}
 use Rattle.kernel_invariant.specs.Coherent.{AreAtDoors, AreCalls, AreDoors, AreInvocations, AreNoticesAtDoors, AreNoticesEntered, AreNoticesGiven, AreServers, AreWaits, IsCoherent, is_unbuilt}
 use Rattle.kernel_invariant.specs.Records.{item_in, owner_in, stage_in}
@@ -104,6 +104,23 @@ left_notice_stage who d s = s
 
 -- threads
 
+-- the state of a thread that is interrupted, where it is
+abbrev pub marked : Bool → ThreadState → ThreadState
+marked b s = if b then interrupted_state s else s
+
+marked_outside : (b : Bool) (s : ThreadState) → is_outside (marked b s) ≡ is_outside s
+marked_outside true s = grind arith
+marked_outside false s = refl
+
+marked_unbuilt : (b : Bool) (s : ThreadState) → is_unbuilt (marked b s) ≡ is_unbuilt s
+marked_unbuilt true s = grind arith
+marked_unbuilt false s = refl
+
+-- a mark changes no state but that of a wait at a port
+pub marked_same : (b : Bool) (s : ThreadState) → interrupted_state s ≡ s → marked b s ≡ s
+marked_same true s e = e
+marked_same false s e = refl
+
 -- thread u after the event, by its state and its invocation
 pub data LeftThread (k : Core) (who : Leaving) (now u : ℕ) (s : ThreadState) (v : Option Inv) : Type 0 where
   ends : who.ends u ≡ true → s ≡ is.Done → v ≡ None → LeftThread k who now u s v
@@ -114,10 +131,10 @@ pub data LeftThread (k : Core) (who : Leaving) (now u : ℕ) (s : ThreadState) (
   -- the caller leaves of the call that it has entered
   cancels :
       (r : Call) → who.ends u ≡ false → k.call r.number ≡ Some r → r.stage ≡ stage.Entered (tid u) → is_left who r ≡ true →
-      r.no_cancel ≡ false → s ≡ k.role u → v ≡ option_map cancelled_invocation (k.serves u) → LeftThread k who now u s v
+      r.no_cancel ≡ false → s ≡ marked (who.interrupts u) (k.role u) → v ≡ option_map cancelled_invocation (k.serves u) → LeftThread k who now u s v
   stays :
       who.ends u ≡ false → ((r : Call) → k.call r.number ≡ Some r → r.stage ≡ stage.Given (tid u) → is_left who r ≡ false) →
-      s ≡ k.role u → v ≡ k.serves u → LeftThread k who now u s v
+      s ≡ marked (who.interrupts u) (k.role u) → v ≡ k.serves u → LeftThread k who now u s v
 
 item-cancelled : (v : Option Inv) → item_in (option_map cancelled_invocation v) ≡ item_in v
 item-cancelled None = refl
@@ -143,19 +160,29 @@ is_held (is.Given i) = true
 is_held (is.Calling c) = true
 is_held _ = false
 
+marked_held : (b : Bool) (s : ThreadState) → is_held (marked b s) ≡ true → s ≡ marked b s
+marked_held true s e = grind arith
+marked_held false s e = refl
+
 module _ (k : Core) (who : Leaving) (now u : ℕ) (s : ThreadState) (v : Option Inv) (h : IsCoherent k) where
-  -- a thread that does not end and is not parked has its state and serves what it served
+  -- a thread that does not end and is not parked has its state, but for a mark, and serves what it served
   pub record Was : Type 0 where
     pub stays : who.ends u ≡ false
-    pub role : k.role u ≡ s
+    pub state : s ≡ marked (who.interrupts u) (k.role u)
     pub item : item_in (k.serves u) ≡ item_in v
 
   -- a thread that waits for an item or serves one after the event
   was : LeftThread k who now u s v → is_held s || is_some v ≡ true → Was
   was (ends a b c) e = absurd (grind arith)
   was (parks x a b c d f g) e = absurd (grind arith)
-  was (cancels x a b c d f g j) e = record { stays = a; role = sym g; item = sym (ap item_in j ∙ item-cancelled (k.serves u)) }
-  was (stays a b c d) e = record { stays = a; role = sym c; item = sym (ap item_in d) }
+  was (cancels x a b c d f g j) e = record { stays = a; state = g; item = sym (ap item_in j ∙ item-cancelled (k.serves u)) }
+  was (stays a b c d) e = record { stays = a; state = c; item = sym (ap item_in d) }
+
+  was_held : Was → is_held s ≡ true → k.role u ≡ s
+  was_held w e = marked_held (who.interrupts u) (k.role u) (ap is_held (sym w.state) ∙ e) ∙ sym w.state
+
+  still_is : Was → (z : ThreadState) → k.role u ≡ z → interrupted_state z ≡ z → s ≡ z
+  still_is w z e f = w.state ∙ ap (marked (who.interrupts u)) e ∙ marked_same (who.interrupts u) z f
 
   -- and a thread that was given no call that its caller leaves
   still :
@@ -163,8 +190,8 @@ module _ (k : Core) (who : Leaving) (now u : ℕ) (s : ThreadState) (v : Option 
       ((r : Call) → k.call r.number ≡ Some r → r.stage ≡ stage.Given (tid u) → is_left who r ≡ false) → Was
   still (ends a b c) e l = absurd (grind arith)
   still (parks x a b c d f g) e l = absurd (grind (arith, l x b c))
-  still (cancels x a b c d f g j) e l = record { stays = a; role = sym g; item = sym (ap item_in j ∙ item-cancelled (k.serves u)) }
-  still (stays a b c d) e l = record { stays = a; role = sym c; item = sym (ap item_in d) }
+  still (cancels x a b c d f g j) e l = record { stays = a; state = g; item = sym (ap item_in j ∙ item-cancelled (k.serves u)) }
+  still (stays a b c d) e l = record { stays = a; state = c; item = sym (ap item_in d) }
 
   -- as one that was given no call at all
   still_elsewhere : LeftThread k who now u s v → who.ends u ≡ false → ((c : ℕ) → k.role u ≡ is.Given (item.Call c) → ⊥) → Was
@@ -182,7 +209,7 @@ module _ (k : Core) (who : Leaving) (now u : ℕ) (s : ThreadState) (v : Option 
 
   -- a thread that waits for a call and does not end waits on
   pub still_calling : LeftThread k who now u s v → (c : ℕ) → k.role u ≡ is.Calling c → who.ends u ≡ false → s ≡ is.Calling c
-  still_calling p c e f = sym (still_elsewhere p f (λ d g. grind arith)).role ∙ e
+  still_calling p c e f = still_is (still_elsewhere p f (λ d g. grind arith)) (is.Calling c) e refl
 
   -- one that serves an item and does not end serves it still
   still_serves : LeftThread k who now u s v → (i : Item) → item_in (k.serves u) ≡ Some i → who.ends u ≡ false → item_in v ≡ Some i
@@ -191,14 +218,14 @@ module _ (k : Core) (who : Leaving) (now u : ℕ) (s : ThreadState) (v : Option 
   still_outside : LeftThread k who now u s v → is_outside s ≡ true → v ≡ None
   still_outside (ends a b c) e = c
   still_outside (parks x a b c d f g) e = g
-  still_outside (cancels x a b c d f g j) e = j ∙ ap (option_map cancelled_invocation) (h.servers.outside u (sym (ap is_outside g) ∙ e))
-  still_outside (stays a b c d) e = d ∙ h.servers.outside u (sym (ap is_outside c) ∙ e)
+  still_outside (cancels x a b c d f g j) e = j ∙ ap (option_map cancelled_invocation) (h.servers.outside u (sym (ap is_outside g ∙ marked_outside (who.interrupts u) (k.role u)) ∙ e))
+  still_outside (stays a b c d) e = d ∙ h.servers.outside u (sym (ap is_outside c ∙ marked_outside (who.interrupts u) (k.role u)) ∙ e)
 
   still_built : LeftThread k who now u s v → is_unbuilt s ≡ false
   still_built (ends a b c) = ap is_unbuilt b
   still_built (parks x a b c d f g) = ap is_unbuilt f
-  still_built (cancels x a b c d f g j) = ap is_unbuilt g ∙ h.has_built_state u
-  still_built (stays a b c d) = ap is_unbuilt c ∙ h.has_built_state u
+  still_built (cancels x a b c d f g j) = ap is_unbuilt g ∙ marked_unbuilt (who.interrupts u) (k.role u) ∙ h.has_built_state u
+  still_built (stays a b c d) = ap is_unbuilt c ∙ marked_unbuilt (who.interrupts u) (k.role u) ∙ h.has_built_state u
 
   pub ended_now : LeftThread k who now u s v → who.ends u ≡ true → s ≡ is.Done
   ended_now (ends a b c) e = b
@@ -211,7 +238,7 @@ module _ (k : Core) (who : Leaving) (now u : ℕ) (s : ThreadState) (v : Option 
     where
       go : (b : Bool) → who.ends u ≡ b → s ≡ is.Done
       go true f = ended_now p f
-      go false f = sym (still_elsewhere p f (λ c g. grind arith)).role ∙ e
+      go false f = still_is (still_elsewhere p f (λ c g. grind arith)) is.Done e refl
 
 -- the whole
 
@@ -241,6 +268,9 @@ module _ (k : Core) (who : Leaving) (now : ℕ) (l : Core) (h : IsCoherent k) (p
   held : (u : ℕ) → is_held (l.role u) || is_some (l.serves u) ≡ true → Was k who now u (l.role u) (l.serves u) h
   held u e = was k who now u _ _ h (p.thread u) e
 
+  role_before : (u : ℕ) → is_held (l.role u) ≡ true → k.role u ≡ l.role u
+  role_before u e = was_held k who now u _ _ h (held u (ap (λ b. b || is_some (l.serves u)) e)) e
+
   given_before : (c u : ℕ) → stage_in (l.call c) ≡ Some (stage.Given (tid u)) → stage_in (k.call c) ≡ Some (stage.Given (tid u))
   given_before c u e = grind (arith, p.call c, was_given who u)
 
@@ -249,11 +279,11 @@ module _ (k : Core) (who : Leaving) (now : ℕ) (l : Core) (h : IsCoherent k) (p
       record {
         given = λ c u e. given c u e;
         given_back =
-            λ c u e. let w = held u (grind arith) in given_back c u e (k.call c) refl (h.waits.given_back c u (w.role ∙ e)) w.stays;
+            λ c u e. let w = held u (grind arith) in given_back c u e (k.call c) refl (h.waits.given_back c u (role_before u (ap is_held e) ∙ e)) w.stays;
         caller =
-            λ c t e. let w = held t (grind arith) in grind (arith, p.call c, h.waits.caller c t, w.role, left_caller who, h.waits.live c t);
+            λ c t e. let w = held t (grind arith) in grind (arith, p.call c, h.waits.caller c t, role_before t (ap is_held e), left_caller who, h.waits.live c t);
         live =
-            λ c t e. let w = held t (grind arith) in grind (arith, p.call c, h.waits.caller c t, h.waits.live c t, w.role, w.stays, left_live who);
+            λ c t e. let w = held t (grind arith) in grind (arith, p.call c, h.waits.caller c t, h.waits.live c t, role_before t (ap is_held e), w.stays, left_live who);
         calling = λ c e. calling c (k.call c) refl e;
       }
     where
@@ -264,7 +294,7 @@ module _ (k : Core) (who : Leaving) (now : ℕ) (l : Core) (h : IsCoherent k) (p
           let stays : (x : Call) → k.call x.number ≡ Some x → x.stage ≡ stage.Given (tid u) → is_left who x ≡ false =
           λ x f g. grind (arith, p.call c, was_given who u x, given_role k h u x f g)
           in
-          sym (still k who now u _ _ h (p.thread u) ends stays).role ∙ before
+          still_is k who now u _ _ h (still k who now u _ _ h (p.thread u) ends stays) (is.Given (item.Call c)) before refl
 
       given_back :
           (c u : ℕ) → l.role u ≡ is.Given (item.Call c) → (o : Option Call) → k.call c ≡ o → stage_in o ≡ Some (stage.Given (tid u)) →
@@ -301,10 +331,11 @@ module _ (k : Core) (who : Leaving) (now : ℕ) (l : Core) (h : IsCoherent k) (p
         notice_given =
             λ n u e.
             let before : k.role u ≡ is.Given (item.Notice n) = grind (arith, p.notice n, h.notices_given.notice_given n u) in
-            sym (still_elsewhere k who now u _ _ h (p.thread u) (grind (arith, p.notice n)) (λ c f. grind arith)).role ∙ before;
+            still_is k who now u _ _ h (still_elsewhere k who now u _ _ h (p.thread u) (grind (arith, p.notice n)) (λ c f. grind arith))
+            (is.Given (item.Notice n)) before refl;
         notice_given_back =
             λ n u e. let w = held u (grind arith) in
-            grind (arith, p.notice n, w.role, w.stays, h.notices_given.notice_given_back n u);
+            grind (arith, p.notice n, role_before u (ap is_held e), w.stays, h.notices_given.notice_given_back n u);
       }
 
   left_notices_entered : AreNoticesEntered l.serves l.notice
@@ -338,7 +369,7 @@ module _ (k : Core) (who : Leaving) (now : ℕ) (l : Core) (h : IsCoherent k) (p
         outside = λ t e. still_outside k who now t _ _ h (p.thread t) e;
         below =
             λ c d t e f. let w = held t (grind arith) in
-            h.servers.below c d t (w.item ∙ e) (w.role ∙ f);
+            h.servers.below c d t (w.item ∙ e) (role_before t (ap is_held f) ∙ f);
         served_made =
             λ c t e. let w = held t (grind arith) in
             grind (arith, h.servers.served_made c t (w.item ∙ e), p.made);

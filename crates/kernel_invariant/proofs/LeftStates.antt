@@ -19,7 +19,7 @@ use Rattle.kernel_records.specs.Words.{Leaving, abandoned_at, broken_call_at, ca
 use Rattle.written_kernel.specs.Words.{State, door_of, invocation_of, is_valid, leave, now, process_of, state_of, thread_of}
 use Rattle.kernel_invariant.specs.Records.{item_in, notice_of, owner_in, record_of, stage_in}
 use Rattle.kernel_invariant.specs.Core.{abandoned_in, caller_number, core, ended_in, has_arguments, is_outside, is_underway, live_in, notice_in, number_in, underway_in}
-use Rattle.kernel_invariant.specs.Coherent.{AreDoors, is_unbuilt}
+use Rattle.kernel_invariant.specs.Coherent.{AreDoors}
 use Rattle.kernel_invariant.specs.Invariant.{IsConsistent}
 use Rattle.kernel_invariant.specs.Arrows.{ByAct, EndsNow, NoticeByAct}
 use Rattle.kernel_invariant.specs.Arrows.ByAct.{stays, ends, breaks_off, leaves}
@@ -29,7 +29,7 @@ use Rattle.kernel_invariant.specs.Events.{InvocationArrow, IsLeft}
 use Rattle.kernel_invariant.specs.Events.InvocationArrow.{stays as invocation_stays, cancels as invocation_cancels, leaves as invocation_leaves}
 use Rattle.kernel_invariant.specs.Events.IsLeft.{interrupted as is_interrupted, caller_ends}
 use Rattle.kernel_records.proofs.Lists.{at_number-map}
-use Rattle.kernel_invariant.proofs.LeftCores.{LeftCore, LeftThread, ended_now, entered_item, given_role, leaving_keeps, left, left_fields, left_notice_stage, still_calling}
+use Rattle.kernel_invariant.proofs.LeftCores.{LeftCore, LeftThread, ended_now, entered_item, given_role, leaving_keeps, left, left_fields, left_notice_stage, marked, marked_same, still_calling}
 use Rattle.kernel_invariant.proofs.LeftCores.LeftThread.{ends as thread_ends, parks as thread_parks, cancels as thread_cancels, stays as thread_stays}
 use Rattle.kernel_invariant.proofs.Acts.{Does, act_result}
 
@@ -62,10 +62,14 @@ pub record MayLeave (m : State) (q : Option Request) (who : Leaving) (processes 
 
 -- threads
 
--- a thread that waits for no events is as an interrupt leaves it
-not_interrupted : (b : Bool) (x : Thread) → is_unbuilt x.state ≡ false → interrupted_where b x ≡ x
-not_interrupted false x e = refl
-not_interrupted true x e = ap (λ s. record x { state = s }) (grind arith)
+-- an interrupt marks a state and leaves the invocation
+interrupted_role : (b : Bool) (x : Thread) → (interrupted_where b x).state ≡ marked b x.state
+interrupted_role true x = refl
+interrupted_role false x = refl
+
+interrupted_invocation : (b : Bool) (x : Thread) → (interrupted_where b x).invocation ≡ x.invocation
+interrupted_invocation true x = refl
+interrupted_invocation false x = refl
 
 -- a call that a thread serves
 record Serves (m : State) (u : ℕ) (r : Call) : Type 0 where
@@ -109,11 +113,14 @@ module _ (m : State) (who : Leaving) (h : IsConsistent m) where
       u : ℕ
       u = x.number
 
-      role : x.state ≡ state_of m u
-      role = sym (ap state_in there)
+      z : Thread
+      z = interrupted_where (who.interrupts u) x
 
-      invocation : x.invocation ≡ invocation_of m u
-      invocation = sym (ap invocation_in there)
+      role : z.state ≡ marked (who.interrupts u) (state_of m u)
+      role = interrupted_role (who.interrupts u) x ∙ ap (marked (who.interrupts u)) (sym (ap state_in there))
+
+      invocation : z.invocation ≡ invocation_of m u
+      invocation = interrupted_invocation (who.interrupts u) x ∙ sym (ap invocation_in there)
 
       -- as this makes of it
       After : Thread → Type 0
@@ -121,15 +128,15 @@ module _ (m : State) (who : Leaving) (h : IsConsistent m) where
 
       deserted :
           (r : Call) (b : Bool) (s : CallStage) → who.ends u ≡ false → record_of m r.number ≡ Some r → r.stage ≡ s → is_left who r ≡ true → r.no_cancel ≡ b →
-          (s ≡ stage.Given (tid u)) ⊎ (s ≡ stage.Entered (tid u)) → After (deserted_at (now m) b s x)
+          (s ≡ stage.Given (tid u)) ⊎ (s ≡ stage.Entered (tid u)) → After (deserted_at (now m) b s z)
       deserted r b (stage.Given v) e f g l k w = thread_parks r e f (⊎_elim (λ i. g ∙ i) (λ i. absurd (grind arith)) w) l refl refl
       deserted r true (stage.Entered v) e f g l k w =
-          thread_stays e (λ y i j. absurd (not_both u y r i j f (⊎_elim (λ z. absurd (grind arith)) (λ z. g ∙ z) w))) role invocation
+          thread_stays e (λ y i j. absurd (not_both u y r i j f (⊎_elim (λ i. absurd (grind arith)) (λ i. g ∙ i) w))) role invocation
       deserted r false (stage.Entered v) e f g l k w =
-          thread_cancels r e f (⊎_elim (λ z. absurd (grind arith)) (λ z. g ∙ z) w) l k role (ap (option_map _) invocation)
+          thread_cancels r e f (⊎_elim (λ i. absurd (grind arith)) (λ i. g ∙ i) w) l k role (ap (option_map _) invocation)
       deserted r b s e f g l k w = absurd (⊎_elim (λ i. grind arith) (λ i. grind arith) w)
 
-      served : (o : Option Call) → find (is_served_by u) m.call_tree.calls ≡ o → who.ends u ≡ false → After (deserted_in who (now m) o x)
+      served : (o : Option Call) → find (is_served_by u) m.call_tree.calls ≡ o → who.ends u ≡ false → After (deserted_in who (now m) o z)
       served None f e =
           thread_stays e
           (λ r i j.
@@ -141,22 +148,19 @@ module _ (m : State) (who : Leaving) (h : IsConsistent m) where
           s : Serves m u r
           s = does_serve u r f
 
-          by_left : (b : Bool) → is_left who r ≡ b → After (if b then deserted_at (now m) r.no_cancel r.stage x else x)
+          by_left : (b : Bool) → is_left who r ≡ b → After (if b then deserted_at (now m) r.no_cancel r.stage z else z)
           by_left true l = deserted r r.no_cancel r.stage e s.there refl l refl s.stage
           by_left false l =
               thread_stays e
               (λ y i j. ⊎_elim
-              (λ z. ap (is_left who) (one_given u y r i j s.there z) ∙ l)
-              (λ z. absurd (not_both u y r i j s.there z))
+              (λ g. ap (is_left who) (one_given u y r i j s.there g) ∙ l)
+              (λ g. absurd (not_both u y r i j s.there g))
               s.stage)
               role invocation
 
-      go : (b : Bool) → who.ends u ≡ b → After (if b then ended_thread x else deserted_in who (now m) (find (is_served_by u) m.call_tree.calls) (interrupted_where (who.interrupts u) x))
+      go : (b : Bool) → who.ends u ≡ b → After (if b then ended_thread x else deserted_in who (now m) (find (is_served_by u) m.call_tree.calls) z)
       go true e = thread_ends e refl refl
-      go false e =
-          subst (λ y. After (deserted_in who (now m) (find (is_served_by u) m.call_tree.calls) y))
-          (sym (not_interrupted (who.interrupts u) x (ap is_unbuilt role ∙ h.coherent.has_built_state u)))
-          (served (find (is_served_by u) m.call_tree.calls) refl e)
+      go false e = served (find (is_served_by u) m.call_tree.calls) refl e
 
 -- the number and the door of a notice stay
 
@@ -207,7 +211,8 @@ module _ (m : State) (q : Option Request) (who : Leaving) (processes : List Proc
             by_end : (b : Bool) → who.ends u ≡ b → LeftThread (core m) who (now m) u is.Done None
             by_end true f = thread_ends f refl refl
             by_end false f =
-                thread_stays f (λ r i j. absurd (grind (arith, given_role (core m) h.coherent u r i j, ap state_in e))) (sym (ap state_in e)) (sym (ap invocation_in e))
+                thread_stays f (λ r i j. absurd (grind (arith, given_role (core m) h.coherent u r i j, ap state_in e)))
+                (sym (ap (marked (who.interrupts u)) (ap state_in e) ∙ marked_same (who.interrupts u) is.Done refl)) (sym (ap invocation_in e))
 
         go : (o : Option Thread) → thread_of m u ≡ o → LeftThread (core m) who (now m) u (state_of after u) (invocation_of after u)
         go None e =

@@ -58,6 +58,7 @@ move_none_lost m t q a u l may n (Moves.enters r e room) = changed_keeps m t (th
 move_none_lost m t q a u l may n (Moves.fails r e full) = changed_keeps m t (idle_thread (now m)) u (l u) (λ x. n)
 move_none_lost m t q a u l may n (Moves.enters_notice x e) = changed_keeps m t (thread_in_invocation (item.Notice x.number)) u (l u) (λ y. refl)
 move_none_lost m t q a u l may n (Moves.collects c e) = changed_keeps m t (thread_at_state is.Running) u (l u) (λ x. refl)
+move_none_lost m t q a u l may n (Moves.retrieves port max nget one e) = changed_keeps m t (thread_at_state is.Running) u (l u) (λ x. refl)
 move_none_lost m t q a u l may n (Moves.leaves r who (interrupts v)) = absurd (grind arith)
 move_none_lost m t q a u l may n (Moves.leaves r who (exits e)) = absurd (grind arith)
 move_none_lost m t q a u l may n (Moves.revokes fd f) = absurd (grind arith)

@@ -105,6 +105,8 @@ move_serves m t q a h may (Moves.fails r e full) u = failed_serves m t r h e.giv
 move_serves m t q a h may (Moves.enters_notice n e) u =
     begun_serves m t (item.Notice n.number) a h e.given refl (λ v. serves_after_accept m t v (item.Notice n.number) e.given) u
 move_serves m t q a h may (Moves.collects c e) u = kept m t q a u (invocation-set_thread_state m.process_table t u is.Running)
+move_serves m t q a h may (Moves.retrieves port max nget one e) u =
+    kept m t q a u (invocation-set_thread_state m.process_table t u is.Running)
 move_serves m t q a h may (Moves.leaves r who (interrupts v)) u = (interrupt_leaves m t v.0 h).serves u
 move_serves m t q a h may (Moves.leaves r who (exits e)) u = (thread_leaves m t q t h).serves u
 move_serves m t q a h may (Moves.revokes fd f) u = (revoke_leaves m q t fd h (running_is m t may.running)).serves u

@@ -1,21 +1,25 @@
 -- What an act does, and what the kernel does after it.
-use Rattle.std.specs.Prelude.{ℕ, ◌≡◌, ◌+◌, Option, true}
+use Rattle.std.specs.Prelude.{ℕ, ◌≡◌, ◌+◌, ◌==◌, ◌&&◌, [], ◌∷◌, Option, false, not, true}
+use Rattle.std.proofs.lemmas.Bool.Decides.{nat_tests}
+use Rattle.dk_base.specs.declared.error.Errno.TheVariants.{EINVAL, ETIME}
+use Rattle.written_kernel.proofs.Refusals.{not_held}
 use Rattle.std.proofs.Common.{refl, sym, ◌∙◌, ap}
 use native.Mathlib.Omega.{arith}
 use Rattle.written_kernel.specs.Types.{Request}
 use Rattle.kernel_records.specs.declared.record.ThreadState.TheVariants as is
-use Rattle.kernel_records.specs.Words.{is_valid_in}
-use Rattle.written_kernel.specs.Words.{ActResult, MayTurn, State, act, can_go_on, is_running, settle, state_of, step, with_event_counted}
+use Rattle.kernel_records.specs.Words.{has_bad_count, insert_rows, is_valid_in, must_wait, refused_where}
+use Rattle.written_kernel.specs.Words.{ActResult, MayTurn, State, act, can_go_on, is_running, object_at, port, port_at, port_tests, process_of, settle, state_of, step, table_of, with_event_counted}
+use Rattle.kernel_invariant.specs.Coherent.{is_fit_wait}
 use Rattle.kernel_invariant.specs.Records.{record_of}
 use Rattle.kernel_invariant.specs.Invariant.{IsConsistent, Invariant}
 use Rattle.kernel_invariant.specs.Arrows.{Arrow}
 use Rattle.kernel_invariant.proofs.Later.{AreSameDone, by_act_later}
 use Rattle.written_kernel.proofs.Moves.{Moves, act_moves}
 use Rattle.written_kernel.proofs.Moves.IsBinding.{binds, unbinds}
-use Rattle.written_kernel.proofs.Moves.IsTurn.{awaits, finds, works, wakes}
+use Rattle.written_kernel.proofs.Moves.IsTurn.{awaits, finds, lost_port, waits_for_many, waits_for_one, wakes, was_interrupted, works}
 use Rattle.written_kernel.proofs.Moves.IsLeaving.{interrupts, exits}
 use Rattle.written_kernel.proofs.Moves.{is_quiet}
-use Rattle.kernel_invariant.proofs.Acts.{Does, bind_does, does_nothing, create_does, names_does, rows_does, set_param_does, turned_to, unbind_does}
+use Rattle.kernel_invariant.proofs.Acts.{Does, bind_does, channels_does, does_nothing, create_does, made_channel_does, names_does, retrieve_does, rows_does, set_param_does, turned_to, unbind_does}
 use Rattle.kernel_invariant.proofs.CallActs.{call_does, parked_return_does, unbound_return_does, begin_does, fail_does, collect_does}
 use Rattle.kernel_invariant.proofs.NoticeActs.{begin_notice_does}
 use Rattle.kernel_invariant.proofs.Consistent.{beside_consistent}
@@ -25,6 +29,10 @@ use Rattle.kernel_invariant.proofs.Settling.{Settles, idle_valid_of, is_at_rest,
 
 pub running_is : (m : State) (t : ℕ) → is_running m t ≡ true → state_of m t ≡ is.Running
 running_is m t e = grind arith
+
+-- a get of several that waits takes some, and asks for no more
+fits : (max nget : ℕ) → (max == 0) ≡ false → has_bad_count max nget ≡ false → not (is_fit_wait max nget false) ≡ false
+fits max nget z b = grind (arith, nat_tests, z, b)
 
 move_does : (m : State) (t : ℕ) (q : Option Request) (a : ActResult) → IsConsistent m → MayTurn m t q → Moves m t q a → Does m t q a
 move_does m t q a h may (Moves.nothing x _) = does_nothing m t q x h
@@ -38,6 +46,18 @@ move_does m t q a h may (Moves.turns s x w (awaits path e)) = turned_to m t q s 
 move_does m t q a h may (Moves.turns s x w (finds path e)) = turned_to m t q s x h (ap is_quiet e) w refl
 move_does m t q a h may (Moves.turns s x w (works op input e)) = turned_to m t q s x h (ap is_quiet e) w refl
 move_does m t q a h may (Moves.turns s x w (wakes e)) = wake_does m t q h e
+move_does m t q a h may (Moves.turns s x w (waits_for_one fd wait f n)) = turned_to m t q s x h (ap is_quiet (running_is m t may.running)) w refl
+move_does m t q a h may (Moves.turns s x w (waits_for_many fd max nget wait f z n)) =
+    turned_to m t q s x h (ap is_quiet (running_is m t may.running)) w
+    (fits max nget z
+    (not_held (port_tests (object_at m (process_of m t) fd)) (refused_where (has_bad_count max nget) EINVAL)
+    (refused_where (not wait && must_wait max nget (port m (port_at m (process_of m t) fd))) ETIME ∷ []) f))
+move_does m t q a h may (Moves.turns s x w (was_interrupted port max nget one e)) = turned_to m t q s x h (ap is_quiet e) w refl
+move_does m t q a h may (Moves.turns s x w (lost_port port max nget one e f)) = turned_to m t q s x h (ap is_quiet e) w refl
+move_does m t q a h may (Moves.passes r c x _) = channels_does m t q c x h
+move_does m t q a h may (Moves.makes_channel r c objects x _) =
+    made_channel_does m t q (insert_rows (table_of m (process_of m t)) objects) c x h (running_is m t may.running)
+move_does m t q a h may (Moves.retrieves port max nget one e) = retrieve_does m t q _ _ h (ap is_quiet e.waits)
 move_does m t q a h may (Moves.calls fd bytes pass rsize f) = call_does m t rsize fd bytes pass h (running_is m t may.running) f
 move_does m t q a h may (Moves.returns bytes pass f e) = parked_return_does m t bytes pass h (running_is m t may.running) f e
 move_does m t q a h may (Moves.returns_unbound bytes pass f e) = unbound_return_does m t bytes pass h (running_is m t may.running) f e

@@ -1,5 +1,5 @@
 -- What holds of threads, calls, notices, doors and processes at each time, in parts by what they read.
-use Rattle.std.specs.Prelude.{ℕ, ◌≡◌, ◌<◌, ◌≤◌, [], Option, Bool, if◌then◌else◌, not, true, false, Some, None, is_some}
+use Rattle.std.specs.Prelude.{ℕ, ◌≡◌, ◌<◌, ◌≤◌, ◌==◌, ◌&&◌, ◌||◌, [], Option, Bool, if◌then◌else◌, not, true, false, Some, None, is_some, nat_le, nat_lt}
 use Rattle.written_kernel.specs.Types.{Call, Door, Inv, NoticeStage, Process, ThreadState}
 use Rattle.dk_base.specs.declared.object.Item.TheVariants as item
 use Rattle.kernel_records.specs.declared.record.ThreadState.TheVariants as is
@@ -110,9 +110,13 @@ pub record AreThreads (process : ℕ → ℕ) (number : ℕ → Option ℕ) (pro
   -- the process of a thread is declared
   pub process_there : (t n : ℕ) → number t ≡ Some n → is_some (proc (process t)) ≡ true
 
+-- a wait at a port takes at least one event, and asks for no more than it takes; that of port_get(3C) takes and asks for one
+abbrev pub is_fit_wait : ℕ → ℕ → Bool → Bool
+is_fit_wait max nget one = nat_lt 0 max && (nat_le nget max && (not one || ((max == 1) && (nget == 1))))
+
 -- what no built kind of event makes of a thread: it goes as the capabilities come
 abbrev pub is_unbuilt : ThreadState → Bool
-is_unbuilt (is.Getting port max nget one interrupted) = true
+is_unbuilt (is.Getting port max nget one marked) = not (is_fit_wait max nget one)
 is_unbuilt (is.Working op input) = true
 is_unbuilt _ = false
 

@@ -13,8 +13,9 @@ use Rattle.kernel_records.specs.declared.record.CallStage.TheVariants as stage
 use Rattle.kernel_records.specs.Words.{cancelled_invocation, first_refusal, is_given_as, is_given_notice_as, is_to_collect_as, new_invocation, no_cancel_of, tid}
 use Rattle.capabilities.specs.Capability.{capability_of_attrs}
 use Rattle.capabilities.specs.declared.table.TheConstants.{BUILT}
-use Rattle.written_kernel.specs.Words.{State, act, door_of, falls_to_one, find_call, find_notice, has_invalid_door, has_lost_door, invocation_of, may_have_notice, name_of, process_of, refusal_of, return_answer, return_tests, state_of, step, with_event_counted}
+use Rattle.written_kernel.specs.Words.{State, act, can_end_getting, door_of, falls_to_one, find_call, find_notice, has_invalid_door, has_lost_door, invocation_of, may_have_notice, name_of, process_of, refusal_of, return_answer, return_tests, state_of, step, with_event_counted}
 use Rattle.kernel_invariant.specs.Records.{notice_of, record_of, stage_of}
+use Rattle.kernel_invariant.specs.Coherent.{is_fit_wait}
 use Rattle.kernel_invariant.specs.Invariant.{Invariant}
 use Rattle.kernel_invariant.specs.Arrows.{Arrow, EndsNow, NoticeArrow}
 
@@ -129,6 +130,15 @@ IsBuiltEntry m t (request.Await path) = Unit {0}
 IsBuiltEntry m t (request.Interrupt thread) = Unit {0}
 IsBuiltEntry m t (request.Kill process) = Unit {0}
 IsBuiltEntry m t request.Exit = Unit {0}
+IsBuiltEntry m t request.Pipe = Unit {0}
+IsBuiltEntry m t (request.Write fd bytes) = Unit {0}
+IsBuiltEntry m t (request.Read fd max) = Unit {0}
+IsBuiltEntry m t request.PortCreate = Unit {0}
+IsBuiltEntry m t (request.Get fd wait) = Unit {0}
+IsBuiltEntry m t (request.GetN fd max nget wait) = Unit {0}
+IsBuiltEntry m t (request.Send fd events user) = Unit {0}
+IsBuiltEntry m t (request.SendN fds events user) = Unit {0}
+IsBuiltEntry m t (request.Alert fd mode events user) = Unit {0}
 IsBuiltEntry m t r = ⊥
 
 -- the ends of waits that are built, each with what the thread waits for
@@ -136,6 +146,8 @@ abbrev pub IsBuiltEnd : State → ℕ → ThreadState → Type 0
 IsBuiltEnd m t (is.Given (item.Call c)) = IsMade (find_call m (is_given_as c t))
 IsBuiltEnd m t (is.Given (item.Notice c)) = IsMade (find_notice m (is_given_notice_as c t))
 IsBuiltEnd m t (is.Calling c) = IsMade (find_call m (is_to_collect_as c))
+IsBuiltEnd m t (is.Getting port max nget one marked) =
+    (can_end_getting m port nget marked ≡ true) × (is_fit_wait max nget one ≡ true)
 IsBuiltEnd m t (is.Awaiting path) = IsMade (name_of m path)
 IsBuiltEnd m t is.FailedReturn = Unit {0}
 IsBuiltEnd m t s = ⊥

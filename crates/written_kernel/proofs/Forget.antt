@@ -6,16 +6,18 @@ use Rattle.kernel_records.proofs.KeptLists.{count_by-kept, filter-kept, find-kep
 use Rattle.written_kernel.specs.Types.{Answer, Call, Door, Errno, Fd, Item, Name, Notice, Obj, Parked, Pass, PathId, Pool, Request, Stepped, Thread, ThreadState, Waiting}
 use Rattle.dk_base.specs.ByNumber.{at_number}
 use Rattle.dk_base.specs.declared.answer.Answer.TheVariants as answer
+use Rattle.dk_base.specs.declared.error.Errno.TheVariants.{EBADF, EINTR}
 use Rattle.dk_base.specs.declared.object.Item.TheVariants as item
 use Rattle.dk_base.specs.declared.object.Obj.TheVariants as obj
 use Rattle.dk_base.specs.declared.request.Request.TheVariants as request
 use Rattle.kernel_records.specs.declared.record.ThreadState.TheVariants as is
-use Rattle.kernel_records.specs.Words.{CallTree, Leaving, NoticeList, ProcessTable, collect_call, end_process, first_refusal, give_call, give_notice, has_many, has_notice, has_unref_multi, info_in, interruption, is_client_call_of, is_given_as, is_given_notice_as, is_kept_notice, is_last, is_live_call, is_queued_call, is_queued_in, is_served_by, is_to_collect_as, is_valid_door, is_waiting_notice, kept_notices, left_calls, left_notices, left_thread, left_thread_of, left_threads, live_calls, objects_of, objects_passed, pid, process_end, revocation, set_thread_state, takes_notices, thread_end, waiting_call, waiting_notice, with_notices}
+use Rattle.kernel_records.specs.Words.{CallTree, Leaving, NoticeList, ProcessTable, collect_call, end_process, first_refusal, give_call, give_notice, has_many, has_notice, has_unref_multi, info_in, interruption, is_client_call_of, is_given_as, is_given_notice_as, is_kept_notice, is_last, is_live_call, is_queued_call, is_queued_in, is_ready_for, is_served_by, is_to_collect_as, is_valid_door, is_waiting_notice, kept_notices, left_calls, left_notices, left_thread, left_thread_of, left_threads, live_calls, objects_of, objects_passed, pid, process_end, read_tests, refused_where, revocation, set_thread_state, takes_notices, thread_end, waiting_call, waiting_notice, with_notices, write_tests}
 use Rattle.written_kernel.specs.Step.{step}
-use Rattle.written_kernel.specs.Words.{ActResult, IsStep, StandsFor, State, Step, accept, accept_call, accept_notice, act, await, await_name, begin_call, begin_notice, bound_of, call, calls_waiting, caller_in, caller_of, can_go_on, client_call, client_process, collect, collect_answer_in, create, credentials, door_at, door_named, door_of, effect, enter, tests_of, exit, fail_begin, fail_each, fail_one, fail_return, fail_returns, falls_to_one, find_call, find_notice, forget, give, give_and_start, give_each, give_one, give_to, go_on, has_invalid_door, has_lost_door, has_room, holdings, information_of, interrupt, is_due, is_live_process, is_runnable, kill, leave, leave_process, leave_thread, make_each, make_notices, make_one, may_have_notice, name_of, named_object, needs_spare, new_call, now, no_act, object_at, objects_collected_in, pick, pool_of, process_of, reference_count, refs, refusal_of, return, return_parked, return_unbound, revoke, root, served_by, set_parameter, settle, start_each, start_one, start_spares, state_of, step_after, table_of, tables_after_collect, unless_refused, waiting_items, walk, with_event_counted, woken_among, woken_threads}
+use Rattle.written_kernel.specs.Words.{ActResult, IsStep, StandsFor, State, Step, accept, accept_call, accept_notice, act, await, await_name, begin_call, begin_notice, bound_of, call, caller_in, caller_of, calls_waiting, can_go_on, client_call, client_process, collect, collect_answer_in, create, credentials, door_at, door_named, door_of, effect, end_getting, enter, exit, fail_begin, fail_each, fail_one, fail_return, fail_returns, falls_to_one, find_call, find_notice, forget, get_from, give, give_and_start, give_each, give_one, give_to, go_on, has_invalid_door, has_lost_door, has_port_references, has_room, held_in, holdings, information_of, interrupt, is_due, is_live_process, is_reading_end, is_runnable, is_writing_end, kill, leave, leave_process, leave_thread, make_each, make_notices, make_one, may_have_notice, name_of, named_object, needs_spare, new_call, no_act, now, object_at, objects_collected_in, pick, pipe_at, pool_of, port, port_at, process_of, reference_count, references_of, refs, refusal_of, retrieve, return, return_parked, return_unbound, revoke, root, served_by, set_parameter, settle, start_each, start_one, start_spares, state_of, step_after, table_of, tables_after_collect, tell_queued, tests_of, unless_refused, wait_for, waiting_items, walk, with_event_counted, with_state, woken_among, woken_threads}
 use Rattle.written_kernel.proofs.CallLists.{HaveSameLive, IsOfLiveCalls, client_is_live, collect_call-live, enter_call-live, fail_call-live, give_call-live, given_as_is_live, left_calls-live, live_calls-live, objects-live, open_call-live, queued_call_is_live, queued_in_is_live, ready_as_is_live, return_call-live, served_is_live}
 use Rattle.kernel_records.proofs.Lists.{Extends, map-same}
 use Rattle.written_kernel.proofs.NoticeLists.{HaveSameKept, IsOfPresentNotices, KeepsMany, end_notice-kept, enter_notice-kept, give_notice-kept, given_notice_is_present, has_notice-kept, keeps_many_same, kept_notices-kept, kept_notices-later, left_notices-kept, make_notice-kept, present_is_kept, waiting_is_present}
+use Rattle.written_kernel.proofs.Moves.{act_result}
 use Rattle.written_kernel.proofs.Settling.{with_notice_of}
 use Rattle.written_kernel.proofs.Steps.{DoorIdentity, IsSameDoor, create-keeps, door-extends, door_identity, leave_process-keeps, revoke-keeps, set_param-keeps}
 
@@ -51,6 +53,12 @@ holdings-forget m = ap (λ os. flat_map objects_of m.tables ++ map named_object 
 pub refs-forget : (m : State) (o : Obj) → refs (forget m) o ≡ refs m o
 refs-forget m o = ap (filter _) (holdings-forget m)
 
+pub references_of-forget : (m : State) (o : Obj) → references_of (forget m) o ≡ references_of m o
+references_of-forget m o = ap length (refs-forget m o)
+
+has_port_references-forget : (m : State) (q : ℕ) → has_port_references (forget m) q ≡ has_port_references m q
+has_port_references-forget m q = ap (λ n. not (n == 0)) (references_of-forget m (obj.Port q))
+
 client_process-forget : (m : State) (o : Option Call) → client_process (forget m) o ≡ client_process m o
 client_process-forget m None = refl
 client_process-forget m (Some r) = refl
@@ -59,6 +67,8 @@ client_process-forget m (Some r) = refl
 
 can_go_on-forget : (m : State) (s : ThreadState) → can_go_on (forget m) s ≡ can_go_on m s
 can_go_on-forget m (is.Calling c) = ap is_some (find_call-forget m (is_to_collect_as c) (ready_as_is_live c))
+can_go_on-forget m (is.Getting q max nget one interrupted) =
+    ap (λ b. interrupted || (not b || is_ready_for nget (port m q))) (has_port_references-forget m q)
 can_go_on-forget m _ = refl
 
 pub is_runnable-forget : (m : State) (t : ℕ) → is_runnable (forget m) t ≡ is_runnable m t
@@ -339,6 +349,38 @@ collect-forget m t p c =
     (sym (find_call-forget m (is_to_collect_as c) (ready_as_is_live c)))
     (same_act (collect m t p c) (collect_call-live m.call_tree c (now m)) (same_notices m) refl)
 
+-- gets at ports
+
+get_from-forget :
+    (m : State) (t q max nget : ℕ) (one : Bool) → SameAct (get_from (forget m) t q max nget one) (get_from m t q max nget one)
+get_from-forget m t q max nget one = go (is_ready_for nget (port m q))
+  where
+    go :
+        (b : Bool) →
+        SameAct
+        (if b then retrieve (forget m) q max one else wait_for (forget m) t q max nget one)
+        (if b then retrieve m q max one else wait_for m t q max nget one)
+    go true = kept_act (retrieve m q max one)
+    go false = kept_act (wait_for m t q max nget one)
+
+end_getting-forget :
+    (m : State) (t q max : ℕ) (one interrupted : Bool) →
+    SameAct (end_getting (forget m) t q max one interrupted) (end_getting m t q max one interrupted)
+end_getting-forget m t q max one true = kept_act (act_result (with_state m t is.Running) (answer.Failure EINTR))
+end_getting-forget m t q max one false =
+    subst
+    (λ b. SameAct (ended b (forget m)) (end_getting m t q max one false))
+    (sym (has_port_references-forget m q))
+    (go (has_port_references m q))
+  where
+    ended : Bool → State → ActResult
+    ended b n =
+        if b then retrieve (with_state n t is.Running) q max one else act_result (with_state n t is.Running) (answer.Failure EBADF)
+
+    go : (b : Bool) → SameAct (ended b (forget m)) (ended b m)
+    go true = kept_act (retrieve (with_state m t is.Running) q max one)
+    go false = kept_act (act_result (with_state m t is.Running) (answer.Failure EBADF))
+
 -- entries: one that reads or changes calls has a line in these, the others are the same by their form
 
 pub tests_of-forget : (m : State) (t p : ℕ) (r : Request) → tests_of (forget m) t p r ≡ tests_of m t p r
@@ -346,6 +388,14 @@ tests_of-forget m t p (request.Call fd bytes pass rsize) =
     rw (calls_waiting-forget m (pool_of m (door_named (object_at m p fd))))
 tests_of-forget m t p (request.Return bytes pass) = rw (client_call-forget m t)
 tests_of-forget m t p request.Cred = rw (client_call-forget m t)
+tests_of-forget m t p (request.Write fd bytes) =
+    ap
+    (λ n. refused_where (not (is_writing_end (object_at m p fd))) EBADF ∷ write_tests (held_in m (pipe_at m p fd)) bytes n)
+    (references_of-forget m (obj.PipeIn (pipe_at m p fd)))
+tests_of-forget m t p (request.Read fd max) =
+    ap
+    (λ n. refused_where (not (is_reading_end (object_at m p fd))) EBADF ∷ read_tests (held_in m (pipe_at m p fd)) n)
+    (references_of-forget m (obj.PipeOut (pipe_at m p fd)))
 tests_of-forget m t p _ = refl
 
 pub refusal_of-forget : (m : State) (t p : ℕ) (r : Request) → refusal_of (forget m) t p r ≡ refusal_of m t p r
@@ -373,6 +423,16 @@ effect-forget m t p (request.Await path) = await-forget m t path
 effect-forget m t p (request.Interrupt thread) = interrupt-forget m thread.0
 effect-forget m t p (request.Kill process) = kill-forget m process.0
 effect-forget m t p request.Exit = exit-forget m t p
+effect-forget m t p (request.Get fd wait) = get_from-forget m t (port_at m p fd) 1 1 true
+effect-forget m t p (request.GetN fd max nget wait) = go (max == 0)
+  where
+    go :
+        (b : Bool) →
+        SameAct
+        (if b then tell_queued (forget m) (port_at m p fd) else get_from (forget m) t (port_at m p fd) max nget false)
+        (if b then tell_queued m (port_at m p fd) else get_from m t (port_at m p fd) max nget false)
+    go true = kept_act (tell_queued m (port_at m p fd))
+    go false = get_from-forget m t (port_at m p fd) max nget false
 effect-forget m t p r = kept_act (effect m t p r)
 
 unless_refused-forget :
@@ -390,6 +450,7 @@ enter-forget m t p r =
 pub go_on-forget : (m : State) (t p : ℕ) (s : ThreadState) → SameAct (go_on (forget m) t p s) (go_on m t p s)
 go_on-forget m t p (is.Given i) = accept-forget m t p i
 go_on-forget m t p (is.Calling c) = collect-forget m t p c
+go_on-forget m t p (is.Getting port max nget one interrupted) = end_getting-forget m t port max one interrupted
 go_on-forget m t p s = kept_act (go_on m t p s)
 
 pub act-forget : (m : State) (t : ℕ) (r : Option Request) → SameAct (act (forget m) t r) (act m t r)
@@ -434,7 +495,7 @@ give-forget m = ap (λ ws. forget (give_each (forget m) ws)) (waiting_items-forg
 -- the same doors are due
 
 pub reference_count-forget : (m : State) (d : ℕ) → reference_count (forget m) d ≡ reference_count m d
-reference_count-forget m d = ap length (refs-forget m (obj.Door d))
+reference_count-forget m d = references_of-forget m (obj.Door d)
 
 pub falls_to_one-forget : (before m : State) (d : ℕ) → falls_to_one (forget before) (forget m) d ≡ falls_to_one before m d
 falls_to_one-forget before m d =

@@ -17,3 +17,4 @@ pub mod Giving
 pub mod Numbers
 pub mod Leaving
 pub mod Moves
+pub mod Refusals

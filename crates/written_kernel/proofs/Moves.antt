@@ -1,8 +1,8 @@
 -- What an act does, by what it changes. Requests, refusals, what is looked up and room are told apart here once; a property of
 -- acts is a list of rows over these, and a row is told only what made it so.
-use Rattle.std.proofs.Common.{◌≡◌, ℕ, Bool, true, false, if◌then◌else◌, List, [], Option, None, Some, refl, sym, ap, subst, ◌∙◌, arith}
-use Rattle.written_kernel.specs.Types.{Answer, Call, CallStage, Errno, Fd, Item, Name, Notice, NoticeStage, Obj, Param, Pass, PathId, Pid, Request, ThreadState, Tid}
-use Rattle.dk_base.specs.declared.error.Errno.TheVariants.{EINVAL}
+use Rattle.std.proofs.Common.{◌≡◌, ℕ, Bool, true, false, if◌then◌else◌, ◌==◌, List, [], ◌∷◌, ◌+◌, length, map, Option, None, Some, refl, sym, ap, subst, ◌∙◌, arith}
+use Rattle.written_kernel.specs.Types.{AlertMode, Answer, Call, CallStage, Errno, Fd, Item, Name, Notice, NoticeStage, Obj, Param, Pass, PathId, Pid, Request, ThreadState, Tid}
+use Rattle.dk_base.specs.declared.error.Errno.TheVariants.{EBADF, EINTR, EINVAL}
 use Rattle.dk_base.specs.declared.object.Item.TheVariants as item
 use Rattle.dk_base.specs.declared.object.Obj.TheVariants as obj
 use Rattle.dk_base.specs.declared.request.Request.TheVariants as request
@@ -11,16 +11,18 @@ use Rattle.kernel_records.specs.declared.record.ThreadState.TheVariants as is
 use Rattle.std.proofs.lemmas.Bool.Decides.{nat_tests}
 use Rattle.kernel_records.specs.declared.record.CallStage.TheVariants as stage
 use Rattle.kernel_records.specs.declared.record.NoticeStage.TheVariants as notice
-use Rattle.kernel_records.specs.Words.{descriptor, free_place, is_given_stage, is_given_to, tid, Leaving, door_attached, interruption, is_given_as, is_given_notice_as, is_last, thread_end, with_name, with_row, without_name}
+use Rattle.kernel_records.specs.Words.{descriptor, alert_port, fitting, free_place, is_given_stage, is_ready_for, make_pipe, make_port, oldest, read_pipe, send_event, take_events, write_pipe, is_given_to, tid, Leaving, door_attached, interruption, is_given_as, is_given_notice_as, is_last, thread_end, with_name, with_row, without_name}
 use Rattle.kernel_records.proofs.NumberedLists.{find-passes}
 use Rattle.dk_base.specs.ByNumber.{with_at_number}
 use Rattle.written_kernel.specs.Acts.{ActResult, unless_refused}
 use Rattle.written_kernel.specs.Descriptors.{await, await_name, door_named}
-use Rattle.written_kernel.specs.Doors.{accept, accept_call, accept_notice, begin_call, begin_notice, call, collect, create, fail_begin, has_room, return, return_parked, return_unbound}
+use Rattle.written_kernel.specs.Doors.{accept, accept_call, accept_notice, begin_call, begin_notice, call, collect, create, fail_begin, has_room, return, return_parked, return_unbound, tables_with}
 use Rattle.written_kernel.specs.Binding.{information_of_bound}
 use Rattle.written_kernel.specs.Information.{credentials, information, parameter as get_parameter, door_at, set_parameter}
 use Rattle.written_kernel.specs.Leaving.{test_cancel, exit, kill, leave, leave_process, leave_thread, revoke}
-use Rattle.written_kernel.specs.State.{State, find_call, find_notice, has_invalid_door, is_live_process, name_of, object_at, process_of, state_of, table_of, with_state, with_table_of}
+use Rattle.written_kernel.specs.Pipes.{held_in, pipe_at, table_with_reader}
+use Rattle.written_kernel.specs.Ports.{after_sending_each, end_getting, errors_of_sending, found_answer, get, get_from, get_many, has_port_references, port, port_at, retrieve, tell_queued, wait_for}
+use Rattle.written_kernel.specs.State.{Channels, State, find_call, find_notice, has_invalid_door, is_live_process, name_of, object_at, process_of, state_of, table_of, with_state, with_table_of}
 use Rattle.written_kernel.specs.Step.{act, effect, enter, go_on, refusal_of}
 
 -- an act that leaves this state and answers this
@@ -41,6 +43,9 @@ pub data IsSaid (m : State) (t : ℕ) : Option Request → Answer → Type 0 whe
       IsSaid m t (Some (request.GetParam fd x)) (get_parameter m (process_of m t) fd x).answer
   names_client : IsFree m t request.Cred → IsSaid m t (Some request.Cred) (credentials m t).answer
   cancels : IsSaid m t (Some request.TestCancel) (test_cancel m t).answer
+  tells_queued :
+      (fd : Fd) (max nget : ℕ) (wait : Bool) → IsFree m t (request.GetN fd max nget wait) → (max == 0) ≡ true →
+      IsSaid m t (Some (request.GetN fd max nget wait)) (tell_queued m (port_at m (process_of m t) fd)).answer
   is_done : {q : Option Request} → IsSaid m t q answer.Done
 
 -- what comes into which row of the table of the thread's process, and what the thread is told
@@ -79,6 +84,70 @@ pub data IsTurn (m : State) (t : ℕ) : Option Request → ThreadState → Answe
   finds : (path : PathId) → state_of m t ≡ is.Awaiting path → IsTurn m t None is.Running answer.Done
   works : (op : _) (input : List ℕ) → state_of m t ≡ is.Working op input → IsTurn m t None is.Running (answer.Data [])
   wakes : state_of m t ≡ is.FailedReturn → IsTurn m t None is.Running (answer.Failure EINVAL)
+  waits_for_one :
+      (fd : Fd) (wait : Bool) → IsFree m t (request.Get fd wait) → is_ready_for 1 (port m (port_at m (process_of m t) fd)) ≡ false →
+      IsTurn m t (Some (request.Get fd wait)) (is.Getting (port_at m (process_of m t) fd) 1 1 true false) answer.Wait
+  waits_for_many :
+      (fd : Fd) (max nget : ℕ) (wait : Bool) → IsFree m t (request.GetN fd max nget wait) → (max == 0) ≡ false →
+      is_ready_for nget (port m (port_at m (process_of m t) fd)) ≡ false →
+      IsTurn m t (Some (request.GetN fd max nget wait)) (is.Getting (port_at m (process_of m t) fd) max nget false false) answer.Wait
+  was_interrupted :
+      (q max nget : ℕ) (one : Bool) → state_of m t ≡ is.Getting q max nget one true → IsTurn m t None is.Running (answer.Failure EINTR)
+  lost_port :
+      (q max nget : ℕ) (one : Bool) → state_of m t ≡ is.Getting q max nget one false → has_port_references m q ≡ false →
+      IsTurn m t None is.Running (answer.Failure EBADF)
+
+-- how the bytes of a pipe or the events of ports change by an entry, and what the thread is told
+pub data IsPassing (m : State) (t : ℕ) : Request → Channels → Answer → Type 0 where
+  writes :
+      (fd : Fd) (bytes : List ℕ) → IsFree m t (request.Write fd bytes) →
+      IsPassing m t (request.Write fd bytes) (record m.channels { pipes = write_pipe m.channels.pipes (pipe_at m (process_of m t) fd) bytes })
+      (answer.Count (length (fitting (held_in m (pipe_at m (process_of m t) fd)) bytes)))
+  reads :
+      (fd : Fd) (max : ℕ) → IsFree m t (request.Read fd max) →
+      IsPassing m t (request.Read fd max) (record m.channels { pipes = read_pipe m.channels.pipes (pipe_at m (process_of m t) fd) max })
+      (answer.Data (oldest (held_in m (pipe_at m (process_of m t) fd)) max))
+  sends :
+      (fd : Fd) (events user : ℕ) → IsFree m t (request.Send fd events user) →
+      IsPassing m t (request.Send fd events user)
+      (record m.channels { ports = send_event m.channels.ports (port_at m (process_of m t) fd) events user }) answer.Done
+  sends_each :
+      (fds : List Fd) (events user : ℕ) →
+      IsPassing m t (request.SendN fds events user)
+      (record m.channels { ports = after_sending_each m.channels.ports (map (object_at m (process_of m t)) fds) events user })
+      (answer.Errors (errors_of_sending m.channels.ports (map (object_at m (process_of m t)) fds) events user))
+  alerts :
+      (fd : Fd) (mode : AlertMode) (events user : ℕ) → IsFree m t (request.Alert fd mode events user) →
+      IsPassing m t (request.Alert fd mode events user)
+      (record m.channels { ports = alert_port m.channels.ports (port_at m (process_of m t) fd) events user }) answer.Done
+  gets :
+      (fd : Fd) (wait : Bool) → IsFree m t (request.Get fd wait) → is_ready_for 1 (port m (port_at m (process_of m t) fd)) ≡ true →
+      IsPassing m t (request.Get fd wait) (record m.channels { ports = take_events m.channels.ports (port_at m (process_of m t) fd) 1 })
+      (found_answer m (port_at m (process_of m t) fd) 1 true)
+  gets_many :
+      (fd : Fd) (max nget : ℕ) (wait : Bool) → IsFree m t (request.GetN fd max nget wait) → (max == 0) ≡ false →
+      is_ready_for nget (port m (port_at m (process_of m t) fd)) ≡ true →
+      IsPassing m t (request.GetN fd max nget wait)
+      (record m.channels { ports = take_events m.channels.ports (port_at m (process_of m t) fd) max })
+      (found_answer m (port_at m (process_of m t) fd) max false)
+
+-- which pipe or port is made, which objects get descriptors, and what the thread is told
+pub data IsMaking (m : State) (t : ℕ) : Request → Channels → List Obj → Answer → Type 0 where
+  makes_pipe :
+      IsFree m t request.Pipe →
+      IsMaking m t request.Pipe (record m.channels { pipes = make_pipe m.channels.pipes })
+      (obj.PipeIn (length m.channels.pipes + 1) ∷ obj.PipeOut (length m.channels.pipes + 1) ∷ [])
+      (answer.TwoFds (descriptor (free_place (table_of m (process_of m t))))
+      (descriptor (free_place (table_with_reader m (process_of m t) (length m.channels.pipes + 1)))))
+  makes_port :
+      IsFree m t request.PortCreate →
+      IsMaking m t request.PortCreate (record m.channels { ports = make_port m.channels.ports })
+      (obj.Port (length m.channels.ports + 1) ∷ []) (answer.NewFd (descriptor (free_place (table_of m (process_of m t)))))
+
+-- a thread that waits at a port goes on with what it finds there
+pub record IsGetting (m : State) (t q max nget : ℕ) (one : Bool) : Type 0 where
+  pub waits : state_of m t ≡ is.Getting q max nget one false
+  pub referred : has_port_references m q ≡ true
 
 -- by which no door, table or process changes
 pub data IsLeaving (m : State) (t : ℕ) : Request → Leaving → Type 0 where
@@ -134,6 +203,15 @@ pub data Moves (m : State) (t : ℕ) : Option Request → ActResult → Type 0 w
   collects : (c : ℕ) → state_of m t ≡ is.Calling c → Moves m t None (collect m t (process_of m t) c)
   leaves : (r : Request) (who : Leaving) → IsLeaving m t r who → Moves m t (Some r) (act_result (leave m who) answer.Done)
   revokes : (fd : Fd) → IsFree m t (request.Revoke fd) → Moves m t (Some (request.Revoke fd)) (revoke m (process_of m t) fd)
+  passes : (r : Request) (c : Channels) (a : Answer) → IsPassing m t r c a → Moves m t (Some r) (act_result (record m { channels = c }) a)
+  makes_channel :
+      (r : Request) (c : Channels) (objects : List Obj) (a : Answer) → IsMaking m t r c objects a →
+      Moves m t (Some r) (act_result (record m { tables = tables_with m (process_of m t) objects; channels = c }) a)
+  retrieves :
+      (q max nget : ℕ) (one : Bool) → IsGetting m t q max nget one →
+      Moves m t None
+      (act_result (record (with_state m t is.Running) { channels = record m.channels { ports = take_events m.channels.ports q max } })
+      (found_answer m q max one))
   ends : (r : Request) (p : ℕ) → IsEnding m t r p → Moves m t (Some r) (act_result (leave_process m p) answer.Done)
 
 -- whether callers, threads or doors leave by it
@@ -195,6 +273,35 @@ module _ (m : State) (t : ℕ) where
       go true e = ends _ _ (exits_last e)
       go false e = leaves _ _ (exits e)
 
+  get_moves : (fd : Fd) (wait : Bool) → IsFree m t (request.Get fd wait) → Moves m t (Some (request.Get fd wait)) (get m t (process_of m t) fd)
+  get_moves fd wait f = go (is_ready_for 1 (port m (port_at m (process_of m t) fd))) refl
+    where
+      go :
+          (b : Bool) → is_ready_for 1 (port m (port_at m (process_of m t) fd)) ≡ b →
+          Moves m t (Some (request.Get fd wait))
+          (if b then retrieve m (port_at m (process_of m t) fd) 1 true else wait_for m t (port_at m (process_of m t) fd) 1 1 true)
+      go true e = passes _ _ _ (gets fd wait f e)
+      go false e = turns _ _ refl (waits_for_one fd wait f e)
+
+  get_many_moves :
+      (fd : Fd) (max nget : ℕ) (wait : Bool) → IsFree m t (request.GetN fd max nget wait) →
+      Moves m t (Some (request.GetN fd max nget wait)) (get_many m t (process_of m t) fd max nget)
+  get_many_moves fd max nget wait f = by_max (max == 0) refl
+    where
+      by_events :
+          (max == 0) ≡ false → (b : Bool) → is_ready_for nget (port m (port_at m (process_of m t) fd)) ≡ b →
+          Moves m t (Some (request.GetN fd max nget wait))
+          (if b then retrieve m (port_at m (process_of m t) fd) max false else wait_for m t (port_at m (process_of m t) fd) max nget false)
+      by_events z true e = passes _ _ _ (gets_many fd max nget wait f z e)
+      by_events z false e = turns _ _ refl (waits_for_many fd max nget wait f z e)
+
+      by_max :
+          (b : Bool) → (max == 0) ≡ b →
+          Moves m t (Some (request.GetN fd max nget wait))
+          (if b then tell_queued m (port_at m (process_of m t) fd) else get_from m t (port_at m (process_of m t) fd) max nget false)
+      by_max true z = nothing _ (tells_queued fd max nget wait f z)
+      by_max false z = by_events z (is_ready_for nget (port m (port_at m (process_of m t) fd))) refl
+
   pub effect_moves : (r : Request) → IsFree m t r → Moves m t (Some r) (effect m t (process_of m t) r)
   effect_moves (request.Create entry cookie attrs) f = makes entry cookie attrs f
   effect_moves (request.Call fd bytes pass rsize) f = calls fd bytes pass rsize f
@@ -217,6 +324,15 @@ module _ (m : State) (t : ℕ) where
   effect_moves (request.GetParam fd x) f = nothing _ (values fd x f)
   effect_moves request.Cred f = nothing _ (names_client f)
   effect_moves request.TestCancel f = nothing _ cancels
+  effect_moves request.Pipe f = makes_channel _ _ _ _ (makes_pipe f)
+  effect_moves (request.Write fd bytes) f = passes _ _ _ (writes fd bytes f)
+  effect_moves (request.Read fd max) f = passes _ _ _ (reads fd max f)
+  effect_moves request.PortCreate f = makes_channel _ _ _ _ (makes_port f)
+  effect_moves (request.Get fd wait) f = get_moves fd wait f
+  effect_moves (request.GetN fd max nget wait) f = get_many_moves fd max nget wait f
+  effect_moves (request.Send fd events user) f = passes _ _ _ (sends fd events user f)
+  effect_moves (request.SendN fds events user) f = passes _ _ _ (sends_each fds events user)
+  effect_moves (request.Alert fd mode events user) f = passes _ _ _ (alerts fd mode events user f)
   effect_moves r f = nothing _ is_done
 
   enter_moves : (r : Request) → Moves m t (Some r) (enter m t (process_of m t) r)
@@ -264,9 +380,23 @@ module _ (m : State) (t : ℕ) where
             stage = i.1;
           }))
 
+  getting_moves :
+      (q max nget : ℕ) (one interrupted : Bool) → state_of m t ≡ is.Getting q max nget one interrupted →
+      Moves m t None (end_getting m t q max one interrupted)
+  getting_moves q max nget one true e = turns _ _ refl (was_interrupted q max nget one e)
+  getting_moves q max nget one false e = go (has_port_references m q) refl
+    where
+      go :
+          (b : Bool) → has_port_references m q ≡ b →
+          Moves m t None
+          (if b then retrieve (with_state m t is.Running) q max one else act_result (with_state m t is.Running) (answer.Failure EBADF))
+      go true f = retrieves q max nget one (record { waits = e; referred = f })
+      go false f = turns _ _ refl (lost_port q max nget one e f)
+
   go_on_moves : (s : ThreadState) → state_of m t ≡ s → Moves m t None (go_on m t (process_of m t) s)
   go_on_moves (is.Given i) e = accept_moves i e
   go_on_moves (is.Calling c) e = collects c e
+  go_on_moves (is.Getting q max nget one interrupted) e = getting_moves q max nget one interrupted e
   go_on_moves (is.Awaiting path) e = turns _ _ refl (finds path e)
   go_on_moves (is.Working op input) e = turns _ _ refl (works op input e)
   go_on_moves is.FailedReturn e = turns _ _ refl (wakes e)

@@ -1,10 +1,9 @@
 -- What the making of notices does: it changes the list of notices alone, and adds one for each door that is due; none where no
 -- references have changed.
-use Rattle.std.proofs.Common.{◌≡◌, ℕ, zero, suc, ◌+◌, ◌<◌, ◌≤◌, Bool, true, false, if◌then◌else◌, not, ◌==◌, ◌&&◌, ◌||◌, nat_lt, List, [], ◌∷◌, ◌++◌, Option, None, Some, length, refl, sym, ap, ap₂, ◌∙◌, ⊎_elim, arith, append-nil, true≢false}
+use Rattle.std.proofs.Common.{◌≡◌, ℕ, zero, suc, ◌+◌, ◌<◌, ◌≤◌, Bool, true, false, if◌then◌else◌, not, ◌==◌, ◌&&◌, ◌||◌, nat_lt, List, [], ◌∷◌, ◌++◌, Option, None, Some, length, refl, sym, ap, ap₂, ◌∙◌, arith, append-nil, true≢false}
 use Rattle.std.specs.List.{list_any}
 use Rattle.std.proofs.lemmas.Bool.Decides.{nat_tests}
 use Rattle.written_kernel.specs.Types.{Door}
-use Rattle.dk_base.specs.declared.object.Obj.TheVariants as obj
 use Rattle.kernel_records.specs.Words.{NoticeList, has_notice, has_unref_multi, is_notice_of, is_valid_door, make_notice, new_notice, takes_notices}
 use Rattle.written_kernel.specs.Notices.{falls_to_one, is_due, make_each, make_notices, make_one, may_have_notice, reference_count}
 use Rattle.written_kernel.specs.State.{State, door_of, now}

@@ -43,6 +43,7 @@ pub record IsOpened (m : State) : Type 0 where
   pub doors : m.doors ≡ []
   pub call_tree : m.call_tree ≡ record { made = 0; calls = [] }
   pub notice_list : m.notice_list ≡ record { made = 0; notices = [] }
+  pub channels : m.channels ≡ record { pipes = []; ports = [] }
   pub events : m.events ≡ 0
 
 -- how many there are
@@ -111,6 +112,7 @@ no_process-opened =
       doors = refl;
       call_tree = refl;
       notice_list = refl;
+      channels = refl;
       events = refl;
     }
   where
@@ -139,6 +141,7 @@ with_new_process-opened m limit h =
       doors = h.doors;
       call_tree = h.call_tree;
       notice_list = h.notice_list;
+      channels = h.channels;
       events = h.events;
     }
 
@@ -170,6 +173,7 @@ with_new_thread-opened m p spare there few h =
       doors = h.doors;
       call_tree = h.call_tree;
       notice_list = h.notice_list;
+      channels = h.channels;
       events = h.events;
     }
   where

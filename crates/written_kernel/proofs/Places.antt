@@ -1,5 +1,5 @@
 -- Lists whose items have the numbers of their places, and changes that no number shows.
-use Rattle.std.proofs.Common.{◌≡◌, ℕ, suc, List, [], ◌∷◌, Some, slice_get, sym, ap, ◌⊎◌, inl, inr, ⊎_elim}
+use Rattle.std.proofs.Common.{◌≡◌, ℕ, suc, List, [], ◌∷◌, Some, slice_get, sym, ap, ◌⊎◌, inl, inr}
 
 -- x is an item of the list
 abbrev pub IsIn : {X : Type 0} → X → List X → Type 0

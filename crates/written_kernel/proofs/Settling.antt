@@ -202,6 +202,9 @@ names-settle before m = ap (λ (n : State). n.names) (settle-alone before m)
 pub tables-settle : (before m : State) → (settle before m).tables ≡ m.tables
 tables-settle before m = ap (λ (n : State). n.tables) (settle-alone before m)
 
+pub channels-settle : (before m : State) → (settle before m).channels ≡ m.channels
+channels-settle before m = ap (λ (n : State). n.channels) (settle-alone before m)
+
 pub events-settle : (before m : State) → (settle before m).events ≡ m.events
 events-settle before m = ap (λ (n : State). n.events) (settle-alone before m)
 

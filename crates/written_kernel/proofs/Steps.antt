@@ -9,7 +9,7 @@ use Rattle.kernel_records.specs.declared.record.ThreadState.TheVariants as is
 use Rattle.kernel_records.specs.Words.{CallTree, Leaving, NoticeList, ProcessTable, close_row, close_table, end_owner, end_process, ended_process, free_place, free_row, insert_row, insert_rows, process_end, process_in, release_row, release_rows, revocation, revoke_door, revoked_door, set_param, thread_at_state, thread_outside, with_door, with_ended, with_param, with_row, with_table, change_thread}
 use Rattle.written_kernel.specs.Acts.{ActResult}
 use Rattle.written_kernel.proofs.Moves.{Moves, act_moves}
-use Rattle.written_kernel.specs.State.{State, now, process_of, table_of, thread_of, with_state, with_table_of}
+use Rattle.written_kernel.specs.State.{Channels, State, now, process_of, table_of, thread_of, with_state, with_table_of}
 use Rattle.written_kernel.specs.Descriptors.{insert_object}
 use Rattle.written_kernel.specs.Doors.{create, has_room, tables_after_collect, tables_after_pass, tables_with}
 use Rattle.written_kernel.specs.Leaving.{leave, leave_process, revoke}
@@ -214,6 +214,23 @@ names-keeps : (m : State) (names : List Name) → Keeps m (record m { names = na
 names-keeps m names =
     record { processes = refl; threads = refl; bindings = refl; tables = refl; doors = doors_same m.doors; events = refl }
 
+channels-keeps : (m : State) (c : Channels) → Keeps m (record m { channels = c })
+channels-keeps m c =
+    record { processes = refl; threads = refl; bindings = refl; tables = refl; doors = doors_same m.doors; events = refl }
+
+-- a pipe or a port is made, with its descriptors
+made_channel-keeps :
+    (m : State) (p : ℕ) (objects : List Obj) (c : Channels) → Keeps m (record m { tables = tables_with m p objects; channels = c })
+made_channel-keeps m p objects c =
+    record {
+      processes = refl;
+      threads = refl;
+      bindings = refl;
+      tables = with-long m p objects;
+      doors = doors_same m.doors;
+      events = refl;
+    }
+
 processes-end_process :
     (table : ProcessTable) (p : ℕ) → map process_identity (end_process table p).processes ≡ map process_identity table.processes
 processes-end_process table p = go (at_number table.processes p) refl
@@ -304,6 +321,9 @@ move-keeps m t q a (Moves.enters_notice n h) = thread-keeps m t _ m.call_tree _ 
 move-keeps m t q a (Moves.collects c e) = message-keeps m t _ _ _ m.notice_list (λ x. refl) (after_collect-long m (process_of m t) _)
 move-keeps m t q a (Moves.leaves r who _) = leave-keeps m who
 move-keeps m t q a (Moves.revokes fd f) = revoke-keeps m (process_of m t) fd
+move-keeps m t q a (Moves.passes r c x _) = channels-keeps m c
+move-keeps m t q a (Moves.makes_channel r c objects x _) = made_channel-keeps m (process_of m t) objects c
+move-keeps m t q a (Moves.retrieves port max nget one _) = keeps_then (with_state-keeps m t is.Running) (channels-keeps (with_state m t is.Running) _)
 move-keeps m t q a (Moves.ends r p _) = leave_process-keeps m p
 
 pub act-keeps : (m : State) (t : ℕ) (r : Option Request) → Keeps m (act m t r).state

@@ -2,7 +2,6 @@ pub mod Types
 pub mod State
 pub mod References
 pub mod Walks
-pub mod Turns
 pub mod Acts
 pub mod Subjects
 pub mod Doors
@@ -10,6 +9,9 @@ pub mod Descriptors
 pub mod Information
 pub mod Binding
 pub mod Leaving
+pub mod Pipes
+pub mod Ports
+pub mod Turns
 pub mod Notices
 pub mod Settle
 pub mod Step

@@ -14,6 +14,7 @@ no_process =
       doors = [];
       call_tree = record { made = 0; calls = [] };
       notice_list = record { made = 0; notices = [] };
+      channels = record { pipes = []; ports = [] };
       events = 0;
     }
 

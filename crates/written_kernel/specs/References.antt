@@ -1,6 +1,6 @@
 -- The references of an object: rows of tables, names, argument objects of calls that are Queued or Given, and result
 -- objects of calls that are Returned.
-use Rattle.std.specs.Prelude.{List, [], ◌++◌, Option, map, filter, flat_map}
+use Rattle.std.specs.Prelude.{ℕ, List, [], ◌++◌, Option, map, filter, flat_map, length}
 use Rattle.written_kernel.specs.Types.{Call, CallStage, Name, Obj}
 use Rattle.dk_base.specs.declared.object.Obj.TheVariants as obj
 use Rattle.kernel_records.specs.declared.record.CallStage.TheVariants as stage
@@ -28,3 +28,7 @@ holdings m = holdings_in m.tables m.names m.call_tree.calls
 
 abbrev pub refs : State → Obj → List Obj
 refs m o = filter (is_object o) (holdings m)
+
+-- how many an object has
+abbrev pub references_of : State → Obj → ℕ
+references_of m o = length (refs m o)

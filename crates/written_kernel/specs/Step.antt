@@ -14,6 +14,8 @@ use Rattle.written_kernel.specs.Descriptors.{effect_of_descriptors, end_await, t
 use Rattle.written_kernel.specs.Binding.{effect_of_bindings, tests_of_bindings}
 use Rattle.written_kernel.specs.Information.{effect_of_information, tests_of_information}
 use Rattle.written_kernel.specs.Leaving.{effect_of_leaving, tests_of_leaving, wake}
+use Rattle.written_kernel.specs.Pipes.{effect_of_pipes, tests_of_pipes}
+use Rattle.written_kernel.specs.Ports.{effect_of_ports, end_getting, tests_of_ports}
 use Rattle.written_kernel.specs.Settle.{settle}
 use Rattle.written_kernel.specs.Turns.{woken_threads}
 use Rattle.written_kernel.specs.Walks.{root}
@@ -26,6 +28,8 @@ tests_about Subject.bindings m t p r = tests_of_bindings m t p r
 tests_about Subject.information m t p r = tests_of_information m t p r
 tests_about Subject.descriptors m t p r = tests_of_descriptors m t p r
 tests_about Subject.leaving m t p r = tests_of_leaving m t p r
+tests_about Subject.pipes m t p r = tests_of_pipes m t p r
+tests_about Subject.ports m t p r = tests_of_ports m t p r
 tests_about Subject.unbuilt m t p r = []
 
 abbrev pub tests_of : State → ℕ → ℕ → Request → List Test
@@ -43,6 +47,8 @@ effect_about Subject.bindings m t p r = effect_of_bindings m t p r
 effect_about Subject.information m t p r = effect_of_information m t p r
 effect_about Subject.descriptors m t p r = effect_of_descriptors m t p r
 effect_about Subject.leaving m t p r = effect_of_leaving m t p r
+effect_about Subject.pipes m t p r = effect_of_pipes m t p r
+effect_about Subject.ports m t p r = effect_of_ports m t p r
 effect_about Subject.unbuilt m t p r = no_act m
 
 abbrev pub effect : State → ℕ → ℕ → Request → ActResult
@@ -60,6 +66,7 @@ end_work m t = record { state = with_state m t is.Running; answer = Data [] }
 abbrev pub go_on : State → ℕ → ℕ → ThreadState → ActResult
 go_on m t p (is.Given item) = accept m t p item
 go_on m t p (is.Calling c) = collect m t p c
+go_on m t p (is.Getting port max nget one interrupted) = end_getting m t port max one interrupted
 go_on m t p (is.Awaiting path) = end_await m t
 go_on m t p (is.Working op input) = end_work m t
 go_on m t p is.FailedReturn = wake m t

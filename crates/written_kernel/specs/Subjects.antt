@@ -8,6 +8,8 @@ pub data Subject : Type 0 where
   information : Subject
   descriptors : Subject
   leaving : Subject
+  pipes : Subject
+  ports : Subject
   -- of a capability that is not built: it goes as the capabilities come
   unbuilt : Subject
 
@@ -33,4 +35,13 @@ subject_of (request.Interrupt thread) = Subject.leaving
 subject_of (request.Kill process) = Subject.leaving
 subject_of request.Exit = Subject.leaving
 subject_of request.TestCancel = Subject.leaving
+subject_of request.Pipe = Subject.pipes
+subject_of (request.Write fd bytes) = Subject.pipes
+subject_of (request.Read fd max) = Subject.pipes
+subject_of request.PortCreate = Subject.ports
+subject_of (request.Get port wait) = Subject.ports
+subject_of (request.GetN port max nget wait) = Subject.ports
+subject_of (request.Send port events user) = Subject.ports
+subject_of (request.SendN fds events user) = Subject.ports
+subject_of (request.Alert port mode events user) = Subject.ports
 subject_of _ = Subject.unbuilt

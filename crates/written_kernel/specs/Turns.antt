@@ -1,22 +1,27 @@
 -- Which threads can take a turn.
-use Rattle.std.specs.Prelude.{ℕ, List, [], ◌∷◌, ◌++◌, Option, Bool, true, false, ◌&&◌, not, is_some, if◌then◌else◌, Some, None, zero, suc, length}
+use Rattle.std.specs.Prelude.{ℕ, List, [], ◌∷◌, ◌++◌, Option, Bool, true, false, ◌&&◌, ◌||◌, not, is_some, if◌then◌else◌, Some, None, zero, suc, length}
 use Rattle.written_kernel.specs.Types.{ThreadState, Tid}
 use Rattle.kernel_records.specs.declared.record.ThreadState.TheVariants as is
-use Rattle.kernel_records.specs.Words.{is_to_collect_as, tid}
+use Rattle.kernel_records.specs.Words.{is_ready_for, is_to_collect_as, tid}
 use Rattle.written_kernel.specs.State.{State, find_call, name_of, state_of}
+use Rattle.written_kernel.specs.Ports.{has_port_references, port}
 
 -- a call's caller can collect its results or its error
 abbrev pub has_answer : State → ℕ → Bool
 has_answer m c = is_some (find_call m (is_to_collect_as c))
 
--- a thread that waits is runnable where its wait can end. What a port has comes with the ports.
+-- a get at a port can end: the thread was interrupted, nothing refers to the port, or it is in alert mode or has so many events
+abbrev pub can_end_getting : State → ℕ → ℕ → Bool → Bool
+can_end_getting m q nget interrupted = interrupted || (not (has_port_references m q) || is_ready_for nget (port m q))
+
+-- a thread that waits is runnable where its wait can end
 abbrev pub can_go_on : State → ThreadState → Bool
 can_go_on m is.Dormant = false
 can_go_on m is.Running = true
 can_go_on m (is.Idle since) = false
 can_go_on m (is.Given item) = true
 can_go_on m (is.Calling c) = has_answer m c
-can_go_on m (is.Getting port max nget one interrupted) = interrupted
+can_go_on m (is.Getting port max nget one interrupted) = can_end_getting m port nget interrupted
 can_go_on m (is.Awaiting path) = is_some (name_of m path)
 can_go_on m (is.Working op input) = true
 can_go_on m is.FailedReturn = true

@@ -26,6 +26,8 @@ pub use Rattle.kernel_records.specs.declared.record.Process.{Process}
 pub use Rattle.kernel_records.specs.declared.record.ProcessStage.{ProcessStage}
 pub use Rattle.kernel_records.specs.declared.record.Thread.{Thread}
 pub use Rattle.kernel_records.specs.declared.record.ThreadState.{ThreadState}
+pub use Rattle.kernel_records.specs.declared.port.Queued.{Queued}
+pub use Rattle.dk_base.specs.declared.request.AlertMode.{AlertMode}
 pub use Rattle.dk_base.specs.declared.request.Param.{Param}
 pub use Rattle.dk_base.specs.declared.request.Request.{Request}
 pub use Rattle.dk_base.specs.declared.set.Attrs.{Attrs}
