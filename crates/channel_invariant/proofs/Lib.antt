@@ -1,0 +1,5 @@
+pub mod Elements
+pub mod Bounds
+pub mod References
+pub mod Acts
+pub mod Runs
