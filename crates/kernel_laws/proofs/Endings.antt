@@ -99,6 +99,7 @@ module _ (m : State) (t p : ℕ) (lives : is_ended m p ≡ false) where
   move_ends_one q a (Moves.fails r _ _) f = absurd (same_ends a.state (changed m t (idle_thread (now m))) f)
   move_ends_one q a (Moves.enters_notice n _) f = absurd (same_ends a.state (changed m t (thread_in_invocation (item.Notice n.number))) f)
   move_ends_one q a (Moves.collects c _) f = absurd (same_ends a.state (changed m t (thread_at_state is.Running)) f)
+  move_ends_one q a (Moves.retrieves port max nget one _) f = absurd (same_ends a.state (changed m t (thread_at_state is.Running)) f)
   move_ends_one q a (Moves.ends r e (kills_one process _)) f = kills process (ends_it process.0 f)
   move_ends_one q a (Moves.ends r e (exits_last l)) f =
       let same : process_of m t ≡ p = ends_it (process_of m t) f in

@@ -155,6 +155,7 @@ move_keeps m t q a i h (Moves.enters r e f) = change_keeps m.process_table t (th
 move_keeps m t q a i h (Moves.fails r e f) = change_keeps m.process_table t (idle_thread (now m)) h
 move_keeps m t q a i h (Moves.enters_notice n e) = change_keeps m.process_table t (thread_in_invocation (item.Notice n.number)) h
 move_keeps m t q a i h (Moves.collects c e) = change_keeps m.process_table t _ h
+move_keeps m t q a i h (Moves.retrieves port max nget one e) = change_keeps m.process_table t (thread_at_state is.Running) h
 move_keeps m t q a i h (Moves.leaves r who _) = leave_keeps m who i
 move_keeps m t q a i h (Moves.revokes fd f) = leave_keeps m (revocation (door_at m (process_of m t) fd)) i
 move_keeps m t q a i h (Moves.ends r p _) = leave_process_keeps m p i

@@ -1,21 +1,26 @@
 -- The table of refusals says what the step's tests say.
-use Rattle.std.specs.Prelude.{ℕ, ◌≡◌, ◌<◌, ◌==◌, ◌&&◌, ◌||◌, List, [], ◌∷◌, Option, Bool, true, false, if◌then◌else◌, not, Some, None, find, is_none, is_some, length, ◌≤◌}
+use Rattle.std.specs.Prelude.{ℕ, ◌≡◌, ◌<◌, ◌==◌, ◌&&◌, ◌||◌, List, [], ◌∷◌, Option, Bool, true, false, if◌then◌else◌, not, Some, None, find, is_none, is_some, length, ◌≤◌, ◌+◌, ◌++◌}
 use Rattle.std.specs.List.{position_or_len}
-use Rattle.std.proofs.Common.{refl, ap, ap₂, ◌∙◌}
+use Rattle.std.proofs.Common.{refl, ap, ap₂, ◌∙◌, nat_lt, sym, cond, nat_le}
 use native.Mathlib.Omega.{arith}
 use Rattle.std.proofs.lemmas.Bool.Decides.{nat_tests}
-use Rattle.written_kernel.specs.Types.{Call, CallStage, Door, Errno, Fd, Obj, Param, Request}
-use Rattle.dk_base.specs.declared.error.Errno.TheVariants.{EBADF, EBUSY, EINVAL, EMFILE, ENOENT, ENOTSUP, EPERM}
+use Rattle.written_kernel.specs.Types.{AlertMode, Call, CallStage, Door, Errno, Fd, Obj, Param, Request, Src, Queued}
+use Rattle.dk_base.specs.declared.error.Errno.TheVariants.{EAGAIN, EBADF, EBUSY, EINVAL, EMFILE, ENOENT, ENOTSUP, EPERM, EPIPE, ETIME, EBADFD}
 use Rattle.dk_base.specs.declared.object.Obj.TheVariants as obj
 use Rattle.dk_base.specs.declared.request.Param.TheVariants as param
 use Rattle.dk_base.specs.declared.request.Request.TheVariants as request
 use Rattle.kernel_records.specs.declared.record.CallStage.TheVariants as stage
-use Rattle.kernel_records.specs.Words.{free_rows, is_client_call_of, is_entered_by, is_of_descriptors, is_owned_by, is_private_in, is_valid_in, lowest_free, refuses_descriptors_in, would_have_no_size, first_refusal, set_param_tests}
-use Rattle.written_kernel.specs.Words.{State, door_at, door_named, door_of, is_door, object_at, refusal_of, table_of, name_of}
+use Rattle.kernel_records.specs.Words.{Pipe, Port, Test, alert_tests, bytes_in, first_refusal, free_rows, get_tests, getn_tests, is_client_call_of, is_entered_by, is_full_of, is_full_port, is_of_descriptors, is_of_nothing, is_of_user, is_owned_by, is_private_in, is_ready_for, is_update, is_user_event, is_valid_in, lowest_free, port_in, read_tests, refused_where, refuses_descriptors_in, send_tests, set_param_tests, user_events, would_have_no_size, write_tests}
+use Rattle.written_kernel.specs.Words.{State, door_at, door_named, door_of, held_in, is_door, is_reading_end, is_writing_end, name_of, object_at, pipe_named, port, port_named, port_tests, readers_of, refusal_of, table_of, writers_of}
 use Rattle.run_places.specs.Counts.{free_places, has_own_pool}
-use Rattle.kernel_laws.specs.Entries.{reasons, door_behind, first_reason, has_client_among, is_in, is_invalid, is_message, is_no_door, is_of_another, leaves_no_size, sets_descriptors}
+use Rattle.kernel_laws.specs.Entries.{Reason, count_sent, door_behind, first_reason, has_client_among, has_fewer, has_no_reader, has_no_writer, holds_all, holds_none, is_alerted, is_in, is_invalid, is_message, is_no_door, is_no_mode, is_no_port, is_no_reading_end, is_no_writing_end, is_of_another, is_of_update, is_sent, leaves_no_size, pipe_behind, port_behind, reasons, sets_descriptors, takes_no_more, where_so}
 use Rattle.run_places.proofs.Counts.{free_is}
 use Rattle.kernel_laws.proofs.Installed.{first_free-within}
+use Rattle.dk_base.specs.declared.object.Src.TheVariants as src
+use Rattle.dk_base.specs.declared.request.AlertMode.TheVariants as mode
+use Rattle.dk_base.specs.ByNumber.{at_number}
+use Rattle.run_places.proofs.References.{readers_left_are, writers_left_are}
+use Rattle.std.proofs.lemmas.List.Recursion.{is_count_by}
 
 -- each test
 
@@ -77,6 +82,54 @@ full_is t = go (free_places t == 0) refl
         let within : position_or_len is_none t < length t = first_free-within t some in
         grind (arith, nat_tests)
 
+few_is : (t : List (Option Obj)) → nat_lt (free_rows t) 2 ≡ nat_lt (free_places t) 2
+few_is t = ap (λ n. nat_lt n 2) (sym (free_is t))
+
+full_pipe_is : (o : Option Pipe) → is_full_of (bytes_in o) ≡ holds_all o
+full_pipe_is None = refl
+full_pipe_is (Some x) = grind (arith, nat_tests)
+
+empty_pipe_is : (o : Option Pipe) → (length (bytes_in o) == 0) ≡ holds_none o
+empty_pipe_is None = refl
+empty_pipe_is (Some x) = refl
+
+some_is : (n : ℕ) → nat_lt 0 n ≡ not (n == 0)
+some_is n = grind (arith, nat_tests)
+
+alerted_is : (o : Option Port) → is_some (port_in o).alert ≡ is_alerted o
+alerted_is None = refl
+alerted_is (Some x) = refl
+
+fewer_is : (o : Option Port) (n : ℕ) → not (is_ready_for n (port_in o)) ≡ (not (is_alerted o) && has_fewer o n)
+fewer_is None n = grind (arith, nat_tests)
+fewer_is (Some x) n = go (is_some x.alert)
+  where
+    go : (b : Bool) → not (b || nat_le n (length x.queue)) ≡ (not b && nat_lt (length x.queue) n)
+    go true = refl
+    go false = grind (arith, nat_tests)
+
+sent_is : (s : Src) → is_of_user s ≡ is_sent s
+sent_is src.User = refl
+sent_is _ = refl
+
+pub count_sent_is : (qs : List Queued) → count_sent qs ≡ user_events qs
+count_sent_is = is_count_by count_sent is_user_event refl go
+  where
+    go : (q : Queued) (qs : List Queued) → count_sent (q ∷ qs) ≡ cond (is_user_event q) (1 + count_sent qs) (count_sent qs)
+    go q qs = ap (λ (b : Bool). if b then 1 + count_sent qs else count_sent qs) (sym (sent_is q.rec.source))
+
+full_port_is : (o : Option Port) → is_full_port (port_in o) ≡ takes_no_more o
+full_port_is None = refl
+full_port_is (Some x) = let n = count_sent_is x.queue in grind (arith, nat_tests, n)
+
+no_mode_is : (x : AlertMode) → is_of_nothing x ≡ is_no_mode x
+no_mode_is mode.Nothing = refl
+no_mode_is _ = refl
+
+update_is : (x : AlertMode) → is_update x ≡ is_of_update x
+update_is mode.Update = refl
+update_is _ = refl
+
 in_is : (t : ℕ) (s : CallStage) → is_entered_by t s ≡ is_in t s
 in_is t (stage.Entered u) = refl
 in_is t _ = refl
@@ -105,6 +158,44 @@ on_valid m p fd = ap (λ o. not (is_valid_in o)) (behind_is m (object_at m p fd)
 
 on_own : (m : State) (p : ℕ) (fd : Fd) → not (is_owned_by p (door_of m (door_at m p fd))) ≡ is_of_another p (door_behind m (object_at m p fd))
 on_own m p fd = ap (λ o. not (is_owned_by p o)) (behind_is m (object_at m p fd)) ∙ another_is p (door_behind m (object_at m p fd))
+
+-- by what a descriptor names
+
+write_is :
+    (m : State) (bytes : List ℕ) (o : Option Obj) →
+    first_refusal (refused_where (not (is_writing_end o)) EBADF ∷ write_tests (held_in m (pipe_named o)) bytes (readers_of m (pipe_named o)))
+    ≡ first_reason
+    (where_so EBADF (is_no_writing_end o)
+    ∷ where_so EPIPE (has_no_reader m o)
+    ∷ where_so EAGAIN (nat_lt 0 (length bytes) && holds_all (pipe_behind m o))
+    ∷ [])
+write_is m bytes (Some (obj.PipeOut n)) =
+    two EPIPE EAGAIN _ _ _ _
+    (ap (λ k. k == 0) (sym (readers_left_are m n)))
+    (ap (λ b. nat_lt 0 (length bytes) && b) (full_pipe_is (at_number m.channels.pipes n)))
+write_is m bytes _ = refl
+
+read_is :
+    (m : State) (o : Option Obj) →
+    first_refusal (refused_where (not (is_reading_end o)) EBADF ∷ read_tests (held_in m (pipe_named o)) (writers_of m (pipe_named o)))
+    ≡ first_reason
+    (where_so EBADF (is_no_reading_end o) ∷ where_so EAGAIN (holds_none (pipe_behind m o) && not (has_no_writer m o)) ∷ [])
+read_is m (Some (obj.PipeIn n)) =
+    one EAGAIN _ _
+    (ap₂ (λ (a b : Bool). a && b)
+    (empty_pipe_is (at_number m.channels.pipes n))
+    (some_is (writers_of m n) ∙ ap (λ k. not (k == 0)) (sym (writers_left_are m n))))
+read_is m _ = refl
+
+-- what comes after a port was asked for
+module _ (m : State) (tests : Option Obj → List Test) (others : Option Obj → List Reason)
+    (same : (q : ℕ) → first_refusal (tests (Some (obj.Port q))) ≡ first_reason (others (Some (obj.Port q)))) where
+  of_port_is :
+      (o : Option Obj) →
+      first_refusal (port_tests o ++ tests o) ≡ first_reason (where_so EBADF (is_none o) ∷ where_so EBADFD (is_no_port o) ∷ others o)
+  of_port_is None = refl
+  of_port_is (Some (obj.Port q)) = same q
+  of_port_is (Some x) = refl
 
 pub refusal_is : (m : State) (t p : ℕ) (r : Request) → is_message r ≡ false → refusal_of m t p r ≡ first_reason (reasons m t p r)
 refusal_is m t p (request.Create entry cookie attrs) h = two EINVAL EMFILE _ _ _ _ refl (full_is (table_of m p))
@@ -137,4 +228,36 @@ refusal_is m t p (request.Attach fd path) h =
     ap (λ (b : Bool). if is_none (object_at m p fd) then Some EBADF else (if b then Some EINVAL else (if is_some (name_of m path) then Some EBUSY else None)))
     (no_door_is (object_at m p fd))
 refusal_is m t p (request.Open path) h = two ENOENT EMFILE _ _ _ _ refl (full_is (table_of m p))
+refusal_is m t p request.Pipe h = one EMFILE _ _ (few_is (table_of m p))
+refusal_is m t p (request.Write fd bytes) h = write_is m bytes (object_at m p fd)
+refusal_is m t p (request.Read fd max) h = read_is m (object_at m p fd)
+refusal_is m t p request.PortCreate h = one EMFILE _ _ (full_is (table_of m p))
+refusal_is m t p (request.Get fd wait) h =
+    of_port_is m
+    (λ o. get_tests wait (port m (port_named o)))
+    (λ o. where_so ETIME (not wait && (not (is_alerted (port_behind m o)) && has_fewer (port_behind m o) 1)) ∷ [])
+    (λ q. one ETIME _ _ (ap (λ b. not wait && b) (fewer_is (at_number m.channels.ports q) 1)))
+    (object_at m p fd)
+refusal_is m t p (request.GetN fd max nget wait) h =
+    of_port_is m
+    (λ o. getn_tests wait max nget (port m (port_named o)))
+    (λ o. where_so EINVAL (not (max == 0) && nat_lt max nget)
+    ∷ where_so ETIME (not wait && (not (max == 0) && (not (is_alerted (port_behind m o)) && has_fewer (port_behind m o) nget)))
+    ∷ [])
+    (λ q. two EINVAL ETIME _ _ _ _ refl (ap (λ b. not wait && (not (max == 0) && b)) (fewer_is (at_number m.channels.ports q) nget)))
+    (object_at m p fd)
+refusal_is m t p (request.Send fd events user) h =
+    of_port_is m
+    (λ o. send_tests (port m (port_named o)))
+    (λ o. where_so EAGAIN (takes_no_more (port_behind m o)) ∷ [])
+    (λ q. one EAGAIN _ _ (full_port_is (at_number m.channels.ports q)))
+    (object_at m p fd)
+refusal_is m t p (request.Alert fd x events user) h =
+    of_port_is m
+    (λ o. alert_tests x events (port m (port_named o)))
+    (λ o. where_so EINVAL (is_no_mode x) ∷ where_so EBUSY (is_of_update x && (not (events == 0) && is_alerted (port_behind m o))) ∷ [])
+    (λ q. two EINVAL EBUSY _ _ _ _
+    (no_mode_is x)
+    (ap₂ (λ (a b : Bool). a && (not (events == 0) && b)) (update_is x) (alerted_is (at_number m.channels.ports q))))
+    (object_at m p fd)
 refusal_is m t p _ h = refl

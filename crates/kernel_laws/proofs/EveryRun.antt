@@ -39,6 +39,9 @@ use Rattle.kernel_laws.proofs.InvalidDoors.{invalid_doors_hold}
 use Rattle.kernel_laws.proofs.Cancels.{cancels_holds}
 use Rattle.notice_laws.proofs.Notices.{notices_hold}
 use Rattle.kernel_laws.proofs.Pools.{bound_to_own, none_idle_in}
+use Rattle.kernel_laws.proofs.Bytes.{bytes_hold}
+use Rattle.kernel_laws.proofs.PortEvents.{port_events_hold}
+use Rattle.kernel_laws.proofs.Channels.{KnownChannels, known_channels}
 use Rattle.kernel_laws.specs.Entries.{first_reason, reasons, is_message}
 use Rattle.kernel_laws.proofs.Entries.{refusal_is}
 
@@ -128,9 +131,9 @@ events_shown m xs k =
       number = λ i x e. number-event_of m xs i x e ∙ omega (arith, k.no_event);
     }
 
-all_hold : (m : State) (xs : List Turn) → Known m xs → Laws m xs
+all_hold : (m : State) (xs : List Turn) → Known m xs → KnownChannels m xs → Laws m xs
 unfolding Laws
-all_hold m xs k =
+all_hold m xs k h =
     record {
       once = once_holds m xs k;
       match = match_holds m xs k;
@@ -159,10 +162,12 @@ all_hold m xs k =
       cancels = cancels_holds m xs k;
       notices = notices_hold m xs k;
       events_shown = events_shown m xs k;
+      bytes = bytes_hold m xs h;
+      port_events = port_events_hold m xs h;
     }
 
 pub laws_hold : (m : State) (xs : List Turn) → IsOpening m → IsRun m xs → Laws m xs
-laws_hold m xs opens run = all_hold m xs (known m xs opens run)
+laws_hold m xs opens run = all_hold m xs (known m xs opens run) (known_channels m xs opens run (known m xs opens run))
 
 pub none_idle_after : (m : State) (xs : List Turn) → IsOpening m → IsRun m xs → HasNoneIdle (state_after m xs)
 none_idle_after m xs opens run =

@@ -63,7 +63,7 @@ own_row t o h = row_after t o (free_place t) h ∙ grind (arith, nat_tests)
 some_room : (t : List (Option Obj)) (o : Obj) (os : List Obj) → length (o ∷ os) ≤ free_rows t → 0 < free_rows t
 some_room t o os h = omega (arith, h)
 
-room_left : (t : List (Option Obj)) (o : Obj) (os : List Obj) → length (o ∷ os) ≤ free_rows t → length os ≤ free_rows (insert_row t o)
+pub room_left : (t : List (Option Obj)) (o : Obj) (os : List Obj) → length (o ∷ os) ≤ free_rows t → length os ≤ free_rows (insert_row t o)
 room_left t o os h = omega (arith, h, one_less t o (some_room t o os h))
 
 -- each new descriptor was free

@@ -15,6 +15,10 @@ mod Left
 mod Endings
 mod Ends
 mod RowChanges
+mod Channels
+mod Bytes
+mod Sending
+mod PortEvents
 mod Given
 mod Waits
 mod InvalidDoors

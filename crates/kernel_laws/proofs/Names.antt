@@ -18,7 +18,8 @@ use Rattle.kernel_laws.specs.Names.{Attaches, IsAttached, NameChange, Names}
 use Rattle.run_places.specs.Places.{answer_at, process_at}
 use Rattle.run_places.proofs.Known.{Known, next}
 use Rattle.kernel_laws.proofs.RowChanges.{answers}
-use Rattle.kernel_laws.proofs.Tables.{not_held, not_refused}
+use Rattle.kernel_laws.proofs.Tables.{not_refused}
+use Rattle.written_kernel.proofs.Refusals.{not_held}
 
 same_path : (a b : PathId) → (b.0 == a.0) ≡ true → a ≡ b
 same_path a b e = ap (λ (n : ℕ). record { 0 = n }) (grind (arith, nat_tests))

@@ -6,31 +6,32 @@ use Rattle.std.proofs.Common.{refl, sym, ap, subst, ◌∙◌}
 use native.Mathlib.Omega.{arith}
 use Rattle.std.proofs.lemmas.Bool.Decides.{nat_tests}
 use Rattle.std.proofs.lemmas.List.{length-set}
-use Rattle.written_kernel.specs.Types.{Answer, Attrs, Call, CallStage, Fd, Obj, Pass, PathId, Request}
+use Rattle.written_kernel.specs.Types.{Answer, Attrs, Call, CallStage, Fd, Obj, Pass, PathId, Request, Queued}
 use Rattle.dk_base.specs.declared.error.Errno.TheVariants.{EBADF, EMFILE}
 use Rattle.dk_base.specs.declared.object.Obj.TheVariants as obj
 use Rattle.dk_base.specs.declared.request.Request.TheVariants as request
 use Rattle.dk_base.specs.declared.answer.Answer.TheVariants as answer
 use Rattle.dk_base.specs.ByNumber.{at_number}
 use Rattle.kernel_records.specs.declared.record.CallStage.TheVariants as stage
-use Rattle.kernel_records.specs.Words.{close_row, close_table, descriptor, door_attached, free_place, free_rows, new_door, refused_where, with_row, insert_row, insert_rows, is_to_collect_as, lowest_free, new_descriptors, object_in, object_named, release_rows, table_in, with_door, with_table}
-use Rattle.written_kernel.specs.Words.{ActResult, State, Turn, act, collect_answer, collect_answer_in, door_of, find_call, dup, effect, has_room, name_of, object_at, objects_collected, objects_collected_in, state_at, step, table_of, tables_after_collect, tables_with}
+use Rattle.kernel_records.specs.Words.{close_row, close_table, descriptor, door_attached, first_found, free_place, free_rows, insert_row, insert_rows, is_to_collect_as, lowest_free, make_pipe, make_port, new_descriptors, new_door, new_pipe, new_port, object_in, object_named, refused_where, release_rows, table_in, with_door, with_row, with_table}
+use Rattle.written_kernel.specs.Words.{ActResult, Channels, State, Turn, act, collect_answer, collect_answer_in, door_of, dup, effect, event_answer, find_call, found_answer, has_room, name_of, object_at, objects_collected, objects_collected_in, port, port_at, state_at, step, table_of, tables_after_collect, tables_with}
 use Rattle.kernel_records.proofs.Lists.{numbered_past, numbered_push, same_numbered, slice_get-slice_set}
-use Rattle.written_kernel.proofs.Settling.{doors-settle, tables-settle}
+use Rattle.written_kernel.proofs.Settling.{channels-settle, doors-settle, tables-settle}
 use Rattle.written_kernel.proofs.Steps.{act-keeps, length-insert_rows, length-release_rows}
-use Rattle.written_kernel.proofs.Moves.{IsEnding, IsFree, IsRow, IsSaid, IsTurn, Moves, act_moves}
+use Rattle.written_kernel.proofs.Moves.{IsEnding, IsFree, IsMaking, IsPassing, IsRow, IsSaid, IsTurn, Moves, act_moves, act_result}
 use Rattle.kernel_invariant.specs.Events.{IsMade}
 use Rattle.run_places.specs.Places.{IsCollect, answer_at, process_at}
 use Rattle.run_places.specs.Counts.{descriptors, limit_of}
 use Rattle.kernel_laws.specs.NoLoss.{Brings, Passes, is_descriptor, is_release_of}
 use Rattle.kernel_laws.specs.Ends.{EndsProcess}
-use Rattle.kernel_laws.specs.Rows.{AsksFor, Closes, IsAnswered, RowChange, Rows}
+use Rattle.kernel_laws.specs.Rows.{ArePipeEnds, AsksFor, Closes, IsAnswered, MakesPipe, RowChange, Rows}
 use Rattle.kernel_laws.proofs.Endings.{last_is}
-use Rattle.kernel_laws.proofs.Installed.{closes, lowest_place, not_released, other_row, others_stay, own_row, place_free, released_none, taken, table_elsewhere, table_then, were_free}
+use Rattle.kernel_laws.proofs.Installed.{closes, lowest_place, not_released, other_row, others_stay, own_row, place_free, released_none, room_left, taken, table_elsewhere, table_then, were_free}
 use Rattle.run_places.proofs.Known.{Known, invariant_before, next, stays}
 use Rattle.run_places.proofs.Passed.{Found, found_any, same_descriptor}
 use Rattle.run_places.proofs.ReturnRefusals.{no_return_refusal}
-use Rattle.kernel_laws.proofs.Tables.{not_held, not_refused, nothing_installed, tables-effect}
+use Rattle.kernel_laws.proofs.Tables.{Installs, installs, not_refused, nothing_installed, tables-effect}
+use Rattle.written_kernel.proofs.Refusals.{not_held}
 use Rattle.kernel_laws.proofs.NoLoss.{no_loss_holds}
 
 -- where one is free, some are
@@ -80,8 +81,14 @@ pub doors-step : (m : State) (t : ℕ) (q : Option Request) → (step m t q).sta
 unfolding step
 doors-step m t q = doors-settle m (act m t q).state
 
+pub channels-step : (m : State) (t : ℕ) (q : Option Request) → (step m t q).state.channels ≡ (act m t q).state.channels
+unfolding step
+channels-step m t q = channels-settle m (act m t q).state
+
+-- the answer tells a new descriptor, or two
 abbrev is_new : Answer → Bool
 is_new (answer.NewFd fd) = true
+is_new (answer.TwoFds reading writing) = true
 is_new _ = false
 
 -- what an act leaves of this event
@@ -90,6 +97,7 @@ record IsAct (m : State) (xs : List Turn) (i : ℕ) (x : Turn) (q : Option Reque
   answer : answer_at m xs i x ≡ a.answer
   tables : (state_at m xs (i + 1)).tables ≡ a.state.tables
   doors : (state_at m xs (i + 1)).doors ≡ a.state.doors
+  channels : (state_at m xs (i + 1)).channels ≡ a.state.channels
 
 module _ (m : State) (xs : List Turn) (k : Known m xs) (i : ℕ) (x : Turn) (e : slice_get xs i ≡ Some x) where
   abbrev before : State
@@ -240,6 +248,89 @@ module _ (m : State) (xs : List Turn) (k : Known m xs) (i : ℕ) (x : Turn) (e :
             ∙ grind (arith, nat_tests);
       }
 
+  -- pipes and ports that are made
+
+  abbrev next_port : ℕ
+  next_port = length (state_at m xs i).channels.ports + 1
+
+  abbrev next_pipe : ℕ
+  next_pipe = length (state_at m xs i).channels.pipes + 1
+
+  asked_port :
+      x.request ≡ Some request.PortCreate → (state_at m xs (i + 1)).channels.ports ≡ make_port (state_at m xs i).channels.ports →
+      AsksFor m xs i x (obj.Port next_port)
+  asked_port f g =
+      AsksFor.makes_port next_port f
+      (numbered_past (state_at m xs i).channels.ports next_port (omega arith))
+      (record {
+        made = new_port next_port;
+        there =
+            ap (λ ps. at_number ps next_port) g
+            ∙ numbered_push (state_at m xs i).channels.ports (new_port next_port) next_port
+            ∙ grind (arith, nat_tests);
+      })
+
+  pipe_is_made :
+      x.request ≡ Some request.Pipe → (state_at m xs (i + 1)).channels.pipes ≡ make_pipe (state_at m xs i).channels.pipes →
+      MakesPipe m xs i x next_pipe
+  pipe_is_made f g =
+      record {
+        asked = f;
+        none_before = numbered_past (state_at m xs i).channels.pipes next_pipe (omega arith);
+        made =
+            record {
+              made = new_pipe next_pipe;
+              there =
+                  ap (λ ps. at_number ps next_pipe) g
+                  ∙ numbered_push (state_at m xs i).channels.pipes (new_pipe next_pipe) next_pipe
+                  ∙ grind (arith, nat_tests);
+            };
+      }
+
+  -- both ends of a pipe
+  ends_move :
+      2 ≤ free_rows table →
+      answer_at m xs i x
+      ≡ answer.TwoFds (descriptor (free_place table)) (descriptor (free_place (insert_row table (obj.PipeIn next_pipe)))) →
+      MakesPipe m xs i x next_pipe → (fd : Fd) →
+      Row own fd (object_named table fd)
+      (object_named (insert_row (insert_row table (obj.PipeIn next_pipe)) (obj.PipeOut next_pipe)) fd)
+  ends_move l f made fd = go (fd.0 == free_place t) refl
+    where
+      t : List (Option Obj)
+      t = insert_row table (obj.PipeIn next_pipe)
+
+      w : Obj
+      w = obj.PipeOut next_pipe
+
+      go : (b : Bool) → (fd.0 == free_place t) ≡ b → Row own fd (object_named table fd) (object_named (insert_row t w) fd)
+      go true g =
+          let same : descriptor (free_place t) ≡ fd = same_descriptor (descriptor (free_place t)) fd (grind (arith, nat_tests)) in
+          subst (λ z. Row own z (object_named table z) (object_named (insert_row t w) z)) same
+          (moves_as own (descriptor (free_place t)) _ None _ (Some w)
+          (ap object_in (were_free table (obj.PipeIn next_pipe ∷ w ∷ []) 1 (descriptor (free_place t)) l refl))
+          (ap object_in (own_row t w (room_left table (obj.PipeIn next_pipe) (w ∷ []) l)))
+          (RowChange.writing next_pipe (descriptor (free_place table)) refl f made))
+      go false g =
+          moves_as own fd _ _ _ _ refl (ap object_in (other_row t w fd.0 g))
+          (insert_moves own table (obj.PipeIn next_pipe) (omega (arith, l)) (RowChange.reading next_pipe (descriptor (free_place t)) refl f made) fd)
+
+  -- two descriptors are free
+  two_free : IsFree (state_at m xs i) x.thread request.Pipe → 2 ≤ free_rows table
+  two_free f = let few : nat_lt (free_rows table) 2 ≡ false = not_held [] (refused_where (nat_lt (free_rows table) 2) EMFILE) [] f in grind (arith, nat_tests, few)
+
+  channel_moves :
+      (r : Request) (c : Channels) (objects : List Obj) (y : Answer) → IsMaking (state_at m xs i) x.thread r c objects y →
+      IsAct m xs i x (Some r) (act_result (record (state_at m xs i) { tables = tables_with (state_at m xs i) own objects; channels = c }) y) →
+      Moved (act_result (record (state_at m xs i) { tables = tables_with (state_at m xs i) own objects; channels = c }) y)
+  channel_moves r c objects y (IsMaking.makes_port f) h =
+      inserted (act_result (record (state_at m xs i) { tables = tables_with (state_at m xs i) own objects; channels = c }) y) (obj.Port next_port) h.answer
+      (not_held [] _ [] f) refl
+      (asked_port h.request (ap (λ (d : Channels). d.ports) h.channels))
+  channel_moves r c objects y (IsMaking.makes_pipe f) h =
+      by_table (tables_with (state_at m xs i) own objects) own (insert_rows table objects) refl (length-insert_rows table objects)
+      (ends_move (two_free f) h.answer (pipe_is_made h.request (ap (λ (d : Channels). d.pipes) h.channels)))
+
   return_moves :
       (bytes : List ℕ) (pass : List Pass) → IsFree (state_at m xs i) x.thread (request.Return bytes pass) →
       x.request ≡ Some (request.Return bytes pass) → (fd : Fd) → Row own fd (object_named table fd) (object_named (release_rows table pass) fd)
@@ -317,6 +408,7 @@ module _ (m : State) (xs : List Turn) (k : Known m xs) (i : ℕ) (x : Turn) (e :
   act_rows q a (Moves.ends r p f) h =
       by_table a.state.tables p (close_table (table_of (state_at m xs i) p)) refl (length-close_table (table_of (state_at m xs i) p))
       (λ fd. gone_row p fd _ _ (all_closed (table_of (state_at m xs i) p) fd.0) (λ o. RowChange.ended o (ends_moves r p h.request f)))
+  act_rows q a (Moves.makes_channel r c objects y f) h = channel_moves r c objects y f h
   act_rows q a _ h = λ p fd. RowChange.stays
 
   acts : IsAct m xs i x x.request (act (state_at m xs i) x.thread x.request)
@@ -326,6 +418,7 @@ module _ (m : State) (xs : List Turn) (k : Known m xs) (i : ℕ) (x : Turn) (e :
         answer = answers (state_at m xs i) x.thread x.request;
         tables = ap (λ (n : State). n.tables) (next m xs k i x e) ∙ tables-step (state_at m xs i) x.thread x.request;
         doors = ap (λ (n : State). n.doors) (next m xs k i x e) ∙ doors-step (state_at m xs i) x.thread x.request;
+        channels = ap (λ (n : State). n.channels) (next m xs k i x e) ∙ channels-step (state_at m xs i) x.thread x.request;
       }
 
   rows_here : (p : ℕ) (fd : Fd) → Row p fd (object_at (state_at m xs i) p fd) (object_at (state_at m xs (i + 1)) p fd)
@@ -358,6 +451,22 @@ module _ (m : State) (xs : List Turn) (k : Known m xs) (i : ℕ) (x : Turn) (e :
 
   not_new : (a : Answer) (fd : Fd) → answer.NewFd fd ≡ a → is_new a ≡ false → ⊥
   not_new a fd f g = absurd (cc (ap is_new f ∙ g))
+
+  not_two : (a : Answer) (reading writing : Fd) → answer.TwoFds reading writing ≡ a → is_new a ≡ false → ⊥
+  not_two a reading writing f g = absurd (cc (ap is_new f ∙ g))
+
+  new_of_found : (q max : ℕ) (one : Bool) → is_new (found_answer (state_at m xs i) q max one) ≡ false
+  new_of_found q max false = refl
+  new_of_found q max true = event (first_found (port (state_at m xs i) q))
+    where
+      event : (o : Option Queued) → is_new (event_answer o) ≡ false
+      event None = refl
+      event (Some z) = refl
+
+  new_of_passing : (r : Request) (c : Channels) (a : Answer) → IsPassing (state_at m xs i) x.thread r c a → is_new a ≡ false
+  new_of_passing r c a (IsPassing.gets fd wait f g) = new_of_found (port_at (state_at m xs i) own fd) 1 true
+  new_of_passing r c a (IsPassing.gets_many fd max nget wait f z g) = new_of_found (port_at (state_at m xs i) own fd) max false
+  new_of_passing r c a _ = refl
 
   new_of_said : (q : Option Request) (a : Answer) → IsSaid (state_at m xs i) x.thread q a → is_new a ≡ false
   new_of_said q a (IsSaid.refused r e f) = refl
@@ -406,6 +515,12 @@ module _ (m : State) (xs : List Turn) (k : Known m xs) (i : ℕ) (x : Turn) (e :
       (AsksFor.makes (length (state_at m xs i).doors + 1) entry cookie attrs h.request
       (numbered_past (state_at m xs i).doors _ (omega arith))
       (made entry cookie attrs h.doors))
+  act_told q a fd (Moves.passes r c y p) h g = absurd (not_new y fd g (new_of_passing r c y p))
+  act_told q a fd (Moves.retrieves port max nget one p) h g = absurd (not_new _ fd g (new_of_found port max one))
+  act_told q a fd (Moves.makes_channel r c objects y (IsMaking.makes_pipe f)) h g = absurd (cc g)
+  act_told q a fd (Moves.makes_channel r c objects y (IsMaking.makes_port f)) h g =
+      told_by a (obj.Port next_port) fd h.tables (not_held [] _ [] f) g
+      (asked_port h.request (ap (λ (d : Channels). d.ports) h.channels))
   act_told q a fd (Moves.nothing y s) h g = absurd (not_new y fd g (new_of_said q y s))
   act_told q a fd (Moves.turns s y w z) h g = absurd (not_new y fd g (new_of_turn q s y z))
   act_told q a fd (Moves.collects c f) h g = absurd (not_new _ fd g (new_of_collect (find_call (state_at m xs i) (is_to_collect_as c))))
@@ -414,6 +529,69 @@ module _ (m : State) (xs : List Turn) (k : Known m xs) (i : ℕ) (x : Turn) (e :
   told_here : (fd : Fd) → answer_at m xs i x ≡ answer.NewFd fd → IsAnswered m xs i x fd
   told_here fd f =
       act_told x.request (act (state_at m xs i) x.thread x.request) fd (act_moves (state_at m xs i) x.thread x.request) acts (sym f ∙ acts.answer)
+
+  -- the two ends of a pipe
+
+  abbrev reading_place : Fd
+  reading_place = descriptor (free_place table)
+
+  abbrev writing_place : Fd
+  writing_place = descriptor (free_place (insert_row table (obj.PipeIn next_pipe)))
+
+  ends_told :
+      (reading writing : Fd) → IsFree (state_at m xs i) x.thread request.Pipe → MakesPipe m xs i x next_pipe →
+      (state_at m xs (i + 1)).tables
+      ≡ tables_with (state_at m xs i) own (obj.PipeIn next_pipe ∷ obj.PipeOut next_pipe ∷ []) →
+      answer.TwoFds reading writing ≡ answer.TwoFds reading_place writing_place → ArePipeEnds m xs i x reading writing
+  ends_told reading writing f made g h =
+      subst (λ r. ArePipeEnds m xs i x r writing) first (subst (λ w. ArePipeEnds m xs i x reading_place w) second here)
+    where
+      first : reading_place ≡ reading
+      first = cc
+
+      second : writing_place ≡ writing
+      second = cc
+
+      objects : List Obj
+      objects = obj.PipeIn next_pipe ∷ obj.PipeOut next_pipe ∷ []
+
+      z : Installs (state_at m xs i) (state_at m xs (i + 1)) own (new_descriptors table objects) objects
+      z = let l : 2 ≤ free_rows table = two_free f in installs (state_at m xs i) (state_at m xs (i + 1)) own objects (grind (arith, nat_tests, l)) g
+
+      here : ArePipeEnds m xs i x reading_place writing_place
+      here =
+          record {
+            number = next_pipe;
+            makes = made;
+            reading_was_free = cc z.were_free;
+            writing_was_free = cc z.were_free;
+            lowest = z.lowest 0 reading_place refl;
+            next = z.lowest 1 writing_place refl;
+            names_reading = cc z.name_them;
+            names_writing = cc z.name_them;
+          }
+
+  act_piped :
+      (q : Option Request) (a : ActResult) (reading writing : Fd) → Moves (state_at m xs i) x.thread q a → IsAct m xs i x q a →
+      answer.TwoFds reading writing ≡ a.answer → ArePipeEnds m xs i x reading writing
+  act_piped q a reading writing (Moves.makes_channel r c objects y (IsMaking.makes_pipe f)) h g =
+      ends_told reading writing f (pipe_is_made h.request (ap (λ (d : Channels). d.pipes) h.channels)) h.tables g
+  act_piped q a reading writing (Moves.makes_channel r c objects y (IsMaking.makes_port f)) h g = absurd (cc g)
+  act_piped q a reading writing (Moves.rows r place o y (IsRow.closes gd f)) h g = absurd (cc g)
+  act_piped q a reading writing (Moves.rows r place o y _) h g = absurd (cc g)
+  act_piped q a reading writing (Moves.makes entry cookie attrs f) h g = absurd (cc g)
+  act_piped q a reading writing (Moves.passes r c y p) h g = absurd (not_two y reading writing g (new_of_passing r c y p))
+  act_piped q a reading writing (Moves.retrieves port max nget one p) h g = absurd (not_two _ reading writing g (new_of_found port max one))
+  act_piped q a reading writing (Moves.nothing y s) h g = absurd (not_two y reading writing g (new_of_said q y s))
+  act_piped q a reading writing (Moves.turns s y w z) h g = absurd (not_two y reading writing g (new_of_turn q s y z))
+  act_piped q a reading writing (Moves.collects c f) h g =
+      absurd (not_two _ reading writing g (new_of_collect (find_call (state_at m xs i) (is_to_collect_as c))))
+  act_piped q a reading writing _ h g = absurd (not_two _ reading writing g refl)
+
+  piped_here : (reading writing : Fd) → answer_at m xs i x ≡ answer.TwoFds reading writing → ArePipeEnds m xs i x reading writing
+  piped_here reading writing f =
+      act_piped x.request (act (state_at m xs i) x.thread x.request) reading writing (act_moves (state_at m xs i) x.thread x.request) acts
+      (sym f ∙ acts.answer)
 
   -- each table keeps its size
   size_stays : (p : ℕ) → descriptors (state_at m xs (i + 1)) p ≡ descriptors (state_at m xs i) p
@@ -449,6 +627,7 @@ rows_hold m xs k =
     record {
       each = λ i p x fd e. rows_here m xs k i x e p fd;
       answered = λ i x fd e. told_here m xs k i x e fd;
+      piped = λ i x reading writing e. piped_here m xs k i x e reading writing;
       closes = λ i x fd e. closes_here m xs k i x e fd;
       size =
           λ i p l.

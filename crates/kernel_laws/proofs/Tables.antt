@@ -1,6 +1,6 @@
 -- The tables after an event: what an accept and a collect install, and what a Call and a Return release. What the kernel does after
 -- an act leaves tables as they are.
-use Rattle.std.specs.Prelude.{ℕ, ◌≡◌, ◌++◌, ◌≤◌, ◌&&◌, ◌||◌, List, [], ◌∷◌, Option, Bool, true, false, if◌then◌else◌, Some, None, is_some, length, map, nat_lt, slice_get}
+use Rattle.std.specs.Prelude.{ℕ, ◌≡◌, ◌≤◌, ◌&&◌, ◌||◌, List, [], ◌∷◌, Option, Bool, true, false, if◌then◌else◌, Some, None, is_some, length, map, nat_lt, slice_get}
 use Rattle.std.specs.List.{list_any}
 use Rattle.std.proofs.Common.{refl, sym, ap, ◌∙◌}
 use native.Mathlib.Omega.{arith}
@@ -14,8 +14,9 @@ use Rattle.dk_base.specs.declared.request.Request.TheVariants as request
 use Rattle.dk_base.specs.declared.answer.Answer.TheVariants as answer
 use Rattle.kernel_records.specs.declared.record.ThreadState.TheVariants as is
 use Rattle.kernel_records.specs.declared.record.CallStage.TheVariants as stage
-use Rattle.kernel_records.specs.Words.{Test, call_number, first_refusal, free_rows, insert_rows, is_bad_pass, is_given_as, is_given_notice_as, is_not_open, is_to_collect_as, limit_tests, new_descriptors, object_in, object_named, objects_passed, refused_where, release_rows, table_in, tid, with_table}
+use Rattle.kernel_records.specs.Words.{call_number, free_rows, insert_rows, is_bad_pass, is_given_as, is_given_notice_as, is_not_open, is_to_collect_as, limit_tests, new_descriptors, object_in, object_named, objects_passed, refused_where, release_rows, table_in, tid, with_table}
 use Rattle.written_kernel.specs.Words.{State, accept_call, accept_notice, act, begin_call, client_call, collect_answer, collect_answer_in, door_named, door_of, effect, fail_begin, find_call, find_notice, go_on, has_room, object_at, objects_collected, objects_collected_in, pool_tests, process_of, refusal_of, return, return_parked, return_unbound, has_invalid_door, state_of, step, table_of, tables_after_collect, tables_after_pass, tables_with, unless_refused}
+use Rattle.written_kernel.proofs.Refusals.{not_held}
 use Rattle.written_kernel.proofs.Settling.{tables-settle}
 use Rattle.kernel_invariant.specs.Records.{record_of}
 use Rattle.kernel_invariant.specs.Arrows.{has_own_room, own_table}
@@ -96,7 +97,7 @@ same_elsewhere :
 same_elsewhere m n p t e q other fd =
     ap (λ u. object_named u fd) (ap (λ tables. table_in tables q) e ∙ table_elsewhere m.tables p q t other)
 
-installs :
+pub installs :
     (m n : State) (p : ℕ) (objects : List Obj) → has_room m p objects ≡ true → n.tables ≡ tables_with m p objects →
     Installs m n p (new_descriptors (table_of m p) objects) objects
 installs m n p objects room e =
@@ -240,10 +241,6 @@ pub not_refused :
     (m : State) (t : ℕ) (q : Option Request) (r : Request) (a : Answer) → q ≡ Some r → (step m t q).answer ≡ a →
     ((e : Errno) → a ≡ answer.Failure e → ⊥) → refusal_of m t (process_of m t) r ≡ None
 not_refused m t q r a e f h = none_of _ (λ x g. h x (sym f ∙ (entry_tells m t q r x e).1 (by_test x g)))
-
-pub not_held : (xs : List Test) (x : Test) (ys : List Test) → first_refusal (xs ++ x ∷ ys) ≡ None → x.holds ≡ false
-not_held [] x ys e = grind arith
-not_held (y ∷ xs) x ys e = grind (arith, not_held xs x ys)
 
 -- a Call or a Return that is not refused: what it passes names the objects that go, and what it releases is closed
 pub record Passed (m : State) (t : ℕ) (q : Option Request) (pass : List Pass) : Type 0 where

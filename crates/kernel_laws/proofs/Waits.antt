@@ -4,18 +4,18 @@ use Rattle.std.specs.Option.{option_map}
 use Rattle.std.proofs.Common.{refl, sym, ap, subst, ◌∙◌, inl, inr}
 use native.Mathlib.Omega.{arith}
 use Rattle.std.proofs.lemmas.Bool.Decides.{nat_tests}
-use Rattle.written_kernel.specs.Types.{Answer, Call, CallStage, Fd, Item, Request, Thread, ThreadState}
-use Rattle.dk_base.specs.declared.error.Errno.TheVariants.{EMFILE}
+use Rattle.written_kernel.specs.Types.{Answer, Call, CallStage, Fd, Item, Obj, Request, Thread, ThreadState, Queued}
+use Rattle.dk_base.specs.declared.error.Errno.TheVariants.{EBADF, EMFILE}
 use Rattle.dk_base.specs.declared.object.Item.TheVariants as item
 use Rattle.dk_base.specs.declared.answer.Answer.TheVariants as answer
 use Rattle.kernel_records.specs.declared.record.ThreadState.TheVariants as is
 use Rattle.kernel_records.specs.declared.record.CallStage.TheVariants as stage
-use Rattle.kernel_records.specs.Words.{Leaving, ProcessTable, cancelled_thread, change_thread, deserted_at, deserted_in, ended_thread, interrupted_state, is_left, idle_thread, interrupted_where, is_served_by, is_to_collect_as, left_thread, left_thread_of, process_end, revocation, state_in, thread_at, thread_at_state, thread_in_invocation, thread_outside, tid}
-use Rattle.written_kernel.specs.Words.{ActResult, MayTurn, State, Turn, accept_call, accept_notice, act, begin_call, collect_answer, collect_answer_in, door_at, fail_begin, find_call, give_one, go_on, has_room, leave, now, process_of, served_by, settle, state_at, state_of, step, thread_of}
+use Rattle.kernel_records.specs.Words.{Leaving, ProcessTable, cancelled_thread, change_thread, deserted_at, deserted_in, ended_thread, first_found, idle_thread, interrupted_state, interrupted_where, is_left, is_served_by, is_to_collect_as, left_thread, left_thread_of, process_end, revocation, state_in, thread_at, thread_at_state, thread_in_invocation, thread_outside, tid}
+use Rattle.written_kernel.specs.Words.{ActResult, Channels, MayTurn, State, Turn, accept_call, accept_notice, act, begin_call, collect_answer, collect_answer_in, door_at, event_answer, fail_begin, find_call, found_answer, give_one, go_on, has_port_references, has_room, leave, now, port, port_at, process_of, retrieve, served_by, settle, state_at, state_of, step, thread_of, with_state}
 use Rattle.kernel_records.proofs.Lists.{at_number-map}
 use Rattle.written_kernel.proofs.Settling.{settle-all}
 use Rattle.written_kernel.proofs.Threads.{thread_at-end_process}
-use Rattle.written_kernel.proofs.Moves.{IsRow, IsSaid, IsTurn, Moves, act_moves}
+use Rattle.written_kernel.proofs.Moves.{IsMaking, IsPassing, IsRow, IsSaid, IsTurn, Moves, act_moves, act_result}
 use Rattle.kernel_invariant.proofs.Steps.{running_is}
 use Rattle.kernel_invariant.specs.Core.{number_in}
 use Rattle.kernel_invariant.specs.Records.{stage_in}
@@ -156,10 +156,34 @@ module _ (m : State) (t : ℕ) (h : Invariant m) where
   row_said r place o a (IsRow.closes fd f) = refl
   row_said r place o a _ = refl
 
+  -- what is found at a port
+  found : (q max : ℕ) (one : Bool) → says_wait (found_answer m q max one) ≡ false
+  found q max false = refl
+  found q max true = event (first_found (port m q))
+    where
+      event : (o : Option Queued) → says_wait (event_answer o) ≡ false
+      event None = refl
+      event (Some x) = refl
+
+  passing_said : (r : Request) (c : Channels) (a : Answer) → IsPassing m t r c a → says_wait a ≡ false
+  passing_said r c a (IsPassing.gets fd wait f g) = found (port_at m (process_of m t) fd) 1 true
+  passing_said r c a (IsPassing.gets_many fd max nget wait f z g) = found (port_at m (process_of m t) fd) max false
+  passing_said r c a _ = refl
+
+  making_said : (r : Request) (c : Channels) (objects : List Obj) (a : Answer) → IsMaking m t r c objects a → says_wait a ≡ false
+  making_said r c objects a (IsMaking.makes_pipe f) = refl
+  making_said r c objects a _ = refl
+
   move_stands : (r : Request) (a : ActResult) → state_of m t ≡ is.Running → Moves m t (Some r) a → Stands a.answer (state_of a.state t)
   move_stands r a e (Moves.nothing x s) = goes (said r x s) (ap is_over e)
   move_stands r a e (Moves.rows q place o x s) = goes (row_said q place o x s) (ap is_over e)
   move_stands r a e (Moves.turns s x w (IsTurn.awaits path f)) = waits refl (ap is_parked (changed_here (there is.Running e (λ d. cc)) (thread_at_state (is.Awaiting path))))
+  move_stands r a e (Moves.turns s x w (IsTurn.waits_for_one fd wait f n)) =
+      waits refl (ap is_parked (changed_here (there is.Running e (λ d. cc)) (thread_at_state _)))
+  move_stands r a e (Moves.turns s x w (IsTurn.waits_for_many fd max nget wait f z n)) =
+      waits refl (ap is_parked (changed_here (there is.Running e (λ d. cc)) (thread_at_state _)))
+  move_stands r a e (Moves.passes q c x p) = goes (passing_said q c x p) (ap is_over e)
+  move_stands r a e (Moves.makes_channel q c os x p) = goes (making_said q c os x p) (ap is_over e)
   move_stands r a e (Moves.calls fd bytes pass rsize f) = waits refl (ap is_parked (changed_here (there is.Running e (λ d. cc)) (thread_at_state _)))
   move_stands r a e (Moves.returns bytes pass f v) = waits refl (ap is_parked (changed_here (there is.Running e (λ d. cc)) (idle_thread (now m))))
   move_stands r a e (Moves.returns_unbound bytes pass f v) =
@@ -205,6 +229,17 @@ module _ (m : State) (t : ℕ) (h : Invariant m) where
       told : (o : Option Call) → says_wait (collect_answer_in m (process_of m t) o) ≡ false
       told None = refl
       told (Some r) = of_stage r r.stage
+  end_stands (is.Getting q max nget one true) e b = goes refl (ap is_over (changed_here (there _ e (λ d. cc)) (thread_at_state is.Running)))
+  end_stands (is.Getting q max nget one false) e b = by_references (has_port_references m q)
+    where
+      by_references :
+          (d : Bool) →
+          Stands (if d then retrieve (with_state m t is.Running) q max one else act_result (with_state m t is.Running) (answer.Failure EBADF)).answer
+          (state_of
+          (if d then retrieve (with_state m t is.Running) q max one else act_result (with_state m t is.Running) (answer.Failure EBADF)).state
+          t)
+      by_references true = goes (found q max one) (ap is_over (changed_here (there _ e (λ d. cc)) (thread_at_state is.Running)))
+      by_references false = goes refl (ap is_over (changed_here (there _ e (λ d. cc)) (thread_at_state is.Running)))
   end_stands (is.Awaiting path) e b = goes refl (ap is_over (changed_here (there _ e (λ d. cc)) (thread_at_state is.Running)))
   end_stands is.FailedReturn e b = goes refl (ap is_over (changed_here (there _ e (λ d. cc)) (thread_at_state is.Running)))
   end_stands s e b = absurd b

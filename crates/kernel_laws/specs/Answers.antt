@@ -1,7 +1,7 @@
 -- Answers: an entry that answers no error gives the kind of answer that its request has, and the end of a wait gives one that belongs
 -- to what the thread waited in.
-use Rattle.std.specs.Prelude.{ℕ, ◌≡◌, ◌⊎◌, List, Bool, None, Some, slice_get}
-use Rattle.written_kernel.specs.Types.{Answer, Attrs, Errno, Fd, Param, Pass, PathId, Pid, Request, ThreadState, Tid}
+use Rattle.std.specs.Prelude.{ℕ, ◌≡◌, ◌≤◌, ◌⊎◌, List, Option, Bool, false, true, None, Some, length, slice_get}
+use Rattle.written_kernel.specs.Types.{AlertMode, Answer, Attrs, Errno, EventRec, Fd, Param, Pass, PathId, Pid, Request, ThreadState, Tid}
 use Rattle.dk_base.specs.declared.error.Errno.TheVariants.{EBADF, EINTR, EINVAL, EMFILE}
 use Rattle.dk_base.specs.declared.object.Item.TheVariants as item
 use Rattle.dk_base.specs.declared.answer.Answer.TheVariants as answer
@@ -9,6 +9,8 @@ use Rattle.dk_base.specs.declared.request.Request.TheVariants as request
 use Rattle.kernel_records.specs.declared.record.ThreadState.TheVariants as is
 use Rattle.written_kernel.specs.Words.{State, Turn, state_at, state_of}
 use Rattle.run_places.specs.Places.{answer_at}
+use Rattle.run_places.specs.References.{references_of_port}
+use Rattle.kernel_laws.specs.Channels.{AreEnough}
 
 -- a constructor for each kind of answer that a request has
 pub data Answers : Request → Answer → Type 0 where
@@ -35,22 +37,47 @@ pub data Answers : Request → Answer → Type 0 where
   interrupts : (thread : Tid) → Answers (request.Interrupt thread) answer.Done
   kills : (process : Pid) → Answers (request.Kill process) answer.Done
   exits : Answers request.Exit answer.Done
+  makes_pipe : (reading writing : Fd) → Answers request.Pipe (answer.TwoFds reading writing)
+  writes : (fd : Fd) (bytes : List ℕ) (n : ℕ) → n ≤ length bytes → Answers (request.Write fd bytes) (answer.Count n)
+  reads : (fd : Fd) (max : ℕ) (bytes : List ℕ) → length bytes ≤ max → Answers (request.Read fd max) (answer.Data bytes)
+  makes_port : (fd : Fd) → Answers request.PortCreate (answer.NewFd fd)
+  gets : (fd : Fd) (wait : Bool) (event : EventRec) → Answers (request.Get fd wait) (answer.OneEvent event)
+  waits_for_one : (fd : Fd) → Answers (request.Get fd true) answer.Wait
+  tells_queued : (fd : Fd) (max nget : ℕ) (wait : Bool) (n : ℕ) → max ≡ 0 → Answers (request.GetN fd max nget wait) (answer.Available n)
+  gets_many :
+      (fd : Fd) (max nget : ℕ) (wait : Bool) (events : List EventRec) → 1 ≤ max → length events ≤ max →
+      Answers (request.GetN fd max nget wait) (answer.Events events)
+  waits_for_many : (fd : Fd) (max nget : ℕ) → 1 ≤ max → Answers (request.GetN fd max nget true) answer.Wait
+  sends : (fd : Fd) (events user : ℕ) → Answers (request.Send fd events user) answer.Done
+  sends_each :
+      (fds : List Fd) (events user : ℕ) (errors : List (Option Errno)) → length errors ≡ length fds →
+      Answers (request.SendN fds events user) (answer.Errors errors)
+  alerts : (fd : Fd) (mode : AlertMode) (events user : ℕ) → Answers (request.Alert fd mode events user) answer.Done
 
 abbrev pub AnswersRequests : State → List Turn → Type 0
 AnswersRequests m xs = (i : ℕ) (x : Turn) (r : Request) → slice_get xs i ≡ Some x → x.request ≡ Some r → Answers r (answer_at m xs i x)
 
--- a constructor for each kind of answer that ends a wait, by what the thread waited in
-pub data EndAnswers : ThreadState → Answer → Type 0 where
+-- a constructor for each kind of answer that ends a wait in state m, by what the thread waited in
+pub data EndAnswers (m : State) : ThreadState → Answer → Type 0 where
   enters :
-      (c entry cookie : ℕ) (bytes : List ℕ) (fds : List Fd) → EndAnswers (is.Given (item.Call c)) (answer.Entered c entry cookie bytes fds)
-  fails_to_enter : (c : ℕ) → EndAnswers (is.Given (item.Call c)) (answer.EnterFailed c)
-  enters_notice : (n entry cookie : ℕ) → EndAnswers (is.Given (item.Notice n)) (answer.EnteredNotice n entry cookie)
-  collects : (c : ℕ) (bytes : List ℕ) (fds : List Fd) (grown : Bool) → EndAnswers (is.Calling c) (answer.Results bytes fds grown)
-  collects_error : (c : ℕ) (e : Errno) → (e ≡ EBADF) ⊎ ((e ≡ EINTR) ⊎ (e ≡ EMFILE)) → EndAnswers (is.Calling c) (answer.Failure e)
-  finds : (path : PathId) → EndAnswers (is.Awaiting path) answer.Done
-  wakes : EndAnswers is.FailedReturn (answer.Failure EINVAL)
+      (c entry cookie : ℕ) (bytes : List ℕ) (fds : List Fd) → EndAnswers m (is.Given (item.Call c)) (answer.Entered c entry cookie bytes fds)
+  fails_to_enter : (c : ℕ) → EndAnswers m (is.Given (item.Call c)) (answer.EnterFailed c)
+  enters_notice : (n entry cookie : ℕ) → EndAnswers m (is.Given (item.Notice n)) (answer.EnteredNotice n entry cookie)
+  collects : (c : ℕ) (bytes : List ℕ) (fds : List Fd) (grown : Bool) → EndAnswers m (is.Calling c) (answer.Results bytes fds grown)
+  collects_error : (c : ℕ) (e : Errno) → (e ≡ EBADF) ⊎ ((e ≡ EINTR) ⊎ (e ≡ EMFILE)) → EndAnswers m (is.Calling c) (answer.Failure e)
+  -- a thread that was interrupted is told so, and no other
+  was_interrupted : (port max nget : ℕ) (one : Bool) → EndAnswers m (is.Getting port max nget one true) (answer.Failure EINTR)
+  -- else one is told that nothing refers to the port, exactly where that is so
+  lost_port : (port max nget : ℕ) (one : Bool) → references_of_port m port ≡ 0 → EndAnswers m (is.Getting port max nget one false) (answer.Failure EBADF)
+  gets : (port max nget : ℕ) (event : EventRec) → 1 ≤ references_of_port m port → EndAnswers m (is.Getting port max nget true false) (answer.OneEvent event)
+  gets_many :
+      (port max nget : ℕ) (events : List EventRec) → 1 ≤ references_of_port m port → AreEnough m port max nget events →
+      EndAnswers m (is.Getting port max nget false false) (answer.Events events)
+  finds : (path : PathId) → EndAnswers m (is.Awaiting path) answer.Done
+  wakes : EndAnswers m is.FailedReturn (answer.Failure EINVAL)
 
 -- of each end of a wait
 abbrev pub AnswersEndsOfWaits : State → List Turn → Type 0
 AnswersEndsOfWaits m xs =
-    (i : ℕ) (x : Turn) → slice_get xs i ≡ Some x → x.request ≡ None → EndAnswers (state_of (state_at m xs i) x.thread) (answer_at m xs i x)
+    (i : ℕ) (x : Turn) → slice_get xs i ≡ Some x → x.request ≡ None →
+    EndAnswers (state_at m xs i) (state_of (state_at m xs i) x.thread) (answer_at m xs i x)

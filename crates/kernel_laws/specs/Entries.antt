@@ -1,14 +1,19 @@
 -- The table of refusals: the tests of each request in order, each with its error. Those of door_call(3C) and door_return(3C) have
 -- tables of their own.
-use Rattle.std.specs.Prelude.{ℕ, ◌==◌, ◌&&◌, ◌||◌, List, [], ◌∷◌, Option, Bool, true, false, if◌then◌else◌, not, Some, None, is_none, is_some, nat_lt}
-use Rattle.written_kernel.specs.Types.{Call, CallStage, Door, Errno, Fd, Obj, Param, Request}
-use Rattle.dk_base.specs.declared.error.Errno.TheVariants.{EBADF, EBUSY, EINVAL, EMFILE, ENOENT, ENOTSUP, EPERM}
+use Rattle.std.specs.Prelude.{ℕ, ◌==◌, ◌&&◌, ◌||◌, List, [], ◌∷◌, Option, Bool, true, false, if◌then◌else◌, not, Some, None, is_none, is_some, length, nat_lt, ◌+◌}
+use Rattle.written_kernel.specs.Types.{AlertMode, Call, CallStage, Door, Errno, Fd, Obj, Param, Queued, Request, Src}
+use Rattle.dk_base.specs.declared.error.Errno.TheVariants.{EAGAIN, EBADF, EBADFD, EBUSY, EINVAL, EMFILE, ENOENT, ENOTSUP, EPERM, EPIPE, ETIME}
 use Rattle.dk_base.specs.declared.object.Obj.TheVariants as obj
+use Rattle.dk_base.specs.declared.object.Src.TheVariants as src
+use Rattle.dk_base.specs.declared.request.AlertMode.TheVariants as mode
 use Rattle.dk_base.specs.declared.request.Param.TheVariants as param
 use Rattle.dk_base.specs.declared.request.Request.TheVariants as request
 use Rattle.kernel_records.specs.declared.record.CallStage.TheVariants as stage
+use Rattle.dk_base.specs.ByNumber.{at_number}
+use Rattle.kernel_records.specs.Words.{Pipe, Port}
 use Rattle.written_kernel.specs.Words.{State, bound_of, door_of, name_of, object_at}
 use Rattle.run_places.specs.Counts.{free_descriptors, has_attribute, has_own_pool}
+use Rattle.run_places.specs.References.{readers_left, writers_left}
 
 -- what a descriptor names is no door, and the door that it is
 
@@ -46,6 +51,81 @@ leaves_no_size param.DataMax value (Some d) = nat_lt value d.data_min
 leaves_no_size param.DataMin value (Some d) = nat_lt d.data_max value
 leaves_no_size param.DescMax value (Some d) = nat_lt d.data_max d.data_min
 
+-- what a descriptor names is no reading end, no writing end, no port
+
+abbrev pub is_no_reading_end : Option Obj → Bool
+is_no_reading_end (Some (obj.PipeIn n)) = false
+is_no_reading_end _ = true
+
+abbrev pub is_no_writing_end : Option Obj → Bool
+is_no_writing_end (Some (obj.PipeOut n)) = false
+is_no_writing_end _ = true
+
+abbrev pub is_no_port : Option Obj → Bool
+is_no_port (Some (obj.Port q)) = false
+is_no_port _ = true
+
+-- the pipe whose end it is, its other end having no reference, and the port that it is
+
+abbrev pub pipe_behind : State → Option Obj → Option Pipe
+pipe_behind m (Some (obj.PipeIn n)) = at_number m.channels.pipes n
+pipe_behind m (Some (obj.PipeOut n)) = at_number m.channels.pipes n
+pipe_behind m _ = None
+
+abbrev pub has_no_reader : State → Option Obj → Bool
+has_no_reader m (Some (obj.PipeOut n)) = readers_left m n == 0
+has_no_reader m _ = true
+
+abbrev pub has_no_writer : State → Option Obj → Bool
+has_no_writer m (Some (obj.PipeIn n)) = writers_left m n == 0
+has_no_writer m _ = true
+
+abbrev pub port_behind : State → Option Obj → Option Port
+port_behind m (Some (obj.Port q)) = at_number m.channels.ports q
+port_behind m _ = None
+
+-- a pipe holds its 4,096 bytes; it holds none
+
+abbrev pub holds_all : Option Pipe → Bool
+holds_all None = false
+holds_all (Some x) = not (nat_lt (length x.bytes) 4096)
+
+abbrev pub holds_none : Option Pipe → Bool
+holds_none None = true
+holds_none (Some x) = length x.bytes == 0
+
+-- a port is in alert mode; it has fewer events than these; 1,024 events that were sent are queued at it
+
+abbrev pub is_alerted : Option Port → Bool
+is_alerted None = false
+is_alerted (Some x) = is_some x.alert
+
+abbrev pub has_fewer : Option Port → ℕ → Bool
+has_fewer None n = nat_lt 0 n
+has_fewer (Some x) n = nat_lt (length x.queue) n
+
+abbrev pub is_sent : Src → Bool
+is_sent src.User = true
+is_sent _ = false
+
+abbrev pub count_sent : List Queued → ℕ
+count_sent [] = 0
+count_sent (q ∷ qs) = if is_sent q.rec.source then 1 + count_sent qs else count_sent qs
+
+abbrev pub takes_no_more : Option Port → Bool
+takes_no_more None = false
+takes_no_more (Some x) = not (nat_lt (count_sent x.queue) 1024)
+
+-- modes of port_alert(3C)
+
+abbrev pub is_no_mode : AlertMode → Bool
+is_no_mode mode.Nothing = true
+is_no_mode _ = false
+
+abbrev pub is_of_update : AlertMode → Bool
+is_of_update mode.Update = true
+is_of_update _ = false
+
 -- thread t has entered one of these calls, and its caller has not left it
 
 abbrev pub is_in : ℕ → CallStage → Bool
@@ -71,6 +151,10 @@ first_reason (x ∷ xs) = if x.holds then Some x.error else first_reason xs
 -- the one reason of entries that only want a door
 abbrev pub on_no_door : State → ℕ → Fd → List Reason
 on_no_door m p fd = where_so EBADF (is_no_door (object_at m p fd)) ∷ []
+
+-- and of those that want a port, whose reasons come before these
+abbrev pub on_no_port : State → ℕ → Fd → List Reason → List Reason
+on_no_port m p fd others = where_so EBADF (is_none (object_at m p fd)) ∷ where_so EBADFD (is_no_port (object_at m p fd)) ∷ others
 
 -- and of those that want a binding
 abbrev pub on_unbound : State → ℕ → List Reason
@@ -106,6 +190,34 @@ reasons m t p (request.Attach fd path) =
     ∷ []
 reasons m t p (request.Detach path) = where_so EINVAL (is_none (name_of m path)) ∷ []
 reasons m t p (request.Open path) = where_so ENOENT (is_none (name_of m path)) ∷ where_so EMFILE (free_descriptors m p == 0) ∷ []
+reasons m t p request.Pipe = where_so EMFILE (nat_lt (free_descriptors m p) 2) ∷ []
+reasons m t p (request.Write fd bytes) =
+    where_so EBADF (is_no_writing_end (object_at m p fd))
+    ∷ where_so EPIPE (has_no_reader m (object_at m p fd))
+    ∷ where_so EAGAIN (nat_lt 0 (length bytes) && holds_all (pipe_behind m (object_at m p fd)))
+    ∷ []
+reasons m t p (request.Read fd max) =
+    where_so EBADF (is_no_reading_end (object_at m p fd))
+    ∷ where_so EAGAIN (holds_none (pipe_behind m (object_at m p fd)) && not (has_no_writer m (object_at m p fd)))
+    ∷ []
+reasons m t p request.PortCreate = where_so EMFILE (free_descriptors m p == 0) ∷ []
+reasons m t p (request.Get fd wait) =
+    on_no_port m p fd
+    (where_so ETIME (not wait && (not (is_alerted (port_behind m (object_at m p fd))) && has_fewer (port_behind m (object_at m p fd)) 1)) ∷ [])
+reasons m t p (request.GetN fd max nget wait) =
+    on_no_port m p fd
+    (where_so EINVAL (not (max == 0) && nat_lt max nget)
+    ∷ where_so ETIME
+    (not wait
+    && (not (max == 0) && (not (is_alerted (port_behind m (object_at m p fd))) && has_fewer (port_behind m (object_at m p fd)) nget)))
+    ∷ [])
+reasons m t p (request.Send fd events user) =
+    on_no_port m p fd (where_so EAGAIN (takes_no_more (port_behind m (object_at m p fd))) ∷ [])
+reasons m t p (request.Alert fd set events user) =
+    on_no_port m p fd
+    (where_so EINVAL (is_no_mode set)
+    ∷ where_so EBUSY (is_of_update set && (not (events == 0) && is_alerted (port_behind m (object_at m p fd))))
+    ∷ [])
 reasons m t p r = []
 
 -- the requests with a table of their own

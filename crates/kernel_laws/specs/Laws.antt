@@ -21,6 +21,8 @@ use Rattle.kernel_laws.specs.InvalidDoors.{InvalidDoors}
 use Rattle.kernel_laws.specs.Cancels.{Cancels}
 use Rattle.notice_laws.specs.Notices.{Notices}
 use Rattle.kernel_laws.specs.EventsShown.{EventsShown}
+use Rattle.kernel_laws.specs.Bytes.{Bytes}
+use Rattle.kernel_laws.specs.PortEvents.{PortEvents}
 
 pub record AllLaws (m : State) (xs : List Turn) : Type 0 where
   pub once : Once m xs
@@ -45,6 +47,8 @@ pub record AllLaws (m : State) (xs : List Turn) : Type 0 where
   pub cancels : Cancels m xs
   pub notices : Notices m xs
   pub events_shown : EventsShown m xs
+  pub bytes : Bytes m xs
+  pub port_events : PortEvents m xs
 
 unfoldable pub Laws : State → List Turn → Type 0
 Laws m xs = AllLaws m xs

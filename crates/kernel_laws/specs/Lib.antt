@@ -14,6 +14,9 @@ pub mod Rows
 pub mod Given
 pub mod Waits
 pub mod Held
+pub mod Channels
+pub mod Bytes
+pub mod PortEvents
 pub mod Answers
 pub mod Names
 pub mod Bindings

@@ -68,6 +68,7 @@ move_none m t q a (Moves.enters r e f) l = change_none m.process_table t (thread
 move_none m t q a (Moves.fails r e f) l = change_none m.process_table t (idle_thread (now m)) (λ x d. absurd (cc d))
 move_none m t q a (Moves.enters_notice n e) l = change_none m.process_table t (thread_in_invocation (item.Notice n.number)) (λ x d. absurd (cc d))
 move_none m t q a (Moves.collects c e) l = turn_none m.process_table t is.Running (λ d. cc)
+move_none m t q a (Moves.retrieves port max nget one e) l = turn_none m.process_table t is.Running (λ d. cc)
 move_none m t q a (Moves.leaves r who e) l = absurd (cc l)
 move_none m t q a (Moves.revokes fd f) l = absurd (cc l)
 move_none m t q a (Moves.ends r p e) l = absurd (cc l)

@@ -4,15 +4,15 @@ use Rattle.std.proofs.Common.{refl, sym, ap, subst, ◌∙◌, inl, inr}
 use native.Mathlib.Omega.{arith}
 use Rattle.std.proofs.lemmas.Bool.Decides.{nat_tests, not_from_Decides, Decides-and, Decides-ltb, Decides-or}
 use Rattle.std.specs.Bool.{Decides}
-use Rattle.written_kernel.specs.Types.{Door, Errno, Fd, Obj, Pass, Request}
+use Rattle.written_kernel.specs.Types.{Answer, Door, Errno, Fd, Obj, Pass, Queued, Request}
 use Rattle.dk_base.specs.declared.error.Errno.TheVariants.{E2BIG, EAGAIN, EBADF, EINVAL, ENFILE, ENOBUFS, ENOTSUP}
 use Rattle.dk_base.specs.declared.limits.TheConstants.{DATA_MAX, PASS_MAX, QUEUE_MAX}
 use Rattle.dk_base.specs.declared.object.Obj.TheVariants as obj
 use Rattle.dk_base.specs.declared.request.Request.TheVariants as request
 use Rattle.dk_base.specs.declared.answer.Answer.TheVariants as answer
-use Rattle.written_kernel.proofs.Moves.{IsRow, IsSaid, IsTurn, Moves, act_moves}
-use Rattle.written_kernel.specs.Words.{ActResult, act, State, calls_waiting, door_named, door_of, effect, has_invalid_door, is_valid, pass_tests, pool_of, pool_tests, process_of, refusal_of, return, return_answer, return_parked, return_unbound, step, table_of, unless_refused}
-use Rattle.kernel_records.specs.Words.{first_refusal, has_refused_size, has_too_many, is_bad_pass, limit_tests, refuses_descriptors_in}
+use Rattle.written_kernel.proofs.Moves.{IsMaking, IsPassing, IsRow, IsSaid, IsTurn, Moves, act_moves}
+use Rattle.written_kernel.specs.Words.{ActResult, Channels, State, act, calls_waiting, door_named, door_of, effect, event_answer, found_answer, has_invalid_door, is_valid, pass_tests, pool_of, pool_tests, port, port_at, process_of, refusal_of, return, return_answer, return_parked, return_unbound, step, table_of, unless_refused}
+use Rattle.kernel_records.specs.Words.{first_found, first_refusal, has_refused_size, has_too_many, is_bad_pass, limit_tests, refuses_descriptors_in}
 use Rattle.run_places.specs.Counts.{calls_in_pool}
 use Rattle.run_places.proofs.Counts.{waiting_calls_are}
 use Rattle.run_places.specs.Refusals.{CannotPass, HasRefusedSize, HasTooMany, Refusal, RefusesPassed}
@@ -298,6 +298,24 @@ pub data FailsIn (m : State) (t : ℕ) (r : Request) : Errno → Type 0 where
 same_failure : (e f : Errno) → answer.Failure e ≡ answer.Failure f → e ≡ f
 same_failure e f h = cc
 
+-- what is found at a port is no error
+found_no_failure : (m : State) (q max : ℕ) (one : Bool) (e : Errno) → found_answer m q max one ≡ answer.Failure e → ⊥
+found_no_failure m q max false e h = cc
+found_no_failure m q max true e h = go (first_found (port m q)) h
+  where
+    go : (o : Option Queued) → event_answer o ≡ answer.Failure e → ⊥
+    go None f = cc
+    go (Some x) f = cc
+
+passing_no_failure : (m : State) (t : ℕ) (r : Request) (c : Channels) (a : Answer) (e : Errno) → IsPassing m t r c a → a ≡ answer.Failure e → ⊥
+passing_no_failure m t r c a e (IsPassing.writes fd bytes f) h = cc
+passing_no_failure m t r c a e (IsPassing.reads fd max f) h = cc
+passing_no_failure m t r c a e (IsPassing.sends fd events user f) h = cc
+passing_no_failure m t r c a e (IsPassing.sends_each fds events user) h = cc
+passing_no_failure m t r c a e (IsPassing.alerts fd mode events user f) h = cc
+passing_no_failure m t r c a e (IsPassing.gets fd wait f g) h = found_no_failure m (port_at m (process_of m t) fd) 1 true e h
+passing_no_failure m t r c a e (IsPassing.gets_many fd max nget wait f z g) h = found_no_failure m (port_at m (process_of m t) fd) max false e h
+
 -- what fails though it is not refused is a Return
 move_fails : (m : State) (t : ℕ) (r : Request) (a : ActResult) (e : Errno) → Moves m t (Some r) a → a.answer ≡ answer.Failure e → FailsIn m t r e
 move_fails m t r a e (Moves.nothing x (IsSaid.refused s f g)) h = subst (FailsIn m t r) (same_failure f e h) (by_test f g)
@@ -305,6 +323,10 @@ move_fails m t r a e (Moves.returns_unbound bytes pass n v) h =
     subst (FailsIn m t r) (same_failure EINVAL e h) (returned_unbound bytes pass refl n v)
 move_fails m t r a e (Moves.rows s place o x (IsRow.closes fd n)) h = absurd (cc h)
 move_fails m t r a e (Moves.turns s x w (IsTurn.awaits path n)) h = absurd (cc h)
+move_fails m t r a e (Moves.turns s x w (IsTurn.waits_for_one fd wait n f)) h = absurd (cc h)
+move_fails m t r a e (Moves.turns s x w (IsTurn.waits_for_many fd max nget wait n z f)) h = absurd (cc h)
+move_fails m t r a e (Moves.passes s c x p) h = absurd (passing_no_failure m t s c x e p h)
+move_fails m t r a e (Moves.makes_channel s c os x (IsMaking.makes_port f)) h = absurd (cc h)
 move_fails m t r a e x h = absurd (cc h)
 
 step_fails : (m : State) (t : ℕ) (r : Request) (e : Errno) → (step m t (Some r)).answer ≡ answer.Failure e → FailsIn m t r e

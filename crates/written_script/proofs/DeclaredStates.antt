@@ -1,18 +1,19 @@
 -- What the doors and calls of a state name is declared, and so is what the answers of its events name.
-use Rattle.std.proofs.Common.{◌≡◌, ℕ, ◌+◌, ◌≤◌, zero, suc, [], ◌∷◌, ◌++◌, Option, Some, None, Bool, true, false, if◌then◌else◌, is_none, length, arith, refl, subst, append-nil, unwrap_or}
+use Rattle.std.proofs.Common.{◌≡◌, ℕ, ◌+◌, ◌≤◌, List, zero, suc, [], ◌∷◌, ◌++◌, Option, Some, None, Bool, true, false, if◌then◌else◌, is_none, length, arith, refl, subst, append-nil, unwrap_or}
 use Rattle.std.specs.Prelude.{All}
 use Rattle.std.specs.Option.{option_map_or}
-use Rattle.std.proofs.lemmas.List.Elements.{All-nil, All-push, All-filter}
-use Rattle.written_kernel.specs.Types.{Call, Door, Item, Request}
+use Rattle.std.proofs.lemmas.List.Elements.{All-cons, All-nil, All-push, All-filter}
+use Rattle.written_kernel.specs.Types.{Answer, Call, Door, Item, Obj, Queued, Request}
 use Rattle.dk_base.specs.declared.error.Errno.TheVariants.{EMFILE}
 use Rattle.dk_base.specs.declared.object.Item.TheVariants as item
+use Rattle.dk_base.specs.declared.object.Obj.TheVariants as obj
 use Rattle.kernel_records.specs.declared.record.CallStage.TheVariants as stage
 use Rattle.kernel_records.specs.declared.record.NoticeStage.TheVariants as notice
-use Rattle.kernel_records.specs.Words.{bind_thread, enter_notice, give_notice, has_other_path, is_given_as, is_given_notice_as, is_queued_as, is_served_by, is_waiting_notice_as, make_notice, new_notice, objects_passed, tid}
-use Rattle.written_kernel.specs.Words.{ActResult, State, act, bound_of, caller_in, door_at, door_of, give_one, is_door, is_due, is_valid, is_waiting_state, new_call, now, object_at, process_of, return_parked, root, served_by, settle, state_of, step, table_of, waiting_among, waiting_threads, walk}
+use Rattle.kernel_records.specs.Words.{bind_thread, enter_notice, give_notice, has_other_path, is_given_as, is_given_notice_as, is_queued_as, is_served_by, is_waiting_notice_as, first_found, make_notice, new_notice, objects_passed, tid}
+use Rattle.written_kernel.specs.Words.{ActResult, Channels, State, act, event_answer, found_answer, port, port_at, tables_with, bound_of, caller_in, door_at, door_of, give_one, is_door, is_due, is_valid, is_waiting_state, new_call, now, object_at, process_of, return_parked, root, served_by, settle, state_of, step, table_of, waiting_among, waiting_threads, walk}
 use Rattle.kernel_records.proofs.Lists.{numbered_within}
 use Rattle.written_kernel.proofs.Settling.{settle-all, with_notice_of}
-use Rattle.written_kernel.proofs.Moves.{Moves, act_moves}
+use Rattle.written_kernel.proofs.Moves.{IsMaking, IsPassing, Moves, act_moves, act_result}
 use Rattle.written_kernel.proofs.Moves.IsSaid.{informs, informs_bound, names_client}
 use Rattle.written_kernel.proofs.Moves.IsRow.{closes, copies, opens}
 use Rattle.written_kernel.proofs.Moves.IsNaming.{attaches, detaches}
@@ -21,7 +22,7 @@ use Rattle.written_kernel.proofs.Moves.IsTurn.{awaits}
 use Rattle.script_lang.specs.Words.{ScriptValue}
 use Rattle.script_requests.specs.Words.{IsDeclaredAnswer, IsDeclaredThread, IsNumberOf, IsThread}
 use Rattle.script_requests.proofs.Elements.{All-find}
-use Rattle.written_script.proofs.DeclaredObjects.{IsKnownName, IsKnownNotice, binding-known, changed_notices-known, none-known, passed-known}
+use Rattle.written_script.proofs.DeclaredObjects.{IsKnownInTransit, IsKnownName, IsKnownNotice, binding-known, changed_notices-known, none-known, passed-known}
 use Rattle.written_script.proofs.KnownStates.{HasOwners, IsKnown, IsKnownAct, IsKnownCall, bindings-known, changed-known, emptied, installs-known, leave-known, leave_process-known, names-known, notices-known, opened-known, passes-known, set_param-known, staged, unbound-known, with_row-known}
 use Rattle.written_script.proofs.KnownActs.{MakesDeclared, attached-known, bound_door, client-known, collect-known, create-known, entry-known, holds_unless, info-known, named_door, names_door_then, returned-known, revoke-known, valid_door}
 
@@ -29,6 +30,46 @@ use Rattle.written_script.proofs.KnownActs.{MakesDeclared, attached-known, bound
 abbrev pub AsksDeclared : ScriptValue → Option Request → Type 0
 AsksDeclared script None = Unit {0}
 AsksDeclared script (Some r) = MakesDeclared script r
+
+-- what is found at a port names nothing that is declared
+found-known : (script : ScriptValue) (m : State) (q max : ℕ) (one : Bool) → IsDeclaredAnswer script (found_answer m q max one)
+found-known script m q max false = tt
+found-known script m q max true = event (first_found (port m q))
+  where
+    event : (o : Option Queued) → IsDeclaredAnswer script (event_answer o)
+    event None = tt
+    event (Some x) = tt
+
+passing-known :
+    (script : ScriptValue) (m : State) (t : ℕ) (r : Request) (c : Channels) (a : Answer) → IsPassing m t r c a → IsDeclaredAnswer script a
+passing-known script m t r c a (IsPassing.gets fd wait f g) = found-known script m (port_at m (process_of m t) fd) 1 true
+passing-known script m t r c a (IsPassing.gets_many fd max nget wait f z g) = found-known script m (port_at m (process_of m t) fd) max false
+passing-known script m t r c a _ = tt
+
+-- a pipe or a port that is made is no door
+making-known :
+    (script : ScriptValue) (m : State) (t : ℕ) (r : Request) (c : Channels) (objects : List Obj) (a : Answer) → IsKnown script m →
+    IsMaking m t r c objects a → IsKnownAct script (act_result (record m { tables = tables_with m (process_of m t) objects; channels = c }) a)
+making-known script m t r c objects a h (IsMaking.makes_pipe f) =
+    record {
+      state =
+          installs-known script m (process_of m t) objects
+          (All-cons (IsKnownInTransit (length m.doors)) (obj.PipeIn (length m.channels.pipes + 1)) (obj.PipeOut (length m.channels.pipes + 1) ∷ [])
+          (λ d e. absurd (cc e))
+          (All-cons (IsKnownInTransit (length m.doors)) (obj.PipeOut (length m.channels.pipes + 1)) [] (λ d e. absurd (cc e))
+          (All-nil (IsKnownInTransit (length m.doors)))))
+          h;
+      answer = tt;
+    }
+making-known script m t r c objects a h (IsMaking.makes_port f) =
+    record {
+      state =
+          installs-known script m (process_of m t) objects
+          (All-cons (IsKnownInTransit (length m.doors)) (obj.Port (length m.channels.ports + 1)) [] (λ d e. absurd (cc e))
+          (All-nil (IsKnownInTransit (length m.doors))))
+          h;
+      answer = tt;
+    }
 
 move-known :
     (script : ScriptValue) (m : State) (t : ℕ) (q : Option Request) (a : ActResult) → IsKnown script m → IsThread script t → HasOwners script m →
@@ -119,6 +160,9 @@ move-known script m t q a h thread owners made (Moves.enters_notice n e) =
           (All-find (IsKnownNotice (length m.doors)) (is_given_notice_as n.number t) m.notice_list.notices n h.notices e.found);
     }
 move-known script m t q a h thread owners made (Moves.collects c e) = collect-known script m t (process_of m t) c h
+move-known script m t q a h thread owners made (Moves.passes r c x e) = record { state = h; answer = passing-known script m t r c x e }
+move-known script m t q a h thread owners made (Moves.makes_channel r c objects x e) = making-known script m t r c objects x h e
+move-known script m t q a h thread owners made (Moves.retrieves port max nget one e) = record { state = h; answer = found-known script m port max one }
 move-known script m t q a h thread owners made (Moves.leaves r who _) = record { state = leave-known script m who h; answer = tt }
 move-known script m t q a h thread owners made (Moves.revokes fd e) = revoke-known script m (process_of m t) fd h
 move-known script m t q a h thread owners made (Moves.ends r p _) = record { state = leave_process-known script m p h; answer = tt }
