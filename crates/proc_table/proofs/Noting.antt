@@ -8,7 +8,7 @@ use Rattle.kernel_records.specs.Words.{ProcessTable, change_thread, change_threa
 use Rattle.kernel_records.proofs.Lists.{at_number-push, at_number-set, with_at_number-suc}
 use Rattle.kernel_records.proofs.Places.{numbered_here}
 use Rattle.proc_table.specs.declared.standing.Standing.{Standing}
-use Rattle.proc_table.specs.Standing.{AreNoted, IsNotedAt, goes_on, is_awaiting}
+use Rattle.proc_table.specs.Standing.{AreNoted, IsNotedAt, goes_on, is_awaiting, is_getting}
 use Rattle.thread_set.specs.declared.set.ThreadSet.{ThreadSet}
 use Rattle.thread_set.specs.Words.{has, with_thread}
 
@@ -16,7 +16,7 @@ by_test : (f : ThreadState → Bool) (x : Thread) (o : Option Thread) (b : Bool)
 by_test f x o true = refl
 by_test f x o false = refl
 
--- one of the two sets, by its test
+-- one of the sets, by its test
 module _ (f : ThreadState → Bool) (before after : ThreadSet) (xs : List Thread) (x : Thread) (here : (u : ℕ) → has before u ≡ f (state_in (at_number xs u))) where
   one_set :
       (t : ℕ) (ys : List Thread) → ((u : ℕ) → at_number ys u ≡ (if u == t then Some x else at_number xs u)) →
@@ -40,6 +40,7 @@ module _ {s r : Standing} {xs : List Thread} (a : AreNoted s xs) where
       record {
         going = one_set goes_on s.going r.going xs x a.going t ys is n.going;
         awaiting = one_set is_awaiting s.awaiting r.awaiting xs x a.awaiting t ys is n.awaiting;
+        getting = one_set is_getting s.getting r.getting xs x a.getting t ys is n.getting;
       }
 
   pub noted_set : (i t : ℕ) (x : Thread) → i < length xs → i + 1 ≡ t → IsNotedAt t x.state s r → AreNoted r (slice_set xs i x)
@@ -60,6 +61,7 @@ noted_same {s} {xs} a i x d l e =
     record {
       going = one_same goes_on s.going s.going xs x a.going (suc i) (slice_set xs i x) is there;
       awaiting = one_same is_awaiting s.awaiting s.awaiting xs x a.awaiting (suc i) (slice_set xs i x) is there;
+      getting = one_same is_getting s.getting s.getting xs x a.getting (suc i) (slice_set xs i x) is there;
     }
   where
     found : (i : ℕ) → i < length xs → at_number xs (suc i) ≡ Some (get_or xs i d)

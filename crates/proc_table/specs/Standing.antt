@@ -1,5 +1,5 @@
--- Which threads can take a turn by what they are at alone, and which wait for a path.
-use Rattle.std.specs.Prelude.{ℕ, ◌≡◌, Bool, true, false, List}
+-- Which threads can take a turn by what they are at alone, and which wait for a path or at a port.
+use Rattle.std.specs.Prelude.{ℕ, ◌≡◌, Bool, true, false, not, List}
 use Rattle.dk_base.specs.ByNumber.{at_number}
 use Rattle.kernel_records.specs.declared.record.Thread.{Thread}
 use Rattle.kernel_records.specs.declared.record.ThreadState.{ThreadState}
@@ -21,12 +21,19 @@ abbrev pub is_awaiting : ThreadState → Bool
 is_awaiting (is.Awaiting path) = true
 is_awaiting _ = false
 
--- both sets are those of these threads
+-- a thread at this waits at a port, and was not interrupted
+abbrev pub is_getting : ThreadState → Bool
+is_getting (is.Getting port max nget one interrupted) = not interrupted
+is_getting _ = false
+
+-- the sets are those of these threads
 pub record AreNoted (s : Standing) (threads : List Thread) : Type 0 where
   pub going : (t : ℕ) → has s.going t ≡ goes_on (state_in (at_number threads t))
   pub awaiting : (t : ℕ) → has s.awaiting t ≡ is_awaiting (state_in (at_number threads t))
+  pub getting : (t : ℕ) → has s.getting t ≡ is_getting (state_in (at_number threads t))
 
 -- a thread is noted anew, and no other
 pub record IsNotedAt (t : ℕ) (s : ThreadState) (before after : Standing) : Type 0 where
   pub going : (u : ℕ) → has after.going u ≡ with_thread before.going t (goes_on s) u
   pub awaiting : (u : ℕ) → has after.awaiting u ≡ with_thread before.awaiting t (is_awaiting s) u
+  pub getting : (u : ℕ) → has after.getting u ≡ with_thread before.getting t (is_getting s) u

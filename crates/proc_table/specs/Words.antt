@@ -1,3 +1,3 @@
 -- The words of this crate's specs, from one place, for the crates above.
 pub use Rattle.proc_table.specs.Ends.{end_proc, ended_where_of}
-pub use Rattle.proc_table.specs.Standing.{goes_on, is_awaiting}
+pub use Rattle.proc_table.specs.Standing.{goes_on, is_awaiting, is_getting}

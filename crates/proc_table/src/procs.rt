@@ -6,7 +6,7 @@ ghost use Rattle.dk_base.specs.declared.limits.TheConstants.{PROCESSES_MAX, THRE
 ghost use Rattle.dk_base.specs.ByNumber.{at_number};
 ghost use Rattle.kernel_records.specs.declared.record.ThreadState.TheVariants.{Done};
 ghost use Rattle.proc_table.specs.Ends.{end_proc, ended_where_of};
-ghost use Rattle.proc_table.specs.Standing.{goes_on, is_awaiting};
+ghost use Rattle.proc_table.specs.Standing.{goes_on, is_awaiting, is_getting};
 ghost use Rattle.thread_set.specs.Words.{has};
 ghost use Rattle.kernel_records.specs.Words.{ProcessTable, active_threads, cancelled_thread, change_thread, end_invocation, end_process, end_thread, enter_thread, give_thread, interrupted_thread, invocation_in, is_active_of, is_done, is_idle, is_idle_thread, is_last, is_live_in, keeps_alive, new_process, new_thread, opening_state, park_thread, process_in, set_thread_state, state_in, thread_at};
 
@@ -270,6 +270,13 @@ impl Procs {
         ensures { (t : ℕ) → has result t ≡ is_awaiting (state_in (thread_at self.now t)) }
     {
         self.standing.awaiting
+    }
+
+    /// The threads that wait at a port and were not interrupted.
+    pub fn getting(&self) -> ThreadSet
+        ensures { (t : ℕ) → has result t ≡ is_getting (state_in (thread_at self.now t)) }
+    {
+        self.standing.getting
     }
 
     /// A thread that has not ended turns to another state.

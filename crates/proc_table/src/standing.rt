@@ -1,17 +1,19 @@
-//! Which threads can take a turn by what they are at alone, and which wait for a path.
+//! Which threads can take a turn by what they are at alone, and which wait for a path or at a port.
 ghost use Rattle.std.specs.Prelude.{◌≡◌, ◌<◌, ◌≤◌, [], length};
 ghost use Rattle.dk_base.specs.declared.limits.TheConstants.{THREADS_MAX};
-ghost use Rattle.proc_table.specs.Standing.{AreNoted, IsNotedAt, goes_on, is_awaiting};
+ghost use Rattle.proc_table.specs.Standing.{AreNoted, IsNotedAt, goes_on, is_awaiting, is_getting};
 
 use dk_base::number::Tid;
 use kernel_records::record::{Thread, ThreadState};
 use thread_set::set::ThreadSet;
 
-/// Of all threads, those that can take a turn by what they are at alone, and those that wait for a path.
+/// Of all threads, those that can take a turn by what they are at alone, those that wait for a path, and those that wait at a port and
+/// were not interrupted.
 #[derive(Clone, Copy)]
 pub struct Standing {
     pub going: ThreadSet,
     pub awaiting: ThreadSet,
+    pub getting: ThreadSet,
 }
 
 /// Whether a thread at this can take a turn, whatever calls and names there are.
@@ -38,6 +40,15 @@ fn is_awaiting(state: &ThreadState) -> bool
     matches!(state, ThreadState::Awaiting { .. })
 }
 
+fn is_getting(state: &ThreadState) -> bool
+    ensures { result ≡ is_getting state.now }
+{
+    match state {
+        ThreadState::Getting { interrupted, .. } => !*interrupted,
+        _ => false,
+    }
+}
+
 impl Standing {
     /// Of no thread.
     pub fn new() -> Self
@@ -46,6 +57,7 @@ impl Standing {
         Standing {
             going: ThreadSet::new(),
             awaiting: ThreadSet::new(),
+            getting: ThreadSet::new(),
         }
     }
 
@@ -56,6 +68,7 @@ impl Standing {
     {
         self.going.put(t, goes_on(state));
         self.awaiting.put(t, is_awaiting(state));
+        self.getting.put(t, is_getting(state));
     }
 
     /// Of these threads, numbered from 1.
