@@ -1,4 +1,5 @@
 mod NoTable
+mod FreeTable
 pub mod Referring
 pub mod TableCounts
 pub mod Lowering

@@ -12,7 +12,7 @@ ghost use Rattle.call_tree.specs.Words.{HasRoomForCall, IsThread, is_called_by, 
 ghost use Rattle.exit_paths.specs.Words.{CanExit, HasExited, IsAsBefore};
 ghost use Rattle.unref_notice.specs.declared.counts.TheConstants.{STEP_MAX};
 ghost use Rattle.unref_notice.specs.Words.{count_of, was_shared};
-ghost use Rattle.kernel_holdings.specs.Words.{CanEnd, HasRoomToHold, TRANSIT_MAX, has_fallen_to_one, references_in, references_of, references_to, results_in};
+ghost use Rattle.kernel_holdings.specs.Words.{CanEnd, HasRoomToHold, TRANSIT_MAX, has_fallen_to_one, references_of, references_to, results_in};
 
 use crate::fallen::tell;
 use crate::leaving::leave;
@@ -91,11 +91,11 @@ impl Holdings {
         &self.calls
     }
 
-    /// How many references a door has: descriptors, names, and what is in transit with calls.
-    pub fn references(&self, d: u32) -> u64
-        ensures { result ≡ references_in self.now.tables self.now.names.names self.now.calls.tree.calls d }
+    /// How many references an object has: descriptors, names, and what is in transit with calls.
+    pub fn references_to(&self, object: Obj) -> u64
+        ensures { result ≡ references_of self.now object }
     {
-        self.counts.count(Obj::Door(d))
+        self.counts.count(object)
     }
 
     /// What a descriptor of a process names.
@@ -193,6 +193,22 @@ impl Holdings {
         self.are_few();
         self.counts.up(object);
         self.tables.insert(p, object)
+    }
+
+    /// Two objects get the two lowest free descriptors of a process that has so many, the first one the lower.
+    pub fn insert_two(&mut self, p: Pid, first: Obj, second: Obj) -> (Fd, Fd)
+        requires free { 2 ≤ free_rows (table_in self.old.tables p.0) }
+        requires left { 2 ≤ self.old.left }
+        ensures same { self.new ≡ record (self.old) { tables = with_table self.old.tables p.0 (insert_rows (table_in self.old.tables p.0) (first ∷ second ∷ [])); left = self.new.left } }
+        ensures first { result.0 ≡ descriptor (free_place (table_in self.old.tables p.0)) }
+        ensures second { result.1 ≡ descriptor (free_place (insert_row (table_in self.old.tables p.0) first)) }
+        ensures left { self.old.left ≤ self.new.left + 2 }
+        ensures references { (o : Obj) → references_of self.new o ≤ references_of self.old o + count_object o (first ∷ second ∷ []) }
+    {
+        self.are_few();
+        self.counts.up(first);
+        self.counts.up(second);
+        self.tables.insert_two(p, first, second)
     }
 
     /// Closes a descriptor of a process that names something.

@@ -100,6 +100,29 @@ impl Tables {
         table.insert_free(object)
     }
 
+    /// How many descriptors of a process are free.
+    pub fn free_rows(&self, p: Pid) -> u32
+        ensures { result ≡ free_rows (table_in self.now p.0) }
+    {
+        match numbered_item(&self.tables, p.0) {
+            Some(table) => table.free(),
+            None => 0,
+        }
+    }
+
+    /// Two objects get the two lowest free descriptors of a process that has so many, the first one the lower.
+    pub fn insert_two(&mut self, p: Pid, first: Obj, second: Obj) -> (Fd, Fd)
+        requires { 2 ≤ free_rows (table_in self.old p.0) }
+        ensures tables { self.new ≡ with_table self.old p.0 (insert_rows (table_in self.old p.0) (first ∷ second ∷ [])) }
+        ensures first { result.0 ≡ descriptor (free_place (table_in self.old p.0)) }
+        ensures second { result.1 ≡ descriptor (free_place (insert_row (table_in self.old p.0) first)) }
+    {
+        let table = &mut self.tables[p.0 as usize - 1];
+        let low = table.insert_free(first);
+        let high = table.insert_free(second);
+        (low, high)
+    }
+
     /// Closes a descriptor of a process that names something.
     pub fn close(&mut self, p: Pid, fd: Fd)
         requires { is_some (object_named (table_in self.old p.0) fd) ≡ true }
