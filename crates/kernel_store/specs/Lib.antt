@@ -1,3 +1,4 @@
+pub mod Channels
 pub mod Flags
 pub mod Frames
 pub mod Giving

@@ -1,13 +1,15 @@
 -- Which threads can take a turn.
-use Rattle.std.specs.Prelude.{ℕ, ◌≡◌, Bool, List, false, is_some}
+use Rattle.std.specs.Prelude.{ℕ, ◌≡◌, ◌==◌, ◌&&◌, ◌||◌, not, Bool, List, false, is_some}
 use Rattle.dk_base.specs.declared.number.PathId.{PathId}
 use Rattle.kernel_records.specs.declared.record.ThreadState.TheVariants as is
-use Rattle.kernel_records.specs.Words.{ProcessTable, name_in, state_in, thread_at}
+use Rattle.dk_base.specs.declared.object.Obj.TheVariants as obj
+use Rattle.kernel_records.specs.Words.{Port, ProcessTable, is_ready_for, name_in, port_of, state_in, thread_at}
 use Rattle.thread_set.specs.declared.set.ThreadSet.{ThreadSet}
 use Rattle.thread_set.specs.Words.{has}
 use Rattle.written_kernel.specs.Types.{Name, ThreadState}
 use Rattle.written_kernel.specs.Words.{State, can_go_on, state_of}
 use Rattle.exit_paths.specs.Words.{has_ready}
+use Rattle.kernel_holdings.specs.Words.{HoldingsValue, references_of}
 
 -- as `can_go_on`, where a caller goes on by a call of its own that can be collected
 abbrev pub can_turn_at : State → ℕ → ThreadState → Bool
@@ -21,6 +23,12 @@ can_turn m t = can_turn_at m t (state_of m t)
 abbrev pub is_found_at : List Name → ThreadState → Bool
 is_found_at names (is.Awaiting path) = is_some (name_in names path)
 is_found_at names _ = false
+
+-- a thread at this waits at a port, was not interrupted, and its wait can end: nothing refers to the port, or it is ready
+abbrev pub has_ended_at : HoldingsValue → List Port → ThreadState → Bool
+has_ended_at held ports (is.Getting q max nget one interrupted) =
+    not interrupted && ((references_of held (obj.Port q) == 0) || is_ready_for nget (port_of ports q))
+has_ended_at held ports _ = false
 
 -- of each thread that waits for a path, whether a door is attached to it
 pub record KnowsPaths (table : ProcessTable) (names : List Name) (named : ThreadSet) : Type 0 where

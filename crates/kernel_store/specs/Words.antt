@@ -1,4 +1,5 @@
 -- The words of this crate's specs, from one place, for the crates above.
+pub use Rattle.kernel_store.specs.Channels.{HasRoomForEvents, HasRoomForPipe, HasRoomForPort}
 pub use Rattle.kernel_store.specs.Flags.{flag_in, is_flagged}
 pub use Rattle.kernel_store.specs.Frames.{AllIsGivenOut, CanAct, CanLeave, CanSettle, FillsNoPool, FillsNoQueue, FillsOnePool, IsActive, IsAtRest, IsDeclared, IsInEvent, IsRoomFor, KeepsForNotices, KeepsPools, NothingAfter}
 pub use Rattle.kernel_store.specs.Held.{AreHeld, AreHeldIn, held_as, held_at}

@@ -5,5 +5,6 @@
 mod leaving;
 mod notices;
 mod paths;
+mod ports;
 mod starting;
 pub mod store;

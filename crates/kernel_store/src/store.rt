@@ -2,8 +2,8 @@
 ghost use Rattle.std.specs.Prelude.{◌≡◌, ℕ, ◌<◌, ◌∷◌, [], length, true, is_none, is_some, IfOk, IfSome};
 ghost use Rattle.dk_base.specs.declared.limits.TheConstants.{EVENTS_MAX};
 ghost use Rattle.dk_base.specs.declared.object.Obj.TheVariants as obj;
-ghost use Rattle.kernel_records.specs.Words.{door_attached, is_bad_pass, lowest_free};
-ghost use Rattle.written_kernel.specs.Words.{bound_of, calls_waiting, door_of, has_invalid_door, has_room, name_of, no_process, now, object_at, pool_of, reference_count, table_of};
+ghost use Rattle.kernel_records.specs.Words.{door_attached, free_rows, is_bad_pass, lowest_free};
+ghost use Rattle.written_kernel.specs.Words.{bound_of, calls_waiting, door_of, has_invalid_door, has_room, name_of, no_process, now, object_at, pool_of, reference_count, references_of, table_of};
 ghost use Rattle.pool_agreement.specs.Words.{own_pool};
 ghost use Rattle.kernel_store.specs.Frames.{IsAtRest};
 ghost use Rattle.kernel_store.specs.Turning.{can_turn};
@@ -11,21 +11,25 @@ ghost use Rattle.thread_set.specs.Words.{has};
 ghost use Rattle.kernel_store.specs.Stored.{AreThere, IsAgreed, may_have_notice_in, stored_state};
 
 mod calls;
+mod channels;
 mod descriptors;
 mod settling;
 mod steps;
 mod threads;
 
+use crate::ports::find_ended;
 use call_tree::calls::Calls;
 use dk_base::error::NoMemory;
 use dk_base::list::{ObjList, PassList, Room};
 use dk_base::number::{Fd, PathId, Pid, Tid};
 use dk_base::object::Obj;
 use door_object::doors::Doors;
+use event_port::ports::Ports;
 use exit_paths::who_leaves::own_pool;
 use kernel_holdings::holdings::Holdings;
 use kernel_records::pool::Pool;
 use kernel_records::record::Door;
+use pipe_obj::pipes::Pipes;
 use proc_table::procs::Procs;
 use server_pool::pools::Pools;
 use std::alloc::Global;
@@ -51,6 +55,8 @@ pub struct Store {
     named: ThreadSet,
     /// The pools that were made or got an item since room for notices was last taken. All others have it.
     short: Room<Pool>,
+    pipes: Pipes,
+    ports: Ports,
 }
 
 impl Model for Store {
@@ -62,7 +68,7 @@ impl Model for Store {
 
     ghost Value = { StoreValue };
 
-    ghost view = { λ s. record { processes = s.processes; pools = s.pools; tables = s.held.tables; names = s.held.names; doors = s.doors; calls = s.held.calls; notices = s.notices; events = s.events; latest = s.latest; opening = s.held.opening; left = s.held.left; short_room = s.short.spare } };
+    ghost view = { λ s. record { processes = s.processes; pools = s.pools; tables = s.held.tables; names = s.held.names; doors = s.doors; calls = s.held.calls; notices = s.notices; events = s.events; latest = s.latest; opening = s.held.opening; left = s.held.left; short_room = s.short.spare; pipes = s.pipes; ports = s.ports } };
 
     ghost invariant = { λ s. Agrees s.latest s.processes s.doors.items s.held.calls.tree s.notices.list s.pools × ReferToDoors s.doors.items s.held × AreBacked s.processes s.held.calls.tree.calls × KnowsPaths s.processes s.held.names.names s.named × HaveItemRoomBut s.short.items s.pools };
 }
@@ -82,6 +88,8 @@ impl Store {
             latest: 0,
             named: ThreadSet::new(),
             short: Room::new(alloc),
+            pipes: Pipes::new(alloc),
+            ports: Ports::new(alloc),
         })
     }
 
@@ -111,6 +119,18 @@ impl Store {
         ensures agreed { IsAgreed self.now }
     {
         &self.notices
+    }
+
+    pub fn pipes(&self) -> &Pipes
+        ensures { result.now ≡ self.now.pipes }
+    {
+        &self.pipes
+    }
+
+    pub fn ports(&self) -> &Ports
+        ensures { result.now ≡ self.now.ports }
+    {
+        &self.ports
     }
 
     /// How many events there were.
@@ -163,7 +183,14 @@ impl Store {
     pub fn references(&self, d: u32) -> u64
         ensures { result ≡ reference_count (stored_state self.now) d }
     {
-        self.held.references(d)
+        self.held.references_to(Obj::Door(d))
+    }
+
+    /// How many references an object has.
+    pub fn references_to(&self, object: Obj) -> u64
+        ensures { result ≡ references_of (stored_state self.now) object }
+    {
+        self.held.references_to(object)
     }
 
     /// What a descriptor of a process names.
@@ -179,6 +206,13 @@ impl Store {
         ensures { result ≡ is_none (lowest_free (table_of (stored_state self.now) p.0)) }
     {
         self.held.tables().is_full(p)
+    }
+
+    /// How many descriptors of a process are free.
+    pub fn free_rows(&self, p: Pid) -> u32
+        ensures { result ≡ free_rows (table_of (stored_state self.now) p.0) }
+    {
+        self.held.tables().free_rows(p)
     }
 
     /// Whether these descriptors cannot be passed out of a process's table (door_call(3C)).
@@ -217,7 +251,8 @@ impl Store {
         let going = self.processes.going();
         let collecting = self.held.calls().collecting();
         let found = self.processes.awaiting().and(self.named);
-        going.or(collecting).or(found)
+        let ended = find_ended(&self.processes, &self.held, &self.ports);
+        going.or(collecting).or(found).or(ended)
     }
 
     pub fn door(&self, d: u32) -> Option<Door>
