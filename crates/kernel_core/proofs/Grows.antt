@@ -1,26 +1,31 @@
 -- What an act and what follows it add to a state: a door and a call at most, and calls of few bytes and objects.
-use Rattle.std.proofs.Common.{◌≡◌, ℕ, suc, ◌+◌, ◌≤◌, ◌&&◌, ◌++◌, Bool, true, false, if◌then◌else◌, not, nat_lt, is_some, List, [], ◌∷◌, Option, Some, None, length, map, find, filter, refl, ap, ◌∙◌, subst, sym, arith, length-append, inl, inr, ◌||◌}
+use Rattle.std.proofs.Common.{◌≡◌, ℕ, suc, ◌+◌, ◌≤◌, ◌&&◌, ◌++◌, Bool, true, false, if◌then◌else◌, not, nat_lt, is_some, List, [], ◌∷◌, Option, Some, None, length, map, find, filter, refl, ap, ◌∙◌, subst, sym, arith, length-append, lit≤, inl, inr, ◌||◌}
 use Rattle.std.specs.List.{cons_option}
 use Rattle.std.proofs.lemmas.Bool.{ltb-false, or_parts}
-use Rattle.std.proofs.lemmas.List.{length-map}
-use Rattle.written_kernel.proofs.Moves.{Moves, act_moves, act_result}
+use Rattle.std.proofs.lemmas.List.{length-map, length-take}
+use Rattle.written_kernel.proofs.Moves.{IsPassing, Moves, act_moves, act_result}
+use Rattle.written_kernel.proofs.Moves.IsMaking.{makes_pipe, makes_port}
+use Rattle.written_kernel.proofs.Moves.IsPassing.{alerts, gets, gets_many, reads, sends, sends_each, writes}
 use Rattle.written_kernel.proofs.Moves.IsSaid.{refused}
 use Rattle.written_kernel.proofs.Moves.IsRow.{closes}
 use Rattle.written_kernel.proofs.Moves.IsTurn.{awaits, works}
-use Rattle.written_kernel.specs.Types.{Answer, Attrs, Call, CallStage, Door, Errno, Fd, Item, Obj, Parked, Pass, Request, Thread, Waiting, Param}
+use Rattle.written_kernel.specs.Types.{Answer, Attrs, Call, CallStage, Door, Errno, Fd, Item, Obj, Parked, Pass, Queued, Request, Thread, ThreadState, Waiting, Param}
+use Rattle.dk_base.specs.declared.limits.TheConstants.{ANSWER_ITEMS_MAX}
 use Rattle.dk_base.specs.declared.error.Errno.TheVariants.{EBADF, E2BIG, EMFILE, ENFILE, ENOBUFS, ENOTSUP}
 use Rattle.dk_base.specs.declared.object.Item.TheVariants as item
 use Rattle.dk_base.specs.declared.answer.Answer.TheVariants as answer
 use Rattle.kernel_records.specs.declared.record.ThreadState.TheVariants as is
 use Rattle.kernel_records.specs.declared.record.CallStage.TheVariants as stage
+use Rattle.kernel_records.specs.declared.port.Alert.{Alert}
 use Rattle.dk_base.specs.ByNumber.{at_number}
-use Rattle.kernel_records.specs.Words.{CallTree, NoticeList, ProcessTable, at_stage, change_first, change_thread, change_thread_in, end_notice, enter_notice, first_refusal, idle_thread, insert_row, is_client_call_of, is_given_as, is_live_call, is_queued_as, is_to_collect_as, left_call, new_descriptors, object_passed, objects_passed, process_end, return_call, revocation, revoked_door, thread_at, thread_at_state, thread_in_invocation, thread_outside, tid, unbind_thread, with_owner_ended, without_arguments_at, Leaving, Test, change_door, change_door_in, refused_where, with_param, has_refused_size, has_too_many, is_valid_in, refuses_descriptors_in}
-use Rattle.written_kernel.specs.Words.{ActResult, StandsFor, State, act, call, call_tests, client_call, collect, collect_answer, collect_answer_in, create, door_named, find_call, fail_return, give_one, has_lost_door, has_room, is_due, leave, leave_process, new_call, now, object_at, objects_collected_in, pass_tests, pick, pool_of, process_of, return_tests, revoke, settle, state_of, table_of, tables_after_collect, tables_after_pass, tables_with, with_state, set_parameter, door_at, door_of, pool_tests}
+use Rattle.kernel_records.specs.Words.{CallTree, NoticeList, Port, ProcessTable, events_found, first_found, found_at, record_of, records_of, at_stage, change_first, change_thread, change_thread_in, end_notice, enter_notice, first_refusal, idle_thread, insert_row, is_client_call_of, is_given_as, is_live_call, is_queued_as, is_to_collect_as, left_call, new_descriptors, object_passed, objects_passed, process_end, return_call, revocation, revoked_door, thread_at, thread_at_state, thread_in_invocation, thread_outside, tid, unbind_thread, with_owner_ended, without_arguments_at, Leaving, Test, change_door, change_door_in, refused_where, with_param, has_refused_size, has_too_many, is_valid_in, refuses_descriptors_in}
+use Rattle.written_kernel.specs.Words.{ActResult, Channels, IsFit, StandsFor, State, after_sending, errors_of_sending, event_answer, found_answer, held_in, pipe_at, port, port_at, act, call, call_tests, client_call, collect, collect_answer, collect_answer_in, create, door_named, find_call, fail_return, give_one, has_lost_door, has_room, is_due, leave, leave_process, new_call, now, object_at, objects_collected_in, pass_tests, pick, pool_of, process_of, return_tests, revoke, settle, state_of, table_of, tables_after_collect, tables_after_pass, tables_with, with_state, set_parameter, door_at, door_of, pool_tests}
 use Rattle.kernel_records.proofs.Lists.{length-with_at_number}
 use Rattle.kernel_records.proofs.Places.{length-change_first}
 use Rattle.written_kernel.proofs.CallLists.{IsOver, left_call-over}
 use Rattle.written_kernel.proofs.Leaving.{calls-leave, threads-leave, threads_of-leave_process}
 use Rattle.written_kernel.proofs.Settling.{settle-all, with_notice_of}
+use Rattle.channel_invariant.specs.Channels.{IsAmong, Made, WaitsAtMade, made_in}
 use Rattle.kernel_core.specs.Within.{IsSmallStage, IsSmallCall, AreSmall, IsSmall}
 
 pub record Grows (k : ℕ) (m n : State) : Type 0 where
@@ -140,13 +145,18 @@ call-grows m t turn tables test change s =
 
 -- acts: what they add, and answers of few bytes and descriptors
 
-pub record IsTidy (m : State) (a : ActResult) : Type 0 where
+-- the counts of a turn are in range: of a request, or of a wait at a port
+abbrev pub IsFitTurn : State → ℕ → Option Request → Type 0
+IsFitTurn m t (Some r) = IsFit m t r
+IsFitTurn m t None = WaitsAtMade (made_in m) (state_of m t)
+
+pub record IsTidy (m : State) (t : ℕ) (q : Option Request) (a : ActResult) : Type 0 where
   pub grows : Grows 1 m a.state
-  pub small : AreSmall m.call_tree.calls → IsSmall a.answer
+  pub small : AreSmall m.call_tree.calls → IsFitTurn m t q → IsSmall q a.answer
 
 -- an act that changes no thread, no call and no event, and adds a door at most
-door-tidy : (m n : State) (a : ActResult) → a.state ≡ n → n.process_table ≡ m.process_table → n.call_tree ≡ m.call_tree → n.events ≡ m.events → length n.doors ≤ length m.doors + 1 → IsSmall a.answer → IsTidy m a
-door-tidy m n a e threads calls events doors small =
+door-tidy : (m n : State) (t : ℕ) (q : Option Request) (a : ActResult) → a.state ≡ n → n.process_table ≡ m.process_table → n.call_tree ≡ m.call_tree → n.events ≡ m.events → length n.doors ≤ length m.doors + 1 → IsSmall q a.answer → IsTidy m t q a
+door-tidy m n t q a e threads calls events doors small =
     record {
       grows =
           subst (Grows 1 m) (let back : n ≡ a.state = cc in back)
@@ -158,12 +168,12 @@ door-tidy m n a e threads calls events doors small =
             events = events;
             small = λ h. subst AreSmall (ap (λ (tree : CallTree). tree.calls) (let back : m.call_tree ≡ n.call_tree = cc in back)) h;
           });
-      small = λ h. small;
+      small = λ h fit. small;
     }
 
-create-tidy : (m : State) (p entry cookie : ℕ) (attrs : Attrs) → IsTidy m (create m p entry cookie attrs)
-create-tidy m p entry cookie attrs =
-    door-tidy m (create m p entry cookie attrs).state (create m p entry cookie attrs) refl refl refl refl
+create-tidy : (m : State) (t : ℕ) (q : Option Request) (p entry cookie : ℕ) (attrs : Attrs) → IsTidy m t q (create m p entry cookie attrs)
+create-tidy m t q p entry cookie attrs =
+    door-tidy m (create m p entry cookie attrs).state t q (create m p entry cookie attrs) refl refl refl refl
     (omega (arith, length-append m.doors ((Rattle.kernel_records.specs.Doors.new_door (length m.doors + 1) p entry cookie attrs) ∷ [])))
     tt
 
@@ -174,9 +184,9 @@ length-change_door doors d change = go (at_number doors d)
     go None = refl
     go (Some x) = length-with_at_number doors d (change x)
 
-set_parameter-tidy : (m : State) (p : ℕ) (fd : Fd) (x : Param) (value : ℕ) → IsTidy m (set_parameter m p fd x value)
-set_parameter-tidy m p fd x value =
-    door-tidy m (set_parameter m p fd x value).state (set_parameter m p fd x value) refl refl refl refl
+set_parameter-tidy : (m : State) (t : ℕ) (q : Option Request) (p : ℕ) (fd : Fd) (x : Param) (value : ℕ) → IsTidy m t q (set_parameter m p fd x value)
+set_parameter-tidy m t q p fd x value =
+    door-tidy m (set_parameter m p fd x value).state t q (set_parameter m p fd x value) refl refl refl refl
     (omega (arith, length-change_door m.doors (door_at m p fd) (with_param x value)))
     tt
 
@@ -239,9 +249,9 @@ few_arguments m p fd bytes pass e =
     from_size = refused_where (has_refused_size n o) ENOBUFS ∷ from_refusing
 
 call-tidy :
-    (m : State) (t p : ℕ) (fd : Fd) (bytes : List ℕ) (pass : List Pass) (rsize : ℕ) → IsFew bytes pass →
-    IsTidy m (call m t p fd bytes pass rsize)
-call-tidy m t p fd bytes pass rsize few =
+    (m : State) (t : ℕ) (q : Option Request) (p : ℕ) (fd : Fd) (bytes : List ℕ) (pass : List Pass) (rsize : ℕ) → IsFew bytes pass →
+    IsTidy m t q (call m t p fd bytes pass rsize)
+call-tidy m t q p fd bytes pass rsize few =
     let objects = objects_passed (table_of m p) pass in
     let r = new_call m t (door_named (object_at m p fd)) bytes objects rsize in
     record {
@@ -254,7 +264,7 @@ call-tidy m t p fd bytes pass rsize few =
             events = refl;
             small = λ h. push-small m.call_tree.calls r (record { arguments = few.0; objects = omega (arith, few.1, few_passed (table_of m p) pass); results = tt }) h;
           };
-      small = λ h. tt;
+      small = λ h fit. tt;
     }
 
 -- the results of a return that is not refused go to a client only where they are few
@@ -311,35 +321,35 @@ given-grows m t c turn tables s few =
     call-grows m t turn tables (is_given_as c t) (without_arguments_at s)
     (change_first-small (is_given_as c t) (without_arguments_at s) (λ x h. without_arguments_at-small x s few) m.call_tree.calls)
 
-collect_answer-small : (m : State) (p c : ℕ) → AreSmall m.call_tree.calls → IsSmall (collect_answer_in m p (find_call m (is_to_collect_as c)))
-collect_answer-small m p c h = go (find_call m (is_to_collect_as c)) refl
+collect_answer-small : (m : State) (q : Option Request) (p c : ℕ) → AreSmall m.call_tree.calls → IsSmall q (collect_answer_in m p (find_call m (is_to_collect_as c)))
+collect_answer-small m q p c h = go (find_call m (is_to_collect_as c)) refl
   where
     results :
         (r : Call) (bytes : List ℕ) (objects : List Obj) (b : Bool) → IsSmallStage (stage.Returned bytes objects) →
-        IsSmall
+        IsSmall q
         (if b
         then answer.Results bytes (new_descriptors (table_of m p) objects) (nat_lt r.rsize (length bytes))
         else answer.Failure EMFILE)
     results r bytes objects true few = (few.0, omega (arith, few.1, length-new_descriptors (table_of m p) objects))
     results r bytes objects false few = tt
 
-    at : (r : Call) (s : CallStage) → IsSmallStage s → IsSmall (collect_answer m p r s)
+    at : (r : Call) (s : CallStage) → IsSmallStage s → IsSmall q (collect_answer m p r s)
     at r (stage.Returned bytes objects) few = results r bytes objects (has_room m p objects) few
     at r (stage.Ended e) few = tt
     at r _ few = tt
 
-    go : (o : Option Call) → find_call m (is_to_collect_as c) ≡ o → IsSmall (collect_answer_in m p o)
+    go : (o : Option Call) → find_call m (is_to_collect_as c) ≡ o → IsSmall q (collect_answer_in m p o)
     go None e = tt
     go (Some r) e = at r r.stage (find-small (is_to_collect_as c) m.call_tree.calls r e h).results
 
-collect-tidy : (m : State) (t p c : ℕ) → IsTidy m (collect m t p c)
-collect-tidy m t p c =
+collect-tidy : (m : State) (t : ℕ) (q : Option Request) (p c : ℕ) → IsTidy m t q (collect m t p c)
+collect-tidy m t q p c =
     record {
       grows =
           call-grows m t (thread_at_state is.Running) (tables_after_collect m p (objects_collected_in (find_call m (is_to_collect_as c)))) (is_to_collect_as c) (without_arguments_at (stage.Answered (now m)))
           (change_first-small (is_to_collect_as c) (without_arguments_at (stage.Answered (now m)))
           (λ x h. without_arguments_at-small x (stage.Answered (now m)) tt) m.call_tree.calls);
-      small = collect_answer-small m p c;
+      small = λ h fit. collect_answer-small m q p c h;
     }
 
 -- leaving
@@ -380,8 +390,8 @@ leave_process-grows m p =
       small = g.small;
     }
 
-revoke-tidy : (m : State) (p : ℕ) (fd : Fd) → IsTidy m (revoke m p fd)
-revoke-tidy m p fd =
+revoke-tidy : (m : State) (t : ℕ) (q : Option Request) (p : ℕ) (fd : Fd) → IsTidy m t q (revoke m p fd)
+revoke-tidy m t q p fd =
     let g = leave-grows m (revocation (door_at m p fd)) in
     record {
       grows =
@@ -393,7 +403,7 @@ revoke-tidy m p fd =
             events = refl;
             small = g.small;
           };
-      small = λ h. tt;
+      small = λ h fit. tt;
     }
 
 -- any act
@@ -404,58 +414,110 @@ bindings-grow m bindings =
     record { threads = refl; calls = omega arith; doors = omega arith; calls_made = omega arith; events = refl; small = λ h. h }
 
 -- an act that changes one thread alone
-thread-tidy : (m : State) (t : ℕ) (turn : Thread → Thread) (a : Answer) → IsSmall a → IsTidy m (act_result (record m { process_table = change_thread m.process_table t turn }) a)
-thread-tidy m t turn a few = record { grows = thread-grows 1 m t turn; small = λ h. few }
+thread-tidy : (m : State) (t : ℕ) (q : Option Request) (turn : Thread → Thread) (a : Answer) → IsSmall q a → IsTidy m t q (act_result (record m { process_table = change_thread m.process_table t turn }) a)
+thread-tidy m t q turn a few = record { grows = thread-grows 1 m t turn; small = λ h fit. few }
 
-move-tidy : (m : State) (t : ℕ) (q : Option Request) (a : ActResult) → Moves m t q a → IsTidy m a
-move-tidy m t q a (Moves.nothing x (refused r e f)) = record { grows = grows_same 1 m; small = λ h. tt }
-move-tidy m t q a (Moves.rows r place o x (closes fd f)) = door-tidy m a.state a refl refl refl refl (omega arith) tt
-move-tidy m t q a (Moves.rows r place o x _) = door-tidy m a.state a refl refl refl refl (omega arith) tt
-move-tidy m t q a (Moves.names r names _) = door-tidy m a.state a refl refl refl refl (omega arith) tt
-move-tidy m t q a (Moves.bound r o _) = record { grows = bindings-grow m _; small = λ h. tt }
-move-tidy m t q a (Moves.parameter fd x value _) = set_parameter-tidy m (process_of m t) fd x value
-move-tidy m t q a (Moves.makes entry cookie attrs _) = create-tidy m (process_of m t) entry cookie attrs
-move-tidy m t q a (Moves.turns s x _ (awaits path e)) = thread-tidy m t (thread_at_state s) x tt
-move-tidy m t q a (Moves.turns s x _ (works op input e)) = thread-tidy m t (thread_at_state s) x (omega arith)
-move-tidy m t q a (Moves.turns s x _ _) = thread-tidy m t (thread_at_state s) x tt
-move-tidy m t q a (Moves.calls fd bytes pass rsize f) = call-tidy m t (process_of m t) fd bytes pass rsize (few_arguments m (process_of m t) fd bytes pass f)
+-- an act that changes pipes and ports alone
+
+channels_otherwise-grow : (k : ℕ) (m n : State) (c : Channels) → Grows k m n → Grows k m (record n { channels = c })
+channels_otherwise-grow k m n c g =
+    record { threads = g.threads; calls = g.calls; doors = g.doors; calls_made = g.calls_made; events = g.events; small = g.small }
+
+channels-grow : (m : State) (c : Channels) → Grows 1 m (record m { channels = c })
+channels-grow m c = channels_otherwise-grow 1 m m c (grows_same 1 m)
+
+-- a get of at most so many tells of no more
+found-small : (m : State) (q : Option Request) (port max : ℕ) (one : Bool) → (one ≡ false → max ≤ ANSWER_ITEMS_MAX) → IsSmall q (found_answer m port max one)
+found-small m q n max one few = by_one one few
+  where
+    first : (o : Option Queued) → IsSmall q (event_answer o)
+    first None = tt
+    first (Some x) = tt
+
+    told : (a : Option Alert) (queue : List Queued) → max ≤ ANSWER_ITEMS_MAX → length (found_at max a queue) ≤ ANSWER_ITEMS_MAX
+    told None queue l = omega (arith, l, length-take max queue)
+    told (Some a) queue l = lit≤ tt
+
+    by_one : (b : Bool) → (b ≡ false → max ≤ ANSWER_ITEMS_MAX) → IsSmall q (if b then event_answer (first_found (port m n)) else answer.Events (records_of (events_found max (port m n))))
+    by_one true l = first (first_found (port m n))
+    by_one false l = omega (arith, length-map (events_found max (port m n)) record_of, told (port m n).alert (port m n).queue (l refl))
+
+-- each descriptor that an event is sent to has an error, or none
+length-errors : (ports : List Port) (os : List (Option Obj)) (events user : ℕ) → length (errors_of_sending ports os events user) ≡ length os
+length-errors ports [] events user = refl
+length-errors ports (o ∷ os) events user = ap suc (length-errors (after_sending ports o events user) os events user)
+
+passed-small : (m : State) (t : ℕ) (r : Request) (c : Channels) (a : Answer) → IsPassing m t r c a → IsFit m t r → IsSmall (Some r) a
+passed-small m t r c a (writes fd bytes f) fit = tt
+passed-small m t r c a (reads fd max f) fit = omega (arith, fit.1, length-take max (held_in m (pipe_at m (process_of m t) fd)))
+passed-small m t r c a (sends fd events user f) fit = tt
+passed-small m t r c a (sends_each fds events user) fit =
+    length-errors m.channels.ports (map (object_at m (process_of m t)) fds) events user ∙ length-map fds (object_at m (process_of m t))
+passed-small m t r c a (alerts fd mode events user f) fit = tt
+passed-small m t r c a (gets fd wait f e) fit = found-small m (Some r) (port_at m (process_of m t) fd) 1 true (λ more. cc)
+passed-small m t r c a (gets_many fd max nget wait f some e) fit = found-small m (Some r) (port_at m (process_of m t) fd) max false (λ more. fit)
+
+-- a thread that waits at a port waits for few events
+waits_of : (made : Made) (s : ThreadState) (q max nget : ℕ) (one marked : Bool) → s ≡ is.Getting q max nget one marked → WaitsAtMade made s → IsAmong made.ports q × (max ≤ ANSWER_ITEMS_MAX)
+waits_of made s q max nget one marked e h = subst (WaitsAtMade made) e h
+
+move-tidy : (m : State) (t : ℕ) (q : Option Request) (a : ActResult) → Moves m t q a → IsTidy m t q a
+move-tidy m t q a (Moves.nothing x (refused r e f)) = record { grows = grows_same 1 m; small = λ h fit. tt }
+move-tidy m t q a (Moves.rows r place o x (closes fd f)) = door-tidy m a.state t q a refl refl refl refl (omega arith) tt
+move-tidy m t q a (Moves.rows r place o x _) = door-tidy m a.state t q a refl refl refl refl (omega arith) tt
+move-tidy m t q a (Moves.names r names _) = door-tidy m a.state t q a refl refl refl refl (omega arith) tt
+move-tidy m t q a (Moves.bound r o _) = record { grows = bindings-grow m _; small = λ h fit. tt }
+move-tidy m t q a (Moves.parameter fd x value _) = set_parameter-tidy m t q (process_of m t) fd x value
+move-tidy m t q a (Moves.makes entry cookie attrs _) = create-tidy m t q (process_of m t) entry cookie attrs
+move-tidy m t q a (Moves.turns s x _ (awaits path e)) = thread-tidy m t q (thread_at_state s) x tt
+move-tidy m t q a (Moves.turns s x _ (works op input e)) = thread-tidy m t q (thread_at_state s) x (omega arith)
+move-tidy m t q a (Moves.turns s x _ _) = thread-tidy m t q (thread_at_state s) x tt
+move-tidy m t q a (Moves.calls fd bytes pass rsize f) = call-tidy m t q (process_of m t) fd bytes pass rsize (few_arguments m (process_of m t) fd bytes pass f)
 move-tidy m t q a (Moves.returns bytes pass f e) =
     record {
       grows = noticed_otherwise-grows 1 m _ (end_notice m.notice_list t) (returned-grows m t (process_of m t) bytes pass (idle_thread (now m)) f);
-      small = λ h. tt;
+      small = λ h fit. tt;
     }
 move-tidy m t q a (Moves.returns_unbound bytes pass f e) =
     record {
       grows =
           noticed_otherwise-grows 1 m _ (end_notice m.notice_list t)
           (bound_otherwise-grows 1 m _ (unbind_thread m.bindings t) (returned-grows m t (process_of m t) bytes pass thread_outside f));
-      small = λ h. tt;
+      small = λ h fit. tt;
     }
 move-tidy m t q a (Moves.enters r e room) =
     record {
       grows = given-grows m t r.number (thread_in_invocation (item.Call r.number)) (tables_with m (process_of m t) r.objects) (stage.Entered (tid t)) tt;
       small =
-          λ h. let few = find-small (is_given_as r.number t) m.call_tree.calls r e.found h in (
+          λ h fit. let few = find-small (is_given_as r.number t) m.call_tree.calls r e.found h in (
             few.arguments,
             omega (arith, few.objects, length-new_descriptors (table_of m (process_of m t)) r.objects),
           );
     }
 move-tidy m t q a (Moves.fails r e full) =
-    record { grows = given-grows m t r.number (idle_thread (now m)) m.tables (stage.Ended EMFILE) tt; small = λ h. tt }
+    record { grows = given-grows m t r.number (idle_thread (now m)) m.tables (stage.Ended EMFILE) tt; small = λ h fit. tt }
 move-tidy m t q a (Moves.enters_notice n e) =
     record {
       grows =
           noticed_otherwise-grows 1 m _ (enter_notice m.notice_list n.number t)
           (thread-grows 1 m t (thread_in_invocation (item.Notice n.number)));
-      small = λ h. tt;
+      small = λ h fit. tt;
     }
-move-tidy m t q a (Moves.collects c e) = collect-tidy m t (process_of m t) c
-move-tidy m t q a (Moves.leaves r who _) = record { grows = leave-grows m who; small = λ h. tt }
-move-tidy m t q a (Moves.revokes fd f) = revoke-tidy m (process_of m t) fd
-move-tidy m t q a (Moves.ends r p _) = record { grows = leave_process-grows m p; small = λ h. tt }
-move-tidy m t q a _ = record { grows = grows_same 1 m; small = λ h. tt }
+move-tidy m t q a (Moves.collects c e) = collect-tidy m t q (process_of m t) c
+move-tidy m t q a (Moves.leaves r who _) = record { grows = leave-grows m who; small = λ h fit. tt }
+move-tidy m t q a (Moves.revokes fd f) = revoke-tidy m t q (process_of m t) fd
+move-tidy m t q a (Moves.ends r p _) = record { grows = leave_process-grows m p; small = λ h fit. tt }
+move-tidy m t q a (Moves.passes r c x p) = record { grows = channels-grow m c; small = λ h fit. passed-small m t r c x p fit }
+move-tidy m t q a (Moves.makes_channel r c objects x (makes_pipe f)) = door-tidy m a.state t q a refl refl refl refl (omega arith) tt
+move-tidy m t q a (Moves.makes_channel r c objects x (makes_port f)) = door-tidy m a.state t q a refl refl refl refl (omega arith) tt
+move-tidy m t q a (Moves.retrieves port max nget one h) =
+    record {
+      grows = channels_otherwise-grow 1 m (with_state m t is.Running) _ (thread-grows 1 m t (thread_at_state is.Running));
+      small = λ k fit. found-small m None port max one (λ more. (waits_of (made_in m) (state_of m t) port max nget one false h.waits fit).1);
+    }
+move-tidy m t q a _ = record { grows = grows_same 1 m; small = λ h fit. tt }
 
-pub act-tidy : (m : State) (t : ℕ) (r : Option Request) → IsTidy m (act m t r)
+pub act-tidy : (m : State) (t : ℕ) (r : Option Request) → IsTidy m t r (act m t r)
 act-tidy m t r = move-tidy m t r (act m t r) (act_moves m t r)
 
 -- settling

@@ -1,10 +1,10 @@
 -- A kernel's events keep that what it keeps comes from a written state, and a refused entry changes nothing else.
-use Rattle.std.proofs.Common.{◌≡◌, ℕ, ◌+◌, ◌<◌, Bool, true, false, not, List, Option, Some, None, Result, Ok, Err, IfOk, OnOk, OnErr, slice_get, length, refl, subst, sym, ap, ◌∙◌, arith, All, is_some}
+use Rattle.std.proofs.Common.{◌≡◌, ℕ, ◌+◌, ◌<◌, ◌≤◌, Bool, true, false, not, List, Option, Some, None, Result, Ok, Err, IfOk, OnOk, OnErr, slice_get, length, refl, subst, sym, ap, ◌∙◌, arith, All, is_some}
 use Rattle.kernel_records.proofs.NumberedLists.{find-slice_get}
 use Rattle.written_kernel.specs.Types.{Call, CallStage, Door, Errno, NoMemory, Notice, NoticeStage, Process, Request, Stepped, Thread, ThreadState, Tid}
 use Rattle.dk_base.specs.declared.answer.Answer.TheVariants.{Failure}
-use Rattle.dk_base.specs.declared.limits.TheConstants.{EVENTS_MAX, THREADS_MAX}
-use Rattle.written_kernel.specs.Words.{IsOpening, IsStep, MayTurn, StandsFor, State, act, effect, forget, has_lost_door, opening, pick, pool_of, invocation_of, state_of, process_of, refusal_of, step, unless_refused, waiting_items, with_event_counted, with_new_thread, is_live_process, door_of, thread_of}
+use Rattle.dk_base.specs.declared.limits.TheConstants.{EVENTS_MAX, THREADS_MAX, USER_EVENTS_MAX}
+use Rattle.written_kernel.specs.Words.{IsOpening, IsStep, MayTurn, StandsFor, State, act, effect, forget, has_lost_door, opening, pick, pool_of, invocation_of, state_of, process_of, refusal_of, step, unless_refused, waiting_items, with_event_counted, with_new_thread, is_live_process, door_of, port, thread_of}
 use Rattle.written_kernel.specs.Opening.IsOpening.{processes, thread}
 use Rattle.written_kernel.proofs.Forget.{IsStep-stands_for, act-forget, is_runnable-forget, refusal_of-forget, waiting_items-forget}
 use Rattle.dk_base.specs.ByNumber.{at_number}
@@ -17,6 +17,10 @@ use Rattle.kernel_records.specs.Words.{call_number, is_kept_notice, is_live_call
 use Rattle.kernel_records.proofs.Lists.{numbered_there}
 use Rattle.written_kernel.proofs.Opening.{IsDeclaredIn, forget-opening, opened}
 use Rattle.written_kernel.proofs.Steps.{events-step}
+use Rattle.channel_invariant.specs.Channels.{AreChannels}
+use Rattle.channel_invariant.proofs.Acts.{step_fits}
+use Rattle.channel_invariant.proofs.Runs.{opening_fits}
+use Rattle.kernel_invariant.specs.Coherent.{is_unbuilt}
 use Rattle.kernel_invariant.specs.Core.{door_in, is_outside, notice_in, noticed_door_in, number_in}
 use Rattle.kernel_invariant.specs.Events.{Keeps, may_lose_door}
 use Rattle.kernel_invariant.specs.Invariant.{IsConsistent}
@@ -31,10 +35,13 @@ use Rattle.kernel_invariant.proofs.Refusals.{refused_gives}
 use Rattle.kernel_invariant.proofs.Settling.{no_lost_door}
 use Rattle.kernel_invariant.proofs.Steps.{act_does}
 use Rattle.kernel_core.specs.Kept.{IsKept}
+use Rattle.kernel_core.specs.Numbers.{HasNumbersLeft}
 use Rattle.kernel_core.specs.Watched.{IsReadyForNotices}
 use Rattle.kernel_core.specs.Within.{IsWithin}
 use Rattle.kernel_core.proofs.Watching.{act_keeps_doors, kept_keeps_doors}
 use Rattle.kernel_core.specs.Woken.{HasTurns, HasTurnsAfter}
+use Rattle.kernel_core.proofs.Channels.{few_queued, waits_at_made}
+use Rattle.kernel_core.proofs.Grows.{IsFitTurn}
 use Rattle.kernel_core.proofs.Readers.{kept_of}
 use Rattle.kernel_core.proofs.Turning.{turns_consistent}
 
@@ -50,16 +57,19 @@ record Stands (kept new : State) (t : ℕ) (q : Option Request) (s : Stepped) : 
   written : State
   stands : StandsFor kept written
   keeps : Keeps written t q
+  channels : AreChannels (step written t q).state
   done : IsStep (step written t q) new s
 
 stands_of :
     (kept new : State) (t : ℕ) (q : Option Request) (s : Stepped) → IsKept kept → MayTurn kept t q →
     IsStep (step kept t q) new s → Stands kept new t q s
 stands_of kept new t q s k may h =
+    let turn = may_stands k.written t q (subst (λ m. MayTurn m t q) k.stands may) in
     record {
       written = k.written;
       stands = k.stands;
-      keeps = step_keeps k.written t q k.invariant (may_stands k.written t q (subst (λ m. MayTurn m t q) k.stands may));
+      keeps = step_keeps k.written t q k.invariant turn;
+      channels = step_fits k.written t q k.channels turn;
       done = IsStep-stands_for kept k.written t q new s k.stands h;
     }
 
@@ -75,6 +85,7 @@ kept_step kept new t q s k may h =
       written = (step w.written t q).state;
       stands = w.done.state;
       invariant = w.keeps.invariant;
+      channels = w.channels;
       opening =
           λ e. absurd (after_none w.written.events (sym (events-step w.written t q) ∙ sym (ap (λ (m : State). m.events) w.done.state) ∙ e));
     }
@@ -166,7 +177,7 @@ refused_result kept old new t r (Err x) same k may h = tt
 
 pub opening_kept : {m : State} → IsOpening m → IsKept m
 opening_kept {m} o =
-    record { written = m; stands = sym (forget-opening o); invariant = opening_keeps m o; opening = λ e. o }
+    record { written = m; stands = sym (forget-opening o); invariant = opening_keeps m o; channels = opening_fits m o; opening = λ e. o }
 
 -- the processes of an opening live
 pub opening_lives : (m : State) (p : ℕ) → IsOpening m → IsDeclaredIn m p → is_live_process m p ≡ true
@@ -324,6 +335,23 @@ turning kept m t q same k may =
     (kept_step kept (forget after.state) t q (record { answer = after.answer; woken = after.woken }) k (subst (λ n. MayTurn n t q) (sym same) may)
     (record { state = refl; answer = refl; woken = refl }))
 
+-- what numbers and waits of a kept state stay within
+pub numbers_kept : (m : State) → IsKept m → IsWithin m → m.events < EVENTS_MAX → HasNumbersLeft m
+numbers_kept m k w few =
+    let events = ap (λ (n : State). n.events) k.stands in
+    record {
+      events = few;
+      doors = omega (arith, w.doors, few);
+      calls = omega (arith, w.calls_made, few);
+      notices = omega (arith, w.notices_made, few);
+      pipes = omega (arith, ap (λ (n : State). length n.channels.pipes) k.stands, k.channels.few_pipes, events, few);
+      ports = omega (arith, ap (λ (n : State). length n.channels.ports) k.stands, k.channels.few_ports, events, few);
+      queued = subst (λ (n : State). (q : ℕ) → length (port n q).queue ≤ USER_EVENTS_MAX) (sym k.stands) (few_queued k.written k.channels);
+    }
+
+pub wait_kept : (m : State) (t : ℕ) → IsKept m → IsFitTurn m t None
+wait_kept m t k = subst (λ n. IsFitTurn n t None) (sym k.stands) (waits_at_made k.written k.channels t)
+
 pub can_step :
     (p : Parts) (m : State) → stored_state p.store ≡ m →
     IsKept (stored_state p.store) × IsWithin (stored_state p.store) × IsBetweenEvents p →
@@ -332,11 +360,12 @@ can_step p m same k few =
     let w : IsWithin (stored_state p.store) = k.1 in
     let early : p.store.events < EVENTS_MAX = omega (arith, ap (λ (n : State). n.events) same) in
     record {
-      numbers = record { events = early; doors = omega arith; calls = omega arith; notices = omega (arith, w.notices_made, early) };
+      numbers = numbers_kept (stored_state p.store) k.0 w early;
       none_past = stands_live (stored_state p.store) k.0.written k.0.stands;
       placed = subst ArePlaced (sym k.0.stands) (placed-forget k.0.written (places k.0.written k.0.invariant.consistent));
       waiting = subst WaitAtValidDoors (sym k.0.stands) (waits-forget k.0.written (waits k.0.written k.0.invariant.consistent));
       held = subst AreHeld (sym k.0.stands) (held-forget k.0.written (held k.0.written k.0.invariant.consistent));
+      fit = λ t. ap (λ (n : State). is_unbuilt (state_of n t)) k.0.stands ∙ k.0.invariant.consistent.coherent.has_built_state t;
       between = k.2;
       turns = turns_kept (stored_state p.store) k.0;
     }

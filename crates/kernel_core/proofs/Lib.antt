@@ -1,10 +1,12 @@
 pub mod Live
 pub mod Idle
 pub mod Grows
+pub mod Sending
 pub mod Steps
 pub mod Readers
 pub mod Kept
 pub mod Tests
+pub mod Channels
 pub mod Collected
 pub mod Due
 pub mod Endings

@@ -20,7 +20,7 @@ use Rattle.written_kernel.proofs.Settling.{give-all}
 use Rattle.written_kernel.proofs.Steps.{act-keeps, process_identity}
 use Rattle.written_kernel.proofs.Forget.{IsStep-stands_for, forget-forget, settle-forget, woken_threads-forget}
 use Rattle.kernel_core.proofs.Live.{live_state, settle_past}
-use Rattle.kernel_core.proofs.Grows.{Grows, act-tidy, filter-small, grows_kept, settle-grows}
+use Rattle.kernel_core.proofs.Grows.{Grows, IsFitTurn, act-tidy, filter-small, grows_kept, settle-grows}
 
 pub step-within : (m : State) (t : ℕ) (r : Option Request) → IsWithin m → m.events < 1000000 → (step m t r).state.notice_list.made ≤ m.notice_list.made + 1280 → IsWithin (forget (step m t r).state)
 unfolding step
@@ -36,9 +36,9 @@ step-within m t r w few made =
       small = filter-small is_live_call (settle m n).call_tree.calls (h.small (g.small w.small));
     }
 
-pub step-small : (m : State) (t : ℕ) (r : Option Request) → IsWithin m → IsSmall (step m t r).answer
+pub step-small : (m : State) (t : ℕ) (r : Option Request) → IsWithin m → IsFitTurn m t r → IsSmall r (step m t r).answer
 unfolding step
-step-small m t r w = (act-tidy m t r).small w.small
+step-small m t r w fit = (act-tidy m t r).small w.small fit
 
 -- what a kept state's event did, if memory sufficed, it did to each state that it stands for
 pub step_stands :
@@ -57,10 +57,10 @@ step_within kept old new t r (Ok s) same w few h made e =
 step_within kept old new t r (Err x) same w few h made e = subst IsWithin (sym e) w
 
 pub step_small :
-    (kept new : State) (t : ℕ) (r : Option Request) (o : Result Stepped NoMemory) → IsWithin kept →
-    IfOk o (λ s. IsStep (step kept t r) new s) → IfOk o (λ s. IsSmall s.answer)
-step_small kept new t r (Ok s) w h = subst IsSmall (sym h.answer) (step-small kept t r w)
-step_small kept new t r (Err e) w h = tt
+    (kept new : State) (t : ℕ) (r : Option Request) (o : Result Stepped NoMemory) → IsWithin kept → IsFitTurn kept t r →
+    IfOk o (λ s. IsStep (step kept t r) new s) → IfOk o (λ s. IsSmall r s.answer)
+step_small kept new t r (Ok s) w fit h = subst (IsSmall r) (sym h.answer) (step-small kept t r w fit)
+step_small kept new t r (Err e) w fit h = tt
 
 with_processes-within : (limits : List ℕ) (m : State) → IsWithin m → IsWithin (with_processes m limits)
 with_processes-within [] m w = w

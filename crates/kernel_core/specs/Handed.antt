@@ -1,11 +1,12 @@
--- How many objects an event hands over at most, for which the room is taken before it, and which end a wait has.
-use Rattle.std.specs.Prelude.{ℕ, List, [], Option, None, Some, length}
-use Rattle.written_kernel.specs.Types.{Call, Item, Obj, Request, ThreadState}
+-- How many objects an event hands over at most, and how many events of a port, for which the room is taken before it, and which end a wait
+-- has.
+use Rattle.std.specs.Prelude.{ℕ, false, List, [], Option, None, Some, length}
+use Rattle.written_kernel.specs.Types.{Call, Item, Obj, Queued, Request, ThreadState}
 use Rattle.dk_base.specs.declared.object.Item.TheVariants as item
 use Rattle.dk_base.specs.declared.request.Request.TheVariants as request
 use Rattle.kernel_records.specs.declared.record.ThreadState.TheVariants as is
-use Rattle.kernel_records.specs.Words.{is_given_as, is_to_collect_as}
-use Rattle.written_kernel.specs.Words.{State, find_call, objects_collected_in}
+use Rattle.kernel_records.specs.Words.{events_found, is_given_as, is_to_collect_as}
+use Rattle.written_kernel.specs.Words.{State, find_call, objects_collected_in, port}
 use Rattle.kernel_core.specs.declared.acts.Ending.{Ending}
 use Rattle.kernel_core.specs.declared.acts.Ending.TheVariants as ending
 
@@ -36,10 +37,16 @@ objects_at_end m t (ending.Accept i) = objects_with m t i
 objects_at_end m t (ending.Collect c) = objects_to_collect m c
 objects_at_end m t _ = []
 
+-- the events that a wait for several finds
+abbrev pub events_at_end : State → Ending → List Queued
+events_at_end m (ending.Got q max false interrupted) = events_found max (port m q)
+events_at_end m _ = []
+
 -- which end the wait of a thread has
 abbrev pub ending_of : ThreadState → Ending
 ending_of (is.Given i) = ending.Accept i
 ending_of (is.Calling c) = ending.Collect c
+ending_of (is.Getting q max nget one interrupted) = ending.Got q max one interrupted
 ending_of (is.Awaiting path) = ending.Find
 ending_of (is.Working op input) = ending.EndWork
 ending_of is.FailedReturn = ending.Wake

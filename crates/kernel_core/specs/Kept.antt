@@ -4,11 +4,13 @@ use Rattle.written_kernel.specs.Words.{IsOpening, StandsFor, State}
 use Rattle.call_tree.specs.Words.{AreLive}
 use Rattle.pool_agreement.specs.Words.{AreKept}
 use Rattle.kernel_invariant.specs.Invariant.{Invariant}
+use Rattle.channel_invariant.specs.Channels.{AreChannels}
 
 pub record IsKept (kept : State) : Type 0 where
   pub written : State
   pub stands : StandsFor kept written
   pub invariant : Invariant written
+  pub channels : AreChannels written
   pub opening : kept.events ≡ 0 → IsOpening kept
 
 -- the calls are live, and no notice is past that no rule asks for again

@@ -1,5 +1,6 @@
 pub mod Acted
 pub mod Entries
+pub mod Finding
 pub mod Kept
 pub mod Numbers
 pub mod Watched

@@ -2,19 +2,22 @@
 ghost use Rattle.std.specs.Prelude.{◌≡◌, ◌&&◌, if◌then◌else◌, not, Some, None, false, length, true, IfOk, OnErr, OnOk};
 ghost use Rattle.std.specs.Option.{option_map};
 ghost use Rattle.kernel_records.specs.Words.{has_common_door, is_private};
+ghost use Rattle.kernel_invariant.specs.Coherent.{is_unbuilt};
 ghost use Rattle.kernel_invariant.specs.Events.{is_leaving};
 ghost use Rattle.kernel_core.specs.Entries.{made_first, may_make_first};
 ghost use Rattle.written_kernel.specs.Words.{StandsFor, act, end_work, enter, is_runnable, is_running, process_of, state_of};
-ghost use Rattle.kernel_core.specs.Handed.{count_passed, ending_of, objects_at_end};
+ghost use Rattle.kernel_core.specs.Finding.{HasRoomToFind};
+ghost use Rattle.kernel_core.specs.Handed.{count_passed, ending_of, events_at_end, objects_at_end};
 ghost use Rattle.kernel_core.specs.Kept.{HasNothingPast};
 ghost use Rattle.kernel_core.specs.Numbers.{HasNumbersLeft};
 ghost use Rattle.pool_agreement.specs.Words.{own_pool, pool_of_request};
 ghost use Rattle.kernel_store.specs.Words.{AreHeld, CanAct, CanLeave, FillsNoPool, FillsOnePool, HasWholeStep, IsActive, IsRoomFor, KeepsForNotices, KeepsPools, stored_state};
 
-use crate::descriptors::{self, door_named, found};
+use crate::descriptors::{self, door_named};
 use crate::doors::{self, accept, collect};
 use crate::leaving::{self, wake};
-use crate::{binding, information};
+use crate::ports::{self, Found, end_getting};
+use crate::{binding, information, pipes};
 use bitflags::Flags;
 use dk_base::answer::Answer;
 use dk_base::error::NoMemory;
@@ -147,6 +150,15 @@ pub fn enter(
         | Request::Kill { .. }
         | Request::Exit
         | Request::TestCancel => leaving::enter(store, alloc, t, p, request),
+        Request::Pipe | Request::Write { .. } | Request::Read { .. } => {
+            pipes::enter(store, alloc, t, p, request)
+        }
+        Request::PortCreate
+        | Request::Get { .. }
+        | Request::GetN { .. }
+        | Request::Send { .. }
+        | Request::SendN { .. }
+        | Request::Alert { .. } => ports::enter(store, alloc, t, p, request),
         _ => Ok(Answer::Done),
     }
 }
@@ -169,6 +181,12 @@ fn end_work(store: &mut Store, alloc: Global, t: Tid) -> Answer
 pub enum Ending {
     Accept(Item),
     Collect(u32),
+    Got {
+        port: u32,
+        max: u32,
+        one: bool,
+        interrupted: bool,
+    },
     Find,
     EndWork,
     Wake,
@@ -182,6 +200,18 @@ pub fn ending_of(state: &ThreadState) -> Ending
     match state {
         ThreadState::Given { item } => Ending::Accept(*item),
         ThreadState::Calling { call } => Ending::Collect(*call),
+        ThreadState::Getting {
+            port,
+            max,
+            one,
+            interrupted,
+            ..
+        } => Ending::Got {
+            port: *port,
+            max: *max,
+            one: *one,
+            interrupted: *interrupted,
+        },
         ThreadState::Awaiting { .. } => Ending::Find,
         ThreadState::Working { .. } => Ending::EndWork,
         ThreadState::FailedReturn => Ending::Wake,
@@ -189,7 +219,7 @@ pub fn ending_of(state: &ThreadState) -> Ending
     }
 }
 
-/// The end of the wait of thread `t` of process `p`. The descriptors that objects get go into `fds`.
+/// The end of the wait of thread `t` of process `p`. The descriptors that objects get go into `fds`, and the events of a port into `found`.
 #[tactic(auto, using(crate::proofs::Endings::ending_active, crate::proofs::Endings::ending_given, crate::proofs::Endings::ending_calling))]
 pub fn go_on(
     store: &mut Store,
@@ -198,6 +228,7 @@ pub fn go_on(
     p: Pid,
     ending: Ending,
     fds: Room<Fd>,
+    found: Found,
 ) -> Answer
     requires references { HasWholeStep store.old }
     requires can_act { CanAct (own_pool (stored_state store.old) t.0) store.old }
@@ -205,7 +236,9 @@ pub fn go_on(
     requires own { p.0 ≡ process_of (stored_state store.old) t.0 }
     requires at { ending ≡ ending_of (state_of (stored_state store.old) t.0) }
     requires runnable { is_runnable (stored_state store.old) t.0 ≡ true }
+    requires fit { is_unbuilt (state_of (stored_state store.old) t.0) ≡ false }
     requires room { IsRoomFor (length (objects_at_end (stored_state store.old) t.0 ending)) fds }
+    requires found { HasRoomToFind (length (events_at_end (stored_state store.old) ending)) found }
     ensures state { StandsFor (stored_state store.new) (act (stored_state store.old) t.0 None).state }
     ensures answer { result ≡ (act (stored_state store.old) t.0 None).answer }
     ensures keeps { FillsOnePool (own_pool (stored_state store.old) t.0) store.old store.new }
@@ -213,7 +246,13 @@ pub fn go_on(
     match ending {
         Ending::Accept(item) => accept(store, t, p, item, fds),
         Ending::Collect(call) => collect(store, t, p, call, fds),
-        Ending::Find => found(store, t),
+        Ending::Got {
+            port,
+            max,
+            one,
+            interrupted,
+        } => end_getting(store, t, port, max, one, interrupted, found),
+        Ending::Find => descriptors::found(store, t),
         Ending::EndWork => end_work(store, alloc, t),
         Ending::Wake => wake(store, t),
         Ending::Nothing => Answer::Done,

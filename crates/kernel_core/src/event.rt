@@ -15,6 +15,7 @@ ghost use Rattle.kernel_core.specs.Woken.{AreTurns, HasTurnsAfter, IsReady, IsRe
 use crate::acts::{ending_of, enter, go_on, made_first, needs_of};
 use crate::doors::count_at_end;
 use crate::notices::settle;
+use crate::ports::{count_found, room_to_find};
 use dk_base::answer::Answer;
 use dk_base::error::NoMemory;
 use dk_base::event::Stepped;
@@ -162,8 +163,9 @@ impl Parts {
         let p = self.store.processes().process_of(t);
         let ending = ending_of(self.store.processes().state(t));
         let fds = Room::with_room(alloc, count_at_end(&self.store, t, ending))?;
+        let found = room_to_find(alloc, count_found(&self.store, ending))?;
         let taken = self.reserve(alloc, touched)?;
-        let answer = go_on(&mut self.store, alloc, t, p, ending, fds);
+        let answer = go_on(&mut self.store, alloc, t, p, ending, fds, found);
         Ok(self.finish(taken, touched, loses, None, answer))
     }
 }

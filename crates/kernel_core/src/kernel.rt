@@ -86,7 +86,7 @@ impl Kernel {
         ensures step { IfOk result (λ s. (m : State) → StandsFor self.old m → IsStep (step m t.0 (Some request)) self.new s) }
         ensures refused { IfOk result (λ s. (e : Errno) → refusal_of self.old t.0 (process_of self.old t.0) request ≡ Some e → (s.answer ≡ Failure e) × (self.new ≡ with_event_counted self.old)) }
         ensures refused_step { (m : State) → StandsFor self.old m → (e : Errno) → refusal_of m t.0 (process_of m t.0) request ≡ Some e → (step m t.0 (Some request)).state ≡ with_event_counted m }
-        ensures small { IfOk result (λ s. IsSmall s.answer) }
+        ensures small { IfOk result (λ s. IsSmall (Some request) s.answer) }
         ensures err { OnErr result (self.new ≡ self.old) }
     {
         self.parts.enter(self.alloc, t, request)
@@ -96,7 +96,7 @@ impl Kernel {
     pub fn go_on(&mut self, t: Tid) -> Result<Stepped, NoMemory>
         requires { MayGoOn self.old t.0 }
         ensures step { IfOk result (λ s. (m : State) → StandsFor self.old m → IsStep (step m t.0 None) self.new s) }
-        ensures small { IfOk result (λ s. IsSmall s.answer) }
+        ensures small { IfOk result (λ s. IsSmall None s.answer) }
         ensures err { OnErr result (self.new ≡ self.old) }
     {
         self.parts.go_on(self.alloc, t)

@@ -1,4 +1,4 @@
-//! The kernel: the acts of doors, calls, descriptors and names over what it holds, and what follows them. Each of its calls is proved to be a step of the
+//! The kernel: the acts of doors, calls, descriptors, names, pipes and ports over what it holds, and what follows them. Each of its calls is proved to be a step of the
 //! written kernel.
 #![tactic(auto)]
 
@@ -11,4 +11,6 @@ mod information;
 pub mod kernel;
 mod leaving;
 mod notices;
+mod pipes;
+mod ports;
 mod turns;

@@ -1,4 +1,5 @@
-use Rattle.std.proofs.Common.{◌∙◌, Some}
+use Rattle.std.proofs.Common.{◌∙◌, Some, subst, sym}
+use Rattle.written_kernel.specs.Words.{IsFit}
 use Rattle.kernel_store.specs.Words.{stored_state}
 use Rattle.kernel_core.proofs.Kept.{can_step, kept_result, none_lost, noticing, refused_result, refused_stands, turning}
 use Rattle.kernel_core.proofs.Steps.{step_stands, step_within, step_small}
@@ -19,7 +20,8 @@ returns-clause-step c =
 
 pub returns-clause-small : goal.returns-clause-small
 returns-clause-small c =
-    step_small (stored_state c.self.inside.parts.store) (stored_state c.enter.new.self.store) c.args.t.0 (Some c.args.request) c.enter.result c.self.invariant.1 c.enter.ensures.step
+    step_small (stored_state c.self.inside.parts.store) (stored_state c.enter.new.self.store) c.args.t.0 (Some c.args.request) c.enter.result c.self.invariant.1
+    (subst (λ m. IsFit m c.args.t.0 c.args.request) (sym c.self.view_is) c.requires.fit) c.enter.ensures.step
 
 pub returns-clause-refused : goal.returns-clause-refused
 returns-clause-refused c =

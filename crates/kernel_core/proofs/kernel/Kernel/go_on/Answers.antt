@@ -1,6 +1,6 @@
 use Rattle.std.proofs.Common.{None}
 use Rattle.kernel_store.specs.Words.{stored_state}
-use Rattle.kernel_core.proofs.Kept.{can_step, kept_result, none_lost, noticing, turning}
+use Rattle.kernel_core.proofs.Kept.{can_step, kept_result, none_lost, noticing, turning, wait_kept}
 use Rattle.kernel_core.proofs.Steps.{step_stands, step_within, step_small}
 use Rattle.kernel_core.proofs.kernel.Kernel.go_on.Goals as goal
 
@@ -19,7 +19,8 @@ returns-clause-step c =
 
 pub returns-clause-small : goal.returns-clause-small
 returns-clause-small c =
-    step_small (stored_state c.self.inside.parts.store) (stored_state c.go_on.new.self.store) c.args.t.0 None c.go_on.result c.self.invariant.1 c.go_on.ensures.step
+    step_small (stored_state c.self.inside.parts.store) (stored_state c.go_on.new.self.store) c.args.t.0 None c.go_on.result c.self.invariant.1
+    (wait_kept (stored_state c.self.inside.parts.store) c.args.t.0 c.self.invariant.0) c.go_on.ensures.step
 
 pub go_on-requires-clause-can_step : goal.go_on-requires-clause-can_step
 go_on-requires-clause-can_step c = can_step c.self.inside.parts c.args.self.now c.self.view_is c.self.invariant c.requires.few
