@@ -94,7 +94,7 @@ const ANSWERS: [(&[&str], &str, usize, &str, Status); 19] = [
     ),
     (
         &["play"],
-        "doors script 1\nprocess a\nthread s\npcreate p\nend\n",
+        "doors script 1\nprocess a\nthread s\ndissociate 1 1\nend\n",
         0,
         "bad line 0 later\n",
         Status::Script,
@@ -145,7 +145,7 @@ const ANSWERS: [(&[&str], &str, usize, &str, Status); 19] = [
     ),
     (
         &["run"],
-        "doors script 1\nprocess a\nthread s\npcreate p\nend\n",
+        "doors script 1\nprocess a\nthread s\ndissociate 1 1\nend\n",
         0,
         "bad line 0 later\n",
         Status::Script,

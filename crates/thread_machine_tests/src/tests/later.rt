@@ -6,7 +6,7 @@ use std::test::Fail;
 use thread_machine::later::later;
 
 /// Lines of a thread that need no later capability, and lines that do.
-const BUILT_LINES: [&str; 40] = [
+const BUILT_LINES: [&str; 54] = [
     "create d e 0",
     "attach 1 p",
     "open v p",
@@ -47,20 +47,6 @@ const BUILT_LINES: [&str; 40] = [
     "create d e 0 no-cancel unref",
     "create d e 0 private unref-multi",
     "if unref\nexit\nend",
-];
-
-/// Lines of a procedure, and a member, that need none either.
-const BUILT_SCRIPTS: [(&str, &str); 7] = [
-    ("call r 1 \"\" desc 1", ""),
-    ("bind 1\nunbind", ""),
-    ("serve", "spare s"),
-    ("exit", ""),
-    ("if ok\nexit\nend", "spare s"),
-    ("testcancel\nrevoke 1\nkill a\ninterrupt t", ""),
-    ("create d e 0 unref\nif unref\nserve\nend", "spare s"),
-];
-
-const LATER_LINES: [&str; 19] = [
     "pipe r w",
     "write 1 \"\"",
     "read v 1 1",
@@ -70,23 +56,42 @@ const LATER_LINES: [&str; 19] = [
     "send 1 1 1",
     "sendn 1 1 1",
     "alert 1 set 1 1",
-    "associate 1 1 in 1",
-    "dissociate 1 1",
-    "work v upper \"\"",
     "if ok\npipe r w\nend",
     "repeat 2\nserve\nget 1\nend",
     "exit\npipe r w",
-    "work v digest \"\"",
     "get 1 nowait",
     "alert 1 none 0 0",
+];
+
+/// Lines of a procedure, and a member, that need none either.
+const BUILT_SCRIPTS: [(&str, &str); 9] = [
+    ("call r 1 \"\" desc 1", ""),
+    ("bind 1\nunbind", ""),
+    ("serve", "spare s"),
+    ("exit", ""),
+    ("if ok\nexit\nend", "spare s"),
+    ("testcancel\nrevoke 1\nkill a\ninterrupt t", ""),
+    ("create d e 0 unref\nif unref\nserve\nend", "spare s"),
+    ("pcreate p", ""),
+    ("if ok\nget 1\nend\npipe r w", "spare s"),
+];
+
+const LATER_LINES: [&str; 8] = [
+    "associate 1 1 in 1",
+    "dissociate 1 1",
+    "work v upper \"\"",
+    "work v digest \"\"",
     "associate 1 1 none 1",
+    "if ok\ndissociate 1 1\nend",
+    "repeat 2\nserve\nassociate 1 1 in 1\nend",
+    "exit\nwork v upper \"\"",
 ];
 
 /// Lines of a thread and of a procedure, and a member, of which one needs a later capability.
 const LATER_SCRIPTS: [(&str, &str, &str); 3] = [
-    ("serve", "pcreate p", ""),
-    ("pipe r w", "exit", "spare s"),
-    ("serve", "if ok\nget 1\nend", ""),
+    ("serve", "dissociate 1 1", ""),
+    ("associate 1 1 in 1", "exit", "spare s"),
+    ("serve", "if ok\nwork v upper \"\"\nend", ""),
 ];
 
 fn is_later_text(alloc: Global, text: &str) -> Option<bool> {
