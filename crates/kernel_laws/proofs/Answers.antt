@@ -91,7 +91,7 @@ one_each ports [] events user = refl
 one_each ports (o ∷ os) events user = ap suc (one_each (after_sending ports o events user) os events user)
 
 -- a get without a wait that finds too little is refused
-asks_to_wait : (wait ready : Bool) → (not wait && not ready) ≡ false → ready ≡ false → wait ≡ true
+pub asks_to_wait : (wait ready : Bool) → (not wait && not ready) ≡ false → ready ≡ false → wait ≡ true
 asks_to_wait true ready e f = refl
 asks_to_wait false ready e f = absurd (grind arith)
 

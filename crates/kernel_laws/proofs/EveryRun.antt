@@ -41,6 +41,7 @@ use Rattle.notice_laws.proofs.Notices.{notices_hold}
 use Rattle.kernel_laws.proofs.Pools.{bound_to_own, none_idle_in}
 use Rattle.kernel_laws.proofs.Bytes.{bytes_hold}
 use Rattle.kernel_laws.proofs.PortEvents.{port_events_hold}
+use Rattle.kernel_laws.proofs.PortWaits.{port_waits_hold}
 use Rattle.kernel_laws.proofs.Channels.{KnownChannels, known_channels}
 use Rattle.kernel_laws.specs.Entries.{first_reason, reasons, is_message}
 use Rattle.kernel_laws.proofs.Entries.{refusal_is}
@@ -164,6 +165,7 @@ all_hold m xs k h =
       events_shown = events_shown m xs k;
       bytes = bytes_hold m xs h;
       port_events = port_events_hold m xs h;
+      port_waits = port_waits_hold m xs h;
     }
 
 pub laws_hold : (m : State) (xs : List Turn) → IsOpening m → IsRun m xs → Laws m xs

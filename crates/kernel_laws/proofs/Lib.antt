@@ -19,6 +19,7 @@ mod Channels
 mod Bytes
 mod Sending
 mod PortEvents
+mod PortWaits
 mod Given
 mod Waits
 mod InvalidDoors

@@ -97,10 +97,10 @@ module _ (m : State) (xs : List Turn) (k : KnownChannels m xs) (i : ℕ) (x : Tu
 
   -- the port that a descriptor names, and at which a thread waits
 
-  port_there : (fd : Fd) (q : ℕ) → object_at (state_at m xs i) own fd ≡ Some (obj.Port q) → IsThere (at_number ports q)
+  pub port_there : (fd : Fd) (q : ℕ) → object_at (state_at m xs i) own fd ≡ Some (obj.Port q) → IsThere (at_number ports q)
   port_there fd q f = is_among ports q ((k.fits i (omega (arith, slice_get_within xs i x e))).refers.rows own fd (obj.Port q) f)
 
-  names_port :
+  pub names_port :
       (fd : Fd) (others : List Test) → first_refusal (port_tests (object_at (state_at m xs i) own fd) ++ others) ≡ None →
       Names m xs i x fd (obj.Port (port_at (state_at m xs i) own fd))
   names_port fd others f =

@@ -215,7 +215,7 @@ module _ (m : State) (xs : List Turn) (k : Known m xs) (i : ℕ) (x : Turn) (e :
       by_table a.state.tables own (insert_row table o) g (length-insert_rows table (o ∷ []))
       (insert_moves own table o (some_free table l) (RowChange.told o refl f asks))
 
-  ends_moves :
+  pub ends_moves :
       (r : Request) (p : ℕ) → x.request ≡ Some r → IsEnding (state_at m xs i) x.thread r p → EndsProcess m xs i x p
   ends_moves r p f (IsEnding.kills u l) = EndsProcess.kills u f refl
   ends_moves r p f (IsEnding.exits_last l) = EndsProcess.exits f refl (last_is (state_at m xs i) (invariant_before m xs k i x e) x.thread own l)

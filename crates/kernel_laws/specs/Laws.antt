@@ -23,6 +23,7 @@ use Rattle.notice_laws.specs.Notices.{Notices}
 use Rattle.kernel_laws.specs.EventsShown.{EventsShown}
 use Rattle.kernel_laws.specs.Bytes.{Bytes}
 use Rattle.kernel_laws.specs.PortEvents.{PortEvents}
+use Rattle.kernel_laws.specs.PortWaits.{PortWaits}
 
 pub record AllLaws (m : State) (xs : List Turn) : Type 0 where
   pub once : Once m xs
@@ -49,6 +50,7 @@ pub record AllLaws (m : State) (xs : List Turn) : Type 0 where
   pub events_shown : EventsShown m xs
   pub bytes : Bytes m xs
   pub port_events : PortEvents m xs
+  pub port_waits : PortWaits m xs
 
 unfoldable pub Laws : State → List Turn → Type 0
 Laws m xs = AllLaws m xs

@@ -17,6 +17,7 @@ pub mod Held
 pub mod Channels
 pub mod Bytes
 pub mod PortEvents
+pub mod PortWaits
 pub mod Answers
 pub mod Names
 pub mod Bindings
