@@ -1,5 +1,6 @@
 //! A worked run, so that the laws speak of something: definitions in `specs/`, its proof in `proofs/`.
 #![tactic(auto)]
 
+pub mod port_laws;
 pub mod port_runs;
 pub mod worked_run;
