@@ -1,10 +1,16 @@
-use crate::turns::{CLIENT, Entry, Gives, Row, SERVER, Turn, right_turns_of_new};
+use crate::turns::{ALERT, CLIENT, EVENT, Entry, Gives, Row, SERVER, Turn, right_turns_of_new};
 use dk_base::error::Errno;
 use dk_base::list::IdList;
-use dk_base::number::Fd;
+use dk_base::number::{Fd, Pid};
 use dk_base::object::Pass;
 use kernel_core::kernel::Kernel;
 use std::test::Fail;
+
+/// The second process.
+const OTHER: Pid = Pid(2);
+
+/// The first one.
+const SAME: Pid = Pid(1);
 
 /// A client waits for an echo server's path, opens it, calls it and exits: each thread's turn, what it is answered, and
 /// whom that wakes.
@@ -265,11 +271,160 @@ const NOTICED: [Row; 11] = [
     (SERVER, Turn::GoesOn, Gives::EnteredNotice(2), &[]),
 ];
 
+/// A pipe is written and read, is empty, has no reader and no writer, and needs two descriptors.
+const PIPES: [Row; 14] = [
+    (SERVER, Turn::Enters(Entry::Pipe), Gives::TwoFds(0, 1), &[]),
+    (
+        SERVER,
+        Turn::Enters(Entry::Pipe),
+        Gives::Failure(Errno::EMFILE),
+        &[],
+    ),
+    (
+        SERVER,
+        Turn::Enters(Entry::Read(0)),
+        Gives::Failure(Errno::EAGAIN),
+        &[],
+    ),
+    (
+        SERVER,
+        Turn::Enters(Entry::Write(1, b"hello")),
+        Gives::Count(5),
+        &[],
+    ),
+    (
+        SERVER,
+        Turn::Enters(Entry::Write(0, b"hello")),
+        Gives::Failure(Errno::EBADF),
+        &[],
+    ),
+    (
+        SERVER,
+        Turn::Enters(Entry::Read(1)),
+        Gives::Failure(Errno::EBADF),
+        &[],
+    ),
+    (
+        SERVER,
+        Turn::Enters(Entry::Read(0)),
+        Gives::Data(b"hel"),
+        &[],
+    ),
+    (
+        SERVER,
+        Turn::Enters(Entry::Read(0)),
+        Gives::Data(b"lo"),
+        &[],
+    ),
+    (SERVER, Turn::Enters(Entry::Close(0)), Gives::Done, &[]),
+    (
+        SERVER,
+        Turn::Enters(Entry::Write(1, b"lost")),
+        Gives::Failure(Errno::EPIPE),
+        &[],
+    ),
+    (SERVER, Turn::Enters(Entry::Close(1)), Gives::Done, &[]),
+    (SERVER, Turn::Enters(Entry::Pipe), Gives::TwoFds(0, 1), &[]),
+    (SERVER, Turn::Enters(Entry::Close(1)), Gives::Done, &[]),
+    (SERVER, Turn::Enters(Entry::Read(0)), Gives::Data(b""), &[]),
+];
+
+/// Events are sent to a port, are counted, and are retrieved; an alert stands in their place.
+const PORTS: [Row; 12] = [
+    (
+        SERVER,
+        Turn::Enters(Entry::PortCreate),
+        Gives::NewFd(0),
+        &[],
+    ),
+    (
+        SERVER,
+        Turn::Enters(Entry::Get(0, false)),
+        Gives::Failure(Errno::ETIME),
+        &[],
+    ),
+    (SERVER, Turn::Enters(Entry::Send(0)), Gives::Done, &[]),
+    (
+        SERVER,
+        Turn::Enters(Entry::CountQueued(0)),
+        Gives::Available(1),
+        &[],
+    ),
+    (
+        SERVER,
+        Turn::Enters(Entry::Get(0, false)),
+        Gives::OneEvent(EVENT),
+        &[],
+    ),
+    (
+        SERVER,
+        Turn::Enters(Entry::SendEach(&[Fd(0), Fd(1), Fd(0), Fd(0)])),
+        Gives::Errors(&[None, Some(Errno::EBADF), None, None]),
+        &[],
+    ),
+    (
+        SERVER,
+        Turn::Enters(Entry::GetMany(0, 1, false)),
+        Gives::Events(&[EVENT, EVENT]),
+        &[],
+    ),
+    (
+        SERVER,
+        Turn::Enters(Entry::GetMany(0, 3, false)),
+        Gives::Failure(Errno::EINVAL),
+        &[],
+    ),
+    (SERVER, Turn::Enters(Entry::Alert(0)), Gives::Done, &[]),
+    (
+        SERVER,
+        Turn::Enters(Entry::GetMany(0, 2, true)),
+        Gives::Events(&[ALERT]),
+        &[],
+    ),
+    (SERVER, Turn::Enters(Entry::EndAlert(0)), Gives::Done, &[]),
+    (
+        SERVER,
+        Turn::Enters(Entry::Get(0, true)),
+        Gives::OneEvent(EVENT),
+        &[],
+    ),
+];
+
+/// A thread waits at a port for one event, then for two, and then until nothing refers to the port any more.
+const WAITING: [Row; 11] = [
+    (
+        SERVER,
+        Turn::Enters(Entry::PortCreate),
+        Gives::NewFd(0),
+        &[],
+    ),
+    (SERVER, Turn::Enters(Entry::Get(0, true)), Gives::Wait, &[]),
+    (CLIENT, Turn::Enters(Entry::Send(0)), Gives::Done, &[SERVER]),
+    (SERVER, Turn::GoesOn, Gives::OneEvent(EVENT), &[]),
+    (
+        SERVER,
+        Turn::Enters(Entry::GetMany(0, 2, true)),
+        Gives::Wait,
+        &[],
+    ),
+    (CLIENT, Turn::Enters(Entry::Send(0)), Gives::Done, &[]),
+    (CLIENT, Turn::Enters(Entry::Send(0)), Gives::Done, &[SERVER]),
+    (SERVER, Turn::GoesOn, Gives::Events(&[EVENT, EVENT]), &[]),
+    (SERVER, Turn::Enters(Entry::Get(0, true)), Gives::Wait, &[]),
+    (
+        CLIENT,
+        Turn::Enters(Entry::Close(0)),
+        Gives::Done,
+        &[SERVER],
+    ),
+    (SERVER, Turn::GoesOn, Gives::Failure(Errno::EBADF), &[]),
+];
+
 #[test]
 fn echo(rt: HostRuntime) -> Result<(), Fail> {
     let alloc = rt.alloc();
     let limits = IdList::from_slice(alloc, &[16, 16])?;
-    let right = right_turns_of_new(alloc, &limits, &ECHO);
+    let right = right_turns_of_new(alloc, &limits, OTHER, &ECHO);
     assert!(rt; right == ECHO.len(), "turn {right}");
     Ok(())
 }
@@ -278,7 +433,7 @@ fn echo(rt: HostRuntime) -> Result<(), Fail> {
 fn descriptors_go_with_a_call_and_its_results(rt: HostRuntime) -> Result<(), Fail> {
     let alloc = rt.alloc();
     let limits = IdList::from_slice(alloc, &[4, 4])?;
-    let right = right_turns_of_new(alloc, &limits, &PASSING);
+    let right = right_turns_of_new(alloc, &limits, OTHER, &PASSING);
     assert!(rt; right == PASSING.len(), "turn {right}");
     Ok(())
 }
@@ -287,9 +442,9 @@ fn descriptors_go_with_a_call_and_its_results(rt: HostRuntime) -> Result<(), Fai
 fn full_tables_take_no_descriptors(rt: HostRuntime) -> Result<(), Fail> {
     let alloc = rt.alloc();
     let limits = IdList::from_slice(alloc, &[2, 2])?;
-    let right = right_turns_of_new(alloc, &limits, &FULL_SERVER);
+    let right = right_turns_of_new(alloc, &limits, OTHER, &FULL_SERVER);
     assert!(rt; right == FULL_SERVER.len(), "server, turn {right}");
-    let right = right_turns_of_new(alloc, &limits, &FULL_CLIENT);
+    let right = right_turns_of_new(alloc, &limits, OTHER, &FULL_CLIENT);
     assert!(rt; right == FULL_CLIENT.len(), "client, turn {right}");
     Ok(())
 }
@@ -298,8 +453,21 @@ fn full_tables_take_no_descriptors(rt: HostRuntime) -> Result<(), Fail> {
 fn a_server_is_told_of_a_last_reference(rt: HostRuntime) -> Result<(), Fail> {
     let alloc = rt.alloc();
     let limits = IdList::from_slice(alloc, &[2, 2])?;
-    let right = right_turns_of_new(alloc, &limits, &NOTICED);
+    let right = right_turns_of_new(alloc, &limits, OTHER, &NOTICED);
     assert!(rt; right == NOTICED.len(), "turn {right}");
+    Ok(())
+}
+
+#[test]
+fn bytes_go_through_a_pipe_and_events_through_a_port(rt: HostRuntime) -> Result<(), Fail> {
+    let alloc = rt.alloc();
+    let limits = IdList::from_slice(alloc, &[2, 2])?;
+    let right = right_turns_of_new(alloc, &limits, OTHER, &PIPES);
+    assert!(rt; right == PIPES.len(), "pipe, turn {right}");
+    let right = right_turns_of_new(alloc, &limits, OTHER, &PORTS);
+    assert!(rt; right == PORTS.len(), "port, turn {right}");
+    let right = right_turns_of_new(alloc, &limits, SAME, &WAITING);
+    assert!(rt; right == WAITING.len(), "waiting, turn {right}");
     Ok(())
 }
 

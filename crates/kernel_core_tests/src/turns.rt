@@ -1,4 +1,4 @@
-//! A kernel of two processes, and the turns of a thread of each.
+//! A kernel of two processes, and the turns of two threads, of one process each or of the same.
 ghost use Rattle.std.specs.Prelude.{ℕ, ◌≡◌, ◌≤◌, Option, IfOk, length};
 ghost use Rattle.std.specs.List.{AllByRecursion};
 ghost use Rattle.dk_base.specs.declared.limits.TheConstants.{DESCRIPTORS_MAX};
@@ -10,10 +10,10 @@ ghost use Rattle.written_kernel.specs.Words.{IsFit, State};
 use dk_base::answer::Answer;
 use dk_base::error::{Errno, NoMemory};
 use dk_base::event::Stepped;
-use dk_base::list::{Bytes, IdList, PassList};
+use dk_base::list::{Bytes, FdList, IdList, PassList};
 use dk_base::number::{Fd, PathId, Pid, Tid};
-use dk_base::object::Pass;
-use dk_base::request::Request;
+use dk_base::object::{EventRec, Pass, Src};
+use dk_base::request::{AlertMode, Request};
 use dk_base::set::Attrs;
 use kernel_core::kernel::Kernel;
 use std::alloc::Global;
@@ -34,7 +34,39 @@ pub enum Entry {
     Call(&'static [u8], &'static [Pass]),
     Return(&'static [u8], &'static [Pass]),
     Exit,
+    Pipe,
+    Write(u32, &'static [u8]),
+    /// At most three bytes.
+    Read(u32),
+    PortCreate,
+    Get(u32, bool),
+    /// At most two events, of so many at least.
+    GetMany(u32, u32, bool),
+    /// How many events are queued.
+    CountQueued(u32),
+    Send(u32),
+    SendEach(&'static [Fd]),
+    /// An alert.
+    Alert(u32),
+    /// The end of alert mode.
+    EndAlert(u32),
 }
+
+/// What is sent.
+pub const EVENT: EventRec = EventRec {
+    source: Src::User,
+    object: 0,
+    events: 3,
+    user: 4,
+};
+
+/// An alert as it is retrieved.
+pub const ALERT: EventRec = EventRec {
+    source: Src::Alert,
+    object: 0,
+    events: 5,
+    user: 6,
+};
 
 /// A turn of a thread.
 #[derive(Clone, Copy)]
@@ -55,16 +87,23 @@ pub enum Gives {
     EnterFailed(u32),
     EnteredNotice(u32),
     Grown(&'static [u8], &'static [Fd]),
+    TwoFds(u32, u32),
+    Count(u32),
+    Data(&'static [u8]),
+    Available(u32),
+    OneEvent(EventRec),
+    Events(&'static [EventRec]),
+    Errors(&'static [Option<Errno>]),
     Failure(Errno),
 }
 
 /// A thread's turn, what it is answered, and whom that wakes.
 pub type Row = (Tid, Turn, Gives, &'static [Tid]);
 
-/// The thread of process 1.
+/// The first thread, of process 1.
 pub const SERVER: Tid = Tid(1);
 
-/// The thread of process 2.
+/// The second thread.
 pub const CLIENT: Tid = Tid(2);
 
 fn is_answer(answer: &Answer, gives: Gives) -> bool {
@@ -86,12 +125,79 @@ fn is_answer(answer: &Answer, gives: Gives) -> bool {
         Gives::Grown(text, numbers) => {
             matches!(answer, Answer::Results { bytes, fds, grown: true } if bytes.slice() == text && fds.slice() == numbers)
         }
+        Gives::TwoFds(low, high) => {
+            matches!(answer, Answer::TwoFds { read, write } if read.0 == low && write.0 == high)
+        }
+        Gives::Count(number) => matches!(answer, Answer::Count { n } if *n == number),
+        Gives::Data(text) => matches!(answer, Answer::Data { bytes } if bytes.slice() == text),
+        Gives::Available(number) => matches!(answer, Answer::Available { n } if *n == number),
+        Gives::OneEvent(event) => matches!(answer, Answer::OneEvent(told) if *told == event),
+        Gives::Events(events) => {
+            matches!(answer, Answer::Events(told) if told.slice() == events)
+        }
+        Gives::Errors(errors) => {
+            matches!(answer, Answer::Errors(told) if told.slice() == errors)
+        }
         Gives::Failure(errno) => matches!(answer, Answer::Failure(error) if *error == errno),
     }
 }
 
 fn is_step(stepped: &Result<Stepped, NoMemory>, gives: Gives, wakes: &[Tid]) -> bool {
     matches!(stepped, Ok(stepped) if is_answer(&stepped.answer, gives) && stepped.woken.slice() == wakes)
+}
+
+/// An entry about pipes or ports.
+fn request_about_channels(alloc: Global, entry: Entry) -> Result<Request, NoMemory>
+    ensures fit { IfOk result (λ r. (m : State) (t : ℕ) → IsFit m t r) }
+    ensures built { IfOk result (λ r. capability_of r ≤ BUILT) }
+{
+    match entry {
+        Entry::Pipe => Ok(Request::Pipe),
+        Entry::Write(fd, text) => Ok(Request::Write {
+            fd: Fd(fd),
+            bytes: Bytes::from_slice(alloc, text)?,
+        }),
+        Entry::Read(fd) => Ok(Request::Read { fd: Fd(fd), max: 3 }),
+        Entry::Get(port, wait) => Ok(Request::Get {
+            port: Fd(port),
+            wait,
+        }),
+        Entry::GetMany(port, nget, wait) => Ok(Request::GetN {
+            port: Fd(port),
+            max: 2,
+            nget,
+            wait,
+        }),
+        Entry::CountQueued(port) => Ok(Request::GetN {
+            port: Fd(port),
+            max: 0,
+            nget: 0,
+            wait: false,
+        }),
+        Entry::Send(port) => Ok(Request::Send {
+            port: Fd(port),
+            events: EVENT.events,
+            user: EVENT.user,
+        }),
+        Entry::SendEach(ports) => Ok(Request::SendN {
+            ports: FdList::from_slice(alloc, ports)?,
+            events: EVENT.events,
+            user: EVENT.user,
+        }),
+        Entry::Alert(port) => Ok(Request::Alert {
+            port: Fd(port),
+            mode: AlertMode::Set,
+            events: ALERT.events,
+            user: ALERT.user,
+        }),
+        Entry::EndAlert(port) => Ok(Request::Alert {
+            port: Fd(port),
+            mode: AlertMode::Set,
+            events: 0,
+            user: 0,
+        }),
+        _ => Ok(Request::PortCreate),
+    }
 }
 
 #[tactic(auto, using(crate::proofs::Built::passing_built))]
@@ -136,6 +242,7 @@ fn request(alloc: Global, entry: Entry) -> Result<Request, NoMemory>
             let bytes = Bytes::from_slice(alloc, text)?;
             Ok(Request::Return { bytes, pass })
         }
+        _ => request_about_channels(alloc, entry),
     }
 }
 
@@ -180,9 +287,10 @@ fn right_turns(alloc: Global, kernel: &mut Kernel, rows: &[Row]) -> usize {
     rows.len()
 }
 
-/// The same, after a thread was added to each of two processes.
-fn right_turns_of_two(alloc: Global, kernel: &mut Kernel, rows: &[Row]) -> usize
-    requires { length kernel.old.process_table.processes ≡ 2 }
+/// The same, after a thread was added to the first of two processes and one to this process.
+fn right_turns_of_two(alloc: Global, kernel: &mut Kernel, second: Pid, rows: &[Row]) -> usize
+    requires two { length kernel.old.process_table.processes ≡ 2 }
+    requires declared { (1 ≤ second.0) × (second.0 ≤ 2) }
 {
     if kernel.events() != 0 {
         return 0;
@@ -190,7 +298,7 @@ fn right_turns_of_two(alloc: Global, kernel: &mut Kernel, rows: &[Row]) -> usize
     if !matches!(kernel.add_thread(Pid(1), false), Ok(SERVER)) {
         return 0;
     }
-    if !matches!(kernel.add_thread(Pid(2), false), Ok(CLIENT)) {
+    if !matches!(kernel.add_thread(second, false), Ok(CLIENT)) {
         return 0;
     }
     right_turns(alloc, kernel, rows)
@@ -198,12 +306,13 @@ fn right_turns_of_two(alloc: Global, kernel: &mut Kernel, rows: &[Row]) -> usize
 
 /// The same of a kernel whose processes have these limits of descriptors.
 #[tactic(auto, using(written_kernel::proofs::Opening::opening_processes))]
-pub fn right_turns_of_new(alloc: Global, limits: &IdList, rows: &[Row]) -> usize
+pub fn right_turns_of_new(alloc: Global, limits: &IdList, second: Pid, rows: &[Row]) -> usize
+    requires declared { (1 ≤ second.0) × (second.0 ≤ 2) }
     requires two { length limits.now ≡ 2 }
     requires limits { AllByRecursion (λ n. n ≤ DESCRIPTORS_MAX) limits.now }
 {
     match Kernel::new(alloc, limits) {
-        Ok(mut kernel) => right_turns_of_two(alloc, &mut kernel, rows),
+        Ok(mut kernel) => right_turns_of_two(alloc, &mut kernel, second, rows),
         Err(_) => 0,
     }
 }
