@@ -1,7 +1,7 @@
 -- Data as a trace shows it: in quotes as in a script, or by its length and digest.
 use Rattle.std.specs.Prelude.{ℕ, nat_le, if◌then◌else◌, List, ◌++◌, length, codes, decimal}
 use Rattle.script_text.specs.Words.{quoted_text}
-use Rattle.script_requests.specs.Digest.{digest_of}
+use Rattle.work_ops.specs.Words.{digest_of}
 
 -- `sha256:LENGTH:DIGEST`
 abbrev pub digest_text : List ℕ → List ℕ

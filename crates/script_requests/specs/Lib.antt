@@ -6,7 +6,6 @@ pub mod Requests
 pub mod Later
 pub mod DeclaredNames
 pub mod Sound
-pub mod Digest
 pub mod DataText
 pub mod TraceNames
 pub mod WhatWord

@@ -1,0 +1,6 @@
+//! Tasks: computations apart from the kernel.
+#![tactic(auto)]
+
+pub mod digest;
+mod ops;
+pub mod task;

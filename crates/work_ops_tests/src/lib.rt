@@ -1,0 +1,5 @@
+//! Tests of tasks.
+#![tactic(auto)]
+
+#[cfg(test)]
+mod tests;
