@@ -12,5 +12,6 @@ pub mod Notices
 pub mod Pools
 pub mod Pipes
 pub mod Ports
+pub mod Associations
 pub mod Leaving
 pub mod Words

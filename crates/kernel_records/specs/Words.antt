@@ -1,4 +1,5 @@
 -- The words of this crate's specs, from one place, for the crates above.
+pub use Rattle.kernel_records.specs.Associations.{AssociationList, all_fired, armed_at, associate, associate_tests, association_at, association_number, association_port, associations_of_process, associations_of_row, associations_that_lost, disarmed, disarmed_where, dissociate, dissociate_tests, end_closed, end_process_associations, end_row, event_of, fire_all, fire_first, fired_of, fired_where, first_fired, has_key, has_lost_its_row, has_number, has_other_key, has_other_number, is_armed_at, is_fired_by, is_of_other_process, is_of_other_row, is_of_process, is_of_row, is_same_association_key, is_this_object, is_to_fire, is_told, is_watcher, names_its_object, new_association, no_associations, number_in, numbers_of, ports_of, post_fired, queued_of, ready_object, retrieve_association, retrieve_associations, told_events, watches, withdraw_events}
 pub use Rattle.kernel_records.specs.Calls.{CallTree, at_stage, call_number, collect_call, enter_call, fail_call, give_call, is_client_call_of, is_entered_by, is_given_as, is_given_to, is_live, is_live_call, is_queued, is_queued_as, is_queued_call, is_served, is_served_as, is_served_by, is_to_collect, is_to_collect_as, live_calls, open_call, return_call, without_arguments_at}
 pub use Rattle.kernel_records.specs.Doors.{AreNumbered, attributes_where, bind_tests, change_door, change_door_in, cookie_of, end_owner, entry_of, first_desc_max, has_attributes, has_common_door, has_no_cancel, has_no_size, has_refused_size, has_told_attributes, has_too_many, has_unref_multi, info_in, info_of, is_common_of, is_of_descriptors, is_owned_by, is_private, is_private_in, is_valid_door, is_valid_in, is_valid_of, limit_tests, new_door, no_cancel_of, no_info, number_of_door, notice_doors, is_notice_door, param_in, param_of, refuses_descriptors, refuses_descriptors_in, revoke_door, revoke_tests, revoked_door, set_param, set_param_tests, takes_notices, takes_notices_in, target_of, told_attributes, valid_doors_of, with_door, with_owner_ended, with_param, would_have_no_size}
 pub use Rattle.kernel_records.specs.Leaving.{Leaving, abandoned_at, broken_call_at, cancelled_invocation, cancelled_thread, deserted_at, deserted_in, ended_where, gone_call_at, interrupted_state, interrupted_thread, interrupted_where, interruption, is_left, leaving_of, left_call, left_calls, left_notice, left_notice_at, left_notices, left_thread, left_thread_of, left_threads, process_end, revocation, thread_end}
