@@ -1,0 +1,17 @@
+use Rattle.std.proofs.Common.{◌≡◌, Some, ap, find, sym, ◌∙◌}
+use Rattle.kernel_records.specs.Words.{has_number}
+use Rattle.port_assoc.proofs.Apart.{found_by_key, left_by_key}
+use Rattle.port_assoc.proofs.Lists.{none-left}
+use Rattle.port_assoc.proofs.assocs.Assocs.end_first_numbered.Goals as goal
+
+pub returns-in_err-a-clause-left : goal.returns-in_err-a-clause-left
+returns-in_err-a-clause-left c = rw (← c.self.view_is) (sym (none-left (has_number c.args.n) c.self.inside.table.items (sym c.in_err-a.ensures.found)))
+
+pub end_found-requires : goal.end_found-requires
+end_found-requires c = rw (← c.self.view_is) (found_by_key (has_number c.args.n) c.self.inside.table.items c.in_ok-a.a c.in_ok-a.ensures.distinct (sym c.in_ok-a.ensures.found))
+
+pub returns-clause-left : goal.returns-clause-left
+returns-clause-left c =
+    let found : find (has_number c.args.n) c.args.self.now.list.associations ≡ Some c.in_ok-a.a =
+    ap (λ v. find (has_number c.args.n) v.list.associations) (sym c.self.view_is) ∙ sym c.in_ok-a.ensures.found in
+    c.end_found.ensures.left ∙ left_by_key (has_number c.args.n) c.args.self.now.list.associations c.in_ok-a.a c.end_found.ensures.distinct found

@@ -1,0 +1,29 @@
+-- What maps find associations and objects by.
+use Rattle.std.specs.Prelude.{Bool}
+use Rattle.dk_base.specs.declared.object.Obj.{Obj}
+use Rattle.dk_base.specs.declared.object.Obj.TheVariants as obj
+use Rattle.kernel_records.specs.declared.association.AssocKey.{AssocKey}
+use Rattle.kernel_records.specs.Words.{descriptor, pid}
+use Rattle.port_assoc.specs.declared.key.Key.{Key}
+use Rattle.port_assoc.specs.declared.key.ObjectKey.{ObjectKey}
+use Rattle.port_assoc.specs.declared.key.ObjectKey.TheVariants as object
+use Rattle.port_assoc.specs.contracts.key.KeyPartialEq.TheImpl as key_eq
+use Rattle.port_assoc.specs.contracts.key.ObjectKeyPartialEq.TheImpl as object_key_eq
+
+abbrev pub key_of : AssocKey → Key
+key_of k = record { port = k.port; process = k.process.0; fd = k.fd.0 }
+
+abbrev pub association_key : Key → AssocKey
+association_key k = record { port = k.port; process = pid k.process; fd = descriptor k.fd }
+
+abbrev pub same_key : Key → Key → Bool
+same_key = (key_eq.ghosts).eq
+
+abbrev pub object_key : Obj → ObjectKey
+object_key (obj.Door d) = object.Door d
+object_key (obj.Port p) = object.Port p
+object_key (obj.PipeIn p) = object.PipeIn p
+object_key (obj.PipeOut p) = object.PipeOut p
+
+abbrev pub same_object_key : ObjectKey → ObjectKey → Bool
+same_object_key = (object_key_eq.ghosts).eq

@@ -1,0 +1,6 @@
+pub mod Keys
+pub mod Lists
+pub mod Table
+pub mod Watchers
+pub mod Value
+pub mod Words

@@ -1,0 +1,24 @@
+-- The associations of a kernel, with the room for more.
+use Rattle.std.specs.Prelude.{◌≡◌, ℕ, ◌<◌, ◌≤◌, List, filter}
+use Rattle.dk_base.specs.declared.object.Obj.{Obj}
+use Rattle.kernel_records.specs.declared.association.Association.{Association}
+use Rattle.kernel_records.specs.Words.{AssociationList, is_watcher}
+use Rattle.port_assoc.specs.Watchers.{WatchLists, room_at, watchers_of}
+
+-- how many were made, with those that have not ended; how many more take no memory; and the armed ones of each object
+pub record AssocsValue : Type 0 where
+  pub list : AssociationList
+  pub spare : ℕ
+  pub lists : WatchLists
+
+-- another that watches this object takes no memory
+abbrev pub HasRoomFor : AssocsValue → Obj → Type 0
+HasRoomFor v o = (0 < v.spare) × (0 < room_at v.lists o)
+
+-- the same room as before, or more
+abbrev pub KeepsRoom : AssocsValue → AssocsValue → Type 0
+KeepsRoom old new = (old.spare ≤ new.spare) × ((o : Obj) → room_at old.lists o ≤ room_at new.lists o)
+
+-- the list of each object has the armed ones that watch it, in order
+abbrev pub IsWatched : List Association → WatchLists → Type 0
+IsWatched xs lists = (o : Obj) → watchers_of lists o ≡ filter (is_watcher o) xs

@@ -1,0 +1,234 @@
+//! Associations that fire, are replaced, end, and whose descriptors are closed.
+
+use dk_base::error::Errno;
+use dk_base::list::Room;
+use dk_base::number::{Fd, Pid};
+use dk_base::object::{EventRec, Obj, Src};
+use dk_base::set::PollSet;
+use kernel_records::association::AssocKey;
+use port_assoc::assocs::Assocs;
+use std::alloc::Global;
+use std::test::Fail;
+
+const IN: u32 = 1;
+
+const OUT: u32 = 4;
+
+const ERR: u32 = 8;
+
+const HUP: u32 = 16;
+
+/// What was asked for, and what the object is ready for: what is told.
+const TOLD: [(u32, u32, Option<u32>); 9] = [
+    (IN, IN, Some(IN)),
+    (IN, OUT, None),
+    (IN, 0, None),
+    (OUT, OUT | ERR, Some(OUT | ERR)),
+    (OUT, IN | HUP, Some(HUP)),
+    (IN | HUP, IN | HUP, Some(IN | HUP)),
+    (0, ERR, Some(ERR)),
+    (0, IN | OUT, None),
+    (IN | OUT, IN, Some(IN)),
+];
+
+const fn key(port: u32, process: u32, fd: u32) -> AssocKey {
+    AssocKey {
+        port,
+        process: Pid(process),
+        fd: Fd(fd),
+    }
+}
+
+/// Whether an object is associated, in place of this one.
+fn associates(
+    alloc: Global,
+    assocs: &mut Assocs,
+    key: AssocKey,
+    object: Obj,
+    events: u32,
+    replaced: Option<u32>,
+) -> bool {
+    if assocs.made() >= 100 {
+        return false;
+    }
+    assocs.associate(key, object, PollSet(events), 7, alloc) == Ok(replaced)
+}
+
+/// Whether an association fires, or none: its port, its number, its descriptor and what it is told.
+fn fires(
+    assocs: &mut Assocs,
+    object: Obj,
+    ready: u32,
+    expected: Option<(u32, u32, u32, u32)>,
+) -> bool {
+    match (assocs.fire(object, PollSet(ready)), expected) {
+        (Some(fired), Some((port, number, fd, events))) => {
+            let rec = EventRec {
+                source: Src::Fd,
+                object: fd,
+                events,
+                user: 7,
+            };
+            fired.port == port && fired.queued.assoc == Some(number) && fired.queued.rec == rec
+        }
+        (None, None) => true,
+        _ => false,
+    }
+}
+
+/// Whether one that asked for these, whose object is ready for those, is told this, and never again.
+fn tells(alloc: Global, asked: u32, ready: u32, told: Option<u32>) -> bool {
+    let mut assocs = Assocs::new(alloc);
+    let expected = match told {
+        Some(events) => Some((2, 1, 9, events)),
+        None => None,
+    };
+    associates(
+        alloc,
+        &mut assocs,
+        key(2, 3, 9),
+        Obj::PipeIn(5),
+        asked,
+        None,
+    ) && fires(&mut assocs, Obj::PipeOut(5), ready, None)
+        && fires(&mut assocs, Obj::PipeIn(5), ready, expected)
+        && (told.is_none() || fires(&mut assocs, Obj::PipeIn(5), ready, None))
+}
+
+#[test]
+fn associations_are_told_once(rt: HostRuntime) {
+    for (asked, ready, told) in TOLD {
+        assert!(rt; tells(rt.alloc(), asked, ready, told));
+    }
+}
+
+/// Three ports watch one pipe; another end is watched too.
+fn watched(alloc: Global) -> Option<Assocs> {
+    let mut assocs = Assocs::new(alloc);
+    let all = associates(alloc, &mut assocs, key(1, 1, 3), Obj::PipeIn(1), IN, None)
+        && associates(alloc, &mut assocs, key(2, 1, 3), Obj::PipeIn(1), IN, None)
+        && associates(alloc, &mut assocs, key(1, 1, 4), Obj::PipeOut(1), OUT, None)
+        && associates(alloc, &mut assocs, key(1, 2, 3), Obj::PipeIn(1), IN, None);
+    if all { Some(assocs) } else { None }
+}
+
+fn fires_in_order(alloc: Global) -> bool {
+    let Some(mut assocs) = watched(alloc) else {
+        return false;
+    };
+    assocs.armed(1) == 3
+        && fires(&mut assocs, Obj::PipeIn(1), IN, Some((1, 1, 3, IN)))
+        && fires(&mut assocs, Obj::PipeIn(1), IN, Some((2, 2, 3, IN)))
+        && fires(&mut assocs, Obj::PipeIn(1), IN, Some((1, 4, 3, IN)))
+        && fires(&mut assocs, Obj::PipeIn(1), IN, None)
+        && fires(&mut assocs, Obj::PipeOut(1), OUT, Some((1, 3, 4, OUT)))
+        && assocs.armed(1) == 0
+        && assocs.len() == 4
+}
+
+/// One that has fired is replaced, and its number is told; the new one stands last.
+fn replaces(alloc: Global) -> bool {
+    let Some(mut assocs) = watched(alloc) else {
+        return false;
+    };
+    fires(&mut assocs, Obj::PipeIn(1), IN, Some((1, 1, 3, IN)))
+        && associates(
+            alloc,
+            &mut assocs,
+            key(1, 1, 3),
+            Obj::PipeIn(1),
+            IN,
+            Some(1),
+        )
+        && associates(
+            alloc,
+            &mut assocs,
+            key(2, 1, 3),
+            Obj::PipeIn(2),
+            IN,
+            Some(2),
+        )
+        && assocs.number_at(key(1, 1, 3)) == Some(5)
+        && assocs.len() == 4
+        && fires(&mut assocs, Obj::PipeIn(1), IN, Some((1, 4, 3, IN)))
+        && fires(&mut assocs, Obj::PipeIn(1), IN, Some((1, 5, 3, IN)))
+        && fires(&mut assocs, Obj::PipeIn(1), IN, None)
+}
+
+/// One that ended is not found again, and does not fire.
+fn ends(alloc: Global) -> bool {
+    let Some(mut assocs) = watched(alloc) else {
+        return false;
+    };
+    if assocs.dissociate(key(2, 1, 3)) != Ok(2)
+        || assocs.dissociate(key(2, 1, 3)) != Err(Errno::ENOENT)
+    {
+        return false;
+    }
+    assocs.retrieved(1);
+    assocs.retrieved(9);
+    assocs.number_at(key(1, 1, 3)).is_none()
+        && assocs.len() == 2
+        && assocs.made() == 4
+        && fires(&mut assocs, Obj::PipeIn(1), IN, Some((1, 4, 3, IN)))
+}
+
+/// A descriptor is closed: all that watch by it end, whether they have fired or not.
+fn closes(alloc: Global) -> bool {
+    let Some(mut assocs) = watched(alloc) else {
+        return false;
+    };
+    if !fires(&mut assocs, Obj::PipeIn(1), IN, Some((1, 1, 3, IN))) {
+        return false;
+    }
+    let count = assocs.len();
+    let (Ok(mut ports), Ok(mut ids)) = (
+        Room::with_room(alloc, count),
+        Room::with_room(alloc, count),
+    ) else {
+        return false;
+    };
+    assocs.drop_fd(Pid(1), Fd(3), &mut ports, &mut ids);
+    ports.slice() == [1, 2].as_slice()
+        && ids.slice() == [1, 2].as_slice()
+        && assocs.len() == 2
+        && fires(&mut assocs, Obj::PipeIn(1), IN, Some((1, 4, 3, IN)))
+        && fires(&mut assocs, Obj::PipeIn(1), IN, None)
+}
+
+/// A process ends: all its own end, whether they have fired or not; another's is left.
+fn ends_with_process(alloc: Global) -> bool {
+    let Some(mut assocs) = watched(alloc) else {
+        return false;
+    };
+    if !fires(&mut assocs, Obj::PipeIn(1), IN, Some((1, 1, 3, IN))) {
+        return false;
+    }
+    let count = assocs.len();
+    let (Ok(mut ports), Ok(mut ids)) = (
+        Room::with_room(alloc, count),
+        Room::with_room(alloc, count),
+    ) else {
+        return false;
+    };
+    assocs.end_process(Pid(1), &mut ports, &mut ids);
+    ports.slice() == [1, 2, 1].as_slice()
+        && ids.slice() == [1, 2, 3].as_slice()
+        && assocs.len() == 1
+        && assocs.first_told(Obj::PipeOut(1), PollSet(OUT)).is_none()
+        && assocs.first_told(Obj::PipeIn(1), PollSet(IN)) == Some(4)
+        && fires(&mut assocs, Obj::PipeIn(1), IN, Some((1, 4, 3, IN)))
+}
+
+#[test]
+fn associations_fire_in_order(rt: HostRuntime) {
+    assert!(rt; fires_in_order(rt.alloc()));
+}
+
+#[test]
+fn associations_end(rt: HostRuntime) {
+    assert!(rt; replaces(rt.alloc()));
+    assert!(rt; ends(rt.alloc()));
+    assert!(rt; closes(rt.alloc()));
+    assert!(rt; ends_with_process(rt.alloc()));
+}

@@ -1,0 +1,7 @@
+//! Tests of associations.
+#![tactic(auto)]
+
+#[cfg(test)]
+mod associations;
+#[cfg(test)]
+mod telling;
