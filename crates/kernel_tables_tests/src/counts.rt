@@ -1,8 +1,10 @@
-//! References of objects: they come and go, and doors that fall to one reference in a step are told.
+//! References of objects: they come and go, and doors that fall to one reference in a step are told, and ends of pipes that fall to none.
 ghost use Rattle.std.specs.Prelude.{◌≡◌, ◌≤◌, true, []};
 
+use dk_base::list::Room;
 use dk_base::object::Obj;
-use unref_notice::counts::Counts;
+use std::alloc::Global;
+use unref_notice::counts::{Counts, STEP_MAX};
 
 /// A door, and the number of a port and of a pipe.
 const FIRST: u32 = 1;
@@ -71,10 +73,38 @@ fn are_told_once(counts: &mut Counts) -> bool {
     is_begun(counts) && are_told(counts, &[])
 }
 
+/// Whether these ends of pipes have lost their references in the step.
+fn are_gone(alloc: Global, counts: &Counts, expected: &[Obj]) -> bool {
+    let Ok(mut gone) = Room::with_room(alloc, STEP_MAX) else {
+        return false;
+    };
+    counts.gone(&mut gone);
+    gone.slice() == expected
+}
+
+/// Whether a step that takes the last reference of a door, of a port and of the reading end of a pipe tells the end alone, and
+/// the next step does not tell it again.
+fn are_gone_once(alloc: Global, counts: &mut Counts) -> bool {
+    if !is_begun(counts) || !are_gone(alloc, counts, &[]) {
+        return false;
+    }
+    counts.down_all(&[
+        Obj::Door(FIRST),
+        Obj::PipeIn(FIRST),
+        Obj::Port(FIRST),
+        Obj::PipeOut(FIRST),
+    ]);
+    if !are_gone(alloc, counts, &[Obj::PipeIn(FIRST)]) || !is_begun(counts) {
+        return false;
+    }
+    counts.count(Obj::PipeIn(FIRST)) == 0 && are_gone(alloc, counts, &[])
+}
+
 #[test]
 fn doors_that_fall_to_one_reference_are_told(rt: HostRuntime) {
     let mut counts = Counts::new(rt.alloc());
     assert!(rt; is_begun(&mut counts) && rise_to_two(&mut counts));
     assert!(rt; are_told(&mut counts, &[]));
     assert!(rt; are_told_once(&mut counts));
+    assert!(rt; are_gone_once(rt.alloc(), &mut counts));
 }

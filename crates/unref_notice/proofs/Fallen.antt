@@ -7,7 +7,7 @@ use Rattle.unref_notice.specs.declared.key.Key.TheVariants as key
 use Rattle.unref_notice.specs.Counting.{AreApart, IsStill, ObjectCounts, and_door, fallen_among, fallen_of, fell, is_touched, same_key}
 use Rattle.unref_notice.specs.Words.{how_many}
 
-abbrev once : Bool → ℕ
+abbrev pub once : Bool → ℕ
 once b = if b then 1 else 0
 
 module _ (now opening : ObjectCounts) where

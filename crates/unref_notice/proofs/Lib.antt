@@ -5,4 +5,5 @@ pub mod Items
 pub mod Keys
 pub mod Tallies
 pub mod Fallen
+pub mod Gone
 pub mod DoorCounts

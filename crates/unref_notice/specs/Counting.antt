@@ -1,5 +1,5 @@
 -- The counts of objects as they are kept, and what is read of them.
-use Rattle.std.specs.Prelude.{ℕ, ◌≡◌, ◌==◌, ◌&&◌, Bool, false, List, [], ◌∷◌, map, Option, None, Some, if◌then◌else◌, nat_lt, unwrap_or}
+use Rattle.std.specs.Prelude.{ℕ, ◌≡◌, ◌==◌, ◌&&◌, Bool, false, List, [], ◌∷◌, map, Option, None, Some, filter, if◌then◌else◌, nat_lt, true, unwrap_or}
 use Rattle.std.specs.List.{list_any}
 use Rattle.std.specs.Map.{lookup}
 use Rattle.dk_base.specs.declared.object.Obj.{Obj}
@@ -18,6 +18,12 @@ key_of (obj.Door d) = key.Door d
 key_of (obj.Port p) = key.Port p
 key_of (obj.PipeIn p) = key.PipeIn p
 key_of (obj.PipeOut p) = key.PipeOut p
+
+abbrev pub object_of : Key → Obj
+object_of (key.Door d) = obj.Door d
+object_of (key.Port p) = obj.Port p
+object_of (key.PipeIn p) = obj.PipeIn p
+object_of (key.PipeOut p) = obj.PipeOut p
 
 abbrev pub same_key : Key → Key → Bool
 same_key = (key_eq.ghosts).eq
@@ -73,3 +79,20 @@ and_door (Some d) ds = d ∷ ds
 abbrev pub fallen_among : ObjectCounts → ObjectCounts → List Key → List ℕ
 fallen_among now opening [] = []
 fallen_among now opening (k ∷ ks) = and_door (fallen_of now opening k) (fallen_among now opening ks)
+
+-- an end of a pipe had references, and has none
+
+abbrev pub is_pipe_end : Obj → Bool
+is_pipe_end (obj.PipeIn p) = true
+is_pipe_end (obj.PipeOut p) = true
+is_pipe_end o = false
+
+abbrev pub lost : ObjectCounts → ObjectCounts → Key → Bool
+lost now opening k = nat_lt 0 (count_at opening k) && (count_at now k == 0)
+
+abbrev pub went : ObjectCounts → ObjectCounts → Key → Bool
+went now opening k = is_pipe_end (object_of k) && lost now opening k
+
+-- those among these objects that have
+abbrev pub gone_among : ObjectCounts → ObjectCounts → List Key → List Obj
+gone_among now opening ks = map object_of (filter (went now opening) ks)

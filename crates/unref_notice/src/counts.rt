@@ -1,17 +1,20 @@
-//! How many references each object has, and which doors had more than one when the step began, and have one.
-ghost use Rattle.std.specs.Prelude.{◌≡◌, ◌+◌, ◌-◌, ◌<◌, ◌≤◌, ◌++◌, ◌∷◌, ℕ, [], IsSorted, OnErr, OnOk, if◌then◌else◌, length, true, vec_capacity, vec_len};
+//! How many references each object has, which doors had more than one when the step began, and have one, and which ends of pipes had some,
+//! and have none.
+ghost use Rattle.std.specs.Prelude.{◌≡◌, ◌+◌, ◌-◌, ◌<◌, ◌≤◌, ◌++◌, ◌∷◌, ◌||◌, ℕ, [], IsSorted, OnErr, OnOk, if◌then◌else◌, length, true, vec_capacity, vec_len};
+ghost use Rattle.std.specs.List.{list_any};
 ghost use Rattle.std.specs.Ordering.{nat_cmp};
 ghost use Rattle.dk_base.specs.declared.object.Obj.{Obj};
 ghost use Rattle.indexmap.specs.IndexMap.{KeepsRoom, spare};
 ghost use Rattle.kernel_records.specs.Words.{count_object, is_object};
 ghost use Rattle.unref_notice.specs.declared.counts.TheConstants.{STEP_MAX};
 ghost use Rattle.unref_notice.specs.declared.key.Key.{Key};
-ghost use Rattle.unref_notice.specs.Counting.{AreMarked, IsStill, count_at, counts_in, fallen_among, fallen_of, is_touched, same_key, tally_at};
-ghost use Rattle.unref_notice.specs.Words.{count_of, has_fallen, how_many};
+ghost use Rattle.unref_notice.specs.Counting.{AreMarked, IsStill, count_at, counts_in, fallen_among, fallen_of, gone_among, is_pipe_end, is_touched, same_key, tally_at, went};
+ghost use Rattle.unref_notice.specs.Words.{count_of, has_fallen, has_gone, how_many};
 
-use crate::key::{Key, key_of};
+use crate::key::{Key, key_of, object_of};
 use crate::tally::Tally;
 use dk_base::error::NoMemory;
+use dk_base::list::Room;
 use dk_base::object::Obj;
 use indexmap::IndexMap;
 use std::alloc::Global;
@@ -154,6 +157,40 @@ fn tell(
     for key in touched {
         if let Some(d) = fallen_of(tallies, opening, *key) {
             into.push_reserved(d);
+        }
+    }
+}
+
+/// Whether an object is an end of a pipe.
+fn is_pipe_end(object: Obj) -> bool
+    ensures { result ≡ is_pipe_end object }
+{
+    match object {
+        Obj::PipeIn(_) | Obj::PipeOut(_) => true,
+        _ => false,
+    }
+}
+
+/// Whether an object is an end of a pipe that had references and has none.
+fn has_gone(tallies: &IndexMap<Key, Tally>, opening: &IndexMap<Key, u64>, key: Key) -> bool
+    ensures { result ≡ went (counts_in tallies.now.entries) opening.now.entries key }
+{
+    is_pipe_end(object_of(key)) && count_at(opening, key) > 0 && now_at(tallies, key) == 0
+}
+
+/// The ends of pipes among these objects that had references and have none follow what is in `into`.
+fn tell_gone(
+    tallies: &IndexMap<Key, Tally>,
+    opening: &IndexMap<Key, u64>,
+    touched: &[Key],
+    into: &mut Room<Obj>,
+)
+    requires { length touched.now ≤ into.old.spare }
+    ensures { into.new.items ≡ into.old.items ++ gone_among (counts_in tallies.now.entries) opening.now.entries touched.now }
+{
+    for key in touched {
+        if has_gone(tallies, opening, *key) {
+            into.push(object_of(*key));
         }
     }
 }
@@ -304,5 +341,16 @@ impl Counts {
         ensures { result.now ≡ self.now.fallen }
     {
         &self.fallen
+    }
+
+    /// The ends of pipes that had references when the step began, and have none now, follow what is in `into`, each once, in any order.
+    /// Only the objects are looked at that are touched. It takes no memory.
+    pub fn gone(&self, into: &mut Room<Obj>)
+        requires { STEP_MAX ≤ into.old.spare }
+        ensures each { (o : Obj) → count_object o into.new.items ≡ count_object o into.old.items + (if has_gone self.now o then 1 else 0) }
+        ensures members { (o : Obj) → list_any (is_object o) into.new.items ≡ (list_any (is_object o) into.old.items || has_gone self.now o) }
+        ensures few { length into.new.items ≤ length into.old.items + STEP_MAX }
+    {
+        tell_gone(&self.tallies, &self.opening, &self.touched, into);
     }
 }

@@ -1,6 +1,6 @@
 //! Objects as keys of a map.
 ghost use Rattle.std.specs.Prelude.{◌≡◌};
-ghost use Rattle.unref_notice.specs.Counting.{key_of};
+ghost use Rattle.unref_notice.specs.Counting.{key_of, object_of};
 
 use dk_base::object::Obj;
 
@@ -21,5 +21,17 @@ pub fn key_of(object: Obj) -> Key
         Obj::Port(p) => Key::Port(p),
         Obj::PipeIn(p) => Key::PipeIn(p),
         Obj::PipeOut(p) => Key::PipeOut(p),
+    }
+}
+
+/// The object of a key.
+pub fn object_of(key: Key) -> Obj
+    ensures { result ≡ object_of key }
+{
+    match key {
+        Key::Door(d) => Obj::Door(d),
+        Key::Port(p) => Obj::Port(p),
+        Key::PipeIn(p) => Obj::PipeIn(p),
+        Key::PipeOut(p) => Obj::PipeOut(p),
     }
 }
