@@ -1,0 +1,4 @@
+pub mod Ready
+pub mod Firing
+pub mod Named
+pub mod Words
