@@ -77,6 +77,6 @@ invocation_of-settle before m u =
       fails = λ n t l e. invocation-set_thread_state n.process_table t u is.FailedReturn ∙ e;
       gives = λ n w x p e. invocation_of-give_one n w.item x.thread.0 u ∙ e;
       starts = λ n t d e. invocation_of-with_state n t u is.Running ∙ e;
-    })
+    }) (λ n h. h)
     m
     refl

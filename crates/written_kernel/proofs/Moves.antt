@@ -11,7 +11,7 @@ use Rattle.kernel_records.specs.declared.record.ThreadState.TheVariants as is
 use Rattle.std.proofs.lemmas.Bool.Decides.{nat_tests}
 use Rattle.kernel_records.specs.declared.record.CallStage.TheVariants as stage
 use Rattle.kernel_records.specs.declared.record.NoticeStage.TheVariants as notice
-use Rattle.kernel_records.specs.Words.{descriptor, alert_port, fitting, free_place, is_given_stage, is_ready_for, make_pipe, make_port, oldest, read_pipe, send_event, take_events, write_pipe, is_given_to, tid, Leaving, door_attached, interruption, is_given_as, is_given_notice_as, is_last, thread_end, with_name, with_row, without_name}
+use Rattle.kernel_records.specs.Words.{descriptor, alert_port, fitting, free_place, is_given_stage, is_ready_for, make_pipe, make_port, oldest, read_pipe, send_event, write_pipe, is_given_to, tid, Leaving, door_attached, interruption, is_given_as, is_given_notice_as, is_last, thread_end, with_name, with_row, without_name}
 use Rattle.kernel_records.proofs.NumberedLists.{find-passes}
 use Rattle.dk_base.specs.ByNumber.{with_at_number}
 use Rattle.written_kernel.specs.Acts.{ActResult, unless_refused}
@@ -21,7 +21,9 @@ use Rattle.written_kernel.specs.Binding.{information_of_bound}
 use Rattle.written_kernel.specs.Information.{credentials, information, parameter as get_parameter, door_at, set_parameter}
 use Rattle.written_kernel.specs.Leaving.{test_cancel, exit, kill, leave, leave_process, leave_thread, revoke}
 use Rattle.written_kernel.specs.Pipes.{held_in, pipe_at, table_with_reader}
-use Rattle.written_kernel.specs.Ports.{after_sending_each, end_getting, errors_of_sending, found_answer, get, get_from, get_many, has_port_references, port, port_at, retrieve, tell_queued, wait_for}
+use Rattle.dk_base.specs.declared.set.PollSet.{PollSet}
+use Rattle.written_kernel.specs.Associations.{associated, dissociated, key_at, watched}
+use Rattle.written_kernel.specs.Ports.{after_sending_each, end_getting, errors_of_sending, found_answer, get, get_from, get_many, has_port_references, port, port_at, retrieve, take_found, tell_queued, wait_for}
 use Rattle.written_kernel.specs.State.{Channels, State, find_call, find_notice, has_invalid_door, is_live_process, name_of, object_at, process_of, state_of, table_of, with_state, with_table_of}
 use Rattle.written_kernel.specs.Step.{act, effect, enter, go_on, refusal_of}
 
@@ -97,7 +99,7 @@ pub data IsTurn (m : State) (t : ℕ) : Option Request → ThreadState → Answe
       (q max nget : ℕ) (one : Bool) → state_of m t ≡ is.Getting q max nget one false → has_port_references m q ≡ false →
       IsTurn m t None is.Running (answer.Failure EBADF)
 
--- how the bytes of a pipe or the events of ports change by an entry, and what the thread is told
+-- how the bytes of a pipe, the events of ports or the associations change by an entry, and what the thread is told
 pub data IsPassing (m : State) (t : ℕ) : Request → Channels → Answer → Type 0 where
   writes :
       (fd : Fd) (bytes : List ℕ) → IsFree m t (request.Write fd bytes) →
@@ -122,14 +124,22 @@ pub data IsPassing (m : State) (t : ℕ) : Request → Channels → Answer → T
       (record m.channels { ports = alert_port m.channels.ports (port_at m (process_of m t) fd) events user }) answer.Done
   gets :
       (fd : Fd) (wait : Bool) → IsFree m t (request.Get fd wait) → is_ready_for 1 (port m (port_at m (process_of m t) fd)) ≡ true →
-      IsPassing m t (request.Get fd wait) (record m.channels { ports = take_events m.channels.ports (port_at m (process_of m t) fd) 1 })
+      IsPassing m t (request.Get fd wait) (take_found m.channels (port_at m (process_of m t) fd) 1)
       (found_answer m (port_at m (process_of m t) fd) 1 true)
   gets_many :
       (fd : Fd) (max nget : ℕ) (wait : Bool) → IsFree m t (request.GetN fd max nget wait) → (max == 0) ≡ false →
       is_ready_for nget (port m (port_at m (process_of m t) fd)) ≡ true →
       IsPassing m t (request.GetN fd max nget wait)
-      (record m.channels { ports = take_events m.channels.ports (port_at m (process_of m t) fd) max })
+      (take_found m.channels (port_at m (process_of m t) fd) max)
       (found_answer m (port_at m (process_of m t) fd) max false)
+  associates :
+      (port object : Fd) (events : PollSet) (user : ℕ) → IsFree m t (request.Associate port object events user) →
+      IsPassing m t (request.Associate port object events user)
+      (associated m.channels (key_at m (process_of m t) port object) (watched (object_at m (process_of m t) object)) events user)
+      answer.Done
+  dissociates :
+      (port object : Fd) → IsFree m t (request.Dissociate port object) →
+      IsPassing m t (request.Dissociate port object) (dissociated m.channels (key_at m (process_of m t) port object)) answer.Done
 
 -- which pipe or port is made, which objects get descriptors, and what the thread is told
 pub data IsMaking (m : State) (t : ℕ) : Request → Channels → List Obj → Answer → Type 0 where
@@ -210,7 +220,7 @@ pub data Moves (m : State) (t : ℕ) : Option Request → ActResult → Type 0 w
   retrieves :
       (q max nget : ℕ) (one : Bool) → IsGetting m t q max nget one →
       Moves m t None
-      (act_result (record (with_state m t is.Running) { channels = record m.channels { ports = take_events m.channels.ports q max } })
+      (act_result (record (with_state m t is.Running) { channels = take_found m.channels q max })
       (found_answer m q max one))
   ends : (r : Request) (p : ℕ) → IsEnding m t r p → Moves m t (Some r) (act_result (leave_process m p) answer.Done)
 
@@ -333,6 +343,8 @@ module _ (m : State) (t : ℕ) where
   effect_moves (request.Send fd events user) f = passes _ _ _ (sends fd events user f)
   effect_moves (request.SendN fds events user) f = passes _ _ _ (sends_each fds events user)
   effect_moves (request.Alert fd mode events user) f = passes _ _ _ (alerts fd mode events user f)
+  effect_moves (request.Associate port object events user) f = passes _ _ _ (associates port object events user f)
+  effect_moves (request.Dissociate port object) f = passes _ _ _ (dissociates port object f)
   effect_moves r f = nothing _ is_done
 
   enter_moves : (r : Request) → Moves m t (Some r) (enter m t (process_of m t) r)

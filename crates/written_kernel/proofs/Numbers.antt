@@ -216,7 +216,7 @@ settle-listed before m l =
       fails = λ n t lost h. h;
       gives = λ n w x p h. give_one-listed n w.item x.thread.0 h;
       starts = λ n t d h. h;
-    })
+    }) (λ n h. h)
     m l
 
 -- steps and runs

@@ -7,7 +7,7 @@ use Rattle.dk_base.specs.declared.limits.TheConstants.{THREADS_MAX}
 use Rattle.written_kernel.specs.Types.{Fd, Obj, Process, Thread}
 use Rattle.kernel_records.specs.declared.record.ProcessStage.TheVariants.{Live}
 use Rattle.kernel_records.specs.declared.record.ThreadState.TheVariants as is
-use Rattle.kernel_records.specs.Words.{CallTree, NoticeList, bound_at, bound_in, empty_table, invocation_in, items_in_order, kept_notices, live_calls, new_process, new_thread, object_in, object_named, opening_state, state_in, table_in}
+use Rattle.kernel_records.specs.Words.{CallTree, NoticeList, bound_at, bound_in, empty_table, invocation_in, items_in_order, kept_notices, live_calls, new_process, new_thread, no_associations, object_in, object_named, opening_state, state_in, table_in}
 use Rattle.written_kernel.specs.State.{State, bound_of, invocation_of, object_at, state_of, thread_of, waiting_items}
 use Rattle.written_kernel.specs.Kept.{forget}
 use Rattle.written_kernel.specs.Opening.{IsOpening, no_process, opening, with_new_process, with_new_thread, with_processes}
@@ -43,7 +43,7 @@ pub record IsOpened (m : State) : Type 0 where
   pub doors : m.doors ≡ []
   pub call_tree : m.call_tree ≡ record { made = 0; calls = [] }
   pub notice_list : m.notice_list ≡ record { made = 0; notices = [] }
-  pub channels : m.channels ≡ record { pipes = []; ports = [] }
+  pub channels : m.channels ≡ record { pipes = []; ports = []; associations = no_associations }
   pub events : m.events ≡ 0
 
 -- how many there are

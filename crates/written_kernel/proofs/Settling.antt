@@ -1,4 +1,4 @@
--- Settling by its parts: notices are made, threads that lost their door fail, items are given, spares start.
+-- Settling by its parts: notices are made, threads that lost their door fail, items are given, spares start, ports are told.
 use Rattle.std.proofs.Common.{◌≡◌, ℕ, zero, suc, ◌+◌, ◌==◌, ◌&&◌, Bool, true, false, if◌then◌else◌, List, [], ◌∷◌, Option, None, Some, option_map, position, slice_get, length, refl, sym, ap, ap₂, ◌∙◌, arith}
 use Rattle.std.proofs.lemmas.Bool.Decides.{nat_tests}
 use Rattle.std.proofs.lemmas.List.Quantifiers.{position-Some}
@@ -10,7 +10,8 @@ use Rattle.kernel_records.specs.declared.record.ThreadState.TheVariants as is
 use Rattle.kernel_records.specs.Words.{ProcessTable, better_parked, bound_at, is_dormant, is_spare_of, make_notice, new_thread, parked_at, parked_in, parked_thread, pick_among, pool_of_thread, set_thread_state, start_thread_at, state_in, thread_at, thread_at_state}
 use Rattle.written_kernel.specs.Notices.{is_due, make_each, make_notices}
 use Rattle.written_kernel.specs.State.{State, door_of, now, pick, pool_of, state_of, waiting_items, with_state}
-use Rattle.written_kernel.specs.Settle.{fail_each, fail_one, fail_return, fail_returns, give, give_and_start, give_each, give_one, give_to, has_lost_door, needs_spare, settle, start_each, start_one, start_spares}
+use Rattle.written_kernel.specs.Settle.{fail_each, fail_one, fail_return, fail_returns, give, give_and_start, give_each, give_one, give_to, has_lost_door, needs_spare, settle, settle_pools, start_each, start_one, start_spares}
+use Rattle.written_kernel.specs.Telling.{tell}
 use Rattle.kernel_records.proofs.Lists.{at_number-suc, same_length}
 use Rattle.written_kernel.proofs.Threads.{map-change_thread, thread_at-change_thread}
 
@@ -121,6 +122,9 @@ module _ (P : State → Type 0) where
   start_spares-all one before ungiven given h =
       start_each-all one before ungiven given (length given.process_table.processes) h
 
+  abbrev pub KeptByTelling : Type 0
+  KeptByTelling = (m : State) → P m → P (tell m)
+
   pub give_and_start-all : KeptByGiving → KeptByStarting → (before m : State) → P m → P (give_and_start before m)
   give_and_start-all gives starts before m h = start_spares-all starts before m (give m) (give-all gives m h)
 
@@ -131,10 +135,13 @@ module _ (P : State → Type 0) where
     pub gives : KeptByGiving
     pub starts : KeptByStarting
 
-  pub settle-all : (before : State) → KeptByParts before → (m : State) → P m → P (settle before m)
-  settle-all before kept m h =
+  pub settle_pools-all : (before : State) → KeptByParts before → (m : State) → P m → P (settle_pools before m)
+  settle_pools-all before kept m h =
       give_and_start-all kept.gives kept.starts before (fail_returns (make_notices before m))
       (fail_returns-all kept.fails (make_notices before m) (make_notices-all before kept.makes m h))
+
+  pub settle-all : (before : State) → KeptByParts before → KeptByTelling → (m : State) → P m → P (settle before m)
+  settle-all before kept tells m h = tells (settle_pools before m) (settle_pools-all before kept m h)
 
 -- what no part changes
 
@@ -165,14 +172,14 @@ start_spares-alone before ungiven given =
     one : KeptByStarting (λ n. n ≡ with_threads given n.process_table given.bindings)
     one n t d e = ap (λ k. with_threads k (with_state n t is.Running).process_table k.bindings) e
 
--- a state with the threads, calls and notices of another, which are all that settling changes
+-- a state with the threads, calls and notices of another, which are all that settling changes before ports are told
 abbrev pub with_settled : State → State → State
 with_settled m n =
     record m { process_table = n.process_table; bindings = n.bindings; call_tree = n.call_tree; notice_list = n.notice_list }
 
-pub settle-alone : (before m : State) → settle before m ≡ with_settled m (settle before m)
-settle-alone before m =
-    settle-all (λ n. n ≡ with_settled m n) before (record { makes = makes; fails = fails; gives = gives; starts = starts }) m refl
+pub settle_pools-alone : (before m : State) → settle_pools before m ≡ with_settled m (settle_pools before m)
+settle_pools-alone before m =
+    settle_pools-all (λ n. n ≡ with_settled m n) before (record { makes = makes; fails = fails; gives = gives; starts = starts }) m refl
   where
     changed : (n o : State) → n ≡ with_settled m n → o ≡ with_settled n o → o ≡ with_settled m o
     changed n o e f = f ∙ ap (λ k. with_settled k o) e
@@ -194,19 +201,22 @@ settle-alone before m =
     starts n t d e = changed n (with_state n t is.Running) e refl
 
 pub doors-settle : (before m : State) → (settle before m).doors ≡ m.doors
-doors-settle before m = ap (λ (n : State). n.doors) (settle-alone before m)
+doors-settle before m = ap (λ (n : State). n.doors) (settle_pools-alone before m)
 
 pub names-settle : (before m : State) → (settle before m).names ≡ m.names
-names-settle before m = ap (λ (n : State). n.names) (settle-alone before m)
+names-settle before m = ap (λ (n : State). n.names) (settle_pools-alone before m)
 
 pub tables-settle : (before m : State) → (settle before m).tables ≡ m.tables
-tables-settle before m = ap (λ (n : State). n.tables) (settle-alone before m)
+tables-settle before m = ap (λ (n : State). n.tables) (settle_pools-alone before m)
 
-pub channels-settle : (before m : State) → (settle before m).channels ≡ m.channels
-channels-settle before m = ap (λ (n : State). n.channels) (settle-alone before m)
+pub channels-settle_pools : (before m : State) → (settle_pools before m).channels ≡ m.channels
+channels-settle_pools before m = ap (λ (n : State). n.channels) (settle_pools-alone before m)
+
+pub pipes-settle : (before m : State) → (settle before m).channels.pipes ≡ m.channels.pipes
+pipes-settle before m = ap (λ (n : State). n.channels.pipes) (settle_pools-alone before m)
 
 pub events-settle : (before m : State) → (settle before m).events ≡ m.events
-events-settle before m = ap (λ (n : State). n.events) (settle-alone before m)
+events-settle before m = ap (λ (n : State). n.events) (settle_pools-alone before m)
 
 -- where no thread has lost its door, none fails
 
@@ -222,14 +232,14 @@ pub has_lost_door-make_notices : (before m : State) (t : ℕ) → has_lost_door 
 has_lost_door-make_notices before m t = ap (λ k. has_lost_door k t) (make_notices-alone before m)
 
 pub settle-not_failed :
-    (before m : State) → ((t : ℕ) → has_lost_door m t ≡ false) → settle before m ≡ give_and_start before (make_notices before m)
+    (before m : State) → ((t : ℕ) → has_lost_door m t ≡ false) → settle before m ≡ tell (give_and_start before (make_notices before m))
 settle-not_failed before m h =
-    ap (give_and_start before) (fail_returns-none (make_notices before m) (λ t. has_lost_door-make_notices before m t ∙ h t))
+    ap (λ n. tell (give_and_start before n)) (fail_returns-none (make_notices before m) (λ t. has_lost_door-make_notices before m t ∙ h t))
 
 -- and where no notice is made either
 pub settle-none :
-    (before m : State) → ((t : ℕ) → has_lost_door m t ≡ false) → make_notices before m ≡ m → settle before m ≡ give_and_start before m
-settle-none before m h e = settle-not_failed before m h ∙ ap (give_and_start before) e
+    (before m : State) → ((t : ℕ) → has_lost_door m t ≡ false) → make_notices before m ≡ m → settle before m ≡ tell (give_and_start before m)
+settle-none before m h e = settle-not_failed before m h ∙ ap (λ n. tell (give_and_start before n)) e
 
 -- a pool has the same pick after spares have started
 

@@ -15,6 +15,7 @@ use Rattle.written_kernel.specs.Doors.{create, has_room, tables_after_collect, t
 use Rattle.written_kernel.specs.Leaving.{leave, leave_process, revoke}
 use Rattle.written_kernel.specs.Information.{door_at}
 use Rattle.written_kernel.specs.Settle.{fail_return, give_one, settle}
+use Rattle.written_kernel.specs.Telling.{tell}
 use Rattle.written_kernel.specs.Step.{act, step}
 use Rattle.written_kernel.proofs.Settling.{settle-all, with_notice_of}
 use Rattle.kernel_records.proofs.Lists.{length-with_at_number, same_length, same_numbered, at_number-map, at_number-extends, map-with_at_number, Extends, Extends-same, Extends-then}
@@ -353,7 +354,7 @@ settle-keeps before m =
       fails = λ n t l h. keeps_then h (fail_return-keeps n t);
       gives = λ n w x p h. keeps_then h (give_one-keeps n w.item x.thread.0);
       starts = λ n t d h. keeps_then h (with_state-keeps n t is.Running);
-    })
+    }) (λ n h. keeps_then h (channels-keeps n (tell n).channels))
     m
     (keeps_same m)
 

@@ -11,8 +11,10 @@ pub mod Binding
 pub mod Leaving
 pub mod Pipes
 pub mod Ports
+pub mod Associations
 pub mod Turns
 pub mod Notices
+pub mod Telling
 pub mod Settle
 pub mod Step
 pub mod Kept

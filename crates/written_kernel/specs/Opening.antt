@@ -1,6 +1,7 @@
 -- The opening state: processes, and threads of them that run or are dormant.
 use Rattle.std.specs.Prelude.{ℕ, ◌+◌, ◌<◌, ◌≤◌, ◌++◌, List, [], ◌∷◌, Bool, None, length, replicate}
 use Rattle.dk_base.specs.declared.limits.TheConstants.{THREADS_MAX}
+use Rattle.kernel_records.specs.Words.{no_associations}
 use Rattle.kernel_records.specs.Words.{empty_table, new_process, new_thread}
 use Rattle.written_kernel.specs.State.{State}
 
@@ -14,7 +15,7 @@ no_process =
       doors = [];
       call_tree = record { made = 0; calls = [] };
       notice_list = record { made = 0; notices = [] };
-      channels = record { pipes = []; ports = [] };
+      channels = record { pipes = []; ports = []; associations = no_associations };
       events = 0;
     }
 

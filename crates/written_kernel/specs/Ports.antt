@@ -7,8 +7,9 @@ use Rattle.dk_base.specs.declared.object.Obj.TheVariants as obj
 use Rattle.dk_base.specs.declared.request.Request.TheVariants as request
 use Rattle.dk_base.specs.declared.answer.Answer.TheVariants as answer
 use Rattle.kernel_records.specs.declared.record.ThreadState.TheVariants as is
-use Rattle.kernel_records.specs.Words.{Port, Test, alert_port, alert_tests, events_found, first_found, first_refusal, get_tests, getn_tests, is_ready_for, lowest_free, make_port, port_of, records_of, refused_where, send_event, send_tests, take_events}
-use Rattle.written_kernel.specs.State.{State, object_at, table_of, with_ports, with_state}
+use Rattle.kernel_records.specs.Words.{Port, Test, alert_port, alert_tests, associations_of, events_found, first_found, first_refusal, get_tests, getn_tests, is_ready_for, lowest_free, make_port, port_of, records_of, refused_where, send_event, send_tests, take_events}
+use Rattle.kernel_records.specs.Words.{retrieve_associations}
+use Rattle.written_kernel.specs.State.{Channels, State, object_at, table_of, with_channels, with_ports, with_state}
 use Rattle.written_kernel.specs.References.{references_of}
 use Rattle.written_kernel.specs.Acts.{ActResult, no_act}
 use Rattle.written_kernel.specs.Descriptors.{insert_object}
@@ -55,8 +56,16 @@ abbrev pub found_answer : State → ℕ → ℕ → Bool → Answer
 found_answer m q max one =
     if one then event_answer (first_found (port m q)) else answer.Events (records_of (events_found max (port m q)))
 
+-- it is taken, and an association ends whose event is taken
+abbrev pub take_found : Channels → ℕ → ℕ → Channels
+take_found c q max =
+    record c {
+      ports = take_events c.ports q max;
+      associations = retrieve_associations c.associations (associations_of (events_found max (port_of c.ports q)));
+    }
+
 abbrev pub retrieve : State → ℕ → ℕ → Bool → ActResult
-retrieve m q max one = record { state = with_ports m (take_events m.channels.ports q max); answer = found_answer m q max one }
+retrieve m q max one = record { state = with_channels m (take_found m.channels q max); answer = found_answer m q max one }
 
 -- a thread waits for so many events, or an alert
 abbrev pub wait_for : State → ℕ → ℕ → ℕ → ℕ → Bool → ActResult

@@ -1,6 +1,6 @@
 -- What follows each act, from the states before and after it. There are four rules, in this order: unreferenced notices are
 -- made; idle threads whose door is not valid wake with EINVAL, and then what waits is given to the others; spare threads start;
--- and associations fire. The last is not built.
+-- and associations end or fire, and ports are told.
 use Rattle.std.specs.Prelude.{ℕ, ◌&&◌, ◌||◌, List, [], ◌∷◌, Option, Bool, false, true, if◌then◌else◌, not, Some, None, is_none, is_some, length, suc, zero}
 use Rattle.written_kernel.specs.Types.{Item, Parked, Waiting}
 use Rattle.dk_base.specs.declared.object.Item.TheVariants as item
@@ -8,6 +8,7 @@ use Rattle.kernel_records.specs.declared.pool.Pool.TheVariants.{Common}
 use Rattle.kernel_records.specs.declared.record.ThreadState.TheVariants as is
 use Rattle.kernel_records.specs.Words.{give_call, give_notice, give_thread, has_common_door, is_idle, pid, set_thread_state, start_spare, unbind_thread}
 use Rattle.written_kernel.specs.Notices.{make_notices}
+use Rattle.written_kernel.specs.Telling.{tell}
 use Rattle.written_kernel.specs.State.{State, has_invalid_door, pick, pool_of, state_of, waiting_items}
 
 -- An idle thread that is bound to a door that is not valid has nothing to wait for: it is unbound, and wakes with EINVAL.
@@ -80,5 +81,9 @@ start_spares before ungiven given = start_each before ungiven given (length give
 abbrev pub give_and_start : State → State → State
 give_and_start before m = start_spares before m (give m)
 
+-- what follows an act of threads, calls and notices
+abbrev pub settle_pools : State → State → State
+settle_pools before after = give_and_start before (fail_returns (make_notices before after))
+
 abbrev pub settle : State → State → State
-settle before after = give_and_start before (fail_returns (make_notices before after))
+settle before after = tell (settle_pools before after)

@@ -3,12 +3,15 @@
 use Rattle.std.specs.Prelude.{ℕ, ◌+◌, List, Option, Bool, false, not, Some, None, find}
 use Rattle.dk_base.specs.ByNumber.{at_number}
 use Rattle.written_kernel.specs.Types.{Call, Door, Fd, Inv, Name, Notice, Obj, Parked, PathId, Pool, Thread, ThreadState, Waiting}
+use Rattle.kernel_records.specs.Words.{AssociationList}
 use Rattle.kernel_records.specs.Words.{CallTree, NoticeList, Pipe, Port, ProcessTable, bound_at, invocation_in, is_client_call_of, is_live_in, name_in, object_named, pick_parked, pool_in, process_in, queue_length, state_in, table_in, thread_at, set_thread_state, is_valid_in, items_in_order, with_table}
 
--- What carries bytes or events from one thread to another and is no door, numbered from 1 by its place.
+-- What carries bytes or events from one thread to another and is no door, numbered from 1 by its place; and which ports are told of
+-- which objects.
 pub record Channels : Type 0 where
   pub pipes : List Pipe
   pub ports : List Port
+  pub associations : AssociationList
 
 -- Processes, threads and doors are numbered from 1 by their places; a process's table and a thread's binding stand at the same
 -- places as they do; there is a place for the binding of each thread that there can be.
@@ -121,7 +124,10 @@ waiting_items m = items_in_order m.call_tree.calls m.notice_list.notices
 abbrev pub calls_waiting : State → Pool → ℕ
 calls_waiting m pool = queue_length m.doors m.call_tree.calls pool
 
--- pipes and ports
+-- pipes, ports and associations
+
+abbrev pub with_channels : State → Channels → State
+with_channels m channels = record m { channels = channels }
 
 abbrev pub with_pipes : State → List Pipe → State
 with_pipes m pipes = record m { channels = record m.channels { pipes = pipes } }

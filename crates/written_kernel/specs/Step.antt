@@ -5,6 +5,7 @@ use Rattle.dk_base.specs.declared.answer.Answer.TheVariants.{Data}
 use Rattle.dk_base.specs.declared.request.Request.TheVariants as request
 use Rattle.dk_base.specs.declared.event.What.TheVariants as what
 use Rattle.kernel_records.specs.declared.record.ThreadState.TheVariants as is
+use Rattle.work_ops.specs.Words.{output_of}
 use Rattle.kernel_records.specs.Words.{Test, first_refusal, tid}
 use Rattle.written_kernel.specs.State.{State, process_of, state_of, with_state}
 use Rattle.written_kernel.specs.Acts.{ActResult, no_act, unless_refused}
@@ -16,6 +17,7 @@ use Rattle.written_kernel.specs.Information.{effect_of_information, tests_of_inf
 use Rattle.written_kernel.specs.Leaving.{effect_of_leaving, tests_of_leaving, wake}
 use Rattle.written_kernel.specs.Pipes.{effect_of_pipes, tests_of_pipes}
 use Rattle.written_kernel.specs.Ports.{effect_of_ports, end_getting, tests_of_ports}
+use Rattle.written_kernel.specs.Associations.{effect_of_associations, tests_of_associations}
 use Rattle.written_kernel.specs.Settle.{settle}
 use Rattle.written_kernel.specs.Turns.{woken_threads}
 use Rattle.written_kernel.specs.Walks.{root}
@@ -30,6 +32,7 @@ tests_about Subject.descriptors m t p r = tests_of_descriptors m t p r
 tests_about Subject.leaving m t p r = tests_of_leaving m t p r
 tests_about Subject.pipes m t p r = tests_of_pipes m t p r
 tests_about Subject.ports m t p r = tests_of_ports m t p r
+tests_about Subject.associations m t p r = tests_of_associations m t p r
 tests_about Subject.unbuilt m t p r = []
 
 abbrev pub tests_of : State → ℕ → ℕ → Request → List Test
@@ -49,6 +52,7 @@ effect_about Subject.descriptors m t p r = effect_of_descriptors m t p r
 effect_about Subject.leaving m t p r = effect_of_leaving m t p r
 effect_about Subject.pipes m t p r = effect_of_pipes m t p r
 effect_about Subject.ports m t p r = effect_of_ports m t p r
+effect_about Subject.associations m t p r = effect_of_associations m t p r
 effect_about Subject.unbuilt m t p r = no_act m
 
 abbrev pub effect : State → ℕ → ℕ → Request → ActResult
@@ -144,6 +148,19 @@ abbrev pub what_of : State → ℕ → Option Request → What
 what_of m t (Some r) = what_of_entry r
 what_of m t None = what_of_wait (state_of m t)
 
+-- what a task computes, where a thread is at one
+abbrev pub output_at : ThreadState → Option (List ℕ)
+output_at (is.Working op input) = Some (output_of op input)
+output_at _ = None
+
+abbrev pub with_output : Option (List ℕ) → Answer → Answer
+with_output None a = a
+with_output (Some bytes) a = Data bytes
+
+-- the answer that a turn's event shows: that of the step, with the bytes of a task
+abbrev pub shown_answer : State → ℕ → Answer → Answer
+shown_answer m t a = with_output (output_at (state_of m t)) a
+
 -- the event of a turn, with the thread's root in the state before
 abbrev pub event_of : State → ℕ → Option Request → Event
 event_of m t r =
@@ -152,5 +169,5 @@ event_of m t r =
       thread = tid t;
       root = tid (root m t);
       what = what_of m t r;
-      answer = (step m t r).answer;
+      answer = shown_answer m t (step m t r).answer;
     }

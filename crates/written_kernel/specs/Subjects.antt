@@ -10,6 +10,7 @@ pub data Subject : Type 0 where
   leaving : Subject
   pipes : Subject
   ports : Subject
+  associations : Subject
   -- of a capability that is not built: it goes as the capabilities come
   unbuilt : Subject
 
@@ -44,4 +45,6 @@ subject_of (request.GetN port max nget wait) = Subject.ports
 subject_of (request.Send port events user) = Subject.ports
 subject_of (request.SendN fds events user) = Subject.ports
 subject_of (request.Alert port mode events user) = Subject.ports
+subject_of (request.Associate port object events user) = Subject.associations
+subject_of (request.Dissociate port object) = Subject.associations
 subject_of _ = Subject.unbuilt

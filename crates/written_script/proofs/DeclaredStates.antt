@@ -203,6 +203,7 @@ settle-known script before m h =
       gives = λ n w x picked known. give_one-known script n w.item x.thread.0 known;
       starts = λ n t spare known. known;
     })
+    (λ n known. known)
     m
     h
 

@@ -5,9 +5,9 @@ use Rattle.std.proofs.lemmas.Bool.{false≢true}
 use Rattle.std.proofs.lemmas.List.{length-map}
 use Rattle.std.proofs.lemmas.List.Elements.{All-nil, All-head, All-tail, All-push, All-weaker}
 use Rattle.std.proofs.lemmas.Option.{slice_get_within}
-use Rattle.written_kernel.specs.Types.{Thread}
+use Rattle.written_kernel.specs.Types.{Answer, Thread}
 use Rattle.kernel_records.specs.Words.{new_thread, process_in, state_in}
-use Rattle.written_kernel.specs.Words.{IsRun, MayTurn, State, bound_of, can_go_on, event_of, is_runnable, is_running, opening, process_of, step, thread_of, with_new_thread}
+use Rattle.written_kernel.specs.Words.{IsRun, MayTurn, State, bound_of, can_go_on, event_of, is_runnable, is_running, opening, output_at, process_of, state_of, step, thread_of, with_new_thread, with_output}
 use Rattle.kernel_records.proofs.Lists.{numbered_within, numbered_there}
 use Rattle.written_kernel.proofs.Opening.{opened, bound_of-opening, object_at-opening, opening_processes, length-with_new_thread, opening_threads}
 use Rattle.written_kernel.proofs.Steps.{events-step, threads-step, processes-step, process_of-step}
@@ -128,6 +128,11 @@ history_after-thread script h t kept can =
     in let last : t ≤ length script.threads = omega arith
     in (low, last)
 
+-- the bytes of a task name nothing
+declared-shown : (script : ScriptValue) (output : Option (List ℕ)) (a : Answer) → IsDeclaredAnswer script a → IsDeclaredAnswer script (with_output output a)
+declared-shown script None a h = h
+declared-shown script (Some bytes) a h = tt
+
 pub IsKnownHistory-history_after :
     (script : ScriptValue) (h : History) (t : ℕ) → IsSound script → IsKnownHistory script h → is_runnable h.state t ≡ true →
     IsKnownHistory script (history_after script h t)
@@ -147,7 +152,7 @@ IsKnownHistory-history_after script h t sound kept can =
           h.events
           (event_of h.state t (request_at_turn script h t))
           kept.events
-          (record { thread = thread; root = root-declared script h.state t kept.known thread; answer = after.answer });
+          (record { thread = thread; root = root-declared script h.state t kept.known thread; answer = declared-shown script (output_at (state_of h.state t)) (step h.state t (request_at_turn script h t)).answer after.answer });
     }
 
 -- what the answer of a turn names is declared

@@ -21,7 +21,7 @@ use Rattle.script_requests.specs.declared.ending.Ending.{Ending}
 use Rattle.script_requests.specs.declared.ending.Ending.TheVariants.{Complete, Stalled, Budget}
 use Rattle.script_requests.specs.AnswerText.{answer_text, attributes_text, entered_text, event_text, fds_text, grown_text, info_text, invocation_text, made_text, plus_joined_words, results_text, source_text, spaced_error, spaced_event, spaced_fd, target_text, yes_text}
 use Rattle.script_requests.specs.DataText.{data_text, digest_text}
-use Rattle.script_requests.specs.Digest.{digest_of, hex_byte, hex_text}
+use Rattle.work_ops.specs.Words.{digest_of, hex_byte, hex_text}
 use Rattle.sha2.specs.Sha256.{sha256}
 use Rattle.script_requests.specs.TraceNames.{procedure_name, thread_name}
 use Rattle.script_requests.specs.TraceText.{end_line_of, ending_word, line_of, spaced_name, waiting_text}
