@@ -14,6 +14,7 @@ pub mod Leaving
 pub mod Failing
 pub mod Picks
 pub mod Pending
+pub mod Telling
 pub mod Settling
 pub mod Steps
 pub mod NoticeSteps

@@ -44,7 +44,7 @@ given_holds c u (r ∷ rs) = grind (arith, nat_tests, given_holds c u rs)
 pub holdings-settle : (before m : State) → holdings (settle before m) ≡ holdings m
 holdings-settle before m =
     settle-all (λ n. holdings n ≡ holdings m) before
-    (record { makes = λ n d due e. e; fails = λ n t l e. e; gives = gives_one; starts = λ n t d e. e }) m refl
+    (record { makes = λ n d due e. e; fails = λ n t l e. e; gives = gives_one; starts = λ n t d e. e }) (λ n e. e) m refl
   where
     gives_one : KeptByGiving (λ n. holdings n ≡ holdings m)
     gives_one n w x p e = go w.item

@@ -1,6 +1,6 @@
 -- An opening state meets the invariant.
 use Rattle.std.specs.Prelude.{ℕ, ◌≡◌, ◌≤◌, List, Option, Bool, true, false, Some, None, is_some, length, All}
-use Rattle.std.proofs.Common.{refl, sym, ap, subst, ⊎_elim}
+use Rattle.std.proofs.Common.{[], refl, sym, ap, subst, ⊎_elim}
 use native.Mathlib.Omega.{arith}
 use Rattle.std.proofs.lemmas.Bool.Decides.{nat_tests}
 use Rattle.std.proofs.lemmas.List.Elements.{All-nil}
@@ -9,8 +9,8 @@ use Rattle.dk_base.specs.declared.limits.TheConstants.{THREADS_MAX}
 use Rattle.written_kernel.specs.Types.{ThreadState}
 use Rattle.kernel_records.specs.declared.record.ThreadState.TheVariants as is
 use Rattle.dk_base.specs.ByNumber.{at_number}
-use Rattle.kernel_records.specs.Words.{CallTree, IsCounted, NoticeList, call_number, notice_number}
-use Rattle.written_kernel.specs.Words.{IsOpening, State, pick, pool_of, process_of, state_of, thread_of}
+use Rattle.kernel_records.specs.Words.{CallTree, IsCounted, NoticeList, call_number, is_to_fire, names_its_object, notice_number}
+use Rattle.written_kernel.specs.Words.{Channels, IsOpening, State, associations_in, pick, pool_of, process_of, ready_at, state_of, thread_of}
 use Rattle.kernel_records.proofs.Lists.{numbered_there}
 use Rattle.written_kernel.proofs.Opening.{bound_of-opening, invocation_of-opening, length-tables_opening, object_at-opening, opened, state_of-opening, waiting_items-opening}
 use Rattle.kernel_invariant.specs.Core.{Core, core, number_in, ended_in}
@@ -128,4 +128,12 @@ module _ (m : State) (o : IsOpening m) where
         given_out =
             subst (λ ws. All (λ w. pick m (pool_of m w.door) ≡ None) ws) (sym (waiting_items-opening o))
             (All-nil (λ w. pick m (pool_of m w.door) ≡ None));
+        told =
+            record {
+              rows = subst (All (λ a. names_its_object m.tables a ≡ true)) (sym none) (All-nil (λ a. names_its_object m.tables a ≡ true));
+              wait = subst (All (λ a. is_to_fire (ready_at m) a ≡ false)) (sym none) (All-nil (λ a. is_to_fire (ready_at m) a ≡ false));
+            };
       }
+    where
+      none : associations_in m ≡ []
+      none = ap (λ (c : Channels). c.associations.associations) (opened o).channels

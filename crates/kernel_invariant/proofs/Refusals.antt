@@ -1,14 +1,16 @@
 -- What the kernel does after an act changes nothing of a state in which no pool has both a waiting item and an idle thread, and
--- no idle thread is bound to a door that is not valid.
+-- no idle thread is bound to a door that is not valid, and of which ports have been told.
 use Rattle.std.specs.Prelude.{ℕ, ◌≡◌, List, [], ◌∷◌, false, Option, Some, None, length, zero, suc, All}
 use Rattle.std.proofs.Common.{refl, sym, ap, subst, ◌∙◌}
 use native.Mathlib.Omega.{arith}
 use Rattle.std.proofs.lemmas.List.Elements.{All-head, All-tail}
 use Rattle.written_kernel.specs.Types.{Errno, Request, Waiting}
-use Rattle.written_kernel.specs.Words.{State, effect, give_each, give_to, has_lost_door, needs_spare, pick, pool_of, process_of, refusal_of, settle, start_each, start_one, start_spares, step, unless_refused, waiting_items, with_event_counted}
+use Rattle.written_kernel.specs.Words.{State, effect, give_each, give_to, has_lost_door, needs_spare, pick, pool_of, process_of, refusal_of, settle, start_each, start_one, start_spares, step, tell, unless_refused, waiting_items, with_event_counted}
 use Rattle.written_kernel.proofs.Notices.{make_notices-same}
 use Rattle.written_kernel.proofs.Settling.{settle-none}
+use Rattle.kernel_invariant.specs.Told.{AreTold}
 use Rattle.kernel_invariant.specs.Invariant.{Invariant}
+use Rattle.kernel_invariant.proofs.Telling.{tells_nothing}
 use Rattle.kernel_invariant.proofs.Settling.{no_lost_door}
 
 gives_nothing : (m : State) (ws : List Waiting) → All (λ w. pick m (pool_of m w.door) ≡ None) ws → give_each m ws ≡ m
@@ -27,24 +29,25 @@ starts_nothing m (suc n) =
     ap (λ k. start_one k (suc n) (needs_spare m m m (suc n))) (starts_nothing m n) ∙ ap (start_one m (suc n)) (needs_none m (suc n))
 
 settles_nothing :
-    (m : State) → ((u : ℕ) → has_lost_door m u ≡ false) → All (λ w. pick m (pool_of m w.door) ≡ None) (waiting_items m) →
+    (m : State) → ((u : ℕ) → has_lost_door m u ≡ false) → All (λ w. pick m (pool_of m w.door) ≡ None) (waiting_items m) → AreTold m →
     settle m m ≡ m
-settles_nothing m lost h =
+settles_nothing m lost h told =
     settle-none m m lost (make_notices-same m)
-    ∙ ap (start_spares m m) (gives_nothing m (waiting_items m) h)
-    ∙ starts_nothing m (length m.process_table.processes)
+    ∙ ap (λ n. tell (start_spares m m n)) (gives_nothing m (waiting_items m) h)
+    ∙ ap tell (starts_nothing m (length m.process_table.processes))
+    ∙ tells_nothing m told
 
--- a refused entry, where no idle thread has lost its door and giving gives nothing
+-- a refused entry, where no idle thread has lost its door, giving gives nothing and telling tells nothing
 pub refused_gives :
     (m : State) (t : ℕ) (r : Request) (e : Errno) → ((u : ℕ) → has_lost_door m u ≡ false) → All (λ w. pick m (pool_of m w.door) ≡ None) (waiting_items m) →
-    refusal_of m t (process_of m t) r ≡ Some e → (step m t (Some r)).state ≡ with_event_counted m
+    AreTold m → refusal_of m t (process_of m t) r ≡ Some e → (step m t (Some r)).state ≡ with_event_counted m
 unfolding step
-refused_gives m t r e lost h g =
+refused_gives m t r e lost h told g =
     ap (λ o. with_event_counted (settle m (unless_refused m o (effect m t (process_of m t) r)).state)) g
-    ∙ ap with_event_counted (settles_nothing m lost h)
+    ∙ ap with_event_counted (settles_nothing m lost h told)
 
 pub step_refused :
     (m : State) (t : ℕ) (q : Option Request) (r : Request) (e : Errno) → Invariant m → q ≡ Some r →
     refusal_of m t (process_of m t) r ≡ Some e → (step m t q).state ≡ with_event_counted m
 step_refused m t q r e h f g =
-    subst (λ o. (step m t o).state ≡ with_event_counted m) (sym f) (refused_gives m t r e (no_lost_door m h) h.given_out g)
+    subst (λ o. (step m t o).state ≡ with_event_counted m) (sym f) (refused_gives m t r e (no_lost_door m h) h.given_out h.told g)

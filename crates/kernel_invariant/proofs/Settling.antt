@@ -1,5 +1,5 @@
 -- What the kernel does after an act: notices are made of doors that are due, idle threads that lost their door fail, calls and
--- notices that wait are given to the others, until no pool has both, and spare threads start. Then no idle thread has lost the door that it is bound to.
+-- notices that wait are given to the others, until no pool has both, spare threads start, and ports are told. Then no idle thread has lost the door that it is bound to.
 use Rattle.std.specs.Prelude.{ℕ, ◌≡◌, ◌+◌, List, [], ◌∷◌, Option, Bool, true, false, ◌==◌, if◌then◌else◌, Some, None, All}
 use Rattle.std.proofs.Common.{inl, inr, refl, sym, ap, subst, ◌∙◌}
 use native.Mathlib.Omega.{arith}
@@ -11,11 +11,13 @@ use Rattle.kernel_records.specs.declared.record.ThreadState.TheVariants as is
 use Rattle.kernel_records.specs.declared.record.CallStage.TheVariants as stage
 use Rattle.kernel_records.specs.declared.record.NoticeStage.TheVariants as notice
 use Rattle.kernel_records.specs.Words.{at_stage, call_number, notice_at, is_idle, is_queued_as, is_valid_in, is_waiting_notice_as, new_notice, notice_number, set_thread_state, tid, waiting_call, waiting_notice}
-use Rattle.written_kernel.specs.Words.{State, door_of, fail_return, fail_returns, find_call, find_notice, give, give_and_start, give_each, give_one, give_to, has_invalid_door, has_lost_door, invocation_of, is_due, make_notices, now, pick, pool_of, settle, state_of, waiting_items, with_state}
+use Rattle.written_kernel.specs.Words.{State, door_of, fail_return, fail_returns, find_call, find_notice, give, give_and_start, give_each, give_one, give_to, has_invalid_door, has_lost_door, invocation_of, is_due, make_notices, now, pick, pool_of, settle, settle_pools, state_of, tell, waiting_items, with_state}
 use Rattle.kernel_invariant.specs.Records.{notice_of, owner_in, record_of}
 use Rattle.kernel_invariant.specs.Core.{core, door_in, notice_in, noticed_door_in}
 use Rattle.kernel_invariant.specs.Coherent.{bound_for}
 use Rattle.kernel_invariant.specs.Invariant.{IsConsistent, Invariant}
+use Rattle.kernel_invariant.specs.Told.{AreTold}
+use Rattle.kernel_invariant.proofs.Telling.{tells}
 use Rattle.kernel_invariant.specs.Arrows.{ByGiving, NoticeByGiving}
 use Rattle.kernel_invariant.specs.Arrows.NoticeByGiving.{stays as notice_stays, gives as notice_gives}
 use Rattle.kernel_invariant.specs.Arrows.ByGiving.{stays, gives}
@@ -23,7 +25,7 @@ use Rattle.kernel_invariant.proofs.Cores.{Turns, at_one, set_thread_state-turns,
 use Rattle.kernel_invariant.proofs.NoticeMoves.{GivesNotice, give_notice_keeps, make_notice_keeps}
 use Rattle.kernel_invariant.proofs.CallMoves.{Gives, give_keeps}
 use Rattle.kernel_invariant.proofs.Parts.{role_keeps}
-use Rattle.kernel_invariant.proofs.Consistent.{act_consistent, call_consistent, calls_counted, change-call, moved-notice, notice_consistent, notices_counted, push_counted, same_tables, there, thread_consistent}
+use Rattle.kernel_invariant.proofs.Consistent.{act_consistent, call_consistent, calls_counted, channels_consistent, change-call, moved-notice, notice_consistent, notices_counted, push_counted, same_tables, there, thread_consistent}
 use Rattle.kernel_invariant.proofs.Failing.{IsIdleSince, bound-unbind_thread, fail-turns, fail_return-keeps, idle_of_lost}
 use Rattle.kernel_invariant.proofs.Pending.{IsPendingItem, Pending, all_pending, calls_ascend, notices_ascend, others_are}
 use Rattle.kernel_invariant.proofs.Pending.IsPendingItem.{a_call, a_notice}
@@ -312,12 +314,27 @@ give_and_start_does before m h =
     start_spares-all (Gave m) (λ n t d g. gave_then m n (with_state n t is.Running) g (start_does n t g.consistent d)) before m (give m)
     (give_does m h)
 
+-- and ports are told, which changes nothing else
+tell_gave : (m n : State) → Gave m n → Gave m (tell n)
+tell_gave m n g =
+    record {
+      consistent = channels_consistent n (tell n).channels g.consistent;
+      arrows = g.arrows;
+      notices = g.notices;
+      serves = g.serves;
+      busy = g.busy;
+      done = g.done;
+      lost = g.lost;
+      doors = g.doors;
+    }
+
 -- after the making of notices
 pub settle_gave : (before m : State) → IsConsistent (make_notices before m) → Gave (make_notices before m) (settle before m)
 settle_gave before m h =
     let f : Gave (make_notices before m) (fail_returns (make_notices before m)) = fail_returns_does (make_notices before m) h in
     gave_then (make_notices before m) (fail_returns (make_notices before m)) (settle before m) f
-    (give_and_start_does before (fail_returns (make_notices before m)) f.consistent)
+    (tell_gave (fail_returns (make_notices before m)) (settle_pools before m)
+    (give_and_start_does before (fail_returns (make_notices before m)) f.consistent))
 
 -- and so none is left that lost its door
 settle_none_lost : (before m : State) → IsConsistent (make_notices before m) → (t : ℕ) → has_lost_door (settle before m) t ≡ false
@@ -342,6 +359,7 @@ pub record Settles (before m n : State) : Type 0 where
   pub gave : Gave (record m { notice_list = (make_notices before m).notice_list }) n
   pub none_lost : (t : ℕ) → has_lost_door n t ≡ false
   pub given_out : All (λ w. pick n (pool_of n w.door) ≡ None) (waiting_items n)
+  pub told : AreTold n
 
 pub settle_does : (before m : State) → IsConsistent m → Settles before m (settle before m)
 settle_does before m h =
@@ -350,4 +368,5 @@ settle_does before m h =
       gave = subst (λ (k : State). Gave k (settle before m)) made.alone (settle_gave before m made.consistent);
       none_lost = settle_none_lost before m made.consistent;
       given_out = all_given_out before m (calls_ascend m h) (notices_ascend m h);
+      told = tells (settle_pools before m);
     }

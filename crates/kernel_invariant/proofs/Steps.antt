@@ -93,6 +93,7 @@ step_invariant m t q h may =
       consistent = counted_keeps (settle m (act m t q).state) d.settled.gave.consistent;
       idle_valid = idle_valid_of (settle m (act m t q).state) d.settled.none_lost;
       given_out = d.settled.given_out;
+      told = record { rows = d.settled.told.rows; wait = d.settled.told.wait };
     }
   where
     d : StepDoes m t q

@@ -6,6 +6,7 @@ use Rattle.kernel_records.specs.Words.{IsCounted, call_number, is_valid_in, noti
 use Rattle.written_kernel.specs.Words.{State, object_at, pick, pool_of, waiting_items}
 use Rattle.kernel_invariant.specs.Core.{core, ended_in}
 use Rattle.kernel_invariant.specs.Coherent.{IsCoherent}
+use Rattle.kernel_invariant.specs.Told.{AreTold}
 
 -- what holds at each time: also between an act and what the kernel does after it
 pub record IsConsistent (m : State) : Type 0 where
@@ -29,3 +30,5 @@ pub record Invariant (m : State) : Type 0 where
       (t d since : ℕ) → (core m).role t ≡ is.Idle since → (core m).bound t ≡ Some d → is_valid_in ((core m).door d) ≡ true
   -- no pool has both a waiting item and an Idle thread
   pub given_out : All (λ w. pick m (pool_of m w.door) ≡ None) (waiting_items m)
+  -- the associations have been seen to
+  pub told : AreTold m
