@@ -1,24 +1,28 @@
 -- Each act keeps what holds of pipes, ports and references, and so does what follows it.
-use Rattle.std.proofs.Common.{◌∙◌, ◌≡◌, ℕ, ◌+◌, ◌≤◌, List, [], ◌∷◌, ◌++◌, Option, Some, None, Bool, true, false, if◌then◌else◌, not, is_none, length, map, refl, sym, ap, subst, arith, lit≤, is_some}
+use Rattle.std.proofs.Common.{◌∙◌, ◌≡◌, ℕ, ◌+◌, ◌≤◌, List, [], ◌∷◌, ◌++◌, Option, Some, None, Bool, true, false, if◌then◌else◌, not, is_none, filter, length, map, refl, sym, ap, subst, arith, lit≤, is_some}
 use Rattle.std.specs.Prelude.{All}
 use Rattle.std.proofs.lemmas.List.{length-append, length-map}
 use Rattle.std.proofs.lemmas.List.Elements.{All-cons, All-filter, All-nil, All-push}
 use Rattle.dk_base.specs.declared.error.Errno.TheVariants.{EBADF, EBADFD, EBUSY, EINVAL, EMFILE, ENOENT}
 use Rattle.dk_base.specs.declared.object.Item.TheVariants as item
 use Rattle.dk_base.specs.declared.object.Obj.TheVariants as obj
+use Rattle.kernel_records.specs.declared.association.Association.{Association}
 use Rattle.kernel_records.specs.declared.record.CallStage.TheVariants as stage
 use Rattle.kernel_records.specs.declared.record.ThreadState.TheVariants as is
-use Rattle.kernel_records.specs.Words.{Leaving, Test, at_stage, change_first, door_attached, end_owner, first_refusal, free_place, get_tests, getn_tests, has_other_path, has_path, idle_thread, is_client_call_of, is_given_as, is_queued_as, is_to_collect_as, lowest_free, new_door, new_pipe, new_port, objects_passed, process_end, refused_where, release_rows, return_call, revocation, thread_at_state, thread_in_invocation, thread_outside, tid, user_event, with_alert, with_door, with_event, with_row, with_table, without_arguments_at, without_found, without_oldest, written}
+use Rattle.kernel_records.specs.Words.{Leaving, Pipe, Test, all_fired, associate_tests, at_stage, change_first, door_attached, end_owner, first_refusal, free_place, get_tests, getn_tests, has_key, has_lost_its_row, has_other_path, has_path, idle_thread, is_client_call_of, is_given_as, is_queued_as, is_to_collect_as, is_to_fire, lowest_free, names_its_object, new_door, new_pipe, new_port, objects_passed, process_end, refused_where, release_rows, return_call, revocation, thread_at_state, thread_in_invocation, thread_outside, tid, user_event, with_alert, with_door, with_event, with_row, with_table, without_arguments_at, without_found, without_oldest, written}
 use Rattle.kernel_records.proofs.Lists.{Extends}
 use Rattle.written_kernel.specs.Types.{Answer, Attrs, Call, Door, Fd, Item, Name, Obj, Pass, PathId, Request, Thread, ThreadState}
-use Rattle.written_kernel.specs.Words.{ActResult, Channels, MayTurn, State, act, create, door_at, door_named, fail_return, find_call, give_one, has_room, is_door, is_port, leave, leave_process, name_of, now, object_at, objects_collected_in, pipe_at, port, port_at, port_named, port_tests, process_of, revoke, settle, step, table_of, tables_after_collect, tables_with, with_state}
+use Rattle.written_kernel.specs.Words.{ActResult, Channels, MayTurn, State, act, associations_in, create, door_at, door_named, end_lost, fail_return, find_call, fire, give_one, has_room, is_door, is_port, key_at, leave, leave_process, lost_associations, name_of, now, object_at, objects_collected_in, pipe_at, port, port_at, port_named, port_tests, process_of, ready_at, revoke, settle, settle_pools, step, table_of, tables_after_collect, tables_with, tell, watched, with_state}
 use Rattle.written_kernel.proofs.Moves.{IsMaking, IsNaming, IsPassing, IsRow, IsTurn, Moves, act_moves}
 use Rattle.written_kernel.proofs.Refusals.{not_held}
-use Rattle.written_kernel.proofs.Settling.{channels-settle, events-settle, settle-all}
+use Rattle.written_kernel.proofs.Settling.{channels-settle_pools, events-settle, pipes-settle, settle_pools-all}
 use Rattle.written_kernel.proofs.Steps.{act-keeps, create-keeps, door_identity, leave_process-keeps, revoke-keeps, set_param-keeps}
 use Rattle.written_kernel.proofs.Threads.{threads-end_process}
 use Rattle.channel_invariant.specs.Channels.{AreChannels, AreMadeIn, ArePipes, ArePorts, IsAmong, IsMadeObject, Made, ReferToMade, WaitsAtMade, made_in}
-use Rattle.channel_invariant.proofs.Bounds.{alert-ports, all_long, all_sent, length-change_at_number, make-pipes, make-ports, read-pipes, send-ports, take-ports, write-pipes}
+use Rattle.channel_invariant.proofs.Bounds.{alert-ports, all_long, all_sent, fired-ports, length-change_at_number, make-pipes, make-ports, read-pipes, send-ports, take-ports, withdrawn-ports, write-pipes}
+use Rattle.channel_invariant.specs.Associations.{AreAssociations}
+use Rattle.channel_invariant.proofs.Associations.{alert_same, all_sent_same, associate_one, dissociate_one, end_some, fire_some, port_more, send_same, take_some}
+use Rattle.channel_invariant.proofs.Queues.{length-post_fired, length-withdraw_events}
 use Rattle.channel_invariant.proofs.Elements.{All-change_first, All-find}
 use Rattle.channel_invariant.proofs.References.{HoldsOfAll, IsMore, another_row, another_table, emptied_call, left_calls-made, left_waits, none_in, none_left, one_in, one_thread, passed, refer_to_more, released, several_rows, staged_call}
 
@@ -26,6 +30,7 @@ use Rattle.channel_invariant.proofs.References.{HoldsOfAll, IsMore, another_row,
 pub record Fits (m : State) : Type 0 where
   pub pipes : ArePipes m.channels.pipes
   pub ports : ArePorts m.channels.ports
+  pub associations : AreAssociations m.channels.ports m.channels.associations
   pub refers : ReferToMade (made_in m) m.tables m.names m.call_tree.calls m.process_table.threads
 
 -- what is there stays, and more doors may come
@@ -78,6 +83,7 @@ module _ (m : State) (h : Fits m) where
       record {
         pipes = h.pipes;
         ports = h.ports;
+        associations = h.associations;
         refers =
             record {
               rows = h.refers.rows;
@@ -146,6 +152,7 @@ module _ (m : State) (h : Fits m) where
       record {
         pipes = h.pipes;
         ports = h.ports;
+        associations = h.associations;
         refers =
             record {
               rows = h.refers.rows;
@@ -161,17 +168,19 @@ redoored m doors e h =
     record {
       pipes = h.pipes;
       ports = h.ports;
+      associations = h.associations;
       refers = refer_to_more (made_in m) (made_in (record m { doors = doors })) (more_doors m doors e) h.refers;
     }
 
 -- and so do channels
 rechanneled :
     (m : State) (c : Channels) → length c.ports ≡ length m.channels.ports → length c.pipes ≡ length m.channels.pipes → ArePipes c.pipes → ArePorts c.ports →
-    Fits m → Fits (record m { channels = c })
-rechanneled m c long wide pipes ports h =
+    AreAssociations c.ports c.associations → Fits m → Fits (record m { channels = c })
+rechanneled m c long wide pipes ports associations h =
     record {
       pipes = pipes;
       ports = ports;
+      associations = associations;
       refers =
           refer_to_more (made_in m) (made_in (record m { channels = c }))
           (more_channels m c (omega (arith, long)) (omega (arith, wide))) h.refers;
@@ -179,7 +188,7 @@ rechanneled m c long wide pipes ports h =
 
 -- another table of a process
 retabled : (m : State) (tables : List (List (Option Obj))) → HoldsOfAll (IsMadeObject (made_in m)) tables → Fits m → Fits (record m { tables = tables })
-retabled m tables k h = record { pipes = h.pipes; ports = h.ports; refers = with_tables m h tables k }
+retabled m tables k h = record { pipes = h.pipes; ports = h.ports; associations = h.associations; refers = with_tables m h tables k }
 
 create_fits :
     (m : State) (p entry cookie : ℕ) (attrs : Attrs) → Fits m → Fits (create m p entry cookie attrs).state
@@ -200,6 +209,7 @@ leave_process_fits m p h =
     record {
       pipes = h.pipes;
       ports = h.ports;
+      associations = h.associations;
       refers =
           refer_to_more (made_in m) (made_in (leave_process m p)) (more_doors m (end_owner m.doors p) (leave_process-keeps m p).doors)
           (record {
@@ -220,6 +230,7 @@ revoke_fits m p fd h =
     record {
       pipes = h.pipes;
       ports = h.ports;
+      associations = h.associations;
       refers =
           refer_to_more (made_in m) (made_in (revoke m p fd).state) (more_doors m (revoke m p fd).state.doors (revoke-keeps m p fd).doors)
           (record {
@@ -265,21 +276,39 @@ module _ (m : State) (t : ℕ) (h : Fits m) where
 
   passing_fits : (r : Request) (c : Channels) (a : Answer) → IsPassing m t r c a → Fits (record m { channels = c })
   passing_fits r c a (IsPassing.writes fd bytes f) =
-      rechanneled m c refl (length-change_at_number m.channels.pipes _ _) (write-pipes m.channels.pipes _ h.pipes bytes) h.ports h
+      rechanneled m c refl (length-change_at_number m.channels.pipes _ _) (write-pipes m.channels.pipes _ h.pipes bytes) h.ports h.associations h
   passing_fits r c a (IsPassing.reads fd max f) =
-      rechanneled m c refl (length-change_at_number m.channels.pipes _ _) (read-pipes m.channels.pipes _ h.pipes max) h.ports h
+      rechanneled m c refl (length-change_at_number m.channels.pipes _ _) (read-pipes m.channels.pipes _ h.pipes max) h.ports h.associations h
   passing_fits r c a (IsPassing.sends fd events user f) =
       rechanneled m c (length-change_at_number m.channels.ports _ _) refl h.pipes
-      (send-ports m.channels.ports (port_at m process fd) h.ports events user (not_held (port_tests (object_at m process fd)) _ [] f)) h
+      (send-ports m.channels.ports (port_at m process fd) h.ports events user (not_held (port_tests (object_at m process fd)) _ [] f))
+      (send_same m.channels.ports m.channels.associations h.associations (port_at m process fd) events user) h
   passing_fits r c a (IsPassing.sends_each fds events user) =
       rechanneled m c (all_long m.channels.ports (map (object_at m process) fds) events user) refl h.pipes
-      (all_sent m.channels.ports (map (object_at m process) fds) events user h.ports) h
+      (all_sent m.channels.ports (map (object_at m process) fds) events user h.ports)
+      (all_sent_same m.channels.ports m.channels.associations (map (object_at m process) fds) events user h.associations) h
   passing_fits r c a (IsPassing.alerts fd mode events user f) =
-      rechanneled m c (length-change_at_number m.channels.ports _ _) refl h.pipes (alert-ports m.channels.ports _ h.ports events user) h
+      rechanneled m c (length-change_at_number m.channels.ports _ _) refl h.pipes (alert-ports m.channels.ports _ h.ports events user)
+      (alert_same m.channels.ports m.channels.associations h.associations (port_at m process fd) events user) h
   passing_fits r c a (IsPassing.gets fd wait f g) =
-      rechanneled m c (length-change_at_number m.channels.ports _ _) refl h.pipes (take-ports m.channels.ports _ h.ports 1) h
+      rechanneled m c (length-change_at_number m.channels.ports _ _) refl h.pipes (take-ports m.channels.ports _ h.ports 1)
+      (take_some m.channels.ports m.channels.associations h.associations (port_at m process fd) 1) h
   passing_fits r c a (IsPassing.gets_many fd max nget wait f z g) =
-      rechanneled m c (length-change_at_number m.channels.ports _ _) refl h.pipes (take-ports m.channels.ports _ h.ports max) h
+      rechanneled m c (length-change_at_number m.channels.ports _ _) refl h.pipes (take-ports m.channels.ports _ h.ports max)
+      (take_some m.channels.ports m.channels.associations h.associations (port_at m process fd) max) h
+  passing_fits r c a (IsPassing.associates port object events user f) =
+      rechanneled m c (length-withdraw_events m.channels.ports (ended port object)) refl h.pipes (withdrawn-ports m.channels.ports (ended port object) h.ports)
+      (associate_one m.channels h.associations (key_at m process port object) (watched (object_at m process object)) events user
+      (port_asked m h process port (associate_tests (object_at m process object)) f)) h
+    where
+      ended : Fd → Fd → List Association
+      ended q o = filter (has_key (key_at m process q o)) (associations_in m)
+  passing_fits r c a (IsPassing.dissociates port object f) =
+      rechanneled m c (length-withdraw_events m.channels.ports (ended port object)) refl h.pipes (withdrawn-ports m.channels.ports (ended port object) h.ports)
+      (dissociate_one m.channels h.associations (key_at m process port object)) h
+    where
+      ended : Fd → Fd → List Association
+      ended q o = filter (has_key (key_at m process q o)) (associations_in m)
 
   -- a pipe or a port that is made is among those that were
   made_fits : (r : Request) (c : Channels) (objects : List Obj) (a : Answer) → IsMaking m t r c objects a → Fits (record m { tables = tables_with m process objects; channels = c })
@@ -296,6 +325,7 @@ module _ (m : State) (t : ℕ) (h : Fits m) where
           record {
             pipes = make-pipes m.channels.pipes h.pipes;
             ports = h.ports;
+            associations = h.associations;
             refers = refer_to_more (made_in m) (made_in n) (more_channels m c (omega arith) (omega (arith, long))) h.refers;
           }
 
@@ -316,6 +346,7 @@ module _ (m : State) (t : ℕ) (h : Fits m) where
           record {
             pipes = h.pipes;
             ports = make-ports m.channels.ports h.ports;
+            associations = port_more m.channels.ports m.channels.associations h.associations;
             refers = refer_to_more (made_in m) (made_in n) (more_channels m c (omega (arith, long)) (omega arith)) h.refers;
           }
 
@@ -335,6 +366,7 @@ module _ (m : State) (t : ℕ) (h : Fits m) where
       record {
         pipes = h.pipes;
         ports = h.ports;
+        associations = h.associations;
         refers = record { rows = h.refers.rows; names = naming_fits r names e; calls = h.refers.calls; waits = h.refers.waits };
       }
   move_fits q a may (Moves.parameter fd x value f) = redoored m _ (set_param-keeps m _ x value).doors h
@@ -344,6 +376,7 @@ module _ (m : State) (t : ℕ) (h : Fits m) where
       record {
         pipes = h.pipes;
         ports = h.ports;
+        associations = h.associations;
         refers =
             record {
               rows = releases m h process pass;
@@ -358,6 +391,7 @@ module _ (m : State) (t : ℕ) (h : Fits m) where
       record {
         pipes = h.pipes;
         ports = h.ports;
+        associations = h.associations;
         refers =
             record {
               rows = releases m h process pass;
@@ -370,6 +404,7 @@ module _ (m : State) (t : ℕ) (h : Fits m) where
       record {
         pipes = h.pipes;
         ports = h.ports;
+        associations = h.associations;
         refers =
             record {
               rows = releases m h process pass;
@@ -382,6 +417,7 @@ module _ (m : State) (t : ℕ) (h : Fits m) where
       record {
         pipes = h.pipes;
         ports = h.ports;
+        associations = h.associations;
         refers =
             record {
               rows = rows m h process r.objects (All-find (AreMadeIn (made_in m)) (is_given_as r.number t) m.call_tree.calls r h.refers.calls e.found).objects;
@@ -396,6 +432,7 @@ module _ (m : State) (t : ℕ) (h : Fits m) where
       record {
         pipes = h.pipes;
         ports = h.ports;
+        associations = h.associations;
         refers =
             record {
               rows = h.refers.rows;
@@ -410,6 +447,7 @@ module _ (m : State) (t : ℕ) (h : Fits m) where
       record {
         pipes = h.pipes;
         ports = h.ports;
+        associations = h.associations;
         refers =
             record {
               rows = h.refers.rows;
@@ -422,6 +460,7 @@ module _ (m : State) (t : ℕ) (h : Fits m) where
       record {
         pipes = h.pipes;
         ports = h.ports;
+        associations = h.associations;
         refers =
             record {
               rows = collected m h process c;
@@ -439,8 +478,9 @@ module _ (m : State) (t : ℕ) (h : Fits m) where
   move_fits q a may (Moves.makes_channel r c objects x e) = made_fits r c objects x e
   move_fits q a may (Moves.retrieves port max nget one e) =
       rechanneled (with_state m t is.Running) _ (length-change_at_number m.channels.ports port _) refl h.pipes (take-ports m.channels.ports port h.ports max)
+      (take_some m.channels.ports m.channels.associations h.associations port max)
       (turned m h t is.Running tt)
-  move_fits q a may (Moves.bound r o e) = record { pipes = h.pipes; ports = h.ports; refers = h.refers }
+  move_fits q a may (Moves.bound r o e) = record { pipes = h.pipes; ports = h.ports; associations = h.associations; refers = h.refers }
   move_fits q a may (Moves.nothing x e) = h
 
 pub act_fits : (m : State) (t : ℕ) (q : Option Request) → Fits m → MayTurn m t q → Fits (act m t q).state
@@ -453,6 +493,7 @@ give_fits m (item.Call c) u h =
     record {
       pipes = h.pipes;
       ports = h.ports;
+      associations = h.associations;
       refers =
           record {
             rows = h.refers.rows;
@@ -467,6 +508,7 @@ give_fits m (item.Notice n) u h =
     record {
       pipes = h.pipes;
       ports = h.ports;
+      associations = h.associations;
       refers =
           record {
             rows = h.refers.rows;
@@ -479,18 +521,43 @@ give_fits m (item.Notice n) u h =
 fail_fits : (m : State) (t : ℕ) → Fits m → Fits (fail_return m t)
 fail_fits m t h =
     let k : Fits (with_state m t is.FailedReturn) = turned m h t is.FailedReturn tt in
-    record { pipes = k.pipes; ports = k.ports; refers = k.refers }
+    record { pipes = k.pipes; ports = k.ports; associations = k.associations; refers = k.refers }
 
-settle_fits : (before m : State) → Fits m → Fits (settle before m)
-settle_fits before m h =
-    settle-all Fits before
+-- ports are told
+end_lost_fits : (m : State) → Fits m → Fits (end_lost m)
+end_lost_fits m h =
+    rechanneled m (end_lost m).channels (length-withdraw_events m.channels.ports (lost_associations m)) refl h.pipes
+    (withdrawn-ports m.channels.ports (lost_associations m) h.ports)
+    (end_some m.channels.ports m.channels.associations h.associations (names_its_object m.tables) (has_lost_its_row m.tables) (λ a. refl))
+    h
+
+fire_fits : (m : State) → Fits m → Fits (fire m)
+fire_fits m h =
+    rechanneled m (fire m).channels (length-post_fired m.channels.ports (all_fired (ready_at m) (associations_in m))) refl h.pipes
+    (fired-ports m.channels.ports (ready_at m) (filter (is_to_fire (ready_at m)) (associations_in m)) h.ports)
+    (fire_some m.channels.ports m.channels.associations h.associations (ready_at m))
+    h
+
+tell_fits : (m : State) → Fits m → Fits (tell m)
+tell_fits m h = fire_fits (end_lost m) (end_lost_fits m h)
+
+pools_fit : (before m : State) → Fits m → Fits (settle_pools before m)
+pools_fit before m h =
+    settle_pools-all Fits before
     (record {
-      makes = λ n d due k. record { pipes = k.pipes; ports = k.ports; refers = k.refers };
+      makes = λ n d due k. record { pipes = k.pipes; ports = k.ports; associations = k.associations; refers = k.refers };
       fails = λ n t lost k. fail_fits n t k;
       gives = λ n w x p k. give_fits n w.item x.thread.0 k;
       starts = λ n t d k. turned n k t is.Running tt;
     })
     m h
+
+-- before associations fire
+pub unfired_fits : (before m : State) → Fits m → Fits (end_lost (settle_pools before m))
+unfired_fits before m h = end_lost_fits (settle_pools before m) (pools_fit before m h)
+
+settle_fits : (before m : State) → Fits m → Fits (settle before m)
+settle_fits before m h = tell_fits (settle_pools before m) (pools_fit before m h)
 
 -- one act makes at most one pipe and one port
 
@@ -519,6 +586,10 @@ passing_few m t r c a (IsPassing.gets fd wait f g) =
     record { pipes = omega arith; ports = omega (arith, length-change_at_number m.channels.ports (port_at m (process_of m t) fd) (without_found 1)) }
 passing_few m t r c a (IsPassing.gets_many fd max nget wait f z g) =
     record { pipes = omega arith; ports = omega (arith, length-change_at_number m.channels.ports (port_at m (process_of m t) fd) (without_found max)) }
+passing_few m t r c a (IsPassing.associates port object events user f) =
+    record { pipes = omega arith; ports = omega (arith, length-withdraw_events m.channels.ports (filter (has_key (key_at m (process_of m t) port object)) (associations_in m))) }
+passing_few m t r c a (IsPassing.dissociates port object f) =
+    record { pipes = omega arith; ports = omega (arith, length-withdraw_events m.channels.ports (filter (has_key (key_at m (process_of m t) port object)) (associations_in m))) }
 
 move_few : (m : State) (t : ℕ) (q : Option Request) (a : ActResult) → Moves m t q a → MakesFew m a.state.channels
 move_few m t q a (Moves.passes r c x e) = passing_few m t r c x e
@@ -530,19 +601,27 @@ move_few m t q a (Moves.retrieves port max nget one e) =
     record { pipes = omega arith; ports = omega (arith, length-change_at_number m.channels.ports port (without_found max)) }
 move_few m t q a _ = record { pipes = omega arith; ports = omega arith }
 
+-- and what follows it none
+settled_long : (before m : State) → length (settle before m).channels.ports ≡ length m.channels.ports
+settled_long before m =
+    length-post_fired (end_lost (settle_pools before m)).channels.ports (all_fired (ready_at (end_lost (settle_pools before m))) (associations_in (end_lost (settle_pools before m))))
+    ∙ length-withdraw_events (settle_pools before m).channels.ports (lost_associations (settle_pools before m))
+    ∙ ap (λ (c : Channels). length c.ports) (channels-settle_pools before m)
+
 pub step_fits : (m : State) (t : ℕ) (q : Option Request) → AreChannels m → MayTurn m t q → AreChannels (step m t q).state
 unfolding step
 step_fits m t q h may =
     record {
       pipes = k.pipes;
       ports = k.ports;
+      associations = k.associations;
       refers = k.refers;
-      few_pipes = omega (arith, ap (λ (c : Channels). length c.pipes) (channels-settle m (act m t q).state), few.pipes, h.few_pipes, counted);
-      few_ports = omega (arith, ap (λ (c : Channels). length c.ports) (channels-settle m (act m t q).state), few.ports, h.few_ports, counted);
+      few_pipes = omega (arith, ap (λ (ps : List Pipe). length ps) (pipes-settle m (act m t q).state), few.pipes, h.few_pipes, counted);
+      few_ports = omega (arith, settled_long m (act m t q).state, few.ports, h.few_ports, counted);
     }
   where
     k : Fits (settle m (act m t q).state)
-    k = settle_fits m (act m t q).state (act_fits m t q (record { pipes = h.pipes; ports = h.ports; refers = h.refers }) may)
+    k = settle_fits m (act m t q).state (act_fits m t q (record { pipes = h.pipes; ports = h.ports; associations = h.associations; refers = h.refers }) may)
 
     few : MakesFew m (act m t q).state.channels
     few = move_few m t q (act m t q) (act_moves m t q)

@@ -1,13 +1,15 @@
 -- Pipes and ports are numbered and bounded, and so are they after each change of one.
-use Rattle.std.proofs.Common.{◌≡◌, ℕ, zero, suc, ◌+◌, ◌-◌, ◌≤◌, ◌<◌, List, [], ◌∷◌, ◌++◌, Option, Some, None, Bool, true, false, if◌then◌else◌, is_none, cond, drop, length, map, take, refl, sym, ap, ◌∙◌, arith, lit≤, All}
+use Rattle.std.proofs.Common.{◌≡◌, ℕ, zero, suc, ◌+◌, ◌-◌, ◌≤◌, ◌<◌, List, [], ◌∷◌, ◌++◌, Option, Some, None, Bool, true, false, if◌then◌else◌, is_none, not, cond, drop, length, map, take, refl, sym, ap, ◌∙◌, arith, lit≤, All}
 use Rattle.std.proofs.lemmas.Bool.Decides.{nat_tests}
 use Rattle.std.proofs.lemmas.List.{length-append}
 use Rattle.std.proofs.lemmas.List.Sums.{sum_by-cons}
-use Rattle.std.proofs.lemmas.List.Elements.{All-nil, All-push, All-tail}
+use Rattle.std.proofs.lemmas.List.Elements.{All-filter, All-nil, All-push, All-tail}
 use Rattle.dk_base.specs.declared.limits.TheConstants.{PIPE_MAX, USER_EVENTS_MAX}
+use Rattle.dk_base.specs.declared.set.PollSet.{PollSet}
 use Rattle.dk_base.specs.ByNumber.{at_number}
+use Rattle.kernel_records.specs.declared.association.Association.{Association}
 use Rattle.kernel_records.specs.declared.port.Alert.{Alert}
-use Rattle.kernel_records.specs.Words.{Pipe, Port, alert_port, change_at_number, change_found, fitting, is_full_port, is_user_event, left_at, make_pipe, make_port, new_pipe, new_port, port_in, port_of, read_pipe, send_event, take_events, user_event, user_events, with_alert, with_event, without_found, without_oldest, write_pipe, written}
+use Rattle.kernel_records.specs.Words.{Pipe, Port, alert_port, change_at_number, change_found, fired_where, fitting, is_full_port, is_other_event, is_user_event, left_at, make_pipe, make_port, new_pipe, new_port, port_in, port_of, post_event, post_fired, read_pipe, send_event, take_events, user_event, user_events, with_alert, with_event, withdraw_event, withdraw_events, without_event, without_found, without_oldest, write_pipe, written}
 use Rattle.kernel_records.proofs.Lists.{length-with_at_number, map-with_at_number}
 use Rattle.kernel_records.proofs.NumberedLists.{counted-push, counted-same}
 use Rattle.written_kernel.specs.Types.{Errno, Obj, Queued}
@@ -15,6 +17,7 @@ use Rattle.written_kernel.specs.Words.{after_sending, after_sending_each, port_n
 use Rattle.written_kernel.proofs.Refusals.{not_held}
 use Rattle.channel_invariant.specs.Channels.{ArePipes, ArePorts, IsBounded, pipe_number, port_number}
 use Rattle.channel_invariant.proofs.Elements.{All-change_at_number}
+use Rattle.channel_invariant.proofs.Tally.{count-append, count-cons, count-parted}
 
 -- a change of one record keeps how many there are, and their numbers
 
@@ -97,7 +100,7 @@ module _ {X : Type 0} (P : X → Type 0) where
   All-drop (suc k) (x ∷ xs) all = All-drop k xs (All-tail P x xs all)
 
 abbrev IsSent : Queued → Type 0
-IsSent q = is_user_event q ≡ true
+IsSent q = is_user_event q ≡ is_none q.assoc
 
 module _ (ports : List Port) (n : ℕ) (h : ArePorts ports) where
   changed_port :
@@ -131,6 +134,36 @@ module _ (ports : List Port) (n : ℕ) (h : ArePorts ports) where
       go : (x : Port) (a : Option Alert) → IsBounded x → IsBounded (record x { queue = left_at max a x.queue })
       go x None l = record { few = omega (arith, user_events-drop max x.queue, l.few); sent = All-drop IsSent max x.queue l.sent }
       go x (Some a) l = record { few = l.few; sent = l.sent }
+
+  -- what an association has queued is withdrawn
+  withdraw-ports : (assoc : ℕ) → ArePorts (withdraw_event ports n assoc)
+  withdraw-ports assoc =
+      changed_port (without_event assoc) (λ x. refl)
+      (λ x e l.
+      record {
+        few = omega (arith, count-parted is_user_event (is_other_event assoc) (λ q. not (is_other_event assoc q)) (λ q. refl) x.queue, l.few);
+        sent = All-filter (is_other_event assoc) IsSent x.queue l.sent;
+      })
+
+  -- and what an association queues is no user event
+  post-ports : (q : Queued) → is_user_event q ≡ false → is_none q.assoc ≡ false → ArePorts (post_event ports n q)
+  post-ports q no_user one =
+      changed_port (with_event q) (λ x. refl)
+      (λ x e l.
+      record {
+        few = omega (arith, count-append is_user_event x.queue (q ∷ []), count-cons is_user_event q [] ∙ ap (λ b. cond b 1 0 + 0) no_user, l.few);
+        sent = All-push IsSent x.queue q l.sent (no_user ∙ sym one);
+      })
+
+pub withdrawn-ports : (ports : List Port) (xs : List Association) → ArePorts ports → ArePorts (withdraw_events ports xs)
+withdrawn-ports ports [] h = h
+withdrawn-ports ports (a ∷ xs) h = withdrawn-ports (withdraw_event ports a.key.port a.number) xs (withdraw-ports ports a.key.port h a.number)
+
+pub fired-ports :
+    (ports : List Port) (ready : Obj → PollSet) (xs : List Association) → ArePorts ports → ArePorts (post_fired ports (map (fired_where ready) xs))
+fired-ports ports ready [] h = h
+fired-ports ports ready (a ∷ xs) h =
+    fired-ports (post_event ports a.key.port (fired_where ready a).queued) ready xs (post-ports ports a.key.port h (fired_where ready a).queued refl refl)
 
 pub make-ports : (ports : List Port) → ArePorts ports → ArePorts (make_port ports)
 make-ports ports h =

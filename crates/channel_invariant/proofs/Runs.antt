@@ -8,6 +8,8 @@ use Rattle.written_kernel.specs.Types.{Name, Thread}
 use Rattle.written_kernel.specs.Words.{Channels, IsOpening, IsRun, State, Turn, state_after, state_after_turn}
 use Rattle.written_kernel.proofs.Opening.{object_at-opening, opened, opening_threads}
 use Rattle.channel_invariant.specs.Channels.{AreChannels, AreMadeIn, ArePipes, ArePorts, IsAmong, IsBounded, Made, WaitsAtMade, made_in}
+use Rattle.channel_invariant.specs.Associations.{AreAssociations}
+use Rattle.channel_invariant.proofs.Associations.{no_association}
 use Rattle.channel_invariant.proofs.Acts.{step_fits}
 
 -- a thread of the opening waits at no port
@@ -29,6 +31,7 @@ opening_fits m o =
       ports =
           subst (λ (c : Channels). ArePorts c.ports) (sym (opened o).channels)
           (record { in_order = tt; bounded = All-nil IsBounded });
+      associations = subst (λ (c : Channels). AreAssociations c.ports c.associations) (sym (opened o).channels) no_association;
       refers =
           record {
             rows = λ p fd x e. absurd (cc (sym (object_at-opening o p fd) ∙ e));

@@ -1,1 +1,2 @@
+pub mod Associations
 pub mod Channels
