@@ -1,0 +1,10 @@
+pub mod Rows
+pub mod Pipes
+pub mod Ready
+pub mod Withdrawn
+pub mod Closed
+pub mod Changed
+pub mod Ended
+pub mod Told
+pub mod Kept
+pub mod Listed
