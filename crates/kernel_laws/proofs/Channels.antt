@@ -7,7 +7,7 @@ use Rattle.std.proofs.lemmas.Bool.Decides.{nat_tests}
 use Rattle.written_kernel.specs.Types.{Answer, Errno, Request}
 use Rattle.dk_base.specs.ByNumber.{at_number}
 use Rattle.kernel_records.specs.declared.record.ThreadState.TheVariants as is
-use Rattle.kernel_records.specs.Words.{change_at_number, change_found}
+use Rattle.kernel_records.specs.Words.{change_at_number, change_found, no_associations}
 use Rattle.dk_base.specs.declared.answer.Answer.TheVariants as answer
 use Rattle.kernel_records.proofs.Lists.{at_number-renumbered_there, numbered_there}
 use Rattle.written_kernel.specs.Words.{IsOpening, IsRun, State, Turn, act, effect, state_at, state_of, unless_refused}
@@ -18,15 +18,15 @@ use Rattle.channel_invariant.specs.Channels.{AreChannels, IsAmong}
 use Rattle.channel_invariant.proofs.Acts.{step_fits}
 use Rattle.channel_invariant.proofs.Runs.{opening_fits}
 use Rattle.run_places.specs.Places.{answer_at, process_at}
-use Rattle.run_places.proofs.Known.{Known, next, stays}
+use Rattle.run_places.proofs.Known.{Known, stays}
 use Rattle.kernel_laws.specs.Channels.{is_at_port}
-use Rattle.kernel_laws.proofs.RowChanges.{answers, channels-step}
+use Rattle.kernel_laws.proofs.RowChanges.{answers, channels-turn}
 use Rattle.kernel_laws.proofs.Tables.{not_refused}
 
 -- besides what is known of each run
 pub record KnownChannels (m : State) (xs : List Turn) : Type 0 where
   pub known : Known m xs
-  pub empty : m.channels ≡ record { pipes = []; ports = [] }
+  pub empty : m.channels ≡ record { pipes = []; ports = []; associations = no_associations }
   pub none_waits : (t : ℕ) → is_at_port (state_of m t) ≡ false
   pub fits : (i : ℕ) → i ≤ length xs → AreChannels (state_at m xs i)
 
@@ -96,7 +96,7 @@ is_among {X} xs n h = go (at_number xs n) (numbered_there xs n h.0 h.1)
 
 module _ (m : State) (xs : List Turn) (k : Known m xs) (i : ℕ) (x : Turn) (e : slice_get xs i ≡ Some x) where
   pub channels_after : (state_at m xs (i + 1)).channels ≡ (act (state_at m xs i) x.thread x.request).state.channels
-  channels_after = ap (λ (n : State). n.channels) (next m xs k i x e) ∙ channels-step (state_at m xs i) x.thread x.request
+  channels_after = channels-turn m xs k i x e
 
   pub answer_of : answer_at m xs i x ≡ (act (state_at m xs i) x.thread x.request).answer
   answer_of = answers (state_at m xs i) x.thread x.request

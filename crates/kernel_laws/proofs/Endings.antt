@@ -48,7 +48,7 @@ settle_same before m =
       fails = λ n t l e. changed n t (thread_at_state is.FailedReturn) ∙ e;
       gives = λ n w x p e. give_same n w.item x.thread.0 ∙ e;
       starts = λ n t r e. changed n t (thread_at_state is.Running) ∙ e;
-    })
+    }) (λ n h. h)
     m refl
 
 -- a process that ends

@@ -186,7 +186,7 @@ settle_keeps before m =
       starts =
           λ n t r e. keeps_then m.process_table n.process_table _ e
           (change_keeps n.process_table t (thread_at_state is.Running) (λ d. not_at_both (state_of n t) _ _ r d (λ z. cc)));
-    })
+    }) (λ n h. h)
     m
     (same_keeps m.process_table)
 

@@ -9,11 +9,12 @@ use Rattle.dk_base.specs.declared.error.Errno.TheVariants.{EAGAIN, EBADF, EBUSY,
 use Rattle.dk_base.specs.declared.object.Obj.TheVariants as obj
 use Rattle.dk_base.specs.declared.request.Param.TheVariants as param
 use Rattle.dk_base.specs.declared.request.Request.TheVariants as request
+use Rattle.kernel_records.specs.declared.association.Association.{Association}
 use Rattle.kernel_records.specs.declared.record.CallStage.TheVariants as stage
-use Rattle.kernel_records.specs.Words.{Pipe, Port, Test, alert_tests, bytes_in, first_refusal, free_rows, get_tests, getn_tests, is_client_call_of, is_entered_by, is_full_of, is_full_port, is_of_descriptors, is_of_nothing, is_of_user, is_owned_by, is_private_in, is_ready_for, is_update, is_user_event, is_valid_in, lowest_free, port_in, read_tests, refused_where, refuses_descriptors_in, send_tests, set_param_tests, user_events, would_have_no_size, write_tests}
-use Rattle.written_kernel.specs.Words.{State, door_at, door_named, door_of, held_in, is_door, is_reading_end, is_writing_end, name_of, object_at, pipe_named, port, port_named, port_tests, readers_of, refusal_of, table_of, writers_of}
+use Rattle.kernel_records.specs.Words.{Pipe, Port, Test, alert_tests, bytes_in, first_refusal, free_rows, get_tests, getn_tests, is_client_call_of, is_entered_by, is_full_of, is_full_port, is_of_descriptors, is_of_nothing, is_of_user, is_owned_by, is_private_in, is_ready_for, is_update, is_user_event, is_valid_in, lowest_free, port_in, read_tests, refused_where, refuses_descriptors_in, send_tests, set_param_tests, user_events, would_have_no_size, write_tests, associate_tests, association_at, dissociate_tests, pid}
+use Rattle.written_kernel.specs.Words.{State, door_at, door_named, door_of, held_in, is_door, is_reading_end, is_writing_end, name_of, object_at, pipe_named, port, port_named, port_tests, readers_of, refusal_of, table_of, writers_of, association_of_key}
 use Rattle.run_places.specs.Counts.{free_places, has_own_pool}
-use Rattle.kernel_laws.specs.Entries.{Reason, count_sent, door_behind, first_reason, has_client_among, has_fewer, has_no_reader, has_no_writer, holds_all, holds_none, is_alerted, is_in, is_invalid, is_message, is_no_door, is_no_mode, is_no_port, is_no_reading_end, is_no_writing_end, is_of_another, is_of_update, is_sent, leaves_no_size, pipe_behind, port_behind, reasons, sets_descriptors, takes_no_more, where_so}
+use Rattle.kernel_laws.specs.Entries.{Reason, count_sent, door_behind, first_reason, has_client_among, has_fewer, has_no_reader, has_no_writer, holds_all, holds_none, is_alerted, is_in, is_invalid, is_message, is_no_door, is_no_mode, is_no_port, is_no_reading_end, is_no_writing_end, is_of_another, is_of_update, is_sent, leaves_no_size, pipe_behind, port_behind, reasons, sets_descriptors, takes_no_more, where_so, is_among, is_associated}
 use Rattle.run_places.proofs.Counts.{free_is}
 use Rattle.kernel_laws.proofs.Installed.{first_free-within}
 use Rattle.dk_base.specs.declared.object.Src.TheVariants as src
@@ -85,15 +86,15 @@ full_is t = go (free_places t == 0) refl
 few_is : (t : List (Option Obj)) → nat_lt (free_rows t) 2 ≡ nat_lt (free_places t) 2
 few_is t = ap (λ n. nat_lt n 2) (sym (free_is t))
 
-full_pipe_is : (o : Option Pipe) → is_full_of (bytes_in o) ≡ holds_all o
+pub full_pipe_is : (o : Option Pipe) → is_full_of (bytes_in o) ≡ holds_all o
 full_pipe_is None = refl
 full_pipe_is (Some x) = grind (arith, nat_tests)
 
-empty_pipe_is : (o : Option Pipe) → (length (bytes_in o) == 0) ≡ holds_none o
+pub empty_pipe_is : (o : Option Pipe) → (length (bytes_in o) == 0) ≡ holds_none o
 empty_pipe_is None = refl
 empty_pipe_is (Some x) = refl
 
-some_is : (n : ℕ) → nat_lt 0 n ≡ not (n == 0)
+pub some_is : (n : ℕ) → nat_lt 0 n ≡ not (n == 0)
 some_is n = grind (arith, nat_tests)
 
 alerted_is : (o : Option Port) → is_some (port_in o).alert ≡ is_alerted o
@@ -197,6 +198,12 @@ module _ (m : State) (tests : Option Obj → List Test) (others : Option Obj →
   of_port_is (Some (obj.Port q)) = same q
   of_port_is (Some x) = refl
 
+none_associated :
+    (q p : ℕ) (fd : Fd) (xs : List Association) →
+    is_none (association_at xs (record { port = q; process = pid p; fd = fd })) ≡ not (is_among q p fd xs)
+none_associated q p fd [] = refl
+none_associated q p fd (a ∷ xs) = grind (arith, nat_tests, none_associated q p fd xs)
+
 pub refusal_is : (m : State) (t p : ℕ) (r : Request) → is_message r ≡ false → refusal_of m t p r ≡ first_reason (reasons m t p r)
 refusal_is m t p (request.Create entry cookie attrs) h = two EINVAL EMFILE _ _ _ _ refl (full_is (table_of m p))
 refusal_is m t p (request.Call fd bytes pass rsize) h = absurd (cc h)
@@ -259,5 +266,17 @@ refusal_is m t p (request.Alert fd x events user) h =
     (λ q. two EINVAL EBUSY _ _ _ _
     (no_mode_is x)
     (ap₂ (λ (a b : Bool). a && (not (events == 0) && b)) (update_is x) (alerted_is (at_number m.channels.ports q))))
+    (object_at m p fd)
+refusal_is m t p (request.Associate fd object events user) h =
+    of_port_is m
+    (λ o. associate_tests (object_at m p object))
+    (λ o. where_so EBADFD (is_none (object_at m p object)) ∷ [])
+    (λ q. refl)
+    (object_at m p fd)
+refusal_is m t p (request.Dissociate fd object) h =
+    of_port_is m
+    (λ o. dissociate_tests (object_at m p object) (association_of_key m (record { port = port_named o; process = pid p; fd = object })))
+    (λ o. where_so EBADFD (is_none (object_at m p object)) ∷ where_so ENOENT (not (is_associated m p object o)) ∷ [])
+    (λ q. two EBADFD ENOENT _ _ _ _ refl (none_associated q p object m.channels.associations.associations))
     (object_at m p fd)
 refusal_is m t p _ h = refl

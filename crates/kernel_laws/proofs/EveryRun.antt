@@ -2,14 +2,15 @@
 use Rattle.std.specs.Prelude.{ℕ, ◌≡◌, ◌+◌, ◌↔◌, List, Option, Some, length, slice_get, None, false}
 use Rattle.std.proofs.Common.{sym, ap, subst, ◌∙◌, refl}
 use native.Mathlib.Omega.{arith}
-use Rattle.written_kernel.specs.Types.{Errno, Request, Pass}
+use Rattle.written_kernel.specs.Types.{Answer, Errno, Request, Pass, ThreadState}
+use Rattle.kernel_records.specs.declared.record.ThreadState.TheVariants as is
 use Rattle.dk_base.specs.declared.request.Request.TheVariants as request
 use Rattle.dk_base.specs.declared.answer.Answer.TheVariants as answer
-use Rattle.written_kernel.specs.Words.{IsOpening, IsRun, State, Turn, bound_of, refusal_of, state_after, state_at, state_of, what_of, with_event_counted}
+use Rattle.written_kernel.specs.Words.{IsOpening, IsRun, State, Turn, bound_of, output_at, refusal_of, state_after, state_at, state_of, what_of, with_event_counted, with_output}
 use Rattle.written_kernel.proofs.Runs.{length-events_of, number-event_of, slice_get-events_of, state_at_all}
 use Rattle.kernel_invariant.specs.Invariant.{Invariant}
 use Rattle.kernel_laws.specs.Laws.{Laws}
-use Rattle.kernel_laws.specs.EventsShown.{EventsShown, what_done}
+use Rattle.kernel_laws.specs.EventsShown.{EventsShown, answer_shown, what_done}
 use Rattle.kernel_laws.specs.Pools.{HasNoneIdle}
 use Rattle.run_places.specs.Places.{IsBoundToInvalid, IsReturnRefusedBy, answer_at, process_at, IsReturn}
 use Rattle.kernel_laws.specs.Once.{ReturnUnbinds}
@@ -42,6 +43,8 @@ use Rattle.kernel_laws.proofs.Pools.{bound_to_own, none_idle_in}
 use Rattle.kernel_laws.proofs.Bytes.{bytes_hold}
 use Rattle.kernel_laws.proofs.PortEvents.{port_events_hold}
 use Rattle.kernel_laws.proofs.PortWaits.{port_waits_hold}
+use Rattle.kernel_laws.proofs.OneShot.{one_shot_holds}
+use Rattle.kernel_laws.proofs.Lives.{lives_hold}
 use Rattle.kernel_laws.proofs.Channels.{KnownChannels, known_channels}
 use Rattle.kernel_laws.specs.Entries.{first_reason, reasons, is_message}
 use Rattle.kernel_laws.proofs.Entries.{refusal_is}
@@ -120,6 +123,18 @@ what_is : (m : State) (t : ℕ) (q : Option Request) → what_of m t q ≡ what_
 what_is m t (Some r) = refl
 what_is m t None = refl
 
+answer_is : (s : ThreadState) (a : Answer) → with_output (output_at s) a ≡ answer_shown s a
+answer_is is.Dormant a = refl
+answer_is is.Running a = refl
+answer_is (is.Idle since) a = refl
+answer_is (is.Given item) a = refl
+answer_is (is.Calling c) a = refl
+answer_is (is.Getting port max nget one interrupted) a = refl
+answer_is (is.Awaiting path) a = refl
+answer_is (is.Working op input) a = refl
+answer_is is.FailedReturn a = refl
+answer_is is.Done a = refl
+
 events_shown : (m : State) (xs : List Turn) → Known m xs → EventsShown m xs
 events_shown m xs k =
     record {
@@ -128,7 +143,7 @@ events_shown m xs k =
       thread = λ i x. refl;
       root = λ i x. refl;
       what = λ i x. what_is (state_at m xs i) x.thread x.request;
-      answer = λ i x. refl;
+      answer = λ i x. answer_is (state_of (state_at m xs i) x.thread) (answer_at m xs i x);
       number = λ i x e. number-event_of m xs i x e ∙ omega (arith, k.no_event);
     }
 
@@ -166,6 +181,8 @@ all_hold m xs k h =
       bytes = bytes_hold m xs h;
       port_events = port_events_hold m xs h;
       port_waits = port_waits_hold m xs h;
+      one_shot = one_shot_holds m xs h;
+      lives = lives_hold m xs h;
     }
 
 pub laws_hold : (m : State) (xs : List Turn) → IsOpening m → IsRun m xs → Laws m xs

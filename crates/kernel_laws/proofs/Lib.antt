@@ -29,4 +29,7 @@ mod Names
 mod Bindings
 mod Parameters
 mod Entries
+mod OneShot
+mod Fired
+mod Lives
 mod EveryRun

@@ -11,7 +11,7 @@ use Rattle.dk_base.specs.declared.answer.Answer.TheVariants as answer
 use Rattle.dk_base.specs.ByNumber.{at_number}
 use Rattle.kernel_records.specs.declared.record.ThreadState.TheVariants as is
 use Rattle.kernel_records.specs.Words.{ProcessTable, bound_at, bound_in, change_thread, is_given_as, is_idle, state_in, thread_at, unbind_thread}
-use Rattle.written_kernel.specs.Words.{State, accept_call, act, begin_call, bound_of, fail_begin, fail_return, fail_returns, find_call, give_one, go_on, has_invalid_door, has_lost_door, has_room, is_bound_to_invalid, make_notices, now, pick, pool_of, process_of, settle, state_of, step, thread_of, with_event_counted, with_state}
+use Rattle.written_kernel.specs.Words.{State, accept_call, act, begin_call, bound_of, fail_begin, fail_return, fail_returns, find_call, give_one, go_on, has_invalid_door, has_lost_door, has_room, is_bound_to_invalid, make_notices, now, pick, pool_of, process_of, settle, settle_pools, tell, state_of, step, thread_of, with_event_counted, with_state}
 use Rattle.kernel_records.proofs.Lists.{at_number-with_at_number}
 use Rattle.written_kernel.proofs.Failing.{bound_of-fail_returns, state_of-fail_returns}
 use Rattle.written_kernel.proofs.Settling.{KeptByFailing, KeptByGiving, KeptByMaking, KeptByStarting, give_and_start-all, has_lost_door-make_notices, settle-all, with_notice_of}
@@ -135,7 +135,7 @@ stays_valid m n t since (got f i s) = f
 
 waits : (before m : State) (t since : ℕ) → has_invalid_door m t ≡ false → state_of m t ≡ is.Idle since → Stays m (settle before m) t since
 waits before m t since v e =
-    settle-all (λ n. Stays m n t since) before (record { makes = makes; fails = fails; gives = gives; starts = starts }) m (still v e)
+    settle-all (λ n. Stays m n t since) before (record { makes = makes; fails = fails; gives = gives; starts = starts }) (λ n h. stays_with m n (tell n) t since refl refl h) m (still v e)
   where
     makes : KeptByMaking (λ n. Stays m n t since) before
     makes n d l h = stays_with m n (with_notice_of n d) t since refl refl h
@@ -172,12 +172,7 @@ pub record HasFailed (n : State) (t : ℕ) : Type 0 where
   pub bound : bound_of n t ≡ None
 
 pub fails_then : (before m : State) (t since : ℕ) → has_invalid_door m t ≡ true → state_of m t ≡ is.Idle since → HasFailed (settle before m) t
-fails_then before m t since v e =
-    give_and_start-all (λ n. HasFailed n t) gives starts before (fail_returns n)
-    (record {
-      state = state_of-fail_returns n t ∙ ap (λ (b : Bool). if b then is.FailedReturn else state_of n t) loses;
-      bound = bound_of-fail_returns n t ∙ ap (λ (b : Bool). if b then None else bound_of n t) loses;
-    })
+fails_then before m t since v e = record { state = failed.state; bound = failed.bound }
   where
     n : State
     n = make_notices before m
@@ -194,6 +189,14 @@ fails_then before m t since v e =
     starts n u d h =
         let apart : (t == u) ≡ false = other_thread n t u _ _ h.state d (λ z. cc) in
         record { state = state_elsewhere n.process_table u t _ apart ∙ h.state; bound = h.bound }
+
+    failed : HasFailed (settle_pools before m) t
+    failed =
+        give_and_start-all (λ n. HasFailed n t) gives starts before (fail_returns n)
+        (record {
+          state = state_of-fail_returns n t ∙ ap (λ (b : Bool). if b then is.FailedReturn else state_of n t) loses;
+          bound = bound_of-fail_returns n t ∙ ap (λ (b : Bool). if b then None else bound_of n t) loses;
+        })
 
 -- what becomes of a thread whose accept fails
 

@@ -1,6 +1,6 @@
 -- What a port has before and after an event.
 use Rattle.std.specs.Prelude.{ℕ, ◌≡◌, ◌+◌, ◌==◌, ◌++◌, ◌≤◌, ◌&&◌, ◌||◌, List, [], ◌∷◌, Option, Bool, true, false, if◌then◌else◌, not, Some, None, drop, is_none, is_some, length, map, nat_le, replicate, slice_get, suc, take, zero}
-use Rattle.std.proofs.Common.{refl, sym, ap, subst, ◌∙◌}
+use Rattle.std.proofs.Common.{filter, refl, sym, ap, subst, ◌∙◌}
 use native.Mathlib.Omega.{arith}
 use Rattle.std.proofs.lemmas.Bool.Decides.{nat_tests}
 use Rattle.std.proofs.lemmas.List.{length-take, take-append-drop}
@@ -13,9 +13,9 @@ use Rattle.dk_base.specs.declared.answer.Answer.TheVariants as answer
 use Rattle.dk_base.specs.ByNumber.{at_number}
 use Rattle.kernel_records.specs.declared.port.Alert.{Alert}
 use Rattle.kernel_records.specs.declared.record.ThreadState.TheVariants as is
-use Rattle.kernel_records.specs.Words.{Port, Test, alert_of, alert_tests, change_at_number, events_found, first_found, first_refusal, found_at, get_tests, getn_tests, has_bad_count, is_ready_for, left_at, make_port, must_wait, new_port, port_in, records_of, refused_where, state_in, send_tests, take_events, user_event, with_alert, with_event, without_found}
+use Rattle.kernel_records.specs.Words.{Port, Test, alert_of, alert_tests, change_at_number, events_found, first_found, first_refusal, found_at, get_tests, getn_tests, has_bad_count, is_ready_for, left_at, make_port, must_wait, new_port, port_in, records_of, refused_where, state_in, send_tests, take_events, user_event, with_alert, with_event, without_found, has_key, withdraw_events}
 use Rattle.kernel_records.proofs.Lists.{numbered_past, numbered_push}
-use Rattle.written_kernel.specs.Words.{ActResult, Channels, State, Turn, act, effect, errors_of_sending, event_answer, found_answer, end_getting, get_from, go_on, has_port_references, is_port, object_at, port, port_at, port_named, port_tests, retrieve, state_at, state_of, tell_queued, wait_for, with_state}
+use Rattle.written_kernel.specs.Words.{ActResult, Channels, State, Turn, act, effect, errors_of_sending, event_answer, found_answer, end_getting, get_from, go_on, has_port_references, is_port, object_at, port, port_at, port_named, port_tests, retrieve, state_at, state_of, tell_queued, wait_for, with_state, key_at, ports_without}
 use Rattle.written_kernel.proofs.Moves.{IsFree, IsMaking, IsPassing, Moves, act_moves, act_result}
 use Rattle.written_kernel.proofs.Refusals.{not_held}
 use Rattle.channel_invariant.specs.Channels.{WaitsAtMade, made_in}
@@ -223,6 +223,12 @@ module _ (m : State) (xs : List Turn) (k : KnownChannels m xs) (i : ℕ) (x : Tu
       one_changes q other (without_found max) g
       (change_as q _ _ _ _ f.there f.there_after (PortChange.retrieved f.before f.after max nget rs asks tells f.found))
 
+  -- while there is no association, none ends
+  none_ended : (port object : Fd) → ports_without (state_at m xs i).channels (key_at (state_at m xs i) own port object) ≡ ports
+  none_ended port object =
+      ap (λ zs. withdraw_events ports (filter (has_key (key_at (state_at m xs i) own port object)) zs))
+      (k.known.no_association i (omega (arith, slice_get_within xs i x e)))
+
   passes :
       (q : ℕ) (r : Request) (c : Channels) (a : Answer) → IsPassing (state_at m xs i) x.thread r c a → x.request ≡ Some r →
       answer_at m xs i x ≡ a → ports_after ≡ c.ports → Change q (at_number ports q) (at_number ports_after q)
@@ -273,7 +279,10 @@ module _ (m : State) (xs : List Turn) (k : KnownChannels m xs) (i : ℕ) (x : Tu
 
       names : Names m xs i x fd (obj.Port n)
       names = names_port fd (getn_tests wait max nget (port (state_at m xs i) n)) f
-  passes q r c a _ g h l = same_ports q l
+  passes q r c a (IsPassing.associates port object events user f) g h l = same_ports q (l ∙ none_ended port object)
+  passes q r c a (IsPassing.dissociates port object f) g h l = same_ports q (l ∙ none_ended port object)
+  passes q r c a (IsPassing.writes fd bytes f) g h l = same_ports q l
+  passes q r c a (IsPassing.reads fd max f) g h l = same_ports q l
 
   making :
       (q : ℕ) (r : Request) (c : Channels) (objects : List Obj) (a : Answer) → IsMaking (state_at m xs i) x.thread r c objects a →

@@ -81,7 +81,7 @@ settled before m t =
       fails = λ n u l e. turned n.process_table u t is.FailedReturn (state_of m t) refl (ap is_at_rest (loses_idle n u l).1) e;
       gives = λ n w x p e. given n w.item x.thread.0 t x.since (state_of m t) (picked_idle n _ x p) e;
       starts = λ n u r e. turned n.process_table u t is.Running (state_of m t) refl (ap is_at_rest r) e;
-    })
+    }) (λ n h. h)
     m (inl refl)
 
 state-step : (m : State) (t u : ℕ) (q : Option Request) → state_of (step m t q).state u ≡ state_of (settle m (act m t q).state) u

@@ -61,7 +61,7 @@ settle_running before m t =
       fails = λ n u l e. state_elsewhere n.process_table u t _ (other_thread n t u _ _ e (loses_idle n u l).1 (λ z. cc)) ∙ e;
       gives = λ n w x p e. given_state n w.item x.thread.0 t (other_thread n t x.thread.0 _ _ e (picked_idle n _ x p) (λ z. cc)) ∙ e;
       starts = λ n u d e. state_elsewhere n.process_table u t _ (other_thread n t u _ _ e d (λ z. cc)) ∙ e;
-    })
+    }) (λ n h. h)
     m
 
 settle_unbound : (before m : State) (t : ℕ) → bound_of m t ≡ None → bound_of (settle before m) t ≡ None
@@ -72,7 +72,7 @@ settle_unbound before m t =
       fails = λ n u l e. fails n u e;
       gives = λ n w x p e. given_bound n w.item x.thread.0 t ∙ e;
       starts = λ n u d e. e;
-    })
+    }) (λ n h. h)
     m
   where
     fails : (n : State) (u : ℕ) → bound_of n t ≡ None → bound_at (unbind_thread n.bindings u) t ≡ None

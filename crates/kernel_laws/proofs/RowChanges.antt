@@ -16,7 +16,7 @@ use Rattle.kernel_records.specs.declared.record.CallStage.TheVariants as stage
 use Rattle.kernel_records.specs.Words.{close_row, close_table, descriptor, door_attached, first_found, free_place, free_rows, insert_row, insert_rows, is_to_collect_as, lowest_free, make_pipe, make_port, new_descriptors, new_door, new_pipe, new_port, object_in, object_named, refused_where, release_rows, table_in, with_door, with_row, with_table}
 use Rattle.written_kernel.specs.Words.{ActResult, Channels, State, Turn, act, collect_answer, collect_answer_in, door_of, dup, effect, event_answer, find_call, found_answer, has_room, name_of, object_at, objects_collected, objects_collected_in, port, port_at, state_at, step, table_of, tables_after_collect, tables_with}
 use Rattle.kernel_records.proofs.Lists.{numbered_past, numbered_push, same_numbered, slice_get-slice_set}
-use Rattle.written_kernel.proofs.Settling.{channels-settle, doors-settle, tables-settle}
+use Rattle.written_kernel.proofs.Settling.{doors-settle, tables-settle}
 use Rattle.written_kernel.proofs.Steps.{act-keeps, length-insert_rows, length-release_rows}
 use Rattle.written_kernel.proofs.Moves.{IsEnding, IsFree, IsMaking, IsPassing, IsRow, IsSaid, IsTurn, Moves, act_moves, act_result}
 use Rattle.kernel_invariant.specs.Events.{IsMade}
@@ -27,6 +27,8 @@ use Rattle.kernel_laws.specs.Ends.{EndsProcess}
 use Rattle.kernel_laws.specs.Rows.{ArePipeEnds, AsksFor, Closes, IsAnswered, MakesPipe, RowChange, Rows}
 use Rattle.kernel_laws.proofs.Endings.{last_is}
 use Rattle.kernel_laws.proofs.Installed.{closes, lowest_place, not_released, other_row, others_stay, own_row, place_free, released_none, room_left, taken, table_elsewhere, table_then, were_free}
+use Rattle.std.proofs.lemmas.Option.{slice_get_within}
+use Rattle.run_places.proofs.Associations.{channels_stay}
 use Rattle.run_places.proofs.Known.{Known, invariant_before, next, stays}
 use Rattle.run_places.proofs.Passed.{Found, found_any, same_descriptor}
 use Rattle.run_places.proofs.ReturnRefusals.{no_return_refusal}
@@ -73,7 +75,7 @@ pub answers : (m : State) (t : ℕ) (q : Option Request) → (step m t q).answer
 unfolding step
 answers m t q = refl
 
-tables-step : (m : State) (t : ℕ) (q : Option Request) → (step m t q).state.tables ≡ (act m t q).state.tables
+pub tables-step : (m : State) (t : ℕ) (q : Option Request) → (step m t q).state.tables ≡ (act m t q).state.tables
 unfolding step
 tables-step m t q = tables-settle m (act m t q).state
 
@@ -81,9 +83,13 @@ pub doors-step : (m : State) (t : ℕ) (q : Option Request) → (step m t q).sta
 unfolding step
 doors-step m t q = doors-settle m (act m t q).state
 
-pub channels-step : (m : State) (t : ℕ) (q : Option Request) → (step m t q).state.channels ≡ (act m t q).state.channels
-unfolding step
-channels-step m t q = channels-settle m (act m t q).state
+-- while no association can be made
+pub channels-turn :
+    (m : State) (xs : List Turn) (k : Known m xs) (i : ℕ) (x : Turn) → slice_get xs i ≡ Some x →
+    (state_at m xs (i + 1)).channels ≡ (act (state_at m xs i) x.thread x.request).state.channels
+channels-turn m xs k i x e =
+    ap (λ (n : State). n.channels) (next m xs k i x e)
+    ∙ channels_stay (state_at m xs i) x.thread x.request (k.may i x e) (k.no_association i (omega (arith, slice_get_within xs i x e)))
 
 -- the answer tells a new descriptor, or two
 abbrev is_new : Answer → Bool
@@ -418,7 +424,7 @@ module _ (m : State) (xs : List Turn) (k : Known m xs) (i : ℕ) (x : Turn) (e :
         answer = answers (state_at m xs i) x.thread x.request;
         tables = ap (λ (n : State). n.tables) (next m xs k i x e) ∙ tables-step (state_at m xs i) x.thread x.request;
         doors = ap (λ (n : State). n.doors) (next m xs k i x e) ∙ doors-step (state_at m xs i) x.thread x.request;
-        channels = ap (λ (n : State). n.channels) (next m xs k i x e) ∙ channels-step (state_at m xs i) x.thread x.request;
+        channels = channels-turn m xs k i x e;
       }
 
   rows_here : (p : ℕ) (fd : Fd) → Row p fd (object_at (state_at m xs i) p fd) (object_at (state_at m xs (i + 1)) p fd)

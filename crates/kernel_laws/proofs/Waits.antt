@@ -71,7 +71,7 @@ settled f before m t fails gives starts h =
           λ n u l e. turned f n.process_table u t (is.Idle (loses_idle n u l).0) is.FailedReturn (loses_idle n u l).1 (λ d. cc) (fails (loses_idle n u l).0) e;
       gives = λ n w x p e. given_turned f n w.item x.thread.0 t x.since (picked_idle n _ x p) (gives x.since w.item) e;
       starts = λ n u r e. turned f n.process_table u t is.Dormant is.Running r (λ d. cc) starts e;
-    })
+    }) (λ n h. h)
     m h
 
 -- what an act answers and to what it turns its thread

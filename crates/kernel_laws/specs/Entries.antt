@@ -8,6 +8,7 @@ use Rattle.dk_base.specs.declared.object.Src.TheVariants as src
 use Rattle.dk_base.specs.declared.request.AlertMode.TheVariants as mode
 use Rattle.dk_base.specs.declared.request.Param.TheVariants as param
 use Rattle.dk_base.specs.declared.request.Request.TheVariants as request
+use Rattle.kernel_records.specs.declared.association.Association.{Association}
 use Rattle.kernel_records.specs.declared.record.CallStage.TheVariants as stage
 use Rattle.dk_base.specs.ByNumber.{at_number}
 use Rattle.kernel_records.specs.Words.{Pipe, Port}
@@ -116,6 +117,16 @@ abbrev pub takes_no_more : Option Port → Bool
 takes_no_more None = false
 takes_no_more (Some x) = not (nat_lt (count_sent x.queue) 1024)
 
+-- a port has an association with this descriptor of process p
+
+abbrev pub is_among : ℕ → ℕ → Fd → List Association → Bool
+is_among q p fd [] = false
+is_among q p fd (a ∷ xs) = (a.key.port == q) && ((a.key.process.0 == p) && (a.key.fd.0 == fd.0)) || is_among q p fd xs
+
+abbrev pub is_associated : State → ℕ → Fd → Option Obj → Bool
+is_associated m p fd (Some (obj.Port q)) = is_among q p fd m.channels.associations.associations
+is_associated m p fd _ = false
+
 -- modes of port_alert(3C)
 
 abbrev pub is_no_mode : AlertMode → Bool
@@ -218,6 +229,10 @@ reasons m t p (request.Alert fd set events user) =
     (where_so EINVAL (is_no_mode set)
     ∷ where_so EBUSY (is_of_update set && (not (events == 0) && is_alerted (port_behind m (object_at m p fd))))
     ∷ [])
+reasons m t p (request.Associate fd object events user) = on_no_port m p fd (where_so EBADFD (is_none (object_at m p object)) ∷ [])
+reasons m t p (request.Dissociate fd object) =
+    on_no_port m p fd
+    (where_so EBADFD (is_none (object_at m p object)) ∷ where_so ENOENT (not (is_associated m p object (object_at m p fd))) ∷ [])
 reasons m t p r = []
 
 -- the requests with a table of their own

@@ -1,7 +1,9 @@
 -- Events: what a trace shows of a place is the event of its turn, with its number, from 1 on, the thread, the thread's root in the
 -- state before, what the thread did, and what was answered.
 use Rattle.std.specs.Prelude.{ℕ, ◌≡◌, ◌+◌, List, Option, None, Some, length, slice_get}
-use Rattle.written_kernel.specs.Types.{Request, ThreadState, What}
+use Rattle.written_kernel.specs.Types.{Answer, Request, ThreadState, What}
+use Rattle.dk_base.specs.declared.answer.Answer.TheVariants as answer
+use Rattle.work_ops.specs.Words.{output_of}
 use Rattle.dk_base.specs.declared.event.What.TheVariants as what
 use Rattle.dk_base.specs.declared.request.Request.TheVariants as request
 use Rattle.kernel_records.specs.declared.record.ThreadState.TheVariants as is
@@ -57,6 +59,11 @@ abbrev pub what_done : Option Request → ThreadState → What
 what_done (Some r) s = what_asked r
 what_done None s = what_ended s
 
+-- what its event shows of the answer: the end of a task shows what the task computes
+abbrev pub answer_shown : ThreadState → Answer → Answer
+answer_shown (is.Working op input) a = answer.Data (output_of op input)
+answer_shown _ a = a
+
 pub record EventsShown (m : State) (xs : List Turn) : Type 0 where
   pub one_each : length (events_of m xs) ≡ length xs
   pub event :
@@ -67,5 +74,5 @@ pub record EventsShown (m : State) (xs : List Turn) : Type 0 where
   pub what :
       (i : ℕ) (x : Turn) →
       (event_of (state_at m xs i) x.thread x.request).what ≡ what_done x.request (state_of (state_at m xs i) x.thread)
-  pub answer : (i : ℕ) (x : Turn) → (event_of (state_at m xs i) x.thread x.request).answer ≡ answer_at m xs i x
+  pub answer : (i : ℕ) (x : Turn) → (event_of (state_at m xs i) x.thread x.request).answer ≡ answer_shown (state_of (state_at m xs i) x.thread) (answer_at m xs i x)
   pub number : (i : ℕ) (x : Turn) → slice_get xs i ≡ Some x → (event_of (state_at m xs i) x.thread x.request).number ≡ i + 1

@@ -18,6 +18,8 @@ pub mod Channels
 pub mod Bytes
 pub mod PortEvents
 pub mod PortWaits
+pub mod OneShot
+pub mod Lives
 pub mod Answers
 pub mod Names
 pub mod Bindings

@@ -1,3 +1,4 @@
 pub mod WorkedRun
 pub mod PortRuns
 pub mod PortLaws
+pub mod AssociationRuns

@@ -1,6 +1,7 @@
 //! A worked run, so that the laws speak of something: definitions in `specs/`, its proof in `proofs/`.
 #![tactic(auto)]
 
+pub mod association_runs;
 pub mod port_laws;
 pub mod port_runs;
 pub mod worked_run;

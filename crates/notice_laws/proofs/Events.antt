@@ -73,7 +73,7 @@ stays_at before m c s w =
       fails = λ n u l e. e;
       gives = given;
       starts = λ n u d e. e;
-    })
+    }) (λ n h. h)
     m
   where
     given : KeptByGiving (λ n. IsAt n c s)

@@ -100,7 +100,7 @@ settle_none before m u =
       fails = λ n t l e d. e ((turn_none n.process_table t is.FailedReturn (λ f. cc)).done u d);
       gives = λ n w x p e d. e ((give_none n w.item x.thread.0).done u d);
       starts = λ n t r e d. e ((turn_none n.process_table t is.Running (λ f. cc)).done u d);
-    })
+    }) (λ n h. h)
     m
     (λ d. d)
 

@@ -4,6 +4,7 @@ pub mod References
 pub mod Refusals
 pub mod Bound
 pub mod Changes
+pub mod Associations
 pub mod Known
 pub mod ReturnRefusals
 pub mod Done

@@ -313,6 +313,8 @@ passing_no_failure m t r c a e (IsPassing.reads fd max f) h = cc
 passing_no_failure m t r c a e (IsPassing.sends fd events user f) h = cc
 passing_no_failure m t r c a e (IsPassing.sends_each fds events user) h = cc
 passing_no_failure m t r c a e (IsPassing.alerts fd mode events user f) h = cc
+passing_no_failure m t r c a e (IsPassing.associates port object events user f) h = cc
+passing_no_failure m t r c a e (IsPassing.dissociates port object f) h = cc
 passing_no_failure m t r c a e (IsPassing.gets fd wait f g) h = found_no_failure m (port_at m (process_of m t) fd) 1 true e h
 passing_no_failure m t r c a e (IsPassing.gets_many fd max nget wait f z g) h = found_no_failure m (port_at m (process_of m t) fd) max false e h
 

@@ -194,7 +194,7 @@ settle_over before m c =
       fails = λ n t l e. e;
       gives = λ n w x p e. give_over n w.item x.thread.0 c e;
       starts = λ n t r e. e;
-    })
+    }) (λ n h. h)
     m
 
 calls_left : (m : State) (who : Leaving) (c : ℕ) → record_of (leave m who) c ≡ option_map (left_call who) (record_of m c)
