@@ -166,6 +166,10 @@ module _ (tree : CallTree) (sound : AreSound tree) where
     pub results_few : (o : Outcome) → outcome_in (Some y.0) ≡ Some o → results_in o ≡ objects_in_call y.0
     results_few o e = results_at y.0 y.0.stage o to_collect.1 e
 
+    -- and what is counted down
+    pub results_collected : (o : Obj) (told : Outcome) → outcome_in (Some y.0) ≡ Some told → count_object o (results_in told) ≡ count_object o (objects_collected_in (Some y.0))
+    results_collected o told e = ap (count_object o) (results_few told e) ∙ sym (results_of o y.0 y.0.stage to_collect.1)
+
     pub collected_few : CarryFew tree.calls → (o : Outcome) → outcome_in (find (is_called_by caller.0) tree.calls) ≡ Some o → length (results_in o) ≤ PASS_MAX
     collected_few few o e =
         omega (arith, few_found (is_to_collect_as c) tree.calls y.0 few y.1, ap length (results_few o (sym (ap outcome_in by_caller) ∙ e)))

@@ -1,5 +1,5 @@
 -- How often an object is named in the tables of all processes, where one table is changed.
-use Rattle.std.proofs.Common.{◌≡◌, ℕ, zero, suc, ◌+◌, ◌-◌, ◌<◌, ◌≤◌, true, false, List, [], ◌∷◌, ◌++◌, Option, None, Some, is_none, is_some, flat_map, filter, length, position, slice_get, slice_set, unwrap_or, refl, sym, ap, ◌∙◌, arith}
+use Rattle.std.proofs.Common.{◌≡◌, ℕ, zero, suc, ◌+◌, ◌-◌, ◌<◌, ◌≤◌, Bool, true, false, cond, List, [], ◌∷◌, ◌++◌, Option, None, Some, is_none, is_some, flat_map, filter, length, position, slice_get, slice_set, unwrap_or, refl, sym, ap, ◌∙◌, arith}
 use Rattle.std.specs.Option.{option_to_list}
 use Rattle.std.specs.List.{cons_option}
 use Rattle.std.specs.Prelude.{Err, Ok, OnErr, OnOk, Result}
@@ -267,6 +267,11 @@ held_added now ts us names calls limit (Err x) held ok err o = rw err (held o)
 pub named_held : (o : Obj) (ts : List (List (Option Obj))) (p : ℕ) (fd : Fd) (x : Option Obj) → x ≡ object_named (table_in ts p) fd → count_object o (option_to_list x) ≤ count_in o ts
 named_held o ts p fd x is = omega (arith, count_in-close o ts p fd, ap (λ y. count_object o (option_to_list y)) is)
 
+passed_more :
+    (o : Obj) (y : Option Obj) (os : List Obj) → count_object o (cons_option y os) ≡ count_object o (option_to_list y) + count_object o os
+passed_more o None os = omega arith
+passed_more o (Some y) os = count_object-cons o y os
+
 pub none_passed : (o : Obj) (t : List (Option Obj)) (pass : List Pass) → count_object o (objects_of t) ≡ 0 → count_object o (objects_passed t pass) ≡ 0
 none_passed o t [] h = refl
 none_passed o t (x ∷ xs) h =
@@ -274,12 +279,24 @@ none_passed o t (x ∷ xs) h =
       arith,
       none_passed o t xs h,
       row_closed o t x.fd.0,
-      one_more (object_passed t x),
+      passed_more o (object_passed t x) (objects_passed t xs),
     )
+
+-- what is released is passed
+pub released_within :
+    (o : Obj) (t : List (Option Obj)) (pass : List Pass) →
+    count_object o (objects_passed t (filter is_released pass)) ≤ count_object o (objects_passed t pass)
+released_within o t [] = omega arith
+released_within o t (x ∷ xs) = one x.release (released_within o t xs)
   where
-    one_more : (y : Option Obj) → count_object o (cons_option y (objects_passed t xs)) ≡ count_object o (option_to_list y) + count_object o (objects_passed t xs)
-    one_more None = omega arith
-    one_more (Some y) = count_object-cons o y (objects_passed t xs)
+    released : List Pass
+    released = filter is_released xs
+
+    one :
+        (b : Bool) → count_object o (objects_passed t released) ≤ count_object o (objects_passed t xs) →
+        count_object o (objects_passed t (cond b (x ∷ released) released)) ≤ count_object o (objects_passed t (x ∷ xs))
+    one true h = omega (arith, h, passed_more o (object_passed t x) (objects_passed t released), passed_more o (object_passed t x) (objects_passed t xs))
+    one false h = omega (arith, h, passed_more o (object_passed t x) (objects_passed t xs))
 
 pub passed_held :
     (o : Obj) (ts : List (List (Option Obj))) (p : ℕ) (pass : List Pass) → count_in o ts ≡ 0 → count_object o (objects_passed (table_in ts p) pass) ≡ 0

@@ -4,7 +4,7 @@ use Rattle.dk_base.specs.declared.object.Obj.TheVariants as obj
 use Rattle.dk_base.specs.ByNumber.{at_number}
 use Rattle.kernel_records.specs.declared.leaving.Leaver.{Leaver}
 use Rattle.kernel_records.specs.declared.leaving.Leaver.TheVariants.{EndedProcess}
-use Rattle.kernel_records.specs.Words.{ProcessTable, is_object, process_end, takes_notices_in}
+use Rattle.kernel_records.specs.Words.{ProcessTable, count_object, is_object, process_end, takes_notices_in}
 use Rattle.exit_paths.specs.Words.{AreLost}
 use Rattle.server_pool.specs.Words.{PoolsValue}
 use Rattle.written_kernel.specs.Types.{Call, Door, Name, Obj, Pass}
@@ -14,7 +14,7 @@ use Rattle.name_space.specs.Words.{HasRoomForName, NameTable}
 use Rattle.call_tree.specs.declared.parts.Outcome.{Outcome}
 use Rattle.call_tree.specs.declared.parts.Outcome.TheVariants.{Ended, Results}
 use Rattle.call_tree.specs.Words.{CallsValue, HasRoomForCall}
-use Rattle.unref_notice.specs.Words.{ObjectCounts, count_of, was_shared}
+use Rattle.unref_notice.specs.Words.{ObjectCounts, count_of, is_pipe_end, was_referred_to, was_shared}
 
 pub record HoldingsValue : Type 0 where
   pub tables : List (List (Option Obj))
@@ -65,6 +65,14 @@ has_fallen_to_one h d = was_shared h.opening d && (references_in h.tables h.name
 -- how many references an object has
 abbrev pub references_of : HoldingsValue → Obj → ℕ
 references_of h o = references_to h.tables h.names.names h.calls.tree.calls o
+
+-- a change of what refers to these objects alone: all others have as many references as before
+abbrev pub ChangesOnly : List Obj → HoldingsValue → HoldingsValue → Type 0
+ChangesOnly objects before after = (o : Obj) → count_object o objects ≡ 0 → references_of after o ≡ references_of before o
+
+-- an end of a pipe had references when the step began, and has none
+abbrev pub has_lost_all : HoldingsValue → Obj → Bool
+has_lost_all h o = is_pipe_end o && (was_referred_to h.opening o && (references_of h o == 0))
 
 -- a door takes notices
 abbrev pub takes : List Door → ℕ → Bool

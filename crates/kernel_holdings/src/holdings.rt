@@ -1,10 +1,12 @@
 //! Descriptors, names and calls, with the references of each object counted.
-ghost use Rattle.std.specs.Prelude.{◌≡◌, ◌+◌, ◌<◌, ◌≤◌, ◌^◌, ◌++◌, ◌∷◌, ℕ, [], true, false, filter, find, is_some, length, IfOk, IfSome, IsSome, None, OnOk, OnErr, Some};
+ghost use Rattle.std.specs.Prelude.{◌≡◌, ◌+◌, ◌<◌, ◌≤◌, ◌^◌, ◌++◌, ◌∷◌, ◌||◌, ℕ, [], true, false, filter, find, if◌then◌else◌, is_some, length, IfOk, IfSome, IsSome, None, OnOk, OnErr, Some};
+ghost use Rattle.std.specs.List.{list_any};
+ghost use Rattle.std.specs.Option.{option_to_list};
 ghost use Rattle.dk_base.specs.declared.limits.TheConstants.{DESCRIPTORS_MAX, PASS_MAX, PROCESSES_MAX};
 ghost use Rattle.dk_base.specs.declared.object.Obj.{Obj};
 ghost use Rattle.dk_base.specs.declared.object.Obj.TheVariants as obj;
 ghost use Rattle.kernel_records.specs.declared.record.Call.{Call};
-ghost use Rattle.kernel_records.specs.Words.{AreNumbered, close_row, close_table, collect_call, count_object, descriptor, door_attached, empty_table, enter_call, fail_call, free_place, free_rows, give_call, has_double_release, insert_row, insert_rows, is_client_call_of, is_given_as, is_queued_as, is_served_by, is_to_collect_as, leaving_of, live_calls, lowest_free, name_in, new_descriptors, notice_doors, object_named, objects_passed, open_call, release_rows, return_call, table_in, with_name, with_table, without_name};
+ghost use Rattle.kernel_records.specs.Words.{AreNumbered, close_row, close_table, collect_call, count_object, descriptor, door_attached, empty_table, enter_call, fail_call, free_place, free_rows, give_call, has_double_release, insert_row, insert_rows, is_client_call_of, is_given_as, is_object, is_queued_as, is_served_by, is_to_collect_as, leaving_of, live_calls, lowest_free, name_in, new_descriptors, notice_doors, object_named, objects_passed, open_call, release_rows, return_call, table_in, with_name, with_table, without_name};
 ghost use Rattle.written_kernel.specs.Words.{objects_collected_in};
 ghost use Rattle.name_space.specs.Words.{HasRoomForName};
 ghost use Rattle.call_tree.specs.Calls.{args_in};
@@ -12,7 +14,7 @@ ghost use Rattle.call_tree.specs.Words.{HasRoomForCall, IsThread, is_called_by, 
 ghost use Rattle.exit_paths.specs.Words.{CanExit, HasExited, IsAsBefore};
 ghost use Rattle.unref_notice.specs.declared.counts.TheConstants.{STEP_MAX};
 ghost use Rattle.unref_notice.specs.Words.{count_of, was_shared};
-ghost use Rattle.kernel_holdings.specs.Words.{CanEnd, HasRoomToHold, TRANSIT_MAX, has_fallen_to_one, references_of, references_to, results_in};
+ghost use Rattle.kernel_holdings.specs.Words.{CanEnd, ChangesOnly, HasRoomToHold, TRANSIT_MAX, has_fallen_to_one, has_lost_all, references_of, references_to, results_in};
 
 use crate::fallen::tell;
 use crate::leaving::leave;
@@ -166,6 +168,17 @@ impl Holdings {
         tell(self.counts.fallen(), doors, into);
     }
 
+    /// The ends of pipes that had references when the step began, and have none now, follow what is in `into`, each once, in any order.
+    /// Only the objects are looked at to which references came or went. It takes no memory.
+    pub fn gone(&self, into: &mut Room<Obj>)
+        requires { STEP_MAX ≤ into.old.spare }
+        ensures each { (o : Obj) → count_object o into.new.items ≡ count_object o into.old.items + (if has_lost_all self.now o then 1 else 0) }
+        ensures members { (o : Obj) → list_any (is_object o) into.new.items ≡ (list_any (is_object o) into.old.items || has_lost_all self.now o) }
+        ensures few { length into.new.items ≤ length into.old.items + STEP_MAX }
+    {
+        self.counts.gone(into);
+    }
+
     // what is counted
 
     /// The table of another process, which may have so many descriptors. Want of memory changes nothing.
@@ -175,6 +188,7 @@ impl Holdings {
         ensures ok { OnOk result (self.new ≡ record (self.old) { tables = self.old.tables ++ empty_table limit ∷ [] }) }
         ensures err { OnErr result (self.new ≡ self.old) }
         ensures references { (o : Obj) → references_of self.new o ≤ references_of self.old o }
+        ensures others { ChangesOnly [] self.old self.new }
     {
         self.tables.add(alloc, limit)
     }
@@ -189,6 +203,7 @@ impl Holdings {
         ensures fd { result ≡ descriptor (free_place (table_in self.old.tables p.0)) }
         ensures left { self.old.left ≤ self.new.left + 1 }
         ensures references { (o : Obj) → references_of self.new o ≤ references_of self.old o + count_object o (object ∷ []) }
+        ensures others { ChangesOnly (object ∷ []) self.old self.new }
     {
         self.are_few();
         self.counts.up(object);
@@ -204,6 +219,7 @@ impl Holdings {
         ensures second { result.1 ≡ descriptor (free_place (insert_row (table_in self.old.tables p.0) first)) }
         ensures left { self.old.left ≤ self.new.left + 2 }
         ensures references { (o : Obj) → references_of self.new o ≤ references_of self.old o + count_object o (first ∷ second ∷ []) }
+        ensures others { ChangesOnly (first ∷ second ∷ []) self.old self.new }
     {
         self.are_few();
         self.counts.up(first);
@@ -218,6 +234,7 @@ impl Holdings {
         ensures same { self.new ≡ record (self.old) { tables = with_table self.old.tables p.0 (close_row (table_in self.old.tables p.0) fd.0); left = self.new.left } }
         ensures left { self.old.left ≤ self.new.left + 1 }
         ensures references { (o : Obj) → references_of self.new o ≤ references_of self.old o }
+        ensures others { ChangesOnly (option_to_list (object_named (table_in self.old.tables p.0) fd)) self.old self.new }
     {
         if let Some(object) = self.tables.object_at(p, fd) {
             self.tables.close(p, fd);
@@ -245,6 +262,7 @@ impl Holdings {
         ensures items { into.new.items ≡ into.old.items ++ objects_passed (table_in self.old.tables p.0) pass.now }
         ensures left { self.old.left ≤ self.new.left + DESCRIPTORS_MAX }
         ensures references { (o : Obj) → references_of self.new o ≤ references_of self.old o }
+        ensures others { ChangesOnly (objects_passed (table_in self.old.tables p.0) pass.now) self.old self.new }
         ensures held { (o : Obj) → references_of self.old o ≡ 0 → count_object o (objects_passed (table_in self.old.tables p.0) pass.now) ≡ 0 }
     {
         lower_released(&mut self.counts, &self.tables, p, pass);
@@ -261,6 +279,7 @@ impl Holdings {
         ensures fds { result ≡ new_descriptors (table_in self.old.tables p.0) objects.now }
         ensures left { self.old.left ≤ self.new.left + length objects.now }
         ensures references { (o : Obj) → references_of self.new o ≤ references_of self.old o + count_object o objects.now }
+        ensures others { ChangesOnly objects.now self.old self.new }
     {
         self.are_few();
         self.counts.up_all(objects.slice());
@@ -278,6 +297,7 @@ impl Holdings {
         ensures same { self.new ≡ record (self.old) { names = self.new.names; left = self.new.left } }
         ensures left { self.old.left ≤ self.new.left + 1 }
         ensures references { (o : Obj) → references_of self.new o ≤ references_of self.old o + count_object o (obj.Door door ∷ []) }
+        ensures others { ChangesOnly (obj.Door door ∷ []) self.old self.new }
     {
         self.are_few();
         self.counts.up(Obj::Door(door));
@@ -291,6 +311,7 @@ impl Holdings {
         ensures same { self.new ≡ record (self.old) { names = self.new.names; left = self.new.left } }
         ensures left { self.old.left ≤ self.new.left + 1 }
         ensures references { (o : Obj) → references_of self.new o ≤ references_of self.old o }
+        ensures ports { (q : ℕ) → references_of self.new (obj.Port q) ≡ references_of self.old (obj.Port q) }
     {
         if let Ok(door) = self.names.detach(path) {
             self.counts.down(Obj::Door(door));
@@ -321,6 +342,7 @@ impl Holdings {
         ensures same { self.new ≡ record (self.old) { calls = self.new.calls; left = self.new.left } }
         ensures left { self.old.left ≤ self.new.left + PASS_MAX }
         ensures references { (o : Obj) → references_of self.new o ≤ references_of self.old o + count_object o args.objects }
+        ensures others { ChangesOnly args.objects self.old self.new }
     {
         self.are_few();
         self.counts.up_all(args.objects.slice());
@@ -337,6 +359,7 @@ impl Holdings {
         ensures calls { self.new.calls.tree ≡ give_call self.old.calls.tree c to.0 }
         ensures same { self.new ≡ record (self.old) { calls = self.new.calls } }
         ensures references { (o : Obj) → references_of self.new o ≤ references_of self.old o }
+        ensures others { ChangesOnly [] self.old self.new }
     {
         self.calls.give(c, to);
     }
@@ -351,6 +374,7 @@ impl Holdings {
         ensures left { self.old.left ≤ self.new.left + PASS_MAX }
         ensures few { length result.objects ≤ PASS_MAX }
         ensures references { (o : Obj) → references_of self.new o ≤ references_of self.old o }
+        ensures others { ChangesOnly result.objects self.old self.new }
         ensures held { (o : Obj) → count_object o result.objects ≤ references_of self.old o }
     {
         self.calls.are_sound();
@@ -367,6 +391,7 @@ impl Holdings {
         ensures same { self.new ≡ record (self.old) { calls = self.new.calls; left = self.new.left } }
         ensures left { self.old.left ≤ self.new.left + PASS_MAX }
         ensures references { (o : Obj) → references_of self.new o ≤ references_of self.old o }
+        ensures others { ChangesOnly result self.old self.new }
     {
         self.calls.are_sound();
         let objects = self.calls.refuse(c, Errno::EMFILE);
@@ -382,6 +407,7 @@ impl Holdings {
         ensures same { self.new ≡ record (self.old) { calls = self.new.calls; left = self.new.left } }
         ensures left { self.old.left ≤ self.new.left + PASS_MAX }
         ensures references { (o : Obj) → references_of self.new o ≤ references_of self.old o + count_object o objects }
+        ensures others { ChangesOnly objects self.old self.new }
     {
         if self.calls.client(t).is_none() {
             return;
@@ -412,6 +438,7 @@ impl Holdings {
         ensures left { self.old.left ≤ self.new.left + PASS_MAX }
         ensures few { length (results_in result) ≤ PASS_MAX }
         ensures references { (o : Obj) → references_of self.new o ≤ references_of self.old o }
+        ensures others { ChangesOnly (results_in result) self.old self.new }
         ensures held { (o : Obj) → count_object o (results_in result) ≤ references_of self.old o }
     {
         self.calls.are_sound();

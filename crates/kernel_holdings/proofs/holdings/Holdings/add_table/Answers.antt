@@ -20,3 +20,6 @@ invariant_of-self c =
 pub returns-clause-references : goal.returns-clause-references
 returns-clause-references c = λ o.
     omega (arith, (invariant_of-self c).0 o, c.self.invariant.0 o, ap (λ (v : HoldingsValue). references_of v o) c.self.view_is)
+
+pub returns-clause-others : goal.returns-clause-others
+returns-clause-others c = λ o none. omega (arith, (invariant_of-self c).0 o, c.self.invariant.0 o, none, ap (λ (v : HoldingsValue). references_of v o) c.self.view_is)

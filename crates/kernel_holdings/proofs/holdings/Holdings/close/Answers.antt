@@ -22,3 +22,6 @@ invariant_of-self c =
 
 pub returns-in-Some-clause-references : goal.returns-in-Some-clause-references
 returns-in-Some-clause-references c = λ o. omega (arith, (invariant_of-self c).0 o, c.self.invariant.0 o, c.down.ensures.counts o, ap (λ (v : HoldingsValue). references_of v o) c.self.view_is)
+
+pub returns-in-Some-clause-others : goal.returns-in-Some-clause-others
+returns-in-Some-clause-others c = λ o none. omega (arith, (invariant_of-self c).0 o, c.self.invariant.0 o, none, c.down.ensures.counts o, ap (λ (v : HoldingsValue). count_object o (option_to_list (object_named (table_in v.tables c.args.p.0) c.args.fd))) c.self.view_is, ap (λ x. count_object o (option_to_list x)) (sym c.object_at.ensures ∙ c.in-Some.is), ap (λ (v : HoldingsValue). references_of v o) c.self.view_is)

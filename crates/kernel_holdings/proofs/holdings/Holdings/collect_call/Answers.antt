@@ -8,7 +8,7 @@ use Rattle.kernel_records.specs.Words.{is_to_collect_as}
 use Rattle.kernel_holdings.specs.Words.{HoldingsValue}
 use Rattle.kernel_records.specs.Words.{count_object}
 use Rattle.kernel_holdings.specs.Words.{HoldingsValue, references_of}
-use Rattle.kernel_holdings.proofs.Handing.{results_few}
+use Rattle.kernel_holdings.proofs.Handing.{results_collected, results_few}
 use Rattle.kernel_holdings.proofs.Referring.{references_to-parts}
 use Rattle.kernel_holdings.proofs.TransitCounts.{if_found, in_transit-found, transit_of}
 use Rattle.kernel_holdings.proofs.holdings.Holdings.collect_call.Goals as goal
@@ -92,5 +92,22 @@ returns-clause-held c = λ o.
       ap (if_found (transit_of o)) one.1,
       ap (count_object o) (results_few tree c.are_sound.ensures c.args.c there c.collector-caller.result his c.collect-outcome.result told),
       references_to-parts h.tables h.names.names h.calls.tree.calls o,
+      ap (λ (v : HoldingsValue). references_of v o) c.self.view_is,
+    )
+
+pub returns-clause-others : goal.returns-clause-others
+returns-clause-others c = λ o none.
+    let tree = c.self.inside.calls.tree in
+    let there = rw (← c.self.view_is) at c.requires.ready in
+    let his = rw (← c.self.view_is) at c.collector-caller.ensures in
+    let x = some_call _ there in
+    let told = ap outcome_in (sym (by_caller tree c.are_sound.ensures c.args.c there c.collector-caller.result his)) ∙ c.collect-outcome.ensures.outcome in
+    omega (
+      arith,
+      (invariant_of-self c).0 o,
+      c.self.invariant.0 o,
+      none,
+      c.lower_results.ensures.counts o x.0 told,
+      results_collected tree c.are_sound.ensures c.args.c there c.collector-caller.result his o c.collect-outcome.result told,
       ap (λ (v : HoldingsValue). references_of v o) c.self.view_is,
     )

@@ -2,6 +2,7 @@ use Rattle.std.proofs.Common.{ap, arith}
 use Rattle.dk_base.specs.declared.error.Errno.TheVariants.{EINVAL}
 use Rattle.kernel_holdings.proofs.NameCounts.{name_fewer}
 use Rattle.kernel_holdings.specs.Words.{HoldingsValue, references_of}
+use Rattle.dk_base.specs.declared.object.Obj.TheVariants as obj
 use Rattle.kernel_holdings.proofs.holdings.Holdings.detach.Goals as goal
 
 pub invariant_of-self : goal.invariant_of-self
@@ -17,3 +18,8 @@ invariant_of-self c =
 
 pub returns-in-Ok-clause-references : goal.returns-in-Ok-clause-references
 returns-in-Ok-clause-references c = λ o. omega (arith, (invariant_of-self c).0 o, c.self.invariant.0 o, c.down.ensures.counts o, ap (λ (v : HoldingsValue). references_of v o) c.self.view_is)
+
+pub returns-in-Ok-clause-ports : goal.returns-in-Ok-clause-ports
+returns-in-Ok-clause-ports c = λ q.
+    let port = obj.Port q in
+    omega (arith, (invariant_of-self c).0 port, c.self.invariant.0 port, c.down.ensures.counts port, ap (λ (v : HoldingsValue). references_of v port) c.self.view_is)

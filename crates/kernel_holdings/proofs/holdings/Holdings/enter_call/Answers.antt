@@ -64,3 +64,6 @@ returns-clause-held c = λ o.
       references_to-parts h.tables h.names.names h.calls.tree.calls o,
       ap (λ (v : HoldingsValue). references_of v o) c.self.view_is,
     )
+
+pub returns-clause-others : goal.returns-clause-others
+returns-clause-others c = λ o none. omega (arith, (invariant_of-self c).0 o, c.self.invariant.0 o, none, c.down_all.ensures.counts o, ap (count_object o) c.slice.ensures, ap (λ (v : HoldingsValue). references_of v o) c.self.view_is)

@@ -3,7 +3,7 @@ use Rattle.call_tree.specs.Words.{argument_objects, is_call}
 use Rattle.kernel_holdings.proofs.Handing.{failed_few, failed, given_waits}
 use Rattle.kernel_holdings.proofs.TransitCounts.{handed_out}
 use Rattle.kernel_holdings.proofs.Bounds.{few_changed, holds_calls}
-use Rattle.kernel_records.specs.Words.{is_given_as}
+use Rattle.kernel_records.specs.Words.{count_object, is_given_as}
 use Rattle.kernel_holdings.specs.Words.{HoldingsValue}
 use Rattle.kernel_holdings.specs.Words.{HoldingsValue, references_of}
 use Rattle.kernel_holdings.proofs.holdings.Holdings.fail_call.Goals as goal
@@ -37,3 +37,6 @@ returns-clause-left c =
 
 pub returns-clause-references : goal.returns-clause-references
 returns-clause-references c = λ o. omega (arith, (invariant_of-self c).0 o, c.self.invariant.0 o, c.down_all.ensures.counts o, ap (λ (v : HoldingsValue). references_of v o) c.self.view_is)
+
+pub returns-clause-others : goal.returns-clause-others
+returns-clause-others c = λ o none. omega (arith, (invariant_of-self c).0 o, c.self.invariant.0 o, none, c.down_all.ensures.counts o, ap (count_object o) c.slice.ensures, ap (λ (v : HoldingsValue). references_of v o) c.self.view_is)

@@ -59,3 +59,6 @@ up_all-requires-clause-left c = omega (arith, (c.requires.few (rw (← c.self.vi
 
 pub returns-clause-left : goal.returns-clause-left
 returns-clause-left c = omega (arith, (c.requires.few (rw (← c.self.view_is) (ap is_some (sym c.client.ensures) ∙ copied c.client.result ∙ c.if-is_none.ensures))), c.up_all.ensures.left, ap length c.slice.ensures, ap (λ (v : HoldingsValue). v.left) c.self.view_is)
+
+pub returns-clause-others : goal.returns-clause-others
+returns-clause-others c = λ o none. omega (arith, (invariant_of-self c).0 o, c.self.invariant.0 o, none, c.up_all.ensures.counts o, ap (count_object o) c.slice.ensures, ap (λ (v : HoldingsValue). references_of v o) c.self.view_is)

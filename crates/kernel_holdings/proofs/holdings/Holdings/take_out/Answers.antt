@@ -10,6 +10,7 @@ use Rattle.kernel_holdings.proofs.Referring.{references_to-parts}
 use Rattle.kernel_holdings.proofs.TableCounts.{passed_held}
 use Rattle.kernel_holdings.proofs.Bounds.{narrow_at}
 use Rattle.kernel_holdings.proofs.Lowering.{released_few}
+use Rattle.kernel_holdings.proofs.TableCounts.{released_within}
 use Rattle.kernel_holdings.proofs.holdings.Holdings.take_out.Goals as goal
 
 pub invariant_of-self : goal.invariant_of-self
@@ -42,3 +43,6 @@ returns-clause-left c =
     let h = c.self.inside in
     let few = released_few (table_in h.tables c.args.p.0) c.args.pass.now c.requires.once in
     omega (arith, few, narrow_at h.tables c.args.p.0 c.self.invariant.1.rows, c.lower_released.ensures.left, ap (λ (v : HoldingsValue). v.left) c.self.view_is)
+
+pub returns-clause-others : goal.returns-clause-others
+returns-clause-others c = λ o none. omega (arith, (invariant_of-self c).0 o, c.self.invariant.0 o, none, c.lower_released.ensures.counts o, released_within o (table_in c.self.inside.tables c.args.p.0) c.args.pass.now, ap (λ (v : HoldingsValue). count_object o (objects_passed (table_in v.tables c.args.p.0) c.args.pass.now)) c.self.view_is, ap (λ (v : HoldingsValue). references_of v o) c.self.view_is)
