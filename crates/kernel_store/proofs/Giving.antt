@@ -1,26 +1,23 @@
 -- A giving in one pool of a store: the pick of the pool gets its oldest item.
-use Rattle.std.proofs.Common.{◌≡◌, ◌⊎◌, inl, inr, ℕ, suc, ◌&&◌, Bool, true, false, not, List, [], ◌∷◌, Option, None, Some, IsSome, cond, filter, find, is_none, is_some, drop, length, map, refl, sym, subst, ap, ap₂, ⊎_elim, ◌∙◌, arith}
+use Rattle.std.proofs.Common.{◌≡◌, ◌⊎◌, inl, inr, ℕ, suc, ◌&&◌, Bool, true, false, List, [], ◌∷◌, Option, None, Some, IsSome, cond, filter, find, is_none, is_some, drop, length, map, refl, sym, subst, ap, ap₂, ◌∙◌, arith}
 use Rattle.std.proofs.lemmas.Bool.Decides.{nat_tests}
 use Rattle.dk_base.specs.ByNumber.{at_number}
 use Rattle.dk_base.specs.declared.object.Item.TheVariants as item
-use Rattle.kernel_records.specs.declared.pool.Pool.TheVariants.{Common}
-use Rattle.kernel_records.specs.declared.record.ThreadState.TheVariants as is
-use Rattle.kernel_records.specs.Words.{ProcessTable, give_call, give_notice, give_thread, is_idle, is_pool, is_queued, is_queued_as, is_queued_in, pid, pool_in, waiting_call, state_in, thread_at, thread_at_state}
+use Rattle.kernel_records.specs.Words.{ProcessTable, give_call, give_notice, give_thread, is_idle, is_pool, is_queued, is_queued_as, is_queued_in, pool_in, waiting_call, state_in, thread_at}
 use Rattle.written_kernel.specs.Types.{Call, Door, Item, Parked, Pool, Waiting}
-use Rattle.written_kernel.specs.Words.{give, give_one, has_given_last}
-use Rattle.written_kernel.proofs.Giving.{same_pool}
+use Rattle.written_kernel.specs.Words.{give, give_one}
 use Rattle.server_pool.specs.declared.facts.Match.{Match}
 use Rattle.server_pool.specs.Words.{PoolsValue, change_pool, first_match, is_call, is_waiting_call, match_in, match_of, next_of, pick_of, queue_in, stack_in}
 use Rattle.call_tree.specs.Words.{CallsValue}
 use Rattle.unref_notice.specs.Words.{NoticesValue}
-use Rattle.pool_agreement.specs.Words.{Agrees, IsGivenOut, IsGivenOutBut, IsGivenOutIn, waiting_in}
-use Rattle.pool_agreement.proofs.GivingFirst.{give_first, given_out_gives_nothing}
+use Rattle.pool_agreement.specs.Words.{Agrees, IsGivenOutIn, waiting_in}
+use Rattle.pool_agreement.proofs.GivingFirst.{give_first}
 use Rattle.pool_agreement.proofs.Noticing.{agrees_give_notice}
 use Rattle.pool_agreement.proofs.Queues.{agrees_give}
 use Rattle.pool_agreement.proofs.Readers.{bindings-change_pool, is_pool-self, queue-change_other, queue-change_same, stack-change_other}
 use Rattle.pool_agreement.proofs.Settling.{none_picked}
 use Rattle.pool_agreement.proofs.WaitingLists.{first_passes}
-use Rattle.pool_agreement.proofs.Stacks.{given_is_idle, given_pool_there, length-change_thread, pick_agrees}
+use Rattle.pool_agreement.proofs.Stacks.{given_is_idle, given_pool_there}
 use Rattle.kernel_store.specs.Giving.{GivesOn, HasGiven, IsGiving}
 use Rattle.kernel_store.specs.Stored.{IsAgreed, StoreValue, stored_state}
 
@@ -124,13 +121,16 @@ module _
   -- a store after it that has given this item
   module _
       (then : StoreValue) (left : then.pools ≡ change_pool s.pools pool match_in) (same_latest : then.latest ≡ s.latest)
-      (given : stored_state then ≡ give_one (stored_state s) found.oldest.item t)
-      (threads : length then.processes.threads ≡ length s.processes.threads) where
+      (given : stored_state then ≡ give_one (stored_state s) found.oldest.item t) where
     queue_left : queue_in then.pools pool ≡ found.others
     queue_left =
         ap (λ v. queue_in v pool) left
         ∙ queue-change_same s.pools pool pool match_in (is_pool-self pool) (given_pool_there h pool found.pick found.picked)
         ∙ ap (drop 1) found.waits
+
+    not_none : (o : Option Parked) (x : Parked) → o ≡ Some x → is_none o ≡ true → ⊥
+    not_none None x e f = cc
+    not_none (Some y) x e f = cc
 
     gives_on_so : GivesOn pool s then
     gives_on_so =
@@ -142,7 +142,7 @@ module _
                     ∙ ap give (sym given);
                 stacks = λ other f. ap (λ v. stack_in v other) left ∙ stack-change_other s.pools pool other match_in f;
                 queues = λ other f. ap (λ v. queue_in v other) left ∙ queue-change_other s.pools pool other match_in f;
-                threads = threads;
+                idle = λ e. absurd (not_none (pick_of (stack_in s.pools pool)) found.pick found.picked e);
                 latest = same_latest;
               };
           fewer =
@@ -157,9 +157,6 @@ module _
       (given : table ≡ give_thread s.processes next.thread.0 next.item) (left : pools ≡ change_pool s.pools pool match_in) where
     table_is : table ≡ give_thread s.processes t i
     table_is = given ∙ ap₂ (give_thread s.processes) thread_is its_item
-
-    threads_kept : length table.threads ≡ length s.processes.threads
-    threads_kept = ap (λ (x : ProcessTable). length x.threads) table_is ∙ length-change_thread s.processes t (thread_at_state (is.Given i))
 
     bindings_kept : pools.bindings ≡ s.pools.bindings
     bindings_kept = ap (λ (v : PoolsValue). v.bindings) left ∙ bindings-change_pool s.pools pool match_in
@@ -191,7 +188,7 @@ module _
         ∙ ap (λ i. give_one (stored_state s) i t) (sym (oldest_is (item.Call c) is_call))
 
     pub gives_on : GivesOn pool s then
-    gives_on = gives_on_so then left refl state_given (threads_kept (item.Call c) is_call table pools given left)
+    gives_on = gives_on_so then left refl state_given
 
   module _
       (k : ℕ) (is_notice : next.item ≡ item.Notice k) (table : ProcessTable) (pools : PoolsValue) (notices : NoticesValue)
@@ -220,7 +217,7 @@ module _
         ∙ ap (λ i. give_one (stored_state s) i t) (sym (oldest_is (item.Notice k) is_notice))
 
     pub gives_on_notice : GivesOn pool s then_noticed
-    gives_on_notice = gives_on_so then_noticed left refl state_noticed (threads_kept (item.Notice k) is_notice table pools given left)
+    gives_on_notice = gives_on_so then_noticed left refl state_noticed
 
 -- givings in one pool, one after another
 
@@ -230,48 +227,3 @@ pub all_given :
     (after ≡ now) × IsGivenOutIn now.pools pool × IsAgreed now → HasGiven pool before after
 all_given pool before now after g (e, out, agreed) =
     subst (HasGiven pool before) (sym e) (record { giving = g; out = out; agreed = agreed })
-
--- and where no other pool had both before
-
-module _ (pool : Pool) (before after : StoreValue) (all : HasGiven pool before after) (first : IsGivenOutBut pool before.pools) where
-  pub given_out : IsGivenOut after.pools
-  given_out other = go (is_pool pool other) refl
-    where
-      go : (b : Bool) → is_pool pool other ≡ b → IsGivenOutIn after.pools other
-      go true e = subst (IsGivenOutIn after.pools) (same_pool pool other e) all.out
-      go false e =
-          ⊎_elim (λ f. inl (all.giving.stacks other e ∙ f)) (λ f. inr (all.giving.queues other e ∙ f)) (first other e)
-
-  pub state_is_given : stored_state after ≡ give (stored_state before)
-  state_is_given =
-      sym (all.giving.given ∙ given_out_gives_nothing after.latest (stored_state after) after.pools refl all.agreed given_out)
-
-  -- the process whose common pool this is lost its last idle thread, or none did
-  pub last_given :
-      IsAgreed before → (p : ℕ) →
-      has_given_last (stored_state before) (give (stored_state before)) p
-      ≡ (is_pool pool (Common (pid p)) && (is_some (pick_of (stack_in before.pools pool)) && not (is_some (pick_of (stack_in after.pools pool)))))
-  last_given h p =
-      ap (λ m. has_given_last (stored_state before) m p) (sym state_is_given)
-      ∙ ap₂ (λ a b. is_some a && is_none b) (pick_agrees h (Common (pid p))) (pick_agrees all.agreed (Common (pid p)))
-      ∙ go (is_pool pool (Common (pid p))) refl
-    where
-      none_is_not_some : {X : Type 0} (o : Option X) → is_none o ≡ not (is_some o)
-      none_is_not_some None = refl
-      none_is_not_some (Some x) = refl
-
-      not_both : (o : Option Parked) → (is_some o && is_none o) ≡ false
-      not_both None = refl
-      not_both (Some x) = refl
-
-      go :
-          (b : Bool) → is_pool pool (Common (pid p)) ≡ b →
-          (is_some (pick_of (stack_in before.pools (Common (pid p)))) && is_none (pick_of (stack_in after.pools (Common (pid p)))))
-          ≡ (b && (is_some (pick_of (stack_in before.pools pool)) && not (is_some (pick_of (stack_in after.pools pool)))))
-      go true e =
-          ap₂ (λ q r. is_some (pick_of (stack_in before.pools q)) && is_none (pick_of (stack_in after.pools r))) (sym (same_pool pool (Common (pid p)) e))
-          (sym (same_pool pool (Common (pid p)) e))
-          ∙ ap (λ b. is_some (pick_of (stack_in before.pools pool)) && b) (none_is_not_some (pick_of (stack_in after.pools pool)))
-      go false e =
-          ap (λ xs. is_some (pick_of (stack_in before.pools (Common (pid p)))) && is_none (pick_of xs)) (all.giving.stacks (Common (pid p)) e)
-          ∙ not_both (pick_of (stack_in before.pools (Common (pid p))))

@@ -1,12 +1,19 @@
 mod Acts
 mod Alike
+mod AnyOrder
 mod There
+mod Failed
+mod FailedHere
+mod FailingParts
 mod Giving
-mod GivingAll
+mod GivingServed
 mod ItemRoom
+mod LeftOut
 mod LeftStore
 mod Made
 mod MadeNotice
+pub mod Others
+mod Retrieved
 pub mod Short
 mod Spares
 mod Threads
@@ -15,3 +22,5 @@ mod Lost
 pub mod Turns
 mod HeldNotices
 pub mod Knowing
+pub mod Waits
+pub mod PortWaits

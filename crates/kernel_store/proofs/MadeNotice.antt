@@ -1,5 +1,5 @@
 -- A notice that is made, and the room that it leaves for others.
-use Rattle.std.proofs.Common.{◌≡◌, ℕ, ◌+◌, ◌<◌, ◌≤◌, Bool, true, false, if◌then◌else◌, List, ◌∷◌, count_by, is_some, length, refl, sym, ap, ◌∙◌, subst, arith}
+use Rattle.std.proofs.Common.{◌≡◌, inl, inr, ⊎_elim, true≢false, ℕ, ◌+◌, ◌<◌, ◌≤◌, Bool, true, false, ◌||◌, if◌then◌else◌, List, ◌∷◌, count_by, is_some, length, refl, sym, ap, ◌∙◌, subst, arith}
 use Rattle.dk_base.specs.ByNumber.{at_number}
 use Rattle.dk_base.specs.Words.{RoomValue}
 use Rattle.kernel_records.specs.Words.{is_pool, pool_in}
@@ -8,6 +8,15 @@ use Rattle.written_kernel.specs.Words.{pool_of}
 use Rattle.server_pool.specs.Words.{change_pool, enqueue_in, item_room_in, pool_at}
 use Rattle.unref_notice.specs.declared.notices.TheConstants.{NOTICES_MAX}
 use Rattle.pool_agreement.proofs.Readers.{is_pool-self, is_pool-sym}
+use Rattle.written_kernel.specs.Words.{has_lost_door}
+use Rattle.written_kernel.proofs.Giving.{same_pool}
+use Rattle.server_pool.specs.Words.{PoolsValue}
+use Rattle.unref_notice.specs.Words.{NoticesValue}
+use Rattle.thread_set.specs.declared.set.ThreadSet.{ThreadSet}
+use Rattle.thread_set.specs.Words.{has}
+use Rattle.pool_agreement.specs.Words.{own_pool}
+use Rattle.pool_agreement.proofs.Readers.{bindings-change_pool, queue-change_other, stack-change_other}
+use Rattle.kernel_store.specs.Frames.{AreIn, CanSettle, IsGivenOutToOthers, serves_any}
 use Rattle.kernel_store.specs.Stored.{CanMake, StoreValue, count_served, stored_state}
 use Rattle.kernel_store.proofs.ItemRoom.{count_cons, room_elsewhere, room_enqueued, there_changed}
 
@@ -65,3 +74,32 @@ can_make_others s after d ds pool w own pools doors spare made listed make =
     left q false e l =
         let k : item_room_in (change_pool s.pools pool (enqueue_in w)) q ≡ item_room_in s.pools q =
         room_elsewhere s.pools pool q (enqueue_in w) (ap (λ p. is_pool p q) own ∙ is_pool-sym (pool_of (stored_state s) d) q ∙ e) in omega arith
+
+-- a notice of one of the doors that are served leaves the pools of others, and the threads, as they were
+pub served_made :
+    (s : StoreValue) (notices : NoticesValue) (pools : PoolsValue) (latest short : ℕ) (d : ℕ) (pool : Pool) (w : Waiting) (touched : Pool) (parked : ThreadSet)
+    (ds : List ℕ) → pool ≡ pool_of (stored_state s) d → pools ≡ change_pool s.pools pool (enqueue_in w) →
+    serves_any (stored_state s) ds (pool_of (stored_state s) d) ≡ true → CanSettle touched parked ds s →
+    CanSettle touched parked ds (record s { pools = pools; notices = notices; latest = latest; short_room = short })
+served_made s notices pools latest short d pool w touched parked ds own left served h =
+    subst (λ v. CanSettle touched parked ds (record s { pools = v; notices = notices; latest = latest; short_room = short })) (sym left)
+    (record {
+      given_out = λ other e f. kept other f (is_pool pool other) refl (h.given_out other e f);
+      lost =
+          λ t e.
+          ap (λ b. is_pool touched (own_pool (record (stored_state s) { bindings = b }) t) || has parked t) same
+          ∙ h.lost t (sym (ap (λ b. has_lost_door (record (stored_state s) { bindings = b; notice_list = notices.list }) t) same) ∙ e);
+    })
+  where
+    same : (change_pool s.pools pool (enqueue_in w)).bindings ≡ s.pools.bindings
+    same = bindings-change_pool s.pools pool (enqueue_in w)
+
+    kept :
+        (other : Pool) → serves_any (stored_state s) ds other ≡ false → (b : Bool) → is_pool pool other ≡ b → IsGivenOutToOthers parked s.pools other →
+        IsGivenOutToOthers parked (change_pool s.pools pool (enqueue_in w)) other
+    kept other f true g out =
+        let here : pool_of (stored_state s) d ≡ other = sym own ∙ same_pool pool other g in
+        absurd (true≢false (sym served ∙ ap (serves_any (stored_state s) ds) here ∙ f))
+    kept other f false g out =
+        ⊎_elim (λ a. inl (subst (AreIn parked) (sym (stack-change_other s.pools pool other (enqueue_in w) g)) a))
+        (λ k. inr (queue-change_other s.pools pool other (enqueue_in w) g ∙ k)) out

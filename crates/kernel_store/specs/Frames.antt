@@ -1,16 +1,19 @@
 -- What an act needs of a store before it, and what it keeps beside the state that it makes.
-use Rattle.std.specs.Prelude.{ℕ, ◌≡◌, ◌+◌, ◌<◌, ◌≤◌, List, [], false, is_some, true}
+use Rattle.std.specs.Prelude.{ℕ, ◌≡◌, ◌⊎◌, ◌+◌, ◌<◌, ◌≤◌, ◌||◌, Bool, List, [], Some, false, is_some, slice_get, true}
+use Rattle.std.specs.List.{list_any}
 use Rattle.dk_base.specs.Words.{RoomValue}
 use Rattle.dk_base.specs.declared.limits.TheConstants.{EVENTS_MAX}
 use Rattle.dk_base.specs.ByNumber.{at_number}
 use Rattle.kernel_records.specs.declared.leaving.Leaver.{Leaver}
 use Rattle.kernel_records.specs.declared.leaving.Leaver.TheVariants.{EndedProcess}
-use Rattle.kernel_records.specs.Words.{is_done, is_dormant, is_idle, valid_doors_of}
-use Rattle.written_kernel.specs.Types.{Pool, ThreadState}
-use Rattle.written_kernel.specs.Words.{State, has_lost_door, now}
+use Rattle.kernel_records.specs.Words.{is_done, is_dormant, is_idle, is_pool, valid_doors_of}
+use Rattle.written_kernel.specs.Types.{Parked, Pool, ThreadState}
+use Rattle.written_kernel.specs.Words.{State, has_lost_door, now, pool_of, state_of}
 use Rattle.call_agreement.specs.Words.{is_calling, is_given_item}
-use Rattle.server_pool.specs.Words.{item_room_in}
-use Rattle.pool_agreement.specs.Words.{IsGivenOut, IsGivenOutBut}
+use Rattle.server_pool.specs.Words.{PoolsValue, item_room_in, queue_in, stack_in}
+use Rattle.pool_agreement.specs.Words.{IsGivenOut, IsGivenOutBut, own_pool}
+use Rattle.thread_set.specs.declared.set.ThreadSet.{ThreadSet}
+use Rattle.thread_set.specs.Words.{has}
 use Rattle.kernel_store.specs.Held.{AreHeld}
 use Rattle.kernel_store.specs.Stored.{ArePlaced, HasRoom, HasWholeStep, StoreValue, WaitAtValidDoors, stored_state}
 
@@ -80,11 +83,27 @@ pub record IsInEvent (store : StoreValue) : Type 0 where
   pub placed : ArePlaced (stored_state store)
   pub latest : NothingAfter (now (stored_state store)) store
 
--- what waits can be given out in this pool alone: in no other is a thread parked while something waits, and no idle thread has lost
--- its door
-pub record CanSettle (touched : Pool) (store : StoreValue) : Type 0 where
-  pub given_out : IsGivenOutBut touched store.pools
-  pub none_lost : (t : ℕ) → has_lost_door (stored_state store) t ≡ false
+-- these threads alone are parked in a pool, or no item waits there
+abbrev pub AreIn : ThreadSet → List Parked → Type 0
+AreIn set stack = (i : ℕ) (x : Parked) → slice_get stack i ≡ Some x → has set x.thread.0 ≡ true
+
+abbrev pub IsGivenOutToOthers : ThreadSet → PoolsValue → Pool → Type 0
+IsGivenOutToOthers set pools pool = AreIn set (stack_in pools pool) ⊎ (queue_in pools pool ≡ [])
+
+-- a pool serves one of these doors
+abbrev pub serves_any : State → List ℕ → Pool → Bool
+serves_any m ds pool = list_any (λ d. is_pool (pool_of m d) pool) ds
+
+-- idle threads that lost their doors park in this pool, or are of a set
+abbrev pub LoseDoorsIn : Pool → ThreadSet → State → Type 0
+LoseDoorsIn touched parked m = (t : ℕ) → has_lost_door m t ≡ true → (is_pool touched (own_pool m t) || has parked t) ≡ true
+
+-- where an act touched this pool, these threads parked again by it since their callers left, and notices were made of some of these
+-- doors: but for the pool and those of the doors, in no pool another thread is parked while something waits
+pub record CanSettle (touched : Pool) (parked : ThreadSet) (ds : List ℕ) (store : StoreValue) : Type 0 where
+  pub given_out :
+      (pool : Pool) → is_pool touched pool ≡ false → serves_any (stored_state store) ds pool ≡ false → IsGivenOutToOthers parked store.pools pool
+  pub lost : LoseDoorsIn touched parked (stored_state store)
 
 -- What an act keeps, each weaker than the one before, but for the last, which has the third in it. `opening` has the counts at the
 -- beginning of its step; the rooms are those for notices.
@@ -119,6 +138,13 @@ pub record KeepsForNotices (before after : StoreValue) : Type 0 where
 pub record FillsOnePool (touched : Pool) (before after : StoreValue) : Type 0 where
   pub kept : KeepsForNotices before after
   pub given_out : AllIsGivenOut before → IsGivenOutBut touched after.pools
+
+-- what an act keeps by which callers, threads or doors leave: the threads that park again are of this set, and no others are parked where
+-- something waits
+pub record ParksAgain (parked : ThreadSet) (before after : StoreValue) : Type 0 where
+  pub idle :
+      (t : ℕ) → is_idle (state_of (stored_state before) t) ≡ false → is_idle (state_of (stored_state after) t) ≡ true → has parked t ≡ true
+  pub given_out : AllIsGivenOut before → (pool : Pool) → IsGivenOutToOthers parked after.pools pool
 
 -- no item is put into a pool
 abbrev pub FillsNoQueue : StoreValue → StoreValue → Type 0

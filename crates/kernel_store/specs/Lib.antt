@@ -1,5 +1,5 @@
+pub mod Failing
 pub mod Channels
-pub mod Flags
 pub mod Frames
 pub mod Giving
 pub mod Held

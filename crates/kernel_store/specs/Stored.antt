@@ -3,7 +3,7 @@ use Rattle.std.specs.Prelude.{ℕ, ◌≡◌, ◌+◌, ◌<◌, ◌≤◌, ◌==
 use Rattle.dk_base.specs.ByNumber.{at_number}
 use Rattle.dk_base.specs.Words.{RoomValue}
 use Rattle.written_kernel.specs.Types.{Call, Door, Notice, Obj, Pool}
-use Rattle.kernel_records.specs.Words.{Pipe, ProcessTable, count_object, is_pool, is_queued, is_valid_in, is_waiting_stage, notice_doors}
+use Rattle.kernel_records.specs.Words.{Pipe, ProcessTable, count_object, is_pool, is_queued, is_valid_in, is_waiting_stage, no_associations, notice_doors}
 use Rattle.written_kernel.specs.Words.{State, door_of, may_have_notice, pool_of, reference_count}
 use Rattle.name_space.specs.Words.{HasRoomForName, NameTable}
 use Rattle.server_pool.specs.Words.{PoolsValue, item_room_in, pool_at, thread_room_in}
@@ -50,7 +50,7 @@ stored_state store =
       doors = store.doors.items;
       call_tree = store.calls.tree;
       notice_list = store.notices.list;
-      channels = record { pipes = store.pipes.items; ports = store.ports.ports };
+      channels = record { pipes = store.pipes.items; ports = store.ports.ports; associations = no_associations };
       events = store.events;
     }
 

@@ -6,5 +6,6 @@ mod leaving;
 mod notices;
 mod paths;
 mod ports;
+mod sets;
 mod starting;
 pub mod store;

@@ -1,34 +1,15 @@
-//! Which processes start a spare after an act, of flags and numbers alone.
-ghost use Rattle.std.specs.Prelude.{◌≡◌, ℕ, ◌&&◌, ◌||◌, not};
+//! Which processes start a spare after an act, of numbers alone.
+ghost use Rattle.std.specs.Prelude.{◌≡◌, ℕ, ◌&&◌, ◌||◌, false, not, true};
 ghost use Rattle.std.specs.Option.{option_map};
 ghost use Rattle.kernel_records.specs.declared.pool.Pool.TheVariants.{Common};
 ghost use Rattle.kernel_records.specs.Words.{is_pool, pid};
 ghost use Rattle.pool_agreement.specs.Words.{is_this};
-ghost use Rattle.kernel_store.specs.Flags.{is_flagged};
 
 use dk_base::number::Pid;
-use kernel_records::numbered::numbered_item;
 use kernel_records::pool::Pool;
 
-/// The flag of a number, false where there is none.
-fn is_flagged(flags: &[bool], number: u32) -> bool
-    ensures { result ≡ is_flagged flags.now number }
-{
-    match numbered_item(flags, number) {
-        Some(flag) => *flag,
-        None => false,
-    }
-}
-
-/// Whether a number is flagged, and this is not so of it.
-pub fn is_flagged_without(flags: &[bool], number: u32, other: bool) -> bool
-    ensures { result ≡ (is_flagged flags.now number && not other) }
-{
-    is_flagged(flags, number) && !other
-}
-
 /// Whether a process is this one.
-pub fn is_this(process: Option<Pid>, p: u32) -> bool
+fn is_this(process: Option<Pid>, p: u32) -> bool
     ensures { result ≡ is_this p (option_map (λ p. p.0) process) }
 {
     match process {
@@ -37,11 +18,15 @@ pub fn is_this(process: Option<Pid>, p: u32) -> bool
     }
 }
 
-/// Whether a process is one of these two.
-pub fn is_either(first: Option<Pid>, last: Option<Pid>, p: u32) -> bool
-    ensures { result ≡ (is_this p (option_map (λ p. p.0) first) || is_this p (option_map (λ p. p.0) last)) }
+/// A process, if it is not this one.
+pub fn other_than(process: Option<Pid>, other: Option<Pid>) -> Option<Pid>
+    ensures either { (p : ℕ) → (is_this p (option_map (λ p. p.0) other) || is_this p (option_map (λ p. p.0) process)) ≡ (is_this p (option_map (λ p. p.0) result) || is_this p (option_map (λ p. p.0) other)) }
+    ensures apart { (p : ℕ) → is_this p (option_map (λ p. p.0) result) ≡ true → is_this p (option_map (λ p. p.0) other) ≡ false }
 {
-    is_this(first, p) || is_this(last, p)
+    match process {
+        Some(p) if !is_this(other, p.0) => Some(p),
+        _ => None,
+    }
 }
 
 /// The process whose common pool had an idle thread and has none.

@@ -17,7 +17,6 @@ mod settling;
 mod steps;
 mod threads;
 
-use crate::ports::find_ended;
 use call_tree::calls::Calls;
 use dk_base::error::NoMemory;
 use dk_base::list::{ObjList, PassList, Room};
@@ -40,7 +39,8 @@ use unref_notice::notices::Notices;
 /// What the kernel holds. It keeps the calls that are live, and the notices that are not past or that a rule asks for again. At
 /// every moment the pools hold the threads, the calls and the notices that the records have there, and the caller and the server of
 /// each call are threads that say so; what refers to a door refers to one that is there; who waits for a path, and whether a door is
-/// attached to it, is known without a look at the names; and which pools may be short of room for notices.
+/// attached to it, is known without a look at the names; who waits at a port, and whether the wait can end, without a look at the ports;
+/// and which pools may be short of room for notices.
 #[derive(Drop)]
 pub struct Store {
     processes: Procs,
@@ -53,6 +53,8 @@ pub struct Store {
     latest: u64,
     /// Of the threads that wait for a path, those where a door is attached to it.
     named: ThreadSet,
+    /// Of the threads that wait at a port and were not interrupted, those whose wait can end.
+    ended: ThreadSet,
     /// The pools that were made or got an item since room for notices was last taken. All others have it.
     short: Room<Pool>,
     pipes: Pipes,
@@ -64,13 +66,13 @@ impl Model for Store {
     ghost use Rattle.pool_agreement.specs.Words.{Agrees};
     ghost use Rattle.kernel_store.specs.Noticing.{HaveItemRoomBut};
     ghost use Rattle.kernel_store.specs.Stored.{ReferToDoors, StoreValue};
-    ghost use Rattle.kernel_store.specs.Turning.{KnowsPaths};
+    ghost use Rattle.kernel_store.specs.Turning.{KnowsPaths, KnowsPorts};
 
     ghost Value = { StoreValue };
 
     ghost view = { λ s. record { processes = s.processes; pools = s.pools; tables = s.held.tables; names = s.held.names; doors = s.doors; calls = s.held.calls; notices = s.notices; events = s.events; latest = s.latest; opening = s.held.opening; left = s.held.left; short_room = s.short.spare; pipes = s.pipes; ports = s.ports } };
 
-    ghost invariant = { λ s. Agrees s.latest s.processes s.doors.items s.held.calls.tree s.notices.list s.pools × ReferToDoors s.doors.items s.held × AreBacked s.processes s.held.calls.tree.calls × KnowsPaths s.processes s.held.names.names s.named × HaveItemRoomBut s.short.items s.pools };
+    ghost invariant = { λ s. Agrees s.latest s.processes s.doors.items s.held.calls.tree s.notices.list s.pools × ReferToDoors s.doors.items s.held × AreBacked s.processes s.held.calls.tree.calls × KnowsPaths s.processes s.held.names.names s.named × HaveItemRoomBut s.short.items s.pools × KnowsPorts s.processes s.held s.ports.ports s.ended };
 }
 
 impl Store {
@@ -87,6 +89,7 @@ impl Store {
             events: 0,
             latest: 0,
             named: ThreadSet::new(),
+            ended: ThreadSet::new(),
             short: Room::new(alloc),
             pipes: Pipes::new(alloc),
             ports: Ports::new(alloc),
@@ -251,7 +254,7 @@ impl Store {
         let going = self.processes.going();
         let collecting = self.held.calls().collecting();
         let found = self.processes.awaiting().and(self.named);
-        let ended = find_ended(&self.processes, &self.held, &self.ports);
+        let ended = self.processes.getting().and(self.ended);
         going.or(collecting).or(found).or(ended)
     }
 

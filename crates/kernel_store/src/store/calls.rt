@@ -6,14 +6,17 @@ ghost use Rattle.kernel_records.specs.declared.record.ThreadState.TheVariants as
 ghost use Rattle.kernel_records.specs.Words.{collect_call, end_invocation, end_notice, enter_call, enter_notice, enter_thread, fail_call, is_client_call_of, is_given_as, is_given_notice_as, is_to_collect_as, kept_notices, live_calls, make_notice, open_call, park_thread, return_call, set_thread_state, unbind_thread};
 ghost use Rattle.call_tree.specs.Calls.{args_in};
 ghost use Rattle.call_tree.specs.Words.{outcome_in, queued_call};
+ghost use Rattle.written_kernel.specs.Types.{Pool};
 ghost use Rattle.written_kernel.specs.Words.{bound_of, calls_waiting, is_running, is_valid, now, pool_of, state_of};
 ghost use Rattle.pool_agreement.specs.Words.{own_pool};
 ghost use Rattle.kernel_holdings.specs.Words.{results_in};
-ghost use Rattle.kernel_store.specs.Frames.{CanAct, FillsNoPool, FillsNoQueue, FillsOnePool, IsInEvent, KeepsPools};
+ghost use Rattle.thread_set.specs.declared.set.ThreadSet.{ThreadSet};
+ghost use Rattle.kernel_store.specs.Frames.{CanAct, CanSettle, FillsNoPool, FillsNoQueue, FillsOnePool, IsInEvent, KeepsPools, serves_any};
 ghost use Rattle.kernel_store.specs.Held.{AreHeld};
 ghost use Rattle.kernel_store.specs.Stored.{AreThere, CanMake, HasRoomForReferences, stored_state};
 
 use crate::leaving::{end_notice, held_by, park};
+use crate::ports::{has_port, have_port, note_references};
 use crate::store::Store;
 use call_tree::parts::{Args, Outcome};
 use dk_base::list::{Bytes, ObjList};
@@ -40,12 +43,20 @@ impl Store {
         ensures state { stored_state self.new ≡ record (stored_state self.old) { process_table = set_thread_state (stored_state self.old).process_table t.0 (is.Calling result); call_tree = open_call (stored_state self.old).call_tree (queued_call result (now (stored_state self.old)) t.0 door args.bytes args.objects rsize no_cancel) } }
         ensures keeps { FillsOnePool (pool_of (stored_state self.old) door) self.old self.new }
     {
+        let of_port = has_port(args.objects.slice());
         let pool = self.doors.pool_of(door);
         let _threads = self.processes.thread_count();
         self.latest = self.events + 1;
         let call = self
             .held
             .open_call(t, door, args, rsize, no_cancel, self.latest);
+        note_references(
+            &mut self.ended,
+            of_port,
+            &self.processes,
+            &self.held,
+            &self.ports,
+        );
         let waiting = Waiting {
             item: Item::Call(call),
             made: self.latest,
@@ -70,6 +81,13 @@ impl Store {
         ensures keeps { KeepsPools self.old self.new }
     {
         let args = self.held.enter_call(c, t);
+        note_references(
+            &mut self.ended,
+            has_port(args.objects.slice()),
+            &self.processes,
+            &self.held,
+            &self.ports,
+        );
         self.processes.enter(t, Item::Call(c));
         args
     }
@@ -86,7 +104,15 @@ impl Store {
     {
         self.latest = self.events + 1;
         park(&mut self.processes, &mut self.pools, t, self.latest);
-        self.held.fail_call(c, t)
+        let objects = self.held.fail_call(c, t);
+        note_references(
+            &mut self.ended,
+            has_port(objects.slice()),
+            &self.processes,
+            &self.held,
+            &self.ports,
+        );
+        objects
     }
 
     /// A thread that runs returns to its client, if it has one, or its notice is over, and it is parked (door_return(3C)).
@@ -103,8 +129,16 @@ impl Store {
     {
         let serves = held_by(&self.processes, t);
         self.latest = self.events + 1;
+        let of_port = has_port(objects.slice());
         park(&mut self.processes, &mut self.pools, t, self.latest);
         self.held.give_back(t, bytes, objects);
+        note_references(
+            &mut self.ended,
+            of_port,
+            &self.processes,
+            &self.held,
+            &self.ports,
+        );
         end_notice(&mut self.notices, serves, t, &self.doors);
     }
 
@@ -121,9 +155,17 @@ impl Store {
         ensures keeps { FillsNoPool self.old self.new }
     {
         let serves = held_by(&self.processes, t);
+        let of_port = has_port(objects.slice());
         self.processes.end_invocation(t);
         self.pools.drop_binding(t);
         self.held.give_back(t, bytes, objects);
+        note_references(
+            &mut self.ended,
+            of_port,
+            &self.processes,
+            &self.held,
+            &self.ports,
+        );
         end_notice(&mut self.notices, serves, t, &self.doors);
     }
 
@@ -140,6 +182,13 @@ impl Store {
         ensures keeps { KeepsPools self.old self.new }
     {
         let outcome = self.held.collect_call(c);
+        note_references(
+            &mut self.ended,
+            have_port(&outcome),
+            &self.processes,
+            &self.held,
+            &self.ports,
+        );
         self.processes.turn(t, ThreadState::Running);
         outcome
     }
@@ -154,6 +203,7 @@ impl Store {
         ensures state { stored_state self.new ≡ record (stored_state self.old) { notice_list = make_notice (stored_state self.old).notice_list (now (stored_state self.old)) d } }
         ensures latest { self.new.latest ≡ now (stored_state self.old) }
         ensures left { (ds : List ℕ) → CanMake self.old (d ∷ ds) → CanMake self.new ds }
+        ensures served { (touched : Pool) (parked : ThreadSet) (ds : List ℕ) → serves_any (stored_state self.old) ds (pool_of (stored_state self.old) d) ≡ true → CanSettle touched parked ds self.old → CanSettle touched parked ds self.new }
     {
         let pool = self.doors.pool_of(d);
         self.latest = self.events + 1;

@@ -2,14 +2,15 @@
 ghost use Rattle.std.specs.Prelude.{◌≡◌, ◌+◌, ◌<◌, ◌≤◌, ◌++◌, length, min, None, Some, IsOk, OnOk, true, is_some};
 ghost use Rattle.dk_base.specs.declared.answer.Answer.TheVariants.{NewFd, TwoFds};
 ghost use Rattle.dk_base.specs.declared.limits.TheConstants.{EVENTS_MAX, PIPE_MAX, USER_EVENTS_MAX};
-ghost use Rattle.kernel_records.specs.Words.{alert_port, alert_tests, associations_of, events_found, first_found, first_refusal, fitting, free_rows, get_tests, getn_tests, is_ready_for, lowest_free, oldest, read_pipe, read_tests, records_of, send_error, send_event, send_if_allowed, send_tests, take_events, user_events, write_pipe, write_tests};
+ghost use Rattle.kernel_records.specs.Words.{alert_port, alert_tests, associations_of, events_found, first_found, first_refusal, fitting, free_rows, get_tests, getn_tests, is_ready_for, lowest_free, oldest, read_pipe, read_tests, records_of, send_error, send_event, send_if_allowed, send_tests, user_events, write_pipe, write_tests};
 ghost use Rattle.written_kernel.specs.Types.{Pool};
-ghost use Rattle.written_kernel.specs.Words.{create_port, has_port_references, held_in, pipe, port, readers_of, table_of, with_pipes, with_ports, writers_of};
-ghost use Rattle.event_port.specs.Words.{KeepsRoom, KeepsRoomButOne};
+ghost use Rattle.written_kernel.specs.Words.{create_port, has_port_references, held_in, pipe, port, readers_of, table_of, take_found, with_channels, with_pipes, with_ports, writers_of};
+ghost use Rattle.event_port.specs.Words.{KeepsRoom, KeepsRoomAtOthers, KeepsRoomButOne};
 ghost use Rattle.kernel_store.specs.Channels.{HasRoomForEvents, HasRoomForPipe, HasRoomForPort};
 ghost use Rattle.kernel_store.specs.Frames.{KeepsPools};
 ghost use Rattle.kernel_store.specs.Stored.{HasRoom, HasRoomForNotices, stored_state};
 
+use crate::ports::{find_ended, note_port};
 use crate::store::Store;
 use dk_base::error::{Errno, NoMemory};
 use dk_base::list::Room;
@@ -143,7 +144,9 @@ impl Store {
         ensures keeps { KeepsPools self.old self.new }
     {
         let number = self.ports.create(alloc);
-        self.held.insert(p, Obj::Port(number))
+        let fd = self.held.insert(p, Obj::Port(number));
+        self.ended = find_ended(&self.processes, &self.held, &self.ports);
+        fd
     }
 
     /// Whether anything refers to a port.
@@ -188,10 +191,12 @@ impl Store {
         requires allowed { first_refusal (send_tests (port (stored_state self.old) q)) ≡ None }
         ensures state { stored_state self.new ≡ with_ports (stored_state self.old) (send_event (stored_state self.old).channels.ports q events user) }
         ensures rooms { KeepsRoomButOne self.old.ports.rooms self.new.ports.rooms }
+        ensures others { KeepsRoomAtOthers q self.old.ports.rooms self.new.ports.rooms }
         ensures left { self.new.left ≡ self.old.left }
         ensures keeps { KeepsPools self.old self.new }
     {
-        self.ports.send_fitting(q, events, user)
+        self.ports.send_fitting(q, events, user);
+        note_port(&mut self.ended, q, &self.processes, &self.held, &self.ports);
     }
 
     /// A user event is queued at a port that is not full, or else the error is told (port_sendn(3C)). It takes no memory.
@@ -200,10 +205,13 @@ impl Store {
         ensures error { result ≡ send_error (stored_state self.old).channels.ports q }
         ensures state { stored_state self.new ≡ with_ports (stored_state self.old) (send_if_allowed (stored_state self.old).channels.ports q events user) }
         ensures rooms { KeepsRoomButOne self.old.ports.rooms self.new.ports.rooms }
+        ensures others { KeepsRoomAtOthers q self.old.ports.rooms self.new.ports.rooms }
         ensures left { self.new.left ≡ self.old.left }
         ensures keeps { KeepsPools self.old self.new }
     {
-        self.ports.send_if_allowed(q, events, user)
+        let error = self.ports.send_if_allowed(q, events, user);
+        note_port(&mut self.ended, q, &self.processes, &self.held, &self.ports);
+        error
     }
 
     /// Why a port's alert cannot be set (port_alert(3C)): EINVAL for no mode, EBUSY for an update with events in alert mode.
@@ -220,7 +228,8 @@ impl Store {
         ensures left { self.new.left ≡ self.old.left }
         ensures keeps { KeepsPools self.old self.new }
     {
-        self.ports.set_alert(q, events, user)
+        self.ports.set_alert(q, events, user);
+        note_port(&mut self.ended, q, &self.processes, &self.held, &self.ports);
     }
 
     /// Why port_get(3C) gives nothing: ETIME without a wait where a port is not ready for one event.
@@ -238,30 +247,35 @@ impl Store {
         self.ports.getn_refusal(q, max, nget, wait)
     }
 
-    /// The alert of a port, which stays, or its oldest event, which is taken; the port has one of both. It takes no memory.
+    /// The alert of a port, which stays, or its oldest event, which is taken; the port has one of the two. It takes no memory.
+    #[tactic(auto, using(crate::proofs::Retrieved::take_of_none))]
     pub fn take_first(&mut self, q: u32) -> Queued
         requires { is_ready_for 1 (port (stored_state self.old) q) ≡ true }
-        ensures state { stored_state self.new ≡ with_ports (stored_state self.old) (take_events (stored_state self.old).channels.ports q 1) }
+        ensures state { stored_state self.new ≡ with_channels (stored_state self.old) (take_found (stored_state self.old).channels q 1) }
         ensures first { first_found (port (stored_state self.old) q) ≡ Some result }
         ensures rooms { KeepsRoom self.old.ports.rooms self.new.ports.rooms }
         ensures left { self.new.left ≡ self.old.left }
         ensures keeps { KeepsPools self.old self.new }
     {
-        self.ports.take_first(q)
+        let first = self.ports.take_first(q);
+        note_port(&mut self.ended, q, &self.processes, &self.held, &self.ports);
+        first
     }
 
     /// What a get of at most `max` finds at a port is taken, but for an alert, which stays. As it is retrieved it follows what is in
     /// `into`, and the numbers of the associations that queued it what is in `ids`. It takes no memory.
+    #[tactic(auto, using(crate::proofs::Retrieved::take_of_none))]
     pub fn take_found(&mut self, q: u32, max: u32, into: &mut Room<EventRec>, ids: &mut Room<u32>)
         requires record_room { length (events_found max (port (stored_state self.old) q)) ≤ into.old.spare }
         requires number_room { length (events_found max (port (stored_state self.old) q)) ≤ ids.old.spare }
-        ensures state { stored_state self.new ≡ with_ports (stored_state self.old) (take_events (stored_state self.old).channels.ports q max) }
+        ensures state { stored_state self.new ≡ with_channels (stored_state self.old) (take_found (stored_state self.old).channels q max) }
         ensures records { into.new.items ≡ into.old.items ++ records_of (events_found max (port (stored_state self.old) q)) }
         ensures numbers { ids.new.items ≡ ids.old.items ++ associations_of (events_found max (port (stored_state self.old) q)) }
         ensures rooms { KeepsRoom self.old.ports.rooms self.new.ports.rooms }
         ensures left { self.new.left ≡ self.old.left }
         ensures keeps { KeepsPools self.old self.new }
     {
-        self.ports.take_found(q, max, into, ids)
+        self.ports.take_found(q, max, into, ids);
+        note_port(&mut self.ended, q, &self.processes, &self.held, &self.ports);
     }
 }

@@ -10,6 +10,7 @@ ghost use Rattle.kernel_store.specs.Frames.{FillsNoPool, IsRoomFor, KeepsPools};
 ghost use Rattle.kernel_store.specs.Stored.{ArePlaced, AreThere, CanHold, HasRoom, HasRoomForDoor, HasRoomForReferences, stored_state};
 
 use crate::paths::find_all;
+use crate::ports::{has_port, is_port, names_port, note_references};
 use crate::store::Store;
 use dk_base::list::{FdList, ObjList, PassList, Room};
 use dk_base::number::{Fd, PathId, Pid};
@@ -29,7 +30,15 @@ impl Store {
         ensures fd { result ≡ descriptor (free_place (table_of (stored_state self.old) p.0)) }
         ensures keeps { KeepsPools self.old self.new }
     {
-        self.held.insert(p, object)
+        let fd = self.held.insert(p, object);
+        note_references(
+            &mut self.ended,
+            is_port(object),
+            &self.processes,
+            &self.held,
+            &self.ports,
+        );
+        fd
     }
 
     /// Closes a descriptor of a process that names something.
@@ -39,7 +48,15 @@ impl Store {
         ensures state { stored_state self.new ≡ with_table_of (stored_state self.old) p.0 (close_row (table_of (stored_state self.old) p.0) fd.0) }
         ensures keeps { KeepsPools self.old self.new }
     {
-        self.held.close(p, fd)
+        let of_port = names_port(&self.held, p, fd);
+        self.held.close(p, fd);
+        note_references(
+            &mut self.ended,
+            of_port,
+            &self.processes,
+            &self.held,
+            &self.ports,
+        );
     }
 
     /// What a process's descriptors name follows what is in `into`, and those with release are closed. It takes no memory.
@@ -54,7 +71,14 @@ impl Store {
         ensures keeps { KeepsPools self.old self.new }
         ensures kept { (touched : Pool) → HasRoom self.old touched → HasRoom self.new touched }
     {
-        self.held.take_out(p, pass, into)
+        self.held.take_out(p, pass, into);
+        note_references(
+            &mut self.ended,
+            has_port(into.slice()),
+            &self.processes,
+            &self.held,
+            &self.ports,
+        );
     }
 
     /// Objects get the lowest free descriptors of a process that has one for each, in order. It takes no memory.
@@ -66,7 +90,15 @@ impl Store {
         ensures fds { result ≡ new_descriptors (table_of (stored_state self.old) p.0) objects.now }
         ensures keeps { KeepsPools self.old self.new }
     {
-        self.held.install(p, objects, fds)
+        let fds = self.held.install(p, objects, fds);
+        note_references(
+            &mut self.ended,
+            has_port(objects.slice()),
+            &self.processes,
+            &self.held,
+            &self.ports,
+        );
+        fds
     }
 
     /// Attaches a door to a path that has none, which takes no memory.

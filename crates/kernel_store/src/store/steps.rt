@@ -9,7 +9,7 @@ ghost use Rattle.written_kernel.specs.Words.{is_live_process, with_event_counted
 ghost use Rattle.server_pool.specs.Words.{empty_pool};
 ghost use Rattle.unref_notice.specs.Words.{was_shared};
 ghost use Rattle.unref_notice.specs.declared.counts.TheConstants.{STEP_MAX};
-ghost use Rattle.kernel_holdings.specs.Words.{references_of};
+ghost use Rattle.kernel_holdings.specs.Words.{ChangesOnly, references_of};
 ghost use Rattle.unref_notice.specs.declared.notices.TheConstants.{NOTICES_MAX};
 ghost use Rattle.kernel_store.specs.Frames.{FillsNoPool, IsAtRest, KeepsPools};
 ghost use Rattle.kernel_store.specs.Stored.{ArePlaced, HasBegun, HasRoom, HasRoomForNotices, HasWholeStep, has_fallen_since, stored_state};
@@ -40,6 +40,7 @@ fn add_process(
     requires limit { limit ≤ DESCRIPTORS_MAX }
     ensures held { OnOk result (held.new ≡ record (held.old) { tables = held.old.tables ++ empty_table limit ∷ [] }) }
     ensures references { (o : Obj) → references_of held.new o ≤ references_of held.old o }
+    ensures others { ChangesOnly [] held.old held.new }
     ensures processes { OnOk result (processes.new ≡ record (processes.old) { processes = processes.old.processes ++ new_process (length processes.old.processes + 1) limit ∷ [] }) }
     ensures pools { OnOk result (pools.new ≡ record (pools.old) { common = pools.old.common ++ empty_pool ∷ []; spares = pools.old.spares ++ [] ∷ [] }) }
     ensures short { OnOk result (short.new.items ≡ short.old.items ++ pool.Common (pid (length processes.old.processes + 1)) ∷ []) }

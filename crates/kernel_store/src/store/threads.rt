@@ -6,11 +6,13 @@ ghost use Rattle.kernel_records.specs.Words.{bind_thread, close_table, end_owner
 ghost use Rattle.written_kernel.specs.Words.{bound_of, forget, is_running, leave, state_of, table_of, with_state};
 ghost use Rattle.dk_base.specs.declared.limits.TheConstants.{DESCRIPTORS_MAX};
 ghost use Rattle.kernel_holdings.specs.Words.{TRANSIT_MAX};
-ghost use Rattle.kernel_store.specs.Frames.{AreItsDoors, CanLeave, IsDeclared, FillsNoPool, FillsNoQueue, IsActive, KeepsForNotices, KeepsPools};
+ghost use Rattle.kernel_store.specs.Frames.{AreItsDoors, CanLeave, IsDeclared, FillsNoPool, FillsNoQueue, IsActive, KeepsForNotices, KeepsPools, ParksAgain};
 ghost use Rattle.kernel_store.specs.Stored.{stored_state};
 
 use crate::leaving::{held_items, leave_notices};
 use crate::paths::note_turn;
+use crate::ports::{find_ended, note_wait};
+use crate::sets::set_of;
 use crate::store::Store;
 use dk_base::error::NoMemory;
 use dk_base::list::DoorList;
@@ -18,6 +20,7 @@ use dk_base::number::{Pid, Tid};
 use kernel_records::leaving::Leaver;
 use kernel_records::record::ThreadState;
 use std::alloc::Global;
+use thread_set::set::ThreadSet;
 
 impl Store {
     /// A thread turns to another state. In both it takes turns or waits, but for no item and for no call.
@@ -31,6 +34,7 @@ impl Store {
     {
         let _threads = self.processes.thread_count();
         note_turn(&mut self.named, self.held.names(), t, &state);
+        note_wait(&mut self.ended, &self.held, &self.ports, t, &state);
         self.processes.turn(t, state)
     }
 
@@ -66,14 +70,15 @@ impl Store {
     }
 
     /// Callers are interrupted, threads end and doors are lost, of which it is told: the calls and notices that wait no longer leave
-    /// their pools, threads end or are parked again, or learn that their callers have left, and calls and notices end. Want of memory
-    /// leaves all as it was.
-    pub fn leave(&mut self, alloc: Global, who: Leaver) -> Result<(), NoMemory>
+    /// their pools, threads end or are parked again, or learn that their callers have left, and calls and notices end. Answers which
+    /// are parked again. Want of memory leaves all as it was.
+    pub fn leave(&mut self, alloc: Global, who: Leaver) -> Result<ThreadSet, NoMemory>
         requires can { CanLeave self.old }
         requires declared { IsDeclared who (stored_state self.old) }
         ensures state { OnOk result (stored_state self.new ≡ forget (leave (stored_state self.old) (leaving_of (stored_state self.old).process_table (stored_state self.old).doors who))) }
         ensures keeps { OnOk result (KeepsForNotices self.old self.new) }
         ensures queues { FillsNoQueue self.old self.new }
+        ensures parked { IfOk result (λ parked. ParksAgain parked self.old self.new) }
         ensures left { OnOk result (self.old.left ≤ self.new.left + TRANSIT_MAX) }
         ensures as_before { OnErr result (stored_state self.new ≡ stored_state self.old) }
         ensures fills { OnErr result (FillsNoPool self.old self.new) }
@@ -99,7 +104,9 @@ impl Store {
             &self.processes,
             &self.doors,
         );
-        Ok(())
+        let _threads = self.processes.thread_count();
+        self.ended = find_ended(&self.processes, &self.held, &self.ports);
+        Ok(set_of(left.parked.slice()))
     }
 
     /// A process that has no thread left has ended: its descriptors are closed, and its doors are invalid.
@@ -111,5 +118,6 @@ impl Store {
         self.processes.end_process(p);
         self.held.close_all(p);
         self.doors.owner_ended(p);
+        self.ended = find_ended(&self.processes, &self.held, &self.ports);
     }
 }

@@ -26,6 +26,7 @@ invariant_of-self c =
       rw c.push.ensures.items
           (room_door c.self.inside.short.items c.self.inside.pools c.self.invariant.4 after c.create_allowed-number.result (omega (arith, number, c.self.invariant.0.private)) (ap (λ (v : PoolsValue). v.common) c.add_door.ensures)
           (ap (λ (v : PoolsValue). v.private) c.add_door.ensures)),
+      c.self.invariant.5,
     )
 
 pub returns-clause-keeps : goal.returns-clause-keeps

@@ -9,6 +9,7 @@ use Rattle.pool_agreement.proofs.Stacks.{agrees_turn}
 use Rattle.kernel_store.proofs.Acts.{state_is}
 use Rattle.kernel_store.proofs.There.{held_there, there_fewer}
 use Rattle.kernel_holdings.specs.Words.{results_in}
+use Rattle.kernel_store.proofs.Waits.{others_kept, turned_gets_not, waits_changed}
 use Rattle.kernel_store.proofs.store.Store.collect_call.Goals as goal
 
 pub invariant_of-self : goal.invariant_of-self
@@ -21,6 +22,8 @@ invariant_of-self c =
       call_collected c.self.inside.processes c.self.inside.held.calls.tree c.self.invariant.0.calls c.self.invariant.2 c.args.c c.args.t.0 0 calls x.0 x.1,
       knows_changed c.self.inside.processes c.args.t.0 (thread_at_state is.Running) (turned_still is.Running (λ path e. absurd cc)) c.self.invariant.3,
       c.self.invariant.4,
+      waits_changed c.self.inside.processes c.args.t.0 (thread_at_state is.Running) (turned_gets_not is.Running refl)
+          (rw (c.collect_call-outcome.ensures.same, c.collect_call-outcome.ensures.calls 0) at (c.note_references.ensures c.self.inside.held (others_kept c.self.inside.held c.collect_call-outcome.new.self (results_in c.collect_call-outcome.result) c.have_port.result c.have_port.ensures c.collect_call-outcome.ensures.others) c.self.invariant.5)),
     )
 
 pub returns-clause-there : goal.returns-clause-there

@@ -1,9 +1,12 @@
 use Rattle.dk_base.specs.declared.object.Item.TheVariants as item
 use Rattle.kernel_store.proofs.Knowing.{entered_still, knows_changed}
-use Rattle.std.proofs.Common.{◌∙◌}
+use Rattle.std.proofs.Common.{ap, ◌∙◌}
 use Rattle.call_agreement.proofs.Backing.{call_entered, some_call}
 use Rattle.kernel_store.proofs.Acts.{entered, state_is}
 use Rattle.kernel_store.proofs.There.{held_there, there_fewer}
+use Rattle.kernel_store.proofs.Waits.{entered_gets_not, others_kept, waits_changed}
+use Rattle.std.specs.List.{list_any}
+use Rattle.kernel_store.specs.Turning.{is_port}
 use Rattle.kernel_store.proofs.store.Store.enter_call.Goals as goal
 
 pub invariant_of-self : goal.invariant_of-self
@@ -16,6 +19,8 @@ invariant_of-self c =
           (state_is c.self.invariant.0 c.self.view_is c.args.t.0 ∙ c.requires.given) x.0 x.1,
       knows_changed c.self.inside.processes c.args.t.0 _ (entered_still (item.Call c.args.c)) c.self.invariant.3,
       c.self.invariant.4,
+      waits_changed c.self.inside.processes c.args.t.0 _ (entered_gets_not (item.Call c.args.c))
+          (rw (c.enter_call-args.ensures.same, c.enter_call-args.ensures.calls) at (c.note_references.ensures c.self.inside.held (others_kept c.self.inside.held c.enter_call-args.new.self c.enter_call-args.result.objects c.has_port.result (c.has_port.ensures ∙ ap (list_any is_port) c.slice.ensures) c.enter_call-args.ensures.others) c.self.invariant.5)),
     )
 
 pub returns-clause-there : goal.returns-clause-there

@@ -9,10 +9,11 @@ use Rattle.kernel_records.proofs.Places.{change_first-none}
 use Rattle.dk_base.specs.declared.object.Item.TheVariants as item
 use Rattle.kernel_records.specs.Words.{thread_in_invocation}
 use Rattle.call_agreement.proofs.Backing.{noticed_turns}
+use Rattle.kernel_store.proofs.Waits.{entered_gets_not, waits_changed}
 use Rattle.kernel_store.proofs.store.Store.enter_notice.Goals as goal
 
 pub invariant_of-self : goal.invariant_of-self
-invariant_of-self c = (rw c.enter.ensures.list (agrees_enter_notice c.self.invariant.0 c.args.n c.args.t.0), c.self.invariant.1, c.self.invariant.2, c.self.invariant.3, c.self.invariant.4)
+invariant_of-self c = (rw c.enter.ensures.list (agrees_enter_notice c.self.invariant.0 c.args.n c.args.t.0), c.self.invariant.1, c.self.invariant.2, c.self.invariant.3, c.self.invariant.4, c.self.invariant.5)
 
 pub returns-in_default-clause-none : goal.returns-in_default-clause-none
 returns-in_default-clause-none c =
@@ -32,4 +33,5 @@ invariant_of-self-2 c =
           (noticed_turns c.self.inside.processes c.self.inside.held.calls.tree c.self.invariant.0.calls c.self.invariant.2 c.args.t.0 (thread_in_invocation (item.Notice c.args.n)) c.args.n given),
       rw c.enter-2.ensures (knows_changed c.self.inside.processes c.args.t.0 (thread_in_invocation (item.Notice c.args.n)) (entered_still (item.Notice c.args.n)) c.self.invariant.3),
       c.self.invariant.4,
+      rw c.enter-2.ensures (waits_changed c.self.inside.processes c.args.t.0 (thread_in_invocation (item.Notice c.args.n)) (entered_gets_not (item.Notice c.args.n)) c.self.invariant.5),
     )

@@ -8,6 +8,9 @@ use Rattle.kernel_store.proofs.Parking.{can_park, parked_here, parked_keeps, par
 use Rattle.kernel_store.proofs.Acts.{state_is}
 use Rattle.kernel_store.proofs.There.{there_fewer}
 use Rattle.kernel_store.proofs.Short.{parked_room}
+use Rattle.kernel_store.proofs.Waits.{idle_gets_not, others_kept, waits_changed}
+use Rattle.std.specs.List.{list_any}
+use Rattle.kernel_store.specs.Turning.{is_port}
 use Rattle.kernel_store.proofs.store.Store.fail_call.Goals as goal
 
 pub park-requires : goal.park-requires
@@ -17,14 +20,16 @@ pub invariant_of-self : goal.invariant_of-self
 invariant_of-self c =
     let given = c.requires.given in
     let x = some_call _ (rw (← c.self.view_is) at c.requires.there) in
-    rw (c.fail_call.ensures.same, c.fail_call.ensures.calls, c.park.ensures.thread, c.park.ensures.pools) (
+    rw (c.fail_call-objects.ensures.same, c.fail_call-objects.ensures.calls, c.park.ensures.thread, c.park.ensures.pools) (
       agrees_fail (parked_here c.self.invariant.0 c.self.view_is c.args.t.0 c.requires.can_act (ap is_done given) (ap is_idle given) (ap is_dormant given)) c.args.c c.args.t.0,
-      rw (c.fail_call.ensures.same, c.fail_call.ensures.calls) at (there_fewer c.self.inside.doors.items c.self.inside.held c.fail_call.new.self c.self.invariant.1 c.fail_call.ensures.references),
+      rw (c.fail_call-objects.ensures.same, c.fail_call-objects.ensures.calls) at (there_fewer c.self.inside.doors.items c.self.inside.held c.fail_call-objects.new.self c.self.invariant.1 c.fail_call-objects.ensures.references),
       failed_turns c.self.inside.processes c.self.inside.held.calls.tree c.self.invariant.0.calls c.self.invariant.2 c.args.c c.args.t.0
           (state_is c.self.invariant.0 c.self.view_is c.args.t.0 ∙ given) x.0 x.1 (idle_thread (c.self.inside.events + 1)),
       knows_changed c.self.inside.processes c.args.t.0 _ (idle_still _) c.self.invariant.3,
       parked_room c.self.inside.short.items c.self.inside.pools c.self.invariant.4 (own_pool_in c.self.inside.processes c.self.inside.pools.bindings c.args.t.0)
           (record { thread = tid c.args.t.0; pool = own_pool_in c.self.inside.processes c.self.inside.pools.bindings c.args.t.0; since = c.self.inside.events + 1 }),
+      rw (c.fail_call-objects.ensures.same, c.fail_call-objects.ensures.calls, c.park.ensures.thread) at (c.note_references.ensures c.self.inside.held (others_kept c.self.inside.held c.fail_call-objects.new.self c.fail_call-objects.result c.has_port.result (c.has_port.ensures ∙ ap (list_any is_port) c.slice.ensures) c.fail_call-objects.ensures.others)
+          (rw c.park.ensures.thread (waits_changed c.self.inside.processes c.args.t.0 _ (idle_gets_not _) c.self.invariant.5))),
     )
 
 pub returns-clause-keeps : goal.returns-clause-keeps

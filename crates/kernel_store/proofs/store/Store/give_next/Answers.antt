@@ -1,5 +1,5 @@
 use Rattle.kernel_store.proofs.Knowing.{knows_changed, turned_still}
-use Rattle.std.proofs.Common.{ap, sym, subst, ◌∙◌}
+use Rattle.std.proofs.Common.{ap, refl, sym, subst, ◌∙◌}
 use Rattle.server_pool.specs.Words.{match_in}
 use Rattle.pool_agreement.specs.Words.{IsGivenOutIn}
 use Rattle.kernel_store.specs.Stored.{IsAgreed}
@@ -11,6 +11,8 @@ use Rattle.call_agreement.proofs.Backing.{call_given, idle_serves_not, idle_ther
 use Rattle.call_agreement.proofs.Free.{is_thread}
 use Rattle.kernel_store.proofs.There.{there_fewer}
 use Rattle.kernel_store.proofs.Short.{matched_room, room_changed}
+use Rattle.kernel_store.proofs.Waits.{turned_gets_not, waits_changed, waits_kept}
+use Rattle.dk_base.specs.declared.object.Obj.TheVariants as obj
 use Rattle.kernel_store.proofs.store.Store.give_next.Goals as goal
 
 pub returns-in_default-clause-none : goal.returns-in_default-clause-none
@@ -51,6 +53,8 @@ invariant_of-self-in-Call c =
           (call_given table tree c.self.invariant.0.calls c.self.invariant.2 u idle c.in-Call.c x.0 x.1),
       rw c.give.ensures (knows_changed table u (thread_at_state (is.Given c.in-Some.next.item)) (turned_still (is.Given c.in-Some.next.item) (λ path e. absurd cc)) c.self.invariant.3),
       rw c.in-Some.ensures.some (room_changed c.self.inside.short.items c.self.inside.pools c.self.invariant.4 c.args.pool match_in matched_room),
+      rw c.give.ensures (waits_changed table u (thread_at_state (is.Given c.in-Some.next.item)) (turned_gets_not (is.Given c.in-Some.next.item) refl)
+          (rw c.give_call.ensures.same at (waits_kept table c.self.inside.held c.give_call.new.self c.self.inside.ports.ports c.self.inside.ended (λ q. c.give_call.ensures.others (obj.Port q) refl) c.self.invariant.5))),
     )
 
 pub invariant_of-self-in-Notice : goal.invariant_of-self-in-Notice
@@ -64,6 +68,7 @@ invariant_of-self-in-Notice c =
           (thread_at_state (is.Given c.in-Some.next.item))),
       rw c.give.ensures (knows_changed c.self.inside.processes c.in-Some.next.thread.0 (thread_at_state (is.Given c.in-Some.next.item)) (turned_still (is.Given c.in-Some.next.item) (λ path e. absurd cc)) c.self.invariant.3),
       rw c.in-Some.ensures.some (room_changed c.self.inside.short.items c.self.inside.pools c.self.invariant.4 c.args.pool match_in matched_room),
+      rw c.give.ensures (waits_changed c.self.inside.processes c.in-Some.next.thread.0 (thread_at_state (is.Given c.in-Some.next.item)) (turned_gets_not (is.Given c.in-Some.next.item) refl) c.self.invariant.5),
     )
 
 pub returns-in-Call-clause-given : goal.returns-in-Call-clause-given

@@ -1,6 +1,12 @@
 use Rattle.kernel_store.specs.Turning.{KnowsPaths}
 use Rattle.kernel_store.proofs.Knowing.{knows_left}
-use Rattle.std.proofs.Common.{◌≡◌, ◌+◌, ◌++◌, ◌<◌, length, sym, ap, ◌∙◌, subst, subst₂, arith, rules}
+use Rattle.std.proofs.Common.{◌≡◌, ◌+◌, ◌++◌, ◌<◌, ◌==◌, ◌&&◌, ℕ, true, false, not, length, sym, ap, ◌∙◌, subst, subst₂, arith, rules}
+use Rattle.std.specs.List.{list_any}
+use Rattle.dk_base.specs.declared.number.Tid.{Tid}
+use Rattle.thread_set.specs.Words.{has}
+use Rattle.pool_agreement.specs.Words.{IsGivenOut}
+use Rattle.exit_paths.specs.Words.{became_idle, is_idle_at}
+use Rattle.kernel_store.proofs.LeftOut.{has_idle, left_out, told_within}
 use Rattle.call_agreement.proofs.Leaving.{calls_left}
 use Rattle.call_agreement.specs.Words.{AreBacked}
 use Rattle.kernel_holdings.specs.Words.{HoldingsValue}
@@ -19,6 +25,7 @@ use Rattle.kernel_store.proofs.LeftStore.{early, parked_early}
 use Rattle.kernel_store.proofs.Lost.{can_end}
 use Rattle.kernel_store.proofs.There.{there_fewer}
 use Rattle.kernel_store.proofs.Short.{no_less_items, there_before}
+use Rattle.kernel_store.proofs.Waits.{waits_anew}
 use Rattle.kernel_store.proofs.store.Store.leave.Goals as goal
 
 pub leave-requires-clause-can : goal.leave-requires-clause-can
@@ -79,6 +86,7 @@ invariant_of-self-2 c =
       no_less_items s.short.items s.pools c.leave.new.pools c.self.invariant.4
           (there_before s.pools c.leave.new.pools (agreed.common ∙ ap (λ (t : ProcessTable). length t.processes) exited.threads ∙ sym c.self.invariant.0.common) (agreed.private ∙ sym c.self.invariant.0.private))
           exited.items,
+      waits_anew c.leave.new.procs c.leave.new.self s.ports.ports c.find_ended-self-inside.result c.find_ended-self-inside.ensures,
     )
 
 pub returns-clause-state : goal.returns-clause-state
@@ -110,4 +118,30 @@ returns-clause-keeps c =
       notice_room = search rules;
       short_room = search rules;
       items = λ pool. let kept = returns-clause-queues c pool in omega (arith, kept);
+    }
+
+pub set_of-requires : goal.set_of-requires
+set_of-requires c =
+    rw (c.slice-4.ensures, c.in_ok-left.ensures.left.parked) (told_within (became_idle c.self.inside.processes c.leave.new.procs))
+
+pub returns-clause-parked : goal.returns-clause-parked
+returns-clause-parked c =
+    let s = c.self.inside in
+    let doors = s.doors.items in
+    let exited = c.in_ok-left.ensures.left in
+    let l : s.latest < s.events + 1 = early c.self.invariant.0 c.self.view_is c.requires.can.latest in
+    let before = agrees_later c.self.invariant.0 (s.events + 1) (omega arith) in
+    let all : (t : ℕ) → became_idle s.processes c.leave.new.procs t ≡ true → has c.set_of.result t ≡ true =
+    has_idle s.processes c.leave.new.procs c.set_of.result c.thread_count-threads.ensures.few
+    (λ t. c.set_of.ensures t ∙ ap (list_any (λ (u : Tid). u.0 == t)) (c.slice-4.ensures ∙ exited.parked)) in
+    record {
+      idle =
+          λ t e f.
+          let was : is_idle_at s.processes t ≡ false = ap (λ (v : StoreValue). is_idle_at v.processes t) c.self.view_is ∙ e in
+          all t (ap (λ b. not b && is_idle_at c.leave.new.procs t) was ∙ f);
+      given_out =
+          λ out pool.
+          left_out (leaving_of s.processes doors c.args.who) (s.events + 1) (s.events + 1) s.processes c.leave.new.procs doors s.held.calls.tree
+          c.leave.new.self.calls.tree s.notices.list s.pools c.leave.new.pools before (exited.agreed s.notices.list before) exited.threads exited.calls
+          exited.bindings c.set_of.result all (subst (λ (v : StoreValue). IsGivenOut v.pools) (sym c.self.view_is) out) pool;
     }

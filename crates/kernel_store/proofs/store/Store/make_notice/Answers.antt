@@ -7,9 +7,11 @@ use Rattle.server_pool.specs.Words.{PoolsValue, change_pool, enqueue_in, pool_at
 use Rattle.pool_agreement.specs.Words.{Agrees}
 use Rattle.pool_agreement.proofs.Noticing.{agrees_make}
 use Rattle.kernel_store.specs.contracts.store.Store.{the_view}
+use Rattle.written_kernel.specs.Words.{pool_of}
+use Rattle.kernel_store.specs.Frames.{CanSettle, serves_any}
 use Rattle.kernel_store.specs.Stored.{ArePlaced, CanMake, StoreValue, stored_state}
 use Rattle.kernel_store.proofs.Made.{served_there}
-use Rattle.kernel_store.proofs.MadeNotice.{can_make_others, listing_left, number_left, place_left, record_room}
+use Rattle.kernel_store.proofs.MadeNotice.{can_make_others, listing_left, number_left, place_left, record_room, served_made}
 use Rattle.kernel_store.proofs.Short.{room_filled}
 use Rattle.kernel_store.proofs.store.Store.make_notice.Goals as goal
 
@@ -51,6 +53,7 @@ invariant_of-self c =
       c.self.invariant.2,
       c.self.invariant.3,
       rw (c.push.ensures.items, c.enqueue_fitting.ensures) (room_filled c.self.inside.short.items c.self.inside.pools c.self.invariant.4 pool (record { item = item.Notice c.make-number.result; made = now; door = c.args.d })),
+      c.self.invariant.5,
     )
 
 pub returns-clause-left : goal.returns-clause-left
@@ -62,3 +65,12 @@ returns-clause-left c = λ ds can.
     can_make_others (the_view s) (record (the_view s) { pools = c.enqueue_fitting.new.self; notices = c.make-number.new.self; latest = s.events + 1; short_room = c.push.new.self.spare }) c.args.d ds
     pool w c.pool_of-pool.ensures c.enqueue_fitting.ensures refl c.make-number.ensures.spare (ap (λ (l : NoticeList). l.made) c.make-number.ensures.list) c.push.ensures.spare
     (subst (λ (x : StoreValue). CanMake x (c.args.d ∷ ds)) (sym c.self.view_is) can)
+
+pub returns-clause-served : goal.returns-clause-served
+returns-clause-served c = λ touched parked ds served can.
+    let s = c.self.inside in
+    let w : Waiting = record { item = item.Notice c.make-number.result; made = s.events + 1; door = c.args.d } in
+    served_made (the_view s) c.make-number.new.self c.enqueue_fitting.new.self (s.events + 1) c.push.new.self.spare c.args.d c.pool_of-pool.result w touched parked ds
+    c.pool_of-pool.ensures c.enqueue_fitting.ensures
+    (subst (λ (x : StoreValue). serves_any (stored_state x) ds (pool_of (stored_state x) c.args.d) ≡ true) (sym c.self.view_is) served)
+    (subst (CanSettle touched parked ds) (sym c.self.view_is) can)

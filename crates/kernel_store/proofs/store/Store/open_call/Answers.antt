@@ -19,6 +19,9 @@ use Rattle.kernel_store.proofs.ItemRoom.{room_enqueued}
 use Rattle.kernel_store.proofs.Made.{given_out_elsewhere, not_too_many, served_there}
 use Rattle.kernel_store.proofs.There.{there_more}
 use Rattle.kernel_store.proofs.Short.{room_filled}
+use Rattle.kernel_store.proofs.Waits.{others_kept, turned_gets_not, waits_changed}
+use Rattle.std.specs.List.{list_any}
+use Rattle.kernel_store.specs.Turning.{is_port}
 use Rattle.kernel_store.proofs.store.Store.open_call.Goals as goal
 
 pub open_call-call-requires-clause-thread : goal.open_call-call-requires-clause-thread
@@ -83,6 +86,8 @@ invariant_of-self c =
           (call_opened s.processes tree c.self.invariant.0.calls c.self.invariant.2 c.args.t.0 r running refl refl refl),
       knows_changed s.processes c.args.t.0 (thread_at_state (is.Calling c.open_call-call.result)) (turned_still (is.Calling c.open_call-call.result) (λ path e. absurd cc)) c.self.invariant.3,
       rw (c.push.ensures.items, c.enqueue_fitting.ensures) (room_filled c.self.inside.short.items c.self.inside.pools c.self.invariant.4 pool (waiting_call r)),
+      waits_changed s.processes c.args.t.0 (thread_at_state (is.Calling c.open_call-call.result)) (turned_gets_not (is.Calling c.open_call-call.result) refl)
+          (rw c.open_call-call.ensures.same at (c.note_references.ensures s.held (others_kept s.held c.open_call-call.new.self c.args.args.objects c.has_port-of_port.result (c.has_port-of_port.ensures ∙ ap (list_any is_port) c.slice.ensures) c.open_call-call.ensures.others) c.self.invariant.5)),
     )
 
 pub returns-clause-keeps : goal.returns-clause-keeps

@@ -40,6 +40,7 @@ invariant_of-self-2 c =
       c.self.invariant.3,
       rw c.reserve-3.ensures.items (no_less_room c.self.inside.short.items c.reserve_door.new.self c.room.new.self (rw c.reserve_door.ensures.same (room_doors c.self.inside.short.items c.self.inside.pools c.self.invariant.4 c.reserve_door.new.self.door_room)) (room_made c.reserve_door.new.self c.room.new.self c.args.touched (thread_room_in c.room.new.self c.args.touched)
           (item_room_in c.room.new.self c.args.touched) c.room.ensures.same c.room.ensures.threads c.room.ensures.items)),
+      c.self.invariant.5,
     )))
 
 pub returns-clause-keeps : goal.returns-clause-keeps

@@ -14,6 +14,9 @@ use Rattle.kernel_store.specs.Stored.{StoreValue, stored_state}
 use Rattle.kernel_store.proofs.HeldNotices.{entered_held}
 use Rattle.kernel_store.proofs.There.{there_more}
 use Rattle.kernel_store.proofs.Short.{parked_room}
+use Rattle.kernel_store.proofs.Waits.{idle_gets_not, others_kept, waits_changed}
+use Rattle.std.specs.List.{list_any}
+use Rattle.kernel_store.specs.Turning.{is_port}
 use Rattle.kernel_store.proofs.store.Store.return_call.Goals as goal
 
 pub park-requires : goal.park-requires
@@ -44,6 +47,8 @@ invariant_of-self c =
       knows_changed c.self.inside.processes c.args.t.0 _ (idle_still _) c.self.invariant.3,
       parked_room c.self.inside.short.items c.self.inside.pools c.self.invariant.4 (own_pool_in c.self.inside.processes c.self.inside.pools.bindings c.args.t.0)
           (record { thread = tid c.args.t.0; pool = own_pool_in c.self.inside.processes c.self.inside.pools.bindings c.args.t.0; since = c.self.inside.events + 1 }),
+      rw (c.give_back.ensures.same, c.give_back.ensures.calls, c.park.ensures.thread) at (c.note_references.ensures c.self.inside.held (others_kept c.self.inside.held c.give_back.new.self c.args.objects c.has_port-of_port.result (c.has_port-of_port.ensures ∙ ap (list_any is_port) c.slice.ensures) c.give_back.ensures.others)
+          (rw c.park.ensures.thread (waits_changed c.self.inside.processes c.args.t.0 _ (idle_gets_not _) c.self.invariant.5))),
     )
 
 pub returns-clause-keeps : goal.returns-clause-keeps

@@ -13,6 +13,9 @@ use Rattle.kernel_store.specs.Stored.{StoreValue, stored_state}
 use Rattle.kernel_store.proofs.HeldNotices.{entered_held}
 use Rattle.kernel_store.proofs.There.{there_more}
 use Rattle.kernel_store.proofs.Short.{room_bound}
+use Rattle.kernel_store.proofs.Waits.{others_kept, outside_gets_so, waits_changed}
+use Rattle.std.specs.List.{list_any}
+use Rattle.kernel_store.specs.Turning.{is_port}
 use Rattle.kernel_store.proofs.store.Store.return_unbound.Goals as goal
 
 pub end_notice-requires-clause-entered : goal.end_notice-requires-clause-entered
@@ -44,6 +47,8 @@ invariant_of-self c =
           (ap is_running_state (state_is c.self.invariant.0 c.self.view_is c.args.t.0) ∙ c.requires.running) c.args.bytes c.args.objects thread_outside)),
       rw c.end_invocation.ensures (knows_changed c.self.inside.processes c.args.t.0 thread_outside outside_still c.self.invariant.3),
       rw c.drop_binding.ensures (room_bound c.self.inside.short.items c.self.inside.pools c.self.invariant.4 (unbind_thread c.self.inside.pools.bindings c.args.t.0)),
+      rw c.give_back.ensures.same at (c.note_references.ensures c.self.inside.held (others_kept c.self.inside.held c.give_back.new.self c.args.objects c.has_port-of_port.result (c.has_port-of_port.ensures ∙ ap (list_any is_port) c.slice.ensures) c.give_back.ensures.others)
+          (rw c.end_invocation.ensures (waits_changed c.self.inside.processes c.args.t.0 thread_outside outside_gets_so c.self.invariant.5))),
     )
 
 pub returns-clause-keeps : goal.returns-clause-keeps

@@ -14,4 +14,4 @@ pub invariant_of-self : goal.invariant_of-self
 invariant_of-self c =
     let agreed = agrees_revoke c.self.invariant.0 c.args.d in
     rw c.revoke_allowed.ensures
-    (agreed, there_doors c.self.inside.doors.items _ c.self.inside.held (omega (arith, sym c.self.invariant.0.private ∙ agreed.private)) c.self.invariant.1, c.self.invariant.2, c.self.invariant.3, c.self.invariant.4)
+    (agreed, there_doors c.self.inside.doors.items _ c.self.inside.held (omega (arith, sym c.self.invariant.0.private ∙ agreed.private)) c.self.invariant.1, c.self.invariant.2, c.self.invariant.3, c.self.invariant.4, c.self.invariant.5)

@@ -7,6 +7,7 @@ use Rattle.thread_set.specs.Words.{has}
 use Rattle.kernel_store.specs.Stored.{StoreValue}
 use Rattle.kernel_store.specs.Turning.{has_ended_at, is_found_at}
 use Rattle.kernel_store.proofs.Turns.{found_is, held_of, turns_are}
+use Rattle.kernel_store.proofs.Waits.{wait_is}
 use Rattle.kernel_store.proofs.store.Store.runnable.Goals as goal
 
 pub returns : goal.returns
@@ -18,5 +19,7 @@ returns c = λ t.
     (c.and-found.ensures t ∙ ap (λ b. b && has s.named t) (c.awaiting.ensures t)
     ∙ found_is s.held.names.names (has s.named t) (state_in (thread_at s.processes t)) (c.self.invariant.3.known t)
     ∙ ap (λ (v : StoreValue). is_found_at v.names.names (state_in (thread_at v.processes t))) c.self.view_is)
-    (c.find_ended-ended.ensures t ∙ ap (λ (v : StoreValue). has_ended_at (held_of v) v.ports.ports (state_in (thread_at v.processes t))) c.self.view_is)
+    (c.and-ended.ensures t ∙ ap (λ b. b && has s.ended t) (c.getting.ensures t)
+    ∙ wait_is s.held.tables s.held.names.names s.held.calls.tree.calls s.ports.ports (has s.ended t) (state_in (thread_at s.processes t)) (c.self.invariant.5.known t)
+    ∙ ap (λ (v : StoreValue). has_ended_at (held_of v) v.ports.ports (state_in (thread_at v.processes t))) c.self.view_is)
     (c.or.ensures t) (c.or-2.ensures t) (c.or-3.ensures t)

@@ -16,4 +16,4 @@ pub invariant_of-self : goal.invariant_of-self
 invariant_of-self c =
     let agreed = agrees_param c.self.invariant.0 c.args.d c.args.param c.args.value in
     rw c.set_param_allowed.ensures
-    (agreed, there_doors c.self.inside.doors.items _ c.self.inside.held (omega (arith, sym c.self.invariant.0.private ∙ agreed.private)) c.self.invariant.1, c.self.invariant.2, c.self.invariant.3, c.self.invariant.4)
+    (agreed, there_doors c.self.inside.doors.items _ c.self.inside.held (omega (arith, sym c.self.invariant.0.private ∙ agreed.private)) c.self.invariant.1, c.self.invariant.2, c.self.invariant.3, c.self.invariant.4, c.self.invariant.5)

@@ -1,15 +1,16 @@
 use Rattle.kernel_store.proofs.Knowing.{knows_changed, turned_still}
-use Rattle.std.proofs.Common.{true, ap, ◌∙◌}
-use Rattle.written_kernel.specs.Words.{start_one}
+use Rattle.std.proofs.Common.{true, ap, length, refl, subst, ◌∙◌}
+use Rattle.written_kernel.specs.Words.{State, start_one}
+use Rattle.kernel_store.proofs.AnyOrder.{processes_started}
 use Rattle.server_pool.specs.Words.{change_at_number, change_spares, without_lowest}
-use Rattle.kernel_store.specs.Stored.{stored_state}
+use Rattle.kernel_store.specs.Stored.{IsAgreed, stored_state}
 use Rattle.kernel_store.specs.contracts.store.Store.{the_view}
 use Rattle.kernel_store.proofs.Spares.{agrees_started, agrees_unstarted, given_out-spares, spare_is_dormant, spare_not_done, spare_not_idle, state_started, state_unstarted}
-use Rattle.kernel_store.proofs.GivingAll.{picks_kept}
 use Rattle.kernel_records.specs.declared.record.ThreadState.TheVariants as is
 use Rattle.kernel_records.specs.Words.{thread_at_state}
 use Rattle.call_agreement.proofs.Backing.{dormant_turns}
 use Rattle.kernel_store.proofs.Short.{room_spares}
+use Rattle.kernel_store.proofs.Waits.{turned_gets_not, waits_changed}
 use Rattle.kernel_store.proofs.store.Store.start_spare.Goals as goal
 
 pub turn-requires-clause-not_done : goal.turn-requires-clause-not_done
@@ -29,6 +30,7 @@ invariant_of-self c =
       rw c.turn.ensures (dormant_turns c.self.inside.processes c.self.inside.held.calls.tree c.self.invariant.0.calls c.self.invariant.2 c.in-Some.t.0 (thread_at_state is.Running) dormant),
       rw c.turn.ensures (knows_changed c.self.inside.processes c.in-Some.t.0 (thread_at_state is.Running) (turned_still is.Running (λ path e. absurd cc)) c.self.invariant.3),
       rw c.take_spare.ensures.left (room_spares c.self.inside.short.items c.self.inside.pools c.self.invariant.4 (change_at_number c.self.inside.pools.spares c.args.p.0 without_lowest)),
+      rw c.turn.ensures (waits_changed c.self.inside.processes c.in-Some.t.0 (thread_at_state is.Running) (turned_gets_not is.Running refl) c.self.invariant.5),
     )
 
 pub invariant_of-self-in_default : goal.invariant_of-self-in_default
@@ -39,6 +41,7 @@ invariant_of-self-in_default c = (
   c.self.invariant.2,
   c.self.invariant.3,
   rw c.take_spare.ensures.left (room_spares c.self.inside.short.items c.self.inside.pools c.self.invariant.4 (change_at_number c.self.inside.pools.spares c.args.p.0 without_lowest)),
+  c.self.invariant.5,
 )
 
 pub returns-in-Some-clause-state : goal.returns-in-Some-clause-state
@@ -63,9 +66,16 @@ returns-in_default-clause-given_out c =
     given_out-spares c.args.self.now.pools c.take_spare.new.self c.args.p.0
     (c.take_spare.ensures.left ∙ ap (λ s. change_spares s.pools c.args.p.0 without_lowest) c.self.view_is)
 
-pub returns-in-Some-clause-picks : goal.returns-in-Some-clause-picks
-returns-in-Some-clause-picks c pool =
-    picks_kept c.self.invariant.0 c.self.view_is (record (the_view c.self.inside) { processes = c.turn.new.self; pools = c.take_spare.new.self })
-    (agrees_started (the_view c.self.inside) c.self.invariant.0 c.args.p.0 c.in-Some.t.0 c.in-Some.ensures.result c.turn.new.self
-    c.take_spare.new.self c.turn.ensures c.take_spare.ensures.left)
-    c.args.p.0 c.take_spare.ensures.left pool
+pub returns-in-Some-clause-processes : goal.returns-in-Some-clause-processes
+returns-in-Some-clause-processes c =
+    ap (λ (m : State). length m.process_table.processes) (returns-in-Some-clause-state c) ∙ processes_started (stored_state c.args.self.now) c.args.p.0
+
+pub returns-in_default-clause-processes : goal.returns-in_default-clause-processes
+returns-in_default-clause-processes c =
+    ap (λ (m : State). length m.process_table.processes) (returns-in_default-clause-state c) ∙ processes_started (stored_state c.args.self.now) c.args.p.0
+
+pub returns-in-Some-clause-agreed : goal.returns-in-Some-clause-agreed
+returns-in-Some-clause-agreed c = subst IsAgreed c.self.view_is c.self.invariant.0
+
+pub returns-in_default-clause-agreed : goal.returns-in_default-clause-agreed
+returns-in_default-clause-agreed c = subst IsAgreed c.self.view_is c.self.invariant.0

@@ -12,6 +12,7 @@ invariant_of-self c = (
   c.self.invariant.2,
   c.self.invariant.3,
   rw c.drop_binding.ensures (room_bound c.self.inside.short.items c.self.inside.pools c.self.invariant.4 (unbind_thread c.self.inside.pools.bindings c.args.t.0)),
+  c.self.invariant.5,
 )
 
 pub returns-clause-keeps : goal.returns-clause-keeps

@@ -1,5 +1,5 @@
 use Rattle.kernel_store.specs.Turning.{KnowsPaths}
-use Rattle.std.proofs.Common.{rules, ◌+◌, ◌∷◌, [], ap, arith, length, length-append, sym, subst}
+use Rattle.std.proofs.Common.{rules, ◌+◌, ◌∷◌, [], ap, arith, length, length-append, refl, sym, subst}
 use Rattle.kernel_records.specs.Words.{ProcessTable, new_process, pid}
 use Rattle.server_pool.specs.Words.{PoolsValue}
 use Rattle.pool_agreement.specs.Words.{Agrees, IsGivenOut}
@@ -10,6 +10,8 @@ use Rattle.call_agreement.specs.Words.{AreBacked}
 use Rattle.call_agreement.proofs.Backing.{processes_changed}
 use Rattle.kernel_store.proofs.There.{there_fewer}
 use Rattle.kernel_store.proofs.Short.{room_process}
+use Rattle.kernel_store.proofs.Waits.{waits_kept}
+use Rattle.dk_base.specs.declared.object.Obj.TheVariants as obj
 use Rattle.kernel_store.proofs.store.Store.with_process.Goals as goal
 
 pub invariant_of-self : goal.invariant_of-self
@@ -30,6 +32,8 @@ invariant_of-self c =
       rw c.in_ok-add_process.ensures.short
           (room_process c.self.inside.short.items c.self.inside.pools c.self.invariant.4 after (pid (length before.processes + 1)) (omega (arith, ap (λ (t : ProcessTable). length t.processes) made, length-append before.processes (new_process (length before.processes + 1) c.args.limit ∷ []), c.self.invariant.0.common)) (ap (λ (v : PoolsValue). v.private) pools)
           (ap (λ (v : PoolsValue). v.common) pools)),
+      rw c.in_ok-add_process.ensures.held at (waits_kept c.add_process.new.processes c.self.inside.held c.add_process.new.held c.self.inside.ports.ports c.self.inside.ended (λ q. c.add_process.ensures.others (obj.Port q) refl)
+          (rw made (record { known = c.self.invariant.5.known }))),
     )
 
 pub returns-clause-rest : goal.returns-clause-rest
