@@ -3,7 +3,7 @@ use Rattle.std.proofs.Common.{◌≡◌, ℕ, ◌+◌, ◌≤◌, Option, None, 
 use Rattle.written_kernel.specs.Types.{Answer, Request, Stepped}
 use Rattle.written_kernel.specs.Words.{IsStep, StandsFor, State, act, enter, forget, give, has_first_common_door, process_of, settle, step, with_event_counted, woken_threads}
 use Rattle.pool_agreement.specs.Words.{is_this}
-use Rattle.kernel_store.specs.Words.{ArePlaced, FillsNoPool, HasBegun, IsAtRest, IsInEvent, IsRoomFor, KeepsForNotices, StoreValue, can_turn, stored_state}
+use Rattle.kernel_store.specs.Words.{ArePlaced, FillsNoPool, HasBegun, IsAtRest, IsInEvent, KeepsForNotices, StoreValue, can_turn, stored_state}
 use Rattle.kernel_core.specs.declared.event.Parts.{Parts}
 use Rattle.kernel_core.specs.declared.event.Taken.{Taken}
 use Rattle.kernel_core.specs.Acted.{CanNoticeAfter, CanStep, HasActed}
@@ -119,9 +119,6 @@ module _ {start before after : Parts} {t : ℕ} {q : Option Request} {taken : Ta
         made = ap made h.acted ∙ made-act m t q ∙ ap made (sym h.same);
         keeps = h.keeps;
       }
-
-  pub flags_acted : IsRoomFor (length after.store.processes.processes) taken.had
-  flags_acted = record { empty = h.ready.flags.empty; spare = omega (arith, processes_acted, h.ready.flags.spare) }
 
   -- and what is there after it
 

@@ -5,7 +5,7 @@ use Rattle.std.proofs.lemmas.Bool.{ltb-false, or_parts}
 use Rattle.std.proofs.lemmas.List.{length-map, length-take}
 use Rattle.written_kernel.proofs.Moves.{IsPassing, Moves, act_moves, act_result}
 use Rattle.written_kernel.proofs.Moves.IsMaking.{makes_pipe, makes_port}
-use Rattle.written_kernel.proofs.Moves.IsPassing.{alerts, gets, gets_many, reads, sends, sends_each, writes}
+use Rattle.written_kernel.proofs.Moves.IsPassing.{alerts, associates, dissociates, gets, gets_many, reads, sends, sends_each, writes}
 use Rattle.written_kernel.proofs.Moves.IsSaid.{refused}
 use Rattle.written_kernel.proofs.Moves.IsRow.{closes}
 use Rattle.written_kernel.proofs.Moves.IsTurn.{awaits, works}
@@ -19,7 +19,7 @@ use Rattle.kernel_records.specs.declared.record.CallStage.TheVariants as stage
 use Rattle.kernel_records.specs.declared.port.Alert.{Alert}
 use Rattle.dk_base.specs.ByNumber.{at_number}
 use Rattle.kernel_records.specs.Words.{CallTree, NoticeList, Port, ProcessTable, events_found, first_found, found_at, record_of, records_of, at_stage, change_first, change_thread, change_thread_in, end_notice, enter_notice, first_refusal, idle_thread, insert_row, is_client_call_of, is_given_as, is_live_call, is_queued_as, is_to_collect_as, left_call, new_descriptors, object_passed, objects_passed, process_end, return_call, revocation, revoked_door, thread_at, thread_at_state, thread_in_invocation, thread_outside, tid, unbind_thread, with_owner_ended, without_arguments_at, Leaving, Test, change_door, change_door_in, refused_where, with_param, has_refused_size, has_too_many, is_valid_in, refuses_descriptors_in}
-use Rattle.written_kernel.specs.Words.{ActResult, Channels, IsFit, StandsFor, State, after_sending, errors_of_sending, event_answer, found_answer, held_in, pipe_at, port, port_at, act, call, call_tests, client_call, collect, collect_answer, collect_answer_in, create, door_named, find_call, fail_return, give_one, has_lost_door, has_room, is_due, leave, leave_process, new_call, now, object_at, objects_collected_in, pass_tests, pick, pool_of, process_of, return_tests, revoke, settle, state_of, table_of, tables_after_collect, tables_after_pass, tables_with, with_state, set_parameter, door_at, door_of, pool_tests}
+use Rattle.written_kernel.specs.Words.{ActResult, Channels, IsFit, StandsFor, State, after_sending, errors_of_sending, event_answer, found_answer, held_in, pipe_at, port, port_at, act, call, call_tests, client_call, collect, collect_answer, collect_answer_in, create, door_named, find_call, fail_return, give_one, has_lost_door, has_room, is_due, leave, leave_process, new_call, now, object_at, objects_collected_in, pass_tests, pick, pool_of, process_of, return_tests, revoke, settle, state_of, table_of, tables_after_collect, tables_after_pass, tables_with, tell, with_state, set_parameter, door_at, door_of, pool_tests}
 use Rattle.kernel_records.proofs.Lists.{length-with_at_number}
 use Rattle.kernel_records.proofs.Places.{length-change_first}
 use Rattle.written_kernel.proofs.CallLists.{IsOver, left_call-over}
@@ -454,6 +454,8 @@ passed-small m t r c a (sends fd events user f) fit = tt
 passed-small m t r c a (sends_each fds events user) fit =
     length-errors m.channels.ports (map (object_at m (process_of m t)) fds) events user ∙ length-map fds (object_at m (process_of m t))
 passed-small m t r c a (alerts fd mode events user f) fit = tt
+passed-small m t r c a (associates port object events user f) fit = tt
+passed-small m t r c a (dissociates port object f) fit = tt
 passed-small m t r c a (gets fd wait f e) fit = found-small m (Some r) (port_at m (process_of m t) fd) 1 true (λ more. cc)
 passed-small m t r c a (gets_many fd max nget wait f some e) fit = found-small m (Some r) (port_at m (process_of m t) fd) max false (λ more. fit)
 
@@ -557,7 +559,7 @@ give_one-grows m (item.Notice n) u =
 
 pub settle-grows : (before m : State) → Grows 0 m (settle before m)
 settle-grows before m =
-    settle-all (Grows 0 m) before (record { makes = makes; fails = fails; gives = gives; starts = starts }) m (grows_same 0 m)
+    settle-all (Grows 0 m) before (record { makes = makes; fails = fails; gives = gives; starts = starts }) tells m (grows_same 0 m)
   where
     makes : (n : State) (d : ℕ) → is_due before n d (door_of n d) ≡ true → Grows 0 m n → Grows 0 m (with_notice_of n d)
     makes n d e g = noticed_otherwise-grows 0 m n (with_notice_of n d).notice_list g
@@ -570,3 +572,6 @@ settle-grows before m =
 
     starts : (n : State) (t : ℕ) → state_of n t ≡ is.Dormant → Grows 0 m n → Grows 0 m (with_state n t is.Running)
     starts n t e g = grows_then 0 0 0 m n (with_state n t is.Running) (omega arith) g (thread-grows 0 n t (thread_at_state is.Running))
+
+    tells : (n : State) → Grows 0 m n → Grows 0 m (tell n)
+    tells n g = channels_otherwise-grow 0 m n (tell n).channels g

@@ -1,6 +1,7 @@
 pub mod Live
 pub mod Idle
 pub mod Grows
+pub mod Associated
 pub mod Sending
 pub mod Steps
 pub mod Readers
@@ -15,7 +16,10 @@ pub mod Watching
 pub mod Making
 pub mod Acted
 pub mod Numbering
+pub mod Telling
 pub mod Finishing
 mod Told
 pub mod Turning
 mod Served
+mod Losing
+mod CanSettle

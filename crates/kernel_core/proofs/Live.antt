@@ -337,6 +337,7 @@ settle_past before m h =
       gives = λ n w x e l. record { calls = give_one_live n w.item x.thread.0 l.calls; notices = give_kept n w.item x.thread.0 l.notices };
       starts = λ n t e l. record { calls = l.calls; notices = l.notices };
     })
+    (λ n l. record { calls = l.calls; notices = l.notices })
     m h
   where
     give_kept : (n : State) (i : Item) (u : ℕ) → HasKept n → AreKept (give_one n i u).doors (give_one n i u).notice_list.notices

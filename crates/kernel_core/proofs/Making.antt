@@ -1,11 +1,10 @@
 -- Notices that are made one by one: where the doors, processes and notices are, and the room that is left.
-use Rattle.std.proofs.Common.{◌≡◌, ℕ, zero, suc, ◌+◌, Bool, true, false, if◌then◌else◌, true≢false, List, [], ◌∷◌, ◌++◌, Option, None, Some, is_some, slice_get, refl, sym, subst}
+use Rattle.std.proofs.Common.{◌≡◌, ℕ, zero, suc, ◌+◌, true, true≢false, List, [], ◌∷◌, ◌++◌, Option, None, Some, is_some, slice_get, refl, sym, subst}
 use Rattle.written_kernel.specs.Types.{Door, Notice}
 use Rattle.kernel_records.specs.Words.{new_notice}
 use Rattle.written_kernel.specs.Words.{State, door_of, now}
 use Rattle.written_kernel.proofs.Settling.{with_notice_of}
 use Rattle.kernel_store.specs.Words.{ArePlaced, may_have_notice_in}
-use Rattle.kernel_core.specs.Watched.{make_of}
 
 -- places
 
@@ -31,18 +30,6 @@ placed-with_notice_of m d there h =
           pushed_is m.notice_list.notices (new_notice (m.notice_list.made + 1) (now m) d) (λ n. is_some (door_of m n.door) ≡ true) there
           h.notice_door;
     }
-
--- what is made changes notices alone
-
-pub make_of-alone : (m : State) (ds : List ℕ) → make_of m ds ≡ record m { notice_list = (make_of m ds).notice_list }
-make_of-alone m [] = refl
-make_of-alone m (d ∷ ds) = go (may_have_notice_in m d (door_of m d)) (λ k. make_of-alone k ds)
-  where
-    go :
-        (b : Bool) → ((k : State) → make_of k ds ≡ record k { notice_list = (make_of k ds).notice_list }) →
-        make_of (if b then with_notice_of m d else m) ds ≡ record m { notice_list = (make_of (if b then with_notice_of m d else m) ds).notice_list }
-    go true ih = ih (with_notice_of m d)
-    go false ih = ih m
 
 -- a door is there of which a notice may be made
 pub may_have_there : (m : State) (d : ℕ) (o : Option Door) → may_have_notice_in m d o ≡ true → is_some o ≡ true

@@ -1,5 +1,5 @@
 -- How many of the doors that fall in an event one pool serves: a private pool serves its own door alone.
-use Rattle.std.proofs.Common.{◌≡◌, ℕ, suc, ◌+◌, ◌<◌, ◌≤◌, Bool, true, false, cond, if◌then◌else◌, List, [], ◌∷◌, Option, None, Some, count_by, filter, length, map, slice_get, refl, sym, subst, ◌∙◌, arith}
+use Rattle.std.proofs.Common.{◌≡◌, ℕ, suc, ◌+◌, ◌<◌, ◌≤◌, Bool, true, false, cond, if◌then◌else◌, List, [], ◌∷◌, Option, None, Some, count_by, drop, filter, length, map, slice_get, add-one, ap, refl, sym, subst, ◌∙◌, arith}
 use Rattle.std.specs.List.{AllByRecursion}
 use Rattle.std.proofs.lemmas.List.Sums.{count_by-le-length, sum_by-cons}
 use Rattle.dk_base.specs.ByNumber.{at_number}
@@ -8,8 +8,12 @@ use Rattle.kernel_records.specs.Words.{AreNumbered, is_notice_door, is_pool, is_
 use Rattle.kernel_records.proofs.Lists.{at_number-suc}
 use Rattle.written_kernel.specs.Types.{Door, Pool}
 use Rattle.server_pool.specs.Words.{IsAscending}
-use Rattle.pool_agreement.proofs.Readers.{same_number}
-use Rattle.kernel_store.specs.Words.{items_for}
+use Rattle.pool_agreement.proofs.Readers.{is_pool-self, same_number}
+use Rattle.std.proofs.Math.ListN.{get_or}
+use Rattle.std.proofs.Math.Seq.{drop-cons}
+use Rattle.std.proofs.lemmas.List.Folds.{list_any_at}
+use Rattle.written_kernel.specs.Words.{State, pool_of}
+use Rattle.kernel_store.specs.Words.{items_for, serves_any}
 
 none_of : (p : ℕ → Bool) (k : ℕ) (xs : List ℕ) → ((d : ℕ) → p d ≡ true → d ≡ k) → AllByRecursion (λ d. k < d) xs → count_by p xs ≡ 0
 none_of p k [] only a = refl
@@ -86,3 +90,10 @@ module _ (doors : List Door) (numbered : AreNumbered doors) where
   few_served (Private k) ds ascends few =
       let l : count_by (λ d. is_pool (Private k) (pool_in (at_number doors d))) ds ≤ 1 =
       one_of (λ d. is_pool (Private k) (pool_in (at_number doors d))) k ds (serves_one k) ascends in omega (arith, l)
+
+-- the door of a place in a list is among those that its pool serves
+pub serves_place : (m : State) (ds : List ℕ) (i : ℕ) → i < length ds → serves_any m ds (pool_of m (get_or ds i 0)) ≡ true
+serves_place m ds i l = list_any_at (λ d. is_pool (pool_of m d) (pool_of m (get_or ds i 0))) ds i 0 l (is_pool-self (pool_of m (get_or ds i 0)))
+
+pub from_place : (ds : List ℕ) (i : ℕ) → i < length ds → drop i ds ≡ get_or ds i 0 ∷ drop (i + 1) ds
+from_place ds i l = drop-cons ds i 0 l ∙ ap (λ k. get_or ds i 0 ∷ drop k ds) (sym (add-one i))

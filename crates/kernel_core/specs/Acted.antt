@@ -2,7 +2,7 @@
 use Rattle.std.specs.Prelude.{ℕ, ◌≡◌, ◌<◌, Option, false}
 use Rattle.dk_base.specs.declared.limits.TheConstants.{EVENTS_MAX}
 use Rattle.written_kernel.specs.Types.{Answer, Request}
-use Rattle.written_kernel.specs.Words.{StandsFor, State, act, forget, give, has_first_common_door, state_of}
+use Rattle.written_kernel.specs.Words.{StandsFor, State, act, forget, give, has_first_common_door, has_lost_door, state_of}
 use Rattle.kernel_invariant.specs.Coherent.{is_unbuilt}
 use Rattle.pool_agreement.specs.Words.{is_this}
 use Rattle.kernel_store.specs.Words.{AreHeld, ArePlaced, IsAtRest, KeepsForNotices, WaitAtValidDoors, stored_state}
@@ -24,6 +24,7 @@ pub record CanStep (parts : Parts) : Type 0 where
   pub placed : ArePlaced (stored_state parts.store)
   pub waiting : WaitAtValidDoors (stored_state parts.store)
   pub held : AreHeld (stored_state parts.store)
+  pub none_lost : (t : ℕ) → has_lost_door (stored_state parts.store) t ≡ false
   pub fit : (t : ℕ) → is_unbuilt (state_of (stored_state parts.store) t) ≡ false
   pub between : IsBetweenEvents parts
   pub turns : HasTurns (stored_state parts.store)

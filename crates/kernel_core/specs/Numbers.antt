@@ -1,10 +1,10 @@
 -- What the numbers that the kernel hands out need to fit.
-use Rattle.std.specs.Prelude.{ℕ, ◌<◌, ◌≤◌, ◌*◌, length}
+use Rattle.std.specs.Prelude.{ℕ, ◌+◌, ◌<◌, ◌≤◌, ◌*◌, length}
 use Rattle.written_kernel.specs.Words.{State, port}
 use Rattle.unref_notice.specs.declared.counts.TheConstants.{STEP_MAX}
 use Rattle.dk_base.specs.declared.limits.TheConstants.{EVENTS_MAX, USER_EVENTS_MAX}
 
--- another door, call, pipe, port and event can be numbered, and a notice of each door; and it can be told how many events are queued at
+-- another door, call, pipe, port, association and event can be numbered, and a notice of each door; and it can be told how many events are queued at
 -- a port
 pub record HasNumbersLeft (m : State) : Type 0 where
   pub events : m.events < EVENTS_MAX
@@ -13,4 +13,5 @@ pub record HasNumbersLeft (m : State) : Type 0 where
   pub notices : m.notice_list.made ≤ STEP_MAX * EVENTS_MAX
   pub pipes : length m.channels.pipes < EVENTS_MAX
   pub ports : length m.channels.ports < EVENTS_MAX
-  pub queued : (q : ℕ) → length (port m q).queue ≤ USER_EVENTS_MAX
+  pub associations : m.channels.associations.made < EVENTS_MAX
+  pub queued : (q : ℕ) → length (port m q).queue ≤ USER_EVENTS_MAX + EVENTS_MAX

@@ -34,7 +34,6 @@ pub record IsReady (parts : Parts) (taken : Taken) : Type 0 where
   pub were : AreTurns taken.were (stored_state parts.store)
   pub few : length parts.store.processes.threads ≤ THREADS_MAX
   pub woken : IsRoomFor (length parts.store.processes.threads) taken.woken
-  pub flags : IsRoomFor (length parts.store.processes.processes) taken.had
   pub fallen : length (watched (stored_state parts.store)) ≤ taken.fallen.spare
   pub notices : HasRoomForNotices parts.store
   pub opened : HasBegun parts.store (stored_state parts.store)

@@ -1,17 +1,19 @@
 //! The act of a turn: an entry, unless it is refused, or the end of a wait.
-ghost use Rattle.std.specs.Prelude.{◌≡◌, ◌&&◌, if◌then◌else◌, not, Some, None, false, length, true, IfOk, OnErr, OnOk};
+ghost use Rattle.std.specs.Prelude.{◌≡◌, ◌≤◌, ◌&&◌, if◌then◌else◌, not, Some, None, false, length, true, IfOk, OnErr, OnOk};
 ghost use Rattle.std.specs.Option.{option_map};
+ghost use Rattle.capabilities.specs.declared.table.TheConstants.{BUILT};
+ghost use Rattle.capabilities.specs.Words.{capability_of};
 ghost use Rattle.kernel_records.specs.Words.{has_common_door, is_private};
 ghost use Rattle.kernel_invariant.specs.Coherent.{is_unbuilt};
 ghost use Rattle.kernel_invariant.specs.Events.{is_leaving};
-ghost use Rattle.kernel_core.specs.Entries.{made_first, may_make_first};
+ghost use Rattle.kernel_core.specs.Entries.{made_first, may_make_first, touched_by};
 ghost use Rattle.written_kernel.specs.Words.{StandsFor, act, end_work, enter, is_runnable, is_running, process_of, state_of};
 ghost use Rattle.kernel_core.specs.Finding.{HasRoomToFind};
 ghost use Rattle.kernel_core.specs.Handed.{count_passed, ending_of, events_at_end, objects_at_end};
 ghost use Rattle.kernel_core.specs.Kept.{HasNothingPast};
 ghost use Rattle.kernel_core.specs.Numbers.{HasNumbersLeft};
-ghost use Rattle.pool_agreement.specs.Words.{own_pool, pool_of_request};
-ghost use Rattle.kernel_store.specs.Words.{AreHeld, CanAct, CanLeave, FillsNoPool, FillsOnePool, HasWholeStep, IsActive, IsRoomFor, KeepsForNotices, KeepsPools, stored_state};
+ghost use Rattle.pool_agreement.specs.Words.{own_pool};
+ghost use Rattle.kernel_store.specs.Words.{AreHeld, CanAct, CanLeave, FillsNoPool, FillsOnePool, HasWholeStep, IsActive, IsRoomFor, KeepsForNotices, KeepsPools, ParksAgain, stored_state};
 
 use crate::descriptors::{self, door_named};
 use crate::doors::{self, accept, collect};
@@ -30,14 +32,13 @@ use kernel_records::pool::Pool;
 use kernel_records::record::ThreadState;
 use kernel_store::store::Store;
 use std::alloc::Global;
+use thread_set::set::ThreadSet;
 
 /// What is asked of an entry before its act.
 #[derive(Clone, Copy)]
 pub struct Needs {
     /// The pool that the act touches.
     pub touched: Pool,
-    /// Whether callers, threads or doors leave by it.
-    pub leaves: bool,
     /// How many descriptors are passed.
     pub passed: usize,
     /// The process of which the act makes the first door that its common pool serves, if the entry is not refused.
@@ -58,14 +59,12 @@ fn may_make_first(store: &Store, p: Pid, attrs: Attrs) -> Option<Pid>
 /// What is asked of an entry of thread `t` of process `p` before its act.
 pub fn needs_of(store: &Store, t: Tid, p: Pid, request: &Request) -> Needs
     requires { p.0 ≡ process_of (stored_state store.now) t.0 }
-    ensures touched { result.touched ≡ pool_of_request (stored_state store.now) t.0 request.now }
-    ensures leaves { result.leaves ≡ is_leaving request.now }
+    ensures touched { result.touched ≡ touched_by (stored_state store.now) t.0 request.now }
     ensures passed { result.passed ≡ count_passed request.now }
     ensures first { option_map (λ p. p.0) result.first ≡ may_make_first (stored_state store.now) p.0 request.now }
 {
     let plain = Needs {
         touched: store.own_pool(t),
-        leaves: false,
         passed: 0,
         first: None,
     };
@@ -83,11 +82,10 @@ pub fn needs_of(store: &Store, t: Tid, p: Pid, request: &Request) -> Needs
             passed: pass.len(),
             ..plain
         },
-        Request::Revoke { .. } | Request::Interrupt { .. } | Request::Kill { .. } | Request::Exit =>
-            Needs {
-                leaves: true,
-                ..plain
-            },
+        Request::Revoke { fd } => Needs {
+            touched: Pool::Private(door_named(store, p, *fd)),
+            ..plain
+        },
         _ => plain,
     }
 }
@@ -102,7 +100,8 @@ pub fn made_first(answer: &Answer, first: Option<Pid>) -> Option<Pid>
     }
 }
 
-/// A kernel entry of thread `t` of process `p`, which runs, in the file of its subject. What it passes goes into `objects`.
+/// A kernel entry of thread `t` of process `p`, which runs, in the file of its subject. What it passes goes into `objects`. Where callers,
+/// threads or doors leave by it, `parked` is told which threads park again.
 #[tactic(auto, using(crate::proofs::Live::entry_kept, crate::proofs::Live::live_state))]
 pub fn enter(
     store: &mut Store,
@@ -111,20 +110,23 @@ pub fn enter(
     p: Pid,
     request: Request,
     objects: Room<Obj>,
+    parked: &mut ThreadSet,
 ) -> Result<Answer, NoMemory>
     requires references { HasWholeStep store.old }
     requires numbers { HasNumbersLeft (stored_state store.old) }
-    requires can_act { CanAct (pool_of_request (stored_state store.old) t.0 request) store.old }
+    requires can_act { CanAct (touched_by (stored_state store.old) t.0 request) store.old }
     requires can_leave { is_leaving request ≡ true → CanLeave store.old }
     requires none_past { HasNothingPast (stored_state store.old) }
     requires running { is_running (stored_state store.old) t.0 ≡ true }
+    requires built { capability_of request ≤ BUILT }
     requires held { AreHeld (stored_state store.old) }
     requires own { p.0 ≡ process_of (stored_state store.old) t.0 }
     requires room { IsRoomFor (count_passed request) objects }
     ensures state { OnOk result (StandsFor (stored_state store.new) (enter (stored_state store.old) t.0 p.0 request).state) }
     ensures answer { IfOk result (λ answer. answer ≡ (enter (stored_state store.old) t.0 p.0 request).answer) }
     ensures keeps { OnOk result (KeepsForNotices store.old store.new) }
-    ensures others { is_leaving request ≡ false → OnOk result (FillsOnePool (pool_of_request (stored_state store.old) t.0 request) store.old store.new) }
+    ensures others { is_leaving request ≡ false → OnOk result (FillsOnePool (touched_by (stored_state store.old) t.0 request) store.old store.new) }
+    ensures parked { is_leaving request ≡ true → OnOk result (ParksAgain parked.new store.old store.new) }
     ensures as_before { OnErr result (stored_state store.new ≡ stored_state store.old) }
     ensures fills { OnErr result (FillsNoPool store.old store.new) }
 {
@@ -149,7 +151,7 @@ pub fn enter(
         | Request::Interrupt { .. }
         | Request::Kill { .. }
         | Request::Exit
-        | Request::TestCancel => leaving::enter(store, alloc, t, p, request),
+        | Request::TestCancel => leaving::enter(store, alloc, t, p, request, parked),
         Request::Pipe | Request::Write { .. } | Request::Read { .. } => {
             pipes::enter(store, alloc, t, p, request)
         }
@@ -159,6 +161,7 @@ pub fn enter(
         | Request::Send { .. }
         | Request::SendN { .. }
         | Request::Alert { .. } => ports::enter(store, alloc, t, p, request),
+        Request::Associate { .. } | Request::Dissociate { .. } => Ok(Answer::Done),
         _ => Ok(Answer::Done),
     }
 }

@@ -1,8 +1,10 @@
 //! One event: the memory that it can need is taken first, then the act, and what follows it.
-ghost use Rattle.std.specs.Prelude.{◌≡◌, ℕ, ◌+◌, ◌<◌, ◌≤◌, List, Option, false, length, true, Some, None, IfOk, OnOk, OnErr};
+ghost use Rattle.std.specs.Prelude.{◌≡◌, ℕ, ◌+◌, ◌<◌, ◌≤◌, [], List, Option, false, length, true, Some, None, IfOk, OnOk, OnErr};
 ghost use Rattle.std.specs.Option.{option_map};
 ghost use Rattle.dk_base.specs.declared.limits.TheConstants.{EVENTS_MAX, THREADS_MAX};
-ghost use Rattle.written_kernel.specs.Words.{IsStep, State, act, has_invalid_door, has_lost_door, is_runnable, is_running, step, with_event_counted};
+ghost use Rattle.capabilities.specs.declared.table.TheConstants.{BUILT};
+ghost use Rattle.capabilities.specs.Words.{capability_of};
+ghost use Rattle.written_kernel.specs.Words.{IsStep, State, act, has_lost_door, is_runnable, is_running, step, with_event_counted};
 ghost use Rattle.kernel_invariant.specs.Events.{is_leaving};
 ghost use Rattle.kernel_store.specs.Words.{ArePlaced, CanSettle, HasRoom, HasWholeStep, IsAtRest, stored_state};
 ghost use Rattle.written_kernel.specs.Types.{Request};
@@ -28,24 +30,21 @@ use std::alloc::Global;
 use std::mem;
 use thread_set::set::ThreadSet;
 
-/// A kernel's store, and the room of two lists that each event makes anew.
+/// A kernel's store, and the room of a list that each event makes anew.
 #[derive(Drop)]
 pub struct Parts {
     pub store: Store,
     /// Room for the doors whose references fall to one by an event.
     pub fallen: Room<u32>,
-    /// Room for a flag of each process.
-    pub had: Room<bool>,
 }
 
-/// What is taken before an event: the threads that can take a turn; and memory for the threads that it wakes, for the doors of which
-/// it may make notices, and for a flag of each process.
+/// What is taken before an event: the threads that can take a turn; and memory for the threads that it wakes, and for the doors of
+/// which it may make notices.
 #[derive(Drop)]
 struct Taken {
     were: ThreadSet,
     woken: Room<Tid>,
     fallen: Room<u32>,
-    had: Room<bool>,
 }
 
 impl Parts {
@@ -67,15 +66,11 @@ impl Parts {
         self.fallen
             .reserve(self.store.doors().notice_doors().len())?;
         self.store.notices();
-        self.had.clear();
-        self.had
-            .reserve(self.store.processes().process_count() as usize)?;
         let woken = Room::with_room(alloc, self.store.processes().thread_count() as usize)?;
         Ok(Taken {
             were: self.store.runnable(),
             woken,
             fallen: mem::replace(&mut self.fallen, Room::new(alloc)),
-            had: mem::replace(&mut self.had, Room::new(alloc)),
         })
     }
 
@@ -96,18 +91,18 @@ impl Parts {
         }
     }
 
-    /// What follows the act of an event that touched this pool, and by which callers, threads or doors may have left if it `leaves`, on
+    /// What follows the act of an event that touched this pool, and by which these threads `parked` again, since their callers left, on
     /// what was taken for it. `first` is the process whose first common door the act made.
     fn finish(
         &mut self,
         taken: Taken,
         touched: Pool,
-        leaves: bool,
+        parked: ThreadSet,
         first: Option<Pid>,
         answer: Answer,
     ) -> Stepped
         requires acted { (start : Parts) × (t : ℕ) × (q : Option Request) × (before : Parts) × HasActed start t q before self.old taken (option_map (λ p. p.0) first) answer }
-        requires can_settle { leaves ≡ false → CanSettle touched self.old.store }
+        requires can_settle { CanSettle touched parked [] self.old.store }
         ensures step { (start : Parts) (t : ℕ) (q : Option Request) (before : Parts) → HasActed start t q before self.old taken (option_map (λ p. p.0) first) answer → IsStep (step (stored_state start.store) t q) (stored_state self.new.store) result }
         ensures made { (start : Parts) (t : ℕ) (q : Option Request) (before : Parts) → HasActed start t q before self.old taken (option_map (λ p. p.0) first) answer → self.new.store.notices.list.made ≤ start.store.notices.list.made + STEP_MAX }
         ensures between { IsBetweenEvents self.new }
@@ -116,18 +111,17 @@ impl Parts {
             were,
             woken,
             mut fallen,
-            had,
         } = taken;
-        let had = settle(&mut self.store, &mut fallen, had, touched, leaves, first);
+        settle(&mut self.store, &mut fallen, touched, parked, first);
         let stepped = self.end_event(were, woken, answer);
         self.fallen = fallen;
-        self.had = had;
         stepped
     }
 
     /// The event of a kernel entry.
     pub fn enter(&mut self, alloc: Global, t: Tid, request: Request) -> Result<Stepped, NoMemory>
         requires running { is_running (stored_state self.old.store) t.0 ≡ true }
+        requires built { capability_of request ≤ BUILT }
         requires can_step { CanStep self.old }
         requires noticing { CanNoticeAfter (stored_state self.old.store) t.0 (Some request) }
         requires turning { HasTurnsAfter (stored_state self.old.store) t.0 (Some request) }
@@ -141,9 +135,10 @@ impl Parts {
         let needs = needs_of(&self.store, t, p, &request);
         let objects = Room::with_room(alloc, needs.passed)?;
         let taken = self.reserve(alloc, needs.touched)?;
-        let answer = enter(&mut self.store, alloc, t, p, request, objects)?;
+        let mut parked = ThreadSet::new();
+        let answer = enter(&mut self.store, alloc, t, p, request, objects, &mut parked)?;
         let first = made_first(&answer, needs.first);
-        Ok(self.finish(taken, needs.touched, needs.leaves, first, answer))
+        Ok(self.finish(taken, needs.touched, parked, first, answer))
     }
 
     /// The event of the end of a wait. A thread that is bound to an invalid door wakes with EINVAL where it parks again.
@@ -152,13 +147,11 @@ impl Parts {
         requires runnable { is_runnable (stored_state self.old.store) t.0 ≡ true }
         requires noticing { CanNoticeAfter (stored_state self.old.store) t.0 None }
         requires turning { HasTurnsAfter (stored_state self.old.store) t.0 None }
-        requires none_lost { has_invalid_door (stored_state self.old.store) t.0 ≡ false → (u : ℕ) → has_lost_door (act (stored_state self.old.store) t.0 None).state u ≡ false }
         ensures step { IfOk result (λ s. IsStep (step (stored_state self.old.store) t.0 None) (stored_state self.new.store) s) }
         ensures made { OnOk result (self.new.store.notices.list.made ≤ self.old.store.notices.list.made + STEP_MAX) }
         ensures err { OnErr result (stored_state self.new.store ≡ stored_state self.old.store) }
         ensures between { IsBetweenEvents self.new }
     {
-        let loses = self.store.has_invalid_door(t);
         let touched = self.store.own_pool(t);
         let p = self.store.processes().process_of(t);
         let ending = ending_of(self.store.processes().state(t));
@@ -166,6 +159,6 @@ impl Parts {
         let found = room_to_find(alloc, count_found(&self.store, ending))?;
         let taken = self.reserve(alloc, touched)?;
         let answer = go_on(&mut self.store, alloc, t, p, ending, fds, found);
-        Ok(self.finish(taken, touched, loses, None, answer))
+        Ok(self.finish(taken, touched, ThreadSet::new(), None, answer))
     }
 }

@@ -53,7 +53,6 @@ impl Kernel {
         let parts = Parts {
             store,
             fallen: Room::new(alloc),
-            had: Room::new(alloc),
         };
         Ok(Kernel { alloc, parts })
     }

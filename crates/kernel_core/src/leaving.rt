@@ -1,5 +1,5 @@
 //! The acts of leaving, and how a server learns that its client has left. What becomes of calls, notices and threads
-//! stands in the store.
+//! stands in the store. Each act tells which threads park again by it, since their callers left.
 ghost use Rattle.std.specs.Prelude.{◌≡◌, None, false, is_some, true, IfOk, OnErr, OnOk};
 ghost use Rattle.dk_base.specs.ByNumber.{at_number};
 ghost use Rattle.kernel_records.specs.Words.{first_refusal};
@@ -7,7 +7,7 @@ ghost use Rattle.written_kernel.specs.Words.{StandsFor, Subject, exit, interrupt
 ghost use Rattle.kernel_core.specs.Kept.{HasNothingPast};
 ghost use Rattle.kernel_invariant.specs.Events.{is_leaving};
 ghost use Rattle.kernel_core.specs.Entries.{entry_about};
-ghost use Rattle.kernel_store.specs.Words.{CanLeave, FillsNoPool, IsActive, KeepsForNotices, KeepsPools, NothingAfter, stored_state};
+ghost use Rattle.kernel_store.specs.Words.{CanLeave, FillsNoPool, IsActive, KeepsForNotices, KeepsPools, NothingAfter, ParksAgain, stored_state};
 
 use crate::descriptors::door_named;
 use dk_base::answer::Answer;
@@ -18,66 +18,92 @@ use kernel_records::leaving::Leaver;
 use kernel_records::record::ThreadState;
 use kernel_store::store::Store;
 use std::alloc::Global;
+use thread_set::set::ThreadSet;
 
 /// A thread is interrupted: its call ends with EINTR, or its wait for the events of a port. Any other thread goes on.
-pub fn interrupt(store: &mut Store, alloc: Global, thread: Tid) -> Result<Answer, NoMemory>
+pub fn interrupt(
+    store: &mut Store,
+    alloc: Global,
+    thread: Tid,
+    parked: &mut ThreadSet,
+) -> Result<Answer, NoMemory>
     requires can_leave { CanLeave store.old }
     ensures state { OnOk result (StandsFor (stored_state store.new) (interrupt (stored_state store.old) thread.0).state) }
     ensures answer { IfOk result (λ answer. answer ≡ (interrupt (stored_state store.old) thread.0).answer) }
     ensures keeps { OnOk result (KeepsForNotices store.old store.new) }
+    ensures parked { OnOk result (ParksAgain parked.new store.old store.new) }
     ensures as_before { OnErr result (stored_state store.new ≡ stored_state store.old) }
     ensures fills { OnErr result (FillsNoPool store.old store.new) }
 {
-    store.leave(alloc, Leaver::Interrupted { thread })?;
+    *parked = store.leave(alloc, Leaver::Interrupted { thread })?;
     Ok(Answer::Done)
 }
 
 /// All threads of a process end, its doors become invalid, and its descriptors are closed.
-fn leave_process(store: &mut Store, alloc: Global, p: Pid) -> Result<(), NoMemory>
+fn leave_process(
+    store: &mut Store,
+    alloc: Global,
+    p: Pid,
+    parked: &mut ThreadSet,
+) -> Result<(), NoMemory>
     requires can_leave { CanLeave store.old }
     requires declared { is_some (at_number (stored_state store.old).process_table.processes p.0) ≡ true }
     ensures state { OnOk result (StandsFor (stored_state store.new) (leave_process (stored_state store.old) p.0)) }
     ensures keeps { OnOk result (KeepsForNotices store.old store.new) }
+    ensures parked { OnOk result (ParksAgain parked.new store.old store.new) }
     ensures as_before { OnErr result (stored_state store.new ≡ stored_state store.old) }
     ensures fills { OnErr result (FillsNoPool store.old store.new) }
 {
-    store.leave(alloc, Leaver::EndedProcess { process: p })?;
+    *parked = store.leave(alloc, Leaver::EndedProcess { process: p })?;
     store.end_process(p);
     Ok(())
 }
 
 /// A thread ends, and its process with it where the thread is its last that is neither done nor dormant.
-pub fn exit(store: &mut Store, alloc: Global, t: Tid, p: Pid) -> Result<Answer, NoMemory>
+pub fn exit(
+    store: &mut Store,
+    alloc: Global,
+    t: Tid,
+    p: Pid,
+    parked: &mut ThreadSet,
+) -> Result<Answer, NoMemory>
     requires can_leave { CanLeave store.old }
     requires declared { is_some (at_number (stored_state store.old).process_table.processes p.0) ≡ true }
     ensures state { OnOk result (StandsFor (stored_state store.new) (exit (stored_state store.old) t.0 p.0).state) }
     ensures answer { IfOk result (λ answer. answer ≡ (exit (stored_state store.old) t.0 p.0).answer) }
     ensures keeps { OnOk result (KeepsForNotices store.old store.new) }
+    ensures parked { OnOk result (ParksAgain parked.new store.old store.new) }
     ensures as_before { OnErr result (stored_state store.new ≡ stored_state store.old) }
     ensures fills { OnErr result (FillsNoPool store.old store.new) }
 {
     if store.processes().is_last(t, p) {
-        leave_process(store, alloc, p)?;
+        leave_process(store, alloc, p, parked)?;
         return Ok(Answer::Done);
     }
-    store.leave(alloc, Leaver::Ended { thread: t })?;
+    *parked = store.leave(alloc, Leaver::Ended { thread: t })?;
     Ok(Answer::Done)
 }
 
 /// A process ends, whoever asks. One that has ended stays so.
-pub fn kill(store: &mut Store, alloc: Global, p: Pid) -> Result<Answer, NoMemory>
+pub fn kill(
+    store: &mut Store,
+    alloc: Global,
+    p: Pid,
+    parked: &mut ThreadSet,
+) -> Result<Answer, NoMemory>
     requires none_past { HasNothingPast (stored_state store.old) }
     requires can_leave { CanLeave store.old }
     ensures state { OnOk result (StandsFor (stored_state store.new) (kill (stored_state store.old) p.0).state) }
     ensures answer { IfOk result (λ answer. answer ≡ (kill (stored_state store.old) p.0).answer) }
     ensures keeps { OnOk result (KeepsForNotices store.old store.new) }
+    ensures parked { OnOk result (ParksAgain parked.new store.old store.new) }
     ensures as_before { OnErr result (stored_state store.new ≡ stored_state store.old) }
     ensures fills { OnErr result (FillsNoPool store.old store.new) }
 {
     if !store.processes().is_live(p) {
         return Ok(Answer::Done);
     }
-    leave_process(store, alloc, p)?;
+    leave_process(store, alloc, p, parked)?;
     Ok(Answer::Done)
 }
 
@@ -89,17 +115,24 @@ pub fn revoke_refusal(store: &Store, p: Pid, fd: Fd) -> Option<Errno>
 }
 
 /// door_revoke(3C): the door is invalid, and its descriptor is closed.
-pub fn revoke(store: &mut Store, alloc: Global, p: Pid, fd: Fd) -> Result<Answer, NoMemory>
+pub fn revoke(
+    store: &mut Store,
+    alloc: Global,
+    p: Pid,
+    fd: Fd,
+    parked: &mut ThreadSet,
+) -> Result<Answer, NoMemory>
     requires allowed { first_refusal (revoking_tests (stored_state store.old) p.0 fd) ≡ None }
     requires can_leave { CanLeave store.old }
     ensures state { OnOk result (StandsFor (stored_state store.new) (revoke (stored_state store.old) p.0 fd).state) }
     ensures answer { IfOk result (λ answer. answer ≡ (revoke (stored_state store.old) p.0 fd).answer) }
     ensures keeps { OnOk result (KeepsForNotices store.old store.new) }
+    ensures parked { OnOk result (ParksAgain parked.new store.old store.new) }
     ensures as_before { OnErr result (stored_state store.new ≡ stored_state store.old) }
     ensures fills { OnErr result (FillsNoPool store.old store.new) }
 {
     let door = door_named(store, p, fd);
-    store.leave(alloc, Leaver::Revoked { door })?;
+    *parked = store.leave(alloc, Leaver::Revoked { door })?;
     store.close(p, fd);
     store.revoke(door, p);
     Ok(Answer::Done)
@@ -127,7 +160,8 @@ pub fn wake(store: &mut Store, t: Tid) -> Answer
     Answer::Failure(Errno::EINVAL)
 }
 
-/// An entry by which callers, threads or doors leave, or which asks whether a client has left.
+/// An entry by which callers, threads or doors leave, or which asks whether a client has left. `parked` is told which threads
+/// park again.
 #[tactic(auto, using(crate::proofs::Live::entry_kept, crate::proofs::Live::live_state))]
 pub fn enter(
     store: &mut Store,
@@ -135,6 +169,7 @@ pub fn enter(
     t: Tid,
     p: Pid,
     request: Request,
+    parked: &mut ThreadSet,
 ) -> Result<Answer, NoMemory>
     requires none_past { HasNothingPast (stored_state store.old) }
     requires latest { NothingAfter store.old.events store.old }
@@ -143,6 +178,7 @@ pub fn enter(
     ensures state { OnOk result (StandsFor (stored_state store.new) (entry_about Subject.leaving (stored_state store.old) t.0 p.0 request).state) }
     ensures answer { IfOk result (λ answer. answer ≡ (entry_about Subject.leaving (stored_state store.old) t.0 p.0 request).answer) }
     ensures keeps { OnOk result (KeepsForNotices store.old store.new) }
+    ensures parked { is_leaving request ≡ true → OnOk result (ParksAgain parked.new store.old store.new) }
     ensures stays { is_leaving request ≡ false → store.new ≡ store.old }
     ensures as_before { OnErr result (stored_state store.new ≡ stored_state store.old) }
     ensures fills { OnErr result (FillsNoPool store.old store.new) }
@@ -150,11 +186,11 @@ pub fn enter(
     match request {
         Request::Revoke { fd } => match revoke_refusal(store, p, fd) {
             Some(error) => Ok(Answer::Failure(error)),
-            None => revoke(store, alloc, p, fd),
+            None => revoke(store, alloc, p, fd, parked),
         },
-        Request::Interrupt { thread } => interrupt(store, alloc, thread),
-        Request::Kill { process } => kill(store, alloc, process),
-        Request::Exit => exit(store, alloc, t, p),
+        Request::Interrupt { thread } => interrupt(store, alloc, thread, parked),
+        Request::Kill { process } => kill(store, alloc, process, parked),
+        Request::Exit => exit(store, alloc, t, p, parked),
         Request::TestCancel => Ok(test_cancel(store, t)),
         _ => Ok(Answer::Done),
     }

@@ -1,5 +1,7 @@
-use Rattle.std.proofs.Common.{◌≡◌, false, drop}
-use Rattle.kernel_store.specs.Words.{CanMake, IsInEvent, stored_state}
+use Rattle.std.proofs.Common.{◌≡◌, drop}
+use Rattle.thread_set.specs.declared.set.ThreadSet.{ThreadSet}
+use Rattle.kernel_store.specs.Words.{CanMake, CanSettle, IsInEvent, stored_state}
+use Rattle.written_kernel.specs.Types.{Pool}
 use Rattle.kernel_core.specs.Watched.{make_of}
 use Rattle.kernel_core.proofs.notices.make_all.Given as goal
 
@@ -10,5 +12,5 @@ invariant-loop-d l =
       within : IsInEvent l.store;
       room : CanMake l.store (drop l.d-index l.ds);
       events : l.store.events ≡ l.fn.store.events;
-      none : l.made ≡ false → l.store ≡ l.fn.store;
+      served : (touched : Pool) (parked : ThreadSet) → CanSettle touched parked l.ds l.fn.store → CanSettle touched parked l.ds l.store;
     }

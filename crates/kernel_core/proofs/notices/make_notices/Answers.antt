@@ -1,12 +1,10 @@
-use Rattle.std.proofs.Common.{◌≡◌, ◌≤◌, ◌++◌, ◌∙◌, ap, ap₂, length, filter, sym, subst, arith}
+use Rattle.std.proofs.Common.{◌≡◌, ◌≤◌, ◌++◌, ◌∙◌, ap, ap₂, [], length, filter, refl, sym, subst, arith}
 use Rattle.kernel_records.specs.Words.{notice_doors}
-use Rattle.written_kernel.specs.Words.{State}
-use Rattle.kernel_store.specs.Words.{CanMake, StoreValue, has_fallen_since, stored_state}
+use Rattle.kernel_store.specs.Words.{CanMake, CanSettle, StoreValue, has_fallen_since, stored_state}
 use Rattle.kernel_core.specs.Watched.{fallen, make_of}
 use Rattle.kernel_core.proofs.Acted.{can_make_fallen}
 use Rattle.kernel_core.proofs.Due.{make_of-is}
 use Rattle.kernel_core.proofs.Fallen.{fallen_is, shared_after}
-use Rattle.kernel_core.proofs.Making.{make_of-alone}
 use Rattle.kernel_core.proofs.notices.make_notices.Goals as goal
 
 pub end_of_step-requires-clause-room : goal.end_of_step-requires-clause-room
@@ -40,12 +38,6 @@ returns-clause-state c =
     ∙ ap₂ (λ (s : StoreValue) ds. make_of (stored_state s) ds) c.end_of_step.ensures.same listed
     ∙ make_of-is before n c.requires.within.placed.door_number
 
-pub returns-clause-processes : goal.returns-clause-processes
-returns-clause-processes c =
-    ap (λ (k : State). length k.process_table.processes)
-    (c.make_all.ensures.state ∙ make_of-alone (stored_state c.end_of_step.new.self) c.slice.result.now)
-    ∙ ap (λ (s : StoreValue). length s.processes.processes) c.end_of_step.ensures.same
-
 pub returns-clause-few : goal.returns-clause-few
 returns-clause-few c =
     λ before were.
@@ -55,3 +47,10 @@ returns-clause-few c =
     ∙ ap (λ ds. ds ++ filter (has_fallen_since c.args.store.now.opening n) (notice_doors n.doors)) c.clear.ensures.items
     ∙ fallen_is were in
     omega (arith, ap length listed, ap length c.clear.ensures.items, c.end_of_step.ensures.few)
+
+pub returns-clause-served : goal.returns-clause-served
+returns-clause-served c = λ touched parked can.
+    let n = c.end_of_step.new.self in
+    let here : CanSettle touched parked [] n = subst (CanSettle touched parked []) (sym c.end_of_step.ensures.same) can in
+    subst (λ ds. CanSettle touched parked ds c.make_all.new.store) c.slice.ensures
+    (c.make_all.ensures.served touched parked (record { given_out = λ pool e f. here.given_out pool e refl; lost = here.lost }))

@@ -32,12 +32,6 @@ returns-clause-rest c = λ h.
     (rest_reserved c.reserve.ensures.state c.reserve.ensures.keeps
     (rest_started c.args.self.now.store c.start_step.new.self c.start_step.ensures.same h))
 
-pub returns-in_err-reserve-3-clause-rest : goal.returns-in_err-reserve-3-clause-rest
-returns-in_err-reserve-3-clause-rest c = λ h.
-    rest_reserved c.reserve_notices.ensures.state c.reserve_notices.ensures.keeps
-    (rest_reserved c.reserve.ensures.state c.reserve.ensures.keeps
-    (rest_started c.args.self.now.store c.start_step.new.self c.start_step.ensures.same h))
-
 pub returns-clause-ready : goal.returns-clause-ready
 returns-clause-ready c =
     let n = stored_state c.reserve_notices.new.self in
@@ -51,7 +45,6 @@ returns-clause-ready c =
       were = search rules;
       few = search rules;
       woken = search rules;
-      flags = search rules;
       fallen = omega (arith, fewer, here, room, moved);
       notices = c.in_ok-reserve_notices.ensures.room;
       opened = search rules;

@@ -1,6 +1,6 @@
 use Rattle.std.proofs.Common.{None}
 use Rattle.kernel_store.specs.Words.{stored_state}
-use Rattle.kernel_core.proofs.Kept.{can_step, kept_result, none_lost, noticing, turning, wait_kept}
+use Rattle.kernel_core.proofs.Kept.{can_step, kept_result, noticing, turning, wait_kept}
 use Rattle.kernel_core.proofs.Steps.{step_stands, step_within, step_small}
 use Rattle.kernel_core.proofs.kernel.Kernel.go_on.Goals as goal
 
@@ -24,11 +24,6 @@ returns-clause-small c =
 
 pub go_on-requires-clause-can_step : goal.go_on-requires-clause-can_step
 go_on-requires-clause-can_step c = can_step c.self.inside.parts c.args.self.now c.self.view_is c.self.invariant c.requires.few
-
-pub go_on-requires-clause-none_lost : goal.go_on-requires-clause-none_lost
-go_on-requires-clause-none_lost c =
-    λ stays.
-    none_lost (stored_state c.self.inside.parts.store) c.args.self.now c.args.t.0 None c.self.view_is c.self.invariant.0 c.requires stays
 
 pub go_on-requires-clause-noticing : goal.go_on-requires-clause-noticing
 go_on-requires-clause-noticing c =
