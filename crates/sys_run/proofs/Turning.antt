@@ -1,6 +1,5 @@
 -- What may be entered, and whose wait may end, in a kernel that stands for a state.
 use Rattle.std.proofs.Common.{ℕ, ◌∙◌, None, sym, subst}
-use Rattle.dk_base.specs.declared.request.Request.TheVariants as request
 use Rattle.written_kernel.specs.Words.{MayGoOn, MayTurn, StandsFor, State, forget}
 use Rattle.written_kernel.proofs.Forget.{is_runnable-forget}
 

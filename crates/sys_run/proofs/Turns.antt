@@ -1,10 +1,11 @@
 -- What a turn leaves after, from the clauses of the calls that it makes.
-use Rattle.std.proofs.Common.{◌≡◌, ℕ, ◌+◌, ◌<◌, List, length, Option, true, refl, sym, subst, ap}
+use Rattle.std.proofs.Common.{◌≡◌, ℕ, ◌+◌, ◌<◌, List, length, Option, Some, None, true, refl, sym, subst, ap}
 use Rattle.written_kernel.specs.Types.{Answer, Event, Request, Tid, What}
 use Rattle.thread_machine.specs.declared.machine.Machine.{Machine}
 use Rattle.thread_machine.specs.Words.{HasDeclaredEntry, Stands}
 use Rattle.kernel_records.specs.Words.{tid}
-use Rattle.written_kernel.specs.Words.{MayTurn, StandsFor, State, event_of, is_runnable, root, step, what_of}
+use Rattle.written_kernel.specs.Words.{MayTurn, StandsFor, State, event_of, is_runnable, output_at, root, shown_answer, state_of, step, what_of, with_output}
+use Rattle.script_lang.specs.Words.{ScriptValue}
 use Rattle.script_requests.specs.Words.{frame_of}
 use Rattle.written_script.specs.Words.{request_at_turn}
 use Rattle.written_script.proofs.RunTurns.{history_after-answer}
@@ -45,6 +46,21 @@ entered-turn p t a is can answer =
     a
     (rw (answer, ← request_at_turn-history p t is) (history_after-answer p.script (history p) t is.script.sound (known-history p is) can))
 
+entered-with : (script : ScriptValue) (output : Option (List ℕ)) (a : Answer) → HasDeclaredEntry script a → HasDeclaredEntry script (with_output output a)
+entered-with script None a h = h
+entered-with script (Some bytes) a h = tt
+
+-- with the bytes of a task
+pub shown-turn :
+    (p : SysValue) (t : ℕ) (output : Option (List ℕ)) (a b : Answer) → output ≡ output_at (state_of (state_of_run p) t) →
+    a ≡ with_output output b → b ≡ (step (state_of_run p) t (asked p t)).answer →
+    a ≡ shown_answer (state_of_run p) t (step (state_of_run p) t (asked p t)).answer
+shown-turn p t output a b o is answer = rw (is, o, answer) refl
+
+pub shown-entered :
+    (script : ScriptValue) (output : Option (List ℕ)) (a b : Answer) → a ≡ with_output output b → HasDeclaredEntry script b → HasDeclaredEntry script a
+shown-entered script output a b is h = rw is (entered-with script output b h)
+
 -- the kernel stands after the turn
 pub kernel-after :
     (p : SysValue) (t : ℕ) (k : State) → IsJournal p → StandsFor k (step (state_of_run p) t (asked p t)).state →
@@ -57,7 +73,7 @@ event_from n t r w a = record { number = n; thread = t; root = r; what = w; answ
 -- the event that a turn appends, from its parts
 pub turn-event :
     (p : SysValue) (t r : Tid) (w : What) (a : Answer) → IsJournal p → r.0 ≡ root (state_of_run p) t.0 →
-    w ≡ what_of (state_of_run p) t.0 (asked p t.0) → a ≡ (step (state_of_run p) t.0 (asked p t.0)).answer →
+    w ≡ what_of (state_of_run p) t.0 (asked p t.0) → a ≡ shown_answer (state_of_run p) t.0 (step (state_of_run p) t.0 (asked p t.0)).answer →
     event_from (length p.journal + 1) t r w a ≡ event_of (history p).state t.0 (request_at_turn p.script (history p) t.0)
 turn-event p t r w a is hr hw ha =
     let events : (history p).state.events + 1 ≡ length p.journal + 1 = ap (λ n. n + 1) (events-history p)

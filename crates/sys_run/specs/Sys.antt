@@ -1,7 +1,9 @@
 -- A script with the journal of its events so far.
-use Rattle.std.specs.Prelude.{ℕ, ◌≡◌, ◌-◌, ◌∷◌, ◌++◌, [], List, Option, None, if◌then◌else◌, nat_lt, slice_get, suc, length}
+use Rattle.std.specs.Prelude.{ℕ, ◌≡◌, ◌-◌, ◌∷◌, ◌++◌, [], List, Option, None, Bool, if◌then◌else◌, is_some, nat_lt, slice_get, suc, length}
 use Rattle.written_kernel.specs.Types.{Event, Tid}
-use Rattle.written_kernel.specs.Words.{StandsFor, State, event_of, least_runnable, step}
+use Rattle.written_kernel.specs.Words.{StandsFor, State, event_of, least_runnable, output_at, state_of, step}
+use Rattle.kernel_records.specs.declared.record.ThreadState.TheVariants as is
+use Rattle.work_ops.specs.Words.{TaskValue}
 use Rattle.kernel_laws.specs.Words.{Laws}
 use Rattle.script_lang.specs.Words.{ScriptValue}
 use Rattle.script_requests.specs.Words.{IsPlayable, frame_of}
@@ -23,6 +25,14 @@ history p = run p.script (threads_of_events p.journal)
 
 abbrev pub state_of_run : SysValue → State
 state_of_run p = (history p).state
+
+-- thread t is at a task
+abbrev pub is_working : State → ℕ → Bool
+is_working m t = is_some (output_at (state_of m t))
+
+-- thread t of the run is at this task
+abbrev pub WorksOn : SysValue → ℕ → TaskValue → Type 0
+WorksOn p t x = state_of (state_of_run p) t ≡ is.Working x.op x.input
 
 -- the laws of the journal's run
 abbrev pub LawsOf : SysValue → Type 0

@@ -1,23 +1,25 @@
-ghost use Rattle.std.specs.Prelude.{◌≡◌, ℕ, ◌+◌, ◌<◌, ◌≤◌, ◌∷◌, ◌++◌, [], length, slice_get, Some, IfOk, option_map, OnOk, OnErr, take, true, false, nat_lt, All};
+ghost use Rattle.std.specs.Prelude.{◌≡◌, ◌↔◌, IsTrue, ℕ, ◌+◌, ◌<◌, ◌≤◌, ◌∷◌, ◌++◌, [], length, slice_get, Some, IfOk, option_map, OnOk, OnErr, take, true, false, nat_lt, All};
 ghost use Rattle.dk_base.specs.declared.limits.TheConstants.{BUDGET_MAX};
-ghost use Rattle.written_kernel.specs.Words.{is_runnable, waiting_threads};
+ghost use Rattle.written_kernel.specs.Words.{is_runnable, output_at, state_of, waiting_threads};
 ghost use Rattle.script_requests.specs.Words.{IsDeclaredEvent, IsDeclaredThread, has_later_parts};
 ghost use Rattle.written_script.specs.Words.{ending_of, is_over, scheduled_turns, tid_number};
-ghost use Rattle.sys_run.specs.Sys.{with_journal, history, state_of_run, with_turn, with_turns, turns_left, next_turn, scheduled_turn, threads_woken_by, LawsOf, IsJournal};
+ghost use Rattle.sys_run.specs.Sys.{with_journal, history, state_of_run, with_turn, with_turns, turns_left, next_turn, scheduled_turn, threads_woken_by, LawsOf, IsJournal, WorksOn, is_working};
 
 use crate::opening::{first_machines, open};
 use crate::threads::{all_waiting, is_any_waiting};
 use crate::turn::take_turn;
 use dk_base::error::NoMemory;
 use dk_base::event::Event;
-use dk_base::list::TidList;
+use dk_base::list::{Bytes, TidList};
 use dk_base::number::Tid;
 use kernel_core::kernel::Kernel;
+use kernel_records::record::ThreadState;
 use script_lang::script::Script;
 use script_requests::ending::Ending;
 use std::alloc::Global;
 use std::marker::Model;
 use thread_machine::machine::Machine;
+use work_ops::task::{Done, Task, run};
 
 /// How playing a schedule ends.
 #[derive(Clone, Copy, Debug, PartialEq, Eq)]
@@ -92,6 +94,65 @@ impl Sys {
         ensures laws { OnOk result (LawsOf self.new) }
         ensures err { OnErr result (self.new ≡ self.old) }
     {
+        if self.working(t) {
+            let task = self.lend(t)?;
+            let done = run(self.alloc, task)?;
+            return self.hand_in(t, done);
+        }
+        self.take(t, None)
+    }
+
+    /// A thread's task, to be done apart from the run.
+    pub fn lend(&self, t: Tid) -> Result<Task, NoMemory>
+        requires { is_working (state_of_run self.now) t.0 ≡ true }
+        ensures { IfOk result (λ task. WorksOn self.now t.0 task) }
+    {
+        match self.kernel.state(t) {
+            ThreadState::Working { op, input } => Ok(Task::new(*op, input.copy(self.alloc)?)),
+            _ => unreachable!(),
+        }
+    }
+
+    /// The turn of a thread at whose task `done` is: exactly its event is appended. Answers, in order, the threads that were not
+    /// runnable before and are now. Want of memory leaves all as it was.
+    pub fn hand_in(&mut self, t: Tid, done: Done) -> Result<TidList, NoMemory>
+        requires works { WorksOn self.old t.0 done }
+        requires left { length self.old.journal < self.old.script.budget }
+        ensures event { OnOk result (self.new ≡ with_turn self.old t.0) }
+        ensures woken { IfOk result (λ woken. woken ≡ threads_woken_by self.old t.0) }
+        ensures laws { OnOk result (LawsOf self.new) }
+        ensures err { OnErr result (self.new ≡ self.old) }
+    {
+        self.take(t, Some(done.into_output()))
+    }
+
+    /// Whether a thread is at a task; false for a thread that the script does not declare.
+    pub fn working(&self, t: Tid) -> bool
+        ensures { result ≡ is_working (state_of_run self.now) t.0 }
+    {
+        matches!(self.kernel.state(t), ThreadState::Working { .. })
+    }
+
+    /// Whether a thread is at the task that was done.
+    pub fn works_on(&self, t: Tid, done: &Done) -> bool
+        ensures { IsTrue result ↔ WorksOn self.now t.0 done.now }
+    {
+        match self.kernel.state(t) {
+            ThreadState::Working { op, input } => done.is_of(*op, input),
+            _ => false,
+        }
+    }
+
+    // One turn of a thread, with the bytes of its task where it ends one.
+    fn take(&mut self, t: Tid, output: Option<Bytes>) -> Result<TidList, NoMemory>
+        requires output { output ≡ output_at (state_of (state_of_run self.old) t.0) }
+        requires can { is_runnable (state_of_run self.old) t.0 ≡ true }
+        requires left { length self.old.journal < self.old.script.budget }
+        ensures event { OnOk result (self.new ≡ with_turn self.old t.0) }
+        ensures woken { IfOk result (λ woken. woken ≡ threads_woken_by self.old t.0) }
+        ensures laws { OnOk result (LawsOf self.new) }
+        ensures err { OnErr result (self.new ≡ self.old) }
+    {
         let machine = &mut self.machines[t.0 as usize - 1];
         let woken = take_turn(
             self.alloc,
@@ -100,6 +161,7 @@ impl Sys {
             machine,
             &mut self.journal,
             t,
+            output,
         )?;
         kernel_laws::laws::every_run();
         Ok(woken)

@@ -1,16 +1,17 @@
 //! One turn of a thread: its request or the end of its wait, the kernel's step, and the event.
 ghost use Rattle.std.specs.Prelude.{◌≡◌, ◌+◌, ◌<◌, ◌≤◌, ◌∷◌, ◌++◌, [], length, IfOk, OnOk, OnErr, true, vec_len, vec_capacity};
 ghost use Rattle.dk_base.specs.declared.limits.TheConstants.{EVENTS_MAX};
-ghost use Rattle.written_kernel.specs.Words.{IsStep, StandsFor, State, is_runnable, step, what_of};
+ghost use Rattle.written_kernel.specs.Words.{IsStep, StandsFor, State, is_runnable, output_at, state_of, step, what_of, with_output};
 ghost use Rattle.script_requests.specs.Words.{Frame};
 ghost use Rattle.thread_machine.specs.Words.{HasRoomForAnswer, IsMachine, Stands};
 ghost use Rattle.sys_run.specs.Sys.{with_journal, state_of_run, with_turn, threads_woken_by, MachineStands, IsJournal};
 ghost use Rattle.sys_run.specs.TurnRequests.{MayTake, request_if_running};
 
 use crate::what;
+use dk_base::answer::Answer;
 use dk_base::error::NoMemory;
 use dk_base::event::{Event, Stepped, What};
-use dk_base::list::TidList;
+use dk_base::list::{Bytes, TidList};
 use dk_base::number::Tid;
 use kernel_core::kernel::Kernel;
 use script_lang::script::Script;
@@ -44,6 +45,20 @@ fn step(
     }
 }
 
+/// A step with the bytes of a task, where there are some, as its answer.
+fn with_output(stepped: Stepped, output: Option<Bytes>) -> Stepped
+    ensures answer { result.answer ≡ with_output output stepped.answer }
+    ensures woken { result.woken ≡ stepped.woken }
+{
+    match output {
+        Some(bytes) => Stepped {
+            answer: Answer::Data { bytes },
+            woken: stepped.woken,
+        },
+        None => stepped,
+    }
+}
+
 // One turn of a thread, where there is room for its event.
 fn turn(
     alloc: Global,
@@ -52,7 +67,9 @@ fn turn(
     machine: &mut Machine,
     journal: &mut Vec<Event>,
     t: Tid,
+    output: Option<Bytes>,
 ) -> Result<TidList, NoMemory>
+    requires output { output ≡ output_at (state_of (state_of_run (with_journal script.now journal.old.items)) t.0) }
     requires room { vec_len journal.old < vec_capacity journal.old }
     requires machine_room { HasRoomForAnswer machine.old }
     requires run { IsJournal (with_journal script.now journal.old.items) }
@@ -70,6 +87,7 @@ fn turn(
 {
     let root = kernel.root(t);
     let (what, stepped) = step(alloc, script, kernel, machine, t)?;
+    let stepped = with_output(stepped, output);
     machine.take(script, &stepped.answer);
     Ok(push_event(journal, t, root, what, stepped))
 }
@@ -93,7 +111,7 @@ fn push_event(journal: &mut Vec<Event>, t: Tid, root: Tid, what: What, stepped: 
     woken
 }
 
-/// One turn of a thread. Exactly its event is appended; answers the threads that it wakes. Want of memory leaves the
+/// One turn of a thread, with the bytes of its task where it ends one. Exactly its event is appended; answers the threads that it wakes. Want of memory leaves the
 /// kernel and the journal as they were, and the machine where it stood.
 pub(crate) fn take_turn(
     alloc: Global,
@@ -102,7 +120,9 @@ pub(crate) fn take_turn(
     machine: &mut Machine,
     journal: &mut Vec<Event>,
     t: Tid,
+    output: Option<Bytes>,
 ) -> Result<TidList, NoMemory>
+    requires output { output ≡ output_at (state_of (state_of_run (with_journal script.now journal.old.items)) t.0) }
     requires run { IsJournal (with_journal script.now journal.old.items) }
     requires kernel { StandsFor kernel.old (state_of_run (with_journal script.now journal.old.items)) }
     requires machine { MachineStands script.now journal.old.items t.0 machine.old }
@@ -117,7 +137,7 @@ pub(crate) fn take_turn(
 {
     machine.make_room(alloc)?;
     make_room(journal)?;
-    turn(alloc, script, kernel, machine, journal, t)
+    turn(alloc, script, kernel, machine, journal, t, output)
 }
 
 fn make_room(journal: &mut Vec<Event>) -> Result<(), NoMemory>

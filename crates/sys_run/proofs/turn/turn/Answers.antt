@@ -3,7 +3,7 @@ use Rattle.written_kernel.specs.Types.{Event}
 use Rattle.script_requests.specs.Words.{frame_of}
 use Rattle.sys_run.specs.Sys.{with_journal, state_of_run}
 use Rattle.sys_run.proofs.Machines.{stands-frame_after_answer}
-use Rattle.sys_run.proofs.Turns.{entered-turn, kernel-after, may_take, turn-event}
+use Rattle.sys_run.proofs.Turns.{entered-turn, kernel-after, may_take, shown-entered, shown-turn, turn-event}
 use Rattle.sys_run.proofs.turn.turn.Goals as goal
 
 pub step-requires-clause-may : goal.step-requires-clause-may
@@ -23,13 +23,14 @@ pub take-requires-clause-declared : goal.take-requires-clause-declared
 take-requires-clause-declared c =
     let p = with_journal c.args.script.now c.args.journal.now.items
     in let f = frame_of c.args.script.now c.args.t.0 c.args.journal.now.items
-    in entered-turn
+    in shown-entered c.args.script.now c.args.output _ _ c.with_output-stepped.ensures.answer
+    (entered-turn
     p
     c.args.t.0
     _
     c.requires.run
     c.requires.can
-    (c.in_ok-what.ensures.step (state_of_run p) f c.requires.kernel c.requires.machine.stands).answer
+    (c.in_ok-what.ensures.step (state_of_run p) f c.requires.kernel c.requires.machine.stands).answer)
 
 pub returns-clause-journal : goal.returns-clause-journal
 returns-clause-journal c =
@@ -43,11 +44,12 @@ returns-clause-journal c =
     c.args.t
     c.root-root.result
     c.in_ok-what.what
-    c.in_ok-what.stepped.answer
+    c.with_output-stepped.result.answer
     c.requires.run
     (c.root-root.ensures.stands (state_of_run p) c.requires.kernel)
     (c.in_ok-what.ensures.what (state_of_run p) f c.requires.kernel c.requires.machine.stands)
-    (c.in_ok-what.ensures.step (state_of_run p) f c.requires.kernel c.requires.machine.stands).answer))
+    (shown-turn p c.args.t.0 c.args.output _ _ c.requires.output c.with_output-stepped.ensures.answer
+    (c.in_ok-what.ensures.step (state_of_run p) f c.requires.kernel c.requires.machine.stands).answer)))
 
 pub returns-clause-kernel : goal.returns-clause-kernel
 returns-clause-kernel c =

@@ -4,7 +4,7 @@ use Rattle.sys_run.specs.Sys.{with_journal}
 use Rattle.sys_run.proofs.Systems.{has_machine, machine-stands, HasMachine, IsSys-same, IsSys-turn}
 use Rattle.sys_run.proofs.Looks.{laws-journal}
 use Rattle.sys_run.proofs.Journals.{IsJournal-with_turn}
-use Rattle.sys_run.proofs.sys.Sys.step.Goals as goal
+use Rattle.sys_run.proofs.sys.Sys.take.Goals as goal
 
 pub index_mut-machine-requires : goal.index_mut-machine-requires
 index_mut-machine-requires c =
