@@ -4,7 +4,10 @@ use Rattle.std.specs.List.{list_any}
 use Rattle.written_kernel.specs.Types.{Tid}
 use Rattle.written_kernel.specs.Words.{State, is_runnable}
 use Rattle.written_script.specs.Words.{is_over}
-use Rattle.sys_run.specs.Sys.{SysValue, history, state_of_run, threads_woken_by, with_turn}
+use Rattle.sys_run.specs.Sys.{SysValue, WorksOn, history, is_working, state_of_run, threads_woken_by, with_turn}
+use Rattle.work_ops.specs.Words.{TaskValue}
+use Rattle.kernel_lock.specs.declared.turns.HandedIn.{HandedIn}
+use Rattle.kernel_lock.specs.declared.turns.HandedIn.TheVariants as handed
 use Rattle.kernel_lock.specs.declared.turns.Next.{Next}
 use Rattle.kernel_lock.specs.declared.turns.Next.TheVariants as next
 use Rattle.kernel_lock.specs.declared.turns.ToNotify.{ToNotify}
@@ -36,21 +39,33 @@ is_any_of threads woken = list_any (λ (t : Tid). is_member threads t.0) woken
 abbrev pub stopped_by : UnderLock → UnderLock
 stopped_by h = held h.sys true h.refused h.turns
 
--- one step was taken, and one turn booked
+-- one turn was taken, and booked
 abbrev pub after_turn : UnderLock → ℕ → UnderLock
 after_turn h t = held (with_turn h.sys t) h.stopped h.refused (h.turns + 1)
 
--- whom to notify: exactly the threads that the step made runnable, and all at the end
+-- whom to notify: exactly the threads that the turn made runnable, and all at the end
 pub record IsToNotify (old new : UnderLock) (t : ℕ) (whom : ToNotify) : Type 0 where
   pub woken : whom.woken ≡ threads_woken_by old.sys t
   pub calling : whom.calling ≡ is_any_of old.refused whom.woken
   pub over : whom.over ≡ is_over new.sys.script (history new.sys)
 
-pub record IsTaken (old new : UnderLock) (t : ℕ) (whom : ToNotify) : Type 0 where
-  pub may : is_runnable (state_of_run old.sys) t ≡ true
+-- one turn of the thread, which is one event, while the run goes on
+pub record IsOneTurn (old new : UnderLock) (t : ℕ) (whom : ToNotify) : Type 0 where
   pub goes_on : has_ended old.sys old.stopped ≡ false
   pub after : new ≡ after_turn old t
   pub told : IsToNotify old new t whom
+
+-- a step of a runnable thread that is at no task, so none is computed under the lock
+pub record IsTaken (old new : UnderLock) (t : ℕ) (whom : ToNotify) : Type 0 where
+  pub may : is_runnable (state_of_run old.sys) t ≡ true
+  pub no_task : is_working (state_of_run old.sys) t ≡ false
+  pub turn : IsOneTurn old new t whom
+
+-- the thread's task was lent, to be computed without the lock
+pub record IsLent (old new : UnderLock) (t : ℕ) (task : TaskValue) : Type 0 where
+  pub works : WorksOn old.sys t task
+  pub goes_on : has_ended old.sys old.stopped ≡ false
+  pub same : new ≡ old
 
 -- a driver waits only while its thread is not runnable and the run goes on
 pub record IsWait (old new : UnderLock) (t : ℕ) : Type 0 where
@@ -64,8 +79,25 @@ pub record IsEnd (old new : UnderLock) : Type 0 where
 
 abbrev pub IsTurn : UnderLock → UnderLock → ℕ → Turn → Type 0
 IsTurn old new t (turn.Taken whom) = IsTaken old new t whom
+IsTurn old new t (turn.Works task) = IsLent old new t task
 IsTurn old new t turn.Waits = IsWait old new t
 IsTurn old new t turn.Ended = IsEnd old new
+
+-- the end of the thread's task, which is the one that was done
+pub record IsTaskEnd (old new : UnderLock) (t : ℕ) (done : TaskValue) (whom : ToNotify) : Type 0 where
+  pub works : WorksOn old.sys t done
+  pub turn : IsOneTurn old new t whom
+
+-- what was done is dropped only where the thread is not at this task and the run goes on
+pub record IsDropped (old new : UnderLock) (t : ℕ) (done : TaskValue) : Type 0 where
+  pub not_at_it : WorksOn old.sys t done → ⊥
+  pub goes_on : has_ended old.sys old.stopped ≡ false
+  pub same : new ≡ old
+
+abbrev pub IsHandedIn : UnderLock → UnderLock → ℕ → TaskValue → HandedIn → Type 0
+IsHandedIn old new t done (handed.Taken whom) = IsTaskEnd old new t done whom
+IsHandedIn old new t done handed.Dropped = IsDropped old new t done
+IsHandedIn old new t done handed.Ended = IsEnd old new
 
 -- the first of these threads that is runnable
 abbrev pub first_runnable_of : State → List Tid → Option Tid

@@ -3,6 +3,7 @@
 #![tactic(auto)]
 
 pub mod driving;
+mod handing;
 pub mod run;
 pub mod running;
 pub mod share;

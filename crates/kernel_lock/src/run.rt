@@ -213,8 +213,8 @@ pub fn run_threads_on<G: Gate + Sync, R: Threads + Wait + Sync>(
 
 /// Runs each thread of a script on a thread of its own, in whatever order the system makes. The run that is answered is of this
 /// script and over, its events are as many as the turns of all drivers and of the calling thread, and the laws of every run hold of
-/// it. Each driver passes the gate before it looks for its turn. It may wait, and returns when all drivers have left. Want of memory
-/// is the only error, and nothing of the run is kept then.
+/// it. Each driver passes the gate before it looks for its turn, and before it hands in a task that it computed. It may wait, and
+/// returns when all drivers have left. Want of memory is the only error, and nothing of the run is kept then.
 pub fn run_threads<G: Gate + Sync, R: Threads + Wait + Sync>(
     rt: &R,
     alloc: Global,

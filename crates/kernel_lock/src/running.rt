@@ -1,12 +1,13 @@
 //! What lies under the lock.
 ghost use Rattle.std.specs.Prelude.{◌≡◌, length, true, false, not, ◌||◌, ◌==◌, IfOk, OnOk, OnErr, option_copied};
 ghost use Rattle.written_kernel.specs.Words.{is_runnable};
-ghost use Rattle.sys_run.specs.Sys.{state_of_run};
+ghost use Rattle.sys_run.specs.Sys.{is_working, state_of_run};
 ghost use Rattle.kernel_lock.specs.Turning.{held, has_ended, is_any_of, is_member, first_runnable_of, IsTurn, IsNext, stopped_by, with_refused};
 
 use crate::share::TurnShare;
 use crate::turns::{Next, ToNotify, Turn};
 use dk_base::error::NoMemory;
+use dk_base::list::TidList;
 use dk_base::number::Tid;
 use std::sync::ledger::{Book, Ledger};
 use sys_run::sys::Sys;
@@ -37,6 +38,20 @@ fn is_any_one_of(threads: &[Tid], woken: &[Tid]) -> bool
     woken.iter().any(|t| is_one_of(threads, *t))
 }
 
+/// Whom to notify, where a turn woke these threads and left the run over or not.
+pub(crate) fn to_notify(refused: &[Tid], woken: TidList, over: bool) -> ToNotify
+    ensures woken { result.woken ≡ woken }
+    ensures calling { result.calling ≡ is_any_of refused.now woken }
+    ensures over { result.over ≡ over }
+{
+    let calling = is_any_one_of(refused, woken.slice());
+    ToNotify {
+        woken,
+        calling,
+        over,
+    }
+}
+
 /// The first of these threads that is runnable.
 fn first_runnable<'a>(sys: &Sys, threads: &'a [Tid]) -> Option<&'a Tid>
     ensures { option_copied result ≡ first_runnable_of (state_of_run sys.now) threads.now }
@@ -59,7 +74,8 @@ impl<L: Ledger> Running<L> {
     }
 
     /// A turn of a thread, where it may take one. A look that books a turn is one step, and names exactly the threads that the
-    /// step made runnable. Want of memory takes no turn, and stops the run.
+    /// step made runnable. A thread that is at a task takes none here: its task is lent. Want of memory takes no turn, and stops
+    /// the run.
     pub fn turn(&mut self, t: Tid, mine: &mut TurnShare<L>) -> Result<Turn, NoMemory>
         ensures turn { IfOk result (IsTurn
             (held self.old.sys self.old.stopped self.old.refused.items mine.old.turns)
@@ -75,12 +91,22 @@ impl<L: Ledger> Running<L> {
         if !self.sys.runnable(t) {
             return Ok(Turn::Waits);
         }
-        self.take(t, mine)
+        if !self.sys.working(t) {
+            return self.take(t, mine);
+        }
+        match self.sys.lend(t) {
+            Ok(task) => Ok(Turn::Works(task)),
+            Err(NoMemory) => {
+                self.stopped = true;
+                Err(NoMemory)
+            }
+        }
     }
 
-    // A turn of a runnable thread.
+    // A turn of a runnable thread that is at no task.
     fn take(&mut self, t: Tid, mine: &mut TurnShare<L>) -> Result<Turn, NoMemory>
         requires can { is_runnable (state_of_run self.old.sys) t.0 ≡ true }
+        requires no_task { is_working (state_of_run self.old.sys) t.0 ≡ false }
         requires goes_on { has_ended self.old.sys self.old.stopped ≡ false }
         ensures turn { IfOk result (IsTurn
             (held self.old.sys self.old.stopped self.old.refused.items mine.old.turns)
@@ -100,19 +126,22 @@ impl<L: Ledger> Running<L> {
         match sys.step(t) {
             Ok(woken) => {
                 mine.book(book);
-                let calling = is_any_one_of(refused.as_slice(), woken.slice());
                 let over = sys.over();
-                Ok(Turn::Taken(ToNotify {
-                    woken,
-                    calling,
-                    over,
-                }))
+                Ok(Turn::Taken(to_notify(refused.as_slice(), woken, over)))
             }
             Err(NoMemory) => {
                 *stopped = true;
                 Err(NoMemory)
             }
         }
+    }
+
+    /// Stops the run, so that every driver leaves.
+    pub fn stop(&mut self)
+        ensures { held self.new.sys self.new.stopped self.new.refused.items 0
+            ≡ stopped_by (held self.old.sys self.old.stopped self.old.refused.items 0) }
+    {
+        self.stopped = true;
     }
 
     /// Which thread whose start was refused is runnable.
@@ -167,7 +196,7 @@ impl<L: Ledger> Running<L> {
     }
 
     // Whether no turn may be taken any more.
-    fn has_ended(&self) -> bool
+    pub(crate) fn has_ended(&self) -> bool
         ensures { result ≡ has_ended self.now.sys self.now.stopped }
     {
         self.stopped || self.sys.over()

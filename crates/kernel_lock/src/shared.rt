@@ -14,6 +14,8 @@ use sys_run::sys::Sys;
 /// What all drivers share: the run under its lock, and a condition variable for each driver.
 #[derive(Drop)]
 pub struct Shared<L: Ledger> {
+    /// Where drivers have the memory for what they compute without the lock.
+    pub(crate) alloc: Global,
     pub(crate) running: Mutex<Running<L>>,
     /// Where the calling thread waits.
     pub(crate) calling: Condvar,
@@ -47,6 +49,7 @@ impl<L: Ledger> Shared<L> {
             return Err(NoMemory);
         };
         Ok(Shared {
+            alloc,
             running: Mutex::new(Running::new(sys, refused, book)),
             calling: Condvar::new(),
             condvars,
@@ -56,6 +59,7 @@ impl<L: Ledger> Shared<L> {
     /// What lay under the lock.
     pub(crate) fn into_running(self) -> Running<L> {
         let Shared {
+            alloc: _,
             running,
             calling: _,
             condvars: _,

@@ -1,6 +1,7 @@
 //! What a look under the lock gives.
 use dk_base::list::TidList;
 use dk_base::number::Tid;
+use work_ops::task::Task;
 
 /// Whom to notify after a turn.
 #[derive(Drop)]
@@ -18,8 +19,21 @@ pub struct ToNotify {
 pub enum Turn {
     /// It took one turn.
     Taken(ToNotify),
+    /// Its thread is at this task, which it is to compute without the lock.
+    Works(Task),
     /// Its thread is not runnable, and the run goes on.
     Waits,
+    /// The run is over, or was stopped.
+    Ended,
+}
+
+/// What came of a task that a driver computed.
+#[derive(Drop)]
+pub enum HandedIn {
+    /// It ended its thread's task, which is one turn.
+    Taken(ToNotify),
+    /// Its thread is not at this task any more, and the run goes on.
+    Dropped,
     /// The run is over, or was stopped.
     Ended,
 }
