@@ -8,7 +8,7 @@ use dk_base::set::Attrs;
 /// from one process to another, 2 the whole script language, 3 closing and copying descriptors, 4 attributes, parameters
 /// and information of doors, 5 descriptors in calls, 6 server pools and private doors, 7 nested calls, 8 leaving in
 /// mid-call, 9 unreferenced notices, 10 pipes and event ports, 11 associations and tasks.
-pub const BUILT: u32 = 10;
+pub const BUILT: u32 = 11;
 
 fn has_any(attrs: Attrs, others: Attrs) -> bool
     ensures { result ≡ Rattle.capabilities.specs.Capability.has_any attrs others }

@@ -13,7 +13,7 @@ use Rattle.written_kernel.specs.Words.{ActResult, Channels, State, bind, binding
 pub use Rattle.written_kernel.proofs.Moves.{act_result}
 use Rattle.kernel_invariant.specs.Records.{has_notice_number, notice_of, owner_in, record_of}
 use Rattle.kernel_invariant.specs.Core.{core, ended_in}
-use Rattle.kernel_invariant.specs.Coherent.{IsCoherent, is_unbuilt}
+use Rattle.kernel_invariant.specs.Coherent.{IsCoherent, is_unfit}
 use Rattle.kernel_invariant.specs.Invariant.{IsConsistent}
 use Rattle.kernel_invariant.specs.Arrows.{ByAct, NoticeByAct}
 use Rattle.kernel_invariant.specs.Arrows.ByAct.{stays}
@@ -81,7 +81,7 @@ does_call test change same m t q a table tables s serves r h rows g f k b =
 
 pub turned_to :
     (m : State) (t : ℕ) (q : Option Request) (s : ThreadState) (a : Answer) → IsConsistent m → is_quiet (state_of m t) ≡ true →
-    is_quiet s ≡ true → is_unbuilt s ≡ false → Does m t q (act_result (with_state m t s) a)
+    is_quiet s ≡ true → is_unfit s ≡ false → Does m t q (act_result (with_state m t s) a)
 turned_to m t q s a h e f u =
     does_thread m t q a _ _ s _ h (same_tables m h) (set_thread_state-turns m.process_table t s (there m t (λ d. grind arith)))
     (role_keeps (core m) t s h.coherent (grind arith) (grind arith) u (λ o. absurd (grind arith)))
@@ -140,7 +140,7 @@ rebind_keeps m t o h free own =
           };
       processes = h.coherent.processes;
       threads = h.coherent.threads;
-      has_built_state = h.coherent.has_built_state;
+      has_fit_state = h.coherent.has_fit_state;
     })
 
 -- a thread is bound to no door

@@ -9,7 +9,7 @@ use Rattle.kernel_records.specs.declared.record.ThreadState.TheVariants as is
 use Rattle.capabilities.specs.Words.{capability_of}
 use Rattle.capabilities.specs.declared.table.TheConstants.{BUILT}
 use Rattle.written_kernel.specs.Words.{MayTurn, State, can_go_on, is_running_state, state_of}
-use Rattle.kernel_invariant.specs.Coherent.{is_unbuilt}
+use Rattle.kernel_invariant.specs.Coherent.{is_unfit}
 use Rattle.kernel_invariant.specs.Invariant.{IsConsistent, Invariant}
 use Rattle.kernel_invariant.specs.Events.{IsBuiltEnd, IsBuiltEntry, IsBuiltTurn, IsMade}
 use Rattle.kernel_invariant.proofs.NoticeActs.{given_notice_found}
@@ -46,7 +46,9 @@ entry_built m t (request.GetN fd max nget wait) h = tt
 entry_built m t (request.Send fd events user) h = tt
 entry_built m t (request.SendN fds events user) h = tt
 entry_built m t (request.Alert fd mode events user) h = tt
-entry_built m t r h = omega arith
+entry_built m t (request.Associate port object events user) h = tt
+entry_built m t (request.Dissociate port object) h = tt
+entry_built m t (request.Work op bytes) h = tt
 
 made_of : {X : Type 0} (o : Option X) → is_some o ≡ true → IsMade o
 made_of None e = absurd (grind arith)
@@ -54,17 +56,18 @@ made_of (Some x) e = record { made = x; there = refl }
 
 end_built :
     (m : State) (t : ℕ) (s : ThreadState) → IsConsistent m → state_of m t ≡ s → can_go_on m s ≡ true → is_running_state s ≡ false →
-    is_unbuilt s ≡ false → IsBuiltEnd m t s
+    is_unfit s ≡ false → IsBuiltEnd m t s
 end_built m t (is.Given (item.Call c)) h e f g u = made_of _ (given_found m t c h e)
 end_built m t (is.Given (item.Notice c)) h e f g u = made_of _ (given_notice_found m t c h e)
 end_built m t (is.Calling c) h e f g u = made_of _ f
 end_built m t (is.Getting port max nget one marked) h e f g u =
     (f, grind (arith, u))
 end_built m t (is.Awaiting path) h e f g u = made_of _ f
+end_built m t (is.Working op input) h e f g u = tt
 end_built m t is.FailedReturn h e f g u = tt
 end_built m t s h e f g u = grind arith
 
 pub turn_built : (m : State) (t : ℕ) (q : Option Request) → Invariant m → MayTurn m t q → IsBuiltTurn m t q
 turn_built m t (Some r) h may = entry_built m t r may.built
 turn_built m t None h may =
-    end_built m t (state_of m t) h.consistent refl may.runnable may.waits (h.consistent.coherent.has_built_state t)
+    end_built m t (state_of m t) h.consistent refl may.runnable may.waits (h.consistent.coherent.has_fit_state t)

@@ -68,7 +68,7 @@ call_keeps k t r h p =
       bindings = h.bindings;
       processes = processes_turn t _ h.processes (grind arith);
       threads = h.threads;
-      has_built_state = built_turn t _ h refl;
+      has_fit_state = built_turn t _ h refl;
     }
 
 -- a waiting call is given to an idle thread of its door's pool
@@ -112,7 +112,7 @@ give_keeps k r u h p =
       bindings = h.bindings;
       processes = processes_turn u _ h.processes (grind (arith, p.idle));
       threads = h.threads;
-      has_built_state = built_turn u _ h refl;
+      has_fit_state = built_turn u _ h refl;
     }
 
 -- a thread enters the call that it was given
@@ -154,7 +154,7 @@ enter_keeps k t r h q g =
       bindings = h.bindings;
       processes = processes_turn t _ h.processes (grind arith);
       threads = h.threads;
-      has_built_state = built_turn t _ h refl;
+      has_fit_state = built_turn t _ h refl;
     }
 
 -- a thread cannot enter the call that it was given: the call ends, and the thread is parked
@@ -192,7 +192,7 @@ fail_keeps k t r x since h q g =
       bindings = h.bindings;
       processes = processes_turn t _ h.processes (grind arith);
       threads = h.threads;
-      has_built_state = built_turn t _ h refl;
+      has_fit_state = built_turn t _ h refl;
     }
 
 -- a thread that returns is parked, or goes on
@@ -236,7 +236,7 @@ return_keeps k t r bytes objects s h p z q i a =
       bindings = h.bindings;
       processes = processes_turn t _ h.processes (grind arith);
       threads = h.threads;
-      has_built_state = built_turn t s h (grind arith);
+      has_fit_state = built_turn t s h (grind arith);
     }
 
 -- a thread without a client returns
@@ -266,7 +266,7 @@ park_keeps k t s h p w q z =
       bindings = h.bindings;
       processes = processes_turn t _ h.processes (grind arith);
       threads = h.threads;
-      has_built_state = built_turn t s h (grind arith);
+      has_fit_state = built_turn t s h (grind arith);
     }
 
 -- a caller collects the answer of its call
@@ -302,5 +302,5 @@ collect_keeps k t r at h q g z =
       bindings = h.bindings;
       processes = processes_turn t _ h.processes (grind arith);
       threads = h.threads;
-      has_built_state = built_turn t _ h refl;
+      has_fit_state = built_turn t _ h refl;
     }

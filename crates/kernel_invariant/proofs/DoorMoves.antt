@@ -53,7 +53,7 @@ doors_keep k after h s doors =
           record { bound_own = λ v d e. s.owner d _ (h.bindings.bound_own v d e); bound_private = λ v d e. grind (arith, s.private d, h.bindings.bound_private v d e) };
       processes = h.processes;
       threads = h.threads;
-      has_built_state = h.has_built_state;
+      has_fit_state = h.has_fit_state;
     }
 
 -- one door more

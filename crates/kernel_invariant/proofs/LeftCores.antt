@@ -10,7 +10,7 @@ use Rattle.kernel_records.specs.declared.record.CallStage.TheVariants as stage
 use Rattle.kernel_records.specs.declared.record.NoticeStage.TheVariants as notice
 use Rattle.kernel_records.specs.Words.{Leaving, cancelled_invocation, interrupted_state, is_left, is_live, is_private_in, is_valid_in, left_call, no_cancel_of, tid}
 use Rattle.kernel_invariant.specs.Core.{Core, caller_number, door_in, ended_in, has_arguments, is_outside, is_underway, live_in}
-use Rattle.kernel_invariant.specs.Coherent.{AreAtDoors, AreCalls, AreDoors, AreInvocations, AreNoticesAtDoors, AreNoticesEntered, AreNoticesGiven, AreServers, AreWaits, IsCoherent, is_unbuilt}
+use Rattle.kernel_invariant.specs.Coherent.{AreAtDoors, AreCalls, AreDoors, AreInvocations, AreNoticesAtDoors, AreNoticesEntered, AreNoticesGiven, AreServers, AreWaits, IsCoherent, is_unfit}
 use Rattle.kernel_invariant.specs.Records.{item_in, owner_in, stage_in}
 
 -- calls
@@ -112,9 +112,9 @@ marked_outside : (b : Bool) (s : ThreadState) → is_outside (marked b s) ≡ is
 marked_outside true s = grind arith
 marked_outside false s = refl
 
-marked_unbuilt : (b : Bool) (s : ThreadState) → is_unbuilt (marked b s) ≡ is_unbuilt s
-marked_unbuilt true s = grind arith
-marked_unbuilt false s = refl
+marked_unfit : (b : Bool) (s : ThreadState) → is_unfit (marked b s) ≡ is_unfit s
+marked_unfit true s = grind arith
+marked_unfit false s = refl
 
 -- a mark changes no state but that of a wait at a port
 pub marked_same : (b : Bool) (s : ThreadState) → interrupted_state s ≡ s → marked b s ≡ s
@@ -221,11 +221,11 @@ module _ (k : Core) (who : Leaving) (now u : ℕ) (s : ThreadState) (v : Option 
   still_outside (cancels x a b c d f g j) e = j ∙ ap (option_map cancelled_invocation) (h.servers.outside u (sym (ap is_outside g ∙ marked_outside (who.interrupts u) (k.role u)) ∙ e))
   still_outside (stays a b c d) e = d ∙ h.servers.outside u (sym (ap is_outside c ∙ marked_outside (who.interrupts u) (k.role u)) ∙ e)
 
-  still_built : LeftThread k who now u s v → is_unbuilt s ≡ false
-  still_built (ends a b c) = ap is_unbuilt b
-  still_built (parks x a b c d f g) = ap is_unbuilt f
-  still_built (cancels x a b c d f g j) = ap is_unbuilt g ∙ marked_unbuilt (who.interrupts u) (k.role u) ∙ h.has_built_state u
-  still_built (stays a b c d) = ap is_unbuilt c ∙ marked_unbuilt (who.interrupts u) (k.role u) ∙ h.has_built_state u
+  still_fit : LeftThread k who now u s v → is_unfit s ≡ false
+  still_fit (ends a b c) = ap is_unfit b
+  still_fit (parks x a b c d f g) = ap is_unfit f
+  still_fit (cancels x a b c d f g j) = ap is_unfit g ∙ marked_unfit (who.interrupts u) (k.role u) ∙ h.has_fit_state u
+  still_fit (stays a b c d) = ap is_unfit c ∙ marked_unfit (who.interrupts u) (k.role u) ∙ h.has_fit_state u
 
   pub ended_now : LeftThread k who now u s v → who.ends u ≡ true → s ≡ is.Done
   ended_now (ends a b c) e = b
@@ -435,5 +435,5 @@ module _ (k : Core) (who : Leaving) (now : ℕ) (l : Core) (h : IsCoherent k) (p
               thread_number = λ t n e. grind (arith, p.number t, h.threads.thread_number t n);
               process_there = λ t n e. grind (arith, p.number t, p.process t, p.proc_there (k.process t), h.threads.process_there t n);
             };
-        has_built_state = λ t. still_built k who now t _ _ h (p.thread t);
+        has_fit_state = λ t. still_fit k who now t _ _ h (p.thread t);
       }

@@ -52,7 +52,7 @@ make_notice_keeps k n d notices doors h p v s o =
       bindings = h.bindings;
       processes = h.processes;
       threads = h.threads;
-      has_built_state = h.has_built_state;
+      has_fit_state = h.has_fit_state;
     }
 
 -- a waiting notice is given to an idle thread of its door's pool
@@ -91,7 +91,7 @@ give_notice_keeps k n u h p =
       bindings = h.bindings;
       processes = processes_turn u _ h.processes (grind (arith, p.idle));
       threads = h.threads;
-      has_built_state = built_turn u _ h refl;
+      has_fit_state = built_turn u _ h refl;
     }
 
 -- a thread enters the notice that it was given
@@ -134,7 +134,7 @@ enter_notice_keeps k t n h g =
       bindings = h.bindings;
       processes = processes_turn t _ h.processes (grind arith);
       threads = h.threads;
-      has_built_state = built_turn t _ h refl;
+      has_fit_state = built_turn t _ h refl;
     }
 
 -- a thread returns from the notice that it has entered
@@ -174,5 +174,5 @@ end_notice_keeps k t n s h p w i =
       bindings = h.bindings;
       processes = processes_turn t _ h.processes (grind arith);
       threads = h.threads;
-      has_built_state = built_turn t _ h (grind arith);
+      has_fit_state = built_turn t _ h (grind arith);
     }

@@ -81,7 +81,7 @@ coherent_of k calls doors notices states outside numbers unbound living there =
       bindings = record { bound_own = λ v d e. grind (arith, unbound v); bound_private = λ v d e. grind (arith, unbound v) };
       processes = record { ended_done = λ v e. grind (arith, living (k.process v)) };
       threads = record { thread_number = λ v n e. grind (arith, numbers v n); process_there = there };
-      has_built_state = λ v. grind (arith, states v);
+      has_fit_state = λ v. grind (arith, states v);
     }
 
 module _ (m : State) (o : IsOpening m) where

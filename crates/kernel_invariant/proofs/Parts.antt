@@ -11,7 +11,7 @@ use Rattle.kernel_records.specs.declared.record.NoticeStage.TheVariants as notic
 use Rattle.kernel_records.specs.Words.{is_valid_in, no_cancel_of, tid, without_arguments_at}
 use Rattle.kernel_invariant.specs.Records.{item_in, owner_in}
 use Rattle.kernel_invariant.specs.Core.{Core, has_arguments, is_outside, is_underway}
-use Rattle.kernel_invariant.specs.Coherent.{AreAtDoors, AreCalls, AreNoticesAtDoors, AreNoticesEntered, AreNoticesGiven, AreProcesses, AreServers, AreWaits, IsCoherent, bound_for, is_unbuilt}
+use Rattle.kernel_invariant.specs.Coherent.{AreAtDoors, AreCalls, AreNoticesAtDoors, AreNoticesEntered, AreNoticesGiven, AreProcesses, AreServers, AreWaits, IsCoherent, bound_for, is_unfit}
 use Rattle.kernel_invariant.proofs.Cores.{set_role, upd}
 
 -- a thread turns from one state to another
@@ -71,8 +71,8 @@ pub processes_turn :
 processes_turn t s h p = record { ended_done = λ v e. grind (arith, nat_tests, h.ended_done v) }
 
 pub built_turn :
-    {k : Core} (t : ℕ) (s : ThreadState) → IsCoherent k → is_unbuilt s ≡ false → (u : ℕ) → is_unbuilt (upd k.role t s u) ≡ false
-built_turn t s h p u = grind (arith, nat_tests, h.has_built_state u)
+    {k : Core} (t : ℕ) (s : ThreadState) → IsCoherent k → is_unfit s ≡ false → (u : ℕ) → is_unfit (upd k.role t s u) ≡ false
+built_turn t s h p u = grind (arith, nat_tests, h.has_fit_state u)
 
 -- the states of a thread that has not ended and holds no item
 abbrev pub is_free : ThreadState → Bool
@@ -83,7 +83,7 @@ is_free _ = true
 
 -- a thread turns between states that hold no item
 pub role_keeps :
-    (k : Core) (t : ℕ) (s : ThreadState) → IsCoherent k → is_free (k.role t) ≡ true → is_free s ≡ true → is_unbuilt s ≡ false →
+    (k : Core) (t : ℕ) (s : ThreadState) → IsCoherent k → is_free (k.role t) ≡ true → is_free s ≡ true → is_unfit s ≡ false →
     (is_outside s ≡ true → k.serves t ≡ None) → IsCoherent (set_role k t s)
 role_keeps k t s h p q u o =
     record {
@@ -99,7 +99,7 @@ role_keeps k t s h p q u o =
       bindings = h.bindings;
       processes = processes_turn t s h.processes (grind arith);
       threads = h.threads;
-      has_built_state = built_turn t s h u;
+      has_fit_state = built_turn t s h u;
     }
 
 -- a thread's invocation begins or ends

@@ -16,7 +16,7 @@ use Rattle.kernel_invariant.specs.Arrows.{Arrow}
 use Rattle.kernel_invariant.proofs.Later.{AreSameDone, by_act_later}
 use Rattle.written_kernel.proofs.Moves.{Moves, act_moves}
 use Rattle.written_kernel.proofs.Moves.IsBinding.{binds, unbinds}
-use Rattle.written_kernel.proofs.Moves.IsTurn.{awaits, finds, lost_port, waits_for_many, waits_for_one, wakes, was_interrupted, works}
+use Rattle.written_kernel.proofs.Moves.IsTurn.{awaits, finds, lost_port, starts_work, waits_for_many, waits_for_one, wakes, was_interrupted, works}
 use Rattle.written_kernel.proofs.Moves.IsLeaving.{interrupts, exits}
 use Rattle.written_kernel.proofs.Moves.{is_quiet}
 use Rattle.kernel_invariant.proofs.Acts.{Does, bind_does, channels_does, does_nothing, create_does, made_channel_does, names_does, retrieve_does, rows_does, set_param_does, turned_to, unbind_does}
@@ -44,6 +44,7 @@ move_does m t q a h may (Moves.parameter fd x value f) = set_param_does m t q _ 
 move_does m t q a h may (Moves.makes entry cookie attrs f) = create_does m t q entry cookie attrs h (running_is m t may.running) f
 move_does m t q a h may (Moves.turns s x w (awaits path e)) = turned_to m t q s x h (ap is_quiet (running_is m t may.running)) w refl
 move_does m t q a h may (Moves.turns s x w (finds path e)) = turned_to m t q s x h (ap is_quiet e) w refl
+move_does m t q a h may (Moves.turns s x w (starts_work op input)) = turned_to m t q s x h (ap is_quiet (running_is m t may.running)) w refl
 move_does m t q a h may (Moves.turns s x w (works op input e)) = turned_to m t q s x h (ap is_quiet e) w refl
 move_does m t q a h may (Moves.turns s x w (wakes e)) = wake_does m t q h e
 move_does m t q a h may (Moves.turns s x w (waits_for_one fd wait f n)) = turned_to m t q s x h (ap is_quiet (running_is m t may.running)) w refl

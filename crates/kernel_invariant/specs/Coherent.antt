@@ -114,11 +114,10 @@ pub record AreThreads (process : ℕ → ℕ) (number : ℕ → Option ℕ) (pro
 abbrev pub is_fit_wait : ℕ → ℕ → Bool → Bool
 is_fit_wait max nget one = nat_lt 0 max && (nat_le nget max && (not one || ((max == 1) && (nget == 1))))
 
--- what no built kind of event makes of a thread: it goes as the capabilities come
-abbrev pub is_unbuilt : ThreadState → Bool
-is_unbuilt (is.Getting port max nget one marked) = not (is_fit_wait max nget one)
-is_unbuilt (is.Working op input) = true
-is_unbuilt _ = false
+-- what no event makes of a thread
+abbrev pub is_unfit : ThreadState → Bool
+is_unfit (is.Getting port max nget one marked) = not (is_fit_wait max nget one)
+is_unfit _ = false
 
 -- A change of a core keeps by itself the parts that read nothing of what it changes.
 pub record IsCoherent (k : Core) : Type 0 where
@@ -134,4 +133,4 @@ pub record IsCoherent (k : Core) : Type 0 where
   pub bindings : AreBindings k.bound k.door k.process
   pub processes : AreProcesses k.role k.process k.proc
   pub threads : AreThreads k.process k.number k.proc
-  pub has_built_state : (t : ℕ) → is_unbuilt (k.role t) ≡ false
+  pub has_fit_state : (t : ℕ) → is_unfit (k.role t) ≡ false

@@ -139,7 +139,9 @@ IsBuiltEntry m t (request.GetN fd max nget wait) = Unit {0}
 IsBuiltEntry m t (request.Send fd events user) = Unit {0}
 IsBuiltEntry m t (request.SendN fds events user) = Unit {0}
 IsBuiltEntry m t (request.Alert fd mode events user) = Unit {0}
-IsBuiltEntry m t r = ⊥
+IsBuiltEntry m t (request.Associate port object events user) = Unit {0}
+IsBuiltEntry m t (request.Dissociate port object) = Unit {0}
+IsBuiltEntry m t (request.Work op bytes) = Unit {0}
 
 -- the ends of waits that are built, each with what the thread waits for
 abbrev pub IsBuiltEnd : State → ℕ → ThreadState → Type 0
@@ -149,6 +151,7 @@ IsBuiltEnd m t (is.Calling c) = IsMade (find_call m (is_to_collect_as c))
 IsBuiltEnd m t (is.Getting port max nget one marked) =
     (can_end_getting m port nget marked ≡ true) × (is_fit_wait max nget one ≡ true)
 IsBuiltEnd m t (is.Awaiting path) = IsMade (name_of m path)
+IsBuiltEnd m t (is.Working op input) = Unit {0}
 IsBuiltEnd m t is.FailedReturn = Unit {0}
 IsBuiltEnd m t s = ⊥
 

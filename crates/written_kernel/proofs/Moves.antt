@@ -84,6 +84,7 @@ is_quiet _ = false
 pub data IsTurn (m : State) (t : ℕ) : Option Request → ThreadState → Answer → Type 0 where
   awaits : (path : PathId) → name_of m path ≡ None → IsTurn m t (Some (request.Await path)) (is.Awaiting path) answer.Wait
   finds : (path : PathId) → state_of m t ≡ is.Awaiting path → IsTurn m t None is.Running answer.Done
+  starts_work : (op : _) (input : List ℕ) → IsTurn m t (Some (request.Work op input)) (is.Working op input) answer.Wait
   works : (op : _) (input : List ℕ) → state_of m t ≡ is.Working op input → IsTurn m t None is.Running (answer.Data [])
   wakes : state_of m t ≡ is.FailedReturn → IsTurn m t None is.Running (answer.Failure EINVAL)
   waits_for_one :
@@ -345,7 +346,7 @@ module _ (m : State) (t : ℕ) where
   effect_moves (request.Alert fd mode events user) f = passes _ _ _ (alerts fd mode events user f)
   effect_moves (request.Associate port object events user) f = passes _ _ _ (associates port object events user f)
   effect_moves (request.Dissociate port object) f = passes _ _ _ (dissociates port object f)
-  effect_moves r f = nothing _ is_done
+  effect_moves (request.Work op bytes) f = turns _ _ refl (starts_work op bytes)
 
   enter_moves : (r : Request) → Moves m t (Some r) (enter m t (process_of m t) r)
   enter_moves r = go (refusal_of m t (process_of m t) r) refl

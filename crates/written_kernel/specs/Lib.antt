@@ -14,6 +14,7 @@ pub mod Ports
 pub mod Associations
 pub mod Turns
 pub mod Notices
+pub mod Tasks
 pub mod Telling
 pub mod Settle
 pub mod Step

@@ -7,7 +7,7 @@ use Rattle.dk_base.specs.declared.event.What.TheVariants as what
 use Rattle.kernel_records.specs.declared.record.ThreadState.TheVariants as is
 use Rattle.work_ops.specs.Words.{output_of}
 use Rattle.kernel_records.specs.Words.{Test, first_refusal, tid}
-use Rattle.written_kernel.specs.State.{State, process_of, state_of, with_state}
+use Rattle.written_kernel.specs.State.{State, process_of, state_of}
 use Rattle.written_kernel.specs.Acts.{ActResult, no_act, unless_refused}
 use Rattle.written_kernel.specs.Subjects.{Subject, subject_of}
 use Rattle.written_kernel.specs.Doors.{accept, collect, effect_of_doors, tests_of_doors}
@@ -18,6 +18,7 @@ use Rattle.written_kernel.specs.Leaving.{effect_of_leaving, tests_of_leaving, wa
 use Rattle.written_kernel.specs.Pipes.{effect_of_pipes, tests_of_pipes}
 use Rattle.written_kernel.specs.Ports.{effect_of_ports, end_getting, tests_of_ports}
 use Rattle.written_kernel.specs.Associations.{effect_of_associations, tests_of_associations}
+use Rattle.written_kernel.specs.Tasks.{effect_of_tasks, end_work, tests_of_tasks}
 use Rattle.written_kernel.specs.Settle.{settle}
 use Rattle.written_kernel.specs.Turns.{woken_threads}
 use Rattle.written_kernel.specs.Walks.{root}
@@ -33,7 +34,7 @@ tests_about Subject.leaving m t p r = tests_of_leaving m t p r
 tests_about Subject.pipes m t p r = tests_of_pipes m t p r
 tests_about Subject.ports m t p r = tests_of_ports m t p r
 tests_about Subject.associations m t p r = tests_of_associations m t p r
-tests_about Subject.unbuilt m t p r = []
+tests_about Subject.tasks m t p r = tests_of_tasks m t p r
 
 abbrev pub tests_of : State → ℕ → ℕ → Request → List Test
 tests_of m t p r = tests_about (subject_of r) m t p r
@@ -53,7 +54,7 @@ effect_about Subject.leaving m t p r = effect_of_leaving m t p r
 effect_about Subject.pipes m t p r = effect_of_pipes m t p r
 effect_about Subject.ports m t p r = effect_of_ports m t p r
 effect_about Subject.associations m t p r = effect_of_associations m t p r
-effect_about Subject.unbuilt m t p r = no_act m
+effect_about Subject.tasks m t p r = effect_of_tasks m t p r
 
 abbrev pub effect : State → ℕ → ℕ → Request → ActResult
 effect m t p r = effect_about (subject_of r) m t p r
@@ -61,10 +62,6 @@ effect m t p r = effect_about (subject_of r) m t p r
 -- a kernel entry of thread t of process p
 abbrev pub enter : State → ℕ → ℕ → Request → ActResult
 enter m t p r = unless_refused m (refusal_of m t p r) (effect m t p r)
-
--- a task's answer has no bytes here: who runs the thread computes them from the task's input
-abbrev pub end_work : State → ℕ → ActResult
-end_work m t = record { state = with_state m t is.Running; answer = Data [] }
 
 -- the end of a wait of thread t of process p, by what the thread waits for
 abbrev pub go_on : State → ℕ → ℕ → ThreadState → ActResult

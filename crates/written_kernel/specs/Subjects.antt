@@ -11,8 +11,7 @@ pub data Subject : Type 0 where
   pipes : Subject
   ports : Subject
   associations : Subject
-  -- of a capability that is not built: it goes as the capabilities come
-  unbuilt : Subject
+  tasks : Subject
 
 abbrev pub subject_of : Request → Subject
 subject_of (request.Create entry cookie attrs) = Subject.doors
@@ -47,4 +46,4 @@ subject_of (request.SendN fds events user) = Subject.ports
 subject_of (request.Alert port mode events user) = Subject.ports
 subject_of (request.Associate port object events user) = Subject.associations
 subject_of (request.Dissociate port object) = Subject.associations
-subject_of _ = Subject.unbuilt
+subject_of (request.Work op bytes) = Subject.tasks

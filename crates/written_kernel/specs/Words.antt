@@ -16,8 +16,9 @@ pub use Rattle.written_kernel.specs.References.{holdings, holdings_in, named_obj
 pub use Rattle.written_kernel.specs.Runs.{IsRun, Turn, events_of, state_after, state_after_turn, state_at}
 pub use Rattle.written_kernel.specs.Settle.{fail_each, fail_one, fail_return, fail_returns, give, give_and_start, give_each, give_one, give_to, has_first_common_door, has_given_last, has_lost_door, needs_spare, settle, settle_pools, start_each, start_one, start_spares}
 pub use Rattle.written_kernel.specs.State.{Channels, State, bound_of, calls_waiting, client_call, door_of, find_call, find_notice, has_invalid_door, invocation_of, is_bound_to_invalid, is_live_process, is_valid, name_of, now, object_at, pick, pool_of, process_of, state_of, table_of, thread_of, waiting_items, with_channels, with_pipes, with_ports, with_state, with_table_of}
-pub use Rattle.written_kernel.specs.Step.{Step, act, effect, effect_about, end_work, enter, event_of, go_on, output_at, refusal_of, shown_answer, step_after, tests_about, tests_of, what_of, what_of_entry, what_of_wait, with_event_counted, with_output}
+pub use Rattle.written_kernel.specs.Step.{Step, act, effect, effect_about, enter, event_of, go_on, output_at, refusal_of, shown_answer, step_after, tests_about, tests_of, what_of, what_of_entry, what_of_wait, with_event_counted, with_output}
 pub use Rattle.written_kernel.specs.Subjects.{Subject, subject_of}
+pub use Rattle.written_kernel.specs.Tasks.{effect_of_tasks, end_work, start_work, tests_of_tasks}
 pub use Rattle.written_kernel.specs.Telling.{associations_in, end_lost, fire, lost_associations, ready_at, tell}
 pub use Rattle.written_kernel.specs.Turns.{can_end_getting, can_go_on, has_answer, is_runnable, is_running, is_running_state, is_waiting_state, least_among, least_or, least_runnable, waiting_among, waiting_threads, woken_among, woken_threads}
 pub use Rattle.written_kernel.specs.Walks.{caller_in, caller_of, lead, root, served_by, server_at, server_for, server_in, server_of, walk, walk_down}
