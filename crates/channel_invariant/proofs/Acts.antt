@@ -9,10 +9,10 @@ use Rattle.dk_base.specs.declared.object.Obj.TheVariants as obj
 use Rattle.kernel_records.specs.declared.association.Association.{Association}
 use Rattle.kernel_records.specs.declared.record.CallStage.TheVariants as stage
 use Rattle.kernel_records.specs.declared.record.ThreadState.TheVariants as is
-use Rattle.kernel_records.specs.Words.{Leaving, Pipe, Test, all_fired, associate_tests, at_stage, change_first, door_attached, end_owner, first_refusal, free_place, get_tests, getn_tests, has_key, has_lost_its_row, has_other_path, has_path, idle_thread, is_client_call_of, is_given_as, is_queued_as, is_to_collect_as, is_to_fire, lowest_free, names_its_object, new_door, new_pipe, new_port, objects_passed, process_end, refused_where, release_rows, return_call, revocation, thread_at_state, thread_in_invocation, thread_outside, tid, user_event, with_alert, with_door, with_event, with_row, with_table, without_arguments_at, without_found, without_oldest, written}
+use Rattle.kernel_records.specs.Words.{Leaving, Pipe, Test, all_fired, associate_tests, associations_of, at_stage, change_first, door_attached, end_owner, events_found, first_refusal, free_place, get_tests, getn_tests, has_key, has_lost_its_row, has_other_path, has_path, idle_thread, is_client_call_of, is_given_as, is_queued_as, is_to_collect_as, is_to_fire, lowest_free, names_its_object, new_door, new_pipe, new_port, objects_passed, port_of, process_end, refused_where, release_rows, return_call, revocation, thread_at_state, thread_in_invocation, thread_outside, tid, user_event, with_alert, with_door, with_event, with_row, with_table, without_arguments_at, without_found, without_oldest, written}
 use Rattle.kernel_records.proofs.Lists.{Extends}
 use Rattle.written_kernel.specs.Types.{Answer, Attrs, Call, Door, Fd, Item, Name, Obj, Pass, PathId, Request, Thread, ThreadState}
-use Rattle.written_kernel.specs.Words.{ActResult, Channels, MayTurn, State, act, associations_in, create, door_at, door_named, end_lost, fail_return, find_call, fire, give_one, has_room, is_door, is_port, key_at, leave, leave_process, lost_associations, name_of, now, object_at, objects_collected_in, pipe_at, port, port_at, port_named, port_tests, process_of, ready_at, revoke, settle, settle_pools, step, table_of, tables_after_collect, tables_with, tell, watched, with_state}
+use Rattle.written_kernel.specs.Words.{ActResult, Channels, MayTurn, State, act, associations_in, create, door_at, door_named, end_lost, fail_return, find_call, fire, give_one, has_room, is_door, is_port, key_at, leave, leave_process, lost_associations, name_of, now, object_at, objects_collected_in, pipe_at, port, port_at, port_named, port_tests, process_of, ready_at, revoke, settle, settle_pools, step, table_of, tables_after_collect, take_found, tables_with, tell, watched, with_state}
 use Rattle.written_kernel.proofs.Moves.{IsMaking, IsNaming, IsPassing, IsRow, IsTurn, Moves, act_moves}
 use Rattle.written_kernel.proofs.Refusals.{not_held}
 use Rattle.written_kernel.proofs.Settling.{channels-settle_pools, events-settle, pipes-settle, settle_pools-all}
@@ -21,7 +21,7 @@ use Rattle.written_kernel.proofs.Threads.{threads-end_process}
 use Rattle.channel_invariant.specs.Channels.{AreChannels, AreMadeIn, ArePipes, ArePorts, IsAmong, IsMadeObject, Made, ReferToMade, WaitsAtMade, made_in}
 use Rattle.channel_invariant.proofs.Bounds.{alert-ports, all_long, all_sent, fired-ports, length-change_at_number, make-pipes, make-ports, read-pipes, send-ports, take-ports, withdrawn-ports, write-pipes}
 use Rattle.channel_invariant.specs.Associations.{AreAssociations}
-use Rattle.channel_invariant.proofs.Associations.{alert_same, all_sent_same, associate_one, dissociate_one, end_some, fire_some, port_more, send_same, take_some}
+use Rattle.channel_invariant.proofs.Associations.{alert_same, all_sent_same, associate_one, dissociate_one, end_some, fire_some, made_left, port_more, send_same, take_some}
 use Rattle.channel_invariant.proofs.Queues.{length-post_fired, length-withdraw_events}
 use Rattle.channel_invariant.proofs.Elements.{All-change_first, All-find}
 use Rattle.channel_invariant.proofs.References.{HoldsOfAll, IsMore, another_row, another_table, emptied_call, left_calls-made, left_waits, none_in, none_left, one_in, one_thread, passed, refer_to_more, released, several_rows, staged_call}
@@ -559,50 +559,76 @@ unfired_fits before m h = end_lost_fits (settle_pools before m) (pools_fit befor
 settle_fits : (before m : State) → Fits m → Fits (settle before m)
 settle_fits before m h = tell_fits (settle_pools before m) (pools_fit before m h)
 
--- one act makes at most one pipe and one port
+-- one act makes at most one pipe, one port and one association
 
 record MakesFew (m : State) (c : Channels) : Type 0 where
   pipes : length c.pipes ≤ length m.channels.pipes + 1
   ports : length c.ports ≤ length m.channels.ports + 1
+  associations : c.associations.made ≤ m.channels.associations.made + 1
+
+pub taken_made : (c : Channels) (q max : ℕ) → (take_found c q max).associations.made ≡ c.associations.made
+taken_made c q max = made_left (associations_of (events_found max (port_of c.ports q))) c.associations
 
 passing_few : (m : State) (t : ℕ) (r : Request) (c : Channels) (a : Answer) → IsPassing m t r c a → MakesFew m c
 passing_few m t r c a (IsPassing.writes fd bytes f) =
-    record { pipes = omega (arith, length-change_at_number m.channels.pipes (pipe_at m (process_of m t) fd) (written bytes)); ports = omega arith }
+    record { pipes = omega (arith, length-change_at_number m.channels.pipes (pipe_at m (process_of m t) fd) (written bytes)); ports = omega arith; associations = omega arith }
 passing_few m t r c a (IsPassing.reads fd max f) =
-    record { pipes = omega (arith, length-change_at_number m.channels.pipes (pipe_at m (process_of m t) fd) (without_oldest max)); ports = omega arith }
+    record { pipes = omega (arith, length-change_at_number m.channels.pipes (pipe_at m (process_of m t) fd) (without_oldest max)); ports = omega arith; associations = omega arith }
 passing_few m t r c a (IsPassing.sends fd events user f) =
     record {
       pipes = omega arith;
       ports = omega (arith, length-change_at_number m.channels.ports (port_at m (process_of m t) fd) (with_event (user_event events user)));
+      associations = omega arith;
     }
 passing_few m t r c a (IsPassing.sends_each fds events user) =
-    record { pipes = omega arith; ports = omega (arith, all_long m.channels.ports (map (object_at m (process_of m t)) fds) events user) }
+    record { pipes = omega arith; ports = omega (arith, all_long m.channels.ports (map (object_at m (process_of m t)) fds) events user); associations = omega arith }
 passing_few m t r c a (IsPassing.alerts fd mode events user f) =
     record {
       pipes = omega arith;
       ports = omega (arith, length-change_at_number m.channels.ports (port_at m (process_of m t) fd) (with_alert events user));
+      associations = omega arith;
     }
 passing_few m t r c a (IsPassing.gets fd wait f g) =
-    record { pipes = omega arith; ports = omega (arith, length-change_at_number m.channels.ports (port_at m (process_of m t) fd) (without_found 1)) }
+    record {
+      pipes = omega arith;
+      ports = omega (arith, length-change_at_number m.channels.ports (port_at m (process_of m t) fd) (without_found 1));
+      associations = omega (arith, taken_made m.channels (port_at m (process_of m t) fd) 1);
+    }
 passing_few m t r c a (IsPassing.gets_many fd max nget wait f z g) =
-    record { pipes = omega arith; ports = omega (arith, length-change_at_number m.channels.ports (port_at m (process_of m t) fd) (without_found max)) }
+    record {
+      pipes = omega arith;
+      ports = omega (arith, length-change_at_number m.channels.ports (port_at m (process_of m t) fd) (without_found max));
+      associations = omega (arith, taken_made m.channels (port_at m (process_of m t) fd) max);
+    }
 passing_few m t r c a (IsPassing.associates port object events user f) =
-    record { pipes = omega arith; ports = omega (arith, length-withdraw_events m.channels.ports (filter (has_key (key_at m (process_of m t) port object)) (associations_in m))) }
+    record {
+      pipes = omega arith;
+      ports = omega (arith, length-withdraw_events m.channels.ports (filter (has_key (key_at m (process_of m t) port object)) (associations_in m)));
+      associations = omega arith;
+    }
 passing_few m t r c a (IsPassing.dissociates port object f) =
-    record { pipes = omega arith; ports = omega (arith, length-withdraw_events m.channels.ports (filter (has_key (key_at m (process_of m t) port object)) (associations_in m))) }
+    record {
+      pipes = omega arith;
+      ports = omega (arith, length-withdraw_events m.channels.ports (filter (has_key (key_at m (process_of m t) port object)) (associations_in m)));
+      associations = omega arith;
+    }
 
 move_few : (m : State) (t : ℕ) (q : Option Request) (a : ActResult) → Moves m t q a → MakesFew m a.state.channels
 move_few m t q a (Moves.passes r c x e) = passing_few m t r c x e
 move_few m t q a (Moves.makes_channel r c objects x (IsMaking.makes_pipe f)) =
-    record { pipes = omega (arith, length-append m.channels.pipes (new_pipe (length m.channels.pipes + 1) ∷ [])); ports = omega arith }
+    record { pipes = omega (arith, length-append m.channels.pipes (new_pipe (length m.channels.pipes + 1) ∷ [])); ports = omega arith; associations = omega arith }
 move_few m t q a (Moves.makes_channel r c objects x (IsMaking.makes_port f)) =
-    record { pipes = omega arith; ports = omega (arith, length-append m.channels.ports (new_port (length m.channels.ports + 1) ∷ [])) }
+    record { pipes = omega arith; ports = omega (arith, length-append m.channels.ports (new_port (length m.channels.ports + 1) ∷ [])); associations = omega arith }
 move_few m t q a (Moves.retrieves port max nget one e) =
-    record { pipes = omega arith; ports = omega (arith, length-change_at_number m.channels.ports port (without_found max)) }
-move_few m t q a _ = record { pipes = omega arith; ports = omega arith }
+    record {
+      pipes = omega arith;
+      ports = omega (arith, length-change_at_number m.channels.ports port (without_found max));
+      associations = omega (arith, taken_made m.channels port max);
+    }
+move_few m t q a _ = record { pipes = omega arith; ports = omega arith; associations = omega arith }
 
 -- and what follows it none
-settled_long : (before m : State) → length (settle before m).channels.ports ≡ length m.channels.ports
+pub settled_long : (before m : State) → length (settle before m).channels.ports ≡ length m.channels.ports
 settled_long before m =
     length-post_fired (end_lost (settle_pools before m)).channels.ports (all_fired (ready_at (end_lost (settle_pools before m))) (associations_in (end_lost (settle_pools before m))))
     ∙ length-withdraw_events (settle_pools before m).channels.ports (lost_associations (settle_pools before m))
@@ -618,6 +644,14 @@ step_fits m t q h may =
       refers = k.refers;
       few_pipes = omega (arith, ap (λ (ps : List Pipe). length ps) (pipes-settle m (act m t q).state), few.pipes, h.few_pipes, counted);
       few_ports = omega (arith, settled_long m (act m t q).state, few.ports, h.few_ports, counted);
+      few_associations =
+          omega (
+            arith,
+            ap (λ (c : Channels). c.associations.made) (channels-settle_pools m (act m t q).state),
+            few.associations,
+            h.few_associations,
+            counted,
+          );
     }
   where
     k : Fits (settle m (act m t q).state)

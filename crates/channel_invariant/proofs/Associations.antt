@@ -223,6 +223,11 @@ module _ (n : ℕ) (test : Association → Bool) (only : (a : Association) → t
       by true k c = grind (arith, nat_tests)
       by false k c = grind (arith, nat_tests)
 
+-- none is made by it
+pub made_left : (ns : List ℕ) (list : AssociationList) → (retrieve_associations list ns).made ≡ list.made
+made_left [] list = refl
+made_left (n ∷ ns) list = made_left ns (retrieve_association list n)
+
 order_left : (ns : List ℕ) (list : AssociationList) → IsAscending association_number 0 list.made list.associations → IsAscending association_number 0 (retrieve_associations list ns).made (retrieve_associations list ns).associations
 order_left [] list h = h
 order_left (n ∷ ns) list h =

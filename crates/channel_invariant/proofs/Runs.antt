@@ -42,6 +42,7 @@ opening_fits m o =
           };
       few_pipes = omega (arith, ap (λ (c : Channels). length c.pipes) (opened o).channels);
       few_ports = omega (arith, ap (λ (c : Channels). length c.ports) (opened o).channels);
+      few_associations = omega (arith, ap (λ (c : Channels). c.associations.made) (opened o).channels);
     }
 
 pub run_fits : (m : State) (xs : List Turn) → AreChannels m → IsRun m xs → AreChannels (state_after m xs)

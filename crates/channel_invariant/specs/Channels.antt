@@ -74,3 +74,4 @@ pub record AreChannels (m : State) : Type 0 where
   -- one event makes at most one of each
   pub few_pipes : length m.channels.pipes ≤ m.events
   pub few_ports : length m.channels.ports ≤ m.events
+  pub few_associations : m.channels.associations.made ≤ m.events

@@ -10,7 +10,6 @@ use Rattle.kernel_invariant.specs.Records.{notice_of, record_of}
 use Rattle.kernel_invariant.specs.Invariant.{Invariant}
 use Rattle.kernel_invariant.specs.Events.{Keeps}
 use Rattle.run_places.specs.Places.{Becomes, answer_at}
-use Rattle.run_places.proofs.Associations.{HasNoAssociation}
 use Rattle.run_places.proofs.Changes.{Change, change, change_rises, rank_in}
 use Rattle.run_places.specs.Counts.{descriptors, limit_of}
 
@@ -40,8 +39,6 @@ pub record Known (m : State) (xs : List Turn) : Type 0 where
   pub no_binding : (t : ℕ) → bound_of m t ≡ None
   pub sizes : (p : ℕ) → descriptors m p ≡ limit_of m p
   pub invariant : (i : ℕ) → i ≤ length xs → Invariant (state_at m xs i)
-  -- while none can be made
-  pub no_association : (i : ℕ) → i ≤ length xs → HasNoAssociation (state_at m xs i)
   pub may : (i : ℕ) (x : Turn) → slice_get xs i ≡ Some x → MayTurn (state_at m xs i) x.thread x.request
   pub keeps : (i : ℕ) (x : Turn) → slice_get xs i ≡ Some x → Keeps (state_at m xs i) x.thread x.request
 

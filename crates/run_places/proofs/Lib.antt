@@ -4,7 +4,6 @@ pub mod References
 pub mod Refusals
 pub mod Bound
 pub mod Changes
-pub mod Associations
 pub mod Known
 pub mod ReturnRefusals
 pub mod Done

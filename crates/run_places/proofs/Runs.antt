@@ -6,8 +6,7 @@ use Rattle.std.proofs.lemmas.Bool.Decides.{nat_tests}
 use Rattle.std.proofs.lemmas.Option.{slice_get_within}
 use Rattle.dk_base.specs.ByNumber.{at_number}
 use Rattle.kernel_records.specs.Words.{NoticeList, table_in}
-use Rattle.run_places.proofs.Associations.{HasNoAssociation, step_none}
-use Rattle.written_kernel.specs.Words.{Channels, IsOpening, IsRun, State, Turn, door_of, state_at}
+use Rattle.written_kernel.specs.Words.{IsOpening, IsRun, State, Turn, door_of, state_at}
 use Rattle.written_kernel.proofs.Opening.{bound_of-opening, opened, opening_table}
 use Rattle.written_kernel.proofs.Runs.{MayTurn_at, state_at_more}
 use Rattle.kernel_invariant.specs.Records.{has_notice_number, notice_of}
@@ -29,15 +28,6 @@ module _ (m : State) (xs : List Turn) (opens : IsOpening m) (run : IsRun m xs) w
       one a x h f g =
           subst Invariant (sym (state_at_more m xs a x f))
           (step_keeps (state_at m xs a) x.thread x.request g (MayTurn_at m xs a x run f)).invariant
-
-  no_association_at : (i : ℕ) → i ≤ length xs → HasNoAssociation (state_at m xs i)
-  no_association_at i l =
-      stays m xs HasNoAssociation 0 one i (omega arith) l (ap (λ (c : Channels). c.associations.associations) (opened opens).channels)
-    where
-      one : (a : ℕ) (x : Turn) → 0 ≤ a → slice_get xs a ≡ Some x → HasNoAssociation (state_at m xs a) → HasNoAssociation (state_at m xs (a + 1))
-      one a x h f g =
-          subst HasNoAssociation (sym (state_at_more m xs a x f))
-          (step_none (state_at m xs a) x.thread x.request (MayTurn_at m xs a x run f) g)
 
   no_door_at_first : (d : ℕ) → door_of m d ≡ None
   no_door_at_first d = ap (λ ds. at_number ds d) (opened opens).doors ∙ grind (arith, nat_tests)
@@ -65,7 +55,6 @@ module _ (m : State) (xs : List Turn) (opens : IsOpening m) (run : IsRun m xs) w
         no_binding = bound_of-opening opens;
         sizes = sizes;
         invariant = invariant_at;
-        no_association = no_association_at;
         may = λ i x e. MayTurn_at m xs i x run e;
         keeps = λ i x e. step_keeps (state_at m xs i) x.thread x.request (invariant_at i (omega (arith, slice_get_within xs i x e))) (MayTurn_at m xs i x run e);
       }
