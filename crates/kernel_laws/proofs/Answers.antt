@@ -184,7 +184,9 @@ effect_answers m t p (request.Send fd events user) h none = Answers.sends fd eve
 effect_answers m t p (request.SendN fds events user) h none =
     Answers.sends_each fds events user _ (one_each m.channels.ports (map (object_at m p) fds) events user ∙ length-map fds (object_at m p))
 effect_answers m t p (request.Alert fd mode events user) h none = Answers.alerts fd mode events user
-effect_answers m t p r h none = absurd (omega (arith, h))
+effect_answers m t p (request.Associate port object events user) h none = Answers.associates port object events user
+effect_answers m t p (request.Dissociate port object) h none = Answers.dissociates port object
+effect_answers m t p (request.Work op bytes) h none = Answers.works op bytes
 
 step_answers : (m : State) (t : ℕ) (r : Request) → capability_of r ≤ BUILT → Answers r (step m t (Some r)).answer
 unfolding step
@@ -268,6 +270,7 @@ module _ (m : State) (t : ℕ) where
       by_references true r = found (some_left r) (ready r) one b.1
       by_references false r = EndAnswers.lost_port q max nget one (none_left r)
   end_answers (is.Awaiting path) b h = EndAnswers.finds path
+  end_answers (is.Working op input) b h = EndAnswers.ends_work op input
   end_answers is.FailedReturn b h = EndAnswers.wakes
   end_answers s b h = absurd b
 

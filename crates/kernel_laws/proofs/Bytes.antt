@@ -22,7 +22,8 @@ use Rattle.channel_invariant.proofs.Elements.{All-at_number}
 use Rattle.run_places.specs.Places.{answer_at, process_at}
 use Rattle.kernel_laws.specs.Bytes.{Bytes, IsRead, IsWritten, PipeChange}
 use Rattle.kernel_laws.specs.Channels.{Names}
-use Rattle.kernel_laws.proofs.Channels.{IsThere, KnownChannels, answer_of, changed_elsewhere, changed_here, channels_after, entry_answer, entry_channels, is_among, is_free}
+use Rattle.kernel_laws.proofs.RowChanges.{pipes-turn}
+use Rattle.kernel_laws.proofs.Channels.{IsThere, KnownChannels, answer_of, changed_elsewhere, changed_here, entry_answer, entry_pipes, is_among, is_free}
 use Rattle.kernel_laws.proofs.RowChanges.{rows_hold}
 
 writing_end_is : (o : Option Obj) → not (is_writing_end o) ≡ false → o ≡ Some (obj.PipeOut (pipe_named o))
@@ -222,7 +223,7 @@ module _ (m : State) (xs : List Turn) (k : KnownChannels m xs) (i : ℕ) (x : Tu
   each n =
       moves n x.request (act (state_at m xs i) x.thread x.request) (act_moves (state_at m xs i) x.thread x.request) refl
       (answer_of m xs k.known i x e)
-      (ap (λ (c : Channels). c.pipes) (channels_after m xs k.known i x e))
+      (pipes-turn m xs k.known i x e)
 
   -- what a request does that is done
 
@@ -237,20 +238,20 @@ module _ (m : State) (xs : List Turn) (k : KnownChannels m xs) (i : ℕ) (x : Tu
       let free : IsFree (state_at m xs i) x.thread (request.Write fd bytes) = is_free m xs k.known i x e (request.Write fd bytes) (answer.Count count) f g (λ y h. cc) in
       subst (IsWritten m xs i x fd bytes)
       (same_count count _ (sym g ∙ entry_answer m xs k.known i x e (request.Write fd bytes) f free))
-      (write_done fd bytes free (ap (λ (c : Channels). c.pipes) (entry_channels m xs k.known i x e (request.Write fd bytes) f free)))
+      (write_done fd bytes free (entry_pipes m xs k.known i x e (request.Write fd bytes) f free))
 
   reads : (fd : Fd) (max : ℕ) (bytes : List ℕ) → x.request ≡ Some (request.Read fd max) → answer_at m xs i x ≡ answer.Data bytes → IsRead m xs i x fd max bytes
   reads fd max bytes f g =
       let free : IsFree (state_at m xs i) x.thread (request.Read fd max) = is_free m xs k.known i x e (request.Read fd max) (answer.Data bytes) f g (λ y h. cc) in
       subst (IsRead m xs i x fd max)
       (same_data bytes _ (sym g ∙ entry_answer m xs k.known i x e (request.Read fd max) f free))
-      (read_done fd max free (ap (λ (c : Channels). c.pipes) (entry_channels m xs k.known i x e (request.Read fd max) f free)))
+      (read_done fd max free (entry_pipes m xs k.known i x e (request.Read fd max) f free))
 
   is_made :
       (reading writing : Fd) → answer_at m xs i x ≡ answer.TwoFds reading writing →
       at_number pipes_after (length pipes + 1) ≡ Some (new_pipe (length pipes + 1))
   is_made reading writing g =
-      ap (λ ps. at_number ps (length pipes + 1)) (ap (λ (c : Channels). c.pipes) (entry_channels m xs k.known i x e request.Pipe asked free))
+      ap (λ ps. at_number ps (length pipes + 1)) (entry_pipes m xs k.known i x e request.Pipe asked free)
       ∙ numbered_push pipes (new_pipe (length pipes + 1)) (length pipes + 1)
       ∙ grind (arith, nat_tests)
     where

@@ -4,7 +4,7 @@ use Rattle.std.specs.Option.{option_map}
 use Rattle.std.proofs.Common.{refl, sym, ap, subst, ◌∙◌, inl, inr}
 use native.Mathlib.Omega.{arith}
 use Rattle.std.proofs.lemmas.Bool.Decides.{nat_tests}
-use Rattle.written_kernel.specs.Types.{Answer, Errno, Request}
+use Rattle.written_kernel.specs.Types.{Answer, Errno, Request, ThreadState}
 use Rattle.dk_base.specs.ByNumber.{at_number}
 use Rattle.kernel_records.specs.declared.record.ThreadState.TheVariants as is
 use Rattle.kernel_records.specs.Words.{change_at_number, change_found, no_associations}
@@ -20,7 +20,8 @@ use Rattle.channel_invariant.proofs.Runs.{opening_fits}
 use Rattle.run_places.specs.Places.{answer_at, process_at}
 use Rattle.run_places.proofs.Known.{Known, stays}
 use Rattle.kernel_laws.specs.Channels.{is_at_port}
-use Rattle.kernel_laws.proofs.RowChanges.{answers, channels-turn}
+use Rattle.kernel_laws.specs.Tasks.{is_at_task}
+use Rattle.kernel_laws.proofs.RowChanges.{answers, pipes-turn}
 use Rattle.kernel_laws.proofs.Tables.{not_refused}
 
 -- besides what is known of each run
@@ -28,6 +29,7 @@ pub record KnownChannels (m : State) (xs : List Turn) : Type 0 where
   pub known : Known m xs
   pub empty : m.channels ≡ record { pipes = []; ports = []; associations = no_associations }
   pub none_waits : (t : ℕ) → is_at_port (state_of m t) ≡ false
+  pub none_works : (t : ℕ) → is_at_task (state_of m t) ≡ false
   pub fits : (i : ℕ) → i ≤ length xs → AreChannels (state_at m xs i)
 
 pub known_channels : (m : State) (xs : List Turn) → IsOpening m → IsRun m xs → Known m xs → KnownChannels m xs
@@ -35,14 +37,17 @@ known_channels m xs opens run k =
     record {
       known = k;
       empty = (opened opens).channels;
-      none_waits = λ t. none t (state_of-opening opens t);
+      none_waits = λ t. none is_at_port refl refl refl t (state_of-opening opens t);
+      none_works = λ t. none is_at_task refl refl refl t (state_of-opening opens t);
       fits = λ i l. stays m xs AreChannels 0 one i (omega arith) l (opening_fits m opens);
     }
   where
-    none : (t : ℕ) → (state_of m t ≡ is.Running) ⊎ (state_of m t ≡ is.Dormant) ⊎ (state_of m t ≡ is.Done) → is_at_port (state_of m t) ≡ false
-    none t (inl e) = ap is_at_port e
-    none t (inr (inl e)) = ap is_at_port e
-    none t (inr (inr e)) = ap is_at_port e
+    none :
+        (f : ThreadState → Bool) → f is.Running ≡ false → f is.Dormant ≡ false → f is.Done ≡ false → (t : ℕ) →
+        (state_of m t ≡ is.Running) ⊎ (state_of m t ≡ is.Dormant) ⊎ (state_of m t ≡ is.Done) → f (state_of m t) ≡ false
+    none f r d o t (inl e) = ap f e ∙ r
+    none f r d o t (inr (inl e)) = ap f e ∙ d
+    none f r d o t (inr (inr e)) = ap f e ∙ o
 
     one : (a : ℕ) (x : Turn) → 0 ≤ a → slice_get xs a ≡ Some x → AreChannels (state_at m xs a) → AreChannels (state_at m xs (a + 1))
     one a x h f g =
@@ -95,21 +100,22 @@ is_among {X} xs n h = go (at_number xs n) (numbered_there xs n h.0 h.1)
 -- what the turn of a place leaves
 
 module _ (m : State) (xs : List Turn) (k : Known m xs) (i : ℕ) (x : Turn) (e : slice_get xs i ≡ Some x) where
-  pub channels_after : (state_at m xs (i + 1)).channels ≡ (act (state_at m xs i) x.thread x.request).state.channels
-  channels_after = channels-turn m xs k i x e
-
   pub answer_of : answer_at m xs i x ≡ (act (state_at m xs i) x.thread x.request).answer
   answer_of = answers (state_at m xs i) x.thread x.request
 
   -- of an entry that is not refused
 
-  pub entry_channels :
+  pub entry_acted :
       (r : Request) → x.request ≡ Some r → IsFree (state_at m xs i) x.thread r →
-      (state_at m xs (i + 1)).channels ≡ (effect (state_at m xs i) x.thread (process_at m xs i x.thread) r).state.channels
-  entry_channels r f g =
-      channels_after
-      ∙ ap (λ q. (act (state_at m xs i) x.thread q).state.channels) f
-      ∙ ap (λ o. (unless_refused (state_at m xs i) o (effect (state_at m xs i) x.thread (process_at m xs i x.thread) r)).state.channels) g
+      (act (state_at m xs i) x.thread x.request).state ≡ (effect (state_at m xs i) x.thread (process_at m xs i x.thread) r).state
+  entry_acted r f g =
+      ap (λ q. (act (state_at m xs i) x.thread q).state) f
+      ∙ ap (λ o. (unless_refused (state_at m xs i) o (effect (state_at m xs i) x.thread (process_at m xs i x.thread) r)).state) g
+
+  pub entry_pipes :
+      (r : Request) → x.request ≡ Some r → IsFree (state_at m xs i) x.thread r →
+      (state_at m xs (i + 1)).channels.pipes ≡ (effect (state_at m xs i) x.thread (process_at m xs i x.thread) r).state.channels.pipes
+  entry_pipes r f g = pipes-turn m xs k i x e ∙ ap (λ (n : State). n.channels.pipes) (entry_acted r f g)
 
   pub entry_answer :
       (r : Request) → x.request ≡ Some r → IsFree (state_at m xs i) x.thread r →

@@ -43,8 +43,9 @@ use Rattle.kernel_laws.proofs.Pools.{bound_to_own, none_idle_in}
 use Rattle.kernel_laws.proofs.Bytes.{bytes_hold}
 use Rattle.kernel_laws.proofs.PortEvents.{port_events_hold}
 use Rattle.kernel_laws.proofs.PortWaits.{port_waits_hold}
+use Rattle.kernel_laws.proofs.Tasks.{tasks_hold}
 use Rattle.kernel_laws.proofs.OneShot.{one_shot_holds}
-use Rattle.kernel_laws.proofs.Lives.{lives_hold}
+use Rattle.kernel_laws.proofs.Effects.{lives_hold}
 use Rattle.kernel_laws.proofs.Channels.{KnownChannels, known_channels}
 use Rattle.kernel_laws.specs.Entries.{first_reason, reasons, is_message}
 use Rattle.kernel_laws.proofs.Entries.{refusal_is}
@@ -181,6 +182,7 @@ all_hold m xs k h =
       bytes = bytes_hold m xs h;
       port_events = port_events_hold m xs h;
       port_waits = port_waits_hold m xs h;
+      tasks = tasks_hold m xs h;
       one_shot = one_shot_holds m xs h;
       lives = lives_hold m xs h;
     }

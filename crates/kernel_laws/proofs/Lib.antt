@@ -18,8 +18,12 @@ mod RowChanges
 mod Channels
 mod Bytes
 mod Sending
+mod Quiet
+mod PortTurns
 mod PortEvents
+mod OneThread
 mod PortWaits
+mod Tasks
 mod Given
 mod Waits
 mod InvalidDoors
@@ -32,4 +36,6 @@ mod Entries
 mod OneShot
 mod Fired
 mod Lives
+mod Effects
+mod Told
 mod EveryRun

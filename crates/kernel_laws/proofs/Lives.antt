@@ -4,11 +4,11 @@ use Rattle.std.proofs.Common.{ap₂, true≢false, cond, refl, sym, ap, subst, �
 use native.Mathlib.Omega.{arith}
 use Rattle.std.proofs.lemmas.Bool.Decides.{nat_tests}
 use Rattle.kernel_records.specs.declared.association.Association.{Association}
-use Rattle.kernel_records.specs.Words.{AssociationList, IsAscending, Port, association_number, associate_tests, associations_of, descriptor, disarmed, disarmed_where, dissociate_tests, events_found, fired_where, found_at, get_tests, getn_tests, has_key, has_other_key, has_other_number, is_event_of, is_object, is_this_object, is_to_fire, left_at, names_its_object, new_association, object_named, port_in, port_of, refused_where, retrieve_association, retrieve_associations, table_in, told_events}
+use Rattle.kernel_records.specs.Words.{AssociationList, IsAscending, Port, association_number, associate_tests, associations_of, descriptor, disarmed, disarmed_where, dissociate_tests, events_found, fired_where, found_at, get_tests, getn_tests, has_key, has_other_key, has_other_number, is_event_of, is_object, is_ready_for, is_this_object, is_to_fire, left_at, names_its_object, new_association, object_named, port_in, port_of, records_of, refused_where, retrieve_association, retrieve_associations, table_in, told_events}
 use Rattle.kernel_records.proofs.NumberedLists.{ascending-filter}
-use Rattle.written_kernel.specs.Types.{Answer, Fd, Obj, Queued, Request}
+use Rattle.written_kernel.specs.Types.{Answer, EventRec, Fd, Obj, Queued, Request}
 use Rattle.kernel_records.specs.declared.port.Alert.{Alert}
-use Rattle.kernel_laws.specs.PortEvents.{AsksPort}
+use Rattle.kernel_laws.specs.PortEvents.{AsksPort, Tells}
 use Rattle.written_kernel.specs.Words.{ActResult, Channels, State, Turn, act, associated, association_of_key, associations_in, dissociated, end_lost, key_at, object_at, port, port_at, port_tests, ready_at, settle_pools, state_at, step, take_found, watched}
 use Rattle.written_kernel.proofs.Settling.{channels-settle_pools}
 use Rattle.std.proofs.lemmas.Option.{slice_get_within}
@@ -26,20 +26,21 @@ use Rattle.channel_invariant.specs.Channels.{AreChannels}
 use Rattle.channel_invariant.proofs.Acts.{Fits, act_fits, unfired_fits}
 use Rattle.kernel_laws.proofs.Fired.{fired-event, queued_event}
 use Rattle.channel_invariant.proofs.Tally.{count-cons}
+use Rattle.kernel_invariant.specs.Coherent.{is_fit_wait}
 use Rattle.run_places.specs.Places.{answer_at, process_at}
 use Rattle.run_places.proofs.Known.{next}
-use Rattle.kernel_laws.specs.Channels.{Names, alert_in, port_under}
-use Rattle.kernel_laws.specs.OneShot.{association_under, count_from, has_queued_at, is_due, queue_in, under}
-use Rattle.kernel_laws.specs.Lives.{first_from, due_event, is_unfired, Begins, Ends, LifeChange, Lives}
+use Rattle.kernel_laws.specs.Channels.{alert_in, port_under}
+use Rattle.kernel_laws.specs.OneShot.{association_under, count_from, due_event, has_queued_at, is_due, is_unfired, queue_in, under}
+use Rattle.kernel_laws.specs.Lives.{first_from, Begins, Ends, LifeChange}
 use Rattle.kernel_laws.proofs.Channels.{KnownChannels, answer_of}
 use Rattle.kernel_laws.proofs.OneShot.{from_is, counted_from, counted_under, ready_is}
-use Rattle.kernel_laws.proofs.PortEvents.{names_port}
+use Rattle.kernel_laws.proofs.PortTurns.{names_port, tells_found, tells_one, wait_fits}
 use Rattle.kernel_laws.proofs.RowChanges.{tables-step}
 
 -- the association of a number in a list that is changed
 
 module _ (n : ℕ) where
-  under-above : (low made : ℕ) (xs : List Association) → n ≤ low → IsAscending association_number low made xs → under n xs ≡ None
+  pub under-above : (low made : ℕ) (xs : List Association) → n ≤ low → IsAscending association_number low made xs → under n xs ≡ None
   under-above low made [] l h = refl
   under-above low made (a ∷ xs) l h =
       let high : low < a.number = h.0 in
@@ -47,11 +48,11 @@ module _ (n : ℕ) where
       ap (λ (b : Bool). if b then Some a else under n xs) other ∙ under-above a.number made xs (omega arith) h.2
 
   -- the one of a number that is kept
-  abbrev kept : (Association → Bool) → Option Association → Option Association
+  abbrev pub kept : (Association → Bool) → Option Association → Option Association
   kept keep None = None
   kept keep (Some a) = if keep a then Some a else None
 
-  under-filter :
+  pub under-filter :
       (keep : Association → Bool) (low made : ℕ) (xs : List Association) → IsAscending association_number low made xs →
       under n (filter keep xs) ≡ kept keep (under n xs)
   under-filter keep low made [] h = refl
@@ -84,7 +85,7 @@ module _ (n : ℕ) where
       go true rest = refl
       go false rest = rest
 
-  under-push : (xs : List Association) (a : Association) → under n xs ≡ None → under n (xs ++ a ∷ []) ≡ (if a.number == n then Some a else None)
+  pub under-push : (xs : List Association) (a : Association) → under n xs ≡ None → under n (xs ++ a ∷ []) ≡ (if a.number == n then Some a else None)
   under-push [] a e = refl
   under-push (x ∷ xs) a e = go (x.number == n) e (λ f. under-push xs a f)
     where
@@ -149,18 +150,18 @@ told_step m t q n h =
 -- more of lists
 
 module _ (n : ℕ) where
-  under-past : (low made : ℕ) (xs : List Association) → made < n → IsAscending association_number low made xs → under n xs ≡ None
+  pub under-past : (low made : ℕ) (xs : List Association) → made < n → IsAscending association_number low made xs → under n xs ≡ None
   under-past low made [] l h = refl
   under-past low made (a ∷ xs) l h =
       let high : a.number ≤ made = h.1 in
       let other : (a.number == n) ≡ false = grind (arith, nat_tests) in
       ap (λ (b : Bool). if b then Some a else under n xs) other ∙ under-past a.number made xs l h.2
 
-  under-other : (xs : List Association) (a : Association) → (a.number == n) ≡ false → under n (xs ++ a ∷ []) ≡ under n xs
+  pub under-other : (xs : List Association) (a : Association) → (a.number == n) ≡ false → under n (xs ++ a ∷ []) ≡ under n xs
   under-other [] a e = ap (λ (b : Bool). if b then Some a else None) e
   under-other (x ∷ xs) a e = ap (λ o. if x.number == n then Some x else o) (under-other xs a e)
 
-  found-number : (xs : List Association) (a : Association) → under n xs ≡ Some a → (a.number == n) ≡ true
+  pub found-number : (xs : List Association) (a : Association) → under n xs ≡ Some a → (a.number == n) ≡ true
   found-number [] a e = cc
   found-number (x ∷ xs) a e = go (x.number == n) refl e (λ f. found-number xs a f)
     where
@@ -186,7 +187,7 @@ module _ (n : ℕ) where
           by true = refl
           by false = refl
 
-  under-retrieved :
+  pub under-retrieved :
       (ns : List ℕ) (list : AssociationList) → IsAscending association_number 0 list.made list.associations →
       under n (retrieve_associations list ns).associations ≡ (if occurs n ns == 0 then under n list.associations else None)
   under-retrieved [] list h = refl
@@ -200,48 +201,48 @@ module _ (n : ℕ) where
       by true k = grind (arith, nat_tests)
       by false k = grind (arith, nat_tests)
 
-same_fd : (f g : Fd) → (f.0 == g.0) ≡ true → f ≡ g
+pub same_fd : (f g : Fd) → (f.0 == g.0) ≡ true → f ≡ g
 same_fd f g e = let same : f.0 ≡ g.0 = grind (arith, nat_tests) in ap descriptor same
 
-is_itself : (o : Obj) → is_object o o ≡ true
+pub is_itself : (o : Obj) → is_object o o ≡ true
 is_itself (obj.Door n) = grind (arith, nat_tests)
 is_itself (obj.Port n) = grind (arith, nat_tests)
 is_itself (obj.PipeIn n) = grind (arith, nat_tests)
 is_itself (obj.PipeOut n) = grind (arith, nat_tests)
 
-watched_there : (r : Option Obj) → is_none r ≡ false → r ≡ Some (watched r)
+pub watched_there : (r : Option Obj) → is_none r ≡ false → r ≡ Some (watched r)
 watched_there None e = absurd (cc e)
 watched_there (Some o) e = refl
 
-names_watched : (r : Option Obj) → is_none r ≡ false → is_this_object (watched r) r ≡ true
+pub names_watched : (r : Option Obj) → is_none r ≡ false → is_this_object (watched r) r ≡ true
 names_watched None e = absurd (cc e)
 names_watched (Some o) e = is_itself o
 
-alert_is : (o : Option Port) → (port_in o).alert ≡ alert_in o
+pub alert_is : (o : Option Port) → (port_in o).alert ≡ alert_in o
 alert_is None = refl
 alert_is (Some x) = refl
 
-queue_is : (o : Option Port) → (port_in o).queue ≡ queue_in o
+pub queue_is : (o : Option Port) → (port_in o).queue ≡ queue_in o
 queue_is None = refl
 queue_is (Some x) = refl
 
 module _ (m : State) (xs : List Turn) (k : KnownChannels m xs) (i : ℕ) (x : Turn) (e : slice_get xs i ≡ Some x) (n : ℕ) where
-  abbrev before : State
+  abbrev pub before : State
   before = state_at m xs i
 
-  abbrev owner : ℕ
+  abbrev pub owner : ℕ
   owner = process_at m xs i x.thread
 
-  abbrev list : AssociationList
+  abbrev pub list : AssociationList
   list = (state_at m xs i).channels.associations
 
   -- what an act makes of association n
-  data Acted (acted : State) : Option Association → Option Association → Type 0 where
+  pub data Acted (acted : State) : Option Association → Option Association → Type 0 where
     same : {o : Option Association} → Acted acted o o
     begun : (a : Association) → Begins m xs i x n a → names_its_object acted.tables a ≡ true → Acted acted None (Some a)
     ended : (a : Association) → Ends m xs i x a → Acted acted (Some a) None
 
-  ordered : IsAscending association_number 0 list.made list.associations
+  pub ordered : IsAscending association_number 0 list.made list.associations
   ordered = (k.fits i (omega (arith, slice_get_within xs i x e))).associations.in_order
 
   key_acted :
@@ -257,21 +258,71 @@ module _ (m : State) (xs : List Turn) (k : KnownChannels m xs) (i : ℕ) (x : Tu
           by true f = Acted.ended a (why a f)
           by false f = Acted.same
 
+  pub dissociated_by :
+      (port object : Fd) → IsFree before x.thread (request.Dissociate port object) → x.request ≡ Some (request.Dissociate port object) →
+      answer_at m xs i x ≡ answer.Done → (a : Association) → has_key (key_at before owner port object) a ≡ true → Ends m xs i x a
+  dissociated_by port object f g h a l =
+      let at : port_at before owner port ≡ a.key.port = grind (arith, nat_tests) in
+      let own : a.key.process.0 ≡ owner = grind (arith, nat_tests) in
+      let alike : object ≡ a.key.fd = same_fd object a.key.fd (grind (arith, nat_tests)) in
+      Ends.dissociated port (g ∙ ap (λ z. Some (request.Dissociate port z)) alike) h
+      (names_port m xs k i x e port (dissociate_tests (object_at before owner object) (association_of_key before (key_at before owner port object))) f
+      ∙ ap (λ q. Some (obj.Port q)) at)
+      own
+
   dissociate_acts :
       (acted : State) (port object : Fd) → IsFree before x.thread (request.Dissociate port object) → x.request ≡ Some (request.Dissociate port object) →
       answer_at m xs i x ≡ answer.Done →
       Acted acted (under n list.associations) (under n (dissociated before.channels (key_at before owner port object)).associations.associations)
-  dissociate_acts acted port object f g h = key_acted acted (key_at before owner port object) why
-    where
-      why : (a : Association) → has_key (key_at before owner port object) a ≡ true → Ends m xs i x a
-      why a l =
-          let at : port_at before owner port ≡ a.key.port = grind (arith, nat_tests) in
-          let own : a.key.process.0 ≡ owner = grind (arith, nat_tests) in
-          let same : object ≡ a.key.fd = same_fd object a.key.fd (grind (arith, nat_tests)) in
-          Ends.dissociated port (g ∙ ap (λ z. Some (request.Dissociate port z)) same) h
-          (names_port m xs k i x e port (dissociate_tests (object_at before owner object) (association_of_key before (key_at before owner port object))) f
-          ∙ ap (λ q. Some (obj.Port q)) at)
-          own
+  dissociate_acts acted port object f g h = key_acted acted (key_at before owner port object) (dissociated_by port object f g h)
+
+  -- what a port_associate(3C) makes
+
+  abbrev pub new_one : Fd → Fd → PollSet → ℕ → Association
+  new_one port object events user = new_association (list.made + 1) (key_at before owner port object) (watched (object_at before owner object)) events user
+
+  names_one :
+      (port object : Fd) (events : PollSet) (user : ℕ) → IsFree before x.thread (request.Associate port object events user) →
+      is_none (object_at before owner object) ≡ false
+  names_one port object events user f =
+      not_held (port_tests (object_at before owner port)) (refused_where (is_none (object_at before owner object)) EBADFD) [] f
+
+  pub begins_one :
+      (port object : Fd) (events : PollSet) (user : ℕ) → IsFree before x.thread (request.Associate port object events user) →
+      x.request ≡ Some (request.Associate port object events user) → answer_at m xs i x ≡ answer.Done → n ≡ list.made + 1 →
+      Begins m xs i x n (new_one port object events user)
+  begins_one port object events user f g h next =
+      record {
+        port = port;
+        request = g;
+        answered = h;
+        of_port = names_port m xs k i x e port (associate_tests (object_at before owner object)) f;
+        watches = watched_there (object_at before owner object) (names_one port object events user f);
+        by_own = refl;
+        number = sym next;
+        next = next;
+        armed = refl;
+      }
+
+  pub names_new :
+      (tables : List (List (Option Obj))) (port object : Fd) (events : PollSet) (user : ℕ) →
+      IsFree before x.thread (request.Associate port object events user) → tables ≡ before.tables →
+      names_its_object tables (new_one port object events user) ≡ true
+  names_new tables port object events user f alike =
+      ap (λ ts. is_this_object (watched (object_at before owner object)) (object_named (table_in ts owner) object)) alike
+      ∙ names_watched (object_at before owner object) (names_one port object events user f)
+
+  pub replaced_by :
+      (port object : Fd) (events : PollSet) (user : ℕ) → IsFree before x.thread (request.Associate port object events user) →
+      x.request ≡ Some (request.Associate port object events user) → answer_at m xs i x ≡ answer.Done → (a : Association) →
+      has_key (key_at before owner port object) a ≡ true → Ends m xs i x a
+  replaced_by port object events user f g h a l =
+      let at : port_at before owner port ≡ a.key.port = grind (arith, nat_tests) in
+      let own : a.key.process.0 ≡ owner = grind (arith, nat_tests) in
+      let alike : object ≡ a.key.fd = same_fd object a.key.fd (grind (arith, nat_tests)) in
+      Ends.replaced port events user (g ∙ ap (λ z. Some (request.Associate port z events user)) alike) h
+      (names_port m xs k i x e port (associate_tests (object_at before owner object)) f ∙ ap (λ q. Some (obj.Port q)) at)
+      own
 
   associate_acts :
       (acted : State) (port object : Fd) (events : PollSet) (user : ℕ) → IsFree before x.thread (request.Associate port object events user) →
@@ -285,20 +336,6 @@ module _ (m : State) (xs : List Turn) (k : KnownChannels m xs) (i : ℕ) (x : Tu
 
       new : Association
       new = new_association (list.made + 1) (key_at (state_at m xs i) (process_at m xs i x.thread) port object) (watched (object_at before owner object)) events user
-
-      at_port : Names m xs i x port (obj.Port (port_at before owner port))
-      at_port = names_port m xs k i x e port (associate_tests (object_at before owner object)) f
-
-      names_one : is_none (object_at before owner object) ≡ false
-      names_one = not_held (port_tests (object_at before owner port)) (refused_where (is_none (object_at before owner object)) EBADFD) [] f
-
-      why : (a : Association) → has_key (key_at before owner port object) a ≡ true → Ends m xs i x a
-      why a l =
-          let at : port_at before owner port ≡ a.key.port = grind (arith, nat_tests) in
-          let own : a.key.process.0 ≡ owner = grind (arith, nat_tests) in
-          let same : object ≡ a.key.fd = same_fd object a.key.fd (grind (arith, nat_tests)) in
-          Ends.replaced port events user (g ∙ ap (λ z. Some (request.Associate port z events user)) same) h
-          (at_port ∙ ap (λ q. Some (obj.Port q)) at) own
 
       go :
           (b : Bool) → ((list.made + 1) == n) ≡ b →
@@ -315,30 +352,17 @@ module _ (m : State) (xs : List Turn) (k : KnownChannels m xs) (i : ℕ) (x : Tu
           ∙ ap (λ (b : Bool). if b then Some new else None) l in
           subst (λ o. Acted acted o (under n (filter (has_other_key (key_at before owner port object)) list.associations ++ new ∷ []))) (sym none)
           (subst (Acted acted None) (sym pushed)
-          (Acted.begun new
-          (record {
-            port = port;
-            request = g;
-            answered = h;
-            of_port = at_port;
-            watches = watched_there (object_at before owner object) names_one;
-            by_own = refl;
-            number = sym next;
-            next = next;
-            armed = refl;
-          })
-          (ap (λ ts. is_this_object (watched (object_at before owner object)) (object_named (table_in ts owner) object)) tables
-          ∙ names_watched (object_at before owner object) names_one)))
+          (Acted.begun new (begins_one port object events user f g h next) (names_new acted.tables port object events user f tables)))
       go false l =
           subst (Acted acted (under n list.associations))
           (sym (under-other n (filter (has_other_key (key_at before owner port object)) list.associations) new l))
-          (key_acted acted (key_at before owner port object) why)
+          (key_acted acted (key_at before owner port object) (replaced_by port object events user f g h))
 
   -- what is taken
   take_acts :
-      (acted : State) (q max nget : ℕ) → AsksPort m xs i x q max nget →
+      (acted : State) (q max nget : ℕ) (rs : List EventRec) → AsksPort m xs i x q max nget → Tells (answer_at m xs i x) rs →
       Acted acted (under n list.associations) (under n (take_found before.channels q max).associations.associations)
-  take_acts acted q max nget asks =
+  take_acts acted q max nget rs asks tells =
       subst (Acted acted (under n list.associations)) (sym (under-retrieved n (associations_of (events_found max (port_of before.channels.ports q))) list ordered))
       (go (occurs n (associations_of (events_found max (port_of before.channels.ports q)))) refl (under n list.associations) refl)
     where
@@ -386,8 +410,9 @@ module _ (m : State) (xs : List Turn) (k : KnownChannels m xs) (i : ℕ) (x : Tu
           let past : (suc j == 0) ≡ false = grind (arith, nat_tests) in
           subst (Acted acted (Some a)) (sym (ap (λ (b : Bool). if b then Some a else None) past))
           (Acted.ended a
-          (Ends.taken max nget fired
+          (Ends.taken max nget rs fired
           (subst (λ p. AsksPort m xs i x p max nget) (sym at) asks)
+          tells
           (ap (λ p. alert_in (port_under before p)) at ∙ sym (alert_is (port_under before q)) ∙ none_alerted (port_of before.channels.ports q).alert (port_of before.channels.ports q).queue j f)
           (subst (λ z. 1 ≤ count_from z (take max (queue_in (port_under before a.key.port)))) number
           (subst (λ p. 1 ≤ count_from n (take max (queue_in (port_under before p)))) (sym at)
@@ -403,11 +428,13 @@ module _ (m : State) (xs : List Turn) (k : KnownChannels m xs) (i : ℕ) (x : Tu
   passing_acts r c a (IsPassing.sends_each fds events user) g h = Acted.same
   passing_acts r c a (IsPassing.alerts fd mode events user f) g h = Acted.same
   passing_acts r c a (IsPassing.gets fd wait f ready) g h =
-      take_acts (record before { channels = c }) (port_at before owner fd) 1 1
+      take_acts (record before { channels = c }) (port_at before owner fd) 1 1 (records_of (events_found 1 (port before (port_at before owner fd))))
       (AsksPort.by_get fd wait g (names_port m xs k i x e fd (get_tests wait (port before (port_at before owner fd))) f))
+      (subst (λ z. Tells z (records_of (events_found 1 (port before (port_at before owner fd))))) (sym h) (tells_one (port before (port_at before owner fd)) ready))
   passing_acts r c a (IsPassing.gets_many fd max nget wait f z ready) g h =
-      take_acts (record before { channels = c }) (port_at before owner fd) max nget
+      take_acts (record before { channels = c }) (port_at before owner fd) max nget (records_of (events_found max (port before (port_at before owner fd))))
       (AsksPort.by_getn fd max nget wait g (names_port m xs k i x e fd (getn_tests wait max nget (port before (port_at before owner fd))) f))
+      (subst (λ z. Tells z (records_of (events_found max (port before (port_at before owner fd))))) (sym h) (Tells.several _))
   passing_acts r c a (IsPassing.associates port object events user f) g h =
       associate_acts (record before { channels = c }) port object events user f g h refl
   passing_acts r c a (IsPassing.dissociates port object f) g h = dissociate_acts (record before { channels = c }) port object f g h
@@ -416,23 +443,27 @@ module _ (m : State) (xs : List Turn) (k : KnownChannels m xs) (i : ℕ) (x : Tu
       (q : Option Request) (a : ActResult) → Moves before x.thread q a → x.request ≡ q → answer_at m xs i x ≡ a.answer →
       Acted a.state (under n list.associations) (under n (associations_in a.state))
   move_acts q a (Moves.passes r c y p) g h = passing_acts r c y p g h
-  move_acts q a (Moves.retrieves port max nget one p) g h =
-      take_acts a.state port max nget (AsksPort.by_end_of_wait max nget one false g p.waits)
+  move_acts r a (Moves.retrieves q max nget one p) g h =
+      take_acts a.state q max nget (records_of (events_found max (port before q))) (AsksPort.by_end_of_wait max nget one false g p.waits)
+      (subst (λ z. Tells z (records_of (events_found max (port before q)))) (sym h) (tells_found before q max nget one fit.1 fit.0))
+    where
+      fit : (is_ready_for nget (port before q) ≡ true) × (is_fit_wait max nget one ≡ true)
+      fit = wait_fits m xs k i x e q max nget one g p.waits p.referred
   move_acts q a (Moves.makes_channel r c objects y (IsMaking.makes_pipe f)) g h = Acted.same
   move_acts q a (Moves.makes_channel r c objects y (IsMaking.makes_port f)) g h = Acted.same
   move_acts q a y g h = Acted.same
 
-  acts : Acted (act before x.thread x.request).state (under n list.associations) (under n (associations_in (act before x.thread x.request).state))
+  pub acts : Acted (act before x.thread x.request).state (under n list.associations) (under n (associations_in (act before x.thread x.request).state))
   acts = move_acts x.request (act before x.thread x.request) (act_moves before x.thread x.request) refl (answer_of m xs k.known i x e)
 
 -- together with what ports are told
 
 module _ (m : State) (xs : List Turn) (k : KnownChannels m xs) (i : ℕ) (x : Turn) (e : slice_get xs i ≡ Some x) (n : ℕ) where
-  abbrev later : State
+  abbrev pub later : State
   later = state_at m xs (i + 1)
 
   -- an association that is armed and one that is not, where ports are told
-  due_is : (a : Association) → a.armed ≡ true → is_to_fire (ready_at (state_at m xs (i + 1))) a ≡ is_due (state_at m xs (i + 1)) a
+  pub due_is : (a : Association) → a.armed ≡ true → is_to_fire (ready_at (state_at m xs (i + 1))) a ≡ is_due (state_at m xs (i + 1)) a
   due_is a f =
       ap (λ b. b && not (told_events (ready_at (state_at m xs (i + 1)) a.object) a.events == 0)) f
       ∙ ap (λ z. not (bit_and z (bit_or a.events.0 24) == 0)) (ready_is (state_at m xs (i + 1)) a.object)
@@ -467,19 +498,19 @@ module _ (m : State) (xs : List Turn) (k : KnownChannels m xs) (i : ℕ) (x : Tu
       by true f false g = LifeChange.begins a b (sym (due_is a b.armed) ∙ g)
   joined acted (Some a) _ tables (Acted.ended _ w) = LifeChange.ends a w
 
-  acted_fits : Fits (act (state_at m xs i) x.thread x.request).state
+  pub acted_fits : Fits (act (state_at m xs i) x.thread x.request).state
   acted_fits =
       let h : AreChannels (state_at m xs i) = k.fits i (omega (arith, slice_get_within xs i x e)) in
       act_fits (state_at m xs i) x.thread x.request
       (record { pipes = h.pipes; ports = h.ports; associations = h.associations; refers = h.refers }) (k.known.may i x e)
 
-  told : association_under later n ≡ told_one later (under n (associations_in (act (state_at m xs i) x.thread x.request).state))
+  pub told : association_under later n ≡ told_one later (under n (associations_in (act (state_at m xs i) x.thread x.request).state))
   told =
       subst (λ z. under n (associations_in z) ≡ told_one z (under n (associations_in (act (state_at m xs i) x.thread x.request).state)))
       (sym (next m xs k.known i x e))
       (told_step (state_at m xs i) x.thread x.request n acted_fits.associations.in_order)
 
-  change_here : LifeChange m xs i x n (association_under (state_at m xs i) n) (association_under later n)
+  pub change_here : LifeChange m xs i x n (association_under (state_at m xs i) n) (association_under later n)
   change_here =
       subst (LifeChange m xs i x n (association_under (state_at m xs i) n)) (sym told)
       (joined (act (state_at m xs i) x.thread x.request).state (association_under (state_at m xs i) n)
@@ -531,7 +562,7 @@ module _ (m : State) (xs : List Turn) (k : KnownChannels m xs) (i : ℕ) (x : Tu
   abbrev acted_at : State
   acted_at = (act (state_at m xs i) x.thread x.request).state
 
-  same_due : (z : State) (b : Association) → (fired_where (ready_at z) b).queued ≡ due_event z (disarmed b)
+  pub same_due : (z : State) (b : Association) → (fired_where (ready_at z) b).queued ≡ due_event z (disarmed b)
   same_due z b =
       ap
       (λ w. record { rec = record { source = source.Fd; object = b.key.fd.0; events = bit_and w (bit_or b.events.0 24); user = b.user }; assoc = Some b.number })
@@ -556,7 +587,7 @@ module _ (m : State) (xs : List Turn) (k : KnownChannels m xs) (i : ℕ) (x : Tu
           (ap (λ (y : State). names_its_object y.tables b) (sym alike) ∙ g)
           (ap (λ (y : State). is_to_fire (ready_at y) b) (sym alike) ∙ h))
 
-  event_here :
+  pub event_here :
       (a : Association) → association_under (state_at m xs (i + 1)) n ≡ Some a → a.armed ≡ false →
       is_unfired (association_under (state_at m xs i) n) ≡ true →
       first_from n (queue_in (port_under (state_at m xs (i + 1)) a.key.port)) ≡ Some (due_event (state_at m xs (i + 1)) a)
@@ -588,6 +619,3 @@ module _ (m : State) (xs : List Turn) (k : KnownChannels m xs) (i : ℕ) (x : Tu
               let same : disarmed b ≡ a = cc in
               subst (λ (y : Association). first_from n (queue_in (port_under (state_at m xs (i + 1)) y.key.port)) ≡ Some (due_event (state_at m xs (i + 1)) y)) same
               (fired_later b g v w)
-
-pub lives_hold : (m : State) (xs : List Turn) → KnownChannels m xs → Lives m xs
-lives_hold m xs k = record { changes = λ i n x e. change_here m xs k i x e n; event = λ i n x a e f g h. event_here m xs k i x e n a f g h }

@@ -119,6 +119,7 @@ queue_is (Some x) = refl
 pub one_shot_holds : (m : State) (xs : List Turn) → KnownChannels m xs → OneShot m xs
 one_shot_holds m xs k =
     record {
+      in_order = λ i l. (k.fits i l).associations.in_order;
       names = λ i n a l e.
           same_object a.object _
           (under_all (λ b. names_its_object (state_at m xs i).tables b ≡ true) n (associations_in (state_at m xs i)) a (k.known.invariant i l).told.rows e);

@@ -1,29 +1,23 @@
 -- What a thread does before and after an event, where it waits at a port.
-use Rattle.std.specs.Prelude.{ℕ, ◌≡◌, ◌+◌, ◌==◌, ◌<◌, ◌≤◌, ◌↔◌, ◌⊎◌, ◌&&◌, ◌||◌, List, [], Option, Bool, true, false, if◌then◌else◌, not, Some, None, find, is_some, length, nat_le, slice_get, suc, zero}
-use Rattle.std.specs.Option.{option_map}
+use Rattle.std.specs.Prelude.{ℕ, ◌≡◌, ◌+◌, ◌==◌, ◌<◌, ◌≤◌, ◌↔◌, ◌⊎◌, ◌&&◌, ◌||◌, List, [], Option, Bool, true, false, if◌then◌else◌, not, Some, None, is_some, length, nat_le, slice_get, suc, zero}
 use Rattle.std.proofs.Common.{refl, sym, ap, subst, ◌∙◌, inl, inr, add-one}
 use native.Mathlib.Omega.{arith}
 use Rattle.std.proofs.lemmas.Bool.Decides.{nat_tests}
 use Rattle.std.proofs.lemmas.Option.{slice_get_within}
-use Rattle.written_kernel.specs.Types.{Answer, Call, CallStage, Fd, Item, Queued, Request, Thread, ThreadState, Tid}
+use Rattle.written_kernel.specs.Types.{Answer, Fd, Queued, Request, Thread, ThreadState, Tid}
 use Rattle.dk_base.specs.declared.error.Errno.TheVariants.{EINTR, EINVAL, ETIME}
 use Rattle.dk_base.specs.declared.object.Item.TheVariants as item
 use Rattle.dk_base.specs.declared.object.Obj.TheVariants as obj
 use Rattle.dk_base.specs.declared.request.Request.TheVariants as request
 use Rattle.dk_base.specs.declared.answer.Answer.TheVariants as answer
 use Rattle.kernel_records.specs.declared.port.Alert.{Alert}
-use Rattle.kernel_records.specs.declared.record.CallStage.TheVariants as stage
 use Rattle.kernel_records.specs.declared.record.ThreadState.TheVariants as is
-use Rattle.kernel_records.specs.Words.{Leaving, Port, ProcessTable, cancelled_thread, change_thread, deserted_at, deserted_in, ended_thread, first_found, get_tests, getn_tests, has_bad_count, idle_thread, interrupted_state, interrupted_where, interruption, is_left, is_ready_for, is_served_by, left_thread, left_thread_of, must_wait, port_in, process_end, refused_where, revocation, state_in, thread_at, thread_at_state, thread_end, thread_in_invocation, thread_outside, tid}
-use Rattle.kernel_records.proofs.Lists.{at_number-map}
-use Rattle.written_kernel.specs.Words.{ActResult, MayEnter, MayTurn, State, Turn, act, door_at, effect, event_answer, found_answer, get_from, give_one, leave, now, object_at, port, port_at, port_tests, process_of, retrieve, served_by, settle, state_at, state_of, step, tell_queued, thread_of, unless_refused, wait_for, with_state}
+use Rattle.kernel_records.specs.Words.{Leaving, Port, change_thread, first_found, get_tests, getn_tests, has_bad_count, idle_thread, interrupted_state, interruption, is_ready_for, must_wait, port_in, process_end, refused_where, revocation, state_in, thread_at, thread_at_state, thread_end, thread_in_invocation, thread_outside, tid}
+use Rattle.written_kernel.specs.Words.{ActResult, MayEnter, MayTurn, State, Turn, act, door_at, effect, event_answer, found_answer, get_from, leave, now, object_at, port, port_at, port_tests, process_of, retrieve, settle, state_at, state_of, tell_queued, unless_refused, wait_for, with_state}
 use Rattle.written_kernel.proofs.Moves.{IsFree, IsLeaving, IsTurn, Moves, act_moves}
 use Rattle.written_kernel.proofs.Refusals.{last_not_held, not_held}
-use Rattle.written_kernel.proofs.Settling.{settle-all}
-use Rattle.written_kernel.proofs.Threads.{left_thread_of-case, thread_at-change_thread, thread_at-end_process}
-use Rattle.kernel_invariant.specs.Core.{number_in}
+use Rattle.written_kernel.proofs.Threads.{thread_at-end_process}
 use Rattle.kernel_invariant.specs.Invariant.{Invariant}
-use Rattle.kernel_invariant.specs.Records.{stage_in}
 use Rattle.kernel_invariant.proofs.Settling.{is_at_rest}
 use Rattle.kernel_invariant.proofs.Steps.{running_is}
 use Rattle.run_places.specs.Places.{answer_at, process_at}
@@ -34,59 +28,10 @@ use Rattle.kernel_laws.specs.PortWaits.{AsksToWait, BeginsWait, HasTooFew, PortW
 use Rattle.kernel_laws.specs.Answers.{EndAnswers}
 use Rattle.kernel_laws.proofs.Answers.{answers_ends_of_waits, asks_to_wait}
 use Rattle.kernel_laws.proofs.Channels.{IsThere, KnownChannels, answer_of, entry_answer, is_free}
-use Rattle.kernel_laws.proofs.Held.{IsWith, ServesCall, serves_of}
-use Rattle.kernel_laws.proofs.Parked.{IsThread, is_thread, loses_idle, picked_idle, state_elsewhere, state_there}
-use Rattle.kernel_laws.proofs.PortEvents.{names_port, port_there}
+use Rattle.kernel_laws.proofs.Parked.{IsThread, is_thread, state_there}
+use Rattle.kernel_laws.proofs.OneThread.{Settled, is_stirred, leave_none, leave_state, one_changes, settled, settled_same, state-step, state_where}
+use Rattle.kernel_laws.proofs.PortTurns.{names_port, port_there}
 use Rattle.kernel_laws.proofs.RowChanges.{ends_moves}
-
--- what the kernel does after an act leaves a thread as it is, or takes it from rest to what is no wait at a port
-
-abbrev Settled : ThreadState → ThreadState → Type 0
-Settled r s = (s ≡ r) ⊎ ((is_at_rest r ≡ true) × (is_at_port s ≡ false))
-
-turned :
-    (table : ProcessTable) (u t : ℕ) (s r : ThreadState) → is_at_port s ≡ false → is_at_rest (state_in (thread_at table u)) ≡ true →
-    Settled r (state_in (thread_at table t)) → Settled r (state_in (thread_at (change_thread table u (thread_at_state s)) t))
-turned table u t s r p a h = go (t == u) refl
-  where
-    rest : is_at_rest (state_in (thread_at table t)) ≡ true → Settled r (state_in (thread_at table t)) → is_at_rest r ≡ true
-    rest b (inl e) = ap is_at_rest (sym e) ∙ b
-    rest b (inr e) = e.0
-
-    turns : (o : Option Thread) → is_at_port (state_in (option_map (thread_at_state s) o)) ≡ false
-    turns None = refl
-    turns (Some x) = p
-
-    go : (b : Bool) → (t == u) ≡ b → Settled r (state_in (thread_at (change_thread table u (thread_at_state s)) t))
-    go false k = subst (Settled r) (sym (state_elsewhere table u t (thread_at_state s) k)) h
-    go true k =
-        let same : u ≡ t = grind (arith, nat_tests, k) in
-        inr (
-          rest (ap (λ v. is_at_rest (state_in (thread_at table v))) (sym same) ∙ a) h,
-          ap is_at_port
-              (ap state_in (thread_at-change_thread table u t (thread_at_state s))
-              ∙ ap (λ (b : Bool). state_in (if b then option_map (thread_at_state s) (thread_at table u) else thread_at table t)) k)
-              ∙ turns (thread_at table u),
-        )
-
-given : (m : State) (i : Item) (u t since : ℕ) (r : ThreadState) → state_of m u ≡ is.Idle since → Settled r (state_of m t) → Settled r (state_of (give_one m i u) t)
-given m (item.Call c) u t since r e h = turned m.process_table u t (is.Given (item.Call c)) r refl (ap is_at_rest e) h
-given m (item.Notice c) u t since r e h = turned m.process_table u t (is.Given (item.Notice c)) r refl (ap is_at_rest e) h
-
-settled : (before m : State) (t : ℕ) → Settled (state_of m t) (state_of (settle before m) t)
-settled before m t =
-    settle-all (λ n. Settled (state_of m t) (state_of n t)) before
-    (record {
-      makes = λ n d l e. e;
-      fails = λ n u l e. turned n.process_table u t is.FailedReturn (state_of m t) refl (ap is_at_rest (loses_idle n u l).1) e;
-      gives = λ n w x p e. given n w.item x.thread.0 t x.since (state_of m t) (picked_idle n _ x p) e;
-      starts = λ n u r e. turned n.process_table u t is.Running (state_of m t) refl (ap is_at_rest r) e;
-    }) (λ n h. h)
-    m (inl refl)
-
-state-step : (m : State) (t u : ℕ) (q : Option Request) → state_of (step m t q).state u ≡ state_of (settle m (act m t q).state) u
-unfolding step
-state-step m t u q = refl
 
 -- a thread that is interrupted, or ends, or whose caller leaves
 
@@ -94,92 +39,17 @@ not_interrupted : (s : ThreadState) → is_at_port s ≡ false → is_at_port (i
 not_interrupted (is.Getting q max nget one b) e = absurd (cc e)
 not_interrupted s e = e
 
-left_port :
-    (who : Leaving) (n : ℕ) (o : Option Call) (x : Thread) (q max nget : ℕ) (one b : Bool) → x.state ≡ is.Getting q max nget one b →
-    ((r : Call) (u : ℕ) → o ≡ Some r → r.stage ≡ stage.Given (tid u) → ⊥) →
-    (left_thread who n o x).state ≡ (if who.ends x.number then is.Done else is.Getting q max nget one (who.interrupts x.number || b))
-left_port who n o x q max nget one b e none = by_end (who.ends x.number)
-  where
-    Goal : ThreadState
-    Goal = is.Getting q max nget one (who.interrupts x.number || b)
-
-    marked : (d : Bool) → (interrupted_where d x).state ≡ is.Getting q max nget one (d || b)
-    marked true = ap interrupted_state e
-    marked false = e
-
-    at_stage :
-        (r : Call) (d : Bool) (s : CallStage) → ((u : ℕ) → s ≡ stage.Given (tid u) → ⊥) →
-        (deserted_at n r.no_cancel s (interrupted_where d x)).state ≡ is.Getting q max nget one (d || b)
-    at_stage r d (stage.Given u) g = absurd (g u.0 refl)
-    at_stage r d (stage.Entered u) g = by_flag r.no_cancel
-      where
-        by_flag :
-            (c : Bool) → (if c then interrupted_where d x else cancelled_thread (interrupted_where d x)).state ≡ is.Getting q max nget one (d || b)
-        by_flag true = marked d
-        by_flag false = marked d
-    at_stage r d s g = marked d
-
-    deserted :
-        (d : Bool) (z : Option Call) → ((r : Call) (u : ℕ) → z ≡ Some r → r.stage ≡ stage.Given (tid u) → ⊥) →
-        (deserted_in who n z (interrupted_where d x)).state ≡ is.Getting q max nget one (d || b)
-    deserted d None g = marked d
-    deserted d (Some r) g = by_left (is_left who r)
-      where
-        by_left :
-            (c : Bool) →
-            (if c then deserted_at n r.no_cancel r.stage (interrupted_where d x) else interrupted_where d x).state
-            ≡ is.Getting q max nget one (d || b)
-        by_left true = at_stage r d r.stage (λ u l. g r u refl l)
-        by_left false = marked d
-
-    by_end :
-        (c : Bool) →
-        (if c then ended_thread x else deserted_in who n o (interrupted_where (who.interrupts x.number) x)).state
-        ≡ (if c then is.Done else is.Getting q max nget one (who.interrupts x.number || b))
-    by_end true = refl
-    by_end false = deserted (who.interrupts x.number) o none
-
 module _ (m : State) (h : Invariant m) (t : ℕ) where
-  -- a call that a thread was given has it waiting for that call
-  none_given :
-      (q max nget : ℕ) (one b : Bool) → state_of m t ≡ is.Getting q max nget one b → (r : Call) (u : ℕ) → served_by m t ≡ Some r →
-      r.stage ≡ stage.Given (tid u) → ⊥
-  none_given q max nget one b e r u f s = by (serves_of m h t r f) (serves_of m h t r f).with_it
-    where
-      by : ServesCall m t r → IsWith t r.stage → ⊥
-      by z (inl l) = absurd (cc (sym e ∙ h.consistent.coherent.waits.given r.number t (ap stage_in z.found ∙ ap (λ y. Some y) l)))
-      by z (inr l) = absurd (cc (sym s ∙ l))
-
   leave_port :
       (who : Leaving) (q max nget : ℕ) (one b : Bool) → state_of m t ≡ is.Getting q max nget one b →
       state_of (leave m who) t ≡ (if who.ends t then is.Done else is.Getting q max nget one (who.interrupts t || b))
   leave_port who q max nget one b e =
-      ap state_in (at_number-map (left_thread_of who (now m) m.call_tree.calls) m.process_table.threads t) ∙ go (thread_of m t) refl e
+      leave_state m h t who (is.Getting q max nget one b) e (λ d. cc) (λ c d. cc)
+      ∙ ap (λ s. if who.ends t then is.Done else s) (marked (who.interrupts t))
     where
-      go :
-          (o : Option Thread) → thread_of m t ≡ o → state_in o ≡ is.Getting q max nget one b →
-          state_in (option_map (left_thread_of who (now m) m.call_tree.calls) o)
-          ≡ (if who.ends t then is.Done else is.Getting q max nget one (who.interrupts t || b))
-      go None f g = absurd (cc g)
-      go (Some x) f g =
-          let number : x.number ≡ t = h.consistent.coherent.threads.thread_number t x.number (ap number_in f) in
-          left_port who (now m) (find (is_served_by x.number) m.call_tree.calls) x q max nget one b g
-          (λ r u l. none_given q max nget one b e r u (ap (λ n. served_by m n) (sym number) ∙ l))
-          ∙ ap (λ n. if who.ends n then is.Done else is.Getting q max nget one (who.interrupts n || b)) number
-
-  leave_elsewhere : (who : Leaving) → is_at_port (state_of m t) ≡ false → is_at_port (state_of (leave m who) t) ≡ false
-  leave_elsewhere who e =
-      ap (λ o. is_at_port (state_in o)) (at_number-map (left_thread_of who (now m) m.call_tree.calls) m.process_table.threads t)
-      ∙ go (thread_of m t) e
-    where
-      go :
-          (o : Option Thread) → is_at_port (state_in o) ≡ false →
-          is_at_port (state_in (option_map (left_thread_of who (now m) m.call_tree.calls) o)) ≡ false
-      go None g = refl
-      go (Some x) g =
-          left_thread_of-case (λ (y : Thread). is_at_port y.state ≡ false) who (now m) m.call_tree.calls x g refl (not_interrupted x.state g)
-          (λ y l. refl)
-          (λ y l. l)
+      marked : (d : Bool) → state_where d (is.Getting q max nget one b) ≡ is.Getting q max nget one (d || b)
+      marked true = refl
+      marked false = refl
 
 -- a port that is not ready for so many
 too_few : (m : State) (q nget : ℕ) → IsThere (port_under m q) → is_ready_for nget (port m q) ≡ false → HasTooFew m q nget
@@ -209,13 +79,17 @@ module _ (m : State) (xs : List Turn) (k : KnownChannels m xs) (i : ℕ) (x : Tu
   rest_is_none (is.Getting q max nget one b) f = absurd (cc f)
   rest_is_none s f = grind (arith, f)
 
+  stirred_is_none : (s : ThreadState) → is_stirred s ≡ true → is_at_port s ≡ false
+  stirred_is_none (is.Getting q max nget one b) f = absurd (cc f)
+  stirred_is_none s f = grind (arith, f)
+
   then_settled : (t : ℕ) (s r z : ThreadState) → Change t s r → Settled r z → Change t s z
   then_settled t s r z c (inl f) = subst (Change t s) (sym f) c
   then_settled t s r z c (inr f) = go c f.0
     where
       go : {a b : ThreadState} → Change t a b → is_at_rest b ≡ true → Change t a z
-      go (WaitChange.elsewhere g h) l = WaitChange.elsewhere g f.1
-      go (WaitChange.stays {s = c}) l = WaitChange.elsewhere (rest_is_none c l) f.1
+      go (WaitChange.elsewhere g h) l = WaitChange.elsewhere g (stirred_is_none z f.1)
+      go (WaitChange.stays {s = c}) l = WaitChange.elsewhere (rest_is_none c l) (stirred_is_none z f.1)
       go (WaitChange.begins q max nget one g h j w) l = absurd (cc l)
       go (WaitChange.interrupted q max nget one already g h) l = absurd (cc l)
       go (WaitChange.ends q max nget one marked g h) l = absurd (cc l)
@@ -231,26 +105,7 @@ module _ (m : State) (xs : List Turn) (k : KnownChannels m xs) (i : ℕ) (x : Tu
       (t : ℕ) (change : Thread → Thread) →
       ((y : Thread) → y.state ≡ state_of (state_at m xs i) x.thread → Change x.thread y.state (change y).state) →
       Change t (state_of (state_at m xs i) t) (state_in (thread_at (change_thread (state_at m xs i).process_table x.thread change) t))
-  own_changes t change h = go (t == x.thread) refl
-    where
-      table : ProcessTable
-      table = (state_at m xs i).process_table
-
-      here : (o : Option Thread) → thread_at (state_at m xs i).process_table x.thread ≡ o → Change x.thread (state_in o) (state_in (option_map change o))
-      here None f = WaitChange.stays
-      here (Some y) f = h y (ap state_in (sym f))
-
-      go :
-          (b : Bool) → (t == x.thread) ≡ b →
-          Change t (state_of (state_at m xs i) t) (state_in (thread_at (change_thread (state_at m xs i).process_table x.thread change) t))
-      go false g = change_as t _ _ _ _ refl (state_elsewhere (state_at m xs i).process_table x.thread t change g) WaitChange.stays
-      go true g =
-          let same : x.thread ≡ t = grind (arith, nat_tests, g) in
-          change_as t _ (state_of (state_at m xs i) x.thread) _ _ (ap (state_of (state_at m xs i)) (sym same))
-          (ap state_in (thread_at-change_thread (state_at m xs i).process_table x.thread t change)
-          ∙ ap (λ (b : Bool). state_in (if b then option_map change (thread_at (state_at m xs i).process_table x.thread) else thread_at (state_at m xs i).process_table t)) g)
-          (subst (λ z. Change z (state_of (state_at m xs i) x.thread) (state_in (option_map change (thread_at (state_at m xs i).process_table x.thread)))) same
-          (here (thread_at (state_at m xs i).process_table x.thread) refl))
+  own_changes t change h = one_changes Change (state_at m xs i).process_table x.thread t change (λ u r. WaitChange.stays) h
 
   -- from no wait at a port to none
   no_wait :
@@ -301,6 +156,8 @@ module _ (m : State) (xs : List Turn) (k : KnownChannels m xs) (i : ℕ) (x : Tu
       (t : ℕ) (q : Option Request) (s : ThreadState) (a : Answer) → IsTurn (state_at m xs i) x.thread q s a → x.request ≡ q →
       answer_at m xs i x ≡ a → Change t (state_of (state_at m xs i) t) (state_of (with_state (state_at m xs i) x.thread s) t)
   turns t q s a (IsTurn.awaits path f) g h = no_wait t (thread_at_state (is.Awaiting path)) is.Running (running (request.Await path) g) refl (λ y. refl)
+  turns t q s a (IsTurn.starts_work op input) g h =
+      no_wait t (thread_at_state (is.Working op input)) is.Running (running (request.Work op input) g) refl (λ y. refl)
   turns t q s a (IsTurn.finds path f) g h = no_wait t (thread_at_state is.Running) (is.Awaiting path) f refl (λ y. refl)
   turns t q s a (IsTurn.works op input f) g h = no_wait t (thread_at_state is.Running) (is.Working op input) f refl (λ y. refl)
   turns t q s a (IsTurn.wakes f) g h = no_wait t (thread_at_state is.Running) is.FailedReturn f refl (λ y. refl)
@@ -325,7 +182,7 @@ module _ (m : State) (xs : List Turn) (k : KnownChannels m xs) (i : ℕ) (x : Tu
     where
       go : (s : ThreadState) → state_of (state_at m xs i) t ≡ s → Change t (state_of (state_at m xs i) t) (state_of (leave (state_at m xs i) who) t)
       go (is.Getting q max nget one b) f = change_as t _ _ _ _ f (leave_port (state_at m xs i) inv t who q max nget one b f) (h q max nget one b f)
-      go s f = WaitChange.elsewhere none (leave_elsewhere (state_at m xs i) inv t who none)
+      go s f = WaitChange.elsewhere none (leave_none (state_at m xs i) inv t is_at_port refl (λ since. refl) not_interrupted who none)
         where
           none : is_at_port (state_of (state_at m xs i) t) ≡ false
           none = ap is_at_port f
@@ -411,13 +268,7 @@ module _ (m : State) (xs : List Turn) (k : KnownChannels m xs) (i : ℕ) (x : Tu
       (t q max nget : ℕ) (one b : Bool) → state_of (act (state_at m xs i) x.thread x.request).state t ≡ is.Getting q max nget one b →
       state_of (state_at m xs (i + 1)) t ≡ is.Getting q max nget one b
   at_port_after t q max nget one b f =
-      state_after t ∙ go (settled (state_at m xs i) (act (state_at m xs i) x.thread x.request).state t)
-    where
-      go :
-          Settled (state_of (act (state_at m xs i) x.thread x.request).state t) (state_of (settle (state_at m xs i) (act (state_at m xs i) x.thread x.request).state) t) →
-          state_of (settle (state_at m xs i) (act (state_at m xs i) x.thread x.request).state) t ≡ is.Getting q max nget one b
-      go (inl g) = g ∙ f
-      go (inr g) = absurd (cc (sym (ap is_at_rest f) ∙ g.0))
+      state_after t ∙ settled_same (state_at m xs i) (act (state_at m xs i) x.thread x.request).state t (is.Getting q max nget one b) f refl
 
   marks :
       (t q max nget : ℕ) (one already : Bool) → x.request ≡ Some (request.Interrupt (tid t)) →
@@ -586,6 +437,7 @@ module _ (m : State) (xs : List Turn) (k : KnownChannels m xs) (t q max nget : �
   answers_so (EndAnswers.collects c bytes fds grown) f = absurd (cc f)
   answers_so (EndAnswers.collects_error c y z) f = absurd (cc f)
   answers_so (EndAnswers.finds path) f = absurd (cc f)
+  answers_so (EndAnswers.ends_work op input) f = absurd (cc f)
   answers_so EndAnswers.wakes f = absurd (cc f)
 
   marked_where :
@@ -600,6 +452,7 @@ module _ (m : State) (xs : List Turn) (k : KnownChannels m xs) (t q max nget : �
   marked_where b (EndAnswers.collects c bytes fds grown) f g = absurd (cc f)
   marked_where b (EndAnswers.collects_error c y z) f g = absurd (cc f)
   marked_where b (EndAnswers.finds path) f g = absurd (cc f)
+  marked_where b (EndAnswers.ends_work op input) f g = absurd (cc f)
   marked_where b EndAnswers.wakes f g = absurd (cc f)
 
 pub port_waits_hold : (m : State) (xs : List Turn) → KnownChannels m xs → PortWaits m xs

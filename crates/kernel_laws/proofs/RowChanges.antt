@@ -2,10 +2,10 @@
 use Rattle.std.specs.Prelude.{ℕ, ◌≡◌, ◌+◌, ◌<◌, ◌≤◌, ◌==◌, List, [], ◌∷◌, Option, Bool, true, false, if◌then◌else◌, Some, None, zero, suc, is_none, length, nat_lt, slice_get, slice_set, unwrap_or}
 use Rattle.std.specs.Option.{option_map}
 use Rattle.std.specs.List.{list_any, position_or_len}
-use Rattle.std.proofs.Common.{refl, sym, ap, subst, ◌∙◌}
+use Rattle.std.proofs.Common.{is_some, refl, sym, ap, subst, ◌∙◌}
 use native.Mathlib.Omega.{arith}
 use Rattle.std.proofs.lemmas.Bool.Decides.{nat_tests}
-use Rattle.std.proofs.lemmas.List.{length-set}
+use Rattle.std.proofs.lemmas.List.{length-append, length-set}
 use Rattle.written_kernel.specs.Types.{Answer, Attrs, Call, CallStage, Fd, Obj, Pass, PathId, Request, Queued}
 use Rattle.dk_base.specs.declared.error.Errno.TheVariants.{EBADF, EMFILE}
 use Rattle.dk_base.specs.declared.object.Obj.TheVariants as obj
@@ -13,10 +13,10 @@ use Rattle.dk_base.specs.declared.request.Request.TheVariants as request
 use Rattle.dk_base.specs.declared.answer.Answer.TheVariants as answer
 use Rattle.dk_base.specs.ByNumber.{at_number}
 use Rattle.kernel_records.specs.declared.record.CallStage.TheVariants as stage
-use Rattle.kernel_records.specs.Words.{close_row, close_table, descriptor, door_attached, first_found, free_place, free_rows, insert_row, insert_rows, is_to_collect_as, lowest_free, make_pipe, make_port, new_descriptors, new_door, new_pipe, new_port, object_in, object_named, refused_where, release_rows, table_in, with_door, with_row, with_table}
+use Rattle.kernel_records.specs.Words.{Port, close_row, close_table, descriptor, door_attached, first_found, free_place, free_rows, insert_row, insert_rows, is_to_collect_as, lowest_free, make_pipe, make_port, new_descriptors, new_door, new_pipe, new_port, object_in, object_named, refused_where, release_rows, table_in, with_door, with_row, with_table}
 use Rattle.written_kernel.specs.Words.{ActResult, Channels, State, Turn, act, collect_answer, collect_answer_in, door_of, dup, effect, event_answer, find_call, found_answer, has_room, name_of, object_at, objects_collected, objects_collected_in, port, port_at, state_at, step, table_of, tables_after_collect, tables_with}
-use Rattle.kernel_records.proofs.Lists.{numbered_past, numbered_push, same_numbered, slice_get-slice_set}
-use Rattle.written_kernel.proofs.Settling.{doors-settle, tables-settle}
+use Rattle.kernel_records.proofs.Lists.{numbered_past, numbered_push, numbered_there, same_numbered, slice_get-slice_set}
+use Rattle.written_kernel.proofs.Settling.{doors-settle, pipes-settle, tables-settle}
 use Rattle.written_kernel.proofs.Steps.{act-keeps, length-insert_rows, length-release_rows}
 use Rattle.written_kernel.proofs.Moves.{IsEnding, IsFree, IsMaking, IsPassing, IsRow, IsSaid, IsTurn, Moves, act_moves, act_result}
 use Rattle.kernel_invariant.specs.Events.{IsMade}
@@ -27,8 +27,7 @@ use Rattle.kernel_laws.specs.Ends.{EndsProcess}
 use Rattle.kernel_laws.specs.Rows.{ArePipeEnds, AsksFor, Closes, IsAnswered, MakesPipe, RowChange, Rows}
 use Rattle.kernel_laws.proofs.Endings.{last_is}
 use Rattle.kernel_laws.proofs.Installed.{closes, lowest_place, not_released, other_row, others_stay, own_row, place_free, released_none, room_left, taken, table_elsewhere, table_then, were_free}
-use Rattle.std.proofs.lemmas.Option.{slice_get_within}
-use Rattle.run_places.proofs.Associations.{channels_stay}
+use Rattle.channel_invariant.proofs.Acts.{settled_long}
 use Rattle.run_places.proofs.Known.{Known, invariant_before, next, stays}
 use Rattle.run_places.proofs.Passed.{Found, found_any, same_descriptor}
 use Rattle.run_places.proofs.ReturnRefusals.{no_return_refusal}
@@ -83,13 +82,18 @@ pub doors-step : (m : State) (t : ℕ) (q : Option Request) → (step m t q).sta
 unfolding step
 doors-step m t q = doors-settle m (act m t q).state
 
--- while no association can be made
-pub channels-turn :
+pipes-step : (m : State) (t : ℕ) (q : Option Request) → (step m t q).state.channels.pipes ≡ (act m t q).state.channels.pipes
+unfolding step
+pipes-step m t q = pipes-settle m (act m t q).state
+
+ports-step : (m : State) (t : ℕ) (q : Option Request) → length (step m t q).state.channels.ports ≡ length (act m t q).state.channels.ports
+unfolding step
+ports-step m t q = settled_long m (act m t q).state
+
+pub pipes-turn :
     (m : State) (xs : List Turn) (k : Known m xs) (i : ℕ) (x : Turn) → slice_get xs i ≡ Some x →
-    (state_at m xs (i + 1)).channels ≡ (act (state_at m xs i) x.thread x.request).state.channels
-channels-turn m xs k i x e =
-    ap (λ (n : State). n.channels) (next m xs k i x e)
-    ∙ channels_stay (state_at m xs i) x.thread x.request (k.may i x e) (k.no_association i (omega (arith, slice_get_within xs i x e)))
+    (state_at m xs (i + 1)).channels.pipes ≡ (act (state_at m xs i) x.thread x.request).state.channels.pipes
+pipes-turn m xs k i x e = ap (λ (n : State). n.channels.pipes) (next m xs k i x e) ∙ pipes-step (state_at m xs i) x.thread x.request
 
 -- the answer tells a new descriptor, or two
 abbrev is_new : Answer → Bool
@@ -103,7 +107,8 @@ record IsAct (m : State) (xs : List Turn) (i : ℕ) (x : Turn) (q : Option Reque
   answer : answer_at m xs i x ≡ a.answer
   tables : (state_at m xs (i + 1)).tables ≡ a.state.tables
   doors : (state_at m xs (i + 1)).doors ≡ a.state.doors
-  channels : (state_at m xs (i + 1)).channels ≡ a.state.channels
+  pipes : (state_at m xs (i + 1)).channels.pipes ≡ a.state.channels.pipes
+  ports : length (state_at m xs (i + 1)).channels.ports ≡ length a.state.channels.ports
 
 module _ (m : State) (xs : List Turn) (k : Known m xs) (i : ℕ) (x : Turn) (e : slice_get xs i ≡ Some x) where
   abbrev before : State
@@ -263,18 +268,18 @@ module _ (m : State) (xs : List Turn) (k : Known m xs) (i : ℕ) (x : Turn) (e :
   next_pipe = length (state_at m xs i).channels.pipes + 1
 
   asked_port :
-      x.request ≡ Some request.PortCreate → (state_at m xs (i + 1)).channels.ports ≡ make_port (state_at m xs i).channels.ports →
+      x.request ≡ Some request.PortCreate → length (state_at m xs (i + 1)).channels.ports ≡ length (make_port (state_at m xs i).channels.ports) →
       AsksFor m xs i x (obj.Port next_port)
   asked_port f g =
       AsksFor.makes_port next_port f
       (numbered_past (state_at m xs i).channels.ports next_port (omega arith))
-      (record {
-        made = new_port next_port;
-        there =
-            ap (λ ps. at_number ps next_port) g
-            ∙ numbered_push (state_at m xs i).channels.ports (new_port next_port) next_port
-            ∙ grind (arith, nat_tests);
-      })
+      (go (at_number (state_at m xs (i + 1)).channels.ports next_port)
+      (numbered_there (state_at m xs (i + 1)).channels.ports next_port (omega arith)
+      (omega (arith, g, length-append (state_at m xs i).channels.ports (new_port next_port ∷ [])))))
+    where
+      go : (o : Option Port) → is_some o ≡ true → IsMade o
+      go None l = absurd (cc l)
+      go (Some p) l = record { made = p; there = refl }
 
   pipe_is_made :
       x.request ≡ Some request.Pipe → (state_at m xs (i + 1)).channels.pipes ≡ make_pipe (state_at m xs i).channels.pipes →
@@ -332,10 +337,10 @@ module _ (m : State) (xs : List Turn) (k : Known m xs) (i : ℕ) (x : Turn) (e :
   channel_moves r c objects y (IsMaking.makes_port f) h =
       inserted (act_result (record (state_at m xs i) { tables = tables_with (state_at m xs i) own objects; channels = c }) y) (obj.Port next_port) h.answer
       (not_held [] _ [] f) refl
-      (asked_port h.request (ap (λ (d : Channels). d.ports) h.channels))
+      (asked_port h.request h.ports)
   channel_moves r c objects y (IsMaking.makes_pipe f) h =
       by_table (tables_with (state_at m xs i) own objects) own (insert_rows table objects) refl (length-insert_rows table objects)
-      (ends_move (two_free f) h.answer (pipe_is_made h.request (ap (λ (d : Channels). d.pipes) h.channels)))
+      (ends_move (two_free f) h.answer (pipe_is_made h.request h.pipes))
 
   return_moves :
       (bytes : List ℕ) (pass : List Pass) → IsFree (state_at m xs i) x.thread (request.Return bytes pass) →
@@ -424,7 +429,8 @@ module _ (m : State) (xs : List Turn) (k : Known m xs) (i : ℕ) (x : Turn) (e :
         answer = answers (state_at m xs i) x.thread x.request;
         tables = ap (λ (n : State). n.tables) (next m xs k i x e) ∙ tables-step (state_at m xs i) x.thread x.request;
         doors = ap (λ (n : State). n.doors) (next m xs k i x e) ∙ doors-step (state_at m xs i) x.thread x.request;
-        channels = channels-turn m xs k i x e;
+        pipes = pipes-turn m xs k i x e;
+        ports = ap (λ (n : State). length n.channels.ports) (next m xs k i x e) ∙ ports-step (state_at m xs i) x.thread x.request;
       }
 
   rows_here : (p : ℕ) (fd : Fd) → Row p fd (object_at (state_at m xs i) p fd) (object_at (state_at m xs (i + 1)) p fd)
@@ -526,7 +532,7 @@ module _ (m : State) (xs : List Turn) (k : Known m xs) (i : ℕ) (x : Turn) (e :
   act_told q a fd (Moves.makes_channel r c objects y (IsMaking.makes_pipe f)) h g = absurd (cc g)
   act_told q a fd (Moves.makes_channel r c objects y (IsMaking.makes_port f)) h g =
       told_by a (obj.Port next_port) fd h.tables (not_held [] _ [] f) g
-      (asked_port h.request (ap (λ (d : Channels). d.ports) h.channels))
+      (asked_port h.request h.ports)
   act_told q a fd (Moves.nothing y s) h g = absurd (not_new y fd g (new_of_said q y s))
   act_told q a fd (Moves.turns s y w z) h g = absurd (not_new y fd g (new_of_turn q s y z))
   act_told q a fd (Moves.collects c f) h g = absurd (not_new _ fd g (new_of_collect (find_call (state_at m xs i) (is_to_collect_as c))))
@@ -581,7 +587,7 @@ module _ (m : State) (xs : List Turn) (k : Known m xs) (i : ℕ) (x : Turn) (e :
       (q : Option Request) (a : ActResult) (reading writing : Fd) → Moves (state_at m xs i) x.thread q a → IsAct m xs i x q a →
       answer.TwoFds reading writing ≡ a.answer → ArePipeEnds m xs i x reading writing
   act_piped q a reading writing (Moves.makes_channel r c objects y (IsMaking.makes_pipe f)) h g =
-      ends_told reading writing f (pipe_is_made h.request (ap (λ (d : Channels). d.pipes) h.channels)) h.tables g
+      ends_told reading writing f (pipe_is_made h.request h.pipes) h.tables g
   act_piped q a reading writing (Moves.makes_channel r c objects y (IsMaking.makes_port f)) h g = absurd (cc g)
   act_piped q a reading writing (Moves.rows r place o y (IsRow.closes gd f)) h g = absurd (cc g)
   act_piped q a reading writing (Moves.rows r place o y _) h g = absurd (cc g)

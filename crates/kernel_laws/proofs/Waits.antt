@@ -178,6 +178,8 @@ module _ (m : State) (t : ℕ) (h : Invariant m) where
   move_stands r a e (Moves.nothing x s) = goes (said r x s) (ap is_over e)
   move_stands r a e (Moves.rows q place o x s) = goes (row_said q place o x s) (ap is_over e)
   move_stands r a e (Moves.turns s x w (IsTurn.awaits path f)) = waits refl (ap is_parked (changed_here (there is.Running e (λ d. cc)) (thread_at_state (is.Awaiting path))))
+  move_stands r a e (Moves.turns s x w (IsTurn.starts_work op input)) =
+      waits refl (ap is_parked (changed_here (there is.Running e (λ d. cc)) (thread_at_state (is.Working op input))))
   move_stands r a e (Moves.turns s x w (IsTurn.waits_for_one fd wait f n)) =
       waits refl (ap is_parked (changed_here (there is.Running e (λ d. cc)) (thread_at_state _)))
   move_stands r a e (Moves.turns s x w (IsTurn.waits_for_many fd max nget wait f z n)) =
@@ -241,6 +243,7 @@ module _ (m : State) (t : ℕ) (h : Invariant m) where
       by_references true = goes (found q max one) (ap is_over (changed_here (there _ e (λ d. cc)) (thread_at_state is.Running)))
       by_references false = goes refl (ap is_over (changed_here (there _ e (λ d. cc)) (thread_at_state is.Running)))
   end_stands (is.Awaiting path) e b = goes refl (ap is_over (changed_here (there _ e (λ d. cc)) (thread_at_state is.Running)))
+  end_stands (is.Working op input) e b = goes refl (ap is_over (changed_here (there _ e (λ d. cc)) (thread_at_state is.Running)))
   end_stands is.FailedReturn e b = goes refl (ap is_over (changed_here (there _ e (λ d. cc)) (thread_at_state is.Running)))
   end_stands s e b = absurd b
 

@@ -1,7 +1,9 @@
 -- Answers: an entry that answers no error gives the kind of answer that its request has, and the end of a wait gives one that belongs
 -- to what the thread waited in.
-use Rattle.std.specs.Prelude.{ℕ, ◌≡◌, ◌≤◌, ◌⊎◌, List, Option, Bool, false, true, None, Some, length, slice_get}
+use Rattle.std.specs.Prelude.{ℕ, ◌≡◌, ◌≤◌, ◌⊎◌, List, Option, Bool, [], false, true, None, Some, length, slice_get}
 use Rattle.written_kernel.specs.Types.{AlertMode, Answer, Attrs, Errno, EventRec, Fd, Param, Pass, PathId, Pid, Request, ThreadState, Tid}
+use Rattle.dk_base.specs.declared.request.Op.{Op}
+use Rattle.dk_base.specs.declared.set.PollSet.{PollSet}
 use Rattle.dk_base.specs.declared.error.Errno.TheVariants.{EBADF, EINTR, EINVAL, EMFILE}
 use Rattle.dk_base.specs.declared.object.Item.TheVariants as item
 use Rattle.dk_base.specs.declared.answer.Answer.TheVariants as answer
@@ -53,6 +55,9 @@ pub data Answers : Request → Answer → Type 0 where
       (fds : List Fd) (events user : ℕ) (errors : List (Option Errno)) → length errors ≡ length fds →
       Answers (request.SendN fds events user) (answer.Errors errors)
   alerts : (fd : Fd) (mode : AlertMode) (events user : ℕ) → Answers (request.Alert fd mode events user) answer.Done
+  associates : (port object : Fd) (events : PollSet) (user : ℕ) → Answers (request.Associate port object events user) answer.Done
+  dissociates : (port object : Fd) → Answers (request.Dissociate port object) answer.Done
+  works : (op : Op) (input : List ℕ) → Answers (request.Work op input) answer.Wait
 
 abbrev pub AnswersRequests : State → List Turn → Type 0
 AnswersRequests m xs = (i : ℕ) (x : Turn) (r : Request) → slice_get xs i ≡ Some x → x.request ≡ Some r → Answers r (answer_at m xs i x)
@@ -74,6 +79,8 @@ pub data EndAnswers (m : State) : ThreadState → Answer → Type 0 where
       (port max nget : ℕ) (events : List EventRec) → 1 ≤ references_of_port m port → AreEnough m port max nget events →
       EndAnswers m (is.Getting port max nget false false) (answer.Events events)
   finds : (path : PathId) → EndAnswers m (is.Awaiting path) answer.Done
+  -- what a task's end shows is its output, which the kernel does not compute
+  ends_work : (op : Op) (input : List ℕ) → EndAnswers m (is.Working op input) (answer.Data [])
   wakes : EndAnswers m is.FailedReturn (answer.Failure EINVAL)
 
 -- of each end of a wait

@@ -24,6 +24,7 @@ use Rattle.kernel_laws.specs.EventsShown.{EventsShown}
 use Rattle.kernel_laws.specs.Bytes.{Bytes}
 use Rattle.kernel_laws.specs.PortEvents.{PortEvents}
 use Rattle.kernel_laws.specs.PortWaits.{PortWaits}
+use Rattle.kernel_laws.specs.Tasks.{Tasks}
 use Rattle.kernel_laws.specs.OneShot.{OneShot}
 use Rattle.kernel_laws.specs.Lives.{Lives}
 
@@ -53,6 +54,7 @@ pub record AllLaws (m : State) (xs : List Turn) : Type 0 where
   pub bytes : Bytes m xs
   pub port_events : PortEvents m xs
   pub port_waits : PortWaits m xs
+  pub tasks : Tasks m xs
   pub one_shot : OneShot m xs
   pub lives : Lives m xs
 

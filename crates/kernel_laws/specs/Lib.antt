@@ -18,6 +18,7 @@ pub mod Channels
 pub mod Bytes
 pub mod PortEvents
 pub mod PortWaits
+pub mod Tasks
 pub mod OneShot
 pub mod Lives
 pub mod Answers

@@ -3,8 +3,9 @@
 use Rattle.std.specs.Prelude.{ℕ, ◌≡◌, ◌+◌, ◌≤◌, ◌==◌, ◌&&◌, List, [], ◌∷◌, Option, Bool, true, false, if◌then◌else◌, not, Some, None, bit_and, bit_or, length}
 use Rattle.written_kernel.specs.Types.{Obj, Queued}
 use Rattle.dk_base.specs.declared.object.Obj.TheVariants as obj
+use Rattle.dk_base.specs.declared.object.Src.TheVariants as source
 use Rattle.kernel_records.specs.declared.association.Association.{Association}
-use Rattle.kernel_records.specs.Words.{Port}
+use Rattle.kernel_records.specs.Words.{IsAscending, Port, association_number}
 use Rattle.written_kernel.specs.Words.{State, Turn, object_at, state_at}
 use Rattle.run_places.specs.References.{readers_left, writers_left}
 use Rattle.kernel_laws.specs.Channels.{pipe_under, port_under}
@@ -39,6 +40,16 @@ due_events m a = bit_and (ready_events m a.object) (bit_or a.events.0 24)
 abbrev pub is_due : State → Association → Bool
 is_due m a = not (due_events m a == 0)
 
+-- what an association queues by a state in which its object is ready
+abbrev pub due_event : State → Association → Queued
+due_event m a =
+    record { rec = record { source = source.Fd; object = a.key.fd.0; events = due_events m a; user = a.user }; assoc = Some a.number }
+
+-- one that has not fired, or does not stand
+abbrev pub is_unfired : Option Association → Bool
+is_unfired None = true
+is_unfired (Some a) = a.armed
+
 -- how many events of an association stand in a queue
 
 abbrev pub is_from : ℕ → Option ℕ → Bool
@@ -59,6 +70,10 @@ has_queued_at q None = false
 has_queued_at q (Some a) = (a.key.port == q) && not a.armed
 
 pub record OneShot (m : State) (xs : List Turn) : Type 0 where
+  -- those that stand are kept in the order of their numbers
+  pub in_order :
+      (i : ℕ) → i ≤ length xs →
+      IsAscending association_number 0 (state_at m xs i).channels.associations.made (state_at m xs i).channels.associations.associations
   -- the descriptor of one that stands names its object
   pub names :
       (i n : ℕ) (a : Association) → i ≤ length xs → association_under (state_at m xs i) n ≡ Some a →

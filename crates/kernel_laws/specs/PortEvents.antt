@@ -1,13 +1,15 @@
 -- Events: a port is made without an event and without an alert, under the next number. What is sent stands last in its queue. A get, or
 -- the end of a wait, tells the alert where there is one, which stays, and else the first events, which the queue holds no more. An
--- alert is set or ended by port_alert(3C). Nothing else changes a port.
-use Rattle.std.specs.Prelude.{ℕ, ◌≡◌, ◌+◌, ◌++◌, ◌<◌, ◌≤◌, ◌&&◌, List, [], ◌∷◌, Option, Bool, false, if◌then◌else◌, Some, None, is_none, length, map, min, replicate, slice_get, suc, take, zero}
+-- alert is set or ended by port_alert(3C). What an association has queued is withdrawn where it ends, and those that fire queue their
+-- events, in the order of their numbers. Nothing else changes a port.
+use Rattle.std.specs.Prelude.{ℕ, ◌≡◌, ◌+◌, ◌++◌, ◌<◌, ◌≤◌, ◌==◌, ◌&&◌, List, [], ◌∷◌, Option, Bool, false, true, if◌then◌else◌, not, Some, None, filter, is_none, is_some, length, map, min, replicate, slice_get, suc, take, zero}
 use Rattle.written_kernel.specs.Types.{AlertMode, Answer, Errno, EventRec, Fd, Obj, Queued}
 use Rattle.dk_base.specs.declared.error.Errno.TheVariants.{EAGAIN, EBADF, EBADFD}
 use Rattle.dk_base.specs.declared.object.Obj.TheVariants as obj
 use Rattle.dk_base.specs.declared.object.Src.TheVariants as src
 use Rattle.dk_base.specs.declared.request.Request.TheVariants as request
 use Rattle.dk_base.specs.declared.answer.Answer.TheVariants as answer
+use Rattle.kernel_records.specs.declared.association.Association.{Association}
 use Rattle.kernel_records.specs.declared.port.Alert.{Alert}
 use Rattle.kernel_records.specs.declared.record.ThreadState.TheVariants as is
 use Rattle.kernel_records.specs.Words.{Port}
@@ -16,6 +18,7 @@ use Rattle.run_places.specs.Places.{answer_at, process_at}
 use Rattle.run_places.specs.References.{is_of_port}
 use Rattle.kernel_laws.specs.Channels.{Names, port_under, told_alert}
 use Rattle.kernel_laws.specs.Entries.{count_sent}
+use Rattle.kernel_laws.specs.OneShot.{association_under, due_event, is_unfired}
 
 -- an event of port_send(3C), as it stands in a queue
 abbrev pub sent_event : ℕ → ℕ → Queued
@@ -93,9 +96,34 @@ pub record IsAnsweredAt (m : State) (p : ℕ) (fds : List Fd) (errors : List (Op
   pub there : slice_get errors k ≡ Some error
   pub why : SendError m p (λ q. sent_to m p q (take k fds) (take k errors)) fd error
 
+-- what was sent, and the event of an association that stands
+
+abbrev pub stands : State → Option ℕ → Bool
+stands m None = true
+stands m (Some n) = is_some (association_under m n)
+
+abbrev pub is_left : State → Queued → Bool
+is_left m e = stands m e.assoc
+
+-- an association that stands after an event, and has fired at it
+abbrev pub has_fired : State → Association → Bool
+has_fired before a = not a.armed && is_unfired (association_under before a.number)
+
+-- what those of these have queued at port q that have fired
+abbrev pub fired_at : State → State → ℕ → List Association → List Queued
+fired_at before after q [] = []
+fired_at before after q (a ∷ xs) =
+    if (a.key.port == q) && has_fired before a then due_event after a ∷ fired_at before after q xs else fired_at before after q xs
+
+-- a port that is told what ended and what fired
+abbrev pub told_port : State → State → ℕ → Port → Port
+told_port before after q p =
+    record p { queue = filter (is_left after) p.queue ++ fired_at before after q after.channels.associations.associations }
+
 -- the port of a number, before and after the turn of place i
 pub data PortChange (m : State) (xs : List Turn) (i : ℕ) (x : Turn) (q : ℕ) : Option Port → Option Port → Type 0 where
-  stays : {o : Option Port} → PortChange m xs i x q o o
+  none : PortChange m xs i x q None None
+  is_told : (p : Port) → PortChange m xs i x q (Some p) (Some (told_port (state_at m xs i) (state_at m xs (i + 1)) q p))
   made :
       (fd : Fd) → x.request ≡ Some request.PortCreate → answer_at m xs i x ≡ answer.NewFd fd →
       q ≡ length (state_at m xs i).channels.ports + 1 →
