@@ -1,13 +1,14 @@
--- What a thread is told that associates ends of pipes with ports. No run of scripts has these turns yet; they are taken one after the
--- other.
-use Rattle.std.specs.Prelude.{ℕ, List, [], ◌∷◌, Some, false, true, map}
+-- What a thread is told that associates ends of pipes with ports, in turns that are known beforehand.
+use Rattle.std.specs.Prelude.{ℕ, List, [], ◌∷◌, Option, None, Some, false, true, map}
 use Rattle.dk_base.specs.declared.error.Errno.TheVariants.{ENOENT, ETIME}
 use Rattle.dk_base.specs.declared.object.Src.TheVariants as source
 use Rattle.dk_base.specs.declared.request.Request.TheVariants as request
 use Rattle.dk_base.specs.declared.answer.Answer.TheVariants as answer
 use Rattle.dk_base.specs.declared.set.TheConstants.PollSet.{IN, OUT}
-use Rattle.written_kernel.specs.Types.{Answer, Event, EventRec}
+use Rattle.kernel_records.specs.Words.{Port}
+use Rattle.written_kernel.specs.Types.{Answer, Event, EventRec, Queued}
 use Rattle.written_kernel.specs.Words.{State, Turn, events_of, opening, with_new_thread}
+use Rattle.kernel_laws.specs.OneShot.{queue_in}
 use Rattle.kernel_laws_examples.specs.PortLaws.{fd}
 
 abbrev pub answer_of : Event → Answer
@@ -22,6 +23,14 @@ associations_start = with_new_thread (opening (256 ∷ [])) 1 false
 -- an event of an association, as it is told
 abbrev pub of_descriptor : ℕ → ℕ → ℕ → EventRec
 of_descriptor object events user = record { source = source.Fd; object = object; events = events; user = user }
+
+-- the associations of what is queued, in order
+abbrev pub queued_of : Option Port → List (Option ℕ)
+queued_of o = map (λ (e : Queued). e.assoc) (queue_in o)
+
+-- the port with the event of an association with descriptor 0, which may be read, and this user value
+abbrev pub with_event_of : ℕ → ℕ → Port
+with_event_of n user = record { number = 1; alert = None; queue = record { rec = of_descriptor 0 1 user; assoc = Some n } ∷ [] }
 
 -- One that is ready at once, and is told once; one that another replaces while its event is queued; and one whose descriptor is closed
 -- while its event is queued.

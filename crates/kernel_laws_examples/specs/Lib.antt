@@ -2,3 +2,4 @@ pub mod WorkedRun
 pub mod PortRuns
 pub mod PortLaws
 pub mod AssociationRuns
+pub mod TaskRuns

@@ -4,4 +4,5 @@
 pub mod association_runs;
 pub mod port_laws;
 pub mod port_runs;
+pub mod task_runs;
 pub mod worked_run;
