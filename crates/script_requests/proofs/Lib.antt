@@ -2,3 +2,4 @@ pub mod WrittenOut
 pub mod Elements
 pub mod SoundFrames
 pub mod SoundScripts
+pub mod NothingLater
