@@ -1,2 +1,5 @@
+pub mod Members
 pub mod Noting
+pub mod Others
 pub mod Places
+pub mod Walking

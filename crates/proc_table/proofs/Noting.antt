@@ -1,10 +1,10 @@
 -- What is noted of threads, as one changes.
-use Rattle.std.proofs.Common.{◌≡◌, ℕ, suc, ◌+◌, ◌-◌, ◌<◌, ◌==◌, Bool, true, false, if◌then◌else◌, List, [], ◌∷◌, ◌++◌, Some, None, Option, get_or, length, slice_set, refl, sym, ap, ◌∙◌, arith}
+use Rattle.std.proofs.Common.{◌≡◌, ℕ, suc, ◌+◌, ◌-◌, ◌<◌, ◌==◌, Bool, true, false, if◌then◌else◌, List, [], ◌∷◌, ◌++◌, Some, Option, get_or, length, slice_set, refl, sym, ap, ◌∙◌, arith}
 use Rattle.std.proofs.lemmas.Bool.Decides.{nat_tests}
 use Rattle.dk_base.specs.ByNumber.{at_number, with_at_number}
 use Rattle.kernel_records.specs.declared.record.Thread.{Thread}
 use Rattle.kernel_records.specs.declared.record.ThreadState.{ThreadState}
-use Rattle.kernel_records.specs.Words.{ProcessTable, change_thread, change_thread_in, state_in}
+use Rattle.kernel_records.specs.Words.{ProcessTable, change_thread, change_thread_in, is_active, is_idle, state_in}
 use Rattle.kernel_records.proofs.Lists.{at_number-push, at_number-set, with_at_number-suc}
 use Rattle.kernel_records.proofs.Places.{numbered_here}
 use Rattle.proc_table.specs.declared.standing.Standing.{Standing}
@@ -41,6 +41,8 @@ module _ {s r : Standing} {xs : List Thread} (a : AreNoted s xs) where
         going = one_set goes_on s.going r.going xs x a.going t ys is n.going;
         awaiting = one_set is_awaiting s.awaiting r.awaiting xs x a.awaiting t ys is n.awaiting;
         getting = one_set is_getting s.getting r.getting xs x a.getting t ys is n.getting;
+        idle = one_set is_idle s.idle r.idle xs x a.idle t ys is n.idle;
+        active = one_set is_active s.active r.active xs x a.active t ys is n.active;
       }
 
   pub noted_set : (i t : ℕ) (x : Thread) → i < length xs → i + 1 ≡ t → IsNotedAt t x.state s r → AreNoted r (slice_set xs i x)
@@ -62,6 +64,8 @@ noted_same {s} {xs} a i x d l e =
       going = one_same goes_on s.going s.going xs x a.going (suc i) (slice_set xs i x) is there;
       awaiting = one_same is_awaiting s.awaiting s.awaiting xs x a.awaiting (suc i) (slice_set xs i x) is there;
       getting = one_same is_getting s.getting s.getting xs x a.getting (suc i) (slice_set xs i x) is there;
+      idle = one_same is_idle s.idle s.idle xs x a.idle (suc i) (slice_set xs i x) is there;
+      active = one_same is_active s.active s.active xs x a.active (suc i) (slice_set xs i x) is there;
     }
   where
     found : (i : ℕ) → i < length xs → at_number xs (suc i) ≡ Some (get_or xs i d)

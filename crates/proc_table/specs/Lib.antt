@@ -1,3 +1,5 @@
 pub mod Ends
 pub mod Words
 pub mod Standing
+pub mod Crews
+pub mod Walk

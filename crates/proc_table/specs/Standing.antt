@@ -1,10 +1,11 @@
--- Which threads can take a turn by what they are at alone, and which wait for a path or at a port.
+-- Which threads can take a turn by what they are at alone, which wait for a path or at a port, which are parked, and which keep their
+-- processes from ending.
 use Rattle.std.specs.Prelude.{ℕ, ◌≡◌, Bool, true, false, not, List}
 use Rattle.dk_base.specs.ByNumber.{at_number}
 use Rattle.kernel_records.specs.declared.record.Thread.{Thread}
 use Rattle.kernel_records.specs.declared.record.ThreadState.{ThreadState}
 use Rattle.kernel_records.specs.declared.record.ThreadState.TheVariants as is
-use Rattle.kernel_records.specs.Words.{state_in}
+use Rattle.kernel_records.specs.Words.{is_active, is_idle, state_in}
 use Rattle.proc_table.specs.declared.standing.Standing.{Standing}
 use Rattle.thread_set.specs.Words.{has, with_thread}
 
@@ -31,9 +32,13 @@ pub record AreNoted (s : Standing) (threads : List Thread) : Type 0 where
   pub going : (t : ℕ) → has s.going t ≡ goes_on (state_in (at_number threads t))
   pub awaiting : (t : ℕ) → has s.awaiting t ≡ is_awaiting (state_in (at_number threads t))
   pub getting : (t : ℕ) → has s.getting t ≡ is_getting (state_in (at_number threads t))
+  pub idle : (t : ℕ) → has s.idle t ≡ is_idle (state_in (at_number threads t))
+  pub active : (t : ℕ) → has s.active t ≡ is_active (state_in (at_number threads t))
 
 -- a thread is noted anew, and no other
 pub record IsNotedAt (t : ℕ) (s : ThreadState) (before after : Standing) : Type 0 where
   pub going : (u : ℕ) → has after.going u ≡ with_thread before.going t (goes_on s) u
   pub awaiting : (u : ℕ) → has after.awaiting u ≡ with_thread before.awaiting t (is_awaiting s) u
   pub getting : (u : ℕ) → has after.getting u ≡ with_thread before.getting t (is_getting s) u
+  pub idle : (u : ℕ) → has after.idle u ≡ with_thread before.idle t (is_idle s) u
+  pub active : (u : ℕ) → has after.active u ≡ with_thread before.active t (is_active s) u

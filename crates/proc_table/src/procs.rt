@@ -1,19 +1,20 @@
 //! Processes and threads.
-ghost use Rattle.std.specs.Prelude.{◌≡◌, ℕ, ◌+◌, ◌<◌, ◌≤◌, ◌++◌, ◌∷◌, ◌↔◌, [], true, false, length, None, count_by, map, IfNone, IfOk, IfSome, OnOk, OnErr};
+ghost use Rattle.std.specs.Prelude.{◌≡◌, ℕ, ◌+◌, ◌<◌, ◌≤◌, ◌++◌, ◌∷◌, ◌↔◌, [], false, true, false, length, None, count_by, map, IfNone, IfOk, IfSome, OnOk, OnErr};
 ghost use Rattle.std.specs.List.{list_any};
 ghost use Rattle.dk_base.specs.declared.error.ProcFault.TheVariants.{Full};
 ghost use Rattle.dk_base.specs.declared.limits.TheConstants.{PROCESSES_MAX, THREADS_MAX};
 ghost use Rattle.dk_base.specs.ByNumber.{at_number};
 ghost use Rattle.kernel_records.specs.declared.record.ThreadState.TheVariants.{Done};
 ghost use Rattle.proc_table.specs.Ends.{end_proc, ended_where_of};
+ghost use Rattle.proc_table.specs.Crews.{is_of};
 ghost use Rattle.proc_table.specs.Standing.{goes_on, is_awaiting, is_getting};
-ghost use Rattle.thread_set.specs.Words.{has};
+ghost use Rattle.thread_set.specs.Words.{has, with_thread};
 ghost use Rattle.kernel_records.specs.Words.{ProcessTable, active_threads, cancelled_thread, change_thread, end_invocation, end_process, end_thread, enter_thread, give_thread, interrupted_thread, invocation_in, is_active_of, is_done, is_idle, is_idle_thread, is_last, is_live_in, keeps_alive, new_process, new_thread, opening_state, park_thread, process_in, set_thread_state, state_in, thread_at};
 
+use crate::crews::Crews;
 use crate::standing::Standing;
 use crate::thread::{
-    cancel, end, end_invocation, end_where_of, enter, interrupt, is_active_of, is_idle_thread,
-    keeps_alive, park, turn,
+    cancel, end, end_invocation, end_where_of, enter, interrupt, is_active_of, park, turn,
 };
 use dk_base::error::ProcFault;
 use dk_base::limits::{PROCESSES_MAX, THREADS_MAX};
@@ -32,6 +33,7 @@ pub struct Procs {
     processes: Vec<Process>,
     threads: Vec<Thread>,
     standing: Standing,
+    crews: Crews,
     /// The state that a number reads as which no thread has.
     absent: ThreadState,
 }
@@ -41,13 +43,14 @@ impl Model for Procs {
     ghost use Rattle.dk_base.specs.declared.limits.TheConstants.{PROCESSES_MAX, THREADS_MAX};
     ghost use Rattle.kernel_records.specs.declared.record.ThreadState.TheVariants.{Done};
     ghost use Rattle.kernel_records.specs.Words.{ProcessTable};
+    ghost use Rattle.proc_table.specs.Crews.{AreCrews};
     ghost use Rattle.proc_table.specs.Standing.{AreNoted};
 
     ghost Value = { ProcessTable };
 
     ghost view = { λ p. record { processes = p.processes.items; threads = p.threads.items } };
 
-    ghost invariant = { λ p. (p.absent ≡ Done) × (length p.processes.items ≤ PROCESSES_MAX) × (length p.threads.items ≤ THREADS_MAX) × AreNoted p.standing p.threads.items };
+    ghost invariant = { λ p. (p.absent ≡ Done) × (length p.processes.items ≤ PROCESSES_MAX) × (length p.threads.items ≤ THREADS_MAX) × AreNoted p.standing p.threads.items × AreCrews p.crews p.threads.items };
 }
 
 /// What a thread is at as it is added.
@@ -87,11 +90,16 @@ fn find_place(threads: &[Thread], t: Tid) -> Option<usize>
     }
 }
 
-/// Whether a thread other than `t` keeps the process from ending.
-fn has_another(threads: &[Thread], t: Tid, p: Pid) -> bool
-    ensures { result ≡ list_any (keeps_alive t.0 p.0) threads.now }
+/// A set without a thread that is one of the threads 1 to `count`.
+fn without(mut set: ThreadSet, t: Tid, count: u32) -> ThreadSet
+    requires { count ≤ THREADS_MAX }
+    ensures within { (u : ℕ) → u ≤ count → has result u ≡ with_thread set t.0 false u }
+    ensures none { (u : ℕ) → has set u ≡ false → has result u ≡ false }
 {
-    threads.iter().any(|thread| keeps_alive(thread, t, p))
+    if 0 < t.0 && t.0 <= count {
+        set.put(t, false);
+    }
+    set
 }
 
 fn count_active(threads: &[Thread], p: Pid) -> usize
@@ -122,6 +130,7 @@ impl Procs {
             processes: Vec::new(alloc),
             threads: Vec::new(alloc),
             standing: Standing::new(),
+            crews: Crews::new(),
             absent: ThreadState::Done,
         }
     }
@@ -175,6 +184,7 @@ impl Procs {
         match self.threads.push(thread) {
             Ok(()) => {
                 self.standing.note(Tid(number), &opening_state(spare));
+                self.crews.add(p, Tid(number));
                 Ok(Tid(number))
             }
             Err(_) => Err(ProcFault::Memory),
@@ -237,18 +247,32 @@ impl Procs {
         }
     }
 
+    /// The threads of a process, ended ones and spares with them.
+    pub fn threads_of(&self, p: Pid) -> ThreadSet
+        ensures { (t : ℕ) → has result t ≡ is_of p.0 (thread_at self.now t) }
+    {
+        self.crews.of(p)
+    }
+
     /// Whether no thread of a process but `t` is neither Done nor Dormant.
     pub fn is_last(&self, t: Tid, p: Pid) -> bool
         ensures { result ≡ is_last self.now t.0 p.0 }
     {
-        !has_another(&self.threads, t, p)
+        let others = self.threads_of(p).and(self.standing.active);
+        match without(others, t, self.thread_count()).least() {
+            Some(_) => false,
+            None => true,
+        }
     }
 
     /// Whether a thread is parked.
     pub fn has_idle(&self) -> bool
         ensures { result ≡ list_any is_idle_thread self.now.threads }
     {
-        self.threads.iter().any(|thread| is_idle_thread(thread))
+        match self.standing.idle.least() {
+            Some(_) => true,
+            None => false,
+        }
     }
 
     /// How many threads of a process are neither Done nor Dormant: 0 to 64.
@@ -277,6 +301,13 @@ impl Procs {
         ensures { (t : ℕ) → has result t ≡ is_getting (state_in (thread_at self.now t)) }
     {
         self.standing.getting
+    }
+
+    /// The threads that are parked.
+    pub fn idle(&self) -> ThreadSet
+        ensures { (t : ℕ) → has result t ≡ is_idle (state_in (thread_at self.now t)) }
+    {
+        self.standing.idle
     }
 
     /// A thread that has not ended turns to another state.

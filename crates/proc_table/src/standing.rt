@@ -1,19 +1,23 @@
-//! Which threads can take a turn by what they are at alone, and which wait for a path or at a port.
+//! Which threads can take a turn by what they are at alone, which wait for a path or at a port, which are parked, and which keep their
+//! processes from ending.
 ghost use Rattle.std.specs.Prelude.{◌≡◌, ◌<◌, ◌≤◌, [], length};
 ghost use Rattle.dk_base.specs.declared.limits.TheConstants.{THREADS_MAX};
 ghost use Rattle.proc_table.specs.Standing.{AreNoted, IsNotedAt, goes_on, is_awaiting, is_getting};
 
+use crate::thread::{is_active, is_idle};
 use dk_base::number::Tid;
 use kernel_records::record::{Thread, ThreadState};
 use thread_set::set::ThreadSet;
 
-/// Of all threads, those that can take a turn by what they are at alone, those that wait for a path, and those that wait at a port and
-/// were not interrupted.
+/// Of all threads, those that can take a turn by what they are at alone, those that wait for a path, those that wait at a port and were
+/// not interrupted, those that are parked, and those that are neither Done nor Dormant.
 #[derive(Clone, Copy)]
 pub struct Standing {
     pub going: ThreadSet,
     pub awaiting: ThreadSet,
     pub getting: ThreadSet,
+    pub idle: ThreadSet,
+    pub active: ThreadSet,
 }
 
 /// Whether a thread at this can take a turn, whatever calls and names there are.
@@ -58,6 +62,8 @@ impl Standing {
             going: ThreadSet::new(),
             awaiting: ThreadSet::new(),
             getting: ThreadSet::new(),
+            idle: ThreadSet::new(),
+            active: ThreadSet::new(),
         }
     }
 
@@ -69,6 +75,8 @@ impl Standing {
         self.going.put(t, goes_on(state));
         self.awaiting.put(t, is_awaiting(state));
         self.getting.put(t, is_getting(state));
+        self.idle.put(t, is_idle(state));
+        self.active.put(t, is_active(state));
     }
 
     /// Of these threads, numbered from 1.

@@ -1,6 +1,6 @@
 //! What becomes of one thread, and what is asked of one.
 ghost use Rattle.std.specs.Prelude.{◌≡◌};
-ghost use Rattle.kernel_records.specs.Words.{cancelled_thread, ended_thread, idle_thread, interrupted_thread, is_active, is_active_of, is_idle_thread, keeps_alive, thread_at_state, thread_in_invocation, thread_outside};
+ghost use Rattle.kernel_records.specs.Words.{cancelled_thread, ended_thread, idle_thread, interrupted_thread, is_active, is_active_of, is_idle, thread_at_state, thread_in_invocation, thread_outside};
 ghost use Rattle.proc_table.specs.Ends.{ended_where_of};
 
 use dk_base::number::{Pid, Tid};
@@ -8,16 +8,17 @@ use dk_base::object::{Inv, Item};
 use kernel_records::record::{Thread, ThreadState};
 
 /// Whether a thread at this keeps its process from ending.
-fn is_active(state: &ThreadState) -> bool
+pub fn is_active(state: &ThreadState) -> bool
     ensures { result ≡ is_active state.now }
 {
     !matches!(state, ThreadState::Done | ThreadState::Dormant)
 }
 
-pub fn is_idle_thread(thread: &Thread) -> bool
-    ensures { result ≡ is_idle_thread thread.now }
+/// Whether a thread at this is parked.
+pub fn is_idle(state: &ThreadState) -> bool
+    ensures { result ≡ is_idle state.now }
 {
-    matches!(thread.state, ThreadState::Idle { .. })
+    matches!(state, ThreadState::Idle { .. })
 }
 
 /// Whether this is a thread of process `p` that is neither Done nor Dormant.
@@ -25,13 +26,6 @@ pub fn is_active_of(thread: &Thread, p: Pid) -> bool
     ensures { result ≡ is_active_of p.0 thread.now }
 {
     thread.process.0 == p.0 && is_active(&thread.state)
-}
-
-/// Whether this is a thread other than `t` that keeps process `p` from ending.
-pub fn keeps_alive(thread: &Thread, t: Tid, p: Pid) -> bool
-    ensures { result ≡ keeps_alive t.0 p.0 thread.now }
-{
-    thread.process.0 == p.0 && thread.number != t.0 && is_active(&thread.state)
 }
 
 /// It turns to another state.

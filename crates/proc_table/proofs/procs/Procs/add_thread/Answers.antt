@@ -1,5 +1,7 @@
-use Rattle.std.proofs.Common.{◌+◌, subst, sym, ◌∙◌, arith}
+use Rattle.std.proofs.Common.{◌+◌, refl, subst, sym, ◌∙◌, arith}
+use Rattle.proc_table.specs.Crews.{AreCrews}
 use Rattle.proc_table.specs.Standing.{AreNoted, IsNotedAt}
+use Rattle.proc_table.proofs.Members.{crews_more}
 use Rattle.proc_table.proofs.Noting.{noted_push}
 use Rattle.proc_table.proofs.procs.Procs.add_thread.Goals as goal
 
@@ -13,4 +15,5 @@ invariant_of-self c =
       subst (AreNoted c.note.new.self) (sym c.in-Ok.ensures.items)
           (noted_push c.self.invariant.3 n _ (omega (arith, count))
           (subst (λ s. IsNotedAt n s c.self.inside.standing c.note.new.self) (c.opening_state-in-Ok.ensures ∙ sym c.opening_state.ensures) c.note.ensures)),
+      subst (AreCrews c.add.new.self) (sym c.in-Ok.ensures.items) (crews_more c.self.invariant.4 c.args.p.0 n _ (omega (arith, count)) refl refl c.add.ensures),
     )

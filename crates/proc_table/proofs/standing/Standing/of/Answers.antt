@@ -1,4 +1,4 @@
-use Rattle.std.proofs.Common.{◌+◌, get_or, length, min, take, subst, sym, arith}
+use Rattle.std.proofs.Common.{◌+◌, get_or, subst, sym, arith}
 use Rattle.std.proofs.lemmas.List.{length-take, take_all, take_more}
 use Rattle.proc_table.specs.Standing.{AreNoted}
 use Rattle.proc_table.proofs.Noting.{noted_push}
