@@ -1,17 +1,21 @@
 -- The calls of which some were left, caller by caller.
-use Rattle.std.proofs.Common.{◌≡◌, ⊎_elim, ℕ, ◌+◌, ◌<◌, ◌≤◌, ◌==◌, ◌&&◌, ◌||◌, Bool, true, false, if◌then◌else◌, List, [], ◌∷◌, Option, Some, None, IsSome, option_map, find, filter, map, refl, sym, ap, ap₂, ◌∙◌, subst, eq-or-lt_of_le, arith}
+use Rattle.std.proofs.Common.{◌≡◌, ⊎_elim, ℕ, ◌+◌, ◌<◌, ◌≤◌, ◌==◌, ◌&&◌, ◌||◌, Bool, true, false, if◌then◌else◌, List, [], ◌∷◌, ◌++◌, Option, Some, None, IsSome, option_map, find, filter, map, refl, sym, ap, ap₂, ◌∙◌, subst, eq-or-lt_of_le, arith}
+use Rattle.std.specs.List.{list_any}
 use Rattle.std.proofs.lemmas.Bool.Decides.{nat_tests}
+use Rattle.std.proofs.lemmas.List.Folds.{list_any-append}
 use Rattle.dk_base.specs.declared.error.Errno.TheVariants.{EBADF}
+use Rattle.dk_base.specs.declared.object.Item.TheVariants as item
 use Rattle.kernel_records.specs.declared.record.CallStage.TheVariants as stage
 use Rattle.kernel_records.specs.Words.{CallTree, call_number, is_live, is_live_call, is_queued, is_queued_as}
 use Rattle.kernel_records.proofs.NumberedLists.{find-as, find-passes}
-use Rattle.written_kernel.specs.Types.{Call}
+use Rattle.written_kernel.specs.Types.{Call, Item}
+use Rattle.server_pool.specs.Words.{is_item}
 use Rattle.call_tree.specs.Words.{AreLive, AreSound, LeftSoFar, PartsOfLeaving, abandon_call, and_one, call_so_far, calls_so_far, is_call, is_called_by, lose_server, nothing_left, refuse_call}
 use Rattle.call_tree.specs.declared.parts.Leave.TheVariants.{Finished}
 use Rattle.call_tree.proofs.Keys.{queued_is}
 use Rattle.pool_agreement.proofs.Readers.{same_number}
 use Rattle.pool_agreement.proofs.WaitingLists.{both_true}
-use Rattle.exit_paths.specs.Words.{AreRefused, HaveEnded, all_left, refused_caller}
+use Rattle.exit_paths.specs.Words.{AreRefused, HaveEnded, all_left, refused_caller, refused_item}
 
 -- where no caller has ended
 
@@ -21,186 +25,204 @@ only_refused refused = record nothing_left { refused = refused }
 still_live : (refused : ℕ → Bool) (r : Call) → is_live r.stage ≡ true → is_live (call_so_far (only_refused refused) r).stage ≡ true
 still_live refused r e = grind (arith, nat_tests)
 
-still_called : (refused : ℕ → Bool) (r : Call) → (call_so_far (only_refused refused) r).caller.0 ≡ r.caller.0
-still_called refused r = grind (arith, nat_tests)
-
 still_queued : (refused : ℕ → Bool) (r : Call) → refused r.number ≡ false → call_so_far (only_refused refused) r ≡ r
 still_queued refused r e = grind (arith, nat_tests)
 
 not_queued : (refused : ℕ → Bool) (r : Call) → is_queued r.stage ≡ false → call_so_far (only_refused refused) r ≡ r
 not_queued refused r e = grind (arith, nat_tests)
 
+-- a call that waits and was refused does so no longer
+waits_no_more : (refused : ℕ → Bool) (r : Call) → refused r.number ≡ true → is_queued (call_so_far (only_refused refused) r).stage ≡ false
+waits_no_more refused r e = go (is_queued r.stage) refl
+  where
+    ended : (b : Bool) → refused r.number ≡ b → b ≡ true → is_queued r.stage ≡ true → is_queued (call_so_far (only_refused refused) r).stage ≡ false
+    ended b f g q = grind (arith, nat_tests)
+
+    go : (b : Bool) → is_queued r.stage ≡ b → is_queued (call_so_far (only_refused refused) r).stage ≡ false
+    go true q = ended (refused r.number) refl e q
+    go false q = ap (λ (x : Call). is_queued x.stage) (not_queued refused r q) ∙ q
+
+same_number_so_far : (refused : ℕ → Bool) (r : Call) → (call_so_far (only_refused refused) r).number ≡ r.number
+same_number_so_far refused r = grind (arith, nat_tests)
+
 found_so_far :
-    (refused : ℕ → Bool) (t : ℕ) (rs : List Call) → AreLive rs →
-    find (is_called_by t) (filter is_live_call (map (call_so_far (only_refused refused)) rs)) ≡ option_map (call_so_far (only_refused refused)) (find (is_called_by t) rs)
-found_so_far refused t [] a = refl
-found_so_far refused t (r ∷ rs) a =
-    ap (λ b. find (is_called_by t) (if b then f r ∷ filter is_live_call (map f rs) else filter is_live_call (map f rs))) (still_live refused r a.0)
-    ∙ ap (λ k. if k == t then Some (f r) else find (is_called_by t) (filter is_live_call (map f rs))) (still_called refused r)
-    ∙ go (r.caller.0 == t) (found_so_far refused t rs a.1)
+    (refused : ℕ → Bool) (c : ℕ) (rs : List Call) → AreLive rs →
+    find (is_call c) (filter is_live_call (map (call_so_far (only_refused refused)) rs)) ≡ option_map (call_so_far (only_refused refused)) (find (is_call c) rs)
+found_so_far refused c [] a = refl
+found_so_far refused c (r ∷ rs) a =
+    ap (λ b. find (is_call c) (if b then f r ∷ filter is_live_call (map f rs) else filter is_live_call (map f rs))) (still_live refused r a.0)
+    ∙ ap (λ k. if k == c then Some (f r) else find (is_call c) (filter is_live_call (map f rs))) (same_number_so_far refused r)
+    ∙ go (r.number == c) (found_so_far refused c rs a.1)
   where
     f : Call → Call
     f = call_so_far (only_refused refused)
 
     go :
-        (b : Bool) → find (is_called_by t) (filter is_live_call (map f rs)) ≡ option_map f (find (is_called_by t) rs) →
-        (if b then Some (f r) else find (is_called_by t) (filter is_live_call (map f rs))) ≡ option_map f (if b then Some r else find (is_called_by t) rs)
+        (b : Bool) → find (is_call c) (filter is_live_call (map f rs)) ≡ option_map f (find (is_call c) rs) →
+        (if b then Some (f r) else find (is_call c) (filter is_live_call (map f rs))) ≡ option_map f (if b then Some r else find (is_call c) rs)
     go true h = refl
     go false h = h
-
--- no call is refused yet
-pub none_refused : {loses : ℕ → Bool} {tree : CallTree} → PartsOfLeaving tree → AreSound tree → AreRefused loses 0 tree tree
-none_refused {loses} {tree} parts sound =
-    record {
-      refused = λ c. false;
-      so_far = sym parts.begins;
-      those = λ p r e q l. let w = sound.thread p r e in absurd (omega (arith, w.0));
-      others = λ p r e l. refl;
-    }
-
--- a call that waits is found by its number as one that does
-pub queued_there :
-    (tree : CallTree) (t : ℕ) (r : Call) → AreSound tree → find (is_called_by t) tree.calls ≡ Some r → is_queued r.stage ≡ true →
-    IsSome (find (is_queued_as r.number) tree.calls)
-queued_there tree t r sound e q =
-    let n : (r.number == r.number) ≡ true = equal r.number in
-    let w : is_queued_as r.number r ≡ true = ap₂ (λ a b. a && b) n q in
-    subst IsSome
-    (sym (find-as call_number (is_queued_as r.number) tree.calls r.number r (λ y m. same_number y.number r.number (both_true (y.number == r.number) (is_queued y.stage) m).0) (sound.number (is_called_by t) r e) w))
-    refl
-  where
-    equal : (n : ℕ) → (n == n) ≡ true
-    equal n = grind (arith, nat_tests)
 
 and_false : (b : Bool) → (b && false) ≡ false
 and_false true = refl
 and_false false = refl
 
+or_false : (b : Bool) → (b || false) ≡ b
+or_false true = refl
+or_false false = refl
+
+and_or_true : (a b : Bool) → (a && (b || true)) ≡ a
+and_or_true true true = refl
+and_or_true true false = refl
+and_or_true false b = refl
+
+-- no call is refused yet
+pub none_refused : {loses : ℕ → Bool} {tree : CallTree} → PartsOfLeaving tree → AreRefused loses [] tree tree
+none_refused {loses} {tree} parts = record { refused = λ c. false; so_far = sym parts.begins; those = λ p r e q. sym (and_false (loses r.door)) }
+
+-- a call that waits is found by its number as one that does
+pub queued_there :
+    (tree : CallTree) (p : Call → Bool) (r : Call) → AreSound tree → find p tree.calls ≡ Some r → is_queued r.stage ≡ true →
+    IsSome (find (is_queued_as r.number) tree.calls)
+queued_there tree p r sound e q =
+    let n : (r.number == r.number) ≡ true = equal r.number in
+    let w : is_queued_as r.number r ≡ true = ap₂ (λ a b. a && b) n q in
+    subst IsSome
+    (sym (find-as call_number (is_queued_as r.number) tree.calls r.number r (λ y m. same_number y.number r.number (both_true (y.number == r.number) (is_queued y.stage) m).0) (sound.number p r e) w))
+    refl
+  where
+    equal : (n : ℕ) → (n == n) ≡ true
+    equal n = grind (arith, nat_tests)
+
 module _
-    {loses : ℕ → Bool} {tree now next : CallTree} (parts : PartsOfLeaving tree) (sound : AreSound tree) (now_sound : AreSound now) (i t : ℕ) (is : t ≡ i + 1)
-    (h : AreRefused loses i tree now) (step : next ≡ refused_caller loses (find (is_called_by t) now.calls) now) where
+    {loses : ℕ → Bool} {tree now : CallTree} {xs : List Item} (parts : PartsOfLeaving tree) (sound : AreSound tree) (now_sound : AreSound now)
+    (h : AreRefused loses xs tree now) where
   abbrev f : Call → Call
   f = call_so_far (only_refused h.refused)
 
-  looked : find (is_called_by t) now.calls ≡ option_map f (find (is_called_by t) tree.calls)
-  looked = ap (λ (x : CallTree). find (is_called_by t) x.calls) h.so_far ∙ found_so_far h.refused t tree.calls sound.live
+  any_more : (k : ℕ) (x : Item) → list_any (is_item (item.Call k)) (xs ++ x ∷ []) ≡ (list_any (is_item (item.Call k)) xs || is_item (item.Call k) x)
+  any_more k x =
+      list_any-append (is_item (item.Call k)) xs (x ∷ []) ∙ ap (λ b. list_any (is_item (item.Call k)) xs || b) (or_false (is_item (item.Call k) x))
 
-  fresh : (r : Call) → find (is_called_by t) tree.calls ≡ Some r → h.refused r.number ≡ false
-  fresh r e = let c : r.caller.0 ≡ t = same_number r.caller.0 t (find-passes (is_called_by t) tree.calls r e) in h.others (is_called_by t) r e (omega (arith, c, is))
+  with_it : (r : Call) (x : Item) → is_item (item.Call r.number) x ≡ true → (loses r.door && list_any (is_item (item.Call r.number)) (xs ++ x ∷ [])) ≡ loses r.door
+  with_it r x e =
+      ap (λ b. loses r.door && b) (any_more r.number x ∙ ap (λ b. list_any (is_item (item.Call r.number)) xs || b) e)
+      ∙ and_or_true (loses r.door) (list_any (is_item (item.Call r.number)) xs)
 
-  -- the caller's call is as it was
-  found : (r : Call) → find (is_called_by t) tree.calls ≡ Some r → find (is_called_by t) now.calls ≡ Some r
-  found r e = looked ∙ ap (option_map f) e ∙ ap Some (go (is_queued r.stage) refl)
-    where
-      go : (b : Bool) → is_queued r.stage ≡ b → f r ≡ r
-      go true q = still_queued h.refused r (fresh r e)
-      go false q = not_queued h.refused r q
+  without_it :
+      (r : Call) (x : Item) → is_item (item.Call r.number) x ≡ false →
+      (loses r.door && list_any (is_item (item.Call r.number)) (xs ++ x ∷ [])) ≡ (loses r.door && list_any (is_item (item.Call r.number)) xs)
+  without_it r x e =
+      ap (λ b. loses r.door && b)
+      (any_more r.number x ∙ ap (λ b. list_any (is_item (item.Call r.number)) xs || b) e ∙ or_false (list_any (is_item (item.Call r.number)) xs))
 
-  -- what a test finds that has this caller is its call
-  own_call : (p : Call → Bool) (r : Call) → find p tree.calls ≡ Some r → r.caller.0 ≡ t → find (is_called_by t) tree.calls ≡ Some r
-  own_call p r e c = ap (λ k. find (is_called_by k) tree.calls) (sym c) ∙ sound.caller p r e
+  module _ {next : CallTree} where
+    -- nothing more is refused
+    same_refused :
+        (x : Item) → next ≡ now →
+        ((p : Call → Bool) (r : Call) → find p tree.calls ≡ Some r → r.stage ≡ stage.Queued → is_item (item.Call r.number) x ≡ true → h.refused r.number ≡ loses r.door) →
+        AreRefused loses (xs ++ x ∷ []) tree next
+    same_refused x same its =
+        record { refused = h.refused; so_far = same ∙ h.so_far; those = λ p r g q. go p r g q (is_item (item.Call r.number) x) refl }
+      where
+        go :
+            (p : Call → Bool) (r : Call) → find p tree.calls ≡ Some r → r.stage ≡ stage.Queued → (b : Bool) → is_item (item.Call r.number) x ≡ b →
+            h.refused r.number ≡ (loses r.door && list_any (is_item (item.Call r.number)) (xs ++ x ∷ []))
+        go p r g q true e = its p r g q e ∙ sym (with_it r x e)
+        go p r g q false e = h.those p r g q ∙ sym (without_it r x e)
 
-  same_refused :
-      (o : Option Call) → find (is_called_by t) tree.calls ≡ o → ((r : Call) → o ≡ Some r → r.stage ≡ stage.Queued → loses r.door ≡ false) → next ≡ now →
-      AreRefused loses (i + 1) tree next
-  same_refused o e kept same =
-      record {
-        refused = h.refused;
-        so_far = same ∙ h.so_far;
-        those = λ p r g q l. ⊎_elim (λ k. last p r g q (k ∙ sym is)) (λ k. h.those p r g q (below r.caller.0 k)) (eq-or-lt_of_le l);
-        others = λ p r g l. h.others p r g (past r.caller.0 l);
-      }
-    where
-      below : (k : ℕ) → k < i + 1 → k ≤ i
-      below k l = omega arith
+    module _ (c : ℕ) (step : next ≡ refused_item loses (item.Call c) now) where
+      looked : find (is_call c) now.calls ≡ option_map f (find (is_call c) tree.calls)
+      looked = ap (λ (x : CallTree). find (is_call c) x.calls) h.so_far ∙ found_so_far h.refused c tree.calls sound.live
 
-      past : (k : ℕ) → i + 1 < k → i < k
-      past k l = omega arith
+      -- what a test finds that has this number is its call
+      own : (p : Call → Bool) (r : Call) → find p tree.calls ≡ Some r → (r.number == c) ≡ true → find (is_call c) tree.calls ≡ Some r
+      own p r g e = subst (λ k. find (is_call k) tree.calls ≡ Some r) (same_number r.number c e) (sound.number p r g)
 
-      last : (p : Call → Bool) (r : Call) → find p tree.calls ≡ Some r → r.stage ≡ stage.Queued → r.caller.0 ≡ t → h.refused r.number ≡ loses r.door
-      last p r g q k =
-          let after : i < r.caller.0 = omega (arith, k, is) in
-          h.others p r g after ∙ sym (kept r (sym e ∙ own_call p r g k) q)
+      module _ (y : Call) (e : find (is_call c) tree.calls ≡ Some y) where
+        found : find (is_call c) now.calls ≡ Some (f y)
+        found = looked ∙ ap (option_map f) e
 
-  one_refused : (r : Call) → find (is_called_by t) tree.calls ≡ Some r → r.stage ≡ stage.Queued → loses r.door ≡ true → AreRefused loses (i + 1) tree next
-  one_refused r e q lost =
-      record {
-        refused = and_one h.refused r.number;
-        so_far =
-            step ∙ ap (λ o. refused_caller loses o now) (found r e) ∙ ap (λ b. if b then refuse_call now r.number EBADF else now) (ap₂ (λ s b. is_queued s && b) q lost)
-            ∙ ap (λ x. refuse_call x r.number EBADF) h.so_far ∙ parts.refuses (only_refused h.refused) r.number there;
-        those = λ p x g k l. ⊎_elim (λ m. last p x g k (m ∙ sym is)) (λ m. other p x g (apart p x g (early x.caller.0 m)) ∙ h.those p x g k (below x.caller.0 m)) (eq-or-lt_of_le l);
-        others = λ p x g l. other p x g (apart p x g (late x.caller.0 l)) ∙ h.others p x g (past x.caller.0 l);
-      }
-    where
-      there : IsSome (find (is_queued_as r.number) (calls_so_far (only_refused h.refused) tree).calls)
-      there = subst (λ (x : CallTree). IsSome (find (is_queued_as r.number) x.calls)) h.so_far (queued_there now t r now_sound (found r e) (ap is_queued q))
+        is_it : (p : Call → Bool) (r : Call) → find p tree.calls ≡ Some r → (r.number == c) ≡ true → r ≡ y
+        is_it p r g k = let both : Some r ≡ Some y = sym (own p r g k) ∙ e in cc
 
-      below : (k : ℕ) → k < i + 1 → k ≤ i
-      below k l = omega arith
+        stays : (is_queued (f y).stage && loses (f y).door) ≡ false → next ≡ now
+        stays k = step ∙ ap (λ o. refused_caller loses o now) found ∙ ap (λ b. if b then refuse_call now (f y).number EBADF else now) k
 
-      past : (k : ℕ) → i + 1 < k → i < k
-      past k l = omega arith
+        same : f y ≡ y → (is_queued y.stage && loses y.door) ≡ (is_queued (f y).stage && loses (f y).door)
+        same k = ap (λ (x : Call). is_queued x.stage && loses x.door) (sym k)
 
-      early : (k : ℕ) → k < i + 1 → k ≡ t → ⊥
-      early k l m = omega (arith, is)
+        one_refused : f y ≡ y → is_queued y.stage ≡ true → loses y.door ≡ true → AreRefused loses (xs ++ item.Call c ∷ []) tree next
+        one_refused k q lost =
+            record {
+              refused = and_one h.refused y.number;
+              so_far =
+                  step ∙ ap (λ o. refused_caller loses o now) (found ∙ ap Some k) ∙ ap (λ b. if b then refuse_call now y.number EBADF else now) (ap₂ (λ s b. s && b) q lost)
+                  ∙ ap (λ x. refuse_call x y.number EBADF) h.so_far ∙ parts.refuses (only_refused h.refused) y.number there;
+              those = λ p r g s. go p r g s (r.number == c) refl;
+            }
+          where
+            there : IsSome (find (is_queued_as y.number) (calls_so_far (only_refused h.refused) tree).calls)
+            there = subst (λ (x : CallTree). IsSome (find (is_queued_as y.number) x.calls)) h.so_far (queued_there now (is_call c) y now_sound (found ∙ ap Some k) q)
 
-      late : (k : ℕ) → i + 1 < k → k ≡ t → ⊥
-      late k l m = omega (arith, is)
+            number : y.number ≡ c
+            number = same_number y.number c (find-passes (is_call c) tree.calls y e)
 
-      -- another caller's call has another number
-      apart : (p : Call → Bool) (x : Call) → find p tree.calls ≡ Some x → (x.caller.0 ≡ t → ⊥) → (x.number == r.number) ≡ false
-      apart p x g ne = go (x.number == r.number) refl
+            go :
+                (p : Call → Bool) (r : Call) → find p tree.calls ≡ Some r → r.stage ≡ stage.Queued → (b : Bool) → (r.number == c) ≡ b →
+                and_one h.refused y.number r.number ≡ (loses r.door && list_any (is_item (item.Call r.number)) (xs ++ item.Call c ∷ []))
+            go p r g s true m =
+                ap (λ j. (r.number == j) || h.refused r.number) number ∙ ap (λ b. b || h.refused r.number) m
+                ∙ sym (with_it r (item.Call c) m ∙ ap (λ (x : Call). loses x.door) (is_it p r g m) ∙ lost)
+            go p r g s false m =
+                ap (λ j. (r.number == j) || h.refused r.number) number ∙ ap (λ b. b || h.refused r.number) m ∙ h.those p r g s ∙ sym (without_it r (item.Call c) m)
+
+        -- it was refused before
+        again : h.refused y.number ≡ true → AreRefused loses (xs ++ item.Call c ∷ []) tree next
+        again was =
+            same_refused (item.Call c) (stays (ap (λ b. b && loses (f y).door) (waits_no_more h.refused y was)))
+            (λ p r g s m.
+            let k : h.refused r.number ≡ true = ap (λ (x : Call). h.refused x.number) (is_it p r g m) ∙ was in
+            k ∙ sym (both_true (loses r.door) (list_any (is_item (item.Call r.number)) xs) (sym (h.those p r g s) ∙ k)).0)
+
+        anew : h.refused y.number ≡ false → AreRefused loses (xs ++ item.Call c ∷ []) tree next
+        anew fresh = by_stage (is_queued y.stage) refl (loses y.door) refl
+          where
+            by_stage : (b : Bool) → is_queued y.stage ≡ b → (l : Bool) → loses y.door ≡ l → AreRefused loses (xs ++ item.Call c ∷ []) tree next
+            by_stage true q true l = one_refused (still_queued h.refused y fresh) q l
+            by_stage true q false l =
+                same_refused (item.Call c) (stays (sym (same (still_queued h.refused y fresh)) ∙ ap (λ b. is_queued y.stage && b) l ∙ and_false (is_queued y.stage)))
+                (λ p r g s m. ap (λ (x : Call). h.refused x.number) (is_it p r g m) ∙ fresh ∙ sym (ap (λ (x : Call). loses x.door) (is_it p r g m) ∙ l))
+            by_stage false q l m =
+                same_refused (item.Call c) (stays (sym (same (not_queued h.refused y q)) ∙ ap (λ b. b && loses y.door) q))
+                (λ p r g s k.
+                let waits : is_queued y.stage ≡ true = ap (λ (x : Call). is_queued x.stage) (sym (is_it p r g k)) ∙ ap is_queued s in
+                absurd (clash (is_queued y.stage) waits q))
+              where
+                clash : (b : Bool) → b ≡ true → b ≡ false → ⊥
+                clash true a d = cc
+                clash false a d = cc
+
+      next_call : AreRefused loses (xs ++ item.Call c ∷ []) tree next
+      next_call = go (find (is_call c) tree.calls) refl
         where
-          go : (b : Bool) → (x.number == r.number) ≡ b → b ≡ false
-          go false m = refl
-          go true m =
-              let n = same_number x.number r.number m in
-              let both : Some x ≡ Some r = sym (sound.number p x g) ∙ ap (λ k. find (is_call k) tree.calls) n ∙ sound.number (is_called_by t) r e in
-              let same : x ≡ r = cc in
-              absurd (ne (ap (λ (y : Call). y.caller.0) same ∙ same_number r.caller.0 t (find-passes (is_called_by t) tree.calls r e)))
-
-      other : (p : Call → Bool) (x : Call) → find p tree.calls ≡ Some x → (x.number == r.number) ≡ false → and_one h.refused r.number x.number ≡ h.refused x.number
-      other p x g m = ap (λ b. b || h.refused x.number) m
-
-      last : (p : Call → Bool) (x : Call) → find p tree.calls ≡ Some x → x.stage ≡ stage.Queued → x.caller.0 ≡ t → and_one h.refused r.number x.number ≡ loses x.door
-      last p x g k c =
-          let both : Some x ≡ Some r = sym (own_call p x g c) ∙ e in
-          let same : x ≡ r = cc in
-          let self : (x.number == r.number) ≡ true = ap (λ (y : Call). x.number == y.number) (sym same) ∙ equal x.number in
-          ap (λ b. b || h.refused x.number) self ∙ sym (ap (λ (y : Call). loses y.door) same ∙ lost)
-        where
-          equal : (n : ℕ) → (n == n) ≡ true
-          equal n = grind (arith, nat_tests)
-
-  -- the next caller's
-  pub next_refused : AreRefused loses (i + 1) tree next
-  next_refused = go (find (is_called_by t) tree.calls) refl
-    where
-      go : (o : Option Call) → find (is_called_by t) tree.calls ≡ o → AreRefused loses (i + 1) tree next
-      go None e =
-          same_refused None e (λ r k. absurd (none r k)) (step ∙ ap (λ o. refused_caller loses o now) (looked ∙ ap (option_map f) e))
-        where
-          none : (r : Call) → None ≡ Some r → ⊥
-          none r k = cc
-      go (Some r) e = by_stage (is_queued r.stage) refl (loses r.door) refl
-        where
-          same_r : (x : Call) → Some r ≡ Some x → r ≡ x
-          same_r x k = cc
-
-          stays : (is_queued r.stage && loses r.door) ≡ false → next ≡ now
-          stays k = step ∙ ap (λ o. refused_caller loses o now) (found r e) ∙ ap (λ b. if b then refuse_call now r.number EBADF else now) k
-
-          by_stage : (b : Bool) → is_queued r.stage ≡ b → (c : Bool) → loses r.door ≡ c → AreRefused loses (i + 1) tree next
-          by_stage true q true l = one_refused r e (queued_is r.stage q) l
-          by_stage b q false l =
-              same_refused (Some r) e (λ x k s. ap (λ (y : Call). loses y.door) (sym (same_r x k)) ∙ l)
-              (stays (ap (λ c. is_queued r.stage && c) l ∙ and_false (is_queued r.stage)))
-          by_stage false q true l =
-              same_refused (Some r) e (λ x k s. absurd (waits x k s q)) (stays (ap (λ c. c && loses r.door) q))
+          go : (o : Option Call) → find (is_call c) tree.calls ≡ o → AreRefused loses (xs ++ item.Call c ∷ []) tree next
+          go None e =
+              same_refused (item.Call c) (step ∙ ap (λ o. refused_caller loses o now) (looked ∙ ap (option_map f) e))
+              (λ p r g s m. absurd (none r (sym e ∙ own p r g m)))
             where
-              waits : (x : Call) → Some r ≡ Some x → x.stage ≡ stage.Queued → is_queued r.stage ≡ false → ⊥
-              waits x k s m = let a : is_queued r.stage ≡ true = ap (λ (y : Call). is_queued y.stage) (same_r x k) ∙ ap is_queued s in cc
+              none : (r : Call) → None ≡ Some r → ⊥
+              none r k = cc
+          go (Some y) e = was (h.refused y.number) refl
+            where
+              was : (b : Bool) → h.refused y.number ≡ b → AreRefused loses (xs ++ item.Call c ∷ []) tree next
+              was true k = again y e k
+              was false k = anew y e k
+
+    -- the next item's
+    pub next_refused : (x : Item) → next ≡ refused_item loses x now → AreRefused loses (xs ++ x ∷ []) tree next
+    next_refused (item.Call c) step = next_call c step
+    next_refused (item.Notice n) step = same_refused (item.Notice n) step (λ p r g s m. cc)
 
 -- threads that end
 

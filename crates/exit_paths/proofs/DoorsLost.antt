@@ -3,16 +3,17 @@ use Rattle.std.proofs.Common.{◌≡◌, ⊎_elim, ℕ, zero, suc, ◌<◌, ◌�
 use Rattle.std.specs.List.{AllByRecursion, list_any}
 use Rattle.std.proofs.lemmas.Bool.Decides.{nat_tests}
 use Rattle.dk_base.specs.ByNumber.{at_number}
-use Rattle.dk_base.specs.declared.limits.TheConstants.{THREADS_MAX}
+use Rattle.dk_base.specs.declared.object.Item.TheVariants as item
+use Rattle.kernel_records.specs.declared.record.CallStage.TheVariants as stage
 use Rattle.kernel_records.specs.Words.{CallTree, Leaving, NoticeList, ProcessTable, interruption, is_owned_by, is_pool, is_queued, is_queued_in, is_waiting_stage, left_calls, live_calls, pool_in, process_end, process_in, revocation, waiting_call, waiting_notice}
 use Rattle.kernel_records.proofs.Lists.{numbered_past}
-use Rattle.written_kernel.specs.Types.{Call, Door, Notice, Pool, Waiting}
-use Rattle.server_pool.specs.Words.{PoolsValue, is_waiting_at, is_waiting_call, queue_in}
+use Rattle.written_kernel.specs.Types.{Call, Door, Item, Notice, Pool, Waiting}
+use Rattle.server_pool.specs.Words.{PoolsValue, is_item, is_waiting_at, is_waiting_call, queue_in}
 use Rattle.call_tree.specs.Words.{AreSound, PartsOfLeaving, is_call, is_called_by}
 use Rattle.pool_agreement.specs.Words.{Agrees, is_notice_waiting, is_waiting_notice_in, leaves_queue}
 use Rattle.pool_agreement.proofs.Readers.{is_pool-sym, same_number}
 use Rattle.pool_agreement.proofs.WaitingLists.{both_true}
-use Rattle.exit_paths.specs.Words.{AreLost, AreRefused, HaveEnded, is_at_door, is_at_lost, is_call_of, is_call_of_any, is_thread_of, pool_of_number}
+use Rattle.exit_paths.specs.Words.{AreLost, AreRefused, AreTold, HaveEnded, is_at_door, is_at_lost, is_call_of, is_call_of_any, is_thread_of, pool_of_number}
 use Rattle.exit_paths.proofs.CallersLeft.{caller_goes, or_false, stands}
 use Rattle.exit_paths.proofs.Fated.{all_kept}
 use Rattle.exit_paths.proofs.LeftThreads.{or_later}
@@ -50,10 +51,20 @@ door_goes doors calls notices d =
           at_lost_is doors q (waiting_notice n) (both_true (is_waiting_stage n.stage) (is_pool q (pool_in (at_number doors n.door))) here).1 (d ∷ []) ∙ or_false (n.door == d);
     }
 
+-- the calls that are refused are those that wait at doors that are lost
+refused_as :
+    {loses : ℕ → Bool} {tree now : CallTree} {items : List Item} (h : AreRefused loses items tree now) → AreTold loses tree.calls items →
+    (p : Call → Bool) (r : Call) → find p tree.calls ≡ Some r → r.stage ≡ stage.Queued → h.refused r.number ≡ loses r.door
+refused_as {loses} {tree} {now} {items} h told p r e q = h.those p r e q ∙ go (loses r.door) refl
+  where
+    go : (b : Bool) → loses r.door ≡ b → (b && list_any (is_item (item.Call r.number)) items) ≡ b
+    go true f = told p r e q f
+    go false f = refl
+
 pub revoked_calls :
-    {tree now : CallTree} → PartsOfLeaving tree → AreSound tree → (d : ℕ) → AreRefused (λ e. e == d) THREADS_MAX tree now → now ≡ live_calls (left_calls (revocation d) tree)
-revoked_calls {tree} {now} parts sound d h =
-    h.so_far ∙ parts.done _ (revocation d) (λ t. refl) (λ t. refl) (λ t. refl) (λ p r e q. h.those p r e q (let w = sound.thread p r e in w.1))
+    {tree now : CallTree} {items : List Item} → PartsOfLeaving tree → (d : ℕ) → AreRefused (λ e. e == d) items tree now → AreTold (λ e. e == d) tree.calls items →
+    now ≡ live_calls (left_calls (revocation d) tree)
+revoked_calls {tree} {now} parts d h told = h.so_far ∙ parts.done _ (revocation d) (λ t. refl) (λ t. refl) (λ t. refl) (refused_as h told)
 
 -- a process that ends
 
@@ -217,12 +228,12 @@ process_goes {n} {table} {doors} {tree} {list} {v} h sound p lost there listed =
 
 -- the calls of a process that ends, with its threads as they are after it
 pub process_calls :
-    {tree mid now : CallTree} (table after : ProcessTable) (doors : List Door) (p : ℕ) → PartsOfLeaving tree → AreSound tree → is_some (at_number table.processes p) ≡ true →
+    {tree mid now : CallTree} {items : List Item} (table after : ProcessTable) (doors : List Door) (p : ℕ) → PartsOfLeaving tree → is_some (at_number table.processes p) ≡ true →
     ((t : ℕ) → is_thread_of after p t ≡ is_thread_of table p t) → length after.threads ≡ length table.threads →
-    (h : AreRefused (process_end table doors p).loses THREADS_MAX tree mid) → HaveEnded (is_thread_of after p) h.refused (length after.threads) tree now →
-    now ≡ live_calls (left_calls (process_end table doors p) tree)
-process_calls {tree} {mid} {now} table after doors p parts sound there same long h e =
-    e.so_far ∙ parts.done _ (process_end table doors p) ends (λ t. refl) ends (λ x r f q. h.those x r f q (let w = sound.thread x r f in w.1))
+    (h : AreRefused (process_end table doors p).loses items tree mid) → AreTold (process_end table doors p).loses tree.calls items →
+    HaveEnded (is_thread_of after p) h.refused (length after.threads) tree now → now ≡ live_calls (left_calls (process_end table doors p) tree)
+process_calls {tree} {mid} {now} table after doors p parts there same long h told e =
+    e.so_far ∙ parts.done _ (process_end table doors p) ends (λ t. refl) ends (refused_as h told)
   where
     none_is : (k : ℕ) → is_some (at_number table.processes k) ≡ true → (0 == k) ≡ false
     none_is zero f = cc

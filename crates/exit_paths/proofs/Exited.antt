@@ -39,17 +39,16 @@ module _
       }
 
   pub room_there :
-      ((t : ℕ) → is_some (thread_at k.procs t) ≡ true → is_some (pool_at p (own_pool_in k.procs p.bindings t)) ≡ true →
-      length k.procs.threads ≤ thread_room_in p (own_pool_in k.procs p.bindings t)) → (t : ℕ) → is_some (thread_at k.procs t) ≡ true →
-      length k.procs.threads ≤ thread_room_in q (own_pool_in k.procs q.bindings t)
-  room_there made t there =
+      (t : ℕ) → (is_some (pool_at p (own_pool_in k.procs p.bindings t)) ≡ true → length k.procs.threads ≤ thread_room_in p (own_pool_in k.procs p.bindings t)) →
+      is_some (thread_at k.procs t) ≡ true → length k.procs.threads ≤ thread_room_in q (own_pool_in k.procs q.bindings t)
+  room_there t made there =
       let x : (x : Thread) × (thread_at k.procs t ≡ Some x) = there_is (thread_at k.procs t) there in
       let placed : HasPlaces k.procs p.bindings doors k.calls.tree.calls can.list.notices =
       subst (λ bs. HasPlaces k.procs bs doors k.calls.tree.calls can.list.notices) (sym same.bindings) can.placed in
       let pool : is_some (pool_at p (own_pool_in k.procs p.bindings t)) ≡ true =
       ap (λ o. is_some (pool_at p (pool_by (process_in o) (bound_at p.bindings t)))) x.1 ∙ own_pool_there held placed t x.0 x.1 in
       subst₂ (λ bs n. length k.procs.threads ≤ n) left.bindings (sym (left.threads (own_pool_in k.procs p.bindings t)) ∙ ap (λ bs. thread_room_in q (own_pool_in k.procs bs t)) (sym left.bindings))
-      (made t there pool)
+      (made pool)
 
   pub earlier_there : (t : ℕ) (x : Parked) → parked_at k.procs q.bindings t ≡ Some x → x.since < now
   earlier_there t x e = can.earlier t x (ap (λ bs. parked_at k.procs bs t) (sym same.bindings ∙ sym left.bindings) ∙ e)

@@ -154,11 +154,10 @@ module _
 
   pub next_room :
       (t : ℕ) → t ≡ i + 1 → i < length before.threads →
-      ((u : ℕ) → is_some (thread_at before u) ≡ true → length before.threads ≤ thread_room_in v (own_pool_in before v.bindings u)) →
+      length before.threads ≤ thread_room_in v (own_pool_in before v.bindings t) →
       ((pool : Pool) → thread_room_in v pool ≤ thread_room_in w pool + i) → 0 < thread_room_in w (own_pool_in after w.bindings t)
   next_room t next l room kept =
-      let a : length before.threads ≤ thread_room_in v (own_pool_in before v.bindings t) =
-      room t (numbered_there before.threads t (omega arith) (omega arith)) in
+      let a : length before.threads ≤ thread_room_in v (own_pool_in before v.bindings t) = room in
       let b : thread_room_in v (own_pool_in before v.bindings t) ≤ thread_room_in w (own_pool_in before v.bindings t) + i = kept (own_pool_in before v.bindings t) in
       subst (λ p. 0 < thread_room_in w p) (sym (same_own_pool t)) (omega arith)
 

@@ -3,7 +3,6 @@ mod Fated
 pub mod LeftThreads
 pub mod MadeRoom
 mod ItemsLeft
-mod Noted
 mod Transit
 mod QueuesLeft
 mod CallersLeft
@@ -19,3 +18,4 @@ mod KeptTogether
 pub mod Together
 pub mod First
 pub mod Owned
+pub mod Walked

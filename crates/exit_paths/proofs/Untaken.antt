@@ -1,19 +1,19 @@
 -- What waited at doors that are lost, as it is told: a notice is among it exactly where it waited at one of them.
-use Rattle.std.proofs.Common.{◌≡◌, ℕ, zero, suc, ◌<◌, ◌≤◌, ◌==◌, ◌&&◌, ◌||◌, not, Bool, true, false, if◌then◌else◌, List, [], ◌∷◌, ◌++◌, Some, filter, map, slice_get, refl, sym, ap, ap₂, ◌∙◌, subst, arith}
+use Rattle.std.proofs.Common.{◌≡◌, ℕ, zero, suc, ◌<◌, ◌≤◌, ◌==◌, ◌&&◌, ◌||◌, not, Bool, true, false, if◌then◌else◌, List, [], ◌∷◌, ◌++◌, Some, filter, find, map, slice_get, refl, sym, ap, ap₂, ◌∙◌, subst, arith}
 use Rattle.std.specs.List.{AllByRecursion, list_any}
 use Rattle.std.proofs.lemmas.Bool.Decides.{nat_tests}
 use Rattle.std.proofs.lemmas.List.Folds.{list_any-append}
 use Rattle.dk_base.specs.ByNumber.{at_number}
 use Rattle.dk_base.specs.declared.object.Item.TheVariants as item
-use Rattle.kernel_records.specs.Words.{CallTree, IsAscending, Leaving, NoticeList, ProcessTable, is_pool, is_waiting_stage, notice_number, pool_in, revocation, waiting_notice}
-use Rattle.written_kernel.specs.Types.{Door, Item, Notice, Pool, Waiting}
+use Rattle.kernel_records.specs.Words.{CallTree, IsAscending, Leaving, NoticeList, ProcessTable, call_number, is_pool, is_queued, is_queued_in, is_waiting_stage, notice_number, pool_in, revocation, waiting_call, waiting_notice}
+use Rattle.written_kernel.specs.Types.{Call, Door, Item, Notice, Pool, Waiting}
 use Rattle.written_kernel.proofs.Giving.{same_pool}
-use Rattle.server_pool.specs.Words.{PoolsValue, change_pool, drop_door_in, is_call, is_item, is_waiting_at, items_at, queue_in}
+use Rattle.server_pool.specs.Words.{PoolsValue, change_pool, drop_door_in, is_call, is_item, is_waiting_at, is_waiting_call, items_at, queue_in}
 use Rattle.pool_agreement.specs.Words.{Agrees, is_notice_waiting, is_waiting_notice_in}
 use Rattle.pool_agreement.proofs.Readers.{is_pool-self, same_number}
-use Rattle.exit_paths.specs.Words.{AreLost, HoldsSame, IsUntaken, TellsUntaken, dropped_items, kept_where, pool_of_number}
+use Rattle.exit_paths.specs.Words.{AreLost, AreTold, HoldsSame, IsUntaken, TellsUntaken, dropped_items, kept_where, pool_of_number}
 use Rattle.exit_paths.proofs.CallersLeft.{or_false}
-use Rattle.exit_paths.proofs.DoorsLost.{notice_listed}
+use Rattle.exit_paths.proofs.DoorsLost.{call_listed, notice_listed}
 use Rattle.exit_paths.proofs.ItemsLeft.{left_pool}
 
 -- an item waits at a door
@@ -204,6 +204,96 @@ module _ {n : ℕ} {table : ProcessTable} {doors : List Door} {tree : CallTree} 
           ap (λ b. is_waiting_stage x.stage && b)
           (notice_listed h who lost listed (pool_in (at_number doors x.door)) i x at (ap₂ (λ a b. a && b) e (is_pool-self (pool_in (at_number doors x.door)))))
       go false e = ap (λ b. b && list_any (λ d. x.door == d) lost) e ∙ sym (ap (λ b. b && who.loses x.door) e)
+
+-- a call waits at a door as its record says
+
+found_place : {X : Type 0} (p : X → Bool) (xs : List X) (x : X) → find p xs ≡ Some x → (i : ℕ) × (slice_get xs i ≡ Some x)
+found_place p [] x e = cc
+found_place p (y ∷ ys) x e = go (p y) e (λ k. found_place p ys x k)
+  where
+    go : (b : Bool) → (if b then Some y else find p ys) ≡ Some x → (find p ys ≡ Some x → (i : ℕ) × (slice_get ys i ≡ Some x)) → (i : ℕ) × (slice_get (y ∷ ys) i ≡ Some x)
+    go true f rest = (0, f)
+    go false f rest = let w = rest f in (suc w.0, w.1)
+
+module _ {n : ℕ} {table : ProcessTable} {doors : List Door} {tree : CallTree} {list : NoticeList} {v : PoolsValue} (h : Agrees n table doors tree list v) where
+  -- notices are no calls
+  calls_alone : (k d : ℕ) (ws : List Waiting) → list_any (is_as (item.Call k) d) ws ≡ list_any (is_as (item.Call k) d) (filter is_waiting_call ws)
+  calls_alone k d [] = refl
+  calls_alone k d (w ∷ ws) = go w.item refl (calls_alone k d ws)
+    where
+      none : (b c : Bool) → ((b && false) || c) ≡ c
+      none true c = refl
+      none false c = refl
+
+      go :
+          (x : Item) → w.item ≡ x → list_any (is_as (item.Call k) d) ws ≡ list_any (is_as (item.Call k) d) (filter is_waiting_call ws) →
+          list_any (is_as (item.Call k) d) (w ∷ ws) ≡ list_any (is_as (item.Call k) d) (filter is_waiting_call (w ∷ ws))
+      go (item.Notice c) e ih =
+          ap (λ y. (is_waiting_at d w && is_item (item.Call k) y) || list_any (is_as (item.Call k) d) ws) e ∙ none (is_waiting_at d w) (list_any (is_as (item.Call k) d) ws) ∙ ih
+          ∙ sym (ap (λ y. list_any (is_as (item.Call k) d) (if is_call y then w ∷ filter is_waiting_call ws else filter is_waiting_call ws)) e)
+      go (item.Call c) e ih =
+          ap (λ b. is_as (item.Call k) d w || b) ih
+          ∙ sym (ap (λ y. list_any (is_as (item.Call k) d) (if is_call y then w ∷ filter is_waiting_call ws else filter is_waiting_call ws)) e)
+
+  as_calls : (q : Pool) (k d : ℕ) (rs : List Call) → list_any (is_as (item.Call k) d) (map waiting_call (filter (is_queued_in doors q) rs)) ≡ list_any (λ m. (is_queued_in doors q m && (m.door == d)) && (k == m.number)) rs
+  as_calls q k d [] = refl
+  as_calls q k d (m ∷ rs) = go (is_queued_in doors q m) (as_calls q k d rs)
+    where
+      go :
+          (b : Bool) → list_any (is_as (item.Call k) d) (map waiting_call (filter (is_queued_in doors q) rs)) ≡ list_any (λ y. (is_queued_in doors q y && (y.door == d)) && (k == y.number)) rs →
+          list_any (is_as (item.Call k) d) (map waiting_call (if b then m ∷ filter (is_queued_in doors q) rs else filter (is_queued_in doors q) rs))
+          ≡ (((b && (m.door == d)) && (k == m.number)) || list_any (λ y. (is_queued_in doors q y && (y.door == d)) && (k == y.number)) rs)
+      go true ih = ap (λ b. ((m.door == d) && (k == m.number)) || b) ih
+      go false ih = ih
+
+  has_call : (i : ℕ) (x : Call) → slice_get tree.calls i ≡ Some x → (d : ℕ) → has v (pool_of_number doors d) (item.Call x.number) d ≡ (is_queued x.stage && (x.door == d))
+  has_call i x at d =
+      calls_alone x.number d (queue_in v q) ∙ ap (list_any (is_as (item.Call x.number) d)) (h.queues q).calls_wait ∙ as_calls q x.number d tree.calls
+      ∙ (only_one call_number (λ m. is_queued_in doors q m && (m.door == d)) 0 tree.made i tree.calls x h.calls at).0
+      ∙ go (x.door == d) refl
+    where
+      q : Pool
+      q = pool_of_number doors d
+
+      none : (a b : Bool) → ((a && b) && false) ≡ (a && false)
+      none true true = refl
+      none true false = refl
+      none false b = refl
+
+      last : (a : Bool) → ((a && true) && true) ≡ (a && true)
+      last true = refl
+      last false = refl
+
+      go : (b : Bool) → (x.door == d) ≡ b → (is_queued_in doors q x && (x.door == d)) ≡ (is_queued x.stage && (x.door == d))
+      go false e =
+          ap (λ b. is_queued_in doors q x && b) e ∙ none (is_queued x.stage) (is_pool q (pool_in (at_number doors x.door)))
+          ∙ sym (ap (λ b. is_queued x.stage && b) e)
+      go true e =
+          ap₂ (λ a b. (is_queued x.stage && a) && b)
+          (subst (λ k. is_pool (pool_of_number doors k) (pool_in (at_number doors x.door)) ≡ true) (same_number x.door d e) (is_pool-self (pool_in (at_number doors x.door)))) e
+          ∙ last (is_queued x.stage) ∙ sym (ap (λ b. is_queued x.stage && b) e)
+
+  pub tells_calls : (who : Leaving) (lost : List ℕ) → AreLost who lost v → (untaken : List Item) → untaken ≡ dropped_items doors lost v → AreTold who.loses tree.calls untaken
+  tells_calls who lost listed untaken is p r e q l =
+      ap (list_any (is_item (item.Call r.number))) is ∙ in_dropped doors (item.Call r.number) lost v
+      ∙ all_doors lost
+      ∙ ap₂ (λ a b. a && b) (ap is_queued q)
+      (call_listed h who lost listed (pool_in (at_number doors r.door)) (found_place p tree.calls r e).0 r (found_place p tree.calls r e).1
+      (ap₂ (λ a b. a && b) (ap is_queued q) (is_pool-self (pool_in (at_number doors r.door)))) ∙ l)
+    where
+      all_doors : (ds : List ℕ) → list_any (λ d. has v (pool_of_number doors d) (item.Call r.number) d) ds ≡ (is_queued r.stage && list_any (λ d. r.door == d) ds)
+      all_doors [] = sym (none (is_queued r.stage))
+        where
+          none : (b : Bool) → (b && false) ≡ false
+          none true = refl
+          none false = refl
+      all_doors (d ∷ ds) =
+          ap₂ (λ a b. a || b) (has_call (found_place p tree.calls r e).0 r (found_place p tree.calls r e).1 d) (all_doors ds)
+          ∙ share (is_queued r.stage) (r.door == d) (list_any (λ k. r.door == k) ds)
+        where
+          share : (a b c : Bool) → ((a && b) || (a && c)) ≡ (a && (b || c))
+          share true b c = refl
+          share false b c = refl
 
 -- in pools that hold the same
 pub lost_same : (who : Leaving) (lost : List ℕ) {v w : PoolsValue} → HoldsSame v w → AreLost who lost v → AreLost who lost w

@@ -1,7 +1,6 @@
 pub mod Pools
 pub mod Fates
 pub mod Exits
-pub mod Marks
 pub mod Queues
 pub mod Together
 pub mod Calls

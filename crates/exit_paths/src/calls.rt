@@ -1,13 +1,12 @@
 //! What becomes of calls, one after the other, and what leaves transit with them.
 ghost use Rattle.std.specs.Prelude.{◌≡◌, ℕ, ◌+◌, ◌≤◌, ◌==◌, ◌&&◌, [], Bool, List, IfOk, IsSome, find, false, if◌then◌else◌, length};
 ghost use Rattle.dk_base.specs.declared.error.Errno.TheVariants.{EBADF};
-ghost use Rattle.dk_base.specs.declared.limits.TheConstants.{THREADS_MAX};
 ghost use Rattle.kernel_records.specs.Words.{CallTree, ProcessTable, is_queued_as, leaving_of};
 ghost use Rattle.written_kernel.specs.Types.{Call, Obj};
 ghost use Rattle.written_kernel.specs.Words.{objects_in_call};
 ghost use Rattle.call_tree.specs.Words.{AreSound, abandon_call, calls_so_far, is_called_by, lose_server, refuse_call};
 ghost use Rattle.call_tree.specs.declared.parts.Leave.TheVariants.{Finished};
-ghost use Rattle.exit_paths.specs.Words.{AreRefused, DropsTransit, HaveEnded, all_left, in_transit, is_thread_of, refused_caller};
+ghost use Rattle.exit_paths.specs.Words.{AreRefused, DropsTransit, HaveEnded, all_left, in_transit, is_thread_of, refused_item};
 
 use crate::who_leaves::loses;
 use call_tree::calls::Calls;
@@ -15,14 +14,14 @@ use call_tree::laws::parts_of_leaving;
 use call_tree::parts::Leave;
 use call_tree::stage::is_queued;
 use dk_base::error::{Errno, NoMemory};
-use dk_base::limits::THREADS_MAX;
 use dk_base::list::{ObjList, Room};
 use dk_base::number::{Pid, Tid};
-use dk_base::object::Obj;
+use dk_base::object::{Item, Obj};
 use door_object::doors::Doors;
 use kernel_records::leaving::Leaver;
 use kernel_records::record::{Call, CallStage};
 use proc_table::procs::Procs;
+use proc_table::walk::Walk;
 use std::alloc::Global;
 
 /// How many objects are in transit with a call.
@@ -111,37 +110,47 @@ fn refuse(calls: &mut Calls, c: u32, into: &mut Room<Obj>)
     into.append(dropped.slice());
 }
 
-/// The call in which a thread waits ends EBADF, if it waits at a door that is lost. It takes no memory.
-fn refuse_caller(calls: &mut Calls, doors: &Doors, who: Leaver, t: Tid, into: &mut Room<Obj>)
+/// The call of an item ends EBADF, if it waits at a door that is lost. It takes no memory.
+fn refuse_item(calls: &mut Calls, doors: &Doors, who: Leaver, item: Item, into: &mut Room<Obj>)
     requires { in_transit calls.old.tree.calls ≤ into.old.spare }
-    ensures tree { (table : ProcessTable) → calls.new.tree ≡ refused_caller (leaving_of table doors.now.items who).loses (find (is_called_by t.0) calls.old.tree.calls) calls.old.tree }
+    ensures tree { (table : ProcessTable) → calls.new.tree ≡ refused_item (leaving_of table doors.now.items who).loses item calls.old.tree }
     ensures dropped { (first : List Call) → DropsTransit first calls.old.tree.calls into.old.items → DropsTransit first calls.new.tree.calls into.new.items }
     ensures room { in_transit calls.new.tree.calls ≤ into.new.spare }
     ensures spare { calls.old.spare ≤ calls.new.spare }
 {
     calls.are_sound();
-    let Some(call) = calls.called_by(t) else {
+    let Item::Call(c) = item else {
+        return;
+    };
+    let Some(call) = calls.call(c) else {
         return;
     };
     if is_queued(&call.stage) && loses(who, doors, call.door) {
-        let c = call.number;
-        refuse(calls, c, into);
+        let number = call.number;
+        refuse(calls, number, into);
     }
 }
 
-/// All calls that wait at doors that are lost end EBADF. What is no longer in transit follows what is in `into`. It takes no memory.
-pub fn refuse_lost(calls: &mut Calls, doors: &Doors, who: Leaver, into: &mut Room<Obj>)
+/// The calls among some items that wait at doors that are lost end EBADF. What is no longer in transit follows what is in `into`. It
+/// takes no memory.
+pub fn refuse_lost(
+    calls: &mut Calls,
+    doors: &Doors,
+    who: Leaver,
+    items: &[Item],
+    into: &mut Room<Obj>,
+)
     requires { in_transit calls.old.tree.calls ≤ into.old.spare }
-    ensures tree { (table : ProcessTable) → AreRefused (leaving_of table doors.now.items who).loses THREADS_MAX calls.old.tree calls.new.tree }
+    ensures tree { (table : ProcessTable) → AreRefused (leaving_of table doors.now.items who).loses items.now calls.old.tree calls.new.tree }
     ensures dropped { (first : List Call) → DropsTransit first calls.old.tree.calls into.old.items → DropsTransit first calls.new.tree.calls into.new.items }
     ensures room { in_transit calls.new.tree.calls ≤ into.new.spare }
     ensures spare { calls.old.spare ≤ calls.new.spare }
 {
     calls.are_sound();
     parts_of_leaving();
-    for i in 0..THREADS_MAX {
+    for i in 0..items.len() {
         calls.are_sound();
-        refuse_caller(calls, doors, who, Tid(i + 1), into);
+        refuse_item(calls, doors, who, items[i], into);
     }
 }
 
@@ -157,19 +166,6 @@ fn end_thread(alloc: Global, calls: &mut Calls, t: Tid, into: &mut Room<Obj>)
     end_server(calls, t, into);
 }
 
-/// The same where it ends.
-fn end_where(alloc: Global, calls: &mut Calls, t: Tid, ends: bool, into: &mut Room<Obj>)
-    requires { in_transit calls.old.tree.calls ≤ into.old.spare }
-    ensures tree { calls.new.tree ≡ (if ends then lose_server (abandon_call calls.old.tree t.0 Finished) t.0 else calls.old.tree) }
-    ensures dropped { (first : List Call) → DropsTransit first calls.old.tree.calls into.old.items → DropsTransit first calls.new.tree.calls into.new.items }
-    ensures room { in_transit calls.new.tree.calls ≤ into.new.spare }
-    ensures spare { calls.old.spare ≤ calls.new.spare }
-{
-    if ends {
-        end_thread(alloc, calls, t, into);
-    }
-}
-
 /// All threads of a process that end leave their calls, and the calls that they serve end. It takes no memory.
 pub fn end_all(alloc: Global, calls: &mut Calls, procs: &Procs, p: Pid, into: &mut Room<Obj>)
     requires { in_transit calls.old.tree.calls ≤ into.old.spare }
@@ -179,9 +175,9 @@ pub fn end_all(alloc: Global, calls: &mut Calls, procs: &Procs, p: Pid, into: &m
     ensures spare { calls.old.spare ≤ calls.new.spare }
 {
     parts_of_leaving();
-    for i in 0..procs.thread_count() {
-        let t = Tid(i + 1);
-        let ends = procs.process_of(t).0 == p.0;
-        end_where(alloc, calls, t, ends, into);
+    let threads = procs.threads_of(p);
+    let mut walk = Walk::over(threads);
+    while let Some(t) = walk.next() {
+        end_thread(alloc, calls, t, into);
     }
 }

@@ -7,13 +7,10 @@ ghost use Rattle.exit_paths.specs.Words.{AreLost, CanExit, HasExited, IsAsBefore
 use crate::calls::{end_all, end_caller, end_server, leave_call, refuse_lost, room_for_transit};
 use crate::fates::{
     are_few, desert_server, deserted_by, end_thread, leave_threads, make_room, parked_of,
-    room_for_server, woken_of,
+    room_for_server, touched_by, woken_of,
 };
 use crate::left::Left;
-use crate::marks::{
-    has_turned, is_idle_thread, list_new, list_one, note_idle, note_ready, room_for_all,
-    room_for_one,
-};
+use crate::marks::{has_turned, is_idle_thread, list_new, list_one, room_for_all, room_for_one};
 use crate::queues::{drop_doors, room_for_items, withdraw_all, withdraw_caller};
 use call_tree::calls::Calls;
 use call_tree::laws::parts_of_leaving;
@@ -131,23 +128,24 @@ pub fn proc_exit(
     calls.are_sound();
     are_few(procs);
     parts_of_leaving();
-    make_room(pools, procs)?;
+    let touched = touched_by(procs, calls, p);
+    make_room(pools, procs, touched)?;
     let parked = room_for_all(alloc)?;
     let woken = room_for_all(alloc)?;
     let mut dropped = room_for_transit(alloc, calls)?;
     let mut untaken = room_for_items(alloc, pools, doors, lost)?;
-    let was_idle = note_idle(procs);
-    let was_ready = note_ready(calls);
+    let was_idle = procs.idle();
+    let was_ready = calls.collecting();
     let who = Leaver::EndedProcess { process: p };
     drop_doors(pools, doors, lost, &mut untaken);
     withdraw_all(pools, doors, calls, procs, p);
-    leave_threads(procs, pools, who, calls, step);
-    refuse_lost(calls, doors, who, &mut dropped);
+    leave_threads(procs, pools, who, calls, touched, step);
+    refuse_lost(calls, doors, who, untaken.slice(), &mut dropped);
     end_all(alloc, calls, procs, p, &mut dropped);
     Ok(Left {
         dropped: dropped.into_list(),
-        parked: list_new(parked, &was_idle, &note_idle(procs)),
-        woken: list_new(woken, &was_ready, &note_ready(calls)),
+        parked: list_new(parked, was_idle, procs.idle()),
+        woken: list_new(woken, was_ready, calls.collecting()),
         untaken: untaken.into_list(),
     })
 }
@@ -162,6 +160,7 @@ pub fn revoke_all(
     doors: &Doors,
     d: u32,
 ) -> Result<Left, NoMemory>
+    requires { (now : ℕ) × CanExit now doors.now.items (record { procs = procs.now; calls = calls.old; pools = pools.old }) }
     ensures left { (step : ℕ) → IfOk result (HasExited (revocation d) step doors.now.items (record { procs = procs.now; calls = calls.old; pools = pools.old }) (record { procs = procs.now; calls = calls.new; pools = pools.new })) }
     ensures as_before { OnErr result (IsAsBefore (record { procs = procs.now; calls = calls.old; pools = pools.old }) (record { procs = procs.now; calls = calls.new; pools = pools.new })) }
 {
@@ -170,14 +169,14 @@ pub fn revoke_all(
     let woken = room_for_all(alloc)?;
     let mut dropped = room_for_transit(alloc, calls)?;
     let mut untaken = room_for_items(alloc, pools, doors, &[d])?;
-    let was_ready = note_ready(calls);
+    let was_ready = calls.collecting();
     let who = Leaver::Revoked { door: d };
     drop_doors(pools, doors, &[d], &mut untaken);
-    refuse_lost(calls, doors, who, &mut dropped);
+    refuse_lost(calls, doors, who, untaken.slice(), &mut dropped);
     Ok(Left {
         dropped: dropped.into_list(),
         parked: TidList::new(alloc),
-        woken: list_new(woken, &was_ready, &note_ready(calls)),
+        woken: list_new(woken, was_ready, calls.collecting()),
         untaken: untaken.into_list(),
     })
 }

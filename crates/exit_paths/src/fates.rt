@@ -1,21 +1,25 @@
 //! What becomes of threads and of their pools where callers are interrupted, threads end and doors are lost.
-ghost use Rattle.std.specs.Prelude.{◌≡◌, ℕ, ◌+◌, ◌<◌, ◌≤◌, List, IfSome, OnOk, true, find, is_some, length};
+ghost use Rattle.std.specs.Prelude.{◌≡◌, ℕ, ◌+◌, ◌<◌, ◌≤◌, List, IfSome, OnOk, false, true, find, is_some, length};
 ghost use Rattle.dk_base.specs.declared.limits.TheConstants.{THREADS_MAX};
 ghost use Rattle.kernel_records.specs.Words.{CallTree, NoticeList, change_thread, deserted_in, end_thread, interrupted_where, is_served_by, leaving_of, left_thread_of, left_threads, parked_at, park_thread, thread_at};
 ghost use Rattle.written_kernel.specs.Types.{Door, Parked, Pool, Thread};
 ghost use Rattle.server_pool.specs.Words.{AllParkedBefore, pool_at, stack_in, thread_room_in};
 ghost use Rattle.call_tree.specs.Words.{caller_among, is_called_by};
 ghost use Rattle.pool_agreement.specs.Words.{Agrees, AgreesSomehow};
+ghost use Rattle.proc_table.specs.Words.{is_of};
+ghost use Rattle.thread_set.specs.Words.{has};
 ghost use Rattle.exit_paths.specs.Words.{CanParkAgain, HasNoLessRoom, HoldsSame, KeepsItems, deserted_as, deserted_in_call, fated, own_pool_in, parked_of, with_deserted, woken_of};
 
 use crate::who_leaves::{ends, interrupts, own_pool};
 use call_tree::calls::Calls;
 use dk_base::error::NoMemory;
-use dk_base::number::Tid;
+use dk_base::number::{Pid, Tid};
 use kernel_records::leaving::Leaver;
 use kernel_records::record::{CallStage, ThreadState};
 use proc_table::procs::Procs;
+use proc_table::walk::Walk;
 use server_pool::pools::Pools;
+use thread_set::set::ThreadSet;
 
 // threads
 
@@ -149,18 +153,28 @@ fn leave_thread(processes: &mut Procs, pools: &mut Pools, t: Tid, fate: Fate, no
     desert(processes, pools, t, fate.desertion, now);
 }
 
-/// What becomes of all threads at an event, the lowest first. It takes no memory. The calls are not yet changed.
-pub fn leave_threads(processes: &mut Procs, pools: &mut Pools, who: Leaver, calls: &Calls, now: u64)
+/// What becomes of all threads at an event, where those are given that may change, and the lowest of them is first. It takes no memory.
+/// The calls are not yet changed.
+pub fn leave_threads(
+    processes: &mut Procs,
+    pools: &mut Pools,
+    who: Leaver,
+    calls: &Calls,
+    touched: ThreadSet,
+    now: u64,
+)
     requires agreed { AgreesSomehow now processes.old pools.old }
     requires numbered { (t : ℕ) (x : Thread) → thread_at processes.old t ≡ Some x → x.number ≡ t }
     requires earlier { (t : ℕ) (x : Parked) → parked_at processes.old pools.old.bindings t ≡ Some x → x.since < now }
-    requires room { (t : ℕ) → is_some (thread_at processes.old t) ≡ true → length processes.old.threads ≤ thread_room_in pools.old (own_pool_in processes.old pools.old.bindings t) }
+    requires there { (t : ℕ) → has touched t ≡ true → is_some (thread_at processes.old t) ≡ true }
+    requires room { (t : ℕ) → has touched t ≡ true → length processes.old.threads ≤ thread_room_in pools.old (own_pool_in processes.old pools.old.bindings t) }
+    requires others { (doors : List Door) (t : ℕ) (x : Thread) → has touched t ≡ false → thread_at processes.old t ≡ Some x → left_thread_of (leaving_of processes.old doors who) now calls.now.tree.calls x ≡ x }
     ensures threads { (doors : List Door) → processes.new ≡ left_threads (leaving_of processes.old doors who) now calls.now.tree.calls processes.old }
     ensures agreed { (doors : List Door) (tree : CallTree) (list : NoticeList) → Agrees now processes.old doors tree list pools.old → Agrees now processes.new doors tree list pools.new }
     ensures keeps { KeepsItems pools.old pools.new }
 {
-    for i in 0..processes.thread_count() {
-        let t = Tid(i + 1);
+    let mut walk = Walk::over(touched);
+    while let Some(t) = walk.next() {
         let fate = fate_of(who, processes, calls, t);
         leave_thread(processes, pools, t, fate, now);
     }
@@ -242,6 +256,39 @@ pub fn desert_server(processes: &mut Procs, pools: &mut Pools, deserted: Option<
     }
 }
 
+// a process
+
+/// The thread whose caller leaves is one of a set, if it is there.
+fn put_server(touched: &mut ThreadSet, processes: &Procs, deserted: Option<Deserted>)
+    ensures more { (u : ℕ) → has touched.old u ≡ true → has touched.new u ≡ true }
+    ensures there { ((u : ℕ) → has touched.old u ≡ true → is_some (thread_at processes.now u) ≡ true) → (u : ℕ) → has touched.new u ≡ true → is_some (thread_at processes.now u) ≡ true }
+    ensures server { IfSome deserted (λ d. is_some (thread_at processes.now d.server.0) ≡ true → has touched.new d.server.0 ≡ true) }
+{
+    let Some(deserted) = deserted else {
+        return;
+    };
+    are_few(processes);
+    if !is_there(processes, deserted.server) {
+        return;
+    }
+    touched.put(deserted.server, true);
+}
+
+/// The threads that the end of a process may change: its own, and those that serve their calls.
+pub fn touched_by(processes: &Procs, calls: &Calls, p: Pid) -> ThreadSet
+    ensures there { (t : ℕ) → has result t ≡ true → is_some (thread_at processes.now t) ≡ true }
+    ensures own { (t : ℕ) → is_of p.0 (thread_at processes.now t) ≡ true → has result t ≡ true }
+    ensures servers { (t : ℕ) → is_of p.0 (thread_at processes.now t) ≡ true → IfSome (deserted_in_call (find (is_called_by t) calls.now.tree.calls)) (λ d. is_some (thread_at processes.now d.server.0) ≡ true → has result d.server.0 ≡ true) }
+{
+    let own = processes.threads_of(p);
+    let mut touched = own;
+    let mut walk = Walk::over(own);
+    while let Some(t) = walk.next() {
+        put_server(&mut touched, processes, deserted_by(calls, t));
+    }
+    touched
+}
+
 // memory
 
 /// Room in the pool of the thread whose caller leaves. Want of memory changes nothing but room, of which there is never less than
@@ -262,16 +309,17 @@ pub fn room_for_server(
     pools.room_for_threads(pool, 1)
 }
 
-/// Room in the pool of each thread for as many more threads as there are in all. Want of memory changes nothing but room, of which
-/// there is never less than before.
-pub fn make_room(pools: &mut Pools, processes: &Procs) -> Result<(), NoMemory>
+/// Room in the pool of each of these threads for as many more threads as there are in all. Want of memory changes nothing but room, of
+/// which there is never less than before.
+pub fn make_room(pools: &mut Pools, processes: &Procs, touched: ThreadSet) -> Result<(), NoMemory>
     ensures same { HoldsSame pools.old pools.new }
     ensures kept { HasNoLessRoom pools.old pools.new }
-    ensures room { OnOk result ((t : ℕ) → is_some (thread_at processes.now t) ≡ true → is_some (pool_at pools.new (own_pool_in processes.now pools.new.bindings t)) ≡ true → length processes.now.threads ≤ thread_room_in pools.new (own_pool_in processes.now pools.new.bindings t)) }
+    ensures room { OnOk result ((t : ℕ) → has touched t ≡ true → is_some (pool_at pools.new (own_pool_in processes.now pools.new.bindings t)) ≡ true → length processes.now.threads ≤ thread_room_in pools.new (own_pool_in processes.now pools.new.bindings t)) }
 {
     let count = processes.thread_count();
-    for i in 0..count {
-        let pool = own_pool(processes, pools, Tid(i + 1));
+    let mut walk = Walk::over(touched);
+    while let Some(t) = walk.next() {
+        let pool = own_pool(processes, pools, t);
         pools.room_for_threads(pool, count as usize)?;
     }
     Ok(())

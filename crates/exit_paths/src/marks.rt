@@ -1,11 +1,10 @@
-//! Which threads are idle, and whose calls can be collected: noted before threads leave, and compared with what is so after it.
-ghost use Rattle.std.specs.Prelude.{◌≡◌, ℕ, ◌+◌, ◌<◌, ◌≤◌, ◌++◌, ◌∷◌, ◌&&◌, ◌==◌, Bool, [], IfOk, if◌then◌else◌, map, not};
+//! Which threads became idle, and whose calls can be collected anew: what was so before threads leave, compared with what is so after it.
+ghost use Rattle.std.specs.Prelude.{◌≡◌, ℕ, ◌<◌, ◌≤◌, ◌&&◌, ◌==◌, Bool, [], IfOk, not};
 ghost use Rattle.dk_base.specs.declared.limits.TheConstants.{THREADS_MAX};
-ghost use Rattle.kernel_records.specs.Words.{is_idle, tid};
-ghost use Rattle.exit_paths.specs.Exits.{has_ready, is_idle_at, threads_where};
-ghost use Rattle.exit_paths.specs.Marks.{AreMarks};
+ghost use Rattle.kernel_records.specs.Words.{is_idle};
+ghost use Rattle.exit_paths.specs.Exits.{is_idle_at, threads_where};
+ghost use Rattle.thread_set.specs.Words.{has};
 
-use call_tree::calls::Calls;
 use dk_base::error::NoMemory;
 use dk_base::limits::THREADS_MAX;
 use dk_base::list::{Room, TidList};
@@ -13,9 +12,7 @@ use dk_base::number::Tid;
 use kernel_records::record::ThreadState;
 use proc_table::procs::Procs;
 use std::alloc::Global;
-
-/// A mark for each thread number from 0 on.
-pub const MARKS: usize = 65;
+use thread_set::set::ThreadSet;
 
 fn is_idle(state: &ThreadState) -> bool
     ensures { result ≡ is_idle state.now }
@@ -27,28 +24,6 @@ pub fn is_idle_thread(procs: &Procs, t: Tid) -> bool
     ensures { result ≡ is_idle_at procs.now t.0 }
 {
     is_idle(procs.state(t))
-}
-
-/// Which threads are idle.
-pub fn note_idle(procs: &Procs) -> [bool; MARKS]
-    ensures { AreMarks (is_idle_at procs.now) result }
-{
-    let mut marks = [false; MARKS];
-    for i in 0..MARKS {
-        marks[i] = is_idle_thread(procs, Tid(i as u32));
-    }
-    marks
-}
-
-/// Whose calls were returned or have ended.
-pub fn note_ready(calls: &Calls) -> [bool; MARKS]
-    ensures { AreMarks (has_ready calls.now.tree) result }
-{
-    let mut marks = [false; MARKS];
-    for i in 0..MARKS {
-        marks[i] = calls.ready(Tid(i as u32));
-    }
-    marks
 }
 
 /// Room for all threads.
@@ -74,35 +49,13 @@ pub fn room_for_one(alloc: Global) -> Result<Room<Tid>, NoMemory>
     Room::with_room(alloc, 1)
 }
 
-/// Whether a thread has a mark now and had none before.
-fn is_new(before: &[bool; MARKS], after: &[bool; MARKS], t: u32) -> bool
-    requires { t ≤ THREADS_MAX }
-    ensures { (was is : ℕ → Bool) → AreMarks was before.now → AreMarks is after.now → result ≡ (not (was t) && is t) }
-{
-    let place = t as usize;
-    !before[place] && after[place]
-}
-
-/// A thread follows what is in a list, or does not.
-fn push_where(room: &mut Room<Tid>, t: u32, listed: bool)
-    requires { 0 < room.old.spare }
-    ensures items { room.new.items ≡ room.old.items ++ map tid (if listed then t ∷ [] else []) }
-    ensures spare { room.old.spare ≤ room.new.spare + 1 }
-{
-    if listed {
-        room.push(Tid(t));
-    }
-}
-
-/// The threads that have a mark now and had none before, in order of number. It takes no memory.
-pub fn list_new(mut room: Room<Tid>, before: &[bool; MARKS], after: &[bool; MARKS]) -> TidList
+/// The threads of a set that are not in an earlier one, in order of number. It takes no memory.
+pub fn list_new(mut room: Room<Tid>, before: ThreadSet, after: ThreadSet) -> TidList
     requires empty { room.items ≡ [] }
     requires spare { THREADS_MAX ≤ room.spare }
-    ensures { (was is : ℕ → Bool) → AreMarks was before.now → AreMarks is after.now → result ≡ threads_where (λ t. not (was t) && is t) }
+    ensures { (was is : ℕ → Bool) → ((t : ℕ) → has before t ≡ was t) → ((t : ℕ) → has after t ≡ is t) → result ≡ threads_where (λ t. not (was t) && is t) }
 {
-    for i in 0..THREADS_MAX {
-        push_where(&mut room, i + 1, is_new(before, after, i + 1));
-    }
+    after.without(before).list(&mut room);
     room.into_list()
 }
 

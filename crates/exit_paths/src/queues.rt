@@ -6,7 +6,7 @@ ghost use Rattle.kernel_records.specs.Words.{is_pool, pool_in};
 ghost use Rattle.written_kernel.specs.Types.{Pool, Waiting};
 ghost use Rattle.server_pool.specs.Words.{is_waiting_at};
 ghost use Rattle.call_tree.specs.Words.{is_called_by};
-ghost use Rattle.exit_paths.specs.Queues.{Dropped, is_at_lost, is_call_of, is_call_of_any, is_call_where, is_queued_at, waiting_total};
+ghost use Rattle.exit_paths.specs.Queues.{Dropped, is_at_lost, is_call_of, is_call_of_any, is_queued_at, waiting_total};
 ghost use Rattle.exit_paths.specs.Words.{HaveLeft, is_thread_of};
 
 use call_tree::calls::Calls;
@@ -18,6 +18,7 @@ use dk_base::object::Item;
 use door_object::doors::Doors;
 use kernel_records::record::Call;
 use proc_table::procs::Procs;
+use proc_table::walk::Walk;
 use server_pool::pools::Pools;
 use std::alloc::Global;
 
@@ -40,23 +41,14 @@ pub fn withdraw_caller(pools: &mut Pools, doors: &Doors, calls: &Calls, t: Tid)
     }
 }
 
-/// The same where it leaves.
-fn withdraw_where(pools: &mut Pools, doors: &Doors, calls: &Calls, t: Tid, leaves: bool)
-    ensures { HaveLeft (is_call_where doors.now.items calls.now.tree.calls leaves t.0) pools.old pools.new }
-{
-    if leaves {
-        withdraw_caller(pools, doors, calls, t);
-    }
-}
-
 /// The calls of the threads of a process leave the pools in which they wait.
 pub fn withdraw_all(pools: &mut Pools, doors: &Doors, calls: &Calls, procs: &Procs, p: Pid)
     ensures { HaveLeft (is_call_of_any doors.now.items calls.now.tree.calls (is_thread_of procs.now p.0) (length procs.now.threads)) pools.old pools.new }
 {
-    for i in 0..procs.thread_count() {
-        let t = Tid(i + 1);
-        let leaves = procs.process_of(t).0 == p.0;
-        withdraw_where(pools, doors, calls, t, leaves);
+    let threads = procs.threads_of(p);
+    let mut walk = Walk::over(threads);
+    while let Some(t) = walk.next() {
+        withdraw_caller(pools, doors, calls, t);
     }
 }
 

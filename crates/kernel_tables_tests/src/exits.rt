@@ -58,7 +58,9 @@ fn is_no_revocation(
     calls: &mut Calls,
     pools: &mut Pools,
     doors: &Doors,
-) -> bool {
+) -> bool
+    requires { CanExit 0 doors.now.items (record { procs = procs.now; calls = calls.old; pools = pools.old }) }
+{
     match revoke_all(alloc, procs, calls, pools, doors, 1) {
         Ok(left) => is_silent(&left),
         Err(_) => false,
@@ -73,6 +75,16 @@ fn nobody_is_interrupted(rt: HostRuntime) -> Result<(), Fail> {
     let mut calls = Calls::new(alloc);
     let doors = Doors::new(alloc);
     assert!(rt; is_no_interrupt(alloc, &mut procs, &mut calls, &mut pools, &doors));
+    Ok(())
+}
+
+#[test]
+fn no_door_is_revoked(rt: HostRuntime) -> Result<(), Fail> {
+    let alloc = rt.alloc();
+    let mut pools = Pools::new(alloc)?;
+    let procs = Procs::new(alloc);
+    let mut calls = Calls::new(alloc);
+    let doors = Doors::new(alloc);
     assert!(rt; is_no_revocation(alloc, &procs, &mut calls, &mut pools, &doors));
     Ok(())
 }

@@ -1,25 +1,40 @@
-use Rattle.std.proofs.Common.{◌≡◌, ◌+◌, ◌==◌, ◌||◌, length, refl, ap, ◌∙◌, subst, add-one, arith}
-use Rattle.exit_paths.specs.Words.{HaveLeft, is_call_of_any, is_call_where, is_thread_of}
+use Rattle.std.proofs.Common.{sym, ap, ◌∙◌, subst, arith}
+use Rattle.proc_table.specs.Words.{Walks}
+use Rattle.thread_set.specs.Words.{has}
+use Rattle.exit_paths.specs.Words.{is_call_of_any}
 use Rattle.exit_paths.proofs.ItemsLeft.{left_as, left_none, left_then}
+use Rattle.exit_paths.proofs.Walked.{all_walked, any_walked}
 use Rattle.exit_paths.proofs.queues.withdraw_all.Goals as goal
 
-pub loop-i-init : goal.loop-i-init
-loop-i-init c = left_as (left_none c.args.pools.now) (λ q w. refl)
+pub loop-t-init : goal.loop-t-init
+loop-t-init c = (
+  subst (λ s. Walks s c.over-walk.result) (sym c.over-walk.ensures.rest) c.over-walk.ensures.walks,
+  left_as (left_none c.args.pools.now)
+      (λ q w. sym (ap (λ n. is_call_of_any c.args.doors.now.items c.args.calls.now.tree.calls (has c.over-walk.result.rest) n q w) c.over-walk.ensures.start)),
+)
 
-pub loop-i-preserved : goal.loop-i-preserved
-loop-i-preserved c =
+pub loop-t-smaller : goal.loop-t-smaller
+loop-t-smaller c =
+    let step = c.in-Some.ensures.next c.over-walk.result.rest c.loop-t.invariant.0 in
+    omega (arith, step.later, step.done, c.in-Some.ensures.within.1)
+
+pub loop-t-preserved : goal.loop-t-preserved
+loop-t-preserved c =
     let doors = c.args.doors.now.items in
     let calls = c.args.calls.now.tree.calls in
-    let test = is_thread_of c.args.procs.now c.args.p.0 in
-    let i = c.loop-i.i in
-    rw add-one
-    (left_as (left_then c.loop-i.invariant c.withdraw_where.ensures)
-    (λ q w.
-    ap (λ b. is_call_of_any doors calls test i q w || is_call_where doors calls b (i + 1) q w) (ap (λ k. k == c.args.p.0) c.process_of.ensures)
-    ∙ ap (λ k. is_call_of_any doors calls test i q w || is_call_where doors calls (test k) k q w) (add-one i)))
+    let set = c.over-walk.result.rest in
+    let step = c.in-Some.ensures.next set c.loop-t.invariant.0 in (
+      step.walks,
+      left_as (left_then c.loop-t.invariant.1 c.withdraw_caller.ensures)
+          (λ q w.
+          any_walked doors calls q w (has set) c.loop-t.walk.done c.in-Some.t.0 step.later step.between step.here
+          ∙ ap (λ n. is_call_of_any doors calls (has set) n q w) (sym step.done)),
+    )
 
 pub returns : goal.returns
 returns c =
-    let all : c.loop-i.i ≡ length c.args.procs.now.threads = omega (arith, c.thread_count-i-end.ensures.count, c.loop-i-test.false, c.loop-i.auto.i-end) in
-    subst (λ n. HaveLeft (is_call_of_any c.args.doors.now.items c.args.calls.now.tree.calls (is_thread_of c.args.procs.now c.args.p.0) n) c.args.pools.now c.loop-i.pools)
-    all c.loop-i.invariant
+    let set = c.over-walk.result.rest in
+    left_as c.loop-t.invariant.1
+    (λ q w.
+    all_walked c.args.doors.now.items c.args.calls.now.tree.calls q w set c.args.procs.now c.args.p.0 c.loop-t.walk.done (λ t. ap (λ s. has s t) c.over-walk.ensures.rest ∙ c.threads_of-threads.ensures t)
+    (c.in_default.ensures.end set c.loop-t.invariant.0))

@@ -1,7 +1,0 @@
-use Rattle.std.proofs.Common.{sym, ◌∙◌}
-use Rattle.exit_paths.proofs.CallsSoFar.{queued_there}
-use Rattle.exit_paths.proofs.calls.refuse_caller.Goals as goal
-
-pub refuse-requires-clause-queued : goal.refuse-requires-clause-queued
-refuse-requires-clause-queued c =
-    queued_there c.args.calls.now.tree c.args.t.0 c.in-Some.call.now c.are_sound.ensures (sym c.in-Some.ensures) (sym c.is_queued.ensures ∙ c.if-is_queued.true)
