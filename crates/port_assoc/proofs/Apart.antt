@@ -1,10 +1,11 @@
 -- Associations whose keys differ: what is found by any test is the first of its key.
 use Rattle.std.proofs.Common.{◌≡◌, Bool, true, false, if◌then◌else◌, List, [], ◌∷◌, None, Some, find, filter, not, refl, sym, ap, ◌∙◌, arith}
+use Rattle.std.specs.List.{cons_option}
 use Rattle.std.proofs.lemmas.Bool.Decides.{nat_tests}
 use Rattle.kernel_records.specs.declared.association.AssocKey.{AssocKey}
 use Rattle.kernel_records.specs.declared.association.Association.{Association}
-use Rattle.kernel_records.specs.Words.{change_first, has_key, has_other_key, is_same_association_key}
-use Rattle.port_assoc.proofs.Lists.{others-alone}
+use Rattle.kernel_records.specs.Words.{association_at, change_first, has_key, has_other_key, is_same_association_key}
+use Rattle.port_assoc.proofs.Lists.{none-of, others-alone}
 use Rattle.port_assoc.specs.Lists.{without_first}
 use Rattle.port_assoc.specs.Table.{HaveDistinctKeys}
 
@@ -42,6 +43,17 @@ all_of_key key (x ∷ xs) h = go (has_key key x) refl (all_of_key key xs h.1)
         (if b then xs else x ∷ without_first (has_key key) xs) ≡ (if not b then x ∷ filter (has_other_key key) xs else filter (has_other_key key) xs)
     go true e ih = sym (others-alone (has_key key) xs (ap (λ k. find (has_key k) xs) (one_key key x.key e) ∙ h.0))
     go false e ih = ap (λ ys. x ∷ ys) ih
+
+-- and there is one of it at most
+pub alone_of_key : (key : AssocKey) (xs : List Association) → HaveDistinctKeys xs → filter (has_key key) xs ≡ cons_option (association_at xs key) []
+alone_of_key key [] h = refl
+alone_of_key key (x ∷ xs) h = go (has_key key x) refl (alone_of_key key xs h.1)
+  where
+    go :
+        (b : Bool) → has_key key x ≡ b → filter (has_key key) xs ≡ cons_option (association_at xs key) [] →
+        (if b then x ∷ filter (has_key key) xs else filter (has_key key) xs) ≡ cons_option (if b then Some x else association_at xs key) []
+    go true e ih = ap (λ ys. x ∷ ys) (none-of (has_key key) xs (ap (λ k. find (has_key k) xs) (one_key key x.key e) ∙ h.0))
+    go false e ih = ih
 
 module _ (test : Association → Bool) where
   apart_from : (x : Association) (xs : List Association) (a : Association) → find (has_key x.key) xs ≡ None → find test xs ≡ Some a → has_key a.key x ≡ false

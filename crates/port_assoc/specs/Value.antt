@@ -1,8 +1,10 @@
 -- The associations of a kernel, with the room for more.
-use Rattle.std.specs.Prelude.{◌≡◌, ℕ, ◌<◌, ◌≤◌, List, filter}
+use Rattle.std.specs.Prelude.{◌≡◌, ℕ, ◌<◌, ◌≤◌, List, [], filter}
+use Rattle.std.specs.List.{cons_option}
 use Rattle.dk_base.specs.declared.object.Obj.{Obj}
+use Rattle.kernel_records.specs.declared.association.AssocKey.{AssocKey}
 use Rattle.kernel_records.specs.declared.association.Association.{Association}
-use Rattle.kernel_records.specs.Words.{AssociationList, is_watcher}
+use Rattle.kernel_records.specs.Words.{AssociationList, association_at, has_key, is_watcher}
 use Rattle.port_assoc.specs.Watchers.{WatchLists, room_at, watchers_of}
 
 -- how many were made, with those that have not ended; how many more take no memory; and the armed ones of each object
@@ -18,6 +20,10 @@ HasRoomFor v o = (0 < v.spare) × (0 < room_at v.lists o)
 -- the same room as before, or more
 abbrev pub KeepsRoom : AssocsValue → AssocsValue → Type 0
 KeepsRoom old new = (old.spare ≤ new.spare) × ((o : Obj) → room_at old.lists o ≤ room_at new.lists o)
+
+-- the association of a key, if there is one, is the only one of it
+abbrev pub IsAlone : AssociationList → AssocKey → Type 0
+IsAlone list key = filter (has_key key) list.associations ≡ cons_option (association_at list.associations key) []
 
 -- the list of each object has the armed ones that watch it, in order
 abbrev pub IsWatched : List Association → WatchLists → Type 0

@@ -4,7 +4,7 @@ ghost use Rattle.dk_base.specs.declared.limits.TheConstants.{EVENTS_MAX};
 ghost use Rattle.kernel_records.specs.Words.{IsAscending, armed_at, associate, association_at, association_number, associations_of_process, associations_of_row, dissociate, end_process_associations, end_row, fire_first, fired_of, first_fired, has_key, has_number, is_fired_by, is_of_row, no_associations, number_in, numbers_of, ports_of, retrieve_association};
 ghost use Rattle.port_assoc.specs.Lists.{without_first};
 ghost use Rattle.port_assoc.specs.Table.{HaveDistinctKeys};
-ghost use Rattle.port_assoc.specs.Words.{HasRoomFor, KeepsRoom};
+ghost use Rattle.port_assoc.specs.Words.{HasRoomFor, IsAlone, KeepsRoom};
 
 use crate::process_end::end_watches;
 use crate::table::Table;
@@ -128,6 +128,7 @@ impl Assocs {
     /// The association of a key ends, if there is one, and is told.
     fn end(&mut self, key: AssocKey) -> Option<Association>
         ensures ended { result ≡ association_at self.old.list.associations key }
+        ensures alone { IsAlone self.old.list key }
         ensures list { self.new.list ≡ dissociate self.old.list key }
         ensures room { KeepsRoom self.old self.new }
     {
@@ -149,6 +150,7 @@ impl Assocs {
         requires room { HasRoomFor self.old object }
         requires few { self.old.list.made < EVENTS_MAX }
         ensures replaced { result ≡ number_in (association_at self.old.list.associations key) }
+        ensures alone { IsAlone self.old.list key }
         ensures list { self.new.list ≡ associate self.old.list key object events user }
     {
         let replaced = self.end(key);
@@ -189,6 +191,7 @@ impl Assocs {
     /// The association of a key ends, and its number is told (port_dissociate(3C)). ENOENT where there is none.
     pub fn dissociate(&mut self, key: AssocKey) -> Result<u32, Errno>
         ensures answer { result ≡ ok_or (number_in (association_at self.old.list.associations key)) Errno.ENOENT }
+        ensures alone { IsAlone self.old.list key }
         ensures list { self.new.list ≡ dissociate self.old.list key }
         ensures kept { OnErr result (self.new.list ≡ self.old.list) }
         ensures room { KeepsRoom self.old self.new }
@@ -200,7 +203,7 @@ impl Assocs {
     }
 
     /// The first that watches by this descriptor of a process ends, if there is one, and is told.
-    fn end_first_of_row(&mut self, process: Pid, fd: Fd) -> Option<Association>
+    pub fn end_first_of_row(&mut self, process: Pid, fd: Fd) -> Option<Association>
         ensures ended { result ≡ find (is_of_row process.0 fd) self.old.list.associations }
         ensures made { self.new.list.made ≡ self.old.list.made }
         ensures left { self.new.list.associations ≡ without_first (is_of_row process.0 fd) self.old.list.associations }
