@@ -1,0 +1,38 @@
+use Rattle.std.proofs.Common.{◌≤◌, ap, filter, length, subst, sym, ◌∙◌}
+use Rattle.kernel_records.specs.Words.{has_key, withdraw_events, without_event}
+use Rattle.associated_ports.specs.Words.{AssociatedPortsValue, HasRoomForEvents, HasRoomToFire}
+use Rattle.associated_ports.proofs.Rooms.{length-change, one_associated, ports_kept}
+use Rattle.associated_ports.proofs.Withdrawn.{withdraw_at, withdrawn}
+use Rattle.associated_ports.proofs.ports.AssociatedPorts.associate.Goals as goal
+
+pub invariant_of-self-in_default : goal.invariant_of-self-in_default
+invariant_of-self-in_default c =
+    let ports = c.self.inside.ports in
+    let list = c.self.inside.assocs.list in
+    let key = c.args.key in
+    let room = subst (λ (v : AssociatedPortsValue). HasRoomForEvents v.ports v.assocs.list key.port 1) (sym c.self.view_is) c.requires.room.event in
+    let made = subst (λ (v : AssociatedPortsValue). key.port ≤ length v.ports.ports) (sym c.self.view_is) c.requires.made in
+    subst (HasRoomToFire ports) (sym c.associate_fitting.ensures.list)
+    (one_associated ports list key c.args.object c.args.events c.args.user room made c.self.invariant)
+
+pub invariant_of-self : goal.invariant_of-self
+invariant_of-self c =
+    let ports = c.self.inside.ports in
+    let list = c.self.inside.assocs.list in
+    let key = c.args.key in
+    let room = subst (λ (v : AssociatedPortsValue). HasRoomForEvents v.ports v.assocs.list key.port 1) (sym c.self.view_is) c.requires.room.event in
+    let made = subst (λ (v : AssociatedPortsValue). key.port ≤ length v.ports.ports) (sym c.self.view_is) c.requires.made in
+    ports_kept ports c.withdraw.new.self c.associate_fitting.new.self.list c.withdraw.ensures.rooms
+    (ap length c.withdraw.ensures.ports ∙ length-change ports.ports key.port (without_event c.in-Some.replaced))
+    (subst (HasRoomToFire ports) (sym c.associate_fitting.ensures.list)
+    (one_associated ports list key c.args.object c.args.events c.args.user room made c.self.invariant))
+
+pub returns-in-Some-clause-ports : goal.returns-in-Some-clause-ports
+returns-in-Some-clause-ports c =
+    let ports = c.self.inside.ports.ports in
+    let list = c.self.inside.assocs.list in
+    let key = c.args.key in
+    c.withdraw.ensures.ports
+    ∙ ap (withdraw_at ports key.port) c.in-Some.ensures.replaced
+    ∙ sym (withdrawn ports list key c.associate_fitting.ensures.alone)
+    ∙ ap (λ (v : AssociatedPortsValue). withdraw_events v.ports.ports (filter (has_key key) v.assocs.list.associations)) c.self.view_is

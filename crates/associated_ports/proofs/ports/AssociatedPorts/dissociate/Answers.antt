@@ -1,0 +1,25 @@
+use Rattle.std.proofs.Common.{ap, filter, length, sym, ◌∙◌}
+use Rattle.dk_base.specs.declared.error.Errno.TheVariants.{ENOENT}
+use Rattle.kernel_records.specs.Words.{association_at, has_key, number_in, withdraw_events, without_event}
+use Rattle.associated_ports.specs.Words.{AssociatedPortsValue}
+use Rattle.associated_ports.proofs.Rooms.{length-change, one_dissociated, ports_kept}
+use Rattle.associated_ports.proofs.Withdrawn.{some_number, withdraw_at, withdrawn}
+use Rattle.associated_ports.proofs.ports.AssociatedPorts.dissociate.Goals as goal
+
+pub invariant_of-self : goal.invariant_of-self
+invariant_of-self c =
+    let ports = c.self.inside.ports in
+    let list = c.self.inside.assocs.list in
+    ports_kept ports c.withdraw.new.self c.dissociate.new.self.list c.withdraw.ensures.rooms
+    (ap length c.withdraw.ensures.ports ∙ length-change ports.ports c.args.key.port (without_event c.in-Ok.ended))
+    (one_dissociated ports list c.dissociate.new.self.list c.args.key c.dissociate.ensures.list c.self.invariant)
+
+pub returns-in-Ok-clause-ports : goal.returns-in-Ok-clause-ports
+returns-in-Ok-clause-ports c =
+    let ports = c.self.inside.ports.ports in
+    let list = c.self.inside.assocs.list in
+    let key = c.args.key in
+    c.withdraw.ensures.ports
+    ∙ ap (withdraw_at ports key.port) (some_number (number_in (association_at list.associations key)) ENOENT c.in-Ok.ended c.in-Ok.ensures.answer)
+    ∙ sym (withdrawn ports list key c.dissociate.ensures.alone)
+    ∙ ap (λ (v : AssociatedPortsValue). withdraw_events v.ports.ports (filter (has_key key) v.assocs.list.associations)) c.self.view_is

@@ -1,0 +1,10 @@
+use Rattle.std.proofs.Common.{ap, length}
+use Rattle.associated_ports.proofs.Rooms.{keeps_same, ports_kept}
+use Rattle.associated_ports.proofs.ports.AssociatedPorts.reserve_port.Goals as goal
+
+pub invariant_of-self : goal.invariant_of-self
+invariant_of-self c =
+    let ports = c.self.inside.ports in
+    let new = c.reserve.new.self in
+    ports_kept ports new c.self.inside.assocs.list (keeps_same ports.rooms new.rooms c.reserve.ensures.rooms) (ap length c.reserve.ensures.ports)
+    c.self.invariant
