@@ -7,13 +7,14 @@ use Rattle.dk_base.specs.declared.number.Tid.{Tid}
 use Rattle.dk_base.specs.declared.object.Item.TheVariants as item
 use Rattle.kernel_records.specs.declared.record.NoticeStage.TheVariants as notice
 use Rattle.kernel_records.specs.declared.leaving.Leaver.TheVariants.{Ended}
-use Rattle.kernel_records.specs.Words.{Leaving, ProcessTable, is_entered_stage, is_given_stage, is_waiting_stage, left_notice, left_notice_at, leaving_of, thread_at}
+use Rattle.kernel_records.specs.Words.{Leaving, ProcessTable, is_entered_stage, is_given_stage, is_waiting_stage, left_notice, left_notice_at, invocation_in, leaving_of, process_end, process_in, state_in, thread_at}
 use Rattle.kernel_records.proofs.Lists.{numbered_within}
 use Rattle.written_kernel.specs.Types.{Door, Item, Notice, NoticeStage, Thread}
 use Rattle.server_pool.specs.Words.{is_item}
 use Rattle.exit_paths.specs.Words.{TellsUntaken}
 use Rattle.unref_notice.specs.Words.{AreAllLeft, IsAllEntered, is_notice_item}
-use Rattle.kernel_store.specs.Held.{AreHeldIn, TellsHeld, held_at}
+use Rattle.proc_table.specs.Words.{is_of}
+use Rattle.kernel_store.specs.Held.{AreHeldIn, TellsHeld, held_as, held_at}
 
 same_item : (c : ℕ) (items : List Item) → list_any (is_item (item.Notice c)) items ≡ list_any (is_notice_item c) items
 same_item c [] = refl
@@ -85,10 +86,18 @@ one_tells table doors thread items noted u c l e f =
     let same : u ≡ thread.0 = grind (arith, nat_tests) in
     noted c (self_test thread.0) (subst (λ k. held_at table k ≡ Some (item.Notice c)) same f)
 
--- one thread more
-pub one_more : (t i : ℕ) → t ≤ i + 1 → (t ≤ i) ⊎ (t ≡ i + 1)
-one_more t i l = go (nat_le t i) refl
+-- the threads of a process end with it
+
+pub ends_as : (table : ProcessTable) (doors : List Door) (p t : ℕ) → is_of p (thread_at table t) ≡ true → (process_end table doors p).ends t ≡ true
+ends_as table doors p t e = go (thread_at table t) e
   where
-    go : (b : Bool) → nat_le t i ≡ b → (t ≤ i) ⊎ (t ≡ i + 1)
-    go true e = inl (grind (arith, nat_tests))
-    go false e = let m : i < t = grind (arith, nat_tests) in inr (omega (arith, m))
+    go : (o : Option Thread) → is_of p o ≡ true → (process_in o == p) ≡ true
+    go None f = cc
+    go (Some x) f = f
+
+pub held_of : (table : ProcessTable) (doors : List Door) (p t : ℕ) (i : Item) → held_at table t ≡ Some i → (process_end table doors p).ends t ≡ true → is_of p (thread_at table t) ≡ true
+held_of table doors p t i h e = go (thread_at table t) h e
+  where
+    go : (o : Option Thread) → held_as (state_in o) (invocation_in o) ≡ Some i → (process_in o == p) ≡ true → is_of p o ≡ true
+    go None f g = absurd (cc)
+    go (Some x) f g = g

@@ -12,14 +12,17 @@ mod LeftOut
 mod LeftStore
 mod Made
 mod MadeNotice
+mod EventRoom
+mod Naming
 pub mod Others
-mod Retrieved
 pub mod Short
 mod Spares
+mod PortsTold
 mod Threads
 mod Parking
 mod Lost
 pub mod Turns
+mod Unended
 mod HeldNotices
 pub mod Knowing
 pub mod Waits

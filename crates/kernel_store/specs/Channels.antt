@@ -1,6 +1,7 @@
--- The memory that pipes and event ports need, which is taken before an act.
-use Rattle.std.specs.Prelude.{ℕ, ◌<◌}
-use Rattle.event_port.specs.Words.{HasRoomAt}
+-- The memory that pipes, event ports and associations need, which is taken before an act.
+use Rattle.std.specs.Prelude.{ℕ, ◌+◌, ◌<◌}
+use Rattle.dk_base.specs.declared.object.Obj.{Obj}
+use Rattle.associated_ports.specs.Words.{HasRoomForEvents as HasRoomAtPort, HasRoomToAssociate as HasRoomToAssociateIn}
 use Rattle.kernel_store.specs.Stored.{StoreValue}
 
 -- another pipe
@@ -11,6 +12,18 @@ HasRoomForPipe store = 0 < store.pipes.spare
 abbrev pub HasRoomForPort : StoreValue → Type 0
 HasRoomForPort store = 0 < store.ports.spare
 
--- so many more events at a port; a number that no port has takes none ever
+-- so many more events at a port, beside one of each association; a number that no port has takes none ever
 abbrev pub HasRoomForEvents : StoreValue → ℕ → ℕ → Type 0
-HasRoomForEvents store q n = HasRoomAt store.ports.rooms q n
+HasRoomForEvents store q n = HasRoomAtPort store.ports store.assocs.list q n
+
+-- each port has the room that it had
+abbrev pub KeepsRoomForEvents : StoreValue → StoreValue → Type 0
+KeepsRoomForEvents old new = (q n : ℕ) → HasRoomForEvents old q n → HasRoomForEvents new q n
+
+-- each has it but for one event at most
+abbrev pub KeepsRoomForEventsButOne : StoreValue → StoreValue → Type 0
+KeepsRoomForEventsButOne old new = (q n : ℕ) → HasRoomForEvents old q (n + 1) → HasRoomForEvents new q n
+
+-- another association of this object with a port
+abbrev pub HasRoomToAssociate : StoreValue → ℕ → Obj → Type 0
+HasRoomToAssociate store q o = HasRoomToAssociateIn store.ports store.assocs q o

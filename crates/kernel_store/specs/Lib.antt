@@ -7,3 +7,4 @@ pub mod Noticing
 pub mod Stored
 pub mod Turning
 pub mod Words
+pub mod Telling

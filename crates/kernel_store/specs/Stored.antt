@@ -3,12 +3,14 @@ use Rattle.std.specs.Prelude.{ℕ, ◌≡◌, ◌+◌, ◌<◌, ◌≤◌, ◌==
 use Rattle.dk_base.specs.ByNumber.{at_number}
 use Rattle.dk_base.specs.Words.{RoomValue}
 use Rattle.written_kernel.specs.Types.{Call, Door, Notice, Obj, Pool}
-use Rattle.kernel_records.specs.Words.{Pipe, ProcessTable, count_object, is_pool, is_queued, is_valid_in, is_waiting_stage, no_associations, notice_doors}
+use Rattle.kernel_records.specs.Words.{Pipe, ProcessTable, count_object, is_pool, is_queued, is_valid_in, is_waiting_stage, notice_doors}
 use Rattle.written_kernel.specs.Words.{State, door_of, may_have_notice, pool_of, reference_count}
+use Rattle.written_kernel.specs.Words.{references_of as object_count}
 use Rattle.name_space.specs.Words.{HasRoomForName, NameTable}
 use Rattle.server_pool.specs.Words.{PoolsValue, item_room_in, pool_at, thread_room_in}
 use Rattle.call_tree.specs.Words.{CallsValue, HasRoomForCall}
 use Rattle.event_port.specs.Words.{PortsValue}
+use Rattle.port_assoc.specs.Words.{AssocsValue}
 use Rattle.unref_notice.specs.Words.{NoticesValue, ObjectCounts, count_of, was_shared}
 use Rattle.dk_base.specs.declared.limits.TheConstants.{PASS_MAX}
 use Rattle.dk_base.specs.declared.object.Obj.TheVariants as obj
@@ -36,9 +38,10 @@ pub record StoreValue : Type 0 where
   pub left : ℕ
   -- how many more pools take no memory in the list of those that may be short of room for notices
   pub short_room : ℕ
-  -- with room for further pipes, ports and events
+  -- with room for further pipes, ports, events and associations
   pub pipes : RoomValue Pipe
   pub ports : PortsValue
+  pub assocs : AssocsValue
 
 abbrev pub stored_state : StoreValue → State
 stored_state store =
@@ -50,7 +53,7 @@ stored_state store =
       doors = store.doors.items;
       call_tree = store.calls.tree;
       notice_list = store.notices.list;
-      channels = record { pipes = store.pipes.items; ports = store.ports.ports; associations = no_associations };
+      channels = record { pipes = store.pipes.items; ports = store.ports.ports; associations = store.assocs.list };
       events = store.events;
     }
 
@@ -134,6 +137,7 @@ pub record HasRoomForNotices (store : StoreValue) : Type 0 where
 -- the step of an event began in this state: `opening` has the counts of its references
 pub record HasBegun (store : StoreValue) (m : State) : Type 0 where
   pub counts : (d : ℕ) → count_of store.opening (obj.Door d) ≡ reference_count m d
+  pub all : (o : Obj) → count_of store.opening o ≡ object_count m o
   pub none : (d : ℕ) → door_of m d ≡ None → count_of store.opening (obj.Door d) ≡ 0
 
 -- a door had more than one reference when the step began, and has one in this state

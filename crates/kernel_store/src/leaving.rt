@@ -2,7 +2,7 @@
 ghost use Rattle.std.specs.Prelude.{◌≡◌, ◌+◌, ◌<◌, ◌≤◌, ◌++◌, ℕ, List, Some, true, IfOk, length};
 ghost use Rattle.std.specs.List.{list_any};
 ghost use Rattle.dk_base.specs.declared.object.Item.TheVariants as item;
-ghost use Rattle.kernel_records.specs.declared.leaving.Leaver.TheVariants.{Ended};
+ghost use Rattle.kernel_records.specs.declared.leaving.Leaver.TheVariants.{Ended, EndedProcess};
 ghost use Rattle.kernel_records.specs.Words.{end_notice, kept_notices, leaving_of, left_notices, park_thread};
 ghost use Rattle.written_kernel.specs.Types.{Door};
 ghost use Rattle.server_pool.specs.Words.{change_pool, park_in};
@@ -12,13 +12,14 @@ ghost use Rattle.kernel_store.specs.Held.{TellsHeld, held_at};
 
 use dk_base::error::NoMemory;
 use dk_base::list::Room;
-use dk_base::number::Tid;
+use dk_base::number::{Pid, Tid};
 use dk_base::object::Item;
 use door_object::doors::Doors;
 use exit_paths::who_leaves::{ends, loses, own_pool};
 use kernel_records::leaving::Leaver;
 use kernel_records::record::ThreadState;
 use proc_table::procs::Procs;
+use proc_table::walk::Walk;
 use server_pool::pools::Pools;
 use std::alloc::Global;
 use unref_notice::notices::Notices;
@@ -66,14 +67,16 @@ fn note_held(processes: &Procs, who: Leaver, t: Tid, into: &mut Room<Item>)
     }
 }
 
-/// What the threads have that end, all of a process.
-fn held_by_all(alloc: Global, processes: &Procs, who: Leaver) -> Result<Room<Item>, NoMemory>
-    ensures { IfOk result (λ held. (doors : List Door) → TellsHeld (leaving_of processes.now doors who) processes.now (length processes.now.threads) held.items) }
+/// What the threads of a process have, which end.
+fn held_by_all(alloc: Global, processes: &Procs, process: Pid) -> Result<Room<Item>, NoMemory>
+    ensures { IfOk result (λ held. (doors : List Door) → TellsHeld (leaving_of processes.now doors (EndedProcess process)) processes.now (length processes.now.threads) held.items) }
 {
     let count = processes.thread_count();
     let mut held = Room::with_room(alloc, count as usize)?;
-    for i in 0..count {
-        note_held(processes, who, Tid(i + 1), &mut held);
+    let threads = processes.threads_of(process);
+    let mut walk = Walk::over(threads);
+    while let Some(t) = walk.next() {
+        note_held(processes, Leaver::EndedProcess { process }, t, &mut held);
     }
     Ok(held)
 }
@@ -93,7 +96,7 @@ pub fn held_items(alloc: Global, processes: &Procs, who: Leaver) -> Result<Room<
 {
     match who {
         Leaver::Ended { thread } => held_by_one(alloc, processes, thread),
-        Leaver::EndedProcess { .. } => held_by_all(alloc, processes, who),
+        Leaver::EndedProcess { process } => held_by_all(alloc, processes, process),
         _ => Ok(Room::new(alloc)),
     }
 }

@@ -9,3 +9,5 @@ mod ports;
 mod sets;
 mod starting;
 pub mod store;
+mod telling;
+pub mod told;

@@ -9,18 +9,18 @@ ghost use Rattle.kernel_holdings.specs.Words.{HoldingsValue, references_of, resu
 ghost use Rattle.thread_set.specs.Words.{has};
 ghost use Rattle.kernel_store.specs.Turning.{KnowsPorts, has_ended_at, is_port, waits_at};
 
+use associated_ports::ports::AssociatedPorts;
 use call_tree::parts::Outcome;
 use dk_base::number::{Fd, Pid, Tid};
 use dk_base::object::Obj;
-use event_port::ports::Ports;
 use kernel_holdings::holdings::Holdings;
 use kernel_records::record::ThreadState;
 use proc_table::procs::Procs;
 use thread_set::set::ThreadSet;
 
 /// Whether a thread at this waits at a port, was not interrupted, and its wait can end.
-fn has_ended(held: &Holdings, ports: &Ports, state: &ThreadState) -> bool
-    ensures { result ≡ has_ended_at held.now ports.now.ports state.now }
+fn has_ended(held: &Holdings, ports: &AssociatedPorts, state: &ThreadState) -> bool
+    ensures { result ≡ has_ended_at held.now ports.now.ports.ports state.now }
 {
     match state {
         ThreadState::Getting {
@@ -30,15 +30,16 @@ fn has_ended(held: &Holdings, ports: &Ports, state: &ThreadState) -> bool
             ..
         } => {
             !interrupted
-                && (held.references_to(Obj::Port(*port)) == 0 || ports.ready_for(*port, *nget))
+                && (held.references_to(Obj::Port(*port)) == 0
+                    || ports.ports().ready_for(*port, *nget))
         }
         _ => false,
     }
 }
 
 /// The threads that wait at a port, were not interrupted, and whose wait can end. Only the threads are asked that wait at ports.
-pub fn find_ended(processes: &Procs, held: &Holdings, ports: &Ports) -> ThreadSet
-    ensures { (t : ℕ) → has result t ≡ has_ended_at held.now ports.now.ports (state_in (thread_at processes.now t)) }
+pub fn find_ended(processes: &Procs, held: &Holdings, ports: &AssociatedPorts) -> ThreadSet
+    ensures { (t : ℕ) → has result t ≡ has_ended_at held.now ports.now.ports.ports (state_in (thread_at processes.now t)) }
 {
     let mut ended = ThreadSet::new();
     let mut rest = processes.getting();
@@ -50,9 +51,15 @@ pub fn find_ended(processes: &Procs, held: &Holdings, ports: &Ports) -> ThreadSe
 }
 
 /// A thread turns to another state, and no port or reference changes.
-pub fn note_wait(ended: &mut ThreadSet, held: &Holdings, ports: &Ports, t: Tid, state: &ThreadState)
+pub fn note_wait(
+    ended: &mut ThreadSet,
+    held: &Holdings,
+    ports: &AssociatedPorts,
+    t: Tid,
+    state: &ThreadState,
+)
     requires { (0 < t.0) × (t.0 ≤ THREADS_MAX) }
-    ensures here { has ended.new t.0 ≡ has_ended_at held.now ports.now.ports state.now }
+    ensures here { has ended.new t.0 ≡ has_ended_at held.now ports.now.ports.ports state.now }
     ensures others { (u : ℕ) → u ≢ t.0 → has ended.new u ≡ has ended.old u }
 {
     ended.put(t, has_ended(held, ports, state));
@@ -73,9 +80,16 @@ fn waits_at(q: u32, state: &ThreadState) -> bool
 }
 
 /// A thread is asked whether its wait can end, if it waits at this port.
-fn ask_at(ended: &mut ThreadSet, q: u32, processes: &Procs, held: &Holdings, ports: &Ports, t: Tid)
+fn ask_at(
+    ended: &mut ThreadSet,
+    q: u32,
+    processes: &Procs,
+    held: &Holdings,
+    ports: &AssociatedPorts,
+    t: Tid,
+)
     requires { (0 < t.0) × (t.0 ≤ THREADS_MAX) }
-    ensures asked { waits_at q (state_in (thread_at processes.now t.0)) ≡ true → has ended.new t.0 ≡ has_ended_at held.now ports.now.ports (state_in (thread_at processes.now t.0)) }
+    ensures asked { waits_at q (state_in (thread_at processes.now t.0)) ≡ true → has ended.new t.0 ≡ has_ended_at held.now ports.now.ports.ports (state_in (thread_at processes.now t.0)) }
     ensures not_asked { waits_at q (state_in (thread_at processes.now t.0)) ≡ false → has ended.new t.0 ≡ has ended.old t.0 }
     ensures others { (u : ℕ) → u ≢ t.0 → has ended.new u ≡ has ended.old u }
 {
@@ -86,8 +100,14 @@ fn ask_at(ended: &mut ThreadSet, q: u32, processes: &Procs, held: &Holdings, por
 }
 
 /// A port changes: of the threads that wait at it, those whose wait can end.
-pub fn note_port(ended: &mut ThreadSet, q: u32, processes: &Procs, held: &Holdings, ports: &Ports)
-    ensures { (before : List Port) → ((p : ℕ) → p ≢ q → port_of ports.now.ports p ≡ port_of before p) → KnowsPorts processes.now held.now before ended.old → KnowsPorts processes.now held.now ports.now.ports ended.new }
+pub fn note_port(
+    ended: &mut ThreadSet,
+    q: u32,
+    processes: &Procs,
+    held: &Holdings,
+    ports: &AssociatedPorts,
+)
+    ensures { (before : List Port) → ((p : ℕ) → p ≢ q → port_of ports.now.ports.ports p ≡ port_of before p) → KnowsPorts processes.now held.now before ended.old → KnowsPorts processes.now held.now ports.now.ports.ports ended.new }
 {
     let mut rest = processes.getting();
     while let Some(t) = rest.least() {
@@ -137,11 +157,26 @@ pub fn note_references(
     of_port: bool,
     processes: &Procs,
     held: &Holdings,
-    ports: &Ports,
+    ports: &AssociatedPorts,
 )
-    ensures { (before : HoldingsValue) → (of_port ≡ false → (q : ℕ) → references_of held.now (obj.Port q) ≡ references_of before (obj.Port q)) → KnowsPorts processes.now before ports.now.ports ended.old → KnowsPorts processes.now held.now ports.now.ports ended.new }
+    ensures { (before : HoldingsValue) → (of_port ≡ false → (q : ℕ) → references_of held.now (obj.Port q) ≡ references_of before (obj.Port q)) → KnowsPorts processes.now before ports.now.ports.ports ended.old → KnowsPorts processes.now held.now ports.now.ports.ports ended.new }
 {
     if of_port {
+        *ended = find_ended(processes, held, ports);
+    }
+}
+
+/// Associations fired or, unless this says so, no port changed. Then the threads are asked that wait at ports, and else none.
+pub fn note_fired(
+    ended: &mut ThreadSet,
+    fired: bool,
+    processes: &Procs,
+    held: &Holdings,
+    ports: &AssociatedPorts,
+)
+    ensures { (before : List Port) → (fired ≡ false → ports.now.ports.ports ≡ before) → KnowsPorts processes.now held.now before ended.old → KnowsPorts processes.now held.now ports.now.ports.ports ended.new }
+{
+    if fired {
         *ended = find_ended(processes, held, ports);
     }
 }

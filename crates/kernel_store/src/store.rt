@@ -15,8 +15,10 @@ mod channels;
 mod descriptors;
 mod settling;
 mod steps;
+mod telling;
 mod threads;
 
+use associated_ports::ports::AssociatedPorts;
 use call_tree::calls::Calls;
 use dk_base::error::NoMemory;
 use dk_base::list::{ObjList, PassList, Room};
@@ -58,7 +60,7 @@ pub struct Store {
     /// The pools that were made or got an item since room for notices was last taken. All others have it.
     short: Room<Pool>,
     pipes: Pipes,
-    ports: Ports,
+    ports: AssociatedPorts,
 }
 
 impl Model for Store {
@@ -70,9 +72,9 @@ impl Model for Store {
 
     ghost Value = { StoreValue };
 
-    ghost view = { λ s. record { processes = s.processes; pools = s.pools; tables = s.held.tables; names = s.held.names; doors = s.doors; calls = s.held.calls; notices = s.notices; events = s.events; latest = s.latest; opening = s.held.opening; left = s.held.left; short_room = s.short.spare; pipes = s.pipes; ports = s.ports } };
+    ghost view = { λ s. record { processes = s.processes; pools = s.pools; tables = s.held.tables; names = s.held.names; doors = s.doors; calls = s.held.calls; notices = s.notices; events = s.events; latest = s.latest; opening = s.held.opening; left = s.held.left; short_room = s.short.spare; pipes = s.pipes; ports = s.ports.ports; assocs = s.ports.assocs } };
 
-    ghost invariant = { λ s. Agrees s.latest s.processes s.doors.items s.held.calls.tree s.notices.list s.pools × ReferToDoors s.doors.items s.held × AreBacked s.processes s.held.calls.tree.calls × KnowsPaths s.processes s.held.names.names s.named × HaveItemRoomBut s.short.items s.pools × KnowsPorts s.processes s.held s.ports.ports s.ended };
+    ghost invariant = { λ s. Agrees s.latest s.processes s.doors.items s.held.calls.tree s.notices.list s.pools × ReferToDoors s.doors.items s.held × AreBacked s.processes s.held.calls.tree.calls × KnowsPaths s.processes s.held.names.names s.named × HaveItemRoomBut s.short.items s.pools × KnowsPorts s.processes s.held s.ports.ports.ports s.ended };
 }
 
 impl Store {
@@ -92,7 +94,7 @@ impl Store {
             ended: ThreadSet::new(),
             short: Room::new(alloc),
             pipes: Pipes::new(alloc),
-            ports: Ports::new(alloc),
+            ports: AssociatedPorts::new(alloc),
         })
     }
 
@@ -133,7 +135,7 @@ impl Store {
     pub fn ports(&self) -> &Ports
         ensures { result.now ≡ self.now.ports }
     {
-        &self.ports
+        self.ports.ports()
     }
 
     /// How many events there were.

@@ -1,12 +1,12 @@
-//! Pipes and event ports. A number that no pipe or port has reads as an empty one, and a change of it changes nothing.
-ghost use Rattle.std.specs.Prelude.{◌≡◌, ◌+◌, ◌<◌, ◌≤◌, ◌++◌, length, min, None, Some, IsOk, OnOk, true, is_some};
+//! Pipes, event ports, and associations of objects with these. A number that no pipe or port has reads as an empty one, and a change of it changes nothing.
+ghost use Rattle.std.specs.Prelude.{◌≡◌, ◌+◌, ◌<◌, ◌≤◌, ◌++◌, ◌^◌, [], length, min, None, Some, IsOk, OnOk, true, is_some};
 ghost use Rattle.dk_base.specs.declared.answer.Answer.TheVariants.{NewFd, TwoFds};
 ghost use Rattle.dk_base.specs.declared.limits.TheConstants.{EVENTS_MAX, PIPE_MAX, USER_EVENTS_MAX};
-ghost use Rattle.kernel_records.specs.Words.{alert_port, alert_tests, associations_of, events_found, first_found, first_refusal, fitting, free_rows, get_tests, getn_tests, is_ready_for, lowest_free, oldest, read_pipe, read_tests, records_of, send_error, send_event, send_if_allowed, send_tests, user_events, write_pipe, write_tests};
+ghost use Rattle.kernel_records.specs.Words.{alert_port, alert_tests, events_found, first_found, first_refusal, fitting, free_rows, get_tests, getn_tests, is_ready_for, lowest_free, number_in, oldest, read_pipe, read_tests, records_of, send_error, send_event, send_if_allowed, send_tests, user_events, write_pipe, write_tests};
 ghost use Rattle.written_kernel.specs.Types.{Pool};
-ghost use Rattle.written_kernel.specs.Words.{create_port, has_port_references, held_in, pipe, port, readers_of, table_of, take_found, with_channels, with_pipes, with_ports, writers_of};
-ghost use Rattle.event_port.specs.Words.{KeepsRoom, KeepsRoomAtOthers, KeepsRoomButOne};
-ghost use Rattle.kernel_store.specs.Channels.{HasRoomForEvents, HasRoomForPipe, HasRoomForPort};
+ghost use Rattle.written_kernel.specs.Words.{associated, association_of_key, create_port, dissociated, has_port_references, held_in, pipe, port, readers_of, table_of, take_found, with_channels, with_pipes, with_ports, writers_of};
+ghost use Rattle.event_port.specs.Words.{KeepsRoom};
+ghost use Rattle.kernel_store.specs.Channels.{HasRoomForEvents, HasRoomForPipe, HasRoomForPort, HasRoomToAssociate, KeepsRoomForEvents, KeepsRoomForEventsButOne};
 ghost use Rattle.kernel_store.specs.Frames.{KeepsPools};
 ghost use Rattle.kernel_store.specs.Stored.{HasRoom, HasRoomForNotices, stored_state};
 
@@ -17,6 +17,8 @@ use dk_base::list::Room;
 use dk_base::number::{Fd, Pid};
 use dk_base::object::{EventRec, Obj};
 use dk_base::request::AlertMode;
+use dk_base::set::PollSet;
+use kernel_records::association::AssocKey;
 use kernel_records::port::Queued;
 use std::alloc::Global;
 
@@ -47,21 +49,42 @@ impl Store {
         ensures kept { (touched : Pool) → HasRoom self.old touched → HasRoom self.new touched }
         ensures notices { HasRoomForNotices self.old → HasRoomForNotices self.new }
     {
-        self.ports.reserve()
+        self.ports.reserve_port()
     }
 
-    /// Takes the memory for so many more events at a port. It changes nothing else, and wants none where there was room.
+    /// Takes the memory for so many more events at a port, beside one of each association. It changes nothing else, and wants none where
+    /// there was room.
+    #[tactic(auto, using(crate::proofs::EventRoom::more_room))]
     pub fn reserve_events(&mut self, q: u32, n: usize) -> Result<(), NoMemory>
         ensures same { self.new ≡ record (self.old) { ports = self.new.ports } }
-        ensures rooms { KeepsRoom self.old.ports.rooms self.new.ports.rooms }
+        ensures rooms { KeepsRoomForEvents self.old self.new }
         ensures state { stored_state self.new ≡ stored_state self.old }
         ensures keeps { KeepsPools self.old self.new }
         ensures room { OnOk result (HasRoomForEvents self.new q n) }
-        ensures succeeds { HasRoomForEvents self.old q n → IsOk result }
+        ensures succeeds { n < 2 ^ 63 → HasRoomForEvents self.old q n → IsOk result }
         ensures kept { (touched : Pool) → HasRoom self.old touched → HasRoom self.new touched }
         ensures notices { HasRoomForNotices self.old → HasRoomForNotices self.new }
     {
         self.ports.room(q, n)
+    }
+
+    /// Takes the memory for another association of an object with a port, and for the event that it queues. It changes nothing else, and
+    /// wants none where there was room.
+    pub fn reserve_association(
+        &mut self,
+        q: u32,
+        object: Obj,
+        alloc: Global,
+    ) -> Result<(), NoMemory>
+        ensures same { self.new ≡ record (self.old) { ports = self.new.ports; assocs = self.new.assocs } }
+        ensures state { stored_state self.new ≡ stored_state self.old }
+        ensures keeps { KeepsPools self.old self.new }
+        ensures room { OnOk result (HasRoomToAssociate self.new q object) }
+        ensures succeeds { HasRoomToAssociate self.old q object → IsOk result }
+        ensures kept { (touched : Pool) → HasRoom self.old touched → HasRoom self.new touched }
+        ensures notices { HasRoomForNotices self.old → HasRoomForNotices self.new }
+    {
+        self.ports.reserve(q, object, alloc)
     }
 
     // pipes
@@ -161,28 +184,28 @@ impl Store {
         ensures queued { result ≡ length (port (stored_state self.now) q).queue }
         ensures few { user_events (port (stored_state self.now) q).queue ≤ USER_EVENTS_MAX }
     {
-        self.ports.queued(q)
+        self.ports.ports().queued(q)
     }
 
     /// Whether a port is in alert mode, or has so many events.
     pub fn ready_for(&self, q: u32, nget: u32) -> bool
         ensures { result ≡ is_ready_for nget (port (stored_state self.now) q) }
     {
-        self.ports.ready_for(q, nget)
+        self.ports.ports().ready_for(q, nget)
     }
 
     /// How many events a get of at most `max` finds at a port.
     pub fn found(&self, q: u32, max: u32) -> usize
         ensures { result ≡ length (events_found max (port (stored_state self.now) q)) }
     {
-        self.ports.found(q, max)
+        self.ports.ports().found(q, max)
     }
 
     /// Why a user event cannot be sent to a port (port_send(3C)): EAGAIN where it is full.
     pub fn send_refusal(&self, q: u32) -> Option<Errno>
         ensures { result ≡ first_refusal (send_tests (port (stored_state self.now) q)) }
     {
-        self.ports.send_refusal(q)
+        self.ports.ports().send_refusal(q)
     }
 
     /// A user event is queued at a port that is not full. It takes no memory.
@@ -190,8 +213,7 @@ impl Store {
         requires room { HasRoomForEvents self.old q 1 }
         requires allowed { first_refusal (send_tests (port (stored_state self.old) q)) ≡ None }
         ensures state { stored_state self.new ≡ with_ports (stored_state self.old) (send_event (stored_state self.old).channels.ports q events user) }
-        ensures rooms { KeepsRoomButOne self.old.ports.rooms self.new.ports.rooms }
-        ensures others { KeepsRoomAtOthers q self.old.ports.rooms self.new.ports.rooms }
+        ensures rooms { KeepsRoomForEventsButOne self.old self.new }
         ensures left { self.new.left ≡ self.old.left }
         ensures keeps { KeepsPools self.old self.new }
     {
@@ -204,8 +226,7 @@ impl Store {
         requires room { HasRoomForEvents self.old q 1 }
         ensures error { result ≡ send_error (stored_state self.old).channels.ports q }
         ensures state { stored_state self.new ≡ with_ports (stored_state self.old) (send_if_allowed (stored_state self.old).channels.ports q events user) }
-        ensures rooms { KeepsRoomButOne self.old.ports.rooms self.new.ports.rooms }
-        ensures others { KeepsRoomAtOthers q self.old.ports.rooms self.new.ports.rooms }
+        ensures rooms { KeepsRoomForEventsButOne self.old self.new }
         ensures left { self.new.left ≡ self.old.left }
         ensures keeps { KeepsPools self.old self.new }
     {
@@ -218,7 +239,7 @@ impl Store {
     pub fn alert_refusal(&self, q: u32, mode: AlertMode, events: u32) -> Option<Errno>
         ensures { result ≡ first_refusal (alert_tests mode events (port (stored_state self.now) q)) }
     {
-        self.ports.alert_refusal(q, mode, events)
+        self.ports.ports().alert_refusal(q, mode, events)
     }
 
     /// A port has this alert in place of an earlier one. Without events alert mode ends.
@@ -236,7 +257,7 @@ impl Store {
     pub fn get_refusal(&self, q: u32, wait: bool) -> Option<Errno>
         ensures { result ≡ first_refusal (get_tests wait (port (stored_state self.now) q)) }
     {
-        self.ports.get_refusal(q, wait)
+        self.ports.ports().get_refusal(q, wait)
     }
 
     /// Why port_getn(3C) gives nothing: but for `max` 0, EINVAL where `nget` is above it, and ETIME without a wait where the port is not
@@ -244,11 +265,11 @@ impl Store {
     pub fn getn_refusal(&self, q: u32, max: u32, nget: u32, wait: bool) -> Option<Errno>
         ensures { result ≡ first_refusal (getn_tests wait max nget (port (stored_state self.now) q)) }
     {
-        self.ports.getn_refusal(q, max, nget, wait)
+        self.ports.ports().getn_refusal(q, max, nget, wait)
     }
 
-    /// The alert of a port, which stays, or its oldest event, which is taken; the port has one of the two. It takes no memory.
-    #[tactic(auto, using(crate::proofs::Retrieved::take_of_none))]
+    /// The alert of a port, which stays, or its oldest event, which is taken; the port has one of the two. The association ends whose
+    /// event it was. It takes no memory.
     pub fn take_first(&mut self, q: u32) -> Queued
         requires { is_ready_for 1 (port (stored_state self.old) q) ≡ true }
         ensures state { stored_state self.new ≡ with_channels (stored_state self.old) (take_found (stored_state self.old).channels q 1) }
@@ -263,19 +284,52 @@ impl Store {
     }
 
     /// What a get of at most `max` finds at a port is taken, but for an alert, which stays. As it is retrieved it follows what is in
-    /// `into`, and the numbers of the associations that queued it what is in `ids`. It takes no memory.
-    #[tactic(auto, using(crate::proofs::Retrieved::take_of_none))]
+    /// `into`. The associations end whose events it was, and their numbers are put into `ids`, where none is. It takes no memory.
     pub fn take_found(&mut self, q: u32, max: u32, into: &mut Room<EventRec>, ids: &mut Room<u32>)
         requires record_room { length (events_found max (port (stored_state self.old) q)) ≤ into.old.spare }
         requires number_room { length (events_found max (port (stored_state self.old) q)) ≤ ids.old.spare }
+        requires none { ids.old.items ≡ [] }
         ensures state { stored_state self.new ≡ with_channels (stored_state self.old) (take_found (stored_state self.old).channels q max) }
         ensures records { into.new.items ≡ into.old.items ++ records_of (events_found max (port (stored_state self.old) q)) }
-        ensures numbers { ids.new.items ≡ ids.old.items ++ associations_of (events_found max (port (stored_state self.old) q)) }
         ensures rooms { KeepsRoom self.old.ports.rooms self.new.ports.rooms }
         ensures left { self.new.left ≡ self.old.left }
         ensures keeps { KeepsPools self.old self.new }
     {
         self.ports.take_found(q, max, into, ids);
         note_port(&mut self.ended, q, &self.processes, &self.held, &self.ports);
+    }
+
+    // associations
+
+    /// The number of the association of a port with a descriptor of a process.
+    pub fn number_at(&self, key: AssocKey) -> Option<u32>
+        ensures { result ≡ number_in (association_of_key (stored_state self.now) key) }
+    {
+        self.ports.assocs().number_at(key)
+    }
+
+    /// An object is associated with a port that was made, by a descriptor of a process (port_associate(3C)). The association is armed.
+    /// One of the same port and descriptor ends, and what it queued is withdrawn. It takes no memory.
+    pub fn associate(&mut self, key: AssocKey, object: Obj, events: PollSet, user: u64)
+        requires room { HasRoomToAssociate self.old key.port object }
+        requires made { key.port ≤ length (stored_state self.old).channels.ports }
+        requires few { (stored_state self.old).channels.associations.made < EVENTS_MAX }
+        ensures state { stored_state self.new ≡ with_channels (stored_state self.old) (associated (stored_state self.old).channels key object events user) }
+        ensures left { self.new.left ≡ self.old.left }
+        ensures keeps { KeepsPools self.old self.new }
+    {
+        self.ports.associate(key, object, events, user);
+        self.ended = find_ended(&self.processes, &self.held, &self.ports);
+    }
+
+    /// The association of a port with a descriptor of a process ends, if there is one, and what it queued is withdrawn
+    /// (port_dissociate(3C)).
+    pub fn dissociate(&mut self, key: AssocKey)
+        ensures state { stored_state self.new ≡ with_channels (stored_state self.old) (dissociated (stored_state self.old).channels key) }
+        ensures left { self.new.left ≡ self.old.left }
+        ensures keeps { KeepsPools self.old self.new }
+    {
+        self.ports.dissociate(key);
+        self.ended = find_ended(&self.processes, &self.held, &self.ports);
     }
 }

@@ -9,7 +9,7 @@ use Rattle.kernel_store.proofs.ports.find_ended.Goals as goal
 pub loop-t-init : goal.loop-t-init
 loop-t-init c = λ u out.
     c.new-ended.ensures u
-    ∙ sym (ended_not c.args.held.now c.args.ports.now.ports (state_in (thread_at c.args.processes.now u)) (sym (c.getting-rest.ensures u) ∙ out))
+    ∙ sym (ended_not c.args.held.now c.args.ports.now.ports.ports (state_in (thread_at c.args.processes.now u)) (sym (c.getting-rest.ensures u) ∙ out))
 
 pub loop-t-smaller : goal.loop-t-smaller
 loop-t-smaller c =
@@ -21,7 +21,7 @@ loop-t-preserved c =
     λ u.
     asked c.loop-t.ended c.put-in-Some.new.self c.loop-t.rest c.put.new.self c.in-Some.t.0 u c.has_ended.result _ (c.put-in-Some.ensures u) (c.put.ensures u)
     (c.loop-t.invariant u)
-    (λ same. c.has_ended.ensures ∙ ap (has_ended_at c.args.held.now c.args.ports.now.ports) (c.state.ensures ∙ ap (λ n. state_in (thread_at c.args.processes.now n)) (sym same)))
+    (λ same. c.has_ended.ensures ∙ ap (has_ended_at c.args.held.now c.args.ports.now.ports.ports) (c.state.ensures ∙ ap (λ n. state_in (thread_at c.args.processes.now n)) (sym same)))
 
 pub returns : goal.returns
 returns c = λ t. c.loop-t.invariant t (c.in_default.ensures.none t)

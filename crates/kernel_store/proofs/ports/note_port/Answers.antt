@@ -4,7 +4,7 @@ use Rattle.kernel_store.proofs.PortWaits.{none_asked, one_asked, waits_at_port}
 use Rattle.kernel_store.proofs.ports.note_port.Goals as goal
 
 pub loop-t-init : goal.loop-t-init
-loop-t-init c = none_asked c.args.q c.args.processes.now c.args.held.now c.args.ports.now.ports c.args.ended.now c.getting-rest.result c.getting-rest.ensures
+loop-t-init c = none_asked c.args.q c.args.processes.now c.args.held.now c.args.ports.now.ports.ports c.args.ended.now c.getting-rest.result c.getting-rest.ensures
 
 pub loop-t-smaller : goal.loop-t-smaller
 loop-t-smaller c =
@@ -13,10 +13,10 @@ loop-t-smaller c =
 
 pub loop-t-preserved : goal.loop-t-preserved
 loop-t-preserved c =
-    one_asked c.args.q c.args.processes.now c.args.held.now c.args.ports.now.ports c.args.ended.now c.loop-t.ended c.ask_at.new.ended c.loop-t.rest c.put.new.self c.in-Some.t.0
+    one_asked c.args.q c.args.processes.now c.args.held.now c.args.ports.now.ports.ports c.args.ended.now c.loop-t.ended c.ask_at.new.ended c.loop-t.rest c.put.new.self c.in-Some.t.0
     c.put.ensures c.ask_at.ensures.asked c.ask_at.ensures.not_asked c.ask_at.ensures.others c.loop-t.invariant
 
 pub returns : goal.returns
 returns c = λ before same known.
-    waits_at_port c.args.processes.now c.args.held.now before c.args.ports.now.ports c.args.q c.args.ended.now c.loop-t.ended same
+    waits_at_port c.args.processes.now c.args.held.now before c.args.ports.now.ports.ports c.args.q c.args.ended.now c.loop-t.ended same
     (λ t w. c.loop-t.invariant.asked t (c.in_default.ensures.none t) w) c.loop-t.invariant.others known

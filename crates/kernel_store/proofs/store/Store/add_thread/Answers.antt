@@ -41,7 +41,7 @@ invariant_of-self-then-is_ok c =
           let lives = subst (λ (s : StoreValue). is_live_in (at_number s.processes.processes c.args.p.0) ≡ true) (sym c.self.view_is) c.requires.lives in
           let added : w.add_spare.new.self ≡ change_spares v c.args.p.0 (with_spare (length before.threads + 1)) =
           w.in_ok-add_spare.ensures.ok ∙ ap (λ n. change_spares v c.args.p.0 (with_spare (n + 1))) c.thread_count.ensures.count in
-          subst (λ s. Agrees s.latest c.add_thread.new.self s.doors.items s.held.calls.tree s.notices.list s.pools × ReferToDoors s.doors.items s.held × AreBacked c.add_thread.new.self s.held.calls.tree.calls × KnowsPaths c.add_thread.new.self s.held.names.names s.named × HaveItemRoomBut s.short.items s.pools × KnowsPorts c.add_thread.new.self s.held s.ports.ports s.ended) (sym w.self-inside-is) (
+          subst (λ s. Agrees s.latest c.add_thread.new.self s.doors.items s.held.calls.tree s.notices.list s.pools × ReferToDoors s.doors.items s.held × AreBacked c.add_thread.new.self s.held.calls.tree.calls × KnowsPaths c.add_thread.new.self s.held.names.names s.named × HaveItemRoomBut s.short.items s.pools × KnowsPorts c.add_thread.new.self s.held s.ports.ports.ports s.ended) (sym w.self-inside-is) (
             subst₂ (λ table v. Agrees c.self.inside.latest table c.self.inside.doors.items c.self.inside.held.calls.tree c.self.inside.notices.list v)
                 (sym (made ∙ ap (λ b. record before { threads = before.threads ++ new_thread (length before.threads + 1) c.args.p.0 b ∷ [] }) w.if-spare.true))
                 (sym added)
@@ -52,12 +52,12 @@ invariant_of-self-then-is_ok c =
             subst (λ table. KnowsPaths table c.self.inside.held.names.names c.self.inside.named) (sym made)
                 (knows_added before (new_thread (length before.threads + 1) c.args.p.0 c.args.spare) (new_awaits_not c.args.spare) c.self.invariant.3),
             rw w.in_ok-add_spare.ensures.ok (room_spares c.self.inside.short.items c.self.inside.pools c.self.invariant.4 (change_at_number v.spares c.args.p.0 (with_spare (c.thread_count.result + 1)))),
-            subst (λ table. KnowsPorts table c.self.inside.held c.self.inside.ports.ports c.self.inside.ended) (sym made)
+            subst (λ table. KnowsPorts table c.self.inside.held c.self.inside.ports.ports.ports c.self.inside.ended) (sym made)
                 (waits_added before (new_thread (length before.threads + 1) c.args.p.0 c.args.spare) (new_gets_not c.args.spare) c.self.invariant.5),
           )
       | else-spare w ↦
           let made : c.add_thread.new.self ≡ record before { threads = before.threads ++ new_thread (length before.threads + 1) c.args.p.0 c.args.spare ∷ [] } = search rules in
-          subst (λ s. Agrees s.latest c.add_thread.new.self s.doors.items s.held.calls.tree s.notices.list s.pools × ReferToDoors s.doors.items s.held × AreBacked c.add_thread.new.self s.held.calls.tree.calls × KnowsPaths c.add_thread.new.self s.held.names.names s.named × HaveItemRoomBut s.short.items s.pools × KnowsPorts c.add_thread.new.self s.held s.ports.ports s.ended) (sym w.self-inside-is) (
+          subst (λ s. Agrees s.latest c.add_thread.new.self s.doors.items s.held.calls.tree s.notices.list s.pools × ReferToDoors s.doors.items s.held × AreBacked c.add_thread.new.self s.held.calls.tree.calls × KnowsPaths c.add_thread.new.self s.held.names.names s.named × HaveItemRoomBut s.short.items s.pools × KnowsPorts c.add_thread.new.self s.held s.ports.ports.ports s.ended) (sym w.self-inside-is) (
             subst (λ table. Agrees c.self.inside.latest table c.self.inside.doors.items c.self.inside.held.calls.tree c.self.inside.notices.list v)
                 (sym (made ∙ ap (λ b. record before { threads = before.threads ++ new_thread (length before.threads + 1) c.args.p.0 b ∷ [] }) w.if-spare.false))
                 (agrees_thread c.self.invariant.0 c.args.p.0),
@@ -67,7 +67,7 @@ invariant_of-self-then-is_ok c =
             subst (λ table. KnowsPaths table c.self.inside.held.names.names c.self.inside.named) (sym made)
                 (knows_added before (new_thread (length before.threads + 1) c.args.p.0 c.args.spare) (new_awaits_not c.args.spare) c.self.invariant.3),
             c.self.invariant.4,
-            subst (λ table. KnowsPorts table c.self.inside.held c.self.inside.ports.ports c.self.inside.ended) (sym made)
+            subst (λ table. KnowsPorts table c.self.inside.held c.self.inside.ports.ports.ports c.self.inside.ended) (sym made)
                 (waits_added before (new_thread (length before.threads + 1) c.args.p.0 c.args.spare) (new_gets_not c.args.spare) c.self.invariant.5),
           )
     ]
@@ -94,7 +94,7 @@ invariant_of-self-then-spare-2 c =
           let back : c.take_back.new.self ≡ change_spares (change_spares v c.args.p.0 (with_spare k)) c.args.p.0 without_highest =
           c.take_back.ensures ∙ ap (λ s. change_spares s.pools c.args.p.0 without_highest) w.self-inside-is
           ∙ ap (λ v. change_spares v c.args.p.0 without_highest) w.in_ok-add_spare.ensures.ok in
-          subst (λ s. Agrees s.latest c.add_thread.new.self s.doors.items s.held.calls.tree s.notices.list c.take_back.new.self × ReferToDoors s.doors.items s.held × AreBacked c.add_thread.new.self s.held.calls.tree.calls × KnowsPaths c.add_thread.new.self s.held.names.names s.named × HaveItemRoomBut s.short.items c.take_back.new.self × KnowsPorts c.add_thread.new.self s.held s.ports.ports s.ended) (sym w.self-inside-is) (
+          subst (λ s. Agrees s.latest c.add_thread.new.self s.doors.items s.held.calls.tree s.notices.list c.take_back.new.self × ReferToDoors s.doors.items s.held × AreBacked c.add_thread.new.self s.held.calls.tree.calls × KnowsPaths c.add_thread.new.self s.held.names.names s.named × HaveItemRoomBut s.short.items c.take_back.new.self × KnowsPorts c.add_thread.new.self s.held s.ports.ports.ports s.ended) (sym w.self-inside-is) (
             subst₂ (λ table v. Agrees c.self.inside.latest table c.self.inside.doors.items c.self.inside.held.calls.tree c.self.inside.notices.list v) (sym kept) (sym back)
                 (agrees_same c.self.invariant.0 (same_taken_back v c.args.p.0 k)),
             c.self.invariant.1,
@@ -103,7 +103,7 @@ invariant_of-self-then-spare-2 c =
             rw back (room_spares c.self.inside.short.items (change_spares v c.args.p.0 (with_spare k))
                 (room_spares c.self.inside.short.items c.self.inside.pools c.self.invariant.4 (change_at_number v.spares c.args.p.0 (with_spare k)))
                 (change_at_number (change_at_number v.spares c.args.p.0 (with_spare k)) c.args.p.0 without_highest)),
-            subst (λ table. KnowsPorts table c.self.inside.held c.self.inside.ports.ports c.self.inside.ended) (sym kept) c.self.invariant.5,
+            subst (λ table. KnowsPorts table c.self.inside.held c.self.inside.ports.ports.ports c.self.inside.ended) (sym kept) c.self.invariant.5,
           )
       | else-spare w ↦ absurd (not_both c.if-spare-2.true w.if-spare.false)
     ]

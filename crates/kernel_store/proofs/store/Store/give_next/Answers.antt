@@ -54,7 +54,7 @@ invariant_of-self-in-Call c =
       rw c.give.ensures (knows_changed table u (thread_at_state (is.Given c.in-Some.next.item)) (turned_still (is.Given c.in-Some.next.item) (λ path e. absurd cc)) c.self.invariant.3),
       rw c.in-Some.ensures.some (room_changed c.self.inside.short.items c.self.inside.pools c.self.invariant.4 c.args.pool match_in matched_room),
       rw c.give.ensures (waits_changed table u (thread_at_state (is.Given c.in-Some.next.item)) (turned_gets_not (is.Given c.in-Some.next.item) refl)
-          (rw c.give_call.ensures.same at (waits_kept table c.self.inside.held c.give_call.new.self c.self.inside.ports.ports c.self.inside.ended (λ q. c.give_call.ensures.others (obj.Port q) refl) c.self.invariant.5))),
+          (rw c.give_call.ensures.same at (waits_kept table c.self.inside.held c.give_call.new.self c.self.inside.ports.ports.ports c.self.inside.ended (λ q. c.give_call.ensures.others (obj.Port q) refl) c.self.invariant.5))),
     )
 
 pub invariant_of-self-in-Notice : goal.invariant_of-self-in-Notice

@@ -86,7 +86,7 @@ invariant_of-self-2 c =
       no_less_items s.short.items s.pools c.leave.new.pools c.self.invariant.4
           (there_before s.pools c.leave.new.pools (agreed.common ∙ ap (λ (t : ProcessTable). length t.processes) exited.threads ∙ sym c.self.invariant.0.common) (agreed.private ∙ sym c.self.invariant.0.private))
           exited.items,
-      waits_anew c.leave.new.procs c.leave.new.self s.ports.ports c.find_ended-self-inside.result c.find_ended-self-inside.ensures,
+      waits_anew c.leave.new.procs c.leave.new.self s.ports.ports.ports c.find_ended-self-inside.result c.find_ended-self-inside.ensures,
     )
 
 pub returns-clause-state : goal.returns-clause-state

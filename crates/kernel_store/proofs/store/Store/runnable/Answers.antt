@@ -20,6 +20,6 @@ returns c = λ t.
     ∙ found_is s.held.names.names (has s.named t) (state_in (thread_at s.processes t)) (c.self.invariant.3.known t)
     ∙ ap (λ (v : StoreValue). is_found_at v.names.names (state_in (thread_at v.processes t))) c.self.view_is)
     (c.and-ended.ensures t ∙ ap (λ b. b && has s.ended t) (c.getting.ensures t)
-    ∙ wait_is s.held.tables s.held.names.names s.held.calls.tree.calls s.ports.ports (has s.ended t) (state_in (thread_at s.processes t)) (c.self.invariant.5.known t)
+    ∙ wait_is s.held.tables s.held.names.names s.held.calls.tree.calls s.ports.ports.ports (has s.ended t) (state_in (thread_at s.processes t)) (c.self.invariant.5.known t)
     ∙ ap (λ (v : StoreValue). has_ended_at (held_of v) v.ports.ports (state_in (thread_at v.processes t))) c.self.view_is)
     (c.or.ensures t) (c.or-2.ensures t) (c.or-3.ensures t)

@@ -10,5 +10,5 @@ invariant_of-self c = (
   c.self.invariant.2,
   c.self.invariant.3,
   c.self.invariant.4,
-  c.note_port.ensures c.self.inside.ports.ports (λ p n. ap (λ ps. port_of ps p) c.send_if_allowed-error.ensures.ports ∙ sent_elsewhere c.self.inside.ports.ports c.args.q c.args.events c.args.user p n) c.self.invariant.5,
+  c.note_port.ensures c.self.inside.ports.ports.ports (λ p n. ap (λ ps. port_of ps p) c.send_if_allowed-error.ensures.ports ∙ sent_elsewhere c.self.inside.ports.ports.ports c.args.q c.args.events c.args.user p n) c.self.invariant.5,
 )

@@ -1,8 +1,6 @@
-use Rattle.std.proofs.Common.{ap, refl, rules, sym, ◌∙◌}
+use Rattle.std.proofs.Common.{ap, ◌∙◌}
 use Rattle.kernel_records.specs.Words.{port_of}
 use Rattle.kernel_store.proofs.PortWaits.{port_elsewhere}
-use Rattle.kernel_store.specs.Stored.{stored_state}
-use Rattle.kernel_store.proofs.Retrieved.{take_of_none}
 use Rattle.kernel_store.proofs.store.Store.take_found.Goals as goal
 
 pub invariant_of-self : goal.invariant_of-self
@@ -12,8 +10,5 @@ invariant_of-self c = (
   c.self.invariant.2,
   c.self.invariant.3,
   c.self.invariant.4,
-  c.note_port.ensures c.self.inside.ports.ports (λ p n. ap (λ ps. port_of ps p) c.take_found.ensures.ports ∙ port_elsewhere c.self.inside.ports.ports c.args.q _ p n) c.self.invariant.5,
+  c.note_port.ensures c.self.inside.ports.ports.ports (λ p n. ap (λ ps. port_of ps p) c.take_found.ensures.ports ∙ port_elsewhere c.self.inside.ports.ports.ports c.args.q _ p n) c.self.invariant.5,
 )
-
-pub returns-clause-state : goal.returns-clause-state
-returns-clause-state c = (search rules) ∙ sym (take_of_none (stored_state c.args.self.now) c.args.q c.args.max refl)

@@ -22,5 +22,5 @@ invariant_of-self c =
       knows_turned c.self.inside.processes c.self.inside.held.names.names c.self.inside.named c.note_turn.new.named c.args.t.0 c.args.state
           (c.note_turn.ensures.here ∙ ap (λ (n : NameTable). is_found_at n.names c.args.state) c.names.ensures) c.note_turn.ensures.others c.self.invariant.3,
       c.self.invariant.4,
-      waits_turned c.self.inside.processes c.self.inside.held c.self.inside.ports.ports c.self.inside.ended c.note_wait.new.ended c.args.t.0 c.args.state c.note_wait.ensures.here c.note_wait.ensures.others c.self.invariant.5,
+      waits_turned c.self.inside.processes c.self.inside.held c.self.inside.ports.ports.ports c.self.inside.ended c.note_wait.new.ended c.args.t.0 c.args.state c.note_wait.ensures.here c.note_wait.ensures.others c.self.invariant.5,
     )

@@ -32,7 +32,7 @@ invariant_of-self c =
       rw c.in_ok-add_process.ensures.short
           (room_process c.self.inside.short.items c.self.inside.pools c.self.invariant.4 after (pid (length before.processes + 1)) (omega (arith, ap (λ (t : ProcessTable). length t.processes) made, length-append before.processes (new_process (length before.processes + 1) c.args.limit ∷ []), c.self.invariant.0.common)) (ap (λ (v : PoolsValue). v.private) pools)
           (ap (λ (v : PoolsValue). v.common) pools)),
-      rw c.in_ok-add_process.ensures.held at (waits_kept c.add_process.new.processes c.self.inside.held c.add_process.new.held c.self.inside.ports.ports c.self.inside.ended (λ q. c.add_process.ensures.others (obj.Port q) refl)
+      rw c.in_ok-add_process.ensures.held at (waits_kept c.add_process.new.processes c.self.inside.held c.add_process.new.held c.self.inside.ports.ports.ports c.self.inside.ended (λ q. c.add_process.ensures.others (obj.Port q) refl)
           (rw made (record { known = c.self.invariant.5.known }))),
     )
 
