@@ -34,7 +34,7 @@ made-act m t q = made-move m t q (act m t q) (act_moves m t q)
 
 -- nor does it change the counts at its beginning
 pub opened_kept : (b n : StoreValue) (m : State) → n.opening ≡ b.opening → HasBegun b m → HasBegun n m
-opened_kept b n m same h = record { counts = λ d. ap (λ os. count_of os (obj.Door d)) same ∙ h.counts d; none = λ d e. ap (λ os. count_of os (obj.Door d)) same ∙ h.none d e }
+opened_kept b n m same h = record { counts = λ d. ap (λ os. count_of os (obj.Door d)) same ∙ h.counts d; all = λ o. ap (λ os. count_of os o) same ∙ h.all o; none = λ d e. ap (λ os. count_of os (obj.Door d)) same ∙ h.none d e }
 
 -- the doors that are watched are there
 

@@ -1,35 +1,46 @@
--- How many associations an event makes: one at most.
-use Rattle.std.proofs.Common.{◌≡◌, ℕ, ◌+◌, ◌≤◌, List, [], ◌∷◌, Option, refl, ap, arith}
-use Rattle.kernel_records.specs.Words.{AssociationList, associations_of, events_found, port_of, retrieve_association, retrieve_associations}
+-- How many more associations there are after an act: one at most.
+use Rattle.std.proofs.Common.{◌≡◌, ℕ, ◌+◌, ◌≤◌, Bool, List, [], ◌∷◌, Option, filter, length, ap, arith}
+use Rattle.std.proofs.lemmas.List.{length-append}
+use Rattle.std.proofs.lemmas.List.Sums.{count_by-le-length, length-filter}
+use Rattle.kernel_records.specs.declared.association.Association.{Association}
+use Rattle.kernel_records.specs.Words.{AssociationList, associations_of, events_found, has_other_key, has_other_number, new_association, port_of, retrieve_association, retrieve_associations}
 use Rattle.written_kernel.specs.Types.{Answer, Request}
-use Rattle.written_kernel.specs.Words.{ActResult, Channels, State, act, port_at, process_of, settle, take_found}
+use Rattle.written_kernel.specs.Words.{ActResult, Channels, State, act, associations_in, key_at, object_at, port_at, process_of, settle_pools, take_found, watched}
 use Rattle.written_kernel.proofs.Moves.{IsMaking, IsPassing, Moves, act_moves}
 use Rattle.written_kernel.proofs.Settling.{channels-settle_pools}
 
-abbrev pub associations_made : State → ℕ
-associations_made m = m.channels.associations.made
+abbrev pub count_associations : State → ℕ
+count_associations m = length (associations_in m)
 
-retrieved : (list : AssociationList) (ns : List ℕ) → (retrieve_associations list ns).made ≡ list.made
-retrieved list [] = refl
-retrieved list (n ∷ ns) = retrieved (retrieve_association list n) ns
+fewer_left : (keep : Association → Bool) (xs : List Association) → length (filter keep xs) ≤ length xs
+fewer_left keep xs = omega (arith, length-filter keep xs, count_by-le-length keep xs)
 
-taken : (c : Channels) (q max : ℕ) → (take_found c q max).associations.made ≡ c.associations.made
-taken c q max = retrieved c.associations (associations_of (events_found max (port_of c.ports q)))
+retrieved_fewer : (list : AssociationList) (ns : List ℕ) → length (retrieve_associations list ns).associations ≤ length list.associations
+retrieved_fewer list [] = omega arith
+retrieved_fewer list (n ∷ ns) = omega (arith, retrieved_fewer (retrieve_association list n) ns, fewer_left (has_other_number n) list.associations)
 
-passed : (m : State) (t : ℕ) (r : Request) (c : Channels) (a : Answer) → IsPassing m t r c a → c.associations.made ≤ associations_made m + 1
-passed m t r c a (IsPassing.gets fd wait f e) = omega (arith, taken m.channels (port_at m (process_of m t) fd) 1)
-passed m t r c a (IsPassing.gets_many fd max nget wait f some e) = omega (arith, taken m.channels (port_at m (process_of m t) fd) max)
-passed m t r c a _ = omega arith
+taken_fewer : (c : Channels) (q max : ℕ) → length (take_found c q max).associations.associations ≤ length c.associations.associations
+taken_fewer c q max = retrieved_fewer c.associations (associations_of (events_found max (port_of c.ports q)))
 
-moved : (m : State) (t : ℕ) (q : Option Request) (a : ActResult) → Moves m t q a → associations_made a.state ≤ associations_made m + 1
-moved m t q a (Moves.passes r c x p) = passed m t r c x p
-moved m t q a (Moves.makes_channel r c objects x (IsMaking.makes_pipe f)) = omega arith
-moved m t q a (Moves.makes_channel r c objects x (IsMaking.makes_port f)) = omega arith
-moved m t q a (Moves.retrieves port max nget one h) = omega (arith, taken m.channels port max)
-moved m t q a _ = omega arith
+passed_one : (m : State) (t : ℕ) (r : Request) (c : Channels) (a : Answer) → IsPassing m t r c a → length c.associations.associations ≤ count_associations m + 1
+passed_one m t r c a (IsPassing.gets fd wait f e) = omega (arith, taken_fewer m.channels (port_at m (process_of m t) fd) 1)
+passed_one m t r c a (IsPassing.gets_many fd max nget wait f some e) = omega (arith, taken_fewer m.channels (port_at m (process_of m t) fd) max)
+passed_one m t r c a (IsPassing.associates port object events user f) =
+    let key = key_at m (process_of m t) port object in
+    let xs = filter (has_other_key key) (associations_in m) in
+    omega (arith, fewer_left (has_other_key key) (associations_in m), length-append xs (new_association (m.channels.associations.made + 1) key (watched (object_at m (process_of m t) object)) events user ∷ []))
+passed_one m t r c a (IsPassing.dissociates port object f) = omega (arith, fewer_left (has_other_key (key_at m (process_of m t) port object)) (associations_in m))
+passed_one m t r c a _ = omega arith
 
-pub associated-act : (m : State) (t : ℕ) (q : Option Request) → associations_made (act m t q).state ≤ associations_made m + 1
-associated-act m t q = moved m t q (act m t q) (act_moves m t q)
+moved_one : (m : State) (t : ℕ) (q : Option Request) (a : ActResult) → Moves m t q a → count_associations a.state ≤ count_associations m + 1
+moved_one m t q a (Moves.passes r c x p) = passed_one m t r c x p
+moved_one m t q a (Moves.makes_channel r c objects x (IsMaking.makes_pipe f)) = omega arith
+moved_one m t q a (Moves.makes_channel r c objects x (IsMaking.makes_port f)) = omega arith
+moved_one m t q a (Moves.retrieves port max nget one h) = omega (arith, taken_fewer m.channels port max)
+moved_one m t q a _ = omega arith
 
-pub associated-settle : (before m : State) → associations_made (settle before m) ≡ associations_made m
-associated-settle before m = ap (λ (c : Channels). c.associations.made) (channels-settle_pools before m)
+pub counted-act : (m : State) (t : ℕ) (q : Option Request) → count_associations (act m t q).state ≤ count_associations m + 1
+counted-act m t q = moved_one m t q (act m t q) (act_moves m t q)
+
+pub counted_pools : (before m : State) → count_associations (settle_pools before m) ≡ count_associations m
+counted_pools before m = ap (λ (c : Channels). length c.associations.associations) (channels-settle_pools before m)

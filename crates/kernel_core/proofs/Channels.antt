@@ -6,8 +6,9 @@ use Rattle.dk_base.specs.ByNumber.{at_number}
 use Rattle.dk_base.specs.declared.limits.TheConstants.{USER_EVENTS_MAX}
 use Rattle.kernel_records.specs.declared.association.Association.{Association}
 use Rattle.kernel_records.specs.Words.{IsAscending, Port, association_number, is_event_of, is_number, is_other_event, is_user_event, port_in, state_in}
-use Rattle.written_kernel.specs.Types.{Queued, Thread}
-use Rattle.written_kernel.specs.Words.{State, port, state_of, thread_of}
+use Rattle.dk_base.specs.declared.object.Obj.TheVariants as obj
+use Rattle.written_kernel.specs.Types.{Fd, Obj, Queued, Thread}
+use Rattle.written_kernel.specs.Words.{State, object_at, port, port_at, port_named, state_of, thread_of}
 use Rattle.channel_invariant.specs.Associations.{is_queued_at}
 use Rattle.channel_invariant.specs.Channels.{AreChannels, IsBounded, WaitsAtMade, made_in}
 use Rattle.channel_invariant.proofs.Elements.{All-at_number}
@@ -157,3 +158,13 @@ waits_at_made m h t = go (thread_of m t) refl
     go : (o : Option Thread) → thread_of m t ≡ o → WaitsAtMade (made_in m) (state_in o)
     go None e = tt
     go (Some x) e = All-at_number (λ y. WaitsAtMade (made_in m) y.state) m.process_table.threads t x h.refers.waits e
+
+pub named_port_made : (m : State) → AreChannels m → (p : ℕ) (fd : Fd) → port_at m p fd ≤ length m.channels.ports
+named_port_made m h p fd = go (object_at m p fd) refl
+  where
+    go : (o : Option Obj) → object_at m p fd ≡ o → port_named o ≤ length m.channels.ports
+    go None e = omega arith
+    go (Some (obj.Port q)) e = (h.refers.rows p fd (obj.Port q) e).1
+    go (Some (obj.Door d)) e = omega arith
+    go (Some (obj.PipeIn n)) e = omega arith
+    go (Some (obj.PipeOut n)) e = omega arith

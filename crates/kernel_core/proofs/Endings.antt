@@ -3,7 +3,7 @@ use Rattle.std.proofs.Common.{◌≡◌, ℕ, Bool, true, false, not, refl, sym,
 use Rattle.written_kernel.specs.Types.{Item, ThreadState}
 use Rattle.kernel_records.specs.declared.record.ThreadState.TheVariants as is
 use Rattle.written_kernel.specs.Words.{ActResult, State, can_go_on, end_getting, go_on}
-use Rattle.kernel_invariant.specs.Coherent.{is_fit_wait, is_unbuilt}
+use Rattle.kernel_invariant.specs.Coherent.{is_fit_wait, is_unfit}
 use Rattle.kernel_store.specs.Words.{IsActive}
 use Rattle.kernel_core.specs.declared.acts.Ending.{Ending}
 use Rattle.kernel_core.specs.declared.acts.Ending.TheVariants as ending
@@ -27,7 +27,7 @@ pub ending_calling : (s : ThreadState) (c : ℕ) → ending.Collect c ≡ ending
 ending_calling (is.Calling d) c e = cc
 ending_calling s c e = cc
 
-can_end : (m : State) (s : ThreadState) → can_go_on m s ≡ true → is_unbuilt s ≡ false → CanEndAs m (ending_of s)
+can_end : (m : State) (s : ThreadState) → can_go_on m s ≡ true → is_unfit s ≡ false → CanEndAs m (ending_of s)
 can_end m (is.Getting q max nget one interrupted) go fit = record { nget = nget; fit = taken (is_fit_wait max nget one) fit; can_end = go }
   where
     taken : (b : Bool) → not b ≡ false → b ≡ true
@@ -46,7 +46,7 @@ can_end m is.Done go fit = tt
 -- a wait at a port that ends can end
 pub ending_getting :
     (m : State) (s : ThreadState) (q max : ℕ) (one interrupted : Bool) → ending.Got q max one interrupted ≡ ending_of s → can_go_on m s ≡ true →
-    is_unbuilt s ≡ false → CanEndGetting m q max one interrupted
+    is_unfit s ≡ false → CanEndGetting m q max one interrupted
 ending_getting m s q max one interrupted e go fit = subst (CanEndAs m) (sym e) (can_end m s go fit)
 
 -- and it ends as the written kernel says

@@ -8,7 +8,7 @@ use Rattle.written_kernel.proofs.Moves.IsMaking.{makes_pipe, makes_port}
 use Rattle.written_kernel.proofs.Moves.IsPassing.{alerts, associates, dissociates, gets, gets_many, reads, sends, sends_each, writes}
 use Rattle.written_kernel.proofs.Moves.IsSaid.{refused}
 use Rattle.written_kernel.proofs.Moves.IsRow.{closes}
-use Rattle.written_kernel.proofs.Moves.IsTurn.{awaits, works}
+use Rattle.written_kernel.proofs.Moves.IsTurn.{awaits, starts_work, works}
 use Rattle.written_kernel.specs.Types.{Answer, Attrs, Call, CallStage, Door, Errno, Fd, Item, Obj, Parked, Pass, Queued, Request, Thread, ThreadState, Waiting, Param}
 use Rattle.dk_base.specs.declared.limits.TheConstants.{ANSWER_ITEMS_MAX}
 use Rattle.dk_base.specs.declared.error.Errno.TheVariants.{EBADF, E2BIG, EMFILE, ENFILE, ENOBUFS, ENOTSUP}
@@ -472,6 +472,7 @@ move-tidy m t q a (Moves.bound r o _) = record { grows = bindings-grow m _; smal
 move-tidy m t q a (Moves.parameter fd x value _) = set_parameter-tidy m t q (process_of m t) fd x value
 move-tidy m t q a (Moves.makes entry cookie attrs _) = create-tidy m t q (process_of m t) entry cookie attrs
 move-tidy m t q a (Moves.turns s x _ (awaits path e)) = thread-tidy m t q (thread_at_state s) x tt
+move-tidy m t q a (Moves.turns s x _ (starts_work op input)) = thread-tidy m t q (thread_at_state s) x tt
 move-tidy m t q a (Moves.turns s x _ (works op input e)) = thread-tidy m t q (thread_at_state s) x (omega arith)
 move-tidy m t q a (Moves.turns s x _ _) = thread-tidy m t q (thread_at_state s) x tt
 move-tidy m t q a (Moves.calls fd bytes pass rsize f) = call-tidy m t q (process_of m t) fd bytes pass rsize (few_arguments m (process_of m t) fd bytes pass f)

@@ -1,33 +1,31 @@
 -- A kernel's events keep that what it keeps comes from a written state, and a refused entry changes nothing else.
-use Rattle.std.proofs.Common.{◌≡◌, ℕ, ◌+◌, ◌<◌, ◌&&◌, Bool, true, false, not, List, Option, Some, None, Result, Ok, Err, IfOk, OnOk, OnErr, slice_get, length, refl, subst, sym, ap, ◌∙◌, arith, All, is_some}
-use Rattle.std.proofs.lemmas.List.Elements.{All-weaker}
+use Rattle.std.proofs.Common.{◌≡◌, ℕ, ◌+◌, ◌<◌, ◌≤◌, Bool, true, false, not, List, Option, Some, None, Result, Ok, Err, IfOk, OnOk, OnErr, slice_get, length, refl, subst, sym, ap, ◌∙◌, arith, All, is_some}
 use Rattle.kernel_records.proofs.NumberedLists.{find-slice_get}
-use Rattle.written_kernel.specs.Types.{Call, CallStage, Door, Errno, NoMemory, Notice, NoticeStage, Obj, Process, Request, Stepped, Thread, ThreadState, Tid}
+use Rattle.written_kernel.specs.Types.{Call, CallStage, Door, Errno, NoMemory, Notice, NoticeStage, Process, Request, Stepped, Thread, ThreadState, Tid}
 use Rattle.dk_base.specs.declared.answer.Answer.TheVariants.{Failure}
 use Rattle.dk_base.specs.declared.limits.TheConstants.{EVENTS_MAX, THREADS_MAX}
-use Rattle.written_kernel.specs.Words.{IsOpening, IsStep, MayTurn, StandsFor, State, act, associations_in, effect, forget, has_lost_door, opening, pick, pool_of, invocation_of, state_of, process_of, ready_at, refusal_of, step, unless_refused, waiting_items, with_event_counted, with_new_thread, is_live_process, door_of, port, thread_of}
+use Rattle.written_kernel.specs.Words.{IsOpening, IsStep, MayTurn, StandsFor, State, act, effect, forget, has_lost_door, opening, pick, pool_of, invocation_of, state_of, process_of, refusal_of, step, unless_refused, waiting_items, with_event_counted, with_new_thread, is_live_process, door_of, port, port_at, thread_of}
 use Rattle.written_kernel.specs.Opening.IsOpening.{processes, thread}
-use Rattle.written_kernel.proofs.Forget.{IsStep-stands_for, act-forget, is_runnable-forget, references_of-forget, refusal_of-forget, waiting_items-forget}
+use Rattle.written_kernel.proofs.Forget.{IsStep-stands_for, act-forget, is_runnable-forget, refusal_of-forget, waiting_items-forget}
 use Rattle.dk_base.specs.ByNumber.{at_number}
 use Rattle.std.proofs.lemmas.Bool.Decides.{nat_tests}
 use Rattle.kernel_records.specs.declared.record.CallStage.TheVariants as stage
 use Rattle.kernel_records.specs.declared.record.NoticeStage.TheVariants as notice
 use Rattle.kernel_records.specs.declared.record.ThreadState.TheVariants as is
 use Rattle.dk_base.specs.declared.object.Item.TheVariants as item
-use Rattle.dk_base.specs.declared.object.Obj.TheVariants as obj
-use Rattle.kernel_records.specs.declared.association.Association.{Association}
-use Rattle.kernel_records.specs.Words.{bytes_of, call_number, is_kept_notice, is_live_call, is_live_in, is_live_stage, is_owned_by, is_queued, is_to_fire, is_told, is_valid_door, is_valid_in, is_waiting_stage, notice_number, process_in, ready_in, ready_out, tid}
+use Rattle.kernel_records.specs.Words.{call_number, is_kept_notice, is_live_call, is_live_in, is_live_stage, is_owned_by, is_queued, is_valid_door, is_valid_in, is_waiting_stage, notice_number, process_in, tid}
 use Rattle.kernel_records.proofs.Lists.{numbered_there}
 use Rattle.written_kernel.proofs.Opening.{IsDeclaredIn, forget-opening, opened}
 use Rattle.written_kernel.proofs.Steps.{events-step}
 use Rattle.channel_invariant.specs.Channels.{AreChannels}
 use Rattle.channel_invariant.proofs.Acts.{step_fits}
 use Rattle.channel_invariant.proofs.Runs.{opening_fits}
-use Rattle.kernel_invariant.specs.Coherent.{is_unbuilt}
+use Rattle.kernel_invariant.specs.Coherent.{is_unfit}
 use Rattle.kernel_invariant.specs.Core.{door_in, is_outside, notice_in, noticed_door_in, number_in}
 use Rattle.kernel_invariant.specs.Events.{Keeps, may_lose_door}
 use Rattle.kernel_invariant.specs.Invariant.{IsConsistent}
 use Rattle.kernel_invariant.specs.Told.{AreTold}
+use Rattle.act_changes.proofs.Kept.{told-forget, told-kept}
 use Rattle.kernel_invariant.specs.Records.{item_in, notice_of, owner_in, stage_in}
 use Rattle.kernel_store.specs.Words.{AreHeld, ArePlaced, WaitAtValidDoors, held_as, stored_state}
 use Rattle.kernel_core.specs.declared.event.Parts.{Parts}
@@ -44,7 +42,7 @@ use Rattle.kernel_core.specs.Watched.{IsReadyForNotices}
 use Rattle.kernel_core.specs.Within.{IsWithin}
 use Rattle.kernel_core.proofs.Watching.{act_keeps_doors, kept_keeps_doors}
 use Rattle.kernel_core.specs.Woken.{HasTurns, HasTurnsAfter}
-use Rattle.kernel_core.proofs.Channels.{few_queued, waits_at_made}
+use Rattle.kernel_core.proofs.Channels.{few_queued, named_port_made, waits_at_made}
 use Rattle.kernel_core.proofs.Grows.{IsFitTurn}
 use Rattle.kernel_core.proofs.Readers.{kept_of}
 use Rattle.kernel_core.proofs.Turning.{turns_consistent}
@@ -128,28 +126,6 @@ none_idle-forget m h = subst (λ ws. All (λ w. pick (forget m) (pool_of (forget
 none_idle-of_forget : (m : State) → HasNoneIdle (forget m) → HasNoneIdle m
 none_idle-of_forget m h = subst (λ ws. All (λ w. pick m (pool_of m w.door) ≡ None) ws) (waiting_items-forget m) h
 
--- what ports are told is by what stays of what is kept
-
-ready-forget : (m : State) (o : Obj) → ready_at (forget m) o ≡ ready_at m o
-ready-forget m (obj.PipeIn p) = ap (ready_in (bytes_of m.channels.pipes p)) (references_of-forget m (obj.PipeOut p))
-ready-forget m (obj.PipeOut p) = ap (ready_out (bytes_of m.channels.pipes p)) (references_of-forget m (obj.PipeIn p))
-ready-forget m (obj.Door d) = refl
-ready-forget m (obj.Port q) = refl
-
-abbrev Waits : State → Association → Type 0
-Waits m a = is_to_fire (ready_at m) a ≡ false
-
-to_fire-forget : (m : State) (a : Association) → is_to_fire (ready_at (forget m)) a ≡ is_to_fire (ready_at m) a
-to_fire-forget m a = ap (λ s. a.armed && is_told s a) (ready-forget m a.object)
-
-told-forget : (m : State) → AreTold m → AreTold (forget m)
-told-forget m h =
-    record { rows = h.rows; wait = All-weaker (Waits m) (Waits (forget m)) (λ a e. to_fire-forget m a ∙ e) (associations_in m) h.wait }
-
-told-of_forget : (m : State) → AreTold (forget m) → AreTold m
-told-of_forget m h =
-    record { rows = h.rows; wait = All-weaker (Waits (forget m)) (Waits m) (λ a e. sym (to_fire-forget m a) ∙ e) (associations_in m) h.wait }
-
 -- no thread of a state that a kernel stands for is idle and bound to an invalid door
 lost_stands : (kept m : State) (u : ℕ) → IsKept kept → StandsFor kept m → has_lost_door m u ≡ false
 lost_stands kept m u k h = ap (λ n. has_lost_door n u) (sym h ∙ k.stands) ∙ no_lost_door k.written k.invariant u
@@ -177,7 +153,7 @@ pub refused_stands :
 refused_stands kept m t r e k h g =
     refused_gives m t r e (λ u. lost_stands kept m u k h)
     (none_idle-of_forget m (subst HasNoneIdle (sym k.stands ∙ h) (none_idle-forget k.written k.invariant.given_out)))
-    (told-of_forget m (subst AreTold (sym k.stands ∙ h) (told-forget k.written k.invariant.told)))
+    (told-kept m (subst AreTold (sym k.stands ∙ h) (told-forget k.written k.invariant.told)))
     g
 
 -- the same of a result
@@ -223,7 +199,7 @@ pub thread_kept :
 thread_kept old new p spare k z there few e = subst IsKept (sym e) (opening_kept (thread p spare there.0 there.1 few (k.opening z)))
 
 within_thread : (m : State) (p : ℕ) (spare : Bool) → IsWithin m → IsWithin (with_new_thread m p spare)
-within_thread m p spare w = record { events = w.events; doors = w.doors; calls_made = w.calls_made; notices_made = w.notices_made; associations_made = w.associations_made; small = w.small }
+within_thread m p spare w = record { events = w.events; doors = w.doors; calls_made = w.calls_made; notices_made = w.notices_made; small = w.small }
 
 -- another thread of a kernel that has made no event
 pub thread_result :
@@ -373,7 +349,8 @@ numbers_kept m k w few =
       notices = omega (arith, w.notices_made, few);
       pipes = omega (arith, ap (λ (n : State). length n.channels.pipes) k.stands, k.channels.few_pipes, events, few);
       ports = omega (arith, ap (λ (n : State). length n.channels.ports) k.stands, k.channels.few_ports, events, few);
-      associations = omega (arith, w.associations_made, few);
+      associations = omega (arith, ap (λ (n : State). n.channels.associations.made) k.stands, k.channels.few_associations, events, few);
+      named = λ p fd. subst (λ (n : State). port_at n p fd ≤ length n.channels.ports) (sym k.stands) (named_port_made k.written k.channels p fd);
       queued =
           λ q.
           omega (
@@ -381,7 +358,8 @@ numbers_kept m k w few =
             few_queued k.written k.channels q,
             ap (λ (n : State). length (port n q).queue) k.stands,
             ap (λ (n : State). n.channels.associations.made) k.stands,
-            w.associations_made,
+            k.channels.few_associations,
+            events,
             few,
           );
     }
@@ -398,12 +376,13 @@ can_step p m same k few =
     let early : p.store.events < EVENTS_MAX = omega (arith, ap (λ (n : State). n.events) same) in
     record {
       numbers = numbers_kept (stored_state p.store) k.0 w early;
+      told = subst AreTold (sym k.0.stands) (told-forget k.0.written k.0.invariant.told);
       none_past = stands_live (stored_state p.store) k.0.written k.0.stands;
       placed = subst ArePlaced (sym k.0.stands) (placed-forget k.0.written (places k.0.written k.0.invariant.consistent));
       waiting = subst WaitAtValidDoors (sym k.0.stands) (waits-forget k.0.written (waits k.0.written k.0.invariant.consistent));
       held = subst AreHeld (sym k.0.stands) (held-forget k.0.written (held k.0.written k.0.invariant.consistent));
       none_lost = λ t. ap (λ (n : State). has_lost_door n t) k.0.stands ∙ no_lost_door k.0.written k.0.invariant t;
-      fit = λ t. ap (λ (n : State). is_unbuilt (state_of n t)) k.0.stands ∙ k.0.invariant.consistent.coherent.has_built_state t;
+      fit = λ t. ap (λ (n : State). is_unfit (state_of n t)) k.0.stands ∙ k.0.invariant.consistent.coherent.has_fit_state t;
       between = k.2;
       turns = turns_kept (stored_state p.store) k.0;
     }

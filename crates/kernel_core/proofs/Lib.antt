@@ -16,7 +16,6 @@ pub mod Watching
 pub mod Making
 pub mod Acted
 pub mod Numbering
-pub mod Telling
 pub mod Finishing
 mod Told
 pub mod Turning

@@ -159,6 +159,7 @@ module _ (m : State) (none : (v : ℕ) → has_lost_door m v ≡ false) where
     move_loses t q a u may (Moves.parameter fd x value f) e = cc
     move_loses t q a u may (Moves.makes entry cookie attrs f) e = cc
     move_loses t q a u may (Moves.turns s x w (IsTurn.awaits path i)) e = cc
+    move_loses t q a u may (Moves.turns s x w (IsTurn.starts_work op input)) e = cc
     move_loses t q a u may (Moves.turns s x w (IsTurn.waits_for_one fd wait i j)) e = cc
     move_loses t q a u may (Moves.turns s x w (IsTurn.waits_for_many fd max nget wait i j k)) e = cc
     move_loses t None a u may (Moves.turns s x w i) e = changed_loses t (thread_at_state s) u (λ y. refl) e

@@ -5,8 +5,7 @@ use Rattle.dk_base.specs.ByNumber.{at_number}
 use Rattle.kernel_records.specs.Words.{Port}
 use Rattle.written_kernel.specs.Types.{Errno, Fd, Obj}
 use Rattle.written_kernel.specs.Words.{after_sending, after_sending_each, errors_of_sending, sending_error}
-use Rattle.event_port.specs.Words.{HasRoomAt, KeepsRoomButOne}
-use Rattle.kernel_store.specs.Words.{KeepsPools, StoreValue}
+use Rattle.kernel_store.specs.Words.{HasRoomForEvents, KeepsPools, KeepsRoomForEventsButOne, StoreValue}
 
 pub keeps_then : (a b c : StoreValue) → KeepsPools a b → KeepsPools b c → KeepsPools a c
 keeps_then a b c g h =
@@ -19,15 +18,19 @@ keeps_then a b c g h =
     }
 
 -- where there is room for some events there is room for fewer
-pub room_for_fewer : (rooms : List ℕ) (q n k : ℕ) → k ≤ n → HasRoomAt rooms q n → HasRoomAt rooms q k
-room_for_fewer rooms q n k l h = go (at_number rooms q) h
+pub room_for_fewer : (store : StoreValue) (q n k : ℕ) → k ≤ n → HasRoomForEvents store q n → HasRoomForEvents store q k
+room_for_fewer store q n k l h = go (at_number store.ports.rooms q) h
   where
-    go : (o : Option ℕ) → IfSome o (λ room. n ≤ room) → IfSome o (λ room. k ≤ room)
+    others : ℕ
+    others = length store.assocs.list.associations
+
+    go : (o : Option ℕ) → IfSome o (λ room. n + others ≤ room) → IfSome o (λ room. k + others ≤ room)
     go None f = tt
     go (Some room) f = omega (arith, l, f)
 
 -- a port takes one event less once an event is sent
-pub room_for_rest : (old new : List ℕ) (q n i : ℕ) → i < n → KeepsRoomButOne old new → HasRoomAt old q (n - i) → HasRoomAt new q (n - (i + 1))
+pub room_for_rest :
+    (old new : StoreValue) (q n i : ℕ) → i < n → KeepsRoomForEventsButOne old new → HasRoomForEvents old q (n - i) → HasRoomForEvents new q (n - (i + 1))
 room_for_rest old new q n i l keeps h =
     keeps q (n - (i + 1)) (room_for_fewer old q (n - i) (n - (i + 1) + 1) (omega arith) h)
 

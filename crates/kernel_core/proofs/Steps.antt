@@ -19,7 +19,6 @@ use Rattle.kernel_records.proofs.Lists.{same_length}
 use Rattle.written_kernel.proofs.Settling.{give-all}
 use Rattle.written_kernel.proofs.Steps.{act-keeps, process_identity}
 use Rattle.written_kernel.proofs.Forget.{IsStep-stands_for, forget-forget, settle-forget, woken_threads-forget}
-use Rattle.kernel_core.proofs.Associated.{associated-act, associated-settle}
 use Rattle.kernel_core.proofs.Live.{live_state, settle_past}
 use Rattle.kernel_core.proofs.Grows.{Grows, IsFitTurn, act-tidy, filter-small, grows_kept, settle-grows}
 
@@ -34,7 +33,6 @@ step-within m t r w few made =
       doors = omega arith;
       calls_made = omega arith;
       notices_made = omega (arith, w.notices_made, made, h.events, g.events);
-      associations_made = omega (arith, w.associations_made, associated-act m t r, associated-settle m n, h.events, g.events);
       small = filter-small is_live_call (settle m n).call_tree.calls (h.small (g.small w.small));
     }
 
@@ -67,10 +65,10 @@ step_small kept new t r (Err e) w fit h = tt
 with_processes-within : (limits : List ℕ) (m : State) → IsWithin m → IsWithin (with_processes m limits)
 with_processes-within [] m w = w
 with_processes-within (limit ∷ limits) m w =
-    with_processes-within limits (with_new_process m limit) (record { events = w.events; doors = w.doors; calls_made = w.calls_made; notices_made = w.notices_made; associations_made = w.associations_made; small = w.small })
+    with_processes-within limits (with_new_process m limit) (record { events = w.events; doors = w.doors; calls_made = w.calls_made; notices_made = w.notices_made; small = w.small })
 
 no_process-within : IsWithin no_process
-no_process-within = record { events = omega arith; doors = omega arith; calls_made = omega arith; notices_made = omega arith; associations_made = omega arith; small = tt }
+no_process-within = record { events = omega arith; doors = omega arith; calls_made = omega arith; notices_made = omega arith; small = tt }
 
 pub opening-within : (limits : List ℕ) (none m : State) → none ≡ no_process → m ≡ with_processes none limits → IsWithin m
 opening-within limits none m e h = subst IsWithin (sym (h ∙ ap (λ n. with_processes n limits) e)) (with_processes-within limits no_process no_process-within)

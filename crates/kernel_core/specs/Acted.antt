@@ -1,11 +1,13 @@
 -- What an event needs of the parts of a kernel, and what it has done once its act is done.
 use Rattle.std.specs.Prelude.{ℕ, ◌≡◌, ◌<◌, Option, false}
+use Rattle.act_changes.specs.Closed.{closed_rows}
 use Rattle.dk_base.specs.declared.limits.TheConstants.{EVENTS_MAX}
 use Rattle.written_kernel.specs.Types.{Answer, Request}
 use Rattle.written_kernel.specs.Words.{StandsFor, State, act, forget, give, has_first_common_door, has_lost_door, state_of}
-use Rattle.kernel_invariant.specs.Coherent.{is_unbuilt}
+use Rattle.kernel_invariant.specs.Coherent.{is_unfit}
+use Rattle.kernel_invariant.specs.Told.{AreTold}
 use Rattle.pool_agreement.specs.Words.{is_this}
-use Rattle.kernel_store.specs.Words.{AreHeld, ArePlaced, IsAtRest, KeepsForNotices, WaitAtValidDoors, stored_state}
+use Rattle.kernel_store.specs.Words.{AreHeld, ArePlaced, IsAtRest, KeepsForNotices, ReadiesAtMost, WaitAtValidDoors, closing_of, stored_state}
 use Rattle.kernel_core.specs.declared.event.Parts.{Parts}
 use Rattle.kernel_core.specs.declared.event.Taken.{Taken}
 use Rattle.kernel_core.specs.Kept.{HasNothingPast}
@@ -20,12 +22,13 @@ IsBetweenEvents parts = IsAtRest parts.store.events parts.store
 -- and there can be another one
 pub record CanStep (parts : Parts) : Type 0 where
   pub numbers : HasNumbersLeft (stored_state parts.store)
+  pub told : AreTold (stored_state parts.store)
   pub none_past : HasNothingPast (stored_state parts.store)
   pub placed : ArePlaced (stored_state parts.store)
   pub waiting : WaitAtValidDoors (stored_state parts.store)
   pub held : AreHeld (stored_state parts.store)
   pub none_lost : (t : ℕ) → has_lost_door (stored_state parts.store) t ≡ false
-  pub fit : (t : ℕ) → is_unbuilt (state_of (stored_state parts.store) t) ≡ false
+  pub fit : (t : ℕ) → is_unfit (state_of (stored_state parts.store) t) ≡ false
   pub between : IsBetweenEvents parts
   pub turns : HasTurns (stored_state parts.store)
 
@@ -46,3 +49,8 @@ pub record HasActed (start : Parts) (t : ℕ) (q : Option Request) (before after
   pub answered : answer ≡ (act (stored_state start.store) t q).answer
   pub first_common : (p : ℕ) → has_first_common_door (stored_state start.store) (give (stored_state after.store)) p ≡ is_this p first
   pub keeps : KeepsForNotices before.store after.store
+  -- what is told of its request: the rows that it closes, and the pipe of what it readies
+  pub told : AreTold (stored_state start.store)
+  pub rows : closing_of taken.closed ≡ closed_rows (stored_state start.store) t q
+  pub readied : ReadiesAtMost (stored_state start.store) t q taken.pipe
+  pub rooms : after.rooms ≡ before.rooms

@@ -1,5 +1,5 @@
 -- What getting at a port needs, and sending to several: the room for what is found, and for what is sent.
-use Rattle.std.specs.Prelude.{ℕ, ◌≡◌, ◌≤◌, Bool, true, List, All}
+use Rattle.std.specs.Prelude.{ℕ, ◌≡◌, Bool, true, List, All}
 use Rattle.written_kernel.specs.Types.{Fd}
 use Rattle.written_kernel.specs.Words.{State, can_end_getting, port_at}
 use Rattle.kernel_invariant.specs.Coherent.{is_fit_wait}
@@ -11,7 +11,7 @@ use Rattle.kernel_core.specs.declared.ports.Found.{Found}
 -- so many events can be told
 pub record HasRoomToFind (n : ℕ) (found : Found) : Type 0 where
   pub records : IsRoomFor n found.records
-  pub numbers : n ≤ found.numbers.spare
+  pub numbers : IsRoomFor n found.numbers
 
 -- a wait at a port for some number of events can end
 pub record CanEndGetting (m : State) (q max : ℕ) (one interrupted : Bool) : Type 0 where

@@ -1,6 +1,7 @@
 -- What the numbers that the kernel hands out need to fit.
 use Rattle.std.specs.Prelude.{ℕ, ◌+◌, ◌<◌, ◌≤◌, ◌*◌, length}
-use Rattle.written_kernel.specs.Words.{State, port}
+use Rattle.written_kernel.specs.Words.{State, port, port_at}
+use Rattle.written_kernel.specs.Types.{Fd}
 use Rattle.unref_notice.specs.declared.counts.TheConstants.{STEP_MAX}
 use Rattle.dk_base.specs.declared.limits.TheConstants.{EVENTS_MAX, USER_EVENTS_MAX}
 
@@ -14,4 +15,6 @@ pub record HasNumbersLeft (m : State) : Type 0 where
   pub pipes : length m.channels.pipes < EVENTS_MAX
   pub ports : length m.channels.ports < EVENTS_MAX
   pub associations : m.channels.associations.made < EVENTS_MAX
+  -- what names a port names one that was made
+  pub named : (p : ℕ) (fd : Fd) → port_at m p fd ≤ length m.channels.ports
   pub queued : (q : ℕ) → length (port m q).queue ≤ USER_EVENTS_MAX + EVENTS_MAX

@@ -22,14 +22,13 @@ abbrev pub AreSmall : List Call → Type 0
 AreSmall [] = Unit {0}
 AreSmall (r ∷ rs) = IsSmallCall r × AreSmall rs
 
--- each event makes at most one door, one call and one association, and of each object to which references come or go by it at most one notice; and no
--- more than a million are made
+-- each event makes at most one door and one call, and of each object to which references come or go by it at most one notice; and no more
+-- than a million are made
 pub record IsWithin (m : State) : Type 0 where
   pub events : m.events ≤ EVENTS_MAX
   pub doors : length m.doors ≤ m.events
   pub calls_made : m.call_tree.made ≤ m.events
   pub notices_made : m.notice_list.made ≤ STEP_MAX * m.events
-  pub associations_made : m.channels.associations.made ≤ m.events
   pub small : AreSmall m.call_tree.calls
 
 -- how many descriptors a turn sends an event to

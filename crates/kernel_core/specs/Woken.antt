@@ -1,5 +1,5 @@
 -- Which threads can take a turn, and which an event wakes.
-use Rattle.std.specs.Prelude.{ℕ, ◌≡◌, ◌≤◌, ◌&&◌, length, List, Option, map, not}
+use Rattle.std.specs.Prelude.{ℕ, ◌≡◌, ◌+◌, ◌≤◌, ◌&&◌, length, List, Option, map, not}
 use Rattle.dk_base.specs.declared.limits.TheConstants.{THREADS_MAX}
 use Rattle.dk_base.specs.declared.number.Tid.{Tid}
 use Rattle.dk_base.specs.Words.{RoomValue}
@@ -9,8 +9,8 @@ use Rattle.thread_set.specs.Words.{has}
 use Rattle.kernel_core.specs.declared.event.Parts.{Parts}
 use Rattle.kernel_core.specs.declared.event.Taken.{Taken}
 use Rattle.written_kernel.specs.Types.{Request}
-use Rattle.written_kernel.specs.Words.{State, forget, is_runnable, step}
-use Rattle.kernel_store.specs.Words.{HasBegun, HasRoomForNotices, IsAgreed, IsRoomFor, can_turn, stored_state}
+use Rattle.written_kernel.specs.Words.{State, associations_in, forget, is_runnable, step}
+use Rattle.kernel_store.specs.Words.{HasBegun, HasRoomForNotices, HasRoomToTell, IsAgreed, IsRoomFor, can_turn, stored_state}
 use Rattle.kernel_core.specs.Watched.{watched}
 
 -- the threads that can take a turn
@@ -38,6 +38,8 @@ pub record IsReady (parts : Parts) (taken : Taken) : Type 0 where
   pub notices : HasRoomForNotices parts.store
   pub opened : HasBegun parts.store (stored_state parts.store)
   pub agreed : IsAgreed parts.store
+  -- an act makes one association at most
+  pub rooms : HasRoomToTell parts.rooms (length (associations_in (stored_state parts.store)) + 1)
 
 -- the same once its act is done
 pub record IsReadyToSettle (parts : Parts) (list : RoomValue Tid) : Type 0 where

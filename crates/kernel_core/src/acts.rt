@@ -4,26 +4,27 @@ ghost use Rattle.std.specs.Option.{option_map};
 ghost use Rattle.capabilities.specs.declared.table.TheConstants.{BUILT};
 ghost use Rattle.capabilities.specs.Words.{capability_of};
 ghost use Rattle.kernel_records.specs.Words.{has_common_door, is_private};
-ghost use Rattle.kernel_invariant.specs.Coherent.{is_unbuilt};
+ghost use Rattle.kernel_invariant.specs.Coherent.{is_unfit};
 ghost use Rattle.kernel_invariant.specs.Events.{is_leaving};
 ghost use Rattle.kernel_core.specs.Entries.{made_first, may_make_first, touched_by};
-ghost use Rattle.written_kernel.specs.Words.{StandsFor, act, end_work, enter, is_runnable, is_running, process_of, state_of};
+ghost use Rattle.written_kernel.specs.Words.{StandsFor, act, enter, is_runnable, is_running, process_of, state_of};
 ghost use Rattle.kernel_core.specs.Finding.{HasRoomToFind};
 ghost use Rattle.kernel_core.specs.Handed.{count_passed, ending_of, events_at_end, objects_at_end};
 ghost use Rattle.kernel_core.specs.Kept.{HasNothingPast};
 ghost use Rattle.kernel_core.specs.Numbers.{HasNumbersLeft};
 ghost use Rattle.pool_agreement.specs.Words.{own_pool};
-ghost use Rattle.kernel_store.specs.Words.{AreHeld, CanAct, CanLeave, FillsNoPool, FillsOnePool, HasWholeStep, IsActive, IsRoomFor, KeepsForNotices, KeepsPools, ParksAgain, stored_state};
+ghost use Rattle.kernel_store.specs.Words.{AreHeld, CanAct, CanLeave, FillsNoPool, FillsOnePool, HasWholeStep, IsRoomFor, KeepsForNotices, KeepsPools, ParksAgain, stored_state};
 
 use crate::descriptors::{self, door_named};
 use crate::doors::{self, accept, collect};
 use crate::leaving::{self, wake};
 use crate::ports::{self, Found, end_getting};
-use crate::{binding, information, pipes};
+use crate::tasks::{self, end_work};
+use crate::{associations, binding, information, pipes};
 use bitflags::Flags;
 use dk_base::answer::Answer;
 use dk_base::error::NoMemory;
-use dk_base::list::{Bytes, Room};
+use dk_base::list::Room;
 use dk_base::number::{Fd, Pid, Tid};
 use dk_base::object::{Item, Obj};
 use dk_base::request::Request;
@@ -161,21 +162,10 @@ pub fn enter(
         | Request::Send { .. }
         | Request::SendN { .. }
         | Request::Alert { .. } => ports::enter(store, alloc, t, p, request),
-        Request::Associate { .. } | Request::Dissociate { .. } => Ok(Answer::Done),
-        _ => Ok(Answer::Done),
-    }
-}
-
-/// The end of a task. Who runs the thread computes its bytes.
-fn end_work(store: &mut Store, alloc: Global, t: Tid) -> Answer
-    requires { IsActive (state_of (stored_state store.old) t.0) }
-    ensures state { stored_state store.new ≡ (end_work (stored_state store.old) t.0).state }
-    ensures answer { result ≡ (end_work (stored_state store.old) t.0).answer }
-    ensures keeps { KeepsPools store.old store.new }
-{
-    store.turn(t, ThreadState::Running);
-    Answer::Data {
-        bytes: Bytes::new(alloc),
+        Request::Associate { .. } | Request::Dissociate { .. } => {
+            associations::enter(store, alloc, t, p, request)
+        }
+        Request::Work { .. } => Ok(tasks::enter(store, t, p, request)),
     }
 }
 
@@ -239,7 +229,7 @@ pub fn go_on(
     requires own { p.0 ≡ process_of (stored_state store.old) t.0 }
     requires at { ending ≡ ending_of (state_of (stored_state store.old) t.0) }
     requires runnable { is_runnable (stored_state store.old) t.0 ≡ true }
-    requires fit { is_unbuilt (state_of (stored_state store.old) t.0) ≡ false }
+    requires fit { is_unfit (state_of (stored_state store.old) t.0) ≡ false }
     requires room { IsRoomFor (length (objects_at_end (stored_state store.old) t.0 ending)) fds }
     requires found { HasRoomToFind (length (events_at_end (stored_state store.old) ending)) found }
     ensures state { StandsFor (stored_state store.new) (act (stored_state store.old) t.0 None).state }

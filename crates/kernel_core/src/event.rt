@@ -18,6 +18,7 @@ use crate::acts::{ending_of, enter, go_on, made_first, needs_of};
 use crate::doors::count_at_end;
 use crate::notices::settle;
 use crate::ports::{count_found, room_to_find};
+use crate::telling::{closed_by, pipe_readied};
 use dk_base::answer::Answer;
 use dk_base::error::NoMemory;
 use dk_base::event::Stepped;
@@ -26,6 +27,7 @@ use dk_base::number::{Pid, Tid};
 use dk_base::request::Request;
 use kernel_records::pool::Pool;
 use kernel_store::store::Store;
+use kernel_store::told::{ClosedRows, TellingRooms};
 use std::alloc::Global;
 use std::mem;
 use thread_set::set::ThreadSet;
@@ -36,21 +38,30 @@ pub struct Parts {
     pub store: Store,
     /// Room for the doors whose references fall to one by an event.
     pub fallen: Room<u32>,
+    pub rooms: TellingRooms,
 }
 
 /// What is taken before an event: the threads that can take a turn; and memory for the threads that it wakes, and for the doors of
-/// which it may make notices.
+/// which it may make notices; and what is told of its request: the rows that it closes, and the pipe of what it readies.
 #[derive(Drop)]
 struct Taken {
     were: ThreadSet,
     woken: Room<Tid>,
     fallen: Room<u32>,
+    closed: ClosedRows,
+    pipe: Option<u32>,
 }
 
 impl Parts {
     /// The step begins that an event is, and takes the memory that it can need where it touches this pool, which changes nothing
     /// else. One that hands over objects needs room for them besides, and one by which callers, threads or doors leave takes its own.
-    fn reserve(&mut self, alloc: Global, touched: Pool) -> Result<Taken, NoMemory>
+    fn reserve(
+        &mut self,
+        alloc: Global,
+        touched: Pool,
+        closed: ClosedRows,
+        pipe: Option<u32>,
+    ) -> Result<Taken, NoMemory>
         requires placed { ArePlaced (stored_state self.old.store) }
         requires numbers { HasNumbersLeft (stored_state self.old.store) }
         ensures state { stored_state self.new.store ≡ stored_state self.old.store }
@@ -58,6 +69,7 @@ impl Parts {
         ensures room { OnOk result (HasRoom self.new.store touched) }
         ensures references { OnOk result (HasWholeStep self.new.store) }
         ensures ready { IfOk result (λ taken. IsReady self.new taken) }
+        ensures told { IfOk result (λ taken. (taken.closed ≡ closed) × (taken.pipe ≡ pipe)) }
     {
         self.store.start_step()?;
         self.store.reserve(touched)?;
@@ -65,12 +77,15 @@ impl Parts {
         self.fallen.clear();
         self.fallen
             .reserve(self.store.doors().notice_doors().len())?;
+        self.rooms.reserve(self.store.association_count() + 1)?;
         self.store.notices();
         let woken = Room::with_room(alloc, self.store.processes().thread_count() as usize)?;
         Ok(Taken {
             were: self.store.runnable(),
             woken,
             fallen: mem::replace(&mut self.fallen, Room::new(alloc)),
+            closed,
+            pipe,
         })
     }
 
@@ -111,8 +126,13 @@ impl Parts {
             were,
             woken,
             mut fallen,
+            closed,
+            pipe,
         } = taken;
+        self.rooms.gone.clear();
+        self.store.gone(&mut self.rooms.gone);
         settle(&mut self.store, &mut fallen, touched, parked, first);
+        self.store.tell(&closed, pipe, &mut self.rooms);
         let stepped = self.end_event(were, woken, answer);
         self.fallen = fallen;
         stepped
@@ -134,7 +154,9 @@ impl Parts {
         let p = self.store.processes().process_of(t);
         let needs = needs_of(&self.store, t, p, &request);
         let objects = Room::with_room(alloc, needs.passed)?;
-        let taken = self.reserve(alloc, needs.touched)?;
+        let closed = closed_by(&self.store, alloc, t, p, &request)?;
+        let pipe = pipe_readied(&self.store, p, &request);
+        let taken = self.reserve(alloc, needs.touched, closed, pipe)?;
         let mut parked = ThreadSet::new();
         let answer = enter(&mut self.store, alloc, t, p, request, objects, &mut parked)?;
         let first = made_first(&answer, needs.first);
@@ -157,7 +179,7 @@ impl Parts {
         let ending = ending_of(self.store.processes().state(t));
         let fds = Room::with_room(alloc, count_at_end(&self.store, t, ending))?;
         let found = room_to_find(alloc, count_found(&self.store, ending))?;
-        let taken = self.reserve(alloc, touched)?;
+        let taken = self.reserve(alloc, touched, ClosedRows::Nothing, None)?;
         let answer = go_on(&mut self.store, alloc, t, p, ending, fds, found);
         Ok(self.finish(taken, touched, ThreadSet::new(), None, answer))
     }

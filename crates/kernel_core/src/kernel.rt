@@ -23,6 +23,7 @@ use dk_base::number::{Pid, Tid};
 use dk_base::request::Request;
 use kernel_records::record::ThreadState;
 use kernel_store::store::Store;
+use kernel_store::told::TellingRooms;
 use std::alloc::Global;
 use std::marker::Model;
 
@@ -53,6 +54,7 @@ impl Kernel {
         let parts = Parts {
             store,
             fallen: Room::new(alloc),
+            rooms: TellingRooms::new(alloc),
         };
         Ok(Kernel { alloc, parts })
     }

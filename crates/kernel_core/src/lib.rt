@@ -3,6 +3,7 @@
 #![tactic(auto)]
 
 mod acts;
+mod associations;
 mod binding;
 mod descriptors;
 mod doors;
@@ -13,4 +14,6 @@ mod leaving;
 mod notices;
 mod pipes;
 mod ports;
+mod tasks;
+mod telling;
 mod turns;

@@ -3,7 +3,7 @@
 ghost use Rattle.std.specs.Prelude.{◌≡◌, ◌≤◌, ℕ, ◌∷◌, [], List, length, true};
 ghost use Rattle.std.specs.Option.{option_map};
 ghost use Rattle.written_kernel.specs.Types.{Pool};
-ghost use Rattle.written_kernel.specs.Words.{State, give, has_first_common_door, make_notices, now, pool_of, settle};
+ghost use Rattle.written_kernel.specs.Words.{State, give, has_first_common_door, make_notices, now, pool_of, settle_pools};
 ghost use Rattle.pool_agreement.specs.Words.{is_this};
 ghost use Rattle.thread_set.specs.declared.set.ThreadSet.{ThreadSet};
 ghost use Rattle.kernel_store.specs.Words.{CanMake, CanSettle, IsAtRest, IsInEvent, NothingAfter, StoreValue, serves_any, stored_state};
@@ -62,9 +62,9 @@ fn make_notices(store: &mut Store, fallen: &mut Room<u32>)
     make_all(store, fallen.slice());
 }
 
-/// What follows the act of an event that touched this pool, and by which these threads `parked` again, since their callers left. `first`
-/// is the process whose first common door the act made. The pools of the doors that fell to one reference may have an idle thread for a
-/// notice.
+/// What follows the act of an event but that ports are told. The act touched this pool, and by it these threads `parked` again, since
+/// their callers left. `first` is the process whose first common door it made. The pools of the doors that fell to one reference may have
+/// an idle thread for a notice.
 pub fn settle(
     store: &mut Store,
     fallen: &mut Room<u32>,
@@ -75,7 +75,7 @@ pub fn settle(
     requires within { IsInEvent store.old }
     requires room { (before : StoreValue) × HadRoomForNotices before store.old × (length (watched (stored_state before)) ≤ fallen.old.spare) }
     requires can_settle { CanSettle touched parked [] store.old }
-    ensures state { (before : State) → BeganIn before store.old → ((p : ℕ) → has_first_common_door before (give (stored_state store.old)) p ≡ is_this p (option_map (λ p. p.0) first)) → stored_state store.new ≡ settle before (stored_state store.old) }
+    ensures state { (before : State) → BeganIn before store.old → ((p : ℕ) → has_first_common_door before (give (stored_state store.old)) p ≡ is_this p (option_map (λ p. p.0) first)) → stored_state store.new ≡ settle_pools before (stored_state store.old) }
     ensures few { (before : State) → BeganIn before store.old → length (fallen_in before (stored_state store.old)) ≤ STEP_MAX }
     ensures rest { IsAtRest (now (stored_state store.old)) store.new }
 {

@@ -16,7 +16,7 @@ use kernel_store::store::Store;
 use std::alloc::Global;
 
 /// The number of the pipe whose end a descriptor names, 0 for none.
-fn pipe_at(store: &Store, p: Pid, fd: Fd) -> u32
+pub fn pipe_at(store: &Store, p: Pid, fd: Fd) -> u32
     ensures { result ≡ pipe_at (stored_state store.now) p.0 fd }
 {
     match store.object_at(p, fd) {

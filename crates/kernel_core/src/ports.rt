@@ -9,8 +9,7 @@ ghost use Rattle.kernel_core.specs.Entries.{entry_about};
 ghost use Rattle.kernel_core.specs.Finding.{CanEndGetting, CanSendEach, HasRoomToFind};
 ghost use Rattle.kernel_core.specs.Handed.{events_at_end};
 ghost use Rattle.kernel_core.specs.Numbers.{HasNumbersLeft};
-ghost use Rattle.event_port.specs.Words.{KeepsRoomButOne};
-ghost use Rattle.kernel_store.specs.Words.{HasRoomForEvents, HasRoomForReferences, IsActive, IsRoomFor, KeepsPools, stored_state};
+ghost use Rattle.kernel_store.specs.Words.{HasRoomForEvents, HasRoomForReferences, IsActive, IsRoomFor, KeepsPools, KeepsRoomForEventsButOne, stored_state};
 
 use crate::acts::Ending;
 use dk_base::answer::Answer;
@@ -41,7 +40,7 @@ pub fn room_to_find(alloc: Global, n: usize) -> Result<Found, NoMemory>
 }
 
 /// The number of the port that a descriptor names, 0 for none.
-fn port_at(store: &Store, p: Pid, fd: Fd) -> u32
+pub fn port_at(store: &Store, p: Pid, fd: Fd) -> u32
     ensures { result ≡ port_at (stored_state store.now) p.0 fd }
 {
     match store.object_at(p, fd) {
@@ -51,7 +50,7 @@ fn port_at(store: &Store, p: Pid, fd: Fd) -> u32
 }
 
 /// The port that a descriptor names: EBADF where it is not open, EBADFD where it names no port.
-fn named_port(store: &Store, p: Pid, fd: Fd) -> Result<u32, Errno>
+pub fn named_port(store: &Store, p: Pid, fd: Fd) -> Result<u32, Errno>
     ensures ok { IfOk result (λ q. object_at (stored_state store.now) p.0 fd ≡ Some (obj.Port q)) }
     ensures err { IfErr result (λ e. (others : List Test) → first_refusal (port_tests (object_at (stored_state store.now) p.0 fd) ++ others) ≡ Some e) }
 {
@@ -290,7 +289,7 @@ fn send_one(store: &mut Store, p: Pid, fd: Fd, events: u32, user: u64) -> Option
     requires { HasRoomForEvents store.old (port_at (stored_state store.old) p.0 fd) 1 }
     ensures error { result ≡ sending_error (stored_state store.old).channels.ports (object_at (stored_state store.old) p.0 fd) }
     ensures state { stored_state store.new ≡ with_ports (stored_state store.old) (after_sending (stored_state store.old).channels.ports (object_at (stored_state store.old) p.0 fd) events user) }
-    ensures rooms { KeepsRoomButOne store.old.ports.rooms store.new.ports.rooms }
+    ensures rooms { KeepsRoomForEventsButOne store.old store.new }
     ensures keeps { KeepsPools store.old store.new }
 {
     match named_port(store, p, fd) {

@@ -1,9 +1,8 @@
-use Rattle.std.proofs.Common.{ap, sym, ◌∙◌}
-use Rattle.written_kernel.specs.Words.{State, fail_returns, give_and_start, tell}
+use Rattle.std.proofs.Common.{ap, ◌∙◌}
+use Rattle.written_kernel.specs.Words.{State, fail_returns, give_and_start}
 use Rattle.written_kernel.proofs.Notices.{doors-make_notices}
 use Rattle.kernel_store.specs.Words.{stored_state}
 use Rattle.kernel_core.proofs.Steps.{first_made}
-use Rattle.kernel_core.proofs.Telling.{tells_none}
 use Rattle.kernel_core.proofs.notices.settle.Goals as goal
 
 pub settle-requires : goal.settle-requires
@@ -15,7 +14,5 @@ returns-clause-state c =
     let n = stored_state c.args.store.now in
     let made = c.make_notices.ensures.state before were in
     let doors = ap (λ (k : State). k.doors) made ∙ doors-make_notices before n in
-    sym (tells_none c.settle.new.self)
-    ∙ ap tell
-    (c.settle.ensures.state before (λ p. first_made before (stored_state c.make_notices.new.store) n doors p ∙ first p)
-    ∙ ap (λ k. give_and_start before (fail_returns k)) made)
+    c.settle.ensures.state before (λ p. first_made before (stored_state c.make_notices.new.store) n doors p ∙ first p)
+    ∙ ap (λ k. give_and_start before (fail_returns k)) made

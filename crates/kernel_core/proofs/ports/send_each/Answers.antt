@@ -41,7 +41,7 @@ loop-fd-preserved c =
           ∙ h.told;
       room =
           All-weaker (λ (x : Fd). HasRoomForEvents old (port_at m p x) (length fds - i)) (λ (x : Fd). HasRoomForEvents new (port_at m p x) (length fds - (i + 1)))
-          (λ x k. room_for_rest old.ports.rooms new.ports.rooms (port_at m p x) (length fds) i (omega arith) e.rooms k) fds h.room;
+          (λ x k. room_for_rest old new (port_at m p x) (length fds) i (omega arith) e.rooms k) fds h.room;
       spare = omega (arith, h.spare, c.push.ensures.spare);
       keeps = keeps_then c.args.store.now old new h.keeps e.keeps;
     }
@@ -55,7 +55,7 @@ send_one-requires c =
     let h = c.loop-fd.invariant in
     let room = h.room i (record { 0 = 0 }) (omega arith) in
     subst (λ (k : State). HasRoomForEvents c.loop-fd.store (port_at k c.args.p.0 fd) 1) (sym h.state)
-    (room_for_fewer c.loop-fd.store.ports.rooms (port_at m c.args.p.0 fd) (length fds - i) 1 (omega arith) room)
+    (room_for_fewer c.loop-fd.store (port_at m c.args.p.0 fd) (length fds - i) 1 (omega arith) room)
 
 pub returns-clause-state : goal.returns-clause-state
 returns-clause-state c =

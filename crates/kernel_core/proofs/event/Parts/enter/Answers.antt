@@ -1,7 +1,7 @@
 use Rattle.std.proofs.Common.{Some, rules}
 use Rattle.kernel_store.specs.Words.{stored_state}
 use Rattle.kernel_core.proofs.CanSettle.{settles_entry}
-use Rattle.kernel_core.proofs.Finishing.{entry_acted}
+use Rattle.kernel_core.proofs.Finishing.{entry_acted, pipe_taken, rows_taken}
 use Rattle.kernel_core.proofs.event.Parts.enter.Goals as goal
 
 pub finish-requires-clause-acted : goal.finish-requires-clause-acted
@@ -13,7 +13,7 @@ finish-requires-clause-acted c = (
   entry_acted c.args.self.now c.reserve.new.self c.enter.new.store c.args.t.0 c.process_of-p.result.0 c.args.request c.in_ok-taken.taken
       c.in_ok-answer.answer _ _ c.requires.can_step c.requires.noticing c.requires.turning c.reserve.ensures.state c.in_ok-taken.ensures.ready
       (search rules) c.in_ok-answer.ensures.state c.in_ok-answer.ensures.answer c.needs_of-needs.ensures.first c.made_first-first.ensures
-      c.in_ok-answer.ensures.keeps,
+      c.in_ok-answer.ensures.keeps (rows_taken c.in_ok-taken.ensures.told.0 c.in_ok-closed.ensures) (pipe_taken c.in_ok-taken.ensures.told.1 c.pipe_readied-pipe.ensures),
 )
 
 pub returns-clause-step : goal.returns-clause-step
@@ -22,7 +22,7 @@ returns-clause-step c =
     (entry_acted c.args.self.now c.reserve.new.self c.enter.new.store c.args.t.0 c.process_of-p.result.0 c.args.request c.in_ok-taken.taken
     c.in_ok-answer.answer _ _ c.requires.can_step c.requires.noticing c.requires.turning c.reserve.ensures.state c.in_ok-taken.ensures.ready
     (search rules) c.in_ok-answer.ensures.state c.in_ok-answer.ensures.answer c.needs_of-needs.ensures.first c.made_first-first.ensures
-    c.in_ok-answer.ensures.keeps)
+    c.in_ok-answer.ensures.keeps (rows_taken c.in_ok-taken.ensures.told.0 c.in_ok-closed.ensures) (pipe_taken c.in_ok-taken.ensures.told.1 c.pipe_readied-pipe.ensures))
 
 pub returns-clause-made : goal.returns-clause-made
 returns-clause-made c =
@@ -30,7 +30,7 @@ returns-clause-made c =
     (entry_acted c.args.self.now c.reserve.new.self c.enter.new.store c.args.t.0 c.process_of-p.result.0 c.args.request c.in_ok-taken.taken
     c.in_ok-answer.answer _ _ c.requires.can_step c.requires.noticing c.requires.turning c.reserve.ensures.state c.in_ok-taken.ensures.ready
     (search rules) c.in_ok-answer.ensures.state c.in_ok-answer.ensures.answer c.needs_of-needs.ensures.first c.made_first-first.ensures
-    c.in_ok-answer.ensures.keeps)
+    c.in_ok-answer.ensures.keeps (rows_taken c.in_ok-taken.ensures.told.0 c.in_ok-closed.ensures) (pipe_taken c.in_ok-taken.ensures.told.1 c.pipe_readied-pipe.ensures))
 
 pub finish-requires-clause-can_settle : goal.finish-requires-clause-can_settle
 finish-requires-clause-can_settle c =
@@ -39,7 +39,7 @@ finish-requires-clause-can_settle c =
     entry_acted c.args.self.now c.reserve.new.self c.enter.new.store c.args.t.0 c.process_of-p.result.0 c.args.request c.in_ok-taken.taken
     c.in_ok-answer.answer _ _ can c.requires.noticing c.requires.turning c.reserve.ensures.state c.in_ok-taken.ensures.ready
     (search rules) c.in_ok-answer.ensures.state c.in_ok-answer.ensures.answer c.needs_of-needs.ensures.first c.made_first-first.ensures
-    c.in_ok-answer.ensures.keeps in
+    c.in_ok-answer.ensures.keeps (rows_taken c.in_ok-taken.ensures.told.0 c.in_ok-closed.ensures) (pipe_taken c.in_ok-taken.ensures.told.1 c.pipe_readied-pipe.ensures) in
     settles_entry (stored_state c.args.self.now.store) c.reserve.new.self.store c.enter.new.store c.args.t.0 c.needs_of-needs.result.touched c.enter.new.parked can.placed
     can.none_lost c.reserve.ensures.state (c.reserve.ensures.rest can.between).given_out c.args.request c.needs_of-needs.ensures.touched acted.acted
     c.requires.none_lost c.in_ok-answer.ensures.others c.in_ok-answer.ensures.parked

@@ -1,8 +1,8 @@
-use Rattle.std.proofs.Common.{ℕ, ◌≡◌, ◌≤◌, ap, arith, length, rules, ◌∙◌}
+use Rattle.std.proofs.Common.{ℕ, ◌≡◌, ◌+◌, ◌≤◌, ap, arith, length, rules, subst, ◌∙◌}
 use Rattle.std.proofs.lemmas.List.Sums.{count_by-le-length, length-filter}
 use Rattle.dk_base.specs.Words.{RoomValue}
 use Rattle.kernel_records.specs.Words.{notice_doors}
-use Rattle.kernel_store.specs.Words.{stored_state}
+use Rattle.kernel_store.specs.Words.{HasRoomToTell, stored_state}
 use Rattle.kernel_core.specs.Watched.{is_watched, watched}
 use Rattle.written_kernel.specs.Words.{State}
 use Rattle.kernel_core.proofs.Finishing.{rest_reserved, rest_started}
@@ -16,6 +16,12 @@ returns-in_err-reserve_notices-clause-rest c = λ h.
 
 pub returns-in_err-reserve-2-clause-rest : goal.returns-in_err-reserve-2-clause-rest
 returns-in_err-reserve-2-clause-rest c = λ h.
+    rest_reserved c.reserve_notices.ensures.state c.reserve_notices.ensures.keeps
+    (rest_reserved c.reserve.ensures.state c.reserve.ensures.keeps
+    (rest_started c.args.self.now.store c.start_step.new.self c.start_step.ensures.same h))
+
+pub returns-in_err-reserve-3-clause-rest : goal.returns-in_err-reserve-3-clause-rest
+returns-in_err-reserve-3-clause-rest c = λ h.
     rest_reserved c.reserve_notices.ensures.state c.reserve_notices.ensures.keeps
     (rest_reserved c.reserve.ensures.state c.reserve.ensures.keeps
     (rest_started c.args.self.now.store c.start_step.new.self c.start_step.ensures.same h))
@@ -49,6 +55,7 @@ returns-clause-ready c =
       notices = c.in_ok-reserve_notices.ensures.room;
       opened = search rules;
       agreed = search rules;
+      rooms = subst (λ k. HasRoomToTell c.reserve-3.new.self (k + 1)) c.association_count.ensures.len c.in_ok-reserve-3.ensures;
     }
 
 pub reserve_notices-requires : goal.reserve_notices-requires
