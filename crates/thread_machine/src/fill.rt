@@ -20,5 +20,7 @@ pub fn fill<T: Copy + Drop>(room: &mut Room<T>, items: &[T])
     ensures spare { length room.old.items + room.old.spare ≤ length room.new.items + room.new.spare }
 {
     room.clear();
-    room.append(items);
+    if !items.is_empty() {
+        room.append(items);
+    }
 }

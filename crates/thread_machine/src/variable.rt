@@ -86,7 +86,10 @@ impl Variable {
         ensures name { self.new.name ≡ name.now }
         ensures value { self.new.value ≡ visible_value (with_both bytes.now descriptors.now) }
     {
-        fill(&mut self.name, name);
+        // frames that begin again set the same variables in the same order
+        if self.name() != name {
+            fill(&mut self.name, name);
+        }
         fill(&mut self.bytes, first_items(bytes, greatest_data()));
         fill(
             &mut self.descriptors,
