@@ -4,20 +4,22 @@ ghost use Rattle.std.specs.Prelude.{◌≡◌, ◌++◌, flat_map, decimal, OnOk
 ghost use Rattle.script_line.specs.Words.{value_word};
 ghost use Rattle.script_requests.specs.Words.{answer_text, entered_text, event_text, fds_text, grown_text, info_text, invocation_text, made_text, notice_text, results_text, source_text, spaced_error, spaced_event, spaced_fd, target_text};
 
-use super::append::{push_counted, push_number, push_word};
+use super::append::{
+    push_counted, push_number, push_space, push_spaced, push_spaced_number, push_word,
+};
 use super::attributes::push_attributes;
 use super::data_text::push_data;
 use dk_base::answer::{Answer, DoorInfo};
 use dk_base::error::{Errno, NoMemory};
+use dk_base::list::Bytes;
 use dk_base::number::{Fd, Pid};
 use dk_base::object::{EventRec, Src};
 use dk_base::set::PollSet;
 use script_lang::script::Script;
 use script_line::sets::poll_word;
-use script_text::writer::Writer;
 use std::alloc::Global;
 
-fn push_fds(text: &mut Writer, fds: &[Fd]) -> Result<(), NoMemory>
+fn push_fds(text: &mut Bytes, fds: &[Fd]) -> Result<(), NoMemory>
     ensures { OnOk result (text.new ≡ text.old ++ fds_text fds.now) }
 {
     if fds.is_empty() {
@@ -27,16 +29,16 @@ fn push_fds(text: &mut Writer, fds: &[Fd]) -> Result<(), NoMemory>
     push_each_fd(text, fds)
 }
 
-fn push_each_fd(text: &mut Writer, fds: &[Fd]) -> Result<(), NoMemory>
+fn push_each_fd(text: &mut Bytes, fds: &[Fd]) -> Result<(), NoMemory>
     ensures { OnOk result (text.new ≡ text.old ++ flat_map spaced_fd fds.now) }
 {
     for fd in fds {
-        push_counted(text, " ", u64::from(fd.0))?;
+        push_spaced_number(text, u64::from(fd.0))?;
     }
     Ok(())
 }
 
-fn push_value(text: &mut Writer, value: u64) -> Result<(), NoMemory>
+fn push_value(text: &mut Bytes, value: u64) -> Result<(), NoMemory>
     ensures { OnOk result (text.new ≡ text.old ++ value_word value) }
 {
     if value == u64::MAX {
@@ -46,7 +48,7 @@ fn push_value(text: &mut Writer, value: u64) -> Result<(), NoMemory>
     }
 }
 
-fn push_target(text: &mut Writer, target: Option<Pid>) -> Result<(), NoMemory>
+fn push_target(text: &mut Bytes, target: Option<Pid>) -> Result<(), NoMemory>
     ensures { OnOk result (text.new ≡ text.old ++ target_text target) }
 {
     match target {
@@ -56,18 +58,18 @@ fn push_target(text: &mut Writer, target: Option<Pid>) -> Result<(), NoMemory>
 }
 
 /// Whose door it is, and what it was made with.
-fn push_made(text: &mut Writer, script: &Script, info: &DoorInfo) -> Result<(), NoMemory>
+fn push_made(text: &mut Bytes, script: &Script, info: &DoorInfo) -> Result<(), NoMemory>
     ensures { OnOk result (text.new ≡ text.old ++ made_text script.now info.now) }
 {
     push_word(text, "ok target ")?;
     push_target(text, info.target)?;
     push_word(text, " proc")?;
-    text.word(script.name_of_procedure(info.entry))?;
+    push_spaced(text, script.name_of_procedure(info.entry))?;
     push_counted(text, " cookie ", info.cookie)
 }
 
 /// What door_info(3C) tells.
-fn push_info(text: &mut Writer, script: &Script, info: &DoorInfo) -> Result<(), NoMemory>
+fn push_info(text: &mut Bytes, script: &Script, info: &DoorInfo) -> Result<(), NoMemory>
     ensures { OnOk result (text.new ≡ text.old ++ info_text script.now info.now) }
 {
     push_made(text, script, info)?;
@@ -76,7 +78,7 @@ fn push_info(text: &mut Writer, script: &Script, info: &DoorInfo) -> Result<(), 
     push_counted(text, " unique ", info.unique)
 }
 
-fn push_source(text: &mut Writer, event: EventRec) -> Result<(), NoMemory>
+fn push_source(text: &mut Bytes, event: EventRec) -> Result<(), NoMemory>
     ensures { OnOk result (text.new ≡ text.old ++ source_text event.source event) }
 {
     match event.source {
@@ -90,33 +92,33 @@ fn push_source(text: &mut Writer, event: EventRec) -> Result<(), NoMemory>
     }
 }
 
-fn push_event(text: &mut Writer, event: EventRec) -> Result<(), NoMemory>
+fn push_event(text: &mut Bytes, event: EventRec) -> Result<(), NoMemory>
     ensures { OnOk result (text.new ≡ text.old ++ event_text event) }
 {
     push_source(text, event)?;
     push_counted(text, ":", event.user)
 }
 
-fn push_events(text: &mut Writer, events: &[EventRec]) -> Result<(), NoMemory>
+fn push_events(text: &mut Bytes, events: &[EventRec]) -> Result<(), NoMemory>
     ensures { OnOk result (text.new ≡ text.old ++ flat_map spaced_event events.now) }
 {
     for event in events {
-        push_word(text, " ")?;
+        push_space(text)?;
         push_event(text, *event)?;
     }
     Ok(())
 }
 
-fn push_error(text: &mut Writer, error: Option<Errno>) -> Result<(), NoMemory>
+fn push_error(text: &mut Bytes, error: Option<Errno>) -> Result<(), NoMemory>
     ensures { OnOk result (text.new ≡ text.old ++ spaced_error error) }
 {
     match error {
-        Some(errno) => text.word(errno.name().as_bytes()),
+        Some(errno) => push_spaced(text, errno.name().as_bytes()),
         None => push_word(text, " ok"),
     }
 }
 
-fn push_errors(text: &mut Writer, errors: &[Option<Errno>]) -> Result<(), NoMemory>
+fn push_errors(text: &mut Bytes, errors: &[Option<Errno>]) -> Result<(), NoMemory>
     ensures { OnOk result (text.new ≡ text.old ++ flat_map spaced_error errors.now) }
 {
     for error in errors {
@@ -127,7 +129,7 @@ fn push_errors(text: &mut Writer, errors: &[Option<Errno>]) -> Result<(), NoMemo
 
 /// How an invocation begins; `item` is the letter of what it serves.
 fn push_invocation(
-    text: &mut Writer,
+    text: &mut Bytes,
     script: &Script,
     item: &str,
     number: u32,
@@ -138,13 +140,13 @@ fn push_invocation(
 {
     push_word(text, "enter ")?;
     push_counted(text, item, u64::from(number))?;
-    text.word(script.name_of_procedure(entry))?;
-    push_counted(text, " ", cookie)
+    push_spaced(text, script.name_of_procedure(entry))?;
+    push_spaced_number(text, cookie)
 }
 
 fn push_entered(
     alloc: Global,
-    text: &mut Writer,
+    text: &mut Bytes,
     script: &Script,
     call: u32,
     entry: u32,
@@ -155,13 +157,13 @@ fn push_entered(
     ensures { OnOk result (text.new ≡ text.old ++ entered_text script.now call entry cookie bytes.now fds.now) }
 {
     push_invocation(text, script, "c", call, entry, cookie)?;
-    push_word(text, " ")?;
+    push_space(text)?;
     push_data(alloc, text, bytes)?;
     push_fds(text, fds)
 }
 
 fn push_notice(
-    text: &mut Writer,
+    text: &mut Bytes,
     script: &Script,
     notice: u32,
     entry: u32,
@@ -173,7 +175,7 @@ fn push_notice(
     push_word(text, " unref")
 }
 
-fn push_grown(text: &mut Writer, grown: bool) -> Result<(), NoMemory>
+fn push_grown(text: &mut Bytes, grown: bool) -> Result<(), NoMemory>
     ensures { OnOk result (text.new ≡ text.old ++ grown_text grown) }
 {
     if grown {
@@ -184,7 +186,7 @@ fn push_grown(text: &mut Writer, grown: bool) -> Result<(), NoMemory>
 
 fn push_results(
     alloc: Global,
-    text: &mut Writer,
+    text: &mut Bytes,
     bytes: &[u8],
     fds: &[Fd],
     grown: bool,
@@ -199,7 +201,7 @@ fn push_results(
 
 pub fn push_answer(
     alloc: Global,
-    text: &mut Writer,
+    text: &mut Bytes,
     script: &Script,
     answer: &Answer,
 ) -> Result<(), NoMemory>
@@ -212,7 +214,7 @@ pub fn push_answer(
         Answer::NewFd { fd } => push_counted(text, "ok fd ", u64::from(fd.0)),
         Answer::TwoFds { read, write } => {
             push_counted(text, "ok fd ", u64::from(read.0))?;
-            push_counted(text, " ", u64::from(write.0))
+            push_spaced_number(text, u64::from(write.0))
         }
         Answer::Count { n } | Answer::Available { n } => push_counted(text, "ok ", u64::from(*n)),
         Answer::Param { value } => {

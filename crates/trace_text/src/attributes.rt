@@ -6,12 +6,12 @@ ghost use Rattle.script_requests.specs.Words.{attributes_text, plus_joined_words
 
 use super::append::push_word;
 use dk_base::error::NoMemory;
+use dk_base::list::Bytes;
 use dk_base::set::Attrs;
 use script_line::sets::{ATTRIBUTES, attribute_word};
-use script_text::writer::Writer;
 
 /// With a `+` before it unless it is the first.
-fn push_joined(text: &mut Writer, word: &str, first: bool) -> Result<(), NoMemory>
+fn push_joined(text: &mut Bytes, word: &str, first: bool) -> Result<(), NoMemory>
     ensures { OnOk result (text.new ≡ text.old ++ (if first then word.now else 43 ∷ word.now)) }
 {
     if !first {
@@ -20,7 +20,7 @@ fn push_joined(text: &mut Writer, word: &str, first: bool) -> Result<(), NoMemor
     push_word(text, word)
 }
 
-fn push_set(text: &mut Writer, set: u32) -> Result<(), NoMemory>
+fn push_set(text: &mut Bytes, set: u32) -> Result<(), NoMemory>
     ensures { OnOk result (text.new ≡ text.old ++ plus_joined_words (flat_map (attribute_if set) (bits_of_flags attribute_flags))) }
 {
     let mut first = true;
@@ -38,7 +38,7 @@ fn push_set(text: &mut Writer, set: u32) -> Result<(), NoMemory>
 
 /// Joined by `+`, or `none`.
 #[tactic(auto, using(script_line::proofs::FlagsOfSet::attribute_words_put))]
-pub fn push_attributes(text: &mut Writer, attributes: Attrs) -> Result<(), NoMemory>
+pub fn push_attributes(text: &mut Bytes, attributes: Attrs) -> Result<(), NoMemory>
     ensures { OnOk result (text.new ≡ text.old ++ attributes_text attributes) }
 {
     push_set(text, attributes.0)

@@ -3,18 +3,18 @@
 ghost use Rattle.std.specs.Prelude.{◌≡◌, ◌++◌, Some, flat_map, OnOk};
 ghost use Rattle.script_requests.specs.Words.{end_line_of, ending_word, refused_line_of, spaced_name, tail_text, waiting_text};
 
-use super::append::{push_counted, push_word};
+use super::append::{push_counted, push_line_end, push_spaced, push_spaced_number, push_word};
 use dk_base::error::NoMemory;
+use dk_base::list::Bytes;
 use dk_base::number::Tid;
 use script_lang::script::Script;
 use script_requests::ending::Ending;
-use script_text::writer::Writer;
 
-fn push_names(text: &mut Writer, script: &Script, threads: &[Tid]) -> Result<(), NoMemory>
+fn push_names(text: &mut Bytes, script: &Script, threads: &[Tid]) -> Result<(), NoMemory>
     ensures { OnOk result (text.new ≡ text.old ++ flat_map (spaced_name script.now) threads.now) }
 {
     for thread in threads {
-        text.word(script.name_of_thread(*thread))?;
+        push_spaced(text, script.name_of_thread(*thread))?;
     }
     Ok(())
 }
@@ -31,7 +31,7 @@ fn word_of_ending(ending: Ending) -> &'static str
 
 /// The threads that wait, of which a stalled run tells.
 fn push_waiting(
-    text: &mut Writer,
+    text: &mut Bytes,
     script: &Script,
     ending: Ending,
     waiting: &[Tid],
@@ -47,7 +47,7 @@ fn push_waiting(
 /// Adds the end line of a run of `count` events. `waiting` are the threads that wait, of which a stalled run tells.
 #[tactic(auto, unfolding(script_requests::specs::TraceText::end_line_of))]
 pub fn push_end_line(
-    text: &mut Writer,
+    text: &mut Bytes,
     script: &Script,
     ending: Ending,
     count: u64,
@@ -57,14 +57,14 @@ pub fn push_end_line(
 {
     push_word(text, "end ")?;
     push_word(text, word_of_ending(ending))?;
-    push_counted(text, " ", count)?;
+    push_spaced_number(text, count)?;
     push_waiting(text, script, ending, waiting)
 }
 
 /// Adds the line that tells of a schedule's turn, counted from 1, that its thread could not take.
 #[tactic(auto, unfolding(script_requests::specs::TraceText::refused_line_of))]
 pub fn push_refused_line(
-    text: &mut Writer,
+    text: &mut Bytes,
     script: &Script,
     turn: u32,
     thread: Tid,
@@ -72,13 +72,13 @@ pub fn push_refused_line(
     ensures { OnOk result (text.new ≡ text.old ++ refused_line_of script.now turn thread) }
 {
     push_counted(text, "refused turn ", u64::from(turn))?;
-    text.word(script.name_of_thread(thread))
+    push_spaced(text, script.name_of_thread(thread))
 }
 
 /// Adds the line `tail N`.
-pub fn push_tail(text: &mut Writer, tail: u64) -> Result<(), NoMemory>
+pub fn push_tail(text: &mut Bytes, tail: u64) -> Result<(), NoMemory>
     ensures { OnOk result (text.new ≡ text.old ++ tail_text (Some tail)) }
 {
     push_counted(text, "tail ", tail)?;
-    text.end_line()
+    push_line_end(text)
 }

@@ -3,6 +3,7 @@
 ghost use Rattle.std.specs.Prelude.{◌≡◌, ◌++◌, Some, IfOk, OnOk};
 ghost use Rattle.script_requests.specs.Words.{end_line_of, line_of, refused_text, tail_text, trace_text};
 
+use super::append::push_line_end;
 use super::event_line::{push_line, push_lines};
 use super::last_line::{push_end_line, push_refused_line, push_tail};
 use dk_base::error::NoMemory;
@@ -11,7 +12,6 @@ use dk_base::list::{Bytes, TidList};
 use dk_base::number::Tid;
 use script_lang::script::Script;
 use script_requests::ending::Ending;
-use script_text::writer::Writer;
 use std::alloc::Global;
 
 /// The line of an event, `NUMBER THREAD ROOT WHAT ANSWER`, without a line feed. A number that is no thread's or no
@@ -19,9 +19,9 @@ use std::alloc::Global;
 pub fn line(alloc: Global, script: &Script, event: &Event) -> Result<Bytes, NoMemory>
     ensures { IfOk result (λ text. text ≡ line_of script.now event.now) }
 {
-    let mut text = Writer::new(alloc)?;
+    let mut text = Bytes::new(alloc);
     push_line(alloc, &mut text, script, event)?;
-    Ok(text.into_bytes())
+    Ok(text)
 }
 
 /// The end line of a run of `n` events, without a line feed. `waiting` are the threads that wait at the end, of which a
@@ -35,16 +35,16 @@ pub fn end_line(
 ) -> Result<Bytes, NoMemory>
     ensures { IfOk result (λ text. text ≡ end_line_of script.now ending n waiting.now) }
 {
-    let mut text = Writer::new(alloc)?;
+    let mut text = Bytes::new(alloc);
     push_end_line(&mut text, script, ending, u64::from(n), waiting.slice())?;
-    Ok(text.into_bytes())
+    Ok(text)
 }
 
 /// Adds the line of each event and the end line.
 #[tactic(auto, unfolding(script_requests::specs::TraceText::trace_text))]
 fn push_run(
     alloc: Global,
-    text: &mut Writer,
+    text: &mut Bytes,
     script: &Script,
     events: &[Event],
     ending: Ending,
@@ -54,7 +54,7 @@ fn push_run(
 {
     push_lines(alloc, text, script, events)?;
     push_end_line(text, script, ending, events.len() as u64, waiting.slice())?;
-    text.end_line()
+    push_line_end(text)
 }
 
 /// The text of a run with these events and this end; `waiting` are the threads that wait at the end, of which a stalled
@@ -68,9 +68,9 @@ pub fn text_of_run(
 ) -> Result<Bytes, NoMemory>
     ensures { IfOk result (λ text. text ≡ trace_text script.now events.now ending waiting.now) }
 {
-    let mut text = Writer::new(alloc)?;
+    let mut text = Bytes::new(alloc);
     push_run(alloc, &mut text, script, events, ending, waiting)?;
-    Ok(text.into_bytes())
+    Ok(text)
 }
 
 /// As `text_of_run`, with the line `tail N` after it, for any number.
@@ -84,10 +84,10 @@ pub fn text_with_tail(
 ) -> Result<Bytes, NoMemory>
     ensures { IfOk result (λ text. text ≡ trace_text script.now events.now ending waiting.now ++ tail_text (Some tail)) }
 {
-    let mut text = Writer::new(alloc)?;
+    let mut text = Bytes::new(alloc);
     push_run(alloc, &mut text, script, events, ending, waiting)?;
     push_tail(&mut text, tail)?;
-    Ok(text.into_bytes())
+    Ok(text)
 }
 
 /// The text of a run with these events before a schedule's turn, counted from 1, that its thread could not take.
@@ -101,9 +101,9 @@ pub fn text_before_refused(
 ) -> Result<Bytes, NoMemory>
     ensures { IfOk result (λ text. text ≡ refused_text script.now events.now turn thread) }
 {
-    let mut text = Writer::new(alloc)?;
+    let mut text = Bytes::new(alloc);
     push_lines(alloc, &mut text, script, events)?;
     push_refused_line(&mut text, script, turn, thread)?;
-    text.end_line()?;
-    Ok(text.into_bytes())
+    push_line_end(&mut text)?;
+    Ok(text)
 }
