@@ -96,8 +96,8 @@ const ANSWERS: [(&[&str], &str, usize, &str, Status); 19] = [
         &["play"],
         "doors script 1\nprocess a\nthread s\ndissociate 1 1\nend\n",
         0,
-        "bad line 0 later\n",
-        Status::Script,
+        "1 s s dissociate EBADF\n2 s s exit ok\nend complete 2\n",
+        Status::Complete,
     ),
     (
         &["play", "show"],
@@ -145,10 +145,10 @@ const ANSWERS: [(&[&str], &str, usize, &str, Status); 19] = [
     ),
     (
         &["run"],
-        "doors script 1\nprocess a\nthread s\ndissociate 1 1\nend\n",
+        "doors script 1\nprocess a\nthread s\nwork v upper \"ab\"\nend\n",
         0,
-        "bad line 0 later\n",
-        Status::Script,
+        "1 s s work wait\n2 s s done ok \"AB\"\n3 s s exit ok\nend complete 3\ntail 0\n",
+        Status::Complete,
     ),
     (
         &["run", "run"],

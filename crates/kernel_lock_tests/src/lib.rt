@@ -2,4 +2,6 @@
 #![tactic(auto)]
 
 #[cfg(test)]
+mod tasks;
+#[cfg(test)]
 mod tests;

@@ -25,10 +25,10 @@ const SECOND_CLIENT: Tid = Tid(4);
 /// How often a gate looks before it fails.
 const LOOKS: u32 = 200_000_000;
 
-/// Looks until a word is not 0. False where it never was.
-fn comes(word: &AtomicU64) -> bool {
+/// Looks until a word is so much or more. False where it never was.
+pub(crate) fn reaches(word: &AtomicU64, count: u64) -> bool {
     for _ in 0..LOOKS {
-        if word.load(Ordering::SeqCst) != 0 {
+        if word.load(Ordering::SeqCst) >= count {
             return true;
         }
     }
@@ -56,7 +56,7 @@ impl Meeting {
 
     /// Looks until the other has arrived, unless it once failed to come.
     fn wait(&self, word: &AtomicU64) {
-        if self.failed.load(Ordering::SeqCst) == 0 && !comes(word) {
+        if self.failed.load(Ordering::SeqCst) == 0 && !reaches(word, 1) {
             self.failed.store(1, Ordering::SeqCst);
         }
     }
@@ -113,7 +113,7 @@ fn are_own_turns(by: &[u64], events: &[Event], started: u32) -> bool {
 }
 
 /// Whether a run of so many threads ended so, and all its turns are counted.
-fn ends(ran: &Ran, ending: Ending, threads: usize, started: u32) -> bool {
+pub(crate) fn ends(ran: &Ran, ending: Ending, threads: usize, started: u32) -> bool {
     ran.sys.over()
         && ran.sys.ending() == ending
         && ran.by.len() == threads
@@ -121,7 +121,7 @@ fn ends(ran: &Ran, ending: Ending, threads: usize, started: u32) -> bool {
         && sum_of(ran.by.slice()).wrapping_add(ran.tail) == ran.sys.events() as u64
 }
 
-fn script_of(alloc: Global, text: &str) -> Option<Script>
+pub(crate) fn script_of(alloc: Global, text: &str) -> Option<Script>
     ensures { IfSome result (λ script. is_later_script script ≡ false) }
 {
     if text.len() >= 4_000_000_000 {

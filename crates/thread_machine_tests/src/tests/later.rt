@@ -1,12 +1,12 @@
-//! Which scripts need a later capability.
+//! No form of the language needs a capability that is not built.
 
 use script_lang::parse::parse;
 use std::alloc::Global;
 use std::test::Fail;
 use thread_machine::later::later;
 
-/// Lines of a thread that need no later capability, and lines that do.
-const BUILT_LINES: [&str; 54] = [
+/// Each command, with each attribute and each form that came with a capability of its own.
+const LINES: [&str; 62] = [
     "create d e 0",
     "attach 1 p",
     "open v p",
@@ -61,22 +61,6 @@ const BUILT_LINES: [&str; 54] = [
     "exit\npipe r w",
     "get 1 nowait",
     "alert 1 none 0 0",
-];
-
-/// Lines of a procedure, and a member, that need none either.
-const BUILT_SCRIPTS: [(&str, &str); 9] = [
-    ("call r 1 \"\" desc 1", ""),
-    ("bind 1\nunbind", ""),
-    ("serve", "spare s"),
-    ("exit", ""),
-    ("if ok\nexit\nend", "spare s"),
-    ("testcancel\nrevoke 1\nkill a\ninterrupt t", ""),
-    ("create d e 0 unref\nif unref\nserve\nend", "spare s"),
-    ("pcreate p", ""),
-    ("if ok\nget 1\nend\npipe r w", "spare s"),
-];
-
-const LATER_LINES: [&str; 8] = [
     "associate 1 1 in 1",
     "dissociate 1 1",
     "work v upper \"\"",
@@ -87,11 +71,20 @@ const LATER_LINES: [&str; 8] = [
     "exit\nwork v upper \"\"",
 ];
 
-/// Lines of a thread and of a procedure, and a member, of which one needs a later capability.
-const LATER_SCRIPTS: [(&str, &str, &str); 3] = [
-    ("serve", "dissociate 1 1", ""),
-    ("associate 1 1 in 1", "exit", "spare s"),
-    ("serve", "if ok\nwork v upper \"\"\nend", ""),
+/// Lines of a procedure, and a member.
+const PROCEDURES: [(&str, &str); 12] = [
+    ("call r 1 \"\" desc 1", ""),
+    ("bind 1\nunbind", ""),
+    ("serve", "spare s"),
+    ("exit", ""),
+    ("if ok\nexit\nend", "spare s"),
+    ("testcancel\nrevoke 1\nkill a\ninterrupt t", ""),
+    ("create d e 0 unref\nif unref\nserve\nend", "spare s"),
+    ("pcreate p", ""),
+    ("if ok\nget 1\nend\npipe r w", "spare s"),
+    ("dissociate 1 1", ""),
+    ("associate 1 1 in 1\nexit", "spare s"),
+    ("if ok\nwork v upper \"\"\nend", ""),
 ];
 
 fn is_later_text(alloc: Global, text: &str) -> Option<bool> {
@@ -116,23 +109,14 @@ fn is_later(alloc: Global, thread: &str, procedure: &str, member: &str) -> Optio
 }
 
 #[test]
-fn later_lines(rt: HostRuntime) -> Result<(), Fail> {
+fn no_line_is_later(rt: HostRuntime) -> Result<(), Fail> {
     let alloc = rt.alloc();
-    for line in BUILT_LINES {
+    for line in LINES {
         assert!(rt; is_later(alloc, line, "serve", "") == Some(false), "{line}");
     }
-    for line in LATER_LINES {
-        assert!(rt; is_later(alloc, line, "serve", "") == Some(true), "{line}");
-    }
-    for (procedure, member) in BUILT_SCRIPTS {
+    for (procedure, member) in PROCEDURES {
         assert!(rt;
             is_later(alloc, "serve", procedure, member) == Some(false),
-            "{procedure} {member}"
-        );
-    }
-    for (thread, procedure, member) in LATER_SCRIPTS {
-        assert!(rt;
-            is_later(alloc, thread, procedure, member) == Some(true),
             "{procedure} {member}"
         );
     }
