@@ -310,6 +310,12 @@ notice_runs() {
     hundred_runs notices_of_a_private_door_that_is_revoked
 }
 
+# Scripts in which associations fire, and are replaced and withdrawn, and threads compute.
+association_runs() {
+    hundred_runs three_writers_and_one_that_selects replaced_and_withdrawn_while_others_take last_writer_goes_in_many_ways
+    hundred_runs four_workers_behind_a_door
+}
+
 # A door that has 4000 notices before the first of them is accepted.
 many_notices() {
     {
@@ -637,6 +643,7 @@ for program in "$@"; do
     many_runs
     leaving_runs
     notice_runs
+    association_runs
     many_notices
     cut_chains
     refused_starts
