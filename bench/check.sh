@@ -4,11 +4,10 @@
 # time and date.
 #
 # The first line has a client that calls 16000 times. The second has as many events as a run may have, and the longest trace
-# of so many that the commands built so far can make: each call has 64 bytes, the most that a trace shows as a string, each
+# of so many that calls can make: each call has 64 bytes, the most that a trace shows as a string, each
 # of which is written as `\xHH`, and they stand in the `accept` line and in the `collect` line. All names have 16 bytes, the
 # cookie has 20 digits, and the results are more than there is room for. So the four events of a call have 194 bytes each in
-# the mean; the longest line of `info`, with all attributes that a door can have so far, has less than 150, and the lines of
-# other commands have less.
+# the mean. Other commands can make longer lines: a `getn` of 64 events has up to 2,700 bytes.
 #
 # usage: bench/check.sh [PROGRAM] [RUNS]
 set -eu
