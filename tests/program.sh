@@ -313,7 +313,7 @@ notice_runs() {
 # Scripts in which associations fire, and are replaced and withdrawn, and threads compute.
 association_runs() {
     hundred_runs three_writers_and_one_that_selects replaced_and_withdrawn_while_others_take last_writer_goes_in_many_ways
-    hundred_runs four_workers_behind_a_door
+    hundred_runs four_workers four_workers four_workers_behind_a_door
 }
 
 # A door that has 4000 notices before the first of them is accepted.
