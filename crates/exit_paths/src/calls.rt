@@ -1,9 +1,8 @@
 //! What becomes of calls, one after the other, and what leaves transit with them.
-ghost use Rattle.std.specs.Prelude.{◌≡◌, ℕ, ◌+◌, ◌≤◌, ◌==◌, ◌&&◌, [], Bool, List, IfOk, IsSome, find, false, if◌then◌else◌, length};
+ghost use Rattle.std.specs.Prelude.{◌≡◌, ℕ, ◌≤◌, Bool, List, IsSome, find, false, length};
 ghost use Rattle.dk_base.specs.declared.error.Errno.TheVariants.{EBADF};
 ghost use Rattle.kernel_records.specs.Words.{CallTree, ProcessTable, is_queued_as, leaving_of};
 ghost use Rattle.written_kernel.specs.Types.{Call, Obj};
-ghost use Rattle.written_kernel.specs.Words.{objects_in_call};
 ghost use Rattle.call_tree.specs.Words.{AreSound, abandon_call, calls_so_far, is_called_by, lose_server, refuse_call};
 ghost use Rattle.call_tree.specs.declared.parts.Leave.TheVariants.{Finished};
 ghost use Rattle.exit_paths.specs.Words.{AreRefused, DropsTransit, HaveEnded, all_left, in_transit, is_thread_of, refused_item};
@@ -13,50 +12,15 @@ use call_tree::calls::Calls;
 use call_tree::laws::parts_of_leaving;
 use call_tree::parts::Leave;
 use call_tree::stage::is_queued;
-use dk_base::error::{Errno, NoMemory};
+use dk_base::error::Errno;
 use dk_base::list::{ObjList, Room};
 use dk_base::number::{Pid, Tid};
 use dk_base::object::{Item, Obj};
 use door_object::doors::Doors;
 use kernel_records::leaving::Leaver;
-use kernel_records::record::{Call, CallStage};
 use proc_table::procs::Procs;
 use proc_table::walk::Walk;
 use std::alloc::Global;
-
-/// How many objects are in transit with a call.
-fn objects_in(call: &Call) -> usize
-    ensures { result ≡ length (objects_in_call call.now) }
-{
-    match &call.stage {
-        CallStage::Queued | CallStage::Given { .. } => call.objects.len(),
-        CallStage::Returned { objects, .. } => objects.len(),
-        _ => 0,
-    }
-}
-
-/// How many objects are in transit with calls, where the number can be told.
-fn count_transit(calls: &Calls) -> Result<usize, NoMemory>
-    ensures { IfOk result (λ n. n ≡ in_transit calls.now.tree.calls) }
-{
-    let mut total = 0usize;
-    for place in 0..calls.len() {
-        match total.checked_add(objects_in(calls.at_place(place))) {
-            Some(next) => total = next,
-            None => return Err(NoMemory),
-        }
-    }
-    Ok(total)
-}
-
-/// Room for all objects that are in transit.
-pub fn room_for_transit(alloc: Global, calls: &Calls) -> Result<Room<Obj>, NoMemory>
-    ensures empty { IfOk result (λ room. room.items ≡ []) }
-    ensures spare { IfOk result (λ room. in_transit calls.now.tree.calls ≤ room.spare) }
-{
-    let total = count_transit(calls)?;
-    Room::with_room(alloc, total)
-}
 
 /// The caller of a call leaves it, if it waits in one. What is no longer in transit is handed out.
 pub fn leave_call(alloc: Global, calls: &mut Calls, t: Tid, why: Leave) -> ObjList

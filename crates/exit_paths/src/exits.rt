@@ -1,10 +1,10 @@
 //! The four exit paths.
-ghost use Rattle.std.specs.Prelude.{◌≡◌, ℕ, IfOk, OnErr, is_some, true};
+ghost use Rattle.std.specs.Prelude.{◌≡◌, ◌≤◌, ℕ, IfOk, OnErr, is_some, true};
 ghost use Rattle.dk_base.specs.ByNumber.{at_number};
 ghost use Rattle.kernel_records.specs.Words.{interruption, process_end, revocation, thread_end};
-ghost use Rattle.exit_paths.specs.Words.{AreLost, CanExit, HasExited, IsAsBefore};
+ghost use Rattle.exit_paths.specs.Words.{AreLost, CanExit, HasExited, IsAsBefore, in_transit};
 
-use crate::calls::{end_all, end_caller, end_server, leave_call, refuse_lost, room_for_transit};
+use crate::calls::{end_all, end_caller, end_server, leave_call, refuse_lost};
 use crate::fates::{
     are_few, desert_server, deserted_by, end_thread, leave_threads, make_room, parked_of,
     room_for_server, touched_by, woken_of,
@@ -16,7 +16,7 @@ use call_tree::calls::Calls;
 use call_tree::laws::parts_of_leaving;
 use call_tree::parts::Leave;
 use dk_base::error::NoMemory;
-use dk_base::list::{ItemList, TidList};
+use dk_base::list::{ItemList, Room, TidList};
 use dk_base::number::{Pid, Tid};
 use door_object::doors::Doors;
 use kernel_records::leaving::Leaver;
@@ -65,7 +65,7 @@ pub fn interrupt(
 }
 
 /// A thread ends, and its process goes on: its call is forgotten, as for `interrupt` for the thread that serves it, and the call that it
-/// serves ends EINTR. Want of memory leaves all as it was.
+/// serves ends EINTR. At most `carried` objects are in transit with calls. Want of memory leaves all as it was.
 pub fn thread_exit(
     alloc: Global,
     procs: &mut Procs,
@@ -74,8 +74,10 @@ pub fn thread_exit(
     doors: &Doors,
     t: Tid,
     step: u64,
+    carried: usize,
 ) -> Result<Left, NoMemory>
-    requires { CanExit step doors.now.items (record { procs = procs.old; calls = calls.old; pools = pools.old }) }
+    requires can { CanExit step doors.now.items (record { procs = procs.old; calls = calls.old; pools = pools.old }) }
+    requires carried { in_transit calls.old.tree.calls ≤ carried }
     ensures left { IfOk result (HasExited (thread_end t.0) step doors.now.items (record { procs = procs.old; calls = calls.old; pools = pools.old }) (record { procs = procs.new; calls = calls.new; pools = pools.new })) }
     ensures as_before { OnErr result (IsAsBefore (record { procs = procs.old; calls = calls.old; pools = pools.old }) (record { procs = procs.new; calls = calls.new; pools = pools.new })) }
 {
@@ -86,7 +88,7 @@ pub fn thread_exit(
     room_for_server(pools, procs, deserted)?;
     let parked = room_for_one(alloc)?;
     let woken = room_for_one(alloc)?;
-    let mut dropped = room_for_transit(alloc, calls)?;
+    let mut dropped = Room::with_room(alloc, carried)?;
     let server = parked_of(deserted, t);
     let client = woken_of(calls, t);
     let was_idle = is_idle_thread(procs, server);
@@ -118,10 +120,12 @@ pub fn proc_exit(
     p: Pid,
     lost: &[u32],
     step: u64,
+    carried: usize,
 ) -> Result<Left, NoMemory>
     requires can { CanExit step doors.now.items (record { procs = procs.old; calls = calls.old; pools = pools.old }) }
     requires declared { is_some (at_number procs.old.processes p.0) ≡ true }
     requires lost { AreLost (process_end procs.old doors.now.items p.0) lost.now pools.old }
+    requires carried { in_transit calls.old.tree.calls ≤ carried }
     ensures left { IfOk result (HasExited (process_end procs.old doors.now.items p.0) step doors.now.items (record { procs = procs.old; calls = calls.old; pools = pools.old }) (record { procs = procs.new; calls = calls.new; pools = pools.new })) }
     ensures as_before { OnErr result (IsAsBefore (record { procs = procs.old; calls = calls.old; pools = pools.old }) (record { procs = procs.new; calls = calls.new; pools = pools.new })) }
 {
@@ -132,7 +136,7 @@ pub fn proc_exit(
     make_room(pools, procs, touched)?;
     let parked = room_for_all(alloc)?;
     let woken = room_for_all(alloc)?;
-    let mut dropped = room_for_transit(alloc, calls)?;
+    let mut dropped = Room::with_room(alloc, carried)?;
     let mut untaken = room_for_items(alloc, pools, doors, lost)?;
     let was_idle = procs.idle();
     let was_ready = calls.collecting();
@@ -159,15 +163,17 @@ pub fn revoke_all(
     pools: &mut Pools,
     doors: &Doors,
     d: u32,
+    carried: usize,
 ) -> Result<Left, NoMemory>
-    requires { (now : ℕ) × CanExit now doors.now.items (record { procs = procs.now; calls = calls.old; pools = pools.old }) }
+    requires can { (now : ℕ) × CanExit now doors.now.items (record { procs = procs.now; calls = calls.old; pools = pools.old }) }
+    requires carried { in_transit calls.old.tree.calls ≤ carried }
     ensures left { (step : ℕ) → IfOk result (HasExited (revocation d) step doors.now.items (record { procs = procs.now; calls = calls.old; pools = pools.old }) (record { procs = procs.now; calls = calls.new; pools = pools.new })) }
     ensures as_before { OnErr result (IsAsBefore (record { procs = procs.now; calls = calls.old; pools = pools.old }) (record { procs = procs.now; calls = calls.new; pools = pools.new })) }
 {
     calls.are_sound();
     parts_of_leaving();
     let woken = room_for_all(alloc)?;
-    let mut dropped = room_for_transit(alloc, calls)?;
+    let mut dropped = Room::with_room(alloc, carried)?;
     let mut untaken = room_for_items(alloc, pools, doors, &[d])?;
     let was_ready = calls.collecting();
     let who = Leaver::Revoked { door: d };

@@ -1,9 +1,9 @@
 -- What is handed out of a call that is looked for by its number: it is the call that another test finds.
-use Rattle.std.proofs.Common.{◌≡◌, ℕ, ◌+◌, ◌≤◌, ◌==◌, ◌&&◌, Bool, true, List, [], ◌∷◌, Option, Some, None, IsSome, find, length, refl, sym, subst, ap, ◌∙◌, arith}
+use Rattle.std.proofs.Common.{count_by, ◌≡◌, ℕ, ◌+◌, ◌≤◌, ◌==◌, ◌&&◌, Bool, true, List, [], ◌∷◌, Option, Some, None, IsSome, find, length, refl, sym, subst, ap, ◌∙◌, arith}
 use Rattle.std.proofs.lemmas.Bool.Decides.{nat_tests}
 use Rattle.dk_base.specs.declared.number.Tid.{Tid}
 use Rattle.kernel_records.proofs.NumberedLists.{find-passes}
-use Rattle.kernel_records.specs.Words.{CallTree, collect_call, count_object, enter_call, fail_call, is_given_as, is_given_to, is_to_collect, is_to_collect_as, live_calls}
+use Rattle.kernel_records.specs.Words.{CallTree, collect_call, enter_call, fail_call, is_given_as, is_given_to, is_to_collect, is_to_collect_as, live_calls}
 use Rattle.call_tree.specs.Calls.{args_in, outcome_at}
 use Rattle.call_tree.specs.declared.parts.Outcome.{Outcome}
 use Rattle.kernel_records.specs.declared.record.CallStage.TheVariants as stage
@@ -88,14 +88,14 @@ module _ (tree : CallTree) (sound : AreSound tree) where
     same_objects : (a : Args) → args_in (find (is_call c) tree.calls) ≡ Some a → a.objects ≡ x.0.objects
     same_objects a e = sym (ap arg_objects (sym (ap args_in by_number) ∙ e))
 
-    pub entered : (o : Obj) (a : Args) → args_in (find (is_call c) tree.calls) ≡ Some a → in_transit o (enter_call tree c t).calls + count_object o a.objects ≡ in_transit o tree.calls
-    entered o a e =
+    pub entered : (p : Obj → Bool) (a : Args) → args_in (find (is_call c) tree.calls) ≡ Some a → in_transit p (enter_call tree c t).calls + count_by p a.objects ≡ in_transit p tree.calls
+    entered p a e =
         omega (
           arith,
-          enter_call-in_transit o tree c t,
-          ap (if_found (transit_of o)) x.1,
-          given_transit o c t x.0 test,
-          ap (count_object o) (same_objects a e),
+          enter_call-in_transit p tree c t,
+          ap (if_found (transit_of p)) x.1,
+          given_transit p c t x.0 test,
+          ap (count_by p) (same_objects a e),
         )
 
     -- they are what was in transit
@@ -108,16 +108,16 @@ module _ (tree : CallTree) (sound : AreSound tree) where
     arguments_given : (s : CallStage) → is_given_to t s ≡ true → arguments_at s x.0.objects ≡ x.0.objects
     arguments_given s h = grind (arith, nat_tests)
 
-    pub failed : (o : Obj) → in_transit o (fail_call tree c t).calls + count_object o (argument_objects (find (is_call c) tree.calls)) ≡ in_transit o tree.calls
-    failed o =
+    pub failed : (p : Obj → Bool) → in_transit p (fail_call tree c t).calls + count_by p (argument_objects (find (is_call c) tree.calls)) ≡ in_transit p tree.calls
+    failed p =
         let to : is_given_to t x.0.stage ≡ true = grind (arith, test) in
         omega (
           arith,
-          fail_call-in_transit o tree c t,
-          ap (if_found (transit_of o)) x.1,
-          given_transit o c t x.0 test,
-          ap (λ y. count_object o (argument_objects y)) by_number,
-          ap (count_object o) (arguments_given x.0.stage to),
+          fail_call-in_transit p tree c t,
+          ap (if_found (transit_of p)) x.1,
+          given_transit p c t x.0 test,
+          ap (λ y. count_by p (argument_objects y)) by_number,
+          ap (count_by p) (arguments_given x.0.stage to),
         )
 
     pub failed_few : CarryFew tree.calls → length (argument_objects (find (is_call c) tree.calls)) ≤ PASS_MAX
@@ -159,16 +159,16 @@ module _ (tree : CallTree) (sound : AreSound tree) where
         (at : ℕ) → new ≡ live_calls (collect_call tree c at)
     collected_tree new is at = is y.0 by_caller at ∙ ap (λ k. live_calls (collect_call tree k at)) its_number
 
-    results_of : (o : Obj) (r : Call) (s : CallStage) → is_to_collect s ≡ true → count_object o (objects_collected s) ≡ count_object o (objects_in_transit r s)
-    results_of o r s h = grind (arith, nat_tests)
+    results_of : (p : Obj → Bool) (r : Call) (s : CallStage) → is_to_collect s ≡ true → count_by p (objects_collected s) ≡ count_by p (objects_in_transit r s)
+    results_of p r s h = grind (arith, nat_tests)
 
     -- its results are what was in transit
     pub results_few : (o : Outcome) → outcome_in (Some y.0) ≡ Some o → results_in o ≡ objects_in_call y.0
     results_few o e = results_at y.0 y.0.stage o to_collect.1 e
 
     -- and what is counted down
-    pub results_collected : (o : Obj) (told : Outcome) → outcome_in (Some y.0) ≡ Some told → count_object o (results_in told) ≡ count_object o (objects_collected_in (Some y.0))
-    results_collected o told e = ap (count_object o) (results_few told e) ∙ sym (results_of o y.0 y.0.stage to_collect.1)
+    pub results_collected : (p : Obj → Bool) (told : Outcome) → outcome_in (Some y.0) ≡ Some told → count_by p (results_in told) ≡ count_by p (objects_collected_in (Some y.0))
+    results_collected p told e = ap (count_by p) (results_few told e) ∙ sym (results_of p y.0 y.0.stage to_collect.1)
 
     pub collected_few : CarryFew tree.calls → (o : Outcome) → outcome_in (find (is_called_by caller.0) tree.calls) ≡ Some o → length (results_in o) ≤ PASS_MAX
     collected_few few o e =
@@ -176,12 +176,17 @@ module _ (tree : CallTree) (sound : AreSound tree) where
 
     pub collected :
         (new : CallTree) → ((call : Call) → find (is_called_by caller.0) tree.calls ≡ Some call → (at : ℕ) → new ≡ live_calls (collect_call tree call.number at)) →
-        (o : Obj) → in_transit o new.calls + count_object o (objects_collected_in (Some y.0)) ≡ in_transit o tree.calls
-    collected new is o =
+        (p : Obj → Bool) → in_transit p new.calls + count_by p (objects_collected_in (Some y.0)) ≡ in_transit p tree.calls
+    collected new is p =
         omega (
           arith,
-          ap (λ (t : CallTree). in_transit o t.calls) (collected_tree new is 0),
-          collect_call-in_transit o tree c 0,
-          ap (if_found (transit_of o)) y.1,
-          results_of o y.0 y.0.stage to_collect.1,
+          ap (λ (t : CallTree). in_transit p t.calls) (collected_tree new is 0),
+          collect_call-in_transit p tree c 0,
+          ap (if_found (transit_of p)) y.1,
+          results_of p y.0 y.0.stage to_collect.1,
         )
+
+    pub collected_results :
+        (new : CallTree) → ((call : Call) → find (is_called_by caller.0) tree.calls ≡ Some call → (at : ℕ) → new ≡ live_calls (collect_call tree call.number at)) →
+        (p : Obj → Bool) (told : Outcome) → outcome_in (Some y.0) ≡ Some told → in_transit p new.calls + count_by p (results_in told) ≡ in_transit p tree.calls
+    collected_results new is p told e = ap (λ n. in_transit p new.calls + n) (results_collected p told e) ∙ collected new is p

@@ -5,6 +5,7 @@ pub mod TableCounts
 pub mod Lowering
 pub mod NameCounts
 pub mod TransitCounts
+mod Carried
 pub mod Bounds
 pub mod Handing
 pub mod Telling

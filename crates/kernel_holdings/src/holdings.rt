@@ -11,14 +11,14 @@ ghost use Rattle.written_kernel.specs.Words.{objects_collected_in};
 ghost use Rattle.name_space.specs.Words.{HasRoomForName};
 ghost use Rattle.call_tree.specs.Calls.{args_in};
 ghost use Rattle.call_tree.specs.Words.{HasRoomForCall, IsThread, is_called_by, outcome_in, queued_call};
-ghost use Rattle.exit_paths.specs.Words.{CanExit, HasExited, IsAsBefore};
+ghost use Rattle.exit_paths.specs.Words.{CanExit, HasExited, IsAsBefore, in_transit};
 ghost use Rattle.unref_notice.specs.declared.counts.TheConstants.{STEP_MAX};
 ghost use Rattle.unref_notice.specs.Words.{count_of, was_shared};
 ghost use Rattle.kernel_holdings.specs.Words.{CanEnd, ChangesOnly, HasRoomToHold, TRANSIT_MAX, has_fallen_to_one, has_lost_all, references_of, references_to, results_in};
 
 use crate::fallen::tell;
 use crate::leaving::leave;
-use crate::lowered::{lower_released, lower_results, lower_table};
+use crate::lowered::{count_results, lower_released, lower_results, lower_table};
 use crate::tables::Tables;
 use call_tree::calls::Calls;
 use call_tree::parts::{Args, Outcome};
@@ -37,24 +37,28 @@ use std::marker::Model;
 use unref_notice::counts::{Counts, STEP_MAX};
 
 /// What refers to objects. At every moment the count of each object is that of the descriptors that name it, of its names, and of
-/// what is in transit of it with calls. Clauses see tables, names and calls, of the counts those at the beginning of the step, and how
-/// often a reference may yet come or go in the step (`left`).
+/// what is in transit of it with calls; and it is known how many objects are in transit in all. Clauses see tables, names and calls, of
+/// the counts those at the beginning of the step, and how often a reference may yet come or go in the step (`left`).
 #[derive(Drop)]
 pub struct Holdings {
     tables: Tables,
     names: Names,
     calls: Calls,
     counts: Counts,
+    /// How many objects are in transit with calls.
+    carried: usize,
 }
 
 impl Model for Holdings {
+    ghost use Rattle.std.specs.Prelude.{◌≡◌};
+    ghost use Rattle.exit_paths.specs.Words.{in_transit};
     ghost use Rattle.kernel_holdings.specs.Words.{HoldFew, HoldingsValue, IsCountOf};
 
     ghost Value = { HoldingsValue };
 
     ghost view = { λ h. record { tables = h.tables; names = h.names; calls = h.calls; opening = h.counts.opening; left = h.counts.left } };
 
-    ghost invariant = { λ h. IsCountOf h.counts.counts h.tables h.names.names h.calls.tree.calls × HoldFew h.tables h.calls.tree.calls };
+    ghost invariant = { λ h. IsCountOf h.counts.counts h.tables h.names.names h.calls.tree.calls × HoldFew h.tables h.calls.tree.calls × (h.carried ≡ in_transit h.calls.tree.calls) };
 }
 
 impl Holdings {
@@ -70,6 +74,7 @@ impl Holdings {
             names: Names::new(alloc),
             calls: Calls::new(alloc),
             counts: Counts::new(alloc),
+            carried: 0,
         }
     }
 
@@ -125,6 +130,13 @@ impl Holdings {
     {
         self.calls.are_sound();
         self.names.len();
+    }
+
+    /// No more objects are in transit than can be counted, were there some more.
+    fn carries_few(&self)
+        ensures { in_transit self.now.calls.tree.calls ≤ TRANSIT_MAX }
+    {
+        self.calls.are_sound();
     }
 
     // memory
@@ -345,7 +357,9 @@ impl Holdings {
         ensures others { ChangesOnly args.objects self.old self.new }
     {
         self.are_few();
+        self.carries_few();
         self.counts.up_all(args.objects.slice());
+        self.carried += args.objects.len();
         self.calls
             .open_call(caller, door, args, rsize, no_cancel, made)
     }
@@ -380,6 +394,7 @@ impl Holdings {
         self.calls.are_sound();
         let args = self.calls.enter_inv(c);
         self.counts.down_all(args.objects.slice());
+        self.carried -= args.objects.len();
         args
     }
 
@@ -396,6 +411,7 @@ impl Holdings {
         self.calls.are_sound();
         let objects = self.calls.refuse(c, Errno::EMFILE);
         self.counts.down_all(objects.slice());
+        self.carried -= objects.len();
         objects
     }
 
@@ -413,7 +429,9 @@ impl Holdings {
             return;
         }
         self.are_few();
+        self.carries_few();
         self.counts.up_all(objects.slice());
+        self.carried += objects.len();
         self.calls.finish(t, bytes, objects);
     }
 
@@ -445,6 +463,7 @@ impl Holdings {
         let caller = self.collector(c);
         let outcome = self.calls.collect(caller);
         lower_results(&mut self.counts, &outcome);
+        self.carried -= count_results(&outcome);
         outcome
     }
 
@@ -472,8 +491,19 @@ impl Holdings {
         ensures references { (o : Obj) → references_of self.new o ≤ references_of self.old o }
     {
         self.calls.are_sound();
-        let left = leave(alloc, who, procs, &mut self.calls, pools, doors, lost, step)?;
+        let left = leave(
+            alloc,
+            who,
+            procs,
+            &mut self.calls,
+            pools,
+            doors,
+            lost,
+            step,
+            self.carried,
+        )?;
         self.counts.down_all(left.dropped.slice());
+        self.carried -= left.dropped.len();
         Ok(left)
     }
 }

@@ -15,6 +15,16 @@ use dk_base::list::PassList;
 use dk_base::number::{Fd, Pid};
 use unref_notice::counts::Counts;
 
+/// How many objects come with a call's results.
+pub fn count_results(outcome: &Outcome) -> usize
+    ensures { result ≡ length (results_in outcome.now) }
+{
+    match outcome {
+        Outcome::Results { objects, .. } => objects.len(),
+        Outcome::Ended(_) => 0,
+    }
+}
+
 /// One reference fewer to each object of a call's results.
 pub fn lower_results(counts: &mut Counts, outcome: &Outcome)
     requires left { length (results_in outcome.now) ≤ counts.old.left }

@@ -1,6 +1,6 @@
 //! Exit paths of a kernel without a process: nothing is told, and nothing is refused for want of memory.
-ghost use Rattle.std.specs.Prelude.{◌≡◌};
-ghost use Rattle.exit_paths.specs.Words.{CanExit};
+ghost use Rattle.std.specs.Prelude.{◌≡◌, ◌≤◌};
+ghost use Rattle.exit_paths.specs.Words.{CanExit, in_transit};
 
 use call_tree::calls::Calls;
 use dk_base::number::Tid;
@@ -43,9 +43,10 @@ fn is_no_end(
     pools: &mut Pools,
     doors: &Doors,
 ) -> bool
-    requires { CanExit 0 doors.now.items (record { procs = procs.old; calls = calls.old; pools = pools.old }) }
+    requires can { CanExit 0 doors.now.items (record { procs = procs.old; calls = calls.old; pools = pools.old }) }
+    requires carried { in_transit calls.old.tree.calls ≤ 0 }
 {
-    match thread_exit(alloc, procs, calls, pools, doors, Tid(1), 0) {
+    match thread_exit(alloc, procs, calls, pools, doors, Tid(1), 0, 0) {
         Ok(left) => is_silent(&left),
         Err(_) => false,
     }
@@ -59,9 +60,10 @@ fn is_no_revocation(
     pools: &mut Pools,
     doors: &Doors,
 ) -> bool
-    requires { CanExit 0 doors.now.items (record { procs = procs.now; calls = calls.old; pools = pools.old }) }
+    requires can { CanExit 0 doors.now.items (record { procs = procs.now; calls = calls.old; pools = pools.old }) }
+    requires carried { in_transit calls.old.tree.calls ≤ 0 }
 {
-    match revoke_all(alloc, procs, calls, pools, doors, 1) {
+    match revoke_all(alloc, procs, calls, pools, doors, 1, 0) {
         Ok(left) => is_silent(&left),
         Err(_) => false,
     }

@@ -25,7 +25,7 @@ returns-clause-left c = λ step.
     (λ list h. door_goes doors tree.calls list.notices d)
     (revoked_threads d step tree.calls table) (λ tree list h. h) (keeps_self c.drop_doors.new.pools) c.are_sound.ensures
     (revoked_calls (c.parts_of_leaving.ensures tree c.are_sound.ensures) d (c.refuse_lost.ensures.tree table)
-    (tells_calls c.requires.1.agreed (revocation d) (d ∷ []) (lost_alone d v) c.slice.result.now items))
+    (tells_calls c.requires.can.1.agreed (revocation d) (d ∷ []) (lost_alone d v) c.slice.result.now items))
     c.refuse_lost.ensures.spare
     (inr (λ q. c.drop_doors.ensures.left.stacks q))
     (record { dropped = c.into_list.result; parked = c.new.result; woken = c.list_new.result; untaken = c.into_list-2.result })

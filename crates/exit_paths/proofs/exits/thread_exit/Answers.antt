@@ -15,8 +15,8 @@ use Rattle.exit_paths.proofs.exits.thread_exit.Goals as goal
 
 pub desert_server-requires : goal.desert_server-requires
 desert_server-requires c =
-    server_parks c.requires c.room_for_server.ensures.same c.withdraw_caller.ensures
-    (caller_goes c.args.doors.now.items c.args.calls.now.tree c.requires.list.notices (thread_end c.args.t.0) c.are_sound.ensures c.args.t.0
+    server_parks c.requires.can c.room_for_server.ensures.same c.withdraw_caller.ensures
+    (caller_goes c.args.doors.now.items c.args.calls.now.tree c.requires.can.list.notices (thread_end c.args.t.0) c.are_sound.ensures c.args.t.0
     (λ r. or_false (r.caller.0 == c.args.t.0)) (λ d. refl))
     c.deserted_by-deserted.result c.in_ok-room_for_server.ensures.room
 
@@ -34,12 +34,12 @@ returns-clause-left c =
     exited c.room_for_server.ensures.same c.room_for_server.ensures.kept c.withdraw_caller.ensures
     (λ list h. caller_goes doors tree list.notices (thread_end t) c.are_sound.ensures t (λ r. or_false (r.caller.0 == t)) (λ d. refl))
     (moved ∙ ap (λ p. end_thread (with_deserted c.args.step p table) t) c.deserted_by-deserted.ensures
-    ∙ ended_threads c.are_sound.ensures table c.requires.placed.thread_number t c.args.step)
+    ∙ ended_threads c.are_sound.ensures table c.requires.can.placed.thread_number t c.args.step)
     (λ tree list h. c.end_thread.ensures.agreed c.args.step doors tree list (c.desert_server.ensures.agreed doors tree list h))
     (keeps_then c.withdraw_caller.new.pools c.desert_server.new.pools c.end_thread.new.pools c.desert_server.ensures.keeps c.end_thread.ensures.keeps)
     c.are_sound.ensures
     calls (le_trans c.end_caller.ensures.spare c.end_server.ensures.spare)
-    (inl (c.requires, c.are_few.ensures))
+    (inl (c.requires.can, c.are_few.ensures))
     (record { dropped = c.into_list.result; parked = c.list_one.result; woken = c.list_one-2.result; untaken = c.new.result })
     (subst (DropsTransit tree.calls c.end_server.new.calls.tree.calls) (sym c.into_list.ensures)
     (c.end_server.ensures.dropped tree.calls (c.end_caller.ensures.dropped tree.calls (subst (DropsTransit tree.calls tree.calls) (sym c.in_ok-dropped.ensures.empty) (drops_nothing tree.calls)))))

@@ -10,7 +10,7 @@ use Rattle.kernel_holdings.proofs.holdings.Holdings.add_table.Goals as goal
 pub invariant_of-self : goal.invariant_of-self
 invariant_of-self c =
     let h = c.self.inside in
-    (held_added h.counts.counts h.tables c.add.new.self h.names.names h.calls.tree.calls c.args.limit c.add.result c.self.invariant.0 c.add.ensures.ok c.add.ensures.err, added c.add.result c.add.ensures.ok c.add.ensures.err)
+    (held_added h.counts.counts h.tables c.add.new.self h.names.names h.calls.tree.calls c.args.limit c.add.result c.self.invariant.0 c.add.ensures.ok c.add.ensures.err, added c.add.result c.add.ensures.ok c.add.ensures.err, c.self.invariant.2)
   where
     added : (r : Result Unit NoMemory) → OnOk r (c.add.new.self ≡ c.self.inside.tables ++ empty_table c.args.limit ∷ []) → OnErr r (c.add.new.self ≡ c.self.inside.tables) → HoldFew c.add.new.self c.self.inside.calls.tree.calls
     added (Ok x) ok err =

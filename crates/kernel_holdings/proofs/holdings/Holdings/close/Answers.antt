@@ -18,6 +18,7 @@ invariant_of-self c =
     λ o. omega (arith, ap (count_in o) c.close.ensures, ap (count_object o) named, count_in-close o h.tables c.args.p.0 c.args.fd) in (
       held_fewer h.counts.counts c.down.new.self.counts h.tables c.close.new.self h.names.names h.calls.tree.calls (c.in-Some.object ∷ []) c.self.invariant.0 down.counts fewer,
       holds_table h.tables c.close.new.self h.calls.tree.calls c.args.p.0 _ c.self.invariant.1 c.close.ensures (row_closed_long _ c.args.fd.0),
+      c.self.invariant.2,
     )
 
 pub returns-in-Some-clause-references : goal.returns-in-Some-clause-references

@@ -18,6 +18,7 @@ invariant_of-self c =
     λ o. rw c.close_all.ensures (count_in-close_all o h.tables c.args.p.0) in (
       held_fewer h.counts.counts c.lower_table.new.counts.counts h.tables c.close_all.new.self h.names.names h.calls.tree.calls objects c.self.invariant.0 down.counts fewer,
       holds_table h.tables c.close_all.new.self h.calls.tree.calls c.args.p.0 _ c.self.invariant.1 c.close_all.ensures (length-map _ free_row),
+      c.self.invariant.2,
     )
 
 pub lower_table-requires : goal.lower_table-requires

@@ -1,4 +1,4 @@
-use Rattle.std.proofs.Common.{Some, refl, sym, ap, ◌∙◌, arith}
+use Rattle.std.proofs.Common.{◌-◌, Some, refl, sym, ap, ◌∙◌, arith}
 use Rattle.written_kernel.specs.Words.{objects_collected_in}
 use Rattle.call_tree.specs.Words.{outcome_in}
 use Rattle.kernel_holdings.proofs.Handing.{collected_few, by_caller, collected, collected_tree, ready_there, some_call}
@@ -6,9 +6,10 @@ use Rattle.kernel_holdings.proofs.TransitCounts.{handed_out}
 use Rattle.kernel_holdings.proofs.Bounds.{few_changed, few_live, holds_calls}
 use Rattle.kernel_records.specs.Words.{is_to_collect_as}
 use Rattle.kernel_holdings.specs.Words.{HoldingsValue}
-use Rattle.kernel_records.specs.Words.{count_object}
-use Rattle.kernel_holdings.specs.Words.{HoldingsValue, references_of}
-use Rattle.kernel_holdings.proofs.Handing.{results_collected, results_few}
+use Rattle.kernel_records.specs.Words.{count_object, is_object}
+use Rattle.kernel_holdings.specs.Words.{HoldingsValue, references_of, results_in}
+use Rattle.kernel_holdings.proofs.Carried.{carried_fewer, carried_some, each}
+use Rattle.kernel_holdings.proofs.Handing.{collected_results, results_collected, results_few}
 use Rattle.kernel_holdings.proofs.Referring.{references_to-parts}
 use Rattle.kernel_holdings.proofs.TransitCounts.{if_found, in_transit-found, transit_of}
 use Rattle.kernel_holdings.proofs.holdings.Holdings.collect_call.Goals as goal
@@ -29,8 +30,9 @@ invariant_of-self c =
     let told = ap outcome_in (sym (by_caller tree c.are_sound.ensures c.args.c there c.collector-caller.result his)) ∙ c.collect-outcome.ensures.outcome in (
       handed_out h.counts.counts h.tables h.names.names tree.calls c.self.invariant.0 c.lower_results.new.counts.counts c.collect-outcome.new.self.tree.calls
           (objects_collected_in (Some x.0)) (objects_collected_in (Some x.0)) refl (λ d. down.counts d x.0 told)
-          (λ o. collected tree c.are_sound.ensures c.args.c there c.collector-caller.result his c.collect-outcome.new.self.tree c.collect-outcome.ensures.tree o),
+          (λ o. collected tree c.are_sound.ensures c.args.c there c.collector-caller.result his c.collect-outcome.new.self.tree c.collect-outcome.ensures.tree (is_object o)),
       holds_calls h.tables h.calls.tree.calls _ c.self.invariant.1 (rw (collected_tree tree c.are_sound.ensures c.args.c there c.collector-caller.result his c.collect-outcome.new.self.tree c.collect-outcome.ensures.tree 0) (few_live _ (few_changed (is_to_collect_as c.args.c) _ (λ r t l. omega arith) tree.calls c.self.invariant.1.transit))),
+      ap (λ n. h.carried - n) c.count_results.ensures ∙ carried_fewer h.carried tree.calls c.collect-outcome.new.self.tree.calls (results_in c.collect-outcome.result) c.self.invariant.2 (collected_results tree c.are_sound.ensures c.args.c there c.collector-caller.result his c.collect-outcome.new.self.tree c.collect-outcome.ensures.tree each c.collect-outcome.result told),
     )
 
 pub returns-clause-calls : goal.returns-clause-calls
@@ -88,8 +90,8 @@ returns-clause-held c = λ o.
     let told = ap outcome_in (sym (by_caller tree c.are_sound.ensures c.args.c there c.collector-caller.result his)) ∙ c.collect-outcome.ensures.outcome in
     omega (
       arith,
-      in_transit-found o (is_to_collect_as c.args.c) tree.calls,
-      ap (if_found (transit_of o)) one.1,
+      in_transit-found (is_object o) (is_to_collect_as c.args.c) tree.calls,
+      ap (if_found (transit_of (is_object o))) one.1,
       ap (count_object o) (results_few tree c.are_sound.ensures c.args.c there c.collector-caller.result his c.collect-outcome.result told),
       references_to-parts h.tables h.names.names h.calls.tree.calls o,
       ap (λ (v : HoldingsValue). references_of v o) c.self.view_is,
@@ -108,6 +110,17 @@ returns-clause-others c = λ o none.
       c.self.invariant.0 o,
       none,
       c.lower_results.ensures.counts o x.0 told,
-      results_collected tree c.are_sound.ensures c.args.c there c.collector-caller.result his o c.collect-outcome.result told,
+      results_collected tree c.are_sound.ensures c.args.c there c.collector-caller.result his (is_object o) c.collect-outcome.result told,
       ap (λ (v : HoldingsValue). references_of v o) c.self.view_is,
     )
+
+pub overflow_sub-self : goal.overflow_sub-self
+overflow_sub-self c =
+    let tree = c.self.inside.calls.tree in
+    let there = rw (← c.self.view_is) at c.requires.ready in
+    let his = rw (← c.self.view_is) at c.collector-caller.ensures in
+    let told = ap outcome_in (sym (by_caller tree c.are_sound.ensures c.args.c there c.collector-caller.result his)) ∙ c.collect-outcome.ensures.outcome in
+    let few =
+    carried_some c.self.inside.carried tree.calls c.collect-outcome.new.self.tree.calls (results_in c.collect-outcome.result) c.self.invariant.2
+    (collected_results tree c.are_sound.ensures c.args.c there c.collector-caller.result his c.collect-outcome.new.self.tree c.collect-outcome.ensures.tree each c.collect-outcome.result told) in
+    omega (arith, few, c.count_results.ensures)

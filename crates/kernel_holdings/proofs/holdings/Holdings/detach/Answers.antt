@@ -14,6 +14,7 @@ invariant_of-self c =
     c.detach.ensures.distinct c.in-Ok.ensures.answer down.counts in (
       rw c.detach.ensures.names fewer,
       c.self.invariant.1,
+      c.self.invariant.2,
     )
 
 pub returns-in-Ok-clause-references : goal.returns-in-Ok-clause-references

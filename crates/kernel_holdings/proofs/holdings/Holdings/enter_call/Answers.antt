@@ -1,7 +1,8 @@
-use Rattle.std.proofs.Common.{length, ap, arith}
-use Rattle.kernel_records.specs.Words.{is_given_as}
+use Rattle.std.proofs.Common.{◌-◌, length, ap, ◌∙◌, arith}
+use Rattle.kernel_records.specs.Words.{is_given_as, is_object}
 use Rattle.kernel_holdings.proofs.Handing.{entered, given_args, given_few, given_there}
 use Rattle.kernel_holdings.proofs.TransitCounts.{handed_out}
+use Rattle.kernel_holdings.proofs.Carried.{carried_fewer, carried_some, each}
 use Rattle.kernel_holdings.proofs.Bounds.{few_changed, holds_calls}
 use Rattle.kernel_holdings.specs.Words.{HoldingsValue}
 use Rattle.kernel_records.specs.Words.{count_object}
@@ -21,8 +22,9 @@ invariant_of-self c =
     let tree = h.calls.tree in
     let given = rw (← c.self.view_is) at c.requires.given in (
       handed_out h.counts.counts h.tables h.names.names tree.calls c.self.invariant.0 c.down_all.new.self.counts c.enter_inv-args.new.self.tree.calls c.slice.result.now c.enter_inv-args.result.objects
-          c.slice.ensures down.counts (λ o. rw (c.enter_inv-args.ensures.tree c.args.t.0 given) (entered tree c.are_sound.ensures c.args.c c.args.t.0 given o c.enter_inv-args.result c.enter_inv-args.ensures.args)),
+          c.slice.ensures down.counts (λ o. rw (c.enter_inv-args.ensures.tree c.args.t.0 given) (entered tree c.are_sound.ensures c.args.c c.args.t.0 given (is_object o) c.enter_inv-args.result c.enter_inv-args.ensures.args)),
       holds_calls h.tables h.calls.tree.calls _ c.self.invariant.1 (rw (c.enter_inv-args.ensures.tree c.args.t.0 given) (few_changed (is_given_as c.args.c c.args.t.0) _ (λ r t l. omega arith) tree.calls c.self.invariant.1.transit)),
+      ap (λ n. h.carried - n) c.len.ensures ∙ carried_fewer h.carried tree.calls c.enter_inv-args.new.self.tree.calls c.enter_inv-args.result.objects c.self.invariant.2 (rw (c.enter_inv-args.ensures.tree c.args.t.0 given) (entered tree c.are_sound.ensures c.args.c c.args.t.0 given each c.enter_inv-args.result c.enter_inv-args.ensures.args)),
     )
 
 pub returns-clause-args : goal.returns-clause-args
@@ -55,11 +57,11 @@ returns-clause-held c = λ o.
     let h = c.self.inside in
     let given = rw (← c.self.view_is) at c.requires.given in
     let one = some_call _ given in
-    let within = in_transit-found o (is_given_as c.args.c c.args.t.0) h.calls.tree.calls in
+    let within = in_transit-found (is_object o) (is_given_as c.args.c c.args.t.0) h.calls.tree.calls in
     omega (
       arith,
       within,
-      ap (if_found (transit_of o)) one.1,
+      ap (if_found (transit_of (is_object o))) one.1,
       ap (count_object o) (args_few h.calls.tree c.are_sound.ensures c.args.c c.args.t.0 given c.enter_inv-args.result c.enter_inv-args.ensures.args),
       references_to-parts h.tables h.names.names h.calls.tree.calls o,
       ap (λ (v : HoldingsValue). references_of v o) c.self.view_is,
@@ -67,3 +69,12 @@ returns-clause-held c = λ o.
 
 pub returns-clause-others : goal.returns-clause-others
 returns-clause-others c = λ o none. omega (arith, (invariant_of-self c).0 o, c.self.invariant.0 o, none, c.down_all.ensures.counts o, ap (count_object o) c.slice.ensures, ap (λ (v : HoldingsValue). references_of v o) c.self.view_is)
+
+pub overflow_sub-self : goal.overflow_sub-self
+overflow_sub-self c =
+    let tree = c.self.inside.calls.tree in
+    let given = rw (← c.self.view_is) at c.requires.given in
+    let few =
+    carried_some c.self.inside.carried tree.calls c.enter_inv-args.new.self.tree.calls c.enter_inv-args.result.objects c.self.invariant.2
+    (rw (c.enter_inv-args.ensures.tree c.args.t.0 given) (entered tree c.are_sound.ensures c.args.c c.args.t.0 given each c.enter_inv-args.result c.enter_inv-args.ensures.args)) in
+    omega (arith, few, c.len.ensures)

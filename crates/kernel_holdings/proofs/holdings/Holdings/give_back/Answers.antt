@@ -1,11 +1,13 @@
-use Rattle.std.proofs.Common.{◌≡◌, ◌+◌, Bor, true, false, None, Option, Some, cond, is_some, find, length, refl, sym, ap, ◌∙◌, arith}
+use Rattle.std.proofs.Common.{◌≡◌, ◌+◌, Bool, Bor, true, false, None, Option, Some, cond, count_by, is_some, find, length, refl, sym, ap, ◌∙◌, arith}
 use Rattle.std.specs.Option.{option_copied}
 use Rattle.kernel_records.proofs.Places.{change_first-none}
 use Rattle.kernel_records.specs.declared.record.CallStage.TheVariants as stage
-use Rattle.kernel_records.specs.Words.{count_object, is_client_call_of, without_arguments_at}
+use Rattle.kernel_records.specs.Words.{count_object, is_client_call_of, is_object, without_arguments_at}
 use Rattle.unref_notice.specs.Words.{count_of}
 use Rattle.written_kernel.specs.Types.{Call}
 use Rattle.kernel_holdings.proofs.TransitCounts.{in_transit, return_call-in_transit, transit_more}
+use Rattle.exit_paths.specs.Words.{in_transit as carried_in}
+use Rattle.kernel_holdings.proofs.Carried.{carried_more, each}
 use Rattle.kernel_holdings.proofs.Bounds.{few_changed, holds_calls}
 use Rattle.dk_base.specs.declared.object.Obj.{Obj}
 use Rattle.kernel_holdings.specs.Words.{HoldingsValue, references_to}
@@ -40,12 +42,13 @@ invariant_of-self c =
     ap is_some (sym c.client.ensures) ∙ copied c.client.result ∙ c.if-is_none.ensures in
     let raised : (o : Obj) → count_of c.up_all.new.self.counts o ≡ count_of h.counts.counts o + more o =
     λ o. up.counts o ∙ ap (λ os. count_of h.counts.counts o + count_object o os) c.slice.ensures in
-    let further : (o : Obj) → in_transit o c.finish.new.self.tree.calls ≡ in_transit o tree.calls + more o =
-    λ o. rw c.finish.ensures.tree
-    (return_call-in_transit o tree c.args.t.0 c.args.bytes c.args.objects
-    ∙ ap (λ b. in_transit o tree.calls + cond b (more o) 0) there) in (
-      transit_more h.counts.counts h.tables h.names.names tree.calls c.self.invariant.0 c.up_all.new.self.counts c.finish.new.self.tree.calls more raised further,
+    let further : (p : Obj → Bool) → in_transit p c.finish.new.self.tree.calls ≡ in_transit p tree.calls + count_by p c.args.objects =
+    λ p. rw c.finish.ensures.tree
+    (return_call-in_transit p tree c.args.t.0 c.args.bytes c.args.objects
+    ∙ ap (λ b. in_transit p tree.calls + cond b (count_by p c.args.objects) 0) there) in (
+      transit_more h.counts.counts h.tables h.names.names tree.calls c.self.invariant.0 c.up_all.new.self.counts c.finish.new.self.tree.calls more raised (λ o. further (is_object o)),
       holds_calls h.tables h.calls.tree.calls _ c.self.invariant.1 (rw c.finish.ensures.tree (few_changed (is_client_call_of c.args.t.0) _ (λ r t l. (c.requires.few (rw (← c.self.view_is) (ap is_some (sym c.client.ensures) ∙ copied c.client.result ∙ c.if-is_none.ensures)))) tree.calls c.self.invariant.1.transit)),
+      ap (λ n. h.carried + n) c.len.ensures ∙ carried_more h.carried tree.calls c.finish.new.self.tree.calls c.args.objects c.self.invariant.2 (further each),
     )
 
 pub up_all-requires-clause-few : goal.up_all-requires-clause-few
@@ -62,3 +65,6 @@ returns-clause-left c = omega (arith, (c.requires.few (rw (← c.self.view_is) (
 
 pub returns-clause-others : goal.returns-clause-others
 returns-clause-others c = λ o none. omega (arith, (invariant_of-self c).0 o, c.self.invariant.0 o, none, c.up_all.ensures.counts o, ap (count_object o) c.slice.ensures, ap (λ (v : HoldingsValue). references_of v o) c.self.view_is)
+
+pub overflow_add-self : goal.overflow_add-self
+overflow_add-self c = omega (arith, c.self.invariant.2, ap (λ (v : HoldingsValue). carried_in v.calls.tree.calls) c.self.view_is, c.carries_few.ensures, (c.requires.few (rw (← c.self.view_is) (ap is_some (sym c.client.ensures) ∙ copied c.client.result ∙ c.if-is_none.ensures))), c.len.ensures)

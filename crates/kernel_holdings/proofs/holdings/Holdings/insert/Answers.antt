@@ -17,6 +17,7 @@ invariant_of-self c =
     λ o. ap (count_in o) c.insert.ensures.tables ∙ count_in-insert o c.args.object h.tables c.args.p.0 free in (
       held_more h.counts.counts c.up.new.self.counts h.tables c.insert.new.self h.names.names h.calls.tree.calls (c.args.object ∷ []) c.self.invariant.0 up.counts more,
       holds_table h.tables c.insert.new.self h.calls.tree.calls c.args.p.0 _ c.self.invariant.1 c.insert.ensures.tables (row_inserted_long _ c.args.object),
+      c.self.invariant.2,
     )
 
 pub up-requires-clause-few : goal.up-requires-clause-few

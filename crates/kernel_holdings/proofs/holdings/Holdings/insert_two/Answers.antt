@@ -29,6 +29,7 @@ invariant_of-self c =
       held_more h.counts.counts c.up-2.new.self.counts h.tables c.insert_two.new.self h.names.names h.calls.tree.calls both c.self.invariant.0
           (λ o. omega (arith, c.up.ensures.counts o, c.up-2.ensures.counts o, count_object-cons o c.args.first (c.args.second ∷ []))) more,
       holds_table h.tables c.insert_two.new.self h.calls.tree.calls c.args.p.0 _ c.self.invariant.1 c.insert_two.ensures.tables (rows_inserted_long _ both),
+      c.self.invariant.2,
     )
 
 pub returns-clause-references : goal.returns-clause-references

@@ -21,6 +21,7 @@ invariant_of-self c =
     λ o. ap (count_in o) c.install.ensures.tables ∙ count_in-install o h.tables c.args.p.0 objects free in (
       held_more h.counts.counts c.up_all.new.self.counts h.tables c.install.new.self h.names.names h.calls.tree.calls objects c.self.invariant.0 counts more,
       holds_table h.tables c.install.new.self h.calls.tree.calls c.args.p.0 _ c.self.invariant.1 c.install.ensures.tables (rows_inserted_long _ c.args.objects.now),
+      c.self.invariant.2,
     )
 
 pub up_all-requires-clause-few : goal.up_all-requires-clause-few

@@ -1,4 +1,5 @@
-use Rattle.std.proofs.Common.{length, sym, subst, ap, map, arith}
+use Rattle.std.proofs.Common.{length, sym, subst, ap, ◌∙◌, map, arith}
+use Rattle.exit_paths.specs.Words.{in_transit}
 use Rattle.kernel_records.specs.Words.{is_object}
 use Rattle.call_tree.specs.Words.{CallsValue}
 use Rattle.kernel_holdings.specs.Words.{IsCountOf}
@@ -14,6 +15,7 @@ invariant_of-self c =
     let h = c.self.inside in (
       subst (λ (v : CallsValue). IsCountOf h.counts.counts h.tables h.names.names v.tree.calls) (sym c.in_err-left.ensures.as_before.calls) c.self.invariant.0,
       subst (λ (v : CallsValue). HoldFew h.tables v.tree.calls) (sym c.in_err-left.ensures.as_before.calls) c.self.invariant.1,
+      c.self.invariant.2 ∙ ap (λ (v : CallsValue). in_transit v.tree.calls) (sym c.in_err-left.ensures.as_before.calls),
     )
 
 pub invariant_of-self-2 : goal.invariant_of-self-2
@@ -23,6 +25,7 @@ invariant_of-self-2 c =
       handed_out h.counts.counts h.tables h.names.names h.calls.tree.calls c.self.invariant.0 c.down_all.new.self.counts c.leave.new.calls.tree.calls c.slice.result.now
           c.in_ok-left.left.dropped c.slice.ensures down.counts (λ o. sym (c.in_ok-left.ensures.left.dropped.counts (is_object o))),
       holds_calls h.tables h.calls.tree.calls _ c.self.invariant.1 (rw c.in_ok-left.ensures.left.calls (few_live (map (left_call (leaving_of c.args.procs.now c.args.doors.now.items c.args.who)) h.calls.tree.calls) (few_left (leaving_of c.args.procs.now c.args.doors.now.items c.args.who) h.calls.tree.calls c.self.invariant.1.transit))),
+      (let all = c.in_ok-left.ensures.left.dropped.in_all in omega (arith, all, c.self.invariant.2, c.len.ensures)),
     )
 
 pub returns-clause-left : goal.returns-clause-left
@@ -44,3 +47,6 @@ returns-clause-uses c =
 
 pub returns-clause-references : goal.returns-clause-references
 returns-clause-references c = λ o. omega (arith, (invariant_of-self-2 c).0 o, c.self.invariant.0 o, c.down_all.ensures.counts o, ap (λ (v : HoldingsValue). references_of v o) c.self.view_is)
+
+pub overflow_sub-self : goal.overflow_sub-self
+overflow_sub-self c = let all = c.in_ok-left.ensures.left.dropped.in_all in omega (arith, all, c.self.invariant.2, c.len.ensures)

@@ -1,7 +1,10 @@
-use Rattle.std.proofs.Common.{◌≡◌, ◌+◌, length, refl, ap, ◌∙◌, arith}
+use Rattle.std.proofs.Common.{◌≡◌, ◌+◌, Bool, count_by, length, refl, ap, ◌∙◌, arith}
 use Rattle.kernel_records.specs.Words.{count_object}
 use Rattle.unref_notice.specs.Words.{count_of}
 use Rattle.kernel_holdings.proofs.TransitCounts.{in_transit, open_call-in_transit, transit_more}
+use Rattle.exit_paths.specs.Words.{in_transit as carried_in}
+use Rattle.kernel_holdings.proofs.Carried.{carried_more, each}
+use Rattle.kernel_records.specs.Words.{is_object}
 use Rattle.kernel_holdings.proofs.Bounds.{few_pushed, holds_calls}
 use Rattle.dk_base.specs.declared.object.Obj.{Obj}
 use Rattle.kernel_holdings.specs.Words.{HoldingsValue, references_to}
@@ -16,10 +19,11 @@ invariant_of-self c =
     let more = λ (o : Obj). count_object o c.args.args.objects in
     let raised : (o : Obj) → count_of c.up_all.new.self.counts o ≡ count_of h.counts.counts o + more o =
     λ o. up.counts o ∙ ap (λ os. count_of h.counts.counts o + count_object o os) c.slice.ensures in
-    let further : (o : Obj) → in_transit o c.open_call.new.self.tree.calls ≡ in_transit o h.calls.tree.calls + more o =
-    λ o. rw c.open_call.ensures.tree (open_call-in_transit o h.calls.tree _ refl) in (
-      transit_more h.counts.counts h.tables h.names.names h.calls.tree.calls c.self.invariant.0 c.up_all.new.self.counts c.open_call.new.self.tree.calls more raised further,
+    let further : (p : Obj → Bool) → in_transit p c.open_call.new.self.tree.calls ≡ in_transit p h.calls.tree.calls + count_by p c.args.args.objects =
+    λ p. rw c.open_call.ensures.tree (open_call-in_transit p h.calls.tree _ refl) in (
+      transit_more h.counts.counts h.tables h.names.names h.calls.tree.calls c.self.invariant.0 c.up_all.new.self.counts c.open_call.new.self.tree.calls more raised (λ o. further (is_object o)),
       holds_calls h.tables h.calls.tree.calls _ c.self.invariant.1 (rw c.open_call.ensures.tree (few_pushed h.calls.tree.calls _ c.self.invariant.1.transit c.requires.few)),
+      ap (λ n. h.carried + n) c.len.ensures ∙ carried_more h.carried h.calls.tree.calls c.open_call.new.self.tree.calls c.args.args.objects c.self.invariant.2 (further each),
     )
 
 pub up_all-requires-clause-few : goal.up_all-requires-clause-few
@@ -30,3 +34,6 @@ returns-clause-references c = λ o. omega (arith, (invariant_of-self c).0 o, c.s
 
 pub returns-clause-others : goal.returns-clause-others
 returns-clause-others c = λ o none. omega (arith, (invariant_of-self c).0 o, c.self.invariant.0 o, none, c.up_all.ensures.counts o, ap (count_object o) c.slice.ensures, ap (λ (v : HoldingsValue). references_of v o) c.self.view_is)
+
+pub overflow_add-self : goal.overflow_add-self
+overflow_add-self c = omega (arith, c.self.invariant.2, ap (λ (v : HoldingsValue). carried_in v.calls.tree.calls) c.self.view_is, c.carries_few.ensures, c.requires.few, c.len.ensures)

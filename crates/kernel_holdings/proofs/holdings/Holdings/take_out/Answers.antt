@@ -22,6 +22,7 @@ invariant_of-self c =
     λ o. rw c.take_out.ensures.tables (count_in-release o h.tables c.args.p.0 c.args.pass.now c.requires.once) in (
       held_fewer h.counts.counts c.lower_released.new.counts.counts h.tables c.take_out.new.self h.names.names h.calls.tree.calls objects c.self.invariant.0 down.counts fewer,
       holds_table h.tables c.take_out.new.self h.calls.tree.calls c.args.p.0 _ c.self.invariant.1 c.take_out.ensures.tables (rows_released_long _ c.args.pass.now),
+      c.self.invariant.2,
     )
 
 pub returns-clause-references : goal.returns-clause-references
