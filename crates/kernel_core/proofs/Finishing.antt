@@ -5,6 +5,7 @@ use Rattle.act_changes.specs.Closed.{Closing, closed_by, closed_rows}
 use Rattle.act_changes.specs.Ends.{is_end}
 use Rattle.act_changes.proofs.Kept.{forgotten_is_after, gone-settle_pools, settled_is_after}
 use Rattle.associated_ports.specs.Words.{HasRoomToEnd}
+use Rattle.dk_base.specs.Words.{RoomValue}
 use Rattle.kernel_store.specs.declared.told.ClosedRows.{ClosedRows}
 use Rattle.kernel_store.specs.declared.told.ClosedRows.TheVariants as closed
 use Rattle.kernel_store.specs.declared.told.TellingRooms.{TellingRooms}
@@ -59,6 +60,8 @@ has_acted start before n t q taken a first can noticing turning same ready acted
       told = can.told;
       rows = rows;
       readied = readied;
+      fallen = refl;
+      woken = refl;
       rooms = refl;
     }
 
@@ -191,10 +194,11 @@ module _ {start before after : Parts} {t : ℕ} {q : Option Request} {taken : Ta
   events_settled s e = let g : IsSettled m (stored_state s) = settled_after m n (stored_state s) t q h.acted e in g.events ∙ sym events_acted
 
   pub ready_settled :
-      (s : StoreValue) (rooms : TellingRooms) → stored_state s ≡ settle m n → IsReadyToSettle (record after { store = s; rooms = rooms }) taken.woken
-  ready_settled s rooms e =
+      (s : StoreValue) (list : RoomValue ℕ) (rooms : TellingRooms) → stored_state s ≡ settle m n →
+      IsReadyToSettle (record after { store = s; fallen = list; rooms = rooms })
+  ready_settled s list rooms e =
       let g : IsSettled m (stored_state s) = settled_after m n (stored_state s) t q h.acted e in
-      ready_after before (record after { store = s; rooms = rooms }) taken h.ready (g.threads ∙ sym (ap (λ (k : State). length k.process_table.threads) h.same))
+      ready_after before (record after { store = s; fallen = list; rooms = rooms }) taken h.ready h.woken (g.threads ∙ sym (ap (λ (k : State). length k.process_table.threads) h.same))
 
   -- no more notices are made than doors fell to one reference
   pub made_settled :

@@ -1,5 +1,7 @@
 -- What a step keeps within.
 use Rattle.std.proofs.Common.{◌≡◌, ℕ, ◌+◌, ◌<◌, ◌≤◌, ◌&&◌, not, Bool, true, false, Some, if◌then◌else◌, is_none, length, List, [], ◌∷◌, Option, None, refl, Result, Ok, Err, IfOk, OnErr, OnOk, subst, sym, ap, ◌∙◌, arith}
+use Rattle.dk_base.specs.declared.number.Tid.{Tid}
+use Rattle.dk_base.specs.Words.{RoomValue}
 use Rattle.written_kernel.specs.Types.{Answer, Errno, Item, NoMemory, Request, Stepped}
 use Rattle.kernel_core.specs.declared.event.Parts.{Parts}
 use Rattle.kernel_core.specs.declared.event.Taken.{Taken}
@@ -113,8 +115,13 @@ settled_kept before m n h e = e ∙ ap with_event_counted (sym (live_state (sett
 
 -- what was taken before an event suffices after its act and what follows it
 pub ready_after :
-    (p x : Parts) (taken : Taken) → IsReady p taken → length x.store.processes.threads ≡ length p.store.processes.threads → IsReadyToSettle x taken.woken
-ready_after p x taken h g = record { few = omega (arith, h.few, g); woken = record { empty = h.woken.empty; spare = omega (arith, h.woken.spare, g) } }
+    (p x : Parts) (taken : Taken) → IsReady p taken → x.woken ≡ p.woken → length x.store.processes.threads ≡ length p.store.processes.threads → IsReadyToSettle x
+ready_after p x taken h same g =
+    let spare = ap (λ (r : RoomValue Tid). r.spare) same in
+    record {
+      few = omega (arith, h.few, g);
+      woken = record { empty = ap (λ (r : RoomValue Tid). r.items) same ∙ h.woken.empty; spare = omega (arith, h.woken.spare, g, spare) };
+    }
 
 -- an act leaves as many processes as before
 pub processes_after :

@@ -135,3 +135,7 @@ pub turned_since :
 turned_since before m set were now old turns is few =
     ap (map tid) (turned_members m set were now turns is few
     ∙ numbers_where-same (λ t. can_turn m t && not (has were t)) (λ t. can_turn m t && not (can_turn before t)) (λ t. ap (λ b. can_turn m t && not b) (old t)) (length m.process_table.threads))
+
+pub none_listed : (ts : List Tid) → length ts ≡ 0 → ts ≡ []
+none_listed [] e = refl
+none_listed (t ∷ ts) e = absurd (omega arith)

@@ -53,4 +53,6 @@ pub record HasActed (start : Parts) (t : ℕ) (q : Option Request) (before after
   pub told : AreTold (stored_state start.store)
   pub rows : closing_of taken.closed ≡ closed_rows (stored_state start.store) t q
   pub readied : ReadiesAtMost (stored_state start.store) t q taken.pipe
+  pub fallen : after.fallen ≡ before.fallen
+  pub woken : after.woken ≡ before.woken
   pub rooms : after.rooms ≡ before.rooms

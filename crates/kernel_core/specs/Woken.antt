@@ -2,7 +2,6 @@
 use Rattle.std.specs.Prelude.{ℕ, ◌≡◌, ◌+◌, ◌≤◌, ◌&&◌, length, List, Option, map, not}
 use Rattle.dk_base.specs.declared.limits.TheConstants.{THREADS_MAX}
 use Rattle.dk_base.specs.declared.number.Tid.{Tid}
-use Rattle.dk_base.specs.Words.{RoomValue}
 use Rattle.kernel_records.specs.Words.{numbers_where, tid}
 use Rattle.thread_set.specs.declared.set.ThreadSet.{ThreadSet}
 use Rattle.thread_set.specs.Words.{has}
@@ -33,8 +32,8 @@ HasTurnsAfter m t q = HasTurns (forget (step m t q).state)
 pub record IsReady (parts : Parts) (taken : Taken) : Type 0 where
   pub were : AreTurns taken.were (stored_state parts.store)
   pub few : length parts.store.processes.threads ≤ THREADS_MAX
-  pub woken : IsRoomFor (length parts.store.processes.threads) taken.woken
-  pub fallen : length (watched (stored_state parts.store)) ≤ taken.fallen.spare
+  pub woken : IsRoomFor (length parts.store.processes.threads) parts.woken
+  pub fallen : length (watched (stored_state parts.store)) ≤ parts.fallen.spare
   pub notices : HasRoomForNotices parts.store
   pub opened : HasBegun parts.store (stored_state parts.store)
   pub agreed : IsAgreed parts.store
@@ -42,6 +41,6 @@ pub record IsReady (parts : Parts) (taken : Taken) : Type 0 where
   pub rooms : HasRoomToTell parts.rooms (length (associations_in (stored_state parts.store)) + 1)
 
 -- the same once its act is done
-pub record IsReadyToSettle (parts : Parts) (list : RoomValue Tid) : Type 0 where
+pub record IsReadyToSettle (parts : Parts) : Type 0 where
   pub few : length parts.store.processes.threads ≤ THREADS_MAX
-  pub woken : IsRoomFor (length parts.store.processes.threads) list
+  pub woken : IsRoomFor (length parts.store.processes.threads) parts.woken

@@ -22,7 +22,7 @@ use crate::telling::{closed_by, pipe_readied};
 use dk_base::answer::Answer;
 use dk_base::error::NoMemory;
 use dk_base::event::Stepped;
-use dk_base::list::Room;
+use dk_base::list::{Room, TidList};
 use dk_base::number::{Pid, Tid};
 use dk_base::request::Request;
 use kernel_records::pool::Pool;
@@ -38,16 +38,16 @@ pub struct Parts {
     pub store: Store,
     /// Room for the doors whose references fall to one by an event.
     pub fallen: Room<u32>,
+    /// Room for the threads that an event wakes.
+    pub woken: Room<Tid>,
     pub rooms: TellingRooms,
 }
 
-/// What is taken before an event: the threads that can take a turn; and memory for the threads that it wakes, and for the doors of
-/// which it may make notices; and what is told of its request: the rows that it closes, and the pipe of what it readies.
+/// What is known before an event: the threads that can take a turn; and what is told of its request: the rows that it closes, and the
+/// pipe of what it readies.
 #[derive(Drop)]
 struct Taken {
     were: ThreadSet,
-    woken: Room<Tid>,
-    fallen: Room<u32>,
     closed: ClosedRows,
     pipe: Option<u32>,
 }
@@ -57,7 +57,6 @@ impl Parts {
     /// else. One that hands over objects needs room for them besides, and one by which callers, threads or doors leave takes its own.
     fn reserve(
         &mut self,
-        alloc: Global,
         touched: Pool,
         closed: ClosedRows,
         pipe: Option<u32>,
@@ -77,39 +76,43 @@ impl Parts {
         self.fallen.clear();
         self.fallen
             .reserve(self.store.doors().notice_doors().len())?;
+        self.woken.clear();
+        self.woken
+            .reserve(self.store.processes().thread_count() as usize)?;
         self.rooms.reserve(self.store.association_count() + 1)?;
         self.store.notices();
-        let woken = Room::with_room(alloc, self.store.processes().thread_count() as usize)?;
         Ok(Taken {
             were: self.store.runnable(),
-            woken,
-            fallen: mem::replace(&mut self.fallen, Room::new(alloc)),
             closed,
             pipe,
         })
     }
 
-    /// The event is counted once all that follows its act is done. `were` are the threads that could take a turn before it.
-    fn end_event(&mut self, were: ThreadSet, mut woken: Room<Tid>, answer: Answer) -> Stepped
+    /// The event is counted once all that follows its act is done. `were` are the threads that could take a turn before it. Where it woke
+    /// none, the room for them is kept.
+    fn end_event(&mut self, alloc: Global, were: ThreadSet, answer: Answer) -> Stepped
         requires few { self.old.store.events < EVENTS_MAX }
-        requires ready { IsReadyToSettle self.old woken }
+        requires ready { IsReadyToSettle self.old }
         ensures state { stored_state self.new.store ≡ with_event_counted (stored_state self.old.store) }
         ensures answer { result.answer ≡ answer }
         ensures woken { (before : State) → AreTurns were before → result.woken ≡ turned_threads before (stored_state self.new.store) }
         ensures rest { (n : ℕ) → IsAtRest n self.old.store → IsAtRest n self.new.store }
     {
         self.store.count();
-        self.store.runnable().without(were).list(&mut woken);
-        Stepped {
-            answer,
-            woken: woken.into_list(),
-        }
+        self.store.runnable().without(were).list(&mut self.woken);
+        let woken = if self.woken.len() == 0 {
+            TidList::new(alloc)
+        } else {
+            mem::replace(&mut self.woken, Room::new(alloc)).into_list()
+        };
+        Stepped { answer, woken }
     }
 
     /// What follows the act of an event that touched this pool, and by which these threads `parked` again, since their callers left, on
     /// what was taken for it. `first` is the process whose first common door the act made.
     fn finish(
         &mut self,
+        alloc: Global,
         taken: Taken,
         touched: Pool,
         parked: ThreadSet,
@@ -122,20 +125,12 @@ impl Parts {
         ensures made { (start : Parts) (t : ℕ) (q : Option Request) (before : Parts) → HasActed start t q before self.old taken (option_map (λ p. p.0) first) answer → self.new.store.notices.list.made ≤ start.store.notices.list.made + STEP_MAX }
         ensures between { IsBetweenEvents self.new }
     {
-        let Taken {
-            were,
-            woken,
-            mut fallen,
-            closed,
-            pipe,
-        } = taken;
+        let Taken { were, closed, pipe } = taken;
         self.rooms.gone.clear();
         self.store.gone(&mut self.rooms.gone);
-        settle(&mut self.store, &mut fallen, touched, parked, first);
+        settle(&mut self.store, &mut self.fallen, touched, parked, first);
         self.store.tell(&closed, pipe, &mut self.rooms);
-        let stepped = self.end_event(were, woken, answer);
-        self.fallen = fallen;
-        stepped
+        self.end_event(alloc, were, answer)
     }
 
     /// The event of a kernel entry.
@@ -156,11 +151,11 @@ impl Parts {
         let objects = Room::with_room(alloc, needs.passed)?;
         let closed = closed_by(&self.store, alloc, t, p, &request)?;
         let pipe = pipe_readied(&self.store, p, &request);
-        let taken = self.reserve(alloc, needs.touched, closed, pipe)?;
+        let taken = self.reserve(needs.touched, closed, pipe)?;
         let mut parked = ThreadSet::new();
         let answer = enter(&mut self.store, alloc, t, p, request, objects, &mut parked)?;
         let first = made_first(&answer, needs.first);
-        Ok(self.finish(taken, needs.touched, parked, first, answer))
+        Ok(self.finish(alloc, taken, needs.touched, parked, first, answer))
     }
 
     /// The event of the end of a wait. A thread that is bound to an invalid door wakes with EINVAL where it parks again.
@@ -179,8 +174,8 @@ impl Parts {
         let ending = ending_of(self.store.processes().state(t));
         let fds = Room::with_room(alloc, count_at_end(&self.store, t, ending))?;
         let found = room_to_find(alloc, count_found(&self.store, ending))?;
-        let taken = self.reserve(alloc, touched, ClosedRows::Nothing, None)?;
+        let taken = self.reserve(touched, ClosedRows::Nothing, None)?;
         let answer = go_on(&mut self.store, alloc, t, p, ending, fds, found);
-        Ok(self.finish(taken, touched, ThreadSet::new(), None, answer))
+        Ok(self.finish(alloc, taken, touched, ThreadSet::new(), None, answer))
     }
 }

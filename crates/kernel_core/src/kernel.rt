@@ -54,6 +54,7 @@ impl Kernel {
         let parts = Parts {
             store,
             fallen: Room::new(alloc),
+            woken: Room::new(alloc),
             rooms: TellingRooms::new(alloc),
         };
         Ok(Kernel { alloc, parts })

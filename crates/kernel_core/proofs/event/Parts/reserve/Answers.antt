@@ -1,6 +1,5 @@
-use Rattle.std.proofs.Common.{ℕ, ◌≡◌, ◌+◌, ◌≤◌, ap, arith, length, rules, subst, ◌∙◌}
+use Rattle.std.proofs.Common.{◌≡◌, ◌+◌, ◌≤◌, ap, arith, length, rules, subst, ◌∙◌}
 use Rattle.std.proofs.lemmas.List.Sums.{count_by-le-length, length-filter}
-use Rattle.dk_base.specs.Words.{RoomValue}
 use Rattle.kernel_records.specs.Words.{notice_doors}
 use Rattle.kernel_store.specs.Words.{HasRoomToTell, stored_state}
 use Rattle.kernel_core.specs.Watched.{is_watched, watched}
@@ -26,8 +25,8 @@ returns-in_err-reserve-3-clause-rest c = λ h.
     (rest_reserved c.reserve.ensures.state c.reserve.ensures.keeps
     (rest_started c.args.self.now.store c.start_step.new.self c.start_step.ensures.same h))
 
-pub returns-in_err-woken-clause-rest : goal.returns-in_err-woken-clause-rest
-returns-in_err-woken-clause-rest c = λ h.
+pub returns-in_err-reserve-4-clause-rest : goal.returns-in_err-reserve-4-clause-rest
+returns-in_err-reserve-4-clause-rest c = λ h.
     rest_reserved c.reserve_notices.ensures.state c.reserve_notices.ensures.keeps
     (rest_reserved c.reserve.ensures.state c.reserve.ensures.keeps
     (rest_started c.args.self.now.store c.start_step.new.self c.start_step.ensures.same h))
@@ -46,16 +45,15 @@ returns-clause-ready c =
     let all : c.notice_doors.result.now ≡ notice_doors n.doors = search rules in
     let here = ap length all in
     let room = c.in_ok-reserve-2.ensures.spare in
-    let moved = ap (λ (r : RoomValue ℕ). r.spare) c.replace.ensures.value in
     record {
       were = search rules;
       few = search rules;
       woken = search rules;
-      fallen = omega (arith, fewer, here, room, moved);
+      fallen = omega (arith, fewer, here, room);
       notices = c.in_ok-reserve_notices.ensures.room;
       opened = search rules;
       agreed = search rules;
-      rooms = subst (λ k. HasRoomToTell c.reserve-3.new.self (k + 1)) c.association_count.ensures.len c.in_ok-reserve-3.ensures;
+      rooms = subst (λ k. HasRoomToTell c.reserve-4.new.self (k + 1)) c.association_count.ensures.len c.in_ok-reserve-4.ensures;
     }
 
 pub reserve_notices-requires : goal.reserve_notices-requires
