@@ -32,7 +32,7 @@ use std::alloc::Global;
 use std::mem;
 use thread_set::set::ThreadSet;
 
-/// A kernel's store, and the room of a list that each event makes anew.
+/// A kernel's store, and the rooms of the lists that each event makes anew.
 #[derive(Drop)]
 pub struct Parts {
     pub store: Store,
@@ -40,6 +40,7 @@ pub struct Parts {
     pub fallen: Room<u32>,
     /// Room for the threads that an event wakes.
     pub woken: Room<Tid>,
+    /// Room for what ports are told by an event.
     pub rooms: TellingRooms,
 }
 
