@@ -50,7 +50,7 @@ use Rattle.kernel_core.proofs.Turning.{turns_consistent}
 -- a turn of what is kept is a turn of what it stands for
 may_stands : (m : State) (t : ℕ) (q : Option Request) → MayTurn (forget m) t q → MayTurn m t q
 may_stands m t (Some r) may =
-    record { running = may.running; fit = may.fit; built = may.built; few = may.few }
+    record { running = may.running; fit = may.fit; few = may.few }
 may_stands m t None may =
     record { runnable = sym (is_runnable-forget m t) ∙ may.runnable; waits = may.waits; few = may.few }
 

@@ -1,8 +1,6 @@
 //! The act of a turn: an entry, unless it is refused, or the end of a wait.
 ghost use Rattle.std.specs.Prelude.{◌≡◌, ◌≤◌, ◌&&◌, if◌then◌else◌, not, Some, None, false, length, true, IfOk, OnErr, OnOk};
 ghost use Rattle.std.specs.Option.{option_map};
-ghost use Rattle.capabilities.specs.declared.table.TheConstants.{BUILT};
-ghost use Rattle.capabilities.specs.Words.{capability_of};
 ghost use Rattle.kernel_records.specs.Words.{has_common_door, is_private};
 ghost use Rattle.kernel_invariant.specs.Coherent.{is_unfit};
 ghost use Rattle.kernel_invariant.specs.Events.{is_leaving};
@@ -119,7 +117,6 @@ pub fn enter(
     requires can_leave { is_leaving request ≡ true → CanLeave store.old }
     requires none_past { HasNothingPast (stored_state store.old) }
     requires running { is_running (stored_state store.old) t.0 ≡ true }
-    requires built { capability_of request ≤ BUILT }
     requires held { AreHeld (stored_state store.old) }
     requires own { p.0 ≡ process_of (stored_state store.old) t.0 }
     requires room { IsRoomFor (count_passed request) objects }

@@ -2,8 +2,6 @@
 ghost use Rattle.std.specs.Prelude.{◌≡◌, ℕ, ◌+◌, ◌<◌, ◌≤◌, [], List, Option, false, length, true, Some, None, IfOk, OnOk, OnErr};
 ghost use Rattle.std.specs.Option.{option_map};
 ghost use Rattle.dk_base.specs.declared.limits.TheConstants.{EVENTS_MAX, THREADS_MAX};
-ghost use Rattle.capabilities.specs.declared.table.TheConstants.{BUILT};
-ghost use Rattle.capabilities.specs.Words.{capability_of};
 ghost use Rattle.written_kernel.specs.Words.{IsStep, State, act, has_lost_door, is_runnable, is_running, step, with_event_counted};
 ghost use Rattle.kernel_invariant.specs.Events.{is_leaving};
 ghost use Rattle.kernel_store.specs.Words.{ArePlaced, CanSettle, HasRoom, HasWholeStep, IsAtRest, stored_state};
@@ -137,7 +135,6 @@ impl Parts {
     /// The event of a kernel entry.
     pub fn enter(&mut self, alloc: Global, t: Tid, request: Request) -> Result<Stepped, NoMemory>
         requires running { is_running (stored_state self.old.store) t.0 ≡ true }
-        requires built { capability_of request ≤ BUILT }
         requires can_step { CanStep self.old }
         requires noticing { CanNoticeAfter (stored_state self.old.store) t.0 (Some request) }
         requires turning { HasTurnsAfter (stored_state self.old.store) t.0 (Some request) }

@@ -5,8 +5,6 @@ ghost use Rattle.dk_base.specs.declared.answer.Answer.TheVariants.{Failure};
 ghost use Rattle.dk_base.specs.declared.error.ProcFault.TheVariants.{Full};
 ghost use Rattle.written_kernel.specs.Types.{Errno};
 ghost use Rattle.dk_base.specs.declared.limits.TheConstants.{DESCRIPTORS_MAX, PROCESSES_MAX, THREADS_MAX, EVENTS_MAX};
-ghost use Rattle.capabilities.specs.declared.table.TheConstants.{BUILT};
-ghost use Rattle.capabilities.specs.Words.{capability_of};
 ghost use Rattle.written_kernel.specs.Words.{IsFit, IsStep, MayGoOn, StandsFor, State, is_runnable, is_running, least_runnable, opening, process_of, refusal_of, root, state_of, step, with_event_counted, with_new_thread, with_processes};
 ghost use Rattle.kernel_core.specs.Kept.{IsKept};
 ghost use Rattle.kernel_store.specs.Words.{IsAtRest, stored_state};
@@ -83,7 +81,6 @@ impl Kernel {
     pub fn enter(&mut self, t: Tid, request: Request) -> Result<Stepped, NoMemory>
         requires running { is_running self.old t.0 ≡ true }
         requires fit { IsFit self.old t.0 request }
-        requires built { capability_of request ≤ BUILT }
         requires few { self.old.events < EVENTS_MAX }
         ensures step { IfOk result (λ s. (m : State) → StandsFor self.old m → IsStep (step m t.0 (Some request)) self.new s) }
         ensures refused { IfOk result (λ s. (e : Errno) → refusal_of self.old t.0 (process_of self.old t.0) request ≡ Some e → (s.answer ≡ Failure e) × (self.new ≡ with_event_counted self.old)) }

@@ -2,9 +2,6 @@
 ghost use Rattle.std.specs.Prelude.{ℕ, ◌≡◌, ◌≤◌, Option, IfOk, length};
 ghost use Rattle.std.specs.List.{AllByRecursion};
 ghost use Rattle.dk_base.specs.declared.limits.TheConstants.{DESCRIPTORS_MAX};
-ghost use Rattle.capabilities.specs.Capability.{capability_of_pass};
-ghost use Rattle.capabilities.specs.Words.{capability_of};
-ghost use Rattle.capabilities.specs.declared.table.TheConstants.{BUILT};
 ghost use Rattle.written_kernel.specs.Words.{IsFit, State};
 
 use dk_base::answer::Answer;
@@ -149,7 +146,6 @@ fn is_step(stepped: &Result<Stepped, NoMemory>, gives: Gives, wakes: &[Tid]) -> 
 /// An entry about pipes or ports.
 fn request_about_channels(alloc: Global, entry: Entry) -> Result<Request, NoMemory>
     ensures fit { IfOk result (λ r. (m : State) (t : ℕ) → IsFit m t r) }
-    ensures built { IfOk result (λ r. capability_of r ≤ BUILT) }
 {
     match entry {
         Entry::Pipe => Ok(Request::Pipe),
@@ -200,10 +196,8 @@ fn request_about_channels(alloc: Global, entry: Entry) -> Result<Request, NoMemo
     }
 }
 
-#[tactic(auto, using(crate::proofs::Built::passing_built))]
 fn request(alloc: Global, entry: Entry) -> Result<Request, NoMemory>
     ensures fit { IfOk result (λ r. (m : State) (t : ℕ) → IsFit m t r) }
-    ensures built { IfOk result (λ r. capability_of r ≤ BUILT) }
 {
     match entry {
         Entry::Create => Ok(Request::Create {

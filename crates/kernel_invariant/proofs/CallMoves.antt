@@ -13,7 +13,7 @@ use Rattle.kernel_invariant.specs.Records.{item_in, owner_in}
 use Rattle.kernel_invariant.specs.Core.{Core, abandoned_in}
 use Rattle.kernel_invariant.specs.Coherent.{IsCoherent, bound_for}
 use Rattle.kernel_invariant.proofs.Cores.{set_role, set_serves, set_call, set_new_call}
-use Rattle.kernel_invariant.proofs.Parts.{at_doors_move, at_doors_set, built_turn, calls_move, calls_set, notices_serve, notices_turn, processes_turn, servers_move, servers_turn, waits_turn}
+use Rattle.kernel_invariant.proofs.Parts.{at_doors_move, at_doors_set, fit_turn, calls_move, calls_set, notices_serve, notices_turn, processes_turn, servers_move, servers_turn, waits_turn}
 
 -- a new call of a running thread waits at a valid door
 abbrev pub with_call_of : Core → ℕ → Call → Core
@@ -68,7 +68,7 @@ call_keeps k t r h p =
       bindings = h.bindings;
       processes = processes_turn t _ h.processes (grind arith);
       threads = h.threads;
-      has_fit_state = built_turn t _ h refl;
+      has_fit_state = fit_turn t _ h refl;
     }
 
 -- a waiting call is given to an idle thread of its door's pool
@@ -112,7 +112,7 @@ give_keeps k r u h p =
       bindings = h.bindings;
       processes = processes_turn u _ h.processes (grind (arith, p.idle));
       threads = h.threads;
-      has_fit_state = built_turn u _ h refl;
+      has_fit_state = fit_turn u _ h refl;
     }
 
 -- a thread enters the call that it was given
@@ -154,7 +154,7 @@ enter_keeps k t r h q g =
       bindings = h.bindings;
       processes = processes_turn t _ h.processes (grind arith);
       threads = h.threads;
-      has_fit_state = built_turn t _ h refl;
+      has_fit_state = fit_turn t _ h refl;
     }
 
 -- a thread cannot enter the call that it was given: the call ends, and the thread is parked
@@ -192,7 +192,7 @@ fail_keeps k t r x since h q g =
       bindings = h.bindings;
       processes = processes_turn t _ h.processes (grind arith);
       threads = h.threads;
-      has_fit_state = built_turn t _ h refl;
+      has_fit_state = fit_turn t _ h refl;
     }
 
 -- a thread that returns is parked, or goes on
@@ -236,7 +236,7 @@ return_keeps k t r bytes objects s h p z q i a =
       bindings = h.bindings;
       processes = processes_turn t _ h.processes (grind arith);
       threads = h.threads;
-      has_fit_state = built_turn t s h (grind arith);
+      has_fit_state = fit_turn t s h (grind arith);
     }
 
 -- a thread without a client returns
@@ -266,7 +266,7 @@ park_keeps k t s h p w q z =
       bindings = h.bindings;
       processes = processes_turn t _ h.processes (grind arith);
       threads = h.threads;
-      has_fit_state = built_turn t s h (grind arith);
+      has_fit_state = fit_turn t s h (grind arith);
     }
 
 -- a caller collects the answer of its call
@@ -302,5 +302,5 @@ collect_keeps k t r at h q g z =
       bindings = h.bindings;
       processes = processes_turn t _ h.processes (grind arith);
       threads = h.threads;
-      has_fit_state = built_turn t _ h refl;
+      has_fit_state = fit_turn t _ h refl;
     }

@@ -15,7 +15,7 @@ use Rattle.kernel_invariant.proofs.Serving.{step_serves}
 use Rattle.kernel_invariant.proofs.Doors.{step_holds}
 use Rattle.kernel_invariant.proofs.Answers.{Tells, act_tells, is_there}
 use Rattle.kernel_invariant.proofs.Waits.{step_accepted, step_collected}
-use Rattle.kernel_invariant.proofs.Built.{turn_built}
+use Rattle.kernel_invariant.proofs.ReadyTurns.{turn_ready}
 use Rattle.kernel_invariant.proofs.Refusals.{step_refused}
 use Rattle.kernel_invariant.proofs.Losing.{act_none_lost}
 
@@ -53,5 +53,5 @@ step_keeps m t q h may =
       collected = λ c e f. step_collected m t q c h may e f;
       refused = λ r e f g. step_refused m t q r e h f g;
       none_lost = λ e u. act_none_lost m t u q h may e;
-      is_built = turn_built m t q h may;
+      is_ready = turn_ready m t q h may;
     }

@@ -22,7 +22,7 @@ pub mod Serving
 pub mod Doors
 pub mod Answers
 pub mod Waits
-pub mod Built
+pub mod ReadyTurns
 pub mod Refusals
 pub mod Losing
 pub mod Events

@@ -13,7 +13,7 @@ use Rattle.kernel_invariant.specs.Coherent.{IsCoherent, bound_for}
 use Rattle.kernel_invariant.specs.Records.{owner_in}
 use Rattle.kernel_invariant.proofs.Cores.{set_role, set_serves, upd}
 use Rattle.kernel_invariant.proofs.CallMoves.{is_after_return}
-use Rattle.kernel_invariant.proofs.Parts.{built_turn, notices_at_doors_move, processes_turn, servers_move, servers_turn, waits_turn}
+use Rattle.kernel_invariant.proofs.Parts.{fit_turn, notices_at_doors_move, processes_turn, servers_move, servers_turn, waits_turn}
 
 abbrev pub set_notice : Core → ℕ → NoticeStage → Core
 set_notice k n s = record k { notice = upd k.notice n (Some s) }
@@ -91,7 +91,7 @@ give_notice_keeps k n u h p =
       bindings = h.bindings;
       processes = processes_turn u _ h.processes (grind (arith, p.idle));
       threads = h.threads;
-      has_fit_state = built_turn u _ h refl;
+      has_fit_state = fit_turn u _ h refl;
     }
 
 -- a thread enters the notice that it was given
@@ -134,7 +134,7 @@ enter_notice_keeps k t n h g =
       bindings = h.bindings;
       processes = processes_turn t _ h.processes (grind arith);
       threads = h.threads;
-      has_fit_state = built_turn t _ h refl;
+      has_fit_state = fit_turn t _ h refl;
     }
 
 -- a thread returns from the notice that it has entered
@@ -174,5 +174,5 @@ end_notice_keeps k t n s h p w i =
       bindings = h.bindings;
       processes = processes_turn t _ h.processes (grind arith);
       threads = h.threads;
-      has_fit_state = built_turn t _ h (grind arith);
+      has_fit_state = fit_turn t _ h (grind arith);
     }

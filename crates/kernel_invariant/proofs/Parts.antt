@@ -70,9 +70,9 @@ pub processes_turn :
     AreProcesses role process proc → is_done (role t) ≡ false → AreProcesses (upd role t s) process proc
 processes_turn t s h p = record { ended_done = λ v e. grind (arith, nat_tests, h.ended_done v) }
 
-pub built_turn :
+pub fit_turn :
     {k : Core} (t : ℕ) (s : ThreadState) → IsCoherent k → is_unfit s ≡ false → (u : ℕ) → is_unfit (upd k.role t s u) ≡ false
-built_turn t s h p u = grind (arith, nat_tests, h.has_fit_state u)
+fit_turn t s h p u = grind (arith, nat_tests, h.has_fit_state u)
 
 -- the states of a thread that has not ended and holds no item
 abbrev pub is_free : ThreadState → Bool
@@ -99,7 +99,7 @@ role_keeps k t s h p q u o =
       bindings = h.bindings;
       processes = processes_turn t s h.processes (grind arith);
       threads = h.threads;
-      has_fit_state = built_turn t s h u;
+      has_fit_state = fit_turn t s h u;
     }
 
 -- a thread's invocation begins or ends

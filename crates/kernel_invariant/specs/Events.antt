@@ -11,8 +11,6 @@ use Rattle.dk_base.specs.declared.answer.Answer.TheVariants as answer
 use Rattle.kernel_records.specs.declared.record.ThreadState.TheVariants as is
 use Rattle.kernel_records.specs.declared.record.CallStage.TheVariants as stage
 use Rattle.kernel_records.specs.Words.{cancelled_invocation, first_refusal, is_given_as, is_given_notice_as, is_to_collect_as, new_invocation, no_cancel_of, tid}
-use Rattle.capabilities.specs.Capability.{capability_of_attrs}
-use Rattle.capabilities.specs.declared.table.TheConstants.{BUILT}
 use Rattle.written_kernel.specs.Words.{State, act, can_end_getting, door_of, falls_to_one, find_call, find_notice, has_invalid_door, has_lost_door, invocation_of, may_have_notice, name_of, process_of, refusal_of, return_answer, return_tests, state_of, step, with_event_counted}
 use Rattle.kernel_invariant.specs.Records.{notice_of, record_of, stage_of}
 use Rattle.kernel_invariant.specs.Coherent.{is_fit_wait}
@@ -107,57 +105,22 @@ IsAcceptedNow n t c = (stage_of n c ≡ Some (stage.Entered (tid t))) ⊎ (stage
 abbrev pub IsAnsweredNow : State → State → ℕ → Type 0
 IsAnsweredNow m n c = stage_of n c ≡ Some (stage.Answered (m.events + 1))
 
--- the entries that are built
-abbrev pub IsBuiltEntry : State → ℕ → Request → Type 0
-IsBuiltEntry m t (request.Create entry cookie attrs) = capability_of_attrs attrs ≤ BUILT
-IsBuiltEntry m t (request.Call fd bytes pass rsize) = Unit {0}
-IsBuiltEntry m t (request.Return bytes pass) = Unit {0}
-IsBuiltEntry m t (request.Revoke fd) = Unit {0}
-IsBuiltEntry m t (request.Bind fd) = Unit {0}
-IsBuiltEntry m t request.Unbind = Unit {0}
-IsBuiltEntry m t (request.Info fd) = Unit {0}
-IsBuiltEntry m t request.InfoQuery = Unit {0}
-IsBuiltEntry m t (request.GetParam fd param) = Unit {0}
-IsBuiltEntry m t (request.SetParam fd param value) = Unit {0}
-IsBuiltEntry m t request.Cred = Unit {0}
-IsBuiltEntry m t request.TestCancel = Unit {0}
-IsBuiltEntry m t (request.Close fd) = Unit {0}
-IsBuiltEntry m t (request.Dup fd) = Unit {0}
-IsBuiltEntry m t (request.Attach fd path) = Unit {0}
-IsBuiltEntry m t (request.Detach path) = Unit {0}
-IsBuiltEntry m t (request.Open path) = Unit {0}
-IsBuiltEntry m t (request.Await path) = Unit {0}
-IsBuiltEntry m t (request.Interrupt thread) = Unit {0}
-IsBuiltEntry m t (request.Kill process) = Unit {0}
-IsBuiltEntry m t request.Exit = Unit {0}
-IsBuiltEntry m t request.Pipe = Unit {0}
-IsBuiltEntry m t (request.Write fd bytes) = Unit {0}
-IsBuiltEntry m t (request.Read fd max) = Unit {0}
-IsBuiltEntry m t request.PortCreate = Unit {0}
-IsBuiltEntry m t (request.Get fd wait) = Unit {0}
-IsBuiltEntry m t (request.GetN fd max nget wait) = Unit {0}
-IsBuiltEntry m t (request.Send fd events user) = Unit {0}
-IsBuiltEntry m t (request.SendN fds events user) = Unit {0}
-IsBuiltEntry m t (request.Alert fd mode events user) = Unit {0}
-IsBuiltEntry m t (request.Associate port object events user) = Unit {0}
-IsBuiltEntry m t (request.Dissociate port object) = Unit {0}
-IsBuiltEntry m t (request.Work op bytes) = Unit {0}
-
--- the ends of waits that are built, each with what the thread waits for
-abbrev pub IsBuiltEnd : State → ℕ → ThreadState → Type 0
-IsBuiltEnd m t (is.Given (item.Call c)) = IsMade (find_call m (is_given_as c t))
-IsBuiltEnd m t (is.Given (item.Notice c)) = IsMade (find_notice m (is_given_notice_as c t))
-IsBuiltEnd m t (is.Calling c) = IsMade (find_call m (is_to_collect_as c))
-IsBuiltEnd m t (is.Getting port max nget one marked) =
+-- what a thread waits for is there, and nothing else ends a wait
+abbrev pub IsReadyEnd : State → ℕ → ThreadState → Type 0
+IsReadyEnd m t (is.Given (item.Call c)) = IsMade (find_call m (is_given_as c t))
+IsReadyEnd m t (is.Given (item.Notice c)) = IsMade (find_notice m (is_given_notice_as c t))
+IsReadyEnd m t (is.Calling c) = IsMade (find_call m (is_to_collect_as c))
+IsReadyEnd m t (is.Getting port max nget one marked) =
     (can_end_getting m port nget marked ≡ true) × (is_fit_wait max nget one ≡ true)
-IsBuiltEnd m t (is.Awaiting path) = IsMade (name_of m path)
-IsBuiltEnd m t (is.Working op input) = Unit {0}
-IsBuiltEnd m t is.FailedReturn = Unit {0}
-IsBuiltEnd m t s = ⊥
+IsReadyEnd m t (is.Awaiting path) = IsMade (name_of m path)
+IsReadyEnd m t (is.Working op input) = Unit {0}
+IsReadyEnd m t is.FailedReturn = Unit {0}
+IsReadyEnd m t s = ⊥
 
-abbrev pub IsBuiltTurn : State → ℕ → Option Request → Type 0
-IsBuiltTurn m t (Some r) = IsBuiltEntry m t r
-IsBuiltTurn m t None = IsBuiltEnd m t (state_of m t)
+-- where a turn ends a wait
+abbrev pub IsReadyTurn : State → ℕ → Option Request → Type 0
+IsReadyTurn m t (Some r) = Unit {0}
+IsReadyTurn m t None = IsReadyEnd m t (state_of m t)
 
 -- an entry by which callers, threads or doors leave
 abbrev pub is_leaving : Request → Bool
@@ -206,5 +169,5 @@ pub record Keeps (m : State) (t : ℕ) (q : Option Request) : Type 0 where
       (r : Request) (e : Errno) → q ≡ Some r → refusal_of m t (process_of m t) r ≡ Some e → (step m t q).state ≡ with_event_counted m
   -- no other act leaves a thread idle that is bound to a door that is not valid
   pub none_lost : may_lose_door m t q ≡ false → (u : ℕ) → has_lost_door (act m t q).state u ≡ false
-  -- an act that is not built is never reached
-  pub is_built : IsBuiltTurn m t q
+  -- the end of a wait has what its thread waits for
+  pub is_ready : IsReadyTurn m t q

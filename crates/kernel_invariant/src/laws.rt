@@ -10,7 +10,7 @@ ghost use Rattle.kernel_invariant.specs.Events.{Keeps};
 /// Every event that may be keeps the invariant, calls, invocations, notices and doors take the arrows of their tables, a door whose
 /// references fall to one has just one notice more where it may have one, what its answer tells is so, an entry that is refused
 /// changes nothing but the number of events, only an entry of leaving, or the end of a wait of a thread that is bound to an invalid
-/// door, leaves a thread idle that is so bound, and the act is one that is built.
+/// door, leaves a thread idle that is so bound, and the end of a wait has what its thread waits for.
 pub fn every_event()
     ensures { (m : State) (t : ℕ) (q : Option Request) → Invariant m → MayTurn m t q → Keeps m t q }
 {}

@@ -9,14 +9,12 @@ use Rattle.kernel_records.specs.declared.record.ThreadState.TheVariants as is
 use Rattle.kernel_records.specs.Words.{Port, alert_event, events_found, first_found, found_at, has_bad_count, is_given_as, is_given_notice_as, is_ready_for, must_wait, port_in, record_of, records_of, refused_where}
 use Rattle.kernel_records.proofs.NumberedLists.{find-passes}
 use Rattle.dk_base.specs.declared.request.Request.TheVariants as request
-use Rattle.capabilities.specs.Capability.{capability_of}
-use Rattle.capabilities.specs.declared.table.TheConstants.{BUILT}
 use Rattle.written_kernel.specs.Words.{MayEnter, MayTurn, State, Turn, accept_call, accept_notice, after_sending, await_name, begin_call, effect, errors_of_sending, event_answer, fail_begin, found_answer, get, get_from, get_many, go_on, has_invalid_door, has_port_references, has_room, held_in, name_of, object_at, pipe_at, port, port_at, port_tests, process_of, refusal_of, retrieve, return_parked, return_unbound, state_at, state_of, step, tell_queued, unless_refused, wait_for, with_state}
 use Rattle.written_kernel.proofs.Refusals.{last_not_held, not_held}
 use Rattle.kernel_laws.specs.Channels.{AreEnough, alert_in, port_under}
 use Rattle.kernel_laws.specs.Answers.{Answers, AnswersEndsOfWaits, AnswersRequests, EndAnswers}
 use Rattle.written_kernel.proofs.Moves.{act_result, given_is, given_notice_is}
-use Rattle.kernel_invariant.specs.Events.{IsBuiltEnd, IsBuiltTurn}
+use Rattle.kernel_invariant.specs.Events.{IsReadyEnd, IsReadyTurn}
 use Rattle.run_places.specs.Places.{IsCollect, answer_at}
 use Rattle.run_places.specs.References.{references_of_port}
 use Rattle.run_places.proofs.References.{references_of_port_are}
@@ -143,66 +141,63 @@ module _ (m : State) (t p : ℕ) (fd : Fd) (wait : Bool) where
       by_max false z = by_events z (is_ready_for nget (port m (port_at m p fd))) refl
 
 effect_answers :
-    (m : State) (t p : ℕ) (r : Request) → capability_of r ≤ BUILT → refusal_of m t p r ≡ None → Answers r (effect m t p r).answer
-effect_answers m t p (request.Create entry cookie attrs) h none = Answers.creates entry cookie attrs _
-effect_answers m t p (request.Dup fd) h none = Answers.copies fd _
-effect_answers m t p (request.Open path) h none = Answers.opens path _
-effect_answers m t p (request.Call fd bytes pass rsize) h none = Answers.calls fd bytes pass rsize _
-effect_answers m t p (request.Return bytes pass) h none = go (has_invalid_door m t)
+    (m : State) (t p : ℕ) (r : Request) → refusal_of m t p r ≡ None → Answers r (effect m t p r).answer
+effect_answers m t p (request.Create entry cookie attrs) none = Answers.creates entry cookie attrs _
+effect_answers m t p (request.Dup fd) none = Answers.copies fd _
+effect_answers m t p (request.Open path) none = Answers.opens path _
+effect_answers m t p (request.Call fd bytes pass rsize) none = Answers.calls fd bytes pass rsize _
+effect_answers m t p (request.Return bytes pass) none = go (has_invalid_door m t)
   where
     go : (b : Bool) → Answers (request.Return bytes pass) (if b then return_unbound m t p bytes pass else return_parked m t p bytes pass).answer
     go true = Answers.fails _ _
     go false = Answers.returns bytes pass
-effect_answers m t p (request.Await path) h none = go (name_of m path)
+effect_answers m t p (request.Await path) none = go (name_of m path)
   where
     go : (o : Option Name) → Answers (request.Await path) (await_name m t path o).answer
     go (Some n) = Answers.finds path
     go None = Answers.waits path
-effect_answers m t p (request.Info fd) h none = Answers.informs fd _
-effect_answers m t p request.InfoQuery h none = Answers.informs_bound _
-effect_answers m t p (request.GetParam fd x) h none = Answers.values fd x _
-effect_answers m t p request.Cred h none = Answers.names_client _
-effect_answers m t p request.TestCancel h none = Answers.cancels _
-effect_answers m t p (request.Revoke fd) h none = Answers.revokes fd
-effect_answers m t p (request.Bind fd) h none = Answers.binds fd
-effect_answers m t p request.Unbind h none = Answers.unbinds
-effect_answers m t p (request.SetParam fd x value) h none = Answers.sets fd x value
-effect_answers m t p (request.Close fd) h none = Answers.closes fd
-effect_answers m t p (request.Attach fd path) h none = Answers.attaches fd path
-effect_answers m t p (request.Detach path) h none = Answers.detaches path
-effect_answers m t p (request.Interrupt thread) h none = Answers.interrupts thread
-effect_answers m t p (request.Kill process) h none = Answers.kills process
-effect_answers m t p request.Exit h none = Answers.exits
-effect_answers m t p request.Pipe h none = Answers.makes_pipe _ _
-effect_answers m t p (request.Write fd bytes) h none =
+effect_answers m t p (request.Info fd) none = Answers.informs fd _
+effect_answers m t p request.InfoQuery none = Answers.informs_bound _
+effect_answers m t p (request.GetParam fd x) none = Answers.values fd x _
+effect_answers m t p request.Cred none = Answers.names_client _
+effect_answers m t p request.TestCancel none = Answers.cancels _
+effect_answers m t p (request.Revoke fd) none = Answers.revokes fd
+effect_answers m t p (request.Bind fd) none = Answers.binds fd
+effect_answers m t p request.Unbind none = Answers.unbinds
+effect_answers m t p (request.SetParam fd x value) none = Answers.sets fd x value
+effect_answers m t p (request.Close fd) none = Answers.closes fd
+effect_answers m t p (request.Attach fd path) none = Answers.attaches fd path
+effect_answers m t p (request.Detach path) none = Answers.detaches path
+effect_answers m t p (request.Interrupt thread) none = Answers.interrupts thread
+effect_answers m t p (request.Kill process) none = Answers.kills process
+effect_answers m t p request.Exit none = Answers.exits
+effect_answers m t p request.Pipe none = Answers.makes_pipe _ _
+effect_answers m t p (request.Write fd bytes) none =
     Answers.writes fd bytes _ (take_at_most (PIPE_MAX - length (held_in m (pipe_at m p fd))) bytes).1
-effect_answers m t p (request.Read fd max) h none = Answers.reads fd max _ (take_at_most max (held_in m (pipe_at m p fd))).0
-effect_answers m t p request.PortCreate h none = Answers.makes_port _
-effect_answers m t p (request.Get fd wait) h none = one_answers m t p fd wait none
-effect_answers m t p (request.GetN fd max nget wait) h none = many_answer m t p fd wait max nget none
-effect_answers m t p (request.Send fd events user) h none = Answers.sends fd events user
-effect_answers m t p (request.SendN fds events user) h none =
+effect_answers m t p (request.Read fd max) none = Answers.reads fd max _ (take_at_most max (held_in m (pipe_at m p fd))).0
+effect_answers m t p request.PortCreate none = Answers.makes_port _
+effect_answers m t p (request.Get fd wait) none = one_answers m t p fd wait none
+effect_answers m t p (request.GetN fd max nget wait) none = many_answer m t p fd wait max nget none
+effect_answers m t p (request.Send fd events user) none = Answers.sends fd events user
+effect_answers m t p (request.SendN fds events user) none =
     Answers.sends_each fds events user _ (one_each m.channels.ports (map (object_at m p) fds) events user ∙ length-map fds (object_at m p))
-effect_answers m t p (request.Alert fd mode events user) h none = Answers.alerts fd mode events user
-effect_answers m t p (request.Associate port object events user) h none = Answers.associates port object events user
-effect_answers m t p (request.Dissociate port object) h none = Answers.dissociates port object
-effect_answers m t p (request.Work op bytes) h none = Answers.works op bytes
+effect_answers m t p (request.Alert fd mode events user) none = Answers.alerts fd mode events user
+effect_answers m t p (request.Associate port object events user) none = Answers.associates port object events user
+effect_answers m t p (request.Dissociate port object) none = Answers.dissociates port object
+effect_answers m t p (request.Work op bytes) none = Answers.works op bytes
 
-step_answers : (m : State) (t : ℕ) (r : Request) → capability_of r ≤ BUILT → Answers r (step m t (Some r)).answer
+step_answers : (m : State) (t : ℕ) (r : Request) → Answers r (step m t (Some r)).answer
 unfolding step
-step_answers m t r h = go (refusal_of m t (process_of m t) r) refl
+step_answers m t r = go (refusal_of m t (process_of m t) r) refl
   where
     go : (o : Option Errno) → refusal_of m t (process_of m t) r ≡ o → Answers r (unless_refused m o (effect m t (process_of m t) r)).answer
     go (Some e) f = Answers.fails r e
-    go None f = effect_answers m t (process_of m t) r h f
+    go None f = effect_answers m t (process_of m t) r f
 
 pub answers_requests : (m : State) (xs : List Turn) → Known m xs → AnswersRequests m xs
 answers_requests m xs k i x r e f =
     subst (λ q. Answers r (step (state_at m xs i) x.thread q).answer) (sym f)
-    (step_answers (state_at m xs i) x.thread r (may (subst (MayTurn (state_at m xs i) x.thread) f (k.may i x e))))
-  where
-    may : MayEnter (state_at m xs i) x.thread r → capability_of r ≤ BUILT
-    may h = h.built
+    (step_answers (state_at m xs i) x.thread r)
 
 -- the ends of waits
 
@@ -222,7 +217,7 @@ module _ (m : State) (t : ℕ) where
   call_answers c r false = EndAnswers.fails_to_enter r.number
 
   end_answers :
-      (s : ThreadState) → IsBuiltEnd m t s → ((c : ℕ) → s ≡ is.Calling c → EndAnswers m s (go_on m t (process_of m t) s).answer) →
+      (s : ThreadState) → IsReadyEnd m t s → ((c : ℕ) → s ≡ is.Calling c → EndAnswers m s (go_on m t (process_of m t) s).answer) →
       EndAnswers m s (go_on m t (process_of m t) s).answer
   end_answers (is.Given (item.Call c)) b h =
       subst (λ o. EndAnswers m (is.Given (item.Call c)) (accept_call m t (process_of m t) c o).answer) (sym b.there)
@@ -275,13 +270,13 @@ module _ (m : State) (t : ℕ) where
   end_answers s b h = absurd b
 
   step_ends :
-      IsBuiltEnd m t (state_of m t) → ((c : ℕ) → state_of m t ≡ is.Calling c → EndAnswers m (state_of m t) (step m t None).answer) →
+      IsReadyEnd m t (state_of m t) → ((c : ℕ) → state_of m t ≡ is.Calling c → EndAnswers m (state_of m t) (step m t None).answer) →
       EndAnswers m (state_of m t) (step m t None).answer
   unfolding step
   step_ends = end_answers (state_of m t)
 
 pub answers_ends_of_waits : (m : State) (xs : List Turn) → Known m xs → AnswersEndsOfWaits m xs
-answers_ends_of_waits m xs k i x e q = told (step_ends n x.thread (subst (IsBuiltTurn n x.thread) q (k.keeps i x e).is_built) collected)
+answers_ends_of_waits m xs k i x e q = told (step_ends n x.thread (subst (IsReadyTurn n x.thread) q (k.keeps i x e).is_ready) collected)
   where
     n : State
     n = state_at m xs i

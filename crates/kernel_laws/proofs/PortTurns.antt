@@ -19,7 +19,7 @@ use Rattle.written_kernel.proofs.Refusals.{not_held}
 use Rattle.channel_invariant.specs.Channels.{WaitsAtMade, made_in}
 use Rattle.channel_invariant.proofs.Elements.{All-at_number}
 use Rattle.kernel_invariant.specs.Coherent.{is_fit_wait}
-use Rattle.kernel_invariant.specs.Events.{IsBuiltEnd, IsBuiltTurn}
+use Rattle.kernel_invariant.specs.Events.{IsReadyEnd, IsReadyTurn}
 use Rattle.run_places.specs.Places.{answer_at, process_at}
 use Rattle.kernel_laws.specs.Channels.{Names, told_alert}
 use Rattle.kernel_laws.specs.PortEvents.{AsksPort, Tells}
@@ -113,9 +113,9 @@ module _ (m : State) (xs : List Turn) (k : KnownChannels m xs) (i : ℕ) (x : Tu
       (q max nget : ℕ) (one : Bool) → x.request ≡ None → state_of (state_at m xs i) x.thread ≡ is.Getting q max nget one false →
       has_port_references (state_at m xs i) q ≡ true → (is_ready_for nget (port (state_at m xs i) q) ≡ true) × (is_fit_wait max nget one ≡ true)
   wait_fits q max nget one f s r =
-      let b : IsBuiltEnd (state_at m xs i) x.thread (is.Getting q max nget one false) =
-      subst (IsBuiltEnd (state_at m xs i) x.thread) s
-      (subst (IsBuiltTurn (state_at m xs i) x.thread) f (k.known.keeps i x e).is_built)
+      let b : IsReadyEnd (state_at m xs i) x.thread (is.Getting q max nget one false) =
+      subst (IsReadyEnd (state_at m xs i) x.thread) s
+      (subst (IsReadyTurn (state_at m xs i) x.thread) f (k.known.keeps i x e).is_ready)
       in
       (grind (arith, r, b.0), b.1)
 

@@ -20,7 +20,7 @@ use Rattle.kernel_invariant.proofs.Steps.{running_is}
 use Rattle.kernel_invariant.specs.Core.{number_in}
 use Rattle.kernel_invariant.specs.Records.{stage_in}
 use Rattle.kernel_invariant.specs.Invariant.{Invariant}
-use Rattle.kernel_invariant.specs.Events.{IsBuiltEnd, IsBuiltTurn}
+use Rattle.kernel_invariant.specs.Events.{IsReadyEnd, IsReadyTurn}
 use Rattle.kernel_laws.specs.Waits.{WaitsWhereToldSo, is_stopped, says_wait}
 use Rattle.kernel_laws.proofs.Held.{IsWith, ServesCall, serves_of}
 use Rattle.run_places.proofs.Known.{Known, invariant_before, next}
@@ -199,7 +199,7 @@ module _ (m : State) (t : ℕ) (h : Invariant m) where
   move_stands r a e _ = goes refl (ap is_over e)
 
   -- the end of a wait
-  end_stands : (s : ThreadState) → state_of m t ≡ s → IsBuiltEnd m t s → Stands (go_on m t (process_of m t) s).answer (state_of (go_on m t (process_of m t) s).state t)
+  end_stands : (s : ThreadState) → state_of m t ≡ s → IsReadyEnd m t s → Stands (go_on m t (process_of m t) s).answer (state_of (go_on m t (process_of m t) s).state t)
   end_stands (is.Given (item.Call c)) e b = subst Accepted (sym b.there) (by_room (has_room m (process_of m t) b.made.objects))
     where
       Accepted : Option Call → Type 0
@@ -247,7 +247,7 @@ module _ (m : State) (t : ℕ) (h : Invariant m) where
   end_stands is.FailedReturn e b = goes refl (ap is_over (changed_here (there _ e (λ d. cc)) (thread_at_state is.Running)))
   end_stands s e b = absurd b
 
-  act_stands : (q : Option Request) → MayTurn m t q → IsBuiltTurn m t q → Stands (act m t q).answer (state_of (act m t q).state t)
+  act_stands : (q : Option Request) → MayTurn m t q → IsReadyTurn m t q → Stands (act m t q).answer (state_of (act m t q).state t)
   act_stands (Some r) may b = move_stands r (act m t (Some r)) (running_is m t may.running) (act_moves m t (Some r))
   act_stands None may b = end_stands (state_of m t) refl b
 
@@ -267,11 +267,11 @@ module _ (m : State) (t : ℕ) (h : Invariant m) where
       parked is.Dormant k = refl
       parked s k = k
 
-  step_stands : (q : Option Request) → MayTurn m t q → IsBuiltTurn m t q → is_stopped (state_of (step m t q).state t) ≡ says_wait (step m t q).answer
+  step_stands : (q : Option Request) → MayTurn m t q → IsReadyTurn m t q → is_stopped (state_of (step m t q).state t) ≡ says_wait (step m t q).answer
   unfolding step
   step_stands q may b = stands_then (act m t q).answer (act m t q).state (act_stands q may b)
 
 pub waits_where_told : (m : State) (xs : List Turn) → Known m xs → WaitsWhereToldSo m xs
 waits_where_told m xs k i x e =
     ap (λ n. is_stopped (state_of n x.thread)) (next m xs k i x e)
-    ∙ step_stands (state_at m xs i) x.thread (invariant_before m xs k i x e) x.request (k.may i x e) (k.keeps i x e).is_built
+    ∙ step_stands (state_at m xs i) x.thread (invariant_before m xs k i x e) x.request (k.may i x e) (k.keeps i x e).is_ready

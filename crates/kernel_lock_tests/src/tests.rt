@@ -1,6 +1,3 @@
-ghost use Rattle.std.specs.Prelude.{◌≡◌, false, IfSome};
-ghost use Rattle.script_requests.specs.Words.{has_later_parts as is_later_script};
-
 use dk_base::event::Event;
 use dk_base::number::Tid;
 use dk_base::outside::{Gate, NoGate};
@@ -13,7 +10,6 @@ use std::sync::Wait;
 use std::sync::atomic::{AtomicU64, Ordering};
 use std::test::Fail;
 use std::thread::Threads;
-use thread_machine::later::later;
 
 const CALLS: &str =
     "doors script 1\nprocess srv\nthread s\n create d shout 1\n attach $d shout\n serve\nend\nthread u\n serve\nend\nproc shout\n return $arg\nend\nprocess cli\nthread k1\n await shout\n open d shout\n call r $d \"one\"\nend\nthread k2\n await shout\n open d shout\n call r $d \"two\"\nend\n";
@@ -121,15 +117,13 @@ pub(crate) fn ends(ran: &Ran, ending: Ending, threads: usize, started: u32) -> b
         && sum_of(ran.by.slice()).wrapping_add(ran.tail) == ran.sys.events() as u64
 }
 
-pub(crate) fn script_of(alloc: Global, text: &str) -> Option<Script>
-    ensures { IfSome result (λ script. is_later_script script ≡ false) }
-{
+pub(crate) fn script_of(alloc: Global, text: &str) -> Option<Script> {
     if text.len() >= 4_000_000_000 {
         return None;
     }
     match parse(alloc, text.as_bytes()) {
-        Ok(script) if !later(&script) => Some(script),
-        _ => None,
+        Ok(script) => Some(script),
+        Err(_) => None,
     }
 }
 

@@ -2,4 +2,3 @@ pub mod WrittenOut
 pub mod Elements
 pub mod SoundFrames
 pub mod SoundScripts
-pub mod NothingLater

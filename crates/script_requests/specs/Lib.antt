@@ -3,7 +3,6 @@ pub mod Steps
 pub mod Trees
 pub mod Variables
 pub mod Requests
-pub mod Later
 pub mod DeclaredNames
 pub mod Sound
 pub mod DataText

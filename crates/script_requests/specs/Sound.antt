@@ -5,7 +5,6 @@ use Rattle.script_line.specs.declared.line.Line.TheVariants.{Create, Read, GetN,
 use Rattle.script_requests.specs.Types.{Procedure, ScriptProcess, ScriptThread}
 use Rattle.script_lang.specs.Words.{ScriptValue}
 use Rattle.script_requests.specs.DeclaredNames.{IsThread, IsProcess, IsDeclaredThread}
-use Rattle.script_requests.specs.Later.{has_later_parts}
 use Rattle.script_requests.specs.Trees.{IsClosed}
 use Rattle.dk_base.specs.declared.limits.TheConstants.{DATA_MAX, DESCRIPTORS_MAX, ANSWER_ITEMS_MAX, PROCESSES_MAX, THREADS_MAX, BUDGET_MAX}
 
@@ -49,8 +48,3 @@ pub record IsSound (script : ScriptValue) : Type 0 where
   pub threads : All (IsSoundThread script) script.threads
   pub procedures : All (IsSoundProcedure script) script.procedures
   pub schedule : All (IsDeclaredThread script) script.schedule
-
--- a script that can be run: it needs no capability that is not built
-pub record IsPlayable (script : ScriptValue) : Type 0 where
-  pub sound : IsSound script
-  pub built : has_later_parts script ≡ false

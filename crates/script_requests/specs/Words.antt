@@ -2,9 +2,8 @@
 pub use Rattle.script_requests.specs.AnswerText.{answer_text, attributes_text, entered_text, event_text, fds_text, grown_text, info_text, invocation_text, made_text, notice_text, plus_joined_words, results_text, source_text, spaced_error, spaced_event, spaced_fd, target_text}
 pub use Rattle.script_requests.specs.DataText.{data_text, digest_text}
 pub use Rattle.script_requests.specs.DeclaredNames.{IsDeclaredAnswer, IsDeclaredEvent, IsDeclaredThread, IsEntry, IsNumberOf, IsProcess, IsThread}
-pub use Rattle.script_requests.specs.Later.{capability_of_line, capability_of_place, capability_of_spare, has_later_parts, is_later, is_later_line, is_later_procedure, is_later_thread}
 pub use Rattle.script_requests.specs.Requests.{Frame, arguments, body_or_empty, first_body, first_frame, frame_after, frame_after_answer, frame_after_command, frame_from, frame_of, is_met, procedure_body, request_after, request_ahead, request_at, request_at_end, request_of, steps_after, vars_ahead}
-pub use Rattle.script_requests.specs.Sound.{IsFitLine, IsPlayable, IsNarrow, IsSound, IsSoundProcedure, IsSoundThread}
+pub use Rattle.script_requests.specs.Sound.{IsFitLine, IsNarrow, IsSound, IsSoundProcedure, IsSoundThread}
 pub use Rattle.script_requests.specs.Steps.{BodyStep, blocks_of, copies, innermost_block, line_before, next_steps, outer_blocks, steps_of_body, tested_condition, tested_steps, times_of}
 pub use Rattle.script_requests.specs.TraceNames.{NamesThread, is_some_word, second_word, thread_in_line, thread_named}
 pub use Rattle.script_requests.specs.TraceText.{ending_word, lines_text, spaced_name, tail_text, waiting_text}

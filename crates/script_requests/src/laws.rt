@@ -1,10 +1,9 @@
-//! What the bodies of a spelled script keep, and what no script needs. Nothing runs here: a function has no body, and a call of it
+//! What the bodies of a spelled script keep. Nothing runs here: a function has no body, and a call of it
 //! hands its laws to the caller's proof.
 
-ghost use Rattle.std.specs.Prelude.{◌≡◌, ℕ, List, false};
+ghost use Rattle.std.specs.Prelude.{◌≡◌, ℕ, List};
 ghost use Rattle.script_lang.specs.Words.{ScriptValue, spells};
 ghost use Rattle.script_lang.specs.Types.{Line};
-ghost use Rattle.script_requests.specs.Later.{has_later_parts};
 ghost use Rattle.script_requests.specs.Sound.{IsSound};
 ghost use Rattle.script_requests.specs.Steps.{steps_of_body};
 ghost use Rattle.script_requests.specs.Trees.{Tree, IsTreeOf, HasTree, IsClosed, steps_of_tree};
@@ -20,9 +19,4 @@ pub fn trees()
 /// body is closed in it, and a body makes doors of procedures of its own process alone.
 pub fn sound_scripts()
     ensures { (text : List ℕ) (script : ScriptValue) → spells text script → IsSound script }
-{}
-
-/// No script has a command or a member that needs a capability that is not built.
-pub fn nothing_later()
-    ensures { (script : ScriptValue) → has_later_parts script ≡ false }
 {}

@@ -22,14 +22,14 @@ events-history p = events-run p.script (threads_of_events p.journal) ∙ length-
 -- what a journal's history keeps
 pub known-history : (p : SysValue) → IsJournal p → IsKnownHistory p.script (history p)
 unfolding history
-known-history p is = run-known p.script (threads_of_events p.journal) is.script.sound is.allowed
+known-history p is = run-known p.script (threads_of_events p.journal) is.script is.allowed
 
 pub declared-history : (p : SysValue) → IsJournal p → IsDeclared p.script (history p)
 declared-history p is = declared-known p.script (history p) (known-history p is)
 
 pub may_turn-of : (p : SysValue) (t : ℕ) → IsJournal p → is_runnable (state_of_run p) t ≡ true → length p.journal < p.script.budget → MayTurn (history p).state t (request_at_turn p.script (history p) t)
 may_turn-of p t is can left =
-    let small : p.script.budget ≤ 100000 = is.script.sound.small_budget
+    let small : p.script.budget ≤ 100000 = is.script.small_budget
     in let events : (history p).state.events ≡ length p.journal = events-history p
     in may_turn p.script (history p) t is.script (known-history p is) can (omega arith)
 

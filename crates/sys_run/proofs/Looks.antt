@@ -57,7 +57,7 @@ laws-journal p every is =
     every
     (opening_of p.script)
     (turns_of p.script (threads_of_events p.journal))
-    (IsOpening-opening_of p.script is.script.sound)
+    (IsOpening-opening_of p.script is.script)
     (turns_of-run p.script (threads_of_events p.journal) is.script is.allowed)
 
 -- whatever the journal's events and the waiting threads name is declared

@@ -191,5 +191,5 @@ IsRefused-here old now t h is e cannot =
           subst
           (λ (s : ScriptValue). IsThread s t.0)
           same
-          (All-slice_get (IsDeclaredThread now.script) now.script.schedule (length now.journal) t is.script.sound.schedule next.turn);
+          (All-slice_get (IsDeclaredThread now.script) now.script.schedule (length now.journal) t is.script.schedule next.turn);
     }

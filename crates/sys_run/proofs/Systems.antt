@@ -7,7 +7,7 @@ use Rattle.script_lang.specs.Words.{ScriptValue}
 use Rattle.thread_machine.specs.declared.machine.Machine.{Machine}
 use Rattle.written_kernel.specs.Words.{StandsFor, State, is_runnable, waiting_threads}
 use Rattle.written_kernel.proofs.Opening.{forget-opening}
-use Rattle.script_requests.specs.Words.{IsPlayable, IsThread}
+use Rattle.script_requests.specs.Words.{IsSound, IsThread}
 use Rattle.written_script.specs.Words.{History, opening_of}
 use Rattle.written_script.proofs.Histories.{IsOpening-opening_of}
 use Rattle.written_script.proofs.RunTurns.{history_after-thread}
@@ -16,26 +16,26 @@ use Rattle.sys_run.proofs.Journals.{known-history, IsJournal-with_turn}
 use Rattle.sys_run.proofs.Finishing.{history-new}
 use Rattle.sys_run.proofs.Machines.{stands-at, AllStandFrom-turn, AllStandFrom-same}
 
-IsJournal-new : (script : ScriptValue) → IsPlayable script → IsJournal (with_journal script [])
-IsJournal-new script playable =
+IsJournal-new : (script : ScriptValue) → IsSound script → IsJournal (with_journal script [])
+IsJournal-new script sound =
     record {
-      script = playable;
+      script = sound;
       events = rw (history-new script) refl;
       allowed = record { runnable = tt; within = omega arith };
     }
 
 pub IsSys-new :
     (script : ScriptValue) (kernel : State) (machines : List Machine) →
-    IsPlayable script → kernel ≡ opening_of script → AllStandFrom script [] 1 machines → length machines ≡ length script.threads →
+    IsSound script → kernel ≡ opening_of script → AllStandFrom script [] 1 machines → length machines ≡ length script.threads →
     IsSys script [] kernel machines
-IsSys-new script kernel machines playable k first count =
+IsSys-new script kernel machines sound k first count =
     record {
-      journal_is_run = IsJournal-new script playable;
+      journal_is_run = IsJournal-new script sound;
       kernel_stands =
           subst
           (λ (h : History). StandsFor kernel h.state)
           (sym (history-new script))
-          (k ∙ sym (forget-opening (IsOpening-opening_of script playable.sound)));
+          (k ∙ sym (forget-opening (IsOpening-opening_of script sound)));
       machines_stand = first;
       machines_there = count;
     }

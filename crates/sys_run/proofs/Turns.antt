@@ -44,7 +44,7 @@ entered-turn p t a is can answer =
     entered-declared
     p.script
     a
-    (rw (answer, ← request_at_turn-history p t is) (history_after-answer p.script (history p) t is.script.sound (known-history p is) can))
+    (rw (answer, ← request_at_turn-history p t is) (history_after-answer p.script (history p) t is.script (known-history p is) can))
 
 entered-with : (script : ScriptValue) (output : Option (List ℕ)) (a : Answer) → HasDeclaredEntry script a → HasDeclaredEntry script (with_output output a)
 entered-with script None a h = h

@@ -6,7 +6,7 @@ use Rattle.kernel_records.specs.declared.record.ThreadState.TheVariants as is
 use Rattle.work_ops.specs.Words.{TaskValue}
 use Rattle.kernel_laws.specs.Words.{Laws}
 use Rattle.script_lang.specs.Words.{ScriptValue}
-use Rattle.script_requests.specs.Words.{IsPlayable, frame_of}
+use Rattle.script_requests.specs.Words.{IsSound, frame_of}
 use Rattle.written_script.specs.Words.{History, IsAllowed, least_runnable_turns, opening_of, request_at_turn, run, threads_of_events, turns_of}
 use Rattle.thread_machine.specs.declared.machine.Machine.{Machine}
 use Rattle.thread_machine.specs.Words.{IsMachine, Stands}
@@ -50,7 +50,7 @@ AllStandFrom script events t (x ∷ xs) = MachineStands script events t x × All
 
 -- the journal is a run of its script from the opening state
 pub record IsJournal (p : SysValue) : Type 0 where
-  pub script : IsPlayable p.script
+  pub script : IsSound p.script
   pub events : p.journal ≡ (history p).events
   pub allowed : IsAllowed p.script (threads_of_events p.journal)
 

@@ -1,7 +1,7 @@
 ghost use Rattle.std.specs.Prelude.{◌≡◌, ◌↔◌, IsTrue, ℕ, ◌+◌, ◌<◌, ◌≤◌, ◌∷◌, ◌++◌, [], length, slice_get, Some, IfOk, option_map, OnOk, OnErr, take, true, false, nat_lt, All};
 ghost use Rattle.dk_base.specs.declared.limits.TheConstants.{BUDGET_MAX};
 ghost use Rattle.written_kernel.specs.Words.{is_runnable, output_at, state_of, waiting_threads};
-ghost use Rattle.script_requests.specs.Words.{IsDeclaredEvent, IsDeclaredThread, has_later_parts};
+ghost use Rattle.script_requests.specs.Words.{IsDeclaredEvent, IsDeclaredThread};
 ghost use Rattle.written_script.specs.Words.{ending_of, is_over, scheduled_turns, tid_number};
 ghost use Rattle.sys_run.specs.Sys.{with_journal, history, state_of_run, with_turn, with_turns, turns_left, next_turn, scheduled_turn, threads_woken_by, LawsOf, IsJournal, WorksOn, is_working};
 
@@ -68,7 +68,6 @@ impl Sys {
 
     /// No event yet.
     pub fn new(alloc: Global, script: Script) -> Result<Self, NoMemory>
-        requires { has_later_parts script ≡ false }
         ensures { IfOk result (λ sys. sys ≡ with_journal script []) }
     {
         script.is_spelled();

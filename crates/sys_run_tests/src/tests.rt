@@ -1,5 +1,4 @@
-ghost use Rattle.std.specs.Prelude.{◌≡◌, [], false};
-ghost use Rattle.script_requests.specs.Words.{has_later_parts as is_later_script};
+ghost use Rattle.std.specs.Prelude.{◌≡◌, []};
 
 use dk_base::answer::Answer;
 use dk_base::event::{Event, What};
@@ -9,7 +8,6 @@ use script_lang::script::Script;
 use std::alloc::Global;
 use std::test::Fail;
 use sys_run::sys::{Played, Sys};
-use thread_machine::later::later;
 
 const FIRST: Tid = Tid(1);
 
@@ -152,9 +150,7 @@ fn does(sys: &mut Sys, deed: Deed) -> bool
     }
 }
 
-fn run_does(alloc: Global, script: Script, deed: Deed) -> bool
-    requires { is_later_script script ≡ false }
-{
+fn run_does(alloc: Global, script: Script, deed: Deed) -> bool {
     match Sys::new(alloc, script) {
         Ok(mut sys) => does(&mut sys, deed),
         Err(_) => false,
@@ -166,7 +162,7 @@ fn is_right(alloc: Global, row: &Row) -> bool {
         return false;
     }
     match parse(alloc, row.text.as_bytes()) {
-        Ok(script) => !later(&script) && run_does(alloc, script, row.deed),
+        Ok(script) => run_does(alloc, script, row.deed),
         Err(_) => false,
     }
 }

@@ -4,7 +4,6 @@
 mod data;
 mod fill;
 mod known;
-pub mod later;
 mod lines;
 pub mod machine;
 mod place;

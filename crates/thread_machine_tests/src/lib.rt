@@ -1,4 +1,4 @@
-//! Tests of where a thread stands in its script, and that no form of the language needs a capability that is not built.
+//! Tests of where a thread stands in its script.
 #![tactic(auto)]
 
 #[cfg(test)]

@@ -3,7 +3,6 @@ ghost use Rattle.thread_machine.specs.Words.{IsMachine};
 
 mod asks;
 mod given;
-mod later;
 mod rows;
 
 use asks::{Asks, is_asked};

@@ -3,7 +3,6 @@
 ghost use Rattle.std.specs.Prelude.{◌≡◌, ◌≤◌, ◌<◌, length, bytes_eq, option_map, IfOk, OnOk, true, false};
 ghost use Rattle.dk_base.specs.declared.limits.TheConstants.{BUDGET_MAX};
 ghost use Rattle.script_text.specs.Words.{lines_of};
-ghost use Rattle.script_requests.specs.Words.{has_later_parts};
 ghost use Rattle.written_script.specs.Words.{is_over};
 ghost use Rattle.written_trace.specs.Words.{is_tail_line as is_tail, turn_in_line as turn_of_line, verdict, verdict_after_end, verdict_at_end, verdict_from, verdict_after_tail};
 ghost use Rattle.sys_run.specs.Words.{history};
@@ -150,7 +149,6 @@ fn check_lines(alloc: Global, sys: &mut Sys, trace: &[u8]) -> Result<Verdict, No
 /// The verdict on a trace: whether it is the text of a legal run of the script, and if not, the first line that differs. The
 /// last line may lack its line feed. The trace is walked once; of its lines a copy is made only where one differs.
 pub fn check(alloc: Global, script: Script, trace: &[u8]) -> Result<Verdict, NoMemory>
-    requires { has_later_parts script ≡ false }
     ensures { IfOk result (λ found. found ≡ verdict script trace.now) }
 {
     let mut sys = Sys::new(alloc, script)?;

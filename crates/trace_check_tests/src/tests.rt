@@ -1,11 +1,7 @@
-ghost use Rattle.std.specs.Prelude.{◌≡◌, false};
-ghost use Rattle.script_requests.specs.Words.{has_later_parts as is_later_script};
-
 use script_lang::parse::parse;
 use script_lang::script::Script;
 use std::alloc::Global;
 use std::test::Fail;
-use thread_machine::later::later;
 use trace_check::{check, parts, text_of_verdict};
 
 /// A script with a trace after it, and the text of the verdict.
@@ -28,9 +24,7 @@ const ROWS: [(&str, &str); 4] = [
     ),
 ];
 
-fn is_found(alloc: Global, script: Script, trace: &[u8], expected: &str) -> bool
-    requires { is_later_script script ≡ false }
-{
+fn is_found(alloc: Global, script: Script, trace: &[u8], expected: &str) -> bool {
     match check(alloc, script, trace) {
         Ok(found) => {
             matches!(text_of_verdict(alloc, &found), Ok(text) if text.slice() == expected.as_bytes())
@@ -44,7 +38,7 @@ fn is_checked(alloc: Global, text: &[u8], trace: &[u8], expected: &str) -> bool 
         return false;
     }
     match parse(alloc, text) {
-        Ok(script) => !later(&script) && is_found(alloc, script, trace, expected),
+        Ok(script) => is_found(alloc, script, trace, expected),
         Err(_) => false,
     }
 }

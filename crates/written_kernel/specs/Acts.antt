@@ -16,6 +16,6 @@ abbrev pub unless_refused : State → Option Errno → ActResult → ActResult
 unless_refused m (Some e) a = refused_act m e
 unless_refused m None a = a
 
--- entries and ends of waits of capabilities that aren't built, and cases that no state of a run has: nothing happens
+-- cases that no state of a run has: nothing happens
 abbrev pub no_act : State → ActResult
 no_act m = record { state = m; answer = Done }

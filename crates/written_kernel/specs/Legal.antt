@@ -1,10 +1,8 @@
--- Which turns a thread may take. The condition on the form of a request is lifted as the capabilities come.
+-- Which turns a thread may take.
 use Rattle.std.specs.Prelude.{ℕ, ◌≡◌, ◌≤◌, ◌<◌, Option, Some, None, true, false, length}
 use Rattle.written_kernel.specs.Types.{Request}
 use Rattle.dk_base.specs.declared.request.Request.TheVariants as request
 use Rattle.dk_base.specs.declared.limits.TheConstants.{DATA_MAX, ANSWER_ITEMS_MAX, EVENTS_MAX}
-use Rattle.capabilities.specs.Words.{capability_of}
-use Rattle.capabilities.specs.declared.table.TheConstants.{BUILT}
 use Rattle.written_kernel.specs.State.{State}
 use Rattle.written_kernel.specs.Turns.{is_runnable, is_running}
 
@@ -19,7 +17,6 @@ IsFit m t _ = Unit {0}
 pub record MayEnter (m : State) (t : ℕ) (r : Request) : Type 0 where
   pub running : is_running m t ≡ true
   pub fit : IsFit m t r
-  pub built : capability_of r ≤ BUILT
   pub few : m.events < EVENTS_MAX
 
 pub record MayGoOn (m : State) (t : ℕ) : Type 0 where

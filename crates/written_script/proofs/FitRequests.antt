@@ -4,13 +4,11 @@ use Rattle.std.specs.Prelude.{All}
 use Rattle.std.proofs.lemmas.Bool.{ltb-false}
 use Rattle.std.proofs.Math.Nat.{le-max_left}
 use Rattle.std.proofs.lemmas.List.Elements.{All-head, All-weaker}
-use Rattle.capabilities.specs.Words.{capability_of, capability_of_pass}
-use Rattle.capabilities.specs.declared.table.TheConstants.{BUILT}
 use Rattle.written_kernel.specs.Words.{IsFit, State}
 use Rattle.script_lang.specs.Types.{Line, PassArg}
 use Rattle.script_line.specs.declared.line.Line.TheVariants as line
 use Rattle.script_lang.specs.Words.{ScriptValue}
-use Rattle.script_requests.specs.Words.{BodyStep, Frame, IsFitLine, Variables, capability_of_line, capability_of_place, is_later_line, no_variables, pass_of, request_ahead, request_at, request_at_end, request_of}
+use Rattle.script_requests.specs.Words.{BodyStep, Frame, IsFitLine, Variables, request_ahead, request_at, request_at_end, request_of}
 use Rattle.script_requests.specs.Steps.BodyStep.{Do, When}
 use Rattle.script_requests.proofs.SoundFrames.{IsStep, AreSteps, IsFrame}
 
@@ -57,46 +55,3 @@ pub request-fit :
     (script : ScriptValue) (m : State) (t : ℕ) (f : Frame) → HasThreads script m → IsFrame (λ procedure. IsFitSomewhere script) f →
     IsFit m t (request_of f)
 request-fit script m t f has h = fit_ahead script m t f f.steps has h.steps
-
--- a line that needs nothing later makes a request that needs nothing later
-
--- the variables don't matter
-capability_of_pass-variables :
-    (variables : Variables) (pass : List PassArg) →
-    capability_of_pass (map (pass_of variables) pass) ≡ capability_of_pass (map (pass_of no_variables) pass)
-capability_of_pass-variables variables [] = refl
-capability_of_pass-variables variables (x ∷ pass) = refl
-
-capability_of-variables : (variables : Variables) (x : Line) → capability_of (request_at variables x) ≡ capability_of (request_at no_variables x)
-capability_of-variables variables (line.Call var fd bytes pass rsize) = capability_of_pass-variables variables pass
-capability_of-variables variables (line.Return bytes pass) = capability_of_pass-variables variables pass
-capability_of-variables variables x = refl
-
-capability_at : (procedure : Bool) (variables : Variables) (x : Line) → capability_of (request_at variables x) ≤ capability_of_line procedure x
-capability_at procedure variables x = rw (capability_of-variables variables x) (le-max_left (capability_of (request_at no_variables x)) (capability_of_place procedure x))
-
--- needs no capability that is not built
-abbrev pub IsBuiltLine : Bool → Line → Type 0
-IsBuiltLine procedure x = is_later_line procedure x ≡ false
-
-line-built : (procedure : Bool) (x : Line) → IsBuiltLine procedure x → capability_of_line procedure x ≤ BUILT
-line-built procedure x h = ltb-false BUILT (capability_of_line procedure x) h
-
-built_at : (procedure : Bool) (variables : Variables) (x : Line) → IsBuiltLine procedure x → capability_of (request_at variables x) ≤ BUILT
-built_at procedure variables x h =
-    let least : capability_of (request_at variables x) ≤ capability_of_line procedure x = capability_at procedure variables x
-    in let most : capability_of_line procedure x ≤ BUILT = line-built procedure x h
-    in omega arith
-
-built_at_end : (procedure : Bool) → capability_of (request_at_end procedure) ≤ BUILT
-built_at_end true = omega arith
-built_at_end false = omega arith
-
-built_ahead : (procedure : Bool) (f : Frame) (steps : List BodyStep) → AreSteps (IsBuiltLine procedure) steps → capability_of (request_ahead f steps) ≤ BUILT
-built_ahead procedure f [] all = built_at_end f.procedure
-built_ahead procedure f (When cond n ∷ steps) all = built_at_end f.procedure
-built_ahead procedure f (Do x ∷ steps) all =
-    built_at procedure f.variables x (All-head (IsStep (IsBuiltLine procedure)) (Do x) steps all).1
-
-pub request-built : (f : Frame) → IsFrame IsBuiltLine f → capability_of (request_of f) ≤ BUILT
-request-built f h = built_ahead f.procedure f f.steps h.steps

@@ -15,7 +15,7 @@ use Rattle.script_lang.specs.Types.{Line}
 use Rattle.script_line.specs.declared.line.Line.TheVariants as line
 use Rattle.script_requests.specs.Types.{Procedure, ScriptThread}
 use Rattle.script_lang.specs.Words.{ScriptValue}
-use Rattle.script_requests.specs.Words.{BodyStep, Frame, IsDeclaredAnswer, IsDeclaredEvent, IsFitLine, IsNumberOf, IsPlayable, IsProcess, IsSound, IsSoundProcedure, IsSoundThread, IsThread, Variables, capability_of_spare, frame_of, has_later_parts, is_later, is_later_line, is_later_procedure, is_later_thread, request_after, request_ahead, request_at, request_at_end}
+use Rattle.script_requests.specs.Words.{BodyStep, Frame, IsDeclaredAnswer, IsDeclaredEvent, IsFitLine, IsNumberOf, IsProcess, IsSound, IsSoundProcedure, IsSoundThread, IsThread, Variables, frame_of, request_after, request_ahead, request_at, request_at_end}
 use Rattle.script_requests.specs.Steps.BodyStep.{Do, When}
 use Rattle.script_requests.proofs.Elements.{All-at_number, All-none}
 use Rattle.script_requests.proofs.SoundFrames.{IsStep, AreSteps, AreLines, IsFrame, frame_of-frame}
@@ -25,7 +25,7 @@ use Rattle.written_script.proofs.DeclaredObjects.{IsKnownNotice, IsKnownName, no
 use Rattle.written_script.proofs.KnownStates.{IsKnown, IsKnownCall}
 use Rattle.written_script.proofs.KnownActs.{MakesDeclared}
 use Rattle.written_script.proofs.DeclaredStates.{AsksDeclared, step-known, root-declared, waiting-declared}
-use Rattle.written_script.proofs.FitRequests.{HasThreads, IsFitSomewhere, fit-somewhere, IsBuiltLine, request-fit, request-built}
+use Rattle.written_script.proofs.FitRequests.{HasThreads, IsFitSomewhere, fit-somewhere, request-fit}
 use Rattle.written_script.proofs.Histories.{IsOpening-opening_of, events-opening_of, events-run}
 
 -- the lines of a sound script
@@ -47,31 +47,6 @@ fit-lines script sound =
           (λ x h. fit-somewhere script x.process.0 x.body h.body)
           script.procedures
           sound.procedures;
-    }
-
-neither : (a b : Bool) → (a || b) ≡ false → (a ≡ false) × (b ≡ false)
-neither true b h = cc
-neither false b h = (refl, h)
-
-built-lines : (script : ScriptValue) → has_later_parts script ≡ false → AreLines IsBuiltLine script
-built-lines script none =
-    let bodies = (neither (is_later 2) _ none).1
-    in let both = neither _ _ bodies
-    in record {
-      threads =
-          All-weaker
-          (λ (x : ScriptThread). is_later_thread x ≡ false)
-          (λ (x : ScriptThread). All (IsBuiltLine false) x.body)
-          (λ x h. All-none (is_later_line false) x.body (neither (is_later (capability_of_spare x.spare)) _ h).1)
-          script.threads
-          (All-none is_later_thread script.threads both.0);
-      procedures =
-          All-weaker
-          (λ (x : Procedure). is_later_procedure x ≡ false)
-          (λ (x : Procedure). All (IsBuiltLine true) x.body)
-          (λ x h. All-none (is_later_line true) x.body h)
-          script.procedures
-          (All-none is_later_procedure script.procedures both.1);
     }
 
 -- what a fit line makes is declared
@@ -165,13 +140,10 @@ history_after-answer script h t sound kept can =
 
 -- each runnable thread's turn is one that the kernel takes
 pub may_turn :
-    (script : ScriptValue) (h : History) (t : ℕ) → IsPlayable script → IsKnownHistory script h → is_runnable h.state t ≡ true →
+    (script : ScriptValue) (h : History) (t : ℕ) → IsSound script → IsKnownHistory script h → is_runnable h.state t ≡ true →
     h.state.events < 1000000 → MayTurn h.state t (request_at_turn script h t)
-may_turn script h t playable kept can few = by_test (is_running h.state t) refl
+may_turn script h t sound kept can few = by_test (is_running h.state t) refl
   where
-    built : IsFrame IsBuiltLine (frame_of script t h.events)
-    built = frame_of-frame IsBuiltLine script t h.events (built-lines script playable.built)
-
     by_test :
         (b : Bool) → is_running h.state t ≡ b →
         MayTurn h.state t (if b then Some (request_after script t h.events) else None)
@@ -185,8 +157,7 @@ may_turn script h t playable kept can few = by_test (is_running h.state t) refl
               t
               (frame_of script t h.events)
               kept.has
-              (frame_of-frame (λ procedure. IsFitSomewhere script) script t h.events (fit-lines script playable.sound));
-          built = request-built (frame_of script t h.events) built;
+              (frame_of-frame (λ procedure. IsFitSomewhere script) script t h.events (fit-lines script sound));
           few = few;
         }
     by_test false waits = record { runnable = can; waits = waits; few = few }
@@ -306,40 +277,40 @@ pub run-declared : (script : ScriptValue) (ts : List ℕ) → IsSound script →
 run-declared script ts sound allowed = declared-known script (run script ts) (run-known script ts sound allowed)
 
 pub run-may_turn :
-    (script : ScriptValue) (ts : List ℕ) (t : ℕ) → IsPlayable script → IsAllowed script ts → is_runnable (run script ts).state t ≡ true →
+    (script : ScriptValue) (ts : List ℕ) (t : ℕ) → IsSound script → IsAllowed script ts → is_runnable (run script ts).state t ≡ true →
     MayTurn (run script ts).state t (request_at_turn script (run script ts) t)
-run-may_turn script ts t playable allowed can =
+run-may_turn script ts t sound allowed can =
     let within : length ts ≤ script.budget = allowed.within
-    in let small : script.budget ≤ 100000 = playable.sound.small_budget
+    in let small : script.budget ≤ 100000 = sound.small_budget
     in let events : (run script ts).state.events ≡ length ts = events-run script ts
-    in may_turn script (run script ts) t playable (run-known script ts playable.sound allowed) can (omega arith)
+    in may_turn script (run script ts) t sound (run-known script ts sound allowed) can (omega arith)
 
 -- the turns of a run are a run of the written kernel
 
 turns_from-run :
-    (script : ScriptValue) (ts : List ℕ) (h : History) → IsPlayable script → IsKnownHistory script h →
+    (script : ScriptValue) (ts : List ℕ) (h : History) → IsSound script → IsKnownHistory script h →
     h.state.events + length ts < 1000000 → AreRunnableFrom script h ts → IsRun h.state (turns_from script h ts)
-turns_from-run script [] h playable kept few can = tt
-turns_from-run script (t ∷ ts) h playable kept few can =
+turns_from-run script [] h sound kept few can = tt
+turns_from-run script (t ∷ ts) h sound kept few can =
     let one : (history_after script h t).state.events ≡ h.state.events + 1 = events-step h.state t (request_at_turn script h t)
     in let left : h.state.events < 1000000 = omega arith
     in let rest : (history_after script h t).state.events + length ts < 1000000 = omega arith
     in (
-      may_turn script h t playable kept can.0 left,
-      turns_from-run script ts (history_after script h t) playable (IsKnownHistory-history_after script h t playable.sound kept can.0) rest can.1,
+      may_turn script h t sound kept can.0 left,
+      turns_from-run script ts (history_after script h t) sound (IsKnownHistory-history_after script h t sound kept can.0) rest can.1,
     )
 
-pub turns_of-run : (script : ScriptValue) (ts : List ℕ) → IsPlayable script → IsAllowed script ts → IsRun (opening_of script) (turns_of script ts)
-turns_of-run script ts playable allowed =
+pub turns_of-run : (script : ScriptValue) (ts : List ℕ) → IsSound script → IsAllowed script ts → IsRun (opening_of script) (turns_of script ts)
+turns_of-run script ts sound allowed =
     let none : (opening_of script).events ≡ 0 = events-opening_of script
     in let within : length ts ≤ script.budget = allowed.within
-    in let small : script.budget ≤ 100000 = playable.sound.small_budget
+    in let small : script.budget ≤ 100000 = sound.small_budget
     in let few : (opening_of script).events + length ts < 1000000 = omega arith
     in turns_from-run
     script
     ts
     (first_history script)
-    playable
-    (IsKnownHistory-first_history script playable.sound)
+    sound
+    (IsKnownHistory-first_history script sound)
     few
     allowed.runnable

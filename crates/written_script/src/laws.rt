@@ -4,7 +4,6 @@
 ghost use Rattle.std.specs.Prelude.{◌≡◌, ℕ, List, None, Some, length, true, false};
 ghost use Rattle.script_lang.specs.Words.{ScriptValue, spells};
 ghost use Rattle.written_kernel.specs.Words.{MayTurn, events_of, is_runnable, state_after};
-ghost use Rattle.script_requests.specs.Words.{has_later_parts};
 ghost use Rattle.written_script.specs.DeclaredRuns.{IsDeclared};
 ghost use Rattle.written_script.specs.Plays.{IsWholePlay, IsRefusedPlay};
 ghost use Rattle.written_script.specs.ScriptRuns.{run, request_at_turn, IsAllowed, Refusal, opening_of, refusal, turns_of, turns_of_play};
@@ -15,10 +14,9 @@ pub fn declared_names()
     ensures { (text : List ℕ) (script : ScriptValue) (ts : List ℕ) → spells text script → IsAllowed script ts → IsDeclared script (run script ts) }
 {}
 
-/// Where a script needs no capability that is not built, each turn of a runnable thread is one that a kernel takes: its
-/// request is fit and needs no such capability, and a thread with an invocation neither calls nor exits.
+/// Each turn of a runnable thread is one that a kernel takes: what its request names is there, and its counts are in range.
 pub fn legal_turns()
-    ensures { (text : List ℕ) (script : ScriptValue) (ts : List ℕ) (t : ℕ) → spells text script → has_later_parts script ≡ false → IsAllowed script ts → is_runnable (run script ts).state t ≡ true → MayTurn (run script ts).state t (request_at_turn script (run script ts) t) }
+    ensures { (text : List ℕ) (script : ScriptValue) (ts : List ℕ) (t : ℕ) → spells text script → IsAllowed script ts → is_runnable (run script ts).state t ≡ true → MayTurn (run script ts).state t (request_at_turn script (run script ts) t) }
 {}
 
 /// `play` stops only where the run is over: no thread is runnable then, or there are as many events as the budget. Where a

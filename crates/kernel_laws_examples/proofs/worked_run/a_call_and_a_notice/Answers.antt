@@ -11,25 +11,25 @@ returns-clause-opens c =
 pub returns-clause-is_run : goal.returns-clause-is_run
 unfolding step
 returns-clause-is_run c = (
-  record { running = refl; fit = tt; built = lit≤ tt; few = lit< tt },
+  record { running = refl; fit = tt; few = lit< tt },
   (
-    record { running = refl; fit = tt; built = lit≤ tt; few = lit< tt },
+    record { running = refl; fit = tt; few = lit< tt },
     (
-      record { running = refl; fit = tt; built = lit≤ tt; few = lit< tt },
+      record { running = refl; fit = tt; few = lit< tt },
       (
-        record { running = refl; fit = tt; built = lit≤ tt; few = lit< tt },
+        record { running = refl; fit = tt; few = lit< tt },
         (
-          record { running = refl; fit = tt; built = lit≤ tt; few = lit< tt },
+          record { running = refl; fit = tt; few = lit< tt },
           (
             record { runnable = refl; waits = refl; few = lit< tt },
             (
-              record { running = refl; fit = tt; built = lit≤ tt; few = lit< tt },
+              record { running = refl; fit = tt; few = lit< tt },
               (
                 record { runnable = refl; waits = refl; few = lit< tt },
                 (
-                  record { running = refl; fit = tt; built = lit≤ tt; few = lit< tt },
+                  record { running = refl; fit = tt; few = lit< tt },
                   (
-                    record { running = refl; fit = tt; built = lit≤ tt; few = lit< tt },
+                    record { running = refl; fit = tt; few = lit< tt },
                     (record { runnable = refl; waits = refl; few = lit< tt }, tt),
                   ),
                 ),

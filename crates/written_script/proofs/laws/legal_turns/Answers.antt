@@ -3,5 +3,4 @@ use Rattle.written_script.proofs.RunTurns.{run-may_turn}
 use Rattle.written_script.proofs.laws.legal_turns.Goals as goal
 
 pub returns : goal.returns
-returns c = λ text script ts t s none allowed can.
-    run-may_turn script ts t (record { sound = sound-spelled text script s; built = none }) allowed can
+returns c = λ text script ts t s allowed can. run-may_turn script ts t (sound-spelled text script s) allowed can

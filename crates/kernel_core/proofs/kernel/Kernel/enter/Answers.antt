@@ -9,7 +9,7 @@ pub invariant_of-self : goal.invariant_of-self
 invariant_of-self c =
     let kept = stored_state c.self.inside.parts.store in
     let new = stored_state c.enter.new.self.store in (
-      kept_result kept c.args.self.now new c.args.t.0 (Some c.args.request) c.enter.result c.self.view_is c.self.invariant.0 (record { running = c.requires.running; fit = c.requires.fit; built = c.requires.built; few = c.requires.few }) c.enter.ensures.step c.enter.ensures.err,
+      kept_result kept c.args.self.now new c.args.t.0 (Some c.args.request) c.enter.result c.self.view_is c.self.invariant.0 (record { running = c.requires.running; fit = c.requires.fit; few = c.requires.few }) c.enter.ensures.step c.enter.ensures.err,
       step_within kept c.args.self.now new c.args.t.0 (Some c.args.request) c.enter.result c.self.view_is c.self.invariant.1 c.requires.few c.enter.ensures.step c.enter.ensures.made c.enter.ensures.err,
       c.enter.ensures.between,
     )
@@ -25,7 +25,7 @@ returns-clause-small c =
 
 pub returns-clause-refused : goal.returns-clause-refused
 returns-clause-refused c =
-    refused_result (stored_state c.self.inside.parts.store) c.args.self.now (stored_state c.enter.new.self.store) c.args.t.0 c.args.request c.enter.result c.self.view_is c.self.invariant.0 (record { running = c.requires.running; fit = c.requires.fit; built = c.requires.built; few = c.requires.few }) c.enter.ensures.step
+    refused_result (stored_state c.self.inside.parts.store) c.args.self.now (stored_state c.enter.new.self.store) c.args.t.0 c.args.request c.enter.result c.self.view_is c.self.invariant.0 (record { running = c.requires.running; fit = c.requires.fit; few = c.requires.few }) c.enter.ensures.step
 
 pub returns-clause-refused_step : goal.returns-clause-refused_step
 returns-clause-refused_step c =
@@ -37,11 +37,11 @@ enter-requires-clause-can_step c = can_step c.self.inside.parts c.args.self.now 
 pub enter-requires-clause-none_lost : goal.enter-requires-clause-none_lost
 enter-requires-clause-none_lost c =
     λ stays.
-    none_lost (stored_state c.self.inside.parts.store) c.args.self.now c.args.t.0 (Some c.args.request) c.self.view_is c.self.invariant.0 (record { running = c.requires.running; fit = c.requires.fit; built = c.requires.built; few = c.requires.few }) stays
+    none_lost (stored_state c.self.inside.parts.store) c.args.self.now c.args.t.0 (Some c.args.request) c.self.view_is c.self.invariant.0 (record { running = c.requires.running; fit = c.requires.fit; few = c.requires.few }) stays
 
 pub enter-requires-clause-noticing : goal.enter-requires-clause-noticing
 enter-requires-clause-noticing c =
-    noticing (stored_state c.self.inside.parts.store) c.args.self.now c.args.t.0 (Some c.args.request) c.self.view_is c.self.invariant.0 (record { running = c.requires.running; fit = c.requires.fit; built = c.requires.built; few = c.requires.few })
+    noticing (stored_state c.self.inside.parts.store) c.args.self.now c.args.t.0 (Some c.args.request) c.self.view_is c.self.invariant.0 (record { running = c.requires.running; fit = c.requires.fit; few = c.requires.few })
 
 pub enter-requires-clause-turning : goal.enter-requires-clause-turning
-enter-requires-clause-turning c = turning (stored_state c.self.inside.parts.store) c.args.self.now c.args.t.0 (Some c.args.request) c.self.view_is c.self.invariant.0 (record { running = c.requires.running; fit = c.requires.fit; built = c.requires.built; few = c.requires.few })
+enter-requires-clause-turning c = turning (stored_state c.self.inside.parts.store) c.args.self.now c.args.t.0 (Some c.args.request) c.self.view_is c.self.invariant.0 (record { running = c.requires.running; fit = c.requires.fit; few = c.requires.few })

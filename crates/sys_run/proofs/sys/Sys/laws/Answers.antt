@@ -5,4 +5,4 @@ pub returns-clause-laws : goal.returns-clause-laws
 returns-clause-laws c = rw (← c.self.view_is) (laws-journal _ c.every_run.ensures c.self.invariant.journal_is_run)
 
 pub returns-clause-small : goal.returns-clause-small
-returns-clause-small c = rw (← c.self.view_is) c.self.invariant.journal_is_run.script.sound.small_budget
+returns-clause-small c = rw (← c.self.view_is) c.self.invariant.journal_is_run.script.small_budget

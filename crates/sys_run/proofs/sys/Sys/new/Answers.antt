@@ -11,7 +11,7 @@ invariant_of-result c =
     c.args.script
     _
     _
-    (record { sound = c.sound_scripts.ensures _ _ c.is_spelled.ensures.spelled; built = c.requires })
+    (c.sound_scripts.ensures _ _ c.is_spelled.ensures.spelled)
     c.in_ok-kernel.ensures
     c.in_ok-machines.ensures.stand
     c.in_ok-machines.ensures.count)

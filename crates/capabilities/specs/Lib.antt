@@ -1,2 +1,0 @@
-pub mod Capability
-pub mod Words
