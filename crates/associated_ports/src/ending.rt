@@ -35,7 +35,7 @@ impl Ending {
         self.ids.clear();
     }
 
-    /// Room for so many.
+    /// Room for so many; what was listed goes. Want of memory leaves the lists empty.
     pub fn reserve(&mut self, n: usize) -> Result<(), NoMemory>
         ensures { OnOk result (HasRoomToEnd self.new n) }
     {

@@ -166,17 +166,18 @@ pub fn note_references(
     }
 }
 
-/// Associations fired or, unless this says so, no port changed. Then the threads are asked that wait at ports, and else none.
-pub fn note_fired(
+/// Ports were told: associations fired, or ended and had their events withdrawn. Where this says that none was, no port changed, and
+/// no thread that waits at a port is asked.
+pub fn note_told(
     ended: &mut ThreadSet,
-    fired: bool,
+    told: bool,
     processes: &Procs,
     held: &Holdings,
     ports: &AssociatedPorts,
 )
-    ensures { (before : List Port) → (fired ≡ false → ports.now.ports.ports ≡ before) → KnowsPorts processes.now held.now before ended.old → KnowsPorts processes.now held.now ports.now.ports.ports ended.new }
+    ensures { (before : List Port) → (told ≡ false → ports.now.ports.ports ≡ before) → KnowsPorts processes.now held.now before ended.old → KnowsPorts processes.now held.now ports.now.ports.ports ended.new }
 {
-    if fired {
+    if told {
         *ended = find_ended(processes, held, ports);
     }
 }

@@ -21,6 +21,7 @@ pub enum ClosedRows {
 }
 
 impl ClosedRows {
+    /// Whether no row is closed.
     pub fn is_nothing(&self) -> bool
         ensures { result ≡ is_nothing self.now }
     {
@@ -50,7 +51,8 @@ impl TellingRooms {
         }
     }
 
-    /// Room for what any event can change, where there are so many associations.
+    /// Room for what any event can change, where there are so many associations; what was listed goes. Want of memory leaves the
+    /// lists empty.
     pub fn reserve(&mut self, n: usize) -> Result<(), NoMemory>
         ensures { OnOk result (HasRoomToTell self.new n) }
     {

@@ -18,4 +18,3 @@ pub mod LeavingNotices
 pub mod Merged
 pub mod Swaps
 pub mod GivingFirst
-pub mod GivingOut

@@ -284,7 +284,7 @@ impl Store {
     }
 
     /// What a get of at most `max` finds at a port is taken, but for an alert, which stays. As it is retrieved it follows what is in
-    /// `into`. The associations end whose events it was, and their numbers are put into `ids`, where none is. It takes no memory.
+    /// `into`. The associations end whose events it was; `ids` is empty room for their numbers. It takes no memory.
     pub fn take_found(&mut self, q: u32, max: u32, into: &mut Room<EventRec>, ids: &mut Room<u32>)
         requires record_room { length (events_found max (port (stored_state self.old) q)) ≤ into.old.spare }
         requires number_room { length (events_found max (port (stored_state self.old) q)) ≤ ids.old.spare }

@@ -10,7 +10,7 @@ ghost use Rattle.unref_notice.specs.declared.counts.TheConstants.{STEP_MAX};
 ghost use Rattle.written_kernel.specs.Types.{Request};
 ghost use Rattle.written_kernel.specs.Words.{State, associations_in, fire, tell, with_channels};
 
-use crate::ports::note_fired;
+use crate::ports::note_told;
 use crate::store::Store;
 use crate::telling::end_closed;
 use crate::told::{ClosedRows, TellingRooms};
@@ -53,7 +53,7 @@ impl Store {
         let before = self.ports.assocs().len();
         end_closed(&mut self.ports, &self.held, closed, ending);
         let ended = self.ports.assocs().len() != before;
-        note_fired(
+        note_told(
             &mut self.ended,
             ended,
             &self.processes,
@@ -85,7 +85,7 @@ impl Store {
     {
         let ends = self.ends_of(pipe);
         let fired = self.ports.tell(&self.pipes, ends, gone, changed);
-        note_fired(
+        note_told(
             &mut self.ended,
             fired,
             &self.processes,

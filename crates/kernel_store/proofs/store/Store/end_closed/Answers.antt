@@ -16,7 +16,7 @@ invariant_of-self c = (
   c.self.invariant.2,
   c.self.invariant.3,
   c.self.invariant.4,
-  c.note_fired.ensures c.self.inside.ports.ports.ports (λ none. ap (λ (k : Channels). k.ports) (unchanged (grind (arith, nat_tests, none)))) c.self.invariant.5,
+  c.note_told.ensures c.self.inside.ports.ports.ports (λ none. ap (λ (k : Channels). k.ports) (unchanged (grind (arith, nat_tests, none)))) c.self.invariant.5,
 )
   where
     held : AssocsValue → ℕ

@@ -23,7 +23,7 @@ invariant_of-self c = (
   c.self.invariant.2,
   c.self.invariant.3,
   c.self.invariant.4,
-  c.note_fired.ensures c.self.inside.ports.ports.ports (λ none. ap (λ (v : PortsValue). v.ports) (c.tell-fired.ensures.none none).1) c.self.invariant.5,
+  c.note_told.ensures c.self.inside.ports.ports.ports (λ none. ap (λ (v : PortsValue). v.ports) (c.tell-fired.ensures.none none).1) c.self.invariant.5,
 )
 
 pub returns-clause-state : goal.returns-clause-state
