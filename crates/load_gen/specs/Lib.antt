@@ -1,0 +1,4 @@
+pub mod Loads
+pub mod LoadText
+pub mod Summaries
+pub mod Words

@@ -1,0 +1,5 @@
+//! Tests of generated loads.
+#![tactic(auto)]
+
+#[cfg(test)]
+mod tests;
