@@ -1,5 +1,8 @@
+pub mod CutTexts
 pub mod Differences
 pub mod EventLines
+pub mod Fronts
+pub mod FrontsAgain
 pub mod Leaving
 pub mod Legal
 pub mod LineFeeds

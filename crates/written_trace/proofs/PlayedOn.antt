@@ -1,5 +1,5 @@
 -- Any run within the budget can be taken to its end.
-use Rattle.std.proofs.Common.{◌≡◌, ℕ, zero, suc, ◌+◌, ◌-◌, ◌≤◌, ◌||◌, Bool, true, false, List, [], ◌∷◌, length, Option, Some, None, refl, subst, arith}
+use Rattle.std.proofs.Common.{◌≡◌, ℕ, zero, suc, ◌+◌, ◌-◌, ◌≤◌, ◌||◌, Bool, true, false, List, [], ◌∷◌, ◌++◌, length, Option, Some, None, refl, subst, arith}
 use Rattle.std.specs.Prelude.{is_none, nat_le}
 use Rattle.std.proofs.lemmas.Bool.{le-leb}
 use Rattle.script_lang.specs.Words.{ScriptValue}
@@ -30,6 +30,12 @@ pub turns_rest : (script : ScriptValue) (h : History) (t : ℕ) (ts : List ℕ) 
 turns_rest script h t ts whole =
     let one : length (history_after script h t).events ≡ length h.events + 1 = length-history_after script h t in
     record { runnable = whole.runnable.1; within = omega (arith, one, whole.within); over = whole.over }
+
+-- turns after those that led to a history
+pub turns_before : (script : ScriptValue) (us ts : List ℕ) (h : History) → AreRunnableFrom script h us → IsToEnd script (run_from script h us) ts → IsToEnd script h (us ++ ts)
+turns_before script [] ts h can rest = rest
+turns_before script (u ∷ us) ts h can rest =
+    turn_first script h u (us ++ ts) can.0 (turns_before script us ts (history_after script h u) can.1 rest)
 
 -- some turns take the run to its end
 pub record CanEnd (script : ScriptValue) (h : History) : Type 0 where

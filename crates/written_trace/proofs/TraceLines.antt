@@ -34,6 +34,12 @@ pub events-run : (script : ScriptValue) (ts : List ℕ) → (run script ts).even
 unfolding run
 events-run script ts = events-run_from script ts (first_history script)
 
+-- of turns in two parts
+pub events_from-append : (script : ScriptValue) (ts us : List ℕ) (h : History) → events_from script h (ts ++ us) ≡ events_from script h ts ++ events_from script (run_from script h ts) us
+events_from-append script [] us h = refl
+events_from-append script (t ∷ ts) us h =
+    ap (λ events. event_of h.state t (request_at_turn script h t) ∷ events) (events_from-append script ts us (history_after script h t))
+
 pub threads-events_from : (script : ScriptValue) (ts : List ℕ) (h : History) → threads_of_events (events_from script h ts) ≡ ts
 threads-events_from script [] h = refl
 threads-events_from script (t ∷ ts) h = ap (λ us. t ∷ us) (threads-events_from script ts (history_after script h t))
@@ -42,7 +48,7 @@ threads-events_from script (t ∷ ts) h = ap (λ us. t ∷ us) (threads-events_f
 abbrev pub lines_of_events : ScriptValue → List Event → List (List ℕ)
 lines_of_events script events = map (line_of script) events
 
-text_of_lines-events : (script : ScriptValue) (events : List Event) → lines_text script events ≡ text_of_lines (lines_of_events script events)
+pub text_of_lines-events : (script : ScriptValue) (events : List Event) → lines_text script events ≡ text_of_lines (lines_of_events script events)
 text_of_lines-events script [] = refl
 text_of_lines-events script (e ∷ events) =
     append_assoc (line_of script e) (10 ∷ []) (lines_text script events) ∙ ap (λ rest. line_of script e ++ 10 ∷ rest) (text_of_lines-events script events)
@@ -52,7 +58,7 @@ abbrev pub tail_lines : Option ℕ → List (List ℕ)
 tail_lines None = []
 tail_lines (Some n) = (codes "tail " ++ decimal n) ∷ []
 
-tail_text-lines : (tail : Option ℕ) → tail_text tail ≡ text_of_lines (tail_lines tail)
+pub tail_text-lines : (tail : Option ℕ) → tail_text tail ≡ text_of_lines (tail_lines tail)
 tail_text-lines None = refl
 tail_text-lines (Some n) = sym (append_assoc (codes "tail ") (decimal n) (10 ∷ []))
 
@@ -60,7 +66,7 @@ tail_text-lines (Some n) = sym (append_assoc (codes "tail ") (decimal n) (10 ∷
 abbrev pub lines_of_trace : ScriptValue → History → Option ℕ → List (List ℕ)
 lines_of_trace script h tail = lines_of_events script h.events ++ end_line_after script h ∷ tail_lines tail
 
-arranged : (front end rest : List ℕ) → ((front ++ end) ++ 10 ∷ []) ++ rest ≡ front ++ (end ++ 10 ∷ rest)
+pub arranged : (front end rest : List ℕ) → ((front ++ end) ++ 10 ∷ []) ++ rest ≡ front ++ (end ++ 10 ∷ rest)
 arranged front end rest = append_assoc (front ++ end) (10 ∷ []) rest ∙ append_assoc front end (10 ∷ rest)
 
 pub text_of_trace : (script : ScriptValue) (h : History) (tail : Option ℕ) → text_of_history script h ++ tail_text tail ≡ text_of_lines (lines_of_trace script h tail)
@@ -78,7 +84,7 @@ text_of_trace script h tail =
 abbrev pub AreReadable : ScriptValue → List Event → Type 0
 AreReadable script events = All (HasReadableLine script) events
 
-one_lines : (script : ScriptValue) (events : List Event) → AreReadable script events → list_all is_one_line (lines_of_events script events) ≡ true
+pub one_lines : (script : ScriptValue) (events : List Event) → AreReadable script events → list_all is_one_line (lines_of_events script events) ≡ true
 one_lines script [] all = refl
 one_lines script (e ∷ events) all =
     and_from _ _ (All-head (HasReadableLine script) e events all).one (one_lines script events (All-tail (HasReadableLine script) e events all))
@@ -107,7 +113,7 @@ lines_of_trace_text source script h tail text s all is =
 
 -- the turns that these lines tell
 
-digit_lines : (script : ScriptValue) (events : List Event) (rest : List (List ℕ)) → AreReadable script events
+pub digit_lines : (script : ScriptValue) (events : List Event) (rest : List (List ℕ)) → AreReadable script events
     → filter begins_with_digit (lines_of_events script events ++ rest) ≡ lines_of_events script events ++ filter begins_with_digit rest
 digit_lines script [] rest all = refl
 digit_lines script (e ∷ events) rest all =

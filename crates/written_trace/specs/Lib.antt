@@ -5,4 +5,5 @@ pub mod VerdictText
 pub mod LegalTraces
 pub mod FirstDifferences
 pub mod Replays
+pub mod Fronts
 pub mod Words

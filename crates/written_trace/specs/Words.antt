@@ -1,5 +1,6 @@
 -- The words of this crate's specs, from one place, for the crates above.
 pub use Rattle.written_trace.specs.FirstDifferences.{IsFirstDifference, IsNamedTurn, IsOtherTurn, IsWanted, OfEachTrace, line_at, lines_before, lines_through}
+pub use Rattle.written_trace.specs.Fronts.{IsFrontOf, IsFrontOfEnd, IsFrontOfNextLine, IsFrontOfRun, IsFrontOfTrace, turns_in_whole_lines, whole_lines}
 pub use Rattle.written_trace.specs.LegalTraces.{IsLegal, IsTextOf, IsTrace}
 pub use Rattle.written_trace.specs.Replays.{numbered_thread, scheduled}
 pub use Rattle.written_trace.specs.TraceInput.{AreParts, HasNoTrace, before_place, begins_with_trace_line, is_trace_line, line_after_last, script_part, trace_line, trace_part, trace_place_from}

@@ -7,6 +7,7 @@ ghost use Rattle.script_requests.specs.Words.{thread_named};
 ghost use Rattle.written_script.specs.Words.{IsAllowed, is_over, refusal, run, text_of_history, turns_of_play};
 ghost use Rattle.written_trace.specs.declared.verdict.Verdict.TheVariants.{Differs, Legal};
 ghost use Rattle.written_trace.specs.FirstDifferences.{IsFirstDifference};
+ghost use Rattle.written_trace.specs.Fronts.{IsFrontOf, IsFrontOfRun, IsFrontOfTrace};
 ghost use Rattle.written_trace.specs.LegalTraces.{IsLegal, IsTrace};
 ghost use Rattle.written_trace.specs.Replays.{scheduled};
 ghost use Rattle.written_trace.specs.TraceInput.{AreParts, HasNoTrace, script_part, trace_part};
@@ -62,4 +63,12 @@ pub fn replay()
     ensures turns { (script : ScriptValue) (turns : List ℕ) → IsAllowed script turns → is_over script (run script turns) ≡ true → turns_of_play (scheduled script turns) ≡ turns }
     ensures text { (script : ScriptValue) (turns : List ℕ) → text_of_history (scheduled script turns) (run (scheduled script turns) turns) ≡ text_of_history script (run script turns) }
     ensures spelled { (source : List ℕ) (script : ScriptValue) (turns : List ℕ) → spells source script → IsAllowed script turns → spells (canonical_text (scheduled script turns)) (scheduled script turns) }
+{}
+
+/// What a failed write leaves of the trace of a run is a prefix of it. The turns of its whole event lines are allowed. After the lines of
+/// their run's events there stands a prefix of the end line and of a line `tail N`, where that run is over, and else a prefix of the
+/// line of an event that may follow. And only a prefix of the trace of some run that is over is such a text.
+pub fn fronts_of_runs()
+    ensures found { (source : List ℕ) (script : ScriptValue) (trace turns written : List ℕ) → spells source script → IsTrace script trace turns → IsFrontOf written trace → IsFrontOfRun script written }
+    ensures again { (script : ScriptValue) (written : List ℕ) → IsFrontOfRun script written → IsFrontOfTrace script written }
 {}
