@@ -1,11 +1,13 @@
 -- What a look under the lock finds, takes and leaves.
-use Rattle.std.specs.Prelude.{ℕ, ◌≡◌, ◌+◌, ◌==◌, ◌||◌, Bool, true, false, List, [], ◌∷◌, ◌++◌, Option, Some, None, find}
+use Rattle.std.specs.Prelude.{ℕ, ◌≡◌, ◌+◌, Bool, true, false, List, [], ◌∷◌, ◌++◌, Option, Some, None, find}
 use Rattle.std.specs.List.{list_any}
 use Rattle.written_kernel.specs.Types.{Tid}
 use Rattle.written_kernel.specs.Words.{State, is_runnable}
 use Rattle.written_script.specs.Words.{is_over}
 use Rattle.sys_run.specs.Sys.{SysValue, WorksOn, history, is_working, state_of_run, threads_woken_by, with_turn}
 use Rattle.work_ops.specs.Words.{TaskValue}
+use Rattle.kernel_lock.specs.Ends.{first_runnable_of, has_ended, is_member}
+use Rattle.kernel_lock.specs.declared.looks.Idle.{Idle}
 use Rattle.kernel_lock.specs.declared.turns.HandedIn.{HandedIn}
 use Rattle.kernel_lock.specs.declared.turns.HandedIn.TheVariants as handed
 use Rattle.kernel_lock.specs.declared.turns.Next.{Next}
@@ -23,13 +25,6 @@ pub record UnderLock : Type 0 where
 
 abbrev pub held : SysValue → Bool → List Tid → ℕ → UnderLock
 held sys stopped refused turns = record { sys = sys; stopped = stopped; refused = refused; turns = turns }
-
--- no turn may be taken any more: the run was stopped, or is over
-abbrev pub has_ended : SysValue → Bool → Bool
-has_ended sys stopped = stopped || is_over sys.script (history sys)
-
-abbrev pub is_member : List Tid → ℕ → Bool
-is_member threads t = list_any (λ (other : Tid). other.0 == t) threads
 
 -- whether one of the woken threads is one of these
 abbrev pub is_any_of : List Tid → List Tid → Bool
@@ -67,8 +62,10 @@ pub record IsLent (old new : UnderLock) (t : ℕ) (task : TaskValue) : Type 0 wh
   pub goes_on : has_ended old.sys old.stopped ≡ false
   pub same : new ≡ old
 
--- a driver waits only while its thread is not runnable and the run goes on
-pub record IsWait (old new : UnderLock) (t : ℕ) : Type 0 where
+-- a driver waits only while its thread is not runnable and the run goes on, which the look shows
+pub record IsWait (old new : UnderLock) (t : ℕ) (look : Idle) : Type 0 where
+  pub run : look.run.value ≡ old.sys
+  pub thread : look.thread.0 ≡ t
   pub not_runnable : is_runnable (state_of_run old.sys) t ≡ false
   pub goes_on : has_ended old.sys old.stopped ≡ false
   pub same : new ≡ old
@@ -80,7 +77,7 @@ pub record IsEnd (old new : UnderLock) : Type 0 where
 abbrev pub IsTurn : UnderLock → UnderLock → ℕ → Turn → Type 0
 IsTurn old new t (turn.Taken whom) = IsTaken old new t whom
 IsTurn old new t (turn.Works task) = IsLent old new t task
-IsTurn old new t turn.Waits = IsWait old new t
+IsTurn old new t (turn.Waits look) = IsWait old new t look
 IsTurn old new t turn.Ended = IsEnd old new
 
 -- the end of the thread's task, which is the one that was done
@@ -99,19 +96,15 @@ IsHandedIn old new t done (handed.Taken whom) = IsTaskEnd old new t done whom
 IsHandedIn old new t done handed.Dropped = IsDropped old new t done
 IsHandedIn old new t done handed.Ended = IsEnd old new
 
--- the first of these threads that is runnable
-abbrev pub first_runnable_of : State → List Tid → Option Tid
-first_runnable_of m threads = find (λ (t : Tid). is_runnable m t.0) threads
-
 -- the calling thread waits only while none of its threads is runnable and the run goes on
 pub record IsNextOf (h : UnderLock) (first : Option Tid) : Type 0 where
   pub goes_on : has_ended h.sys h.stopped ≡ false
   pub first_is : first_runnable_of (state_of_run h.sys) h.refused ≡ first
 
 abbrev pub IsNext : UnderLock → Next → Type 0
-IsNext h (next.Runnable t) = IsNextOf h (Some t)
-IsNext h next.Waits = IsNextOf h None
-IsNext h next.Ended = has_ended h.sys h.stopped ≡ true
+IsNext h (next.Runnable t look) = IsNextOf h (Some t)
+IsNext h (next.Waits look) = IsNextOf h None
+IsNext h (next.Ended look) = has_ended h.sys h.stopped ≡ true
 
 -- the start of this thread is marked as refused
 abbrev pub with_refused : UnderLock → Tid → UnderLock

@@ -1,93 +1,117 @@
-//! The loops of those who take turns.
-ghost use Rattle.std.specs.Prelude.{◌≡◌, IfSome};
+//! The loops of those who take turns. Each goes on by a look that found that the run goes on, and leaves by one that found why.
+ghost use Rattle.std.specs.Prelude.{◌≡◌, IfErr, IfOk, true};
+ghost use Rattle.kernel_lock.specs.Ends.{has_ended};
+ghost use Rattle.kernel_lock.specs.Leaving.{IsLeft};
 
+use crate::looks::{Ended, GoesOn, Left};
 use crate::share::TurnShare;
 use crate::shared::Shared;
 use crate::turns::{HandedIn, Next, Turn};
+use dk_base::error::NoMemory;
 use dk_base::number::Tid;
 use dk_base::outside::Gate;
 use std::sync::Wait;
 use std::sync::ledger::Ledger;
 use work_ops::task::{Done, Task, run};
 
-/// How a driver goes on after a look under the lock.
+/// What a driver that has left gives back: its share, and why it left.
+pub type Departed<L> = (TurnShare<L>, Left);
+
+/// What a driver does after a look under the lock, while the run goes on: it computes this task and hands it in, or looks again.
 #[derive(Drop)]
-enum Pass {
-    /// It looks again.
-    Again,
-    /// It computes this task, and hands it in.
-    Task(Task),
-    /// The run has ended.
-    Ended,
+struct Pass {
+    task: Option<Task>,
+    going: GoesOn,
 }
 
-/// Waits until a thread is runnable, and takes its turn or its task.
+/// Notifies those whom a look woke. How the run stood then decides what the driver does next.
+fn after<L: Ledger>(
+    shared: &Shared<L>,
+    turn: Result<Turn, NoMemory>,
+    standing: Result<GoesOn, Ended>,
+) -> Result<Pass, Ended> {
+    let task = match turn {
+        Ok(Turn::Works(task)) => Some(task),
+        Ok(Turn::Taken(whom)) => {
+            shared.notify(&whom);
+            None
+        }
+        Ok(Turn::Waits(_idle)) => None,
+        Ok(Turn::Ended) => None,
+        Err(NoMemory) => {
+            shared.notify_all();
+            None
+        }
+    };
+    Ok(Pass {
+        task,
+        going: standing?,
+    })
+}
+
+/// Waits until a thread is runnable, and takes its turn or is lent its task.
 fn take_turn<L: Ledger, R: Wait>(
     rt: &R,
     shared: &Shared<L>,
     t: Tid,
     mine: &mut TurnShare<L>,
-) -> Pass {
+) -> Result<Pass, Ended> {
     let mut held = shared.running.lock(rt);
     for _ in rt.forever() {
         match held.turn(t, mine) {
-            Ok(Turn::Waits) => held = shared.condvar(t).wait(rt, held),
-            Ok(Turn::Works(task)) => return Pass::Task(task),
-            Ok(Turn::Taken(whom)) => {
+            Ok(Turn::Waits(idle)) => held = shared.condvar(idle.into_thread()).wait(rt, held),
+            turn => {
+                let standing = held.standing();
                 drop(held);
-                shared.notify(&whom);
-                return if whom.over { Pass::Ended } else { Pass::Again };
-            }
-            Ok(Turn::Ended) => return Pass::Ended,
-            Err(_) => {
-                drop(held);
-                shared.notify_all();
-                return Pass::Ended;
+                return after(shared, turn, standing);
             }
         }
     }
     unreachable!()
 }
 
+/// Stops the run, since memory is wanting.
+fn stop<L: Ledger, R: Wait>(rt: &R, shared: &Shared<L>) -> Ended
+    ensures { result.stopped ≡ true }
+{
+    let ended = shared.running.lock(rt).stop();
+    shared.notify_all();
+    ended
+}
+
 /// Computes a task without the lock. Where memory for it is wanting, the run is stopped.
-fn compute<L: Ledger, R: Wait>(rt: &R, shared: &Shared<L>, task: Task) -> Option<Done>
-    ensures { IfSome result (λ done. done ≡ task) }
+fn compute<L: Ledger, R: Wait>(rt: &R, shared: &Shared<L>, task: Task) -> Result<Done, Ended>
+    ensures done { IfOk result (λ done. done ≡ task) }
+    ensures stopped { IfErr result (λ look. look.stopped ≡ true) }
 {
     match run(shared.alloc, task) {
-        Ok(done) => Some(done),
-        Err(_) => {
-            shared.running.lock(rt).stop();
-            shared.notify_all();
-            None
-        }
+        Ok(done) => Ok(done),
+        Err(_) => Err(stop(rt, shared)),
     }
 }
 
-/// Hands in what was computed for a thread. False where the run has ended.
+/// Hands in what was computed for a thread.
 fn hand_in<L: Ledger, R: Wait>(
     rt: &R,
     shared: &Shared<L>,
     t: Tid,
     done: Done,
     mine: &mut TurnShare<L>,
-) -> bool {
-    let handed = shared.running.lock(rt).hand_in(t, done, mine);
+) -> Result<GoesOn, Ended> {
+    let mut held = shared.running.lock(rt);
+    let handed = held.hand_in(t, done, mine);
+    let next = held.standing();
+    drop(held);
     match handed {
-        Ok(HandedIn::Taken(whom)) => {
-            shared.notify(&whom);
-            !whom.over
-        }
-        Ok(HandedIn::Dropped) => true,
-        Ok(HandedIn::Ended) => false,
-        Err(_) => {
-            shared.notify_all();
-            false
-        }
+        Ok(HandedIn::Taken(whom)) => shared.notify(&whom),
+        Ok(HandedIn::Dropped) | Ok(HandedIn::Ended) => {}
+        Err(NoMemory) => shared.notify_all(),
     }
+    next
 }
 
 /// Goes on after a look for a thread: a task that was lent is computed without the lock, and handed in once the gate is passed
-/// again. False where the run has ended.
+/// again.
 fn go_on<G: Gate, L: Ledger, R: Wait>(
     rt: &R,
     shared: &Shared<L>,
@@ -95,52 +119,65 @@ fn go_on<G: Gate, L: Ledger, R: Wait>(
     gate: &G,
     mine: &mut TurnShare<L>,
     pass: Pass,
-) -> bool {
-    match pass {
-        Pass::Again => true,
-        Pass::Ended => false,
-        Pass::Task(task) => {
-            let Some(done) = compute(rt, shared, task) else {
-                return false;
-            };
-            gate.pass(t);
-            hand_in(rt, shared, t, done, mine)
-        }
-    }
+) -> Result<GoesOn, Ended> {
+    let Pass { task, going } = pass;
+    let Some(task) = task else {
+        return Ok(going);
+    };
+    let done = compute(rt, shared, task)?;
+    going.pass(gate, t);
+    hand_in(rt, shared, t, done, mine)
+}
+
+/// Passes the gate, and takes a turn of a thread.
+fn take_next<G: Gate, L: Ledger, R: Wait>(
+    rt: &R,
+    shared: &Shared<L>,
+    t: Tid,
+    gate: &G,
+    mine: &mut TurnShare<L>,
+    going: GoesOn,
+) -> Result<GoesOn, Ended> {
+    going.pass(gate, t);
+    let pass = take_turn(rt, shared, t, mine)?;
+    go_on(rt, shared, t, gate, mine, pass)
 }
 
 /// Drives one thread: passes the gate without the lock, waits until its thread is runnable, and takes its turn, until the run
-/// has ended. A task it computes without the lock, and passes the gate again before it hands that in. Gives back its share, whose
-/// number is the turns that it took: at once where the run has ended, or where the thread's start is marked as refused.
+/// has ended. A task it computes without the lock, and passes the gate again before it hands that in. It leaves only where a look
+/// found that the run had ended, or, before its first turn, that the thread's start is marked as refused; after want of memory
+/// the run is stopped. Its share's number is the turns that it took.
 pub fn drive<G: Gate, L: Ledger, R: Wait>(
     rt: &R,
     shared: &Shared<L>,
     t: Tid,
     gate: &G,
     share: TurnShare<L>,
-) -> TurnShare<L> {
+) -> Departed<L>
+    ensures { IsLeft t.0 result.1 }
+{
     let mut share = share;
-    if shared.running.lock(rt).needs_no_driver(t) {
-        return share;
-    }
+    let mut going = match shared.running.lock(rt).needs_driver(t) {
+        Ok(going) => going,
+        Err(why) => return (share, why),
+    };
     for _ in rt.forever() {
-        gate.pass(t);
-        let pass = take_turn(rt, shared, t, &mut share);
-        if !go_on(rt, shared, t, gate, &mut share, pass) {
-            break;
+        match take_next(rt, shared, t, gate, &mut share, going) {
+            Ok(next) => going = next,
+            Err(ended) => return (share, Left::Ended(ended)),
         }
     }
-    share
+    unreachable!()
 }
 
-/// Waits until a thread whose start was refused is runnable. None where the run has ended.
-fn next_refused<L: Ledger, R: Wait>(rt: &R, shared: &Shared<L>) -> Option<Tid> {
+/// Waits until a thread whose start was refused is runnable.
+fn next_refused<L: Ledger, R: Wait>(rt: &R, shared: &Shared<L>) -> Result<(Tid, GoesOn), Ended> {
     let mut held = shared.running.lock(rt);
     for _ in rt.forever() {
         match held.next_refused() {
-            Next::Waits => held = shared.calling.wait(rt, held),
-            Next::Runnable(t) => return Some(t),
-            Next::Ended => return None,
+            Next::Waits(idle) => held = shared.calling(idle).wait(rt, held),
+            Next::Runnable(t, going) => return Ok((t, going)),
+            Next::Ended(ended) => return Err(ended),
         }
     }
     unreachable!()
@@ -152,43 +189,43 @@ fn take_refused<L: Ledger, R: Wait>(
     shared: &Shared<L>,
     t: Tid,
     mine: &mut TurnShare<L>,
-) -> Pass {
-    let turn = shared.running.lock(rt).turn(t, mine);
-    match turn {
-        Ok(Turn::Works(task)) => Pass::Task(task),
-        Ok(Turn::Taken(whom)) => {
-            shared.notify(&whom);
-            if whom.over { Pass::Ended } else { Pass::Again }
-        }
-        Ok(Turn::Waits) => Pass::Again,
-        Ok(Turn::Ended) => Pass::Ended,
-        Err(_) => {
-            shared.notify_all();
-            Pass::Ended
-        }
-    }
+) -> Result<Pass, Ended> {
+    let mut held = shared.running.lock(rt);
+    let turn = held.turn(t, mine);
+    let standing = held.standing();
+    drop(held);
+    after(shared, turn, standing)
 }
 
-/// Drives all threads whose start was refused, from the calling thread. It waits only while none of them is runnable.
+/// Waits until a thread whose start was refused is runnable, passes the gate, and takes its turn.
+fn take_next_refused<G: Gate, L: Ledger, R: Wait>(
+    rt: &R,
+    shared: &Shared<L>,
+    gate: &G,
+    mine: &mut TurnShare<L>,
+) -> Result<GoesOn, Ended> {
+    let (t, going) = next_refused(rt, shared)?;
+    going.pass(gate, t);
+    let pass = take_refused(rt, shared, t, mine)?;
+    go_on(rt, shared, t, gate, mine, pass)
+}
+
+/// Drives all threads whose start was refused, from the calling thread. It waits only while none of them is runnable, and leaves
+/// only where a look found that the run had ended.
 pub(crate) fn drive_refused<G: Gate, L: Ledger, R: Wait>(
     rt: &R,
     shared: &Shared<L>,
     gate: &G,
     share: TurnShare<L>,
-) -> TurnShare<L> {
+) -> (TurnShare<L>, Ended)
+    ensures { has_ended result.1.run.value result.1.stopped ≡ true }
+{
     let mut share = share;
-    if !shared.running.lock(rt).has_refused() {
-        return share;
-    }
     for _ in rt.forever() {
-        let Some(t) = next_refused(rt, shared) else {
-            break;
-        };
-        gate.pass(t);
-        let pass = take_refused(rt, shared, t, &mut share);
-        if !go_on(rt, shared, t, gate, &mut share, pass) {
-            break;
+        match take_next_refused(rt, shared, gate, &mut share) {
+            Ok(_) => {}
+            Err(ended) => return (share, ended),
         }
     }
-    share
+    unreachable!()
 }

@@ -1,7 +1,8 @@
 //! Handing in what a driver computed without the lock.
 ghost use Rattle.std.specs.Prelude.{◌≡◌, false, IfOk, OnErr};
 ghost use Rattle.sys_run.specs.Sys.{WorksOn};
-ghost use Rattle.kernel_lock.specs.Turning.{held, has_ended, IsHandedIn, stopped_by};
+ghost use Rattle.kernel_lock.specs.Ends.{has_ended};
+ghost use Rattle.kernel_lock.specs.Turning.{held, IsHandedIn, stopped_by};
 
 use crate::running::{Running, to_notify};
 use crate::share::TurnShare;

@@ -4,6 +4,7 @@
 
 pub mod driving;
 mod handing;
+pub mod looks;
 pub mod run;
 pub mod running;
 pub mod share;

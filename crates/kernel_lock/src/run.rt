@@ -1,6 +1,5 @@
 //! A whole run of a script on threads.
 ghost use Rattle.std.specs.Prelude.{◌≡◌, ◌+◌, ◌<◌, ◌≤◌, ◌^◌, [], length, sum, true, false, IfOk, OnOk};
-ghost use Rattle.script_requests.specs.Words.{has_later_parts};
 ghost use Rattle.written_script.specs.Words.{is_over};
 ghost use Rattle.sys_run.specs.Words.{LawsOf, history};
 
@@ -136,7 +135,6 @@ fn finish(ran: Ran) -> Result<Ran, NoMemory>
 
 /// The calling thread takes all turns.
 fn run_alone(alloc: Global, script: Script) -> Result<Ran, NoMemory>
-    requires { has_later_parts script ≡ false }
     ensures script { IfOk result (λ ran. ran.sys.script ≡ script) }
     ensures over { IfOk result (λ ran. is_over ran.sys.script (history ran.sys) ≡ true) }
     ensures sum { IfOk result (λ ran. length ran.sys.journal ≡ sum ran.by + ran.tail) }
@@ -172,7 +170,6 @@ fn zeros(alloc: Global, n: u32) -> Result<CountList, NoMemory>
 /// The run after the joins, to its end. A lock's value is known by its type alone, so its script is compared with the one that
 /// was given; where they differ, the given one is run anew.
 fn run_to_end(alloc: Global, ran: Ran, script: Script) -> Result<Ran, NoMemory>
-    requires later { has_later_parts script ≡ false }
     requires sum { length ran.sys.journal ≡ sum ran.by + ran.tail }
     requires by { length ran.by ≡ length script.threads }
     ensures script { IfOk result (λ done. done.sys.script ≡ script) }
@@ -197,7 +194,6 @@ pub fn run_threads_on<G: Gate + Sync, R: Threads + Wait + Sync>(
     gate: &G,
     most: u32,
 ) -> Result<Ran, NoMemory>
-    requires { has_later_parts script ≡ false }
     ensures script { IfOk result (λ ran. ran.sys.script ≡ script) }
     ensures over { IfOk result (λ ran. is_over ran.sys.script (history ran.sys) ≡ true) }
     ensures sum { IfOk result (λ ran. length ran.sys.journal ≡ sum ran.by + ran.tail) }
@@ -221,7 +217,6 @@ pub fn run_threads<G: Gate + Sync, R: Threads + Wait + Sync>(
     script: Script,
     gate: &G,
 ) -> Result<Ran, NoMemory>
-    requires { has_later_parts script ≡ false }
     ensures script { IfOk result (λ ran. ran.sys.script ≡ script) }
     ensures over { IfOk result (λ ran. is_over ran.sys.script (history ran.sys) ≡ true) }
     ensures sum { IfOk result (λ ran. length ran.sys.journal ≡ sum ran.by + ran.tail) }

@@ -1,9 +1,12 @@
 //! What lies under the lock.
-ghost use Rattle.std.specs.Prelude.{◌≡◌, length, true, false, not, ◌||◌, ◌==◌, IfOk, OnOk, OnErr, option_copied};
+ghost use Rattle.std.specs.Prelude.{◌≡◌, length, true, false, ◌||◌, IfErr, IfOk, OnOk, OnErr, option_copied};
 ghost use Rattle.written_kernel.specs.Words.{is_runnable};
 ghost use Rattle.sys_run.specs.Sys.{is_working, state_of_run};
-ghost use Rattle.kernel_lock.specs.Turning.{held, has_ended, is_any_of, is_member, first_runnable_of, IsTurn, IsNext, stopped_by, with_refused};
+ghost use Rattle.kernel_lock.specs.Ends.{first_runnable_of, has_ended, is_member};
+ghost use Rattle.kernel_lock.specs.Leaving.{IsLeft};
+ghost use Rattle.kernel_lock.specs.Turning.{held, is_any_of, IsTurn, IsNext, stopped_by, with_refused};
 
+use crate::looks::{AllIdle, Ended, GoesOn, Idle, Left, Marked};
 use crate::share::TurnShare;
 use crate::turns::{Next, ToNotify, Turn};
 use dk_base::error::NoMemory;
@@ -89,7 +92,7 @@ impl<L: Ledger> Running<L> {
             return Ok(Turn::Ended);
         }
         if !self.sys.runnable(t) {
-            return Ok(Turn::Waits);
+            return Ok(Turn::Waits(Idle::seen(&self.sys, t)));
         }
         if !self.sys.working(t) {
             return self.take(t, mine);
@@ -137,62 +140,83 @@ impl<L: Ledger> Running<L> {
     }
 
     /// Stops the run, so that every driver leaves.
-    pub fn stop(&mut self)
-        ensures { held self.new.sys self.new.stopped self.new.refused.items 0
+    pub fn stop(&mut self) -> Ended
+        ensures stopped { held self.new.sys self.new.stopped self.new.refused.items 0
             ≡ stopped_by (held self.old.sys self.old.stopped self.old.refused.items 0) }
+        ensures look { result.stopped ≡ true }
     {
         self.stopped = true;
+        Ended::seen(&self.sys, true)
     }
 
     /// Which thread whose start was refused is runnable.
     pub fn next_refused(&self) -> Next
         ensures { IsNext (held self.now.sys self.now.stopped self.now.refused.items 0) result }
     {
-        if self.has_ended() {
-            return Next::Ended;
-        }
+        let going = match self.standing() {
+            Ok(going) => going,
+            Err(ended) => return Next::Ended(ended),
+        };
         match first_runnable(&self.sys, self.refused.as_slice()) {
-            Some(t) => Next::Runnable(*t),
-            None => Next::Waits,
+            Some(t) => Next::Runnable(*t, going),
+            None => Next::Waits(AllIdle::seen(&self.sys, &self.refused)),
         }
     }
 
     /// Marks a thread whose start was refused. Want of memory stops the run.
-    pub fn refuse(&mut self, t: Tid) -> Result<(), NoMemory>
+    pub fn refuse(&mut self, t: Tid) -> Result<Marked, Ended>
         ensures marked { OnOk result (
             held self.new.sys self.new.stopped self.new.refused.items 0
             ≡ with_refused (held self.old.sys self.old.stopped self.old.refused.items 0) t) }
         ensures err { OnErr result (
             held self.new.sys self.new.stopped self.new.refused.items 0
             ≡ stopped_by (held self.old.sys self.old.stopped self.old.refused.items 0)) }
+        ensures thread { IfOk result (λ look. look.thread ≡ t) }
+        ensures look { IfErr result (λ look. look.stopped ≡ true) }
     {
         let Running {
-            sys: _,
+            sys,
             stopped,
             refused,
             book: _,
         } = self;
         match refused.push(t) {
-            Ok(()) => Ok(()),
+            Ok(()) => Ok(Marked::seen(refused, t)),
             Err(_) => {
                 *stopped = true;
-                Err(NoMemory)
+                Err(Ended::seen(sys, true))
             }
         }
     }
 
-    /// Whether some start was refused.
-    pub fn has_refused(&self) -> bool
-        ensures { result ≡ not (length self.now.refused.items == 0) }
+    /// Whether a driver of this thread is wanted: the run goes on, and its start was not refused. The error is why not.
+    pub fn needs_driver(&self, t: Tid) -> Result<GoesOn, Left>
+        ensures needs { OnOk result ((has_ended self.now.sys self.now.stopped || is_member self.now.refused.items t.0) ≡ false) }
+        ensures needs_none { OnErr result ((has_ended self.now.sys self.now.stopped || is_member self.now.refused.items t.0) ≡ true) }
+        ensures left { IfErr result (λ left. IsLeft t.0 left) }
     {
-        !self.refused.is_empty()
+        let going = match self.standing() {
+            Ok(going) => going,
+            Err(ended) => return Err(Left::Ended(ended)),
+        };
+        if is_one_of(self.refused.as_slice(), t) {
+            return Err(Left::Refused(Marked::seen(&self.refused, t)));
+        }
+        Ok(going)
     }
 
-    /// Whether no driver of this thread is wanted: its start was refused, or the run has ended.
-    pub fn needs_no_driver(&self, t: Tid) -> bool
-        ensures { result ≡ (has_ended self.now.sys self.now.stopped || is_member self.now.refused.items t.0) }
+    /// How the run stands: what who looks does next.
+    pub fn standing(&self) -> Result<GoesOn, Ended>
+        ensures goes_on { OnOk result (has_ended self.now.sys self.now.stopped ≡ false) }
+        ensures ended { OnErr result (has_ended self.now.sys self.now.stopped ≡ true) }
+        ensures going { IfOk result (λ look. look.run.value ≡ self.now.sys) }
+        ensures run { IfErr result (λ look. look.run.value ≡ self.now.sys) }
+        ensures stopped { IfErr result (λ look. look.stopped ≡ self.now.stopped) }
     {
-        self.has_ended() || is_one_of(self.refused.as_slice(), t)
+        if self.has_ended() {
+            return Err(Ended::seen(&self.sys, self.stopped));
+        }
+        Ok(GoesOn::seen(&self.sys))
     }
 
     // Whether no turn may be taken any more.

@@ -1,6 +1,7 @@
 //! The lock, with a condition variable for each driver.
-ghost use Rattle.std.specs.Prelude.{◌≡◌, ◌≤◌, length};
+ghost use Rattle.std.specs.Prelude.{◌≡◌, ◌≤◌, [], length, IfOk};
 
+use crate::looks::AllIdle;
 use crate::running::Running;
 use crate::turns::ToNotify;
 use dk_base::error::NoMemory;
@@ -18,14 +19,16 @@ pub struct Shared<L: Ledger> {
     pub(crate) alloc: Global,
     pub(crate) running: Mutex<Running<L>>,
     /// Where the calling thread waits.
-    pub(crate) calling: Condvar,
+    calling: Condvar,
     /// Where the drivers of the script's threads wait, in order.
     condvars: Sequence<Condvar>,
 }
 
 /// A condition variable for each thread, in room that was taken before. It takes no memory.
 fn fill_with_condvars(mut room: Room<Condvar>, threads: u32) -> Sequence<Condvar>
-    requires { threads ≤ room.spare }
+    requires empty { room.items ≡ [] }
+    requires room { threads ≤ room.spare }
+    ensures { length result ≡ threads }
 {
     for _ in 0..threads {
         room.push(Condvar::new());
@@ -33,15 +36,19 @@ fn fill_with_condvars(mut room: Room<Condvar>, threads: u32) -> Sequence<Condvar
     room.into_list()
 }
 
-fn condvars(alloc: Global, threads: u32) -> Result<Sequence<Condvar>, NoMemory> {
+fn condvars(alloc: Global, threads: u32) -> Result<Sequence<Condvar>, NoMemory>
+    ensures { IfOk result (λ condvars. length condvars ≡ threads) }
+{
     let room = Room::with_room(alloc, threads as usize)?;
     Ok(fill_with_condvars(room, threads))
 }
 
 impl<L: Ledger> Shared<L> {
-    /// A run under its lock, with room for a mark for each thread whose start is refused. Want of memory drops the run.
+    /// A run under its lock, with a condition variable for each of its threads, and room for a mark for each thread whose start is
+    /// refused. Want of memory drops the run.
     pub fn new(alloc: Global, sys: Sys, book: Book<L>) -> Result<Self, NoMemory>
         requires { book.total ≡ length sys.journal }
+        ensures { IfOk result (λ shared. length shared.condvars ≡ length sys.script.threads) }
     {
         let threads = sys.script().threads();
         let condvars = condvars(alloc, threads)?;
@@ -74,6 +81,12 @@ impl<L: Ledger> Shared<L> {
             Some(condvar) => condvar,
             None => &self.calling,
         }
+    }
+
+    /// Where the calling thread waits, once, since no thread that it drives was runnable.
+    pub(crate) fn calling(&self, idle: AllIdle) -> &Condvar {
+        drop(idle);
+        &self.calling
     }
 
     /// Notifies those whose threads a turn woke, or all at the end of the run.

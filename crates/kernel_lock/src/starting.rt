@@ -1,7 +1,9 @@
 //! Starting the drivers and joining them.
 ghost use Rattle.std.specs.Prelude.{◌≡◌, ◌+◌, ◌≤◌, ◌<◌, length, ◌^◌, sum, vec_len, vec_capacity, IfOk, OnOk};
+ghost use Rattle.kernel_lock.specs.Leaving.{IsLeft};
 
-use crate::driving::{drive, drive_refused};
+use crate::driving::{Departed, drive, drive_refused};
+use crate::looks::Left;
 use crate::share::TurnShare;
 use crate::shared::Shared;
 use dk_base::error::NoMemory;
@@ -13,20 +15,21 @@ use std::sync::Wait;
 use std::sync::ledger::{Ledger, Share};
 use std::thread::{JoinHandle, Scope, Threads};
 
-/// A driver that was started, or the share of one whose start was refused.
+/// A driver that was started, or one that left at once since its start was refused.
 #[derive(Drop)]
 enum Driver<L: Ledger> {
-    Started(JoinHandle<TurnShare<L>>),
-    Refused(TurnShare<L>),
+    Started(JoinHandle<Departed<L>>),
+    Refused(Departed<L>),
 }
 
 impl<L: Ledger> Driver<L> {
     /// Waits until the driver has left, and gives its share.
     fn join<R: Threads>(self, rt: &R) -> TurnShare<L> {
-        match self {
+        let (share, _) = match self {
             Driver::Started(handle) => handle.join(rt),
-            Driver::Refused(share) => share,
-        }
+            Driver::Refused(departed) => departed,
+        };
+        share
     }
 }
 
@@ -70,10 +73,16 @@ fn room_for<L: Ledger>(alloc: Global, threads: usize) -> Result<Vec<Driver<L>>, 
 }
 
 /// Marks a thread that the calling thread drives. Where memory for the mark is wanting, the run is stopped.
-fn refuse<L: Ledger, R: Wait>(rt: &R, shared: &Shared<L>, t: Tid) {
+fn refuse<L: Ledger, R: Wait>(rt: &R, shared: &Shared<L>, t: Tid) -> Left
+    ensures { IsLeft t.0 result }
+{
     let marked = shared.running.lock(rt).refuse(t);
-    if marked.is_err() {
-        shared.notify_all();
+    match marked {
+        Ok(mark) => Left::Refused(mark),
+        Err(ended) => {
+            shared.notify_all();
+            Left::Ended(ended)
+        }
     }
 }
 
@@ -124,8 +133,8 @@ fn start_all<
         let driver = if number <= most {
             start(rt, scope, shared, gate, Tid(number), share)
         } else {
-            refuse(rt, shared, Tid(number));
-            Driver::Refused(share)
+            let why = refuse(rt, shared, Tid(number));
+            Driver::Refused((share, why))
         };
         drivers.push_reserved(driver);
     }
@@ -179,7 +188,7 @@ pub(crate) fn drive_all<
     let room = room_for(alloc, threads as usize)?;
     let mut by = Room::with_room(alloc, threads as usize)?;
     let drivers = start_all(rt, scope, shared, gate, shares, room, most);
-    let mine = drive_refused(rt, shared, gate, TurnShare::new(all));
+    let (mine, _) = drive_refused(rt, shared, gate, TurnShare::new(all));
     let tail = mine.turns();
     let mut all = mine.into_share();
     join_all(rt, drivers, &mut all, &mut by);

@@ -1,4 +1,5 @@
 //! What a look under the lock gives.
+use crate::looks::{AllIdle, Ended, GoesOn, Idle};
 use dk_base::list::TidList;
 use dk_base::number::Tid;
 use work_ops::task::Task;
@@ -22,7 +23,7 @@ pub enum Turn {
     /// Its thread is at this task, which it is to compute without the lock.
     Works(Task),
     /// Its thread is not runnable, and the run goes on.
-    Waits,
+    Waits(Idle),
     /// The run is over, or was stopped.
     Ended,
 }
@@ -39,12 +40,12 @@ pub enum HandedIn {
 }
 
 /// What the calling thread finds under the lock.
-#[derive(Clone, Copy)]
+#[derive(Drop)]
 pub enum Next {
-    /// This thread, whose start was refused, is runnable.
-    Runnable(Tid),
+    /// This thread, whose start was refused, is runnable, and the run goes on.
+    Runnable(Tid, GoesOn),
     /// None of them is runnable, and the run goes on.
-    Waits,
+    Waits(AllIdle),
     /// The run is over, or was stopped.
-    Ended,
+    Ended(Ended),
 }
