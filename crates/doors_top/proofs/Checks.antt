@@ -5,7 +5,7 @@ use Rattle.written_kernel.specs.Words.{IsOpening, IsRun, State, Turn}
 use Rattle.kernel_laws.specs.Words.{Laws}
 use Rattle.script_requests.specs.Types.{Bad}
 use Rattle.script_lang.specs.Words.{IsDecided, ScriptValue, parse_result, spells}
-use Rattle.script_requests.specs.Words.{IsSound, has_later_parts}
+use Rattle.script_requests.specs.Words.{IsSound}
 use Rattle.written_script.specs.Words.{IsAllowed, opening_of, turns_of}
 use Rattle.written_script.proofs.Histories.{IsOpening-opening_of}
 use Rattle.written_script.proofs.RunTurns.{turns_of-run}
@@ -17,7 +17,7 @@ use Rattle.doors_top.specs.declared.reading.ReadText.TheVariants.{Whole, TooLong
 use Rattle.doors_top.specs.declared.script_in.TheConstants.{SCRIPT_LIMIT}
 use Rattle.doors_top.specs.declared.status.Status.{Status}
 use Rattle.doors_top.specs.declared.status.Status.TheVariants.{Complete, Illegal, Script}
-use Rattle.doors_top.specs.Outcomes.{outcome_of_check, outcome_of_later, outcome_of_parsed, outcome_of_trace, outcome_of_verdict, script_of_input, script_of_part}
+use Rattle.doors_top.specs.Outcomes.{outcome_of_check, outcome_of_parsed, outcome_of_trace, outcome_of_verdict, script_of_input, script_of_part}
 use Rattle.doors_top.specs.Status.{status_of_verdict}
 use Rattle.doors_top.specs.Top.{HasParts, HasTrace, InputHasParts, IsChecked, IsDecidedPart, IsDecidedText, IsFoundIllegal, IsFoundLegal, LawsOfTurns}
 
@@ -67,9 +67,9 @@ spelled_by text script false e = cc
 part_is_spelled : ReadIsSpelled → (text : List ℕ) (script : ScriptValue) → script_of_part text ≡ Ok script → spells text script
 part_is_spelled read text script e = read text script (spelled_by text script (nat_le (length text) SCRIPT_LIMIT) e)
 
-laws_of_turns : EveryRun → (script : ScriptValue) (ts : List ℕ) → IsSound script → has_later_parts script ≡ false → IsAllowed script ts → LawsOfTurns script ts
-laws_of_turns every script ts sound built allowed =
-    every (opening_of script) (turns_of script ts) (IsOpening-opening_of script sound) (turns_of-run script ts (record { sound = sound; built = built }) allowed)
+laws_of_turns : EveryRun → (script : ScriptValue) (ts : List ℕ) → IsSound script → IsAllowed script ts → LawsOfTurns script ts
+laws_of_turns every script ts sound allowed =
+    every (opening_of script) (turns_of script ts) (IsOpening-opening_of script sound) (turns_of-run script ts sound allowed)
 
 abbrev pub DiffersFirst : Type 0
 DiffersFirst = (source : List ℕ) (script : ScriptValue) (trace : List ℕ) (line : ℕ) (want have : List ℕ) → spells source script → verdict script trace ≡ Differs line want have → IsFirstDifference script trace line want have
@@ -78,12 +78,6 @@ abbrev pub FirstDiffers : Type 0
 FirstDiffers = (source : List ℕ) (script : ScriptValue) (trace : List ℕ) (line : ℕ) (want have : List ℕ) → spells source script → IsFirstDifference script trace line want have → verdict script trace ≡ Differs line want have
 
 -- Complete is answered where the trace is that of a legal run
-
--- a script is accepted, is built, and a trace follows
-record Follows (trace : Option (List ℕ)) (script : ScriptValue) : Type 0 where
-  pub built : has_later_parts script ≡ false
-  pub behind : List ℕ
-  pub follows : trace ≡ Some behind
 
 -- the verdict's answers, which no bad script has
 abbrev IsVerdict : Status → Type 0
@@ -97,26 +91,26 @@ not_script Complete is e = cc
 not_script Illegal is e = cc
 not_script status is e = cc
 
-follows_by : (text : List ℕ) (trace : Option (List ℕ)) (script : ScriptValue) (status : Status) → IsVerdict status → has_later_parts script ≡ false → (outcome_of_trace script text trace).status ≡ status → Follows trace script
-follows_by text None script status is built h = absurd (not_script status is h)
-follows_by text (Some behind) script status is built h = record { built = built; behind = behind; follows = refl }
+-- a trace follows
+record Follows (trace : Option (List ℕ)) : Type 0 where
+  pub behind : List ℕ
+  pub follows : trace ≡ Some behind
 
-accepted_by : (text : List ℕ) (trace : Option (List ℕ)) (script : ScriptValue) (status : Status) (b : Bool) → IsVerdict status → has_later_parts script ≡ b
-    → (cond b outcome_of_later (outcome_of_trace script text trace)).status ≡ status → Follows trace script
-accepted_by text trace script status true is later h = absurd (not_script status is h)
-accepted_by text trace script status false is built h = follows_by text trace script status is built h
+follows_by : (text : List ℕ) (trace : Option (List ℕ)) (script : ScriptValue) (status : Status) → IsVerdict status → (outcome_of_trace script text trace).status ≡ status → Follows trace
+follows_by text None script status is h = absurd (not_script status is h)
+follows_by text (Some behind) script status is h = record { behind = behind; follows = refl }
 
 -- what is read where a verdict is answered
 record IsJudged (input : List ℕ) : Type 0 where
   pub script : ScriptValue
   pub spelled : script_of_part (script_part input) ≡ Ok script
-  pub follows : Follows (trace_part input) script
+  pub follows : Follows (trace_part input)
 
 judged_by : (input : List ℕ) (status : Status) (found : Result ScriptValue Bad) → IsVerdict status → script_of_part (script_part input) ≡ found
     → (outcome_of_parsed found (script_part input) (trace_part input)).status ≡ status → IsJudged input
 judged_by input status (Err bad) is e h = absurd (not_script status is h)
 judged_by input status (Ok script) is e h =
-    record { script = script; spelled = e; follows = accepted_by (script_part input) (trace_part input) script status (has_later_parts script) is refl h }
+    record { script = script; spelled = e; follows = follows_by (script_part input) (trace_part input) script status is h }
 
 record Found (script : ScriptValue) (trace : List ℕ) : Type 0 where
   pub events : ℕ
@@ -143,7 +137,6 @@ has_trace input is =
       whole = refl;
       script = is.script;
       spelled = is.spelled;
-      built = is.follows.built;
       trace = is.follows.behind;
       follows = is.follows.follows;
     }
@@ -153,7 +146,6 @@ outcome_found : (read : ReadText) (has : HasTrace read) → outcome_of_check rea
 outcome_found read has =
     ap outcome_of_check has.whole
     ∙ ap (λ found. outcome_of_parsed found (script_part has.input) (trace_part has.input)) has.spelled
-    ∙ ap (λ b. cond b outcome_of_later (outcome_of_trace has.script (script_part has.input) (trace_part has.input))) has.built
     ∙ ap (outcome_of_trace has.script (script_part has.input)) has.follows
 
 told : (read : ReadText) (has : HasTrace read) (v : Verdict) → verdict has.script has.trace ≡ v → outcome_of_check read ≡ outcome_of_verdict v
@@ -177,7 +169,7 @@ found_legal read_law sound every legal read has found =
     record {
       events = found.events;
       legal = is_legal;
-      laws = laws_of_turns every has.script is_legal.turns (sound (script_part has.input) has.script spelled) has.built is_legal.is_trace.allowed;
+      laws = laws_of_turns every has.script is_legal.turns (sound (script_part has.input) has.script spelled) is_legal.is_trace.allowed;
       told = ap (λ outcome. outcome.text) (told read has (Legal found.events) found.is);
     }
 
@@ -227,6 +219,7 @@ pub record Cited : Type 0 where
 pub is_checked : Cited → (read : ReadText) → IsChecked read (outcome_of_check read)
 is_checked laws read =
     record {
+      outcome = refl;
       parts = input_has_parts laws.found laws.none read;
       spelled = part_is_decided laws.decided read;
       judged = λ has. judged_verdict read (verdict has.script has.trace) (outcome_found read has);

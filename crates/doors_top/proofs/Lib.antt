@@ -1,6 +1,9 @@
 pub mod Checks
+pub mod Frames
 pub mod Fronts
 pub mod LineCounts
+pub mod Loads
+pub mod LoadWords
 pub mod Plays
 pub mod Replays
 pub mod Runs

@@ -1,5 +1,5 @@
 -- What `play` answers and writes, from the clauses of the calls that it makes.
-use Rattle.std.proofs.Common.{◌≡◌, ℕ, List, Option, Some, None, Result, Ok, Err, IfOk, refl, ap, ◌∙◌, subst}
+use Rattle.std.proofs.Common.{◌≡◌, ℕ, List, Option, Some, None, Result, Ok, Err, IfOk, refl, sym, ap, ◌∙◌, subst}
 use Rattle.written_kernel.specs.Types.{Tid}
 use Rattle.script_requests.specs.Types.{Bad}
 use Rattle.script_lang.specs.Words.{ScriptValue}
@@ -7,11 +7,14 @@ use Rattle.script_requests.specs.Words.{refused_text}
 use Rattle.written_script.specs.Words.{History, IsRefusedPlay, IsWholePlay, Refusal, ending_of, refusal, text_of_history, threads_of_events, turns_before, turns_of_play}
 use Rattle.sys_run.specs.Words.{IsBefore, IsPlay, LawsOf, SysValue, history, refusal_at}
 use Rattle.doors_top.specs.declared.reading.ReadText.{ReadText}
-use Rattle.doors_top.specs.Outcomes.{script_of_input, outcome_of_turns}
+use Rattle.doors_top.specs.declared.status.Status.{Status}
+use Rattle.doors_top.specs.declared.status.Status.TheVariants.{Script}
+use Rattle.doors_top.specs.Outcomes.{outcome_of_bad, outcome_of_played, outcome_of_turns, outcome_with, script_of_input}
 use Rattle.doors_top.specs.Status.{status_of_ending}
-use Rattle.doors_top.specs.Top.{TurnsOfScript, TurnsOfPlay, LawsOfScript, LawsOfTurns}
+use Rattle.doors_top.specs.Top.{IsDecidedText, IsPlayed, LawsOfScript, LawsOfTurns, TurnsOfPlay, TurnsOfScript}
+use Rattle.doors_top.proofs.Frames.{same_outcome}
 
-laws_of_turns : (script : ScriptValue) (q : SysValue) (ts : List ℕ) → q.script ≡ script → threads_of_events q.journal ≡ ts → LawsOf q → LawsOfTurns script ts
+pub laws_of_turns : (script : ScriptValue) (q : SysValue) (ts : List ℕ) → q.script ≡ script → threads_of_events q.journal ≡ ts → LawsOf q → LawsOfTurns script ts
 laws_of_turns script q ts hs ht h =
     subst (λ (us : List ℕ). LawsOfTurns script us) ht
     (subst (λ (s : ScriptValue). LawsOfTurns s (threads_of_events q.journal)) hs h)
@@ -65,3 +68,28 @@ pub play_turns :
     (read : ReadText) → ((script : ScriptValue) → refusal script ≡ None → IsWholePlay script (turns_of_play script)) →
     ((script : ScriptValue) (refused : Refusal) → refusal script ≡ Some refused → IsRefusedPlay script refused) → TurnsOfPlay read
 play_turns read whole refused = turns_of (script_of_input read) whole refused
+
+-- what is said of the outcome
+
+pub played_ok :
+    (read : ReadText) (script : ScriptValue) (status : Status) (text : List ℕ) → script_of_input read ≡ Ok script →
+    status ≡ (outcome_of_turns script (refusal script)).status → text ≡ (outcome_of_turns script (refusal script)).text →
+    IsDecidedText read → TurnsOfPlay read → LawsOfScript script (refusal script) → IsPlayed read (outcome_with status text)
+played_ok read script status text e hs ht decided turns laws =
+    record {
+      outcome = same_outcome (outcome_of_turns script (refusal script)) status text hs ht ∙ sym (ap outcome_of_played e);
+      spelled = decided;
+      turns = turns;
+      laws = subst (λ (found : Result ScriptValue Bad). IfOk found (λ s. LawsOfScript s (refusal s))) (sym e) laws;
+    }
+
+pub played_bad :
+    (read : ReadText) (bad : Bad) (status : Status) (text : List ℕ) → script_of_input read ≡ Err bad →
+    status ≡ Script → text ≡ (outcome_of_bad bad).text → IsDecidedText read → TurnsOfPlay read → IsPlayed read (outcome_with status text)
+played_bad read bad status text e hs ht decided turns =
+    record {
+      outcome = same_outcome (outcome_of_bad bad) status text hs ht ∙ sym (ap outcome_of_played e);
+      spelled = decided;
+      turns = turns;
+      laws = subst (λ (found : Result ScriptValue Bad). IfOk found (λ s. LawsOfScript s (refusal s))) (sym e) tt;
+    }

@@ -1,5 +1,5 @@
 -- What each command answers and writes, as a function of its words and of what was read.
-use Rattle.std.specs.Prelude.{ℕ, List, [], ◌∷◌, ◌++◌, ◌||◌, Option, Some, None, Result, Ok, Err, Bool, false, bytes_eq, codes, map, if◌then◌else◌}
+use Rattle.std.specs.Prelude.{ℕ, ◌≡◌, ◌≤◌, List, [], ◌∷◌, ◌++◌, ◌||◌, Option, Some, None, Result, Ok, Err, Bool, false, bytes_eq, codes, decimal, map}
 use Rattle.std.specs.Borrow.{Bor}
 use Rattle.written_kernel.specs.Types.{Tid}
 use Rattle.doors_top.specs.declared.status.Status.{Status}
@@ -12,7 +12,9 @@ use Rattle.doors_top.specs.Status.{status_of_ending, status_of_verdict}
 use Rattle.script_line.specs.declared.reason.Reason.TheVariants.{Size, Trace}
 use Rattle.script_requests.specs.Types.{Bad}
 use Rattle.script_lang.specs.Words.{ScriptValue, bad_line, bad_text, canonical_text, parse_result}
-use Rattle.script_requests.specs.Words.{has_later_parts, refused_text, tail_text}
+use Rattle.script_requests.specs.Words.{refused_text, tail_text}
+use Rattle.load_gen.specs.declared.load_script.TheConstants.{CALLS_MAX}
+use Rattle.load_gen.specs.Words.{load_script, summary_of}
 use Rattle.written_script.specs.Words.{History, Refusal, ending_of, refusal, run, text_of_history, turns_before, turns_of_play}
 use Rattle.written_trace.specs.declared.verdict.Verdict.{Verdict}
 use Rattle.written_trace.specs.Words.{line_after_last, script_part, trace_part, verdict, verdict_text}
@@ -43,9 +45,20 @@ is_check words = is_only (codes "check") words
 abbrev pub is_run : List (List ℕ) → Bool
 is_run words = is_only (codes "run") words
 
--- the words are a command that is built
-abbrev pub is_command : List (List ℕ) → Bool
-is_command words = is_play words || is_run words || is_show words || is_check words
+-- the words are a command that reads an input
+abbrev pub is_reader : List (List ℕ) → Bool
+is_reader words = is_play words || is_run words || is_show words || is_check words
+
+-- the words are `load` and a number of calls from 1 to CALLS_MAX, in decimal
+pub record IsLoad (words : List (List ℕ)) (n : ℕ) : Type 0 where
+  pub are : words ≡ codes "load" ∷ decimal n ∷ []
+  pub least : 1 ≤ n
+  pub most : n ≤ CALLS_MAX
+
+-- the words are no command
+pub record IsNoCommand (words : List (List ℕ)) : Type 0 where
+  pub no_reader : is_reader words ≡ false
+  pub no_load : (n : ℕ) → IsLoad words n → ⊥
 
 -- an answer with the text that was written
 pub record Outcome : Type 0 where
@@ -65,10 +78,6 @@ script_of_input TooLong = Err (bad_line 0 Size)
 
 abbrev pub outcome_of_bad : Bad → Outcome
 outcome_of_bad bad = record { status = status.Script; text = bad_text bad }
-
--- the script needs a capability that is not built
-abbrev pub outcome_of_later : Outcome
-outcome_of_later = record { status = status.Script; text = codes "bad line 0 later\n" }
 
 -- the run that `play` makes of a script whose schedule is not refused
 abbrev pub run_of_play : ScriptValue → History
@@ -94,16 +103,21 @@ outcome_of_turns script (Some refused) =
       text = refused_text script (run_before script refused).events refused.turn (refused_thread refused);
     }
 
-abbrev pub outcome_of_script : ScriptValue → Outcome
-outcome_of_script script = if has_later_parts script then outcome_of_later else outcome_of_turns script (refusal script)
-
 abbrev pub outcome_of_played : Result ScriptValue Bad → Outcome
-outcome_of_played (Ok script) = outcome_of_script script
+outcome_of_played (Ok script) = outcome_of_turns script (refusal script)
 outcome_of_played (Err bad) = outcome_of_bad bad
 
 -- what `play` makes of what was read: the text of the run of the script, or its first bad line
 abbrev pub outcome_of_play : ReadText → Outcome
 outcome_of_play read = outcome_of_played (script_of_input read)
+
+-- what `load` makes of its number of calls: the line that tells of the run that `play` makes of the script of that load
+abbrev pub outcome_of_load : ℕ → Outcome
+outcome_of_load n =
+    record {
+      status = status_of_ending (ending_of (run_of_play (load_script n)).state);
+      text = summary_of n (run_of_play (load_script n)) ++ codes "\n";
+    }
 
 -- what is answered and written of the run of these turns, with this number in the line `tail N`
 abbrev pub outcome_of_run : ScriptValue → List ℕ → ℕ → Outcome
@@ -133,11 +147,8 @@ abbrev pub outcome_of_trace : ScriptValue → List ℕ → Option (List ℕ) →
 outcome_of_trace script text None = outcome_of_bad (bad_line (line_after_last text) Trace)
 outcome_of_trace script text (Some trace) = outcome_of_verdict (verdict script trace)
 
-abbrev pub outcome_of_accepted : ScriptValue → List ℕ → Option (List ℕ) → Outcome
-outcome_of_accepted script text trace = if has_later_parts script then outcome_of_later else outcome_of_trace script text trace
-
 abbrev pub outcome_of_parsed : Result ScriptValue Bad → List ℕ → Option (List ℕ) → Outcome
-outcome_of_parsed (Ok script) text trace = outcome_of_accepted script text trace
+outcome_of_parsed (Ok script) text trace = outcome_of_trace script text trace
 outcome_of_parsed (Err bad) text trace = outcome_of_bad bad
 
 -- of the script part of an input, and of the trace after it, if there is one

@@ -20,7 +20,7 @@ status_code Turn = 8
 status_code Illegal = 9
 
 abbrev pub status_message : Status → Option (List ℕ)
-status_message Usage = Some (codes "doors: give one word, play, run, show or check, and a script as the input (check: a script, a line trace and a trace); read on in README.md (load is not built yet)")
+status_message Usage = Some (codes "doors: give one word, play, run, show or check, and a script as the input (check: a script, a line trace and a trace), or load and a number from 1 to 16000; read on in README.md")
 status_message Memory = Some (codes "doors: out of memory")
 status_message ReadFault = Some (codes "doors: the standard input could not be read")
 status_message WriteFault = Some (codes "doors: the standard output could not be written")

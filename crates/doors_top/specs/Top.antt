@@ -6,17 +6,18 @@ use Rattle.doors_top.specs.declared.status.Status.TheVariants as status
 use Rattle.doors_top.specs.declared.status.Status.TheVariants.{Complete, Illegal}
 use Rattle.doors_top.specs.declared.reading.ReadText.{ReadText}
 use Rattle.doors_top.specs.declared.reading.ReadText.TheVariants.{Whole, TooLong}
+use Rattle.doors_top.specs.declared.reply.Reply.{Reply}
 use Rattle.doors_top.specs.declared.script_in.TheConstants.{CHECK_LIMIT, SCRIPT_LIMIT}
-use Rattle.doors_top.specs.Outcomes.{Outcome, is_check, is_command, is_play, is_run, is_show, outcome_of_bad, outcome_of_check, outcome_of_later, outcome_of_play, outcome_of_run, outcome_of_show, script_of_input, script_of_part, usage}
+use Rattle.doors_top.specs.Outcomes.{IsLoad, IsNoCommand, Outcome, is_check, is_play, is_reader, is_run, is_show, outcome_of_bad, outcome_of_check, outcome_of_load, outcome_of_play, outcome_of_run, outcome_of_show, outcome_with, script_of_input, script_of_part, usage}
 use Rattle.doors_top.specs.Input.{text_within_limit, IsWithinLimit, LeavesNone, LeavesRest}
 use Rattle.doors_top.specs.Output.{AppendsFront}
 use Rattle.dk_base.specs.Words.{Rose}
 use Rattle.kernel_laws.specs.Words.{Laws}
-use Rattle.script_lang.specs.Words.{IsDecided, ScriptValue, parse_result}
+use Rattle.load_gen.specs.Words.{load_script, load_text}
+use Rattle.script_lang.specs.Words.{IsDecided, ScriptValue, parse_result, spells}
 use Rattle.script_requests.specs.Types.{Bad}
-use Rattle.script_requests.specs.Words.{has_later_parts}
 use Rattle.written_trace.specs.declared.verdict.Verdict.TheVariants.{Differs, Legal}
-use Rattle.written_trace.specs.Words.{AreParts, HasNoTrace, IsFirstDifference, IsLegal, script_part, trace_part, turns_in, verdict, verdict_text}
+use Rattle.written_trace.specs.Words.{AreParts, HasNoTrace, IsFirstDifference, IsFrontOf, IsFrontOfRun, IsLegal, script_part, trace_part, turns_in, verdict, verdict_text}
 use Rattle.written_script.specs.Words.{IsAllowed, IsRefusedPlay, IsWholePlay, Refusal, is_over, opening_of, refusal, run, turns_before, turns_of, turns_of_play}
 
 -- a status that says what was asked, and not that memory, a read or a write failed
@@ -25,6 +26,12 @@ IsAnswer status.Memory = ⊥
 IsAnswer status.ReadFault = ⊥
 IsAnswer status.WriteFault = ⊥
 IsAnswer _ = ⊤
+
+-- a status that comes with a text or with a front of one: memory did not lack, and no read failed
+abbrev pub HasText : Status → Type 0
+HasText status.Memory = ⊥
+HasText status.ReadFault = ⊥
+HasText _ = ⊤
 
 -- what was read is all that the source had, where it tells, or more than the limit
 pub record IsRead (limit : ℕ) (old new : Option (List ℕ)) (read : ReadText) : Type 0 where
@@ -55,23 +62,13 @@ abbrev pub TurnsOfPlay : ReadText → Type 0
 TurnsOfPlay read = IfOk (script_of_input read) (λ script. TurnsOfScript script (refusal script))
 
 abbrev pub LawsOfPlay : ReadText → Type 0
-LawsOfPlay read = IfOk (script_of_input read) (λ script. has_later_parts script ≡ false → LawsOfScript script (refusal script))
+LawsOfPlay read = IfOk (script_of_input read) (λ script. LawsOfScript script (refusal script))
 
--- `play` answered what its outcome is for what was read, and wrote exactly its text
-pub record Plays (left_old left_new held_old held_new : Option (List ℕ)) (answer : Status) : Type 0 where
-  pub read : ReadText
-  pub is_read : IsRead SCRIPT_LIMIT left_old left_new read
-  pub status : answer ≡ (outcome_of_play read).status
-  pub text : Appends held_old held_new (outcome_of_play read).text
-  pub spelled : IsDecidedText read
-  pub turns : TurnsOfPlay read
-  pub laws : LawsOfPlay read
+-- Commands. What is said of the outcome that a command made for what was read.
 
--- `play` wrote a front of its outcome's text
-pub record PlaysFront (left_old left_new held_old held_new : Option (List ℕ)) : Type 0 where
-  pub read : ReadText
-  pub is_read : IsRead SCRIPT_LIMIT left_old left_new read
-  pub text : AppendsFront held_old held_new (outcome_of_play read).text
+-- `play` made this of what was read
+pub record IsPlayed (read : ReadText) (made : Outcome) : Type 0 where
+  pub outcome : made ≡ outcome_of_play read
   pub spelled : IsDecidedText read
   pub turns : TurnsOfPlay read
   pub laws : LawsOfPlay read
@@ -93,61 +90,30 @@ pub record IsOfSomeRun (script : ScriptValue) (made : Outcome) : Type 0 where
   pub laws : LawsOfTurns script turns
   -- the verdict of `check` on the text
   pub legal : verdict script made.text ≡ Legal (length turns)
-
--- the script needs a capability that is not built, or it is run
-abbrev pub RunsOrLater : ScriptValue → Bool → Outcome → Type 0
-RunsOrLater script true made = made ≡ outcome_of_later
-RunsOrLater script false made = IsOfSomeRun script made
+  -- Where a write failed, a prefix of the text was written, told by the turns of its whole event lines: they are allowed, the lines of
+  -- their run stand there, and then a prefix of its end line and a line `tail N` where it is over, or of the line of an event that may follow.
+  pub fronts : (written : List ℕ) → IsFrontOf written made.text → IsFrontOfRun script written
 
 abbrev pub RunsParsed : Result ScriptValue Bad → Outcome → Type 0
-RunsParsed (Ok script) made = RunsOrLater script (has_later_parts script) made
+RunsParsed (Ok script) made = IsOfSomeRun script made
 RunsParsed (Err bad) made = made ≡ outcome_of_bad bad
 
 -- `run` made this of what was read
-abbrev pub IsOutcomeOfRun : ReadText → Outcome → Type 0
-IsOutcomeOfRun read made = RunsParsed (script_of_input read) made
-
--- `run` answered an outcome of what was read, and wrote exactly its text
-pub record Runs (left_old left_new held_old held_new : Option (List ℕ)) (answer : Status) : Type 0 where
-  pub read : ReadText
-  pub is_read : IsRead SCRIPT_LIMIT left_old left_new read
-  pub made : Outcome
-  pub status : answer ≡ made.status
-  pub text : Appends held_old held_new made.text
+pub record IsRan (read : ReadText) (made : Outcome) : Type 0 where
   pub spelled : IsDecidedText read
-  pub outcome : IsOutcomeOfRun read made
+  pub outcome : RunsParsed (script_of_input read) made
 
--- `run` wrote a front of the text of an outcome
-pub record RunsFront (left_old left_new held_old held_new : Option (List ℕ)) : Type 0 where
-  pub read : ReadText
-  pub is_read : IsRead SCRIPT_LIMIT left_old left_new read
-  pub made : Outcome
-  pub text : AppendsFront held_old held_new made.text
-  pub spelled : IsDecidedText read
-  pub outcome : IsOutcomeOfRun read made
-
--- `show` answered what its outcome is for what was read, and wrote exactly its text
-pub record Shows (left_old left_new held_old held_new : Option (List ℕ)) (answer : Status) : Type 0 where
-  pub read : ReadText
-  pub is_read : IsRead SCRIPT_LIMIT left_old left_new read
-  pub status : answer ≡ (outcome_of_show read).status
-  pub text : Appends held_old held_new (outcome_of_show read).text
+-- `show` made this of what was read
+pub record IsShown (read : ReadText) (made : Outcome) : Type 0 where
+  pub outcome : made ≡ outcome_of_show read
   pub spelled : IsDecidedText read
 
--- `show` wrote a front of its outcome's text
-pub record ShowsFront (left_old left_new held_old held_new : Option (List ℕ)) : Type 0 where
-  pub read : ReadText
-  pub is_read : IsRead SCRIPT_LIMIT left_old left_new read
-  pub text : AppendsFront held_old held_new (outcome_of_show read).text
-  pub spelled : IsDecidedText read
-
--- a script that is accepted and needs nothing that is not built, with the line `trace` and a trace after it
+-- a script that is accepted, with the line `trace` and a trace after it
 pub record HasTrace (read : ReadText) : Type 0 where
   pub input : List ℕ
   pub whole : read ≡ Whole input
   pub script : ScriptValue
   pub spelled : script_of_part (script_part input) ≡ Ok script
-  pub built : has_later_parts script ≡ false
   pub trace : List ℕ
   pub follows : trace_part input ≡ Some trace
 
@@ -180,71 +146,57 @@ abbrev pub IsDecidedPart : ReadText → Type 0
 IsDecidedPart (Whole input) = IsDecidedText (text_within_limit (script_part input) SCRIPT_LIMIT)
 IsDecidedPart TooLong = ⊤
 
--- what is said of the outcome of `check`, with no walk over the lines of a trace
-pub record IsChecked (read : ReadText) (outcome : Outcome) : Type 0 where
+-- `check` made this of what was read: the outcome, and what is said of it with no walk over the lines of a trace
+pub record IsChecked (read : ReadText) (made : Outcome) : Type 0 where
+  pub outcome : made ≡ outcome_of_check read
   pub parts : InputHasParts read
   pub spelled : IsDecidedPart read
   -- where a trace follows an accepted script, it is judged
-  pub judged : HasTrace read → (outcome.status ≡ Complete) ⊎ (outcome.status ≡ Illegal)
+  pub judged : HasTrace read → (made.status ≡ Complete) ⊎ (made.status ≡ Illegal)
   -- Complete exactly where that is the trace of a legal run
-  pub legal : outcome.status ≡ Complete → (has : HasTrace read) × IsFoundLegal has.script has.trace outcome.text
-  pub legal_exact : (has : HasTrace read) (events : ℕ) → IsLegal has.script has.trace events → (outcome.status ≡ Complete) × (outcome.text ≡ verdict_text (Legal events))
+  pub legal : made.status ≡ Complete → (has : HasTrace read) × IsFoundLegal has.script has.trace made.text
+  pub legal_exact : (has : HasTrace read) (events : ℕ) → IsLegal has.script has.trace events → (made.status ≡ Complete) × (made.text ≡ verdict_text (Legal events))
   -- Illegal exactly where it leaves the traces of all legal runs
-  pub illegal : outcome.status ≡ Illegal → (has : HasTrace read) × IsFoundIllegal has.script has.trace outcome.text
+  pub illegal : made.status ≡ Illegal → (has : HasTrace read) × IsFoundIllegal has.script has.trace made.text
   pub illegal_exact : (has : HasTrace read) (line : ℕ) (want have : List ℕ) → IsFirstDifference has.script has.trace line want have →
-      (outcome.status ≡ Illegal) × (outcome.text ≡ verdict_text (Differs line want have))
+      (made.status ≡ Illegal) × (made.text ≡ verdict_text (Differs line want have))
 
--- `check` answered what its outcome is for what was read, and wrote exactly its text
-pub record Checks (left_old left_new held_old held_new : Option (List ℕ)) (answer : Status) : Type 0 where
+-- The script that `load` runs, and its run. Nothing is read.
+pub record IsLoaded (n : ℕ) : Type 0 where
+  -- the text of the load spells it
+  pub spelled : spells (load_text n) (load_script n)
+  -- it has no schedule, so no turn of it is refused
+  pub unscheduled : refusal (load_script n) ≡ None
+  pub turns : IsWholePlay (load_script n) (turns_of_play (load_script n))
+  pub laws : LawsOfTurns (load_script n) (turns_of_play (load_script n))
+
+-- The frame of all commands: what was read, the outcome that was made, and what was written of it.
+
+-- of an outcome all was written, or a front of its text where a write failed
+pub record IsWritten (made : Outcome) (held_old held_new : Option (List ℕ)) (answer : Status) : Type 0 where
+  -- the whole answer: the outcome's status, and all of its text
+  pub whole : IsAnswer answer → (answer ≡ made.status) × Appends held_old held_new made.text
+  -- a write failed, and a front of the text was written
+  pub front : answer ≡ status.WriteFault → AppendsFront held_old held_new made.text
+
+-- the same of the reply that was made, where memory did not lack for it
+abbrev pub IsWrittenOf : {E : Type 0} → Result Reply E → Option (List ℕ) → Option (List ℕ) → Status → Type 0
+IsWrittenOf (Ok reply) held_old held_new answer = IsWritten (outcome_with reply.status reply.text) held_old held_new answer
+IsWrittenOf (Err fault) held_old held_new answer = ⊥
+
+-- A command made an outcome of what was read, up to a limit, and it was written. `Makes` has what is said of the outcome.
+pub record Answered
+    (limit : ℕ) (Makes : ReadText → Outcome → Type 0) (left_old left_new held_old held_new : Option (List ℕ)) (answer : Status) : Type 0 where
   pub read : ReadText
-  pub is_read : IsRead CHECK_LIMIT left_old left_new read
-  pub status : answer ≡ (outcome_of_check read).status
-  pub text : Appends held_old held_new (outcome_of_check read).text
-  pub checked : IsChecked read (outcome_of_check read)
+  pub is_read : IsRead limit left_old left_new read
+  pub made : Outcome
+  pub said : Makes read made
+  pub written : IsWritten made held_old held_new answer
 
--- `check` wrote a front of its outcome's text
-pub record ChecksFront (left_old left_new held_old held_new : Option (List ℕ)) : Type 0 where
-  pub read : ReadText
-  pub is_read : IsRead CHECK_LIMIT left_old left_new read
-  pub text : AppendsFront held_old held_new (outcome_of_check read).text
-  pub checked : IsChecked read (outcome_of_check read)
-
--- The promises: a command has a record of its own, and a field in `AnswersWords`.
-
--- what `play` promises
-pub record AnswersPlay (left_old left_new held_old held_new : Option (List ℕ)) (answer : Status) : Type 0 where
-  -- the whole answer: the outcome's status, and all of its text
-  pub whole : IsAnswer answer → Plays left_old left_new held_old held_new answer
-  -- a write failed, and a front of the text was written
-  pub front : answer ≡ status.WriteFault → PlaysFront left_old left_new held_old held_new
-
--- what `run` promises
-pub record AnswersRun (left_old left_new held_old held_new : Option (List ℕ)) (answer : Status) : Type 0 where
-  -- the whole answer: an outcome's status, and all of its text
-  pub whole : IsAnswer answer → Runs left_old left_new held_old held_new answer
-  -- a write failed, and a front of the text was written
-  pub front : answer ≡ status.WriteFault → RunsFront left_old left_new held_old held_new
-
--- what `show` promises
-pub record AnswersShow (left_old left_new held_old held_new : Option (List ℕ)) (answer : Status) : Type 0 where
-  -- the whole answer: the outcome's status, and all of its text
-  pub whole : IsAnswer answer → Shows left_old left_new held_old held_new answer
-  -- a write failed, and a front of the text was written
-  pub front : answer ≡ status.WriteFault → ShowsFront left_old left_new held_old held_new
-
--- what `check` promises
-pub record AnswersCheck (left_old left_new held_old held_new : Option (List ℕ)) (answer : Status) : Type 0 where
-  -- the whole answer: the outcome's status, and all of its text
-  pub whole : IsAnswer answer → Checks left_old left_new held_old held_new answer
-  -- a write failed, and a front of the text was written
-  pub front : answer ≡ status.WriteFault → ChecksFront left_old left_new held_old held_new
-
--- what words that are no command are answered with
-pub record AnswersUsage (held_old held_new : Option (List ℕ)) (answer : Status) : Type 0 where
-  -- the whole answer: Usage, and all of the usage line
-  pub whole : IsAnswer answer → (answer ≡ status.Usage) × Appends held_old held_new usage.text
-  -- a write failed, and a front of the line was written
-  pub front : answer ≡ status.WriteFault → AppendsFront held_old held_new usage.text
+-- `load` made its outcome, and it was written
+pub record AnsweredLoad (n : ℕ) (held_old held_new : Option (List ℕ)) (answer : Status) : Type 0 where
+  pub loaded : IsLoaded n
+  pub written : IsWritten (outcome_of_load n) held_old held_new answer
 
 -- how any words leave the input
 pub record LeavesInput
@@ -269,17 +221,19 @@ pub record AnswersWords
     {Input Output : Type 0} (left : Input → Option (List ℕ)) (read_faults : Input → ℕ) (held : Output → Option (List ℕ)) (write_faults : Output → ℕ)
     (words : List (List ℕ)) (input_old input_new : Input) (output_old output_new : Output) (answer : Status) : Type 0 where
   -- the word is `play`
-  pub play : is_play words ≡ true → AnswersPlay (left input_old) (left input_new) (held output_old) (held output_new) answer
+  pub play : is_play words ≡ true → HasText answer → Answered SCRIPT_LIMIT IsPlayed (left input_old) (left input_new) (held output_old) (held output_new) answer
   -- the word is `run`
-  pub run : is_run words ≡ true → AnswersRun (left input_old) (left input_new) (held output_old) (held output_new) answer
+  pub run : is_run words ≡ true → HasText answer → Answered SCRIPT_LIMIT IsRan (left input_old) (left input_new) (held output_old) (held output_new) answer
   -- the word is `show`
-  pub show : is_show words ≡ true → AnswersShow (left input_old) (left input_new) (held output_old) (held output_new) answer
+  pub show : is_show words ≡ true → HasText answer → Answered SCRIPT_LIMIT IsShown (left input_old) (left input_new) (held output_old) (held output_new) answer
   -- the word is `check`
-  pub check : is_check words ≡ true → AnswersCheck (left input_old) (left input_new) (held output_old) (held output_new) answer
+  pub check : is_check words ≡ true → HasText answer → Answered CHECK_LIMIT IsChecked (left input_old) (left input_new) (held output_old) (held output_new) answer
+  -- the words are `load` and a number
+  pub load : (n : ℕ) → IsLoad words n → HasText answer → AnsweredLoad n (held output_old) (held output_new) answer
   -- the words are no command
-  pub usage : is_command words ≡ false → AnswersUsage (held output_old) (held output_new) answer
-  -- they are no command, and nothing is read
-  pub nothing_read : is_command words ≡ false → input_new ≡ input_old
+  pub usage : IsNoCommand words → HasText answer → IsWritten usage (held output_old) (held output_new) answer
+  -- `load`, or words that are no command: nothing is read
+  pub nothing_read : is_reader words ≡ false → input_new ≡ input_old
   -- whatever the words are
   pub input : LeavesInput left read_faults input_old input_new answer
   pub output : LeavesOutput write_faults output_old output_new answer

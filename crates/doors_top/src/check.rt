@@ -1,15 +1,15 @@
 //! What `check` answers and writes for what was read.
-ghost use Rattle.std.specs.Prelude.{◌≡◌, ◌≤◌, false, length, option_copied, IfOk};
+ghost use Rattle.std.specs.Prelude.{◌≡◌, ◌≤◌, length, option_copied, IfOk};
 ghost use Rattle.script_text.specs.Words.{lines_of};
-ghost use Rattle.script_requests.specs.Words.{has_later_parts as later_of};
 ghost use Rattle.written_trace.specs.Words.{verdict};
 ghost use Rattle.doors_top.specs.declared.script_in.TheConstants.{SCRIPT_LIMIT};
-ghost use Rattle.doors_top.specs.Outcomes.{outcome_of_accepted, outcome_of_check, outcome_of_parts, outcome_of_trace, outcome_of_verdict};
+ghost use Rattle.doors_top.specs.Outcomes.{outcome_of_check, outcome_of_parts, outcome_of_trace, outcome_of_verdict, outcome_with};
+ghost use Rattle.doors_top.specs.declared.reading.ReadText.{ReadText};
 ghost use Rattle.doors_top.specs.Status.{status_of_verdict};
 ghost use Rattle.doors_top.specs.Top.{IsAnswer, IsChecked};
 
 use crate::reading::ReadText;
-use crate::reply::{Reply, fixed_reply, reply_for_bad};
+use crate::reply::{Reply, reply_for_bad};
 use crate::script_in::{SCRIPT_LIMIT, script_of_text, too_long};
 use crate::status::Status;
 use dk_base::error::NoMemory;
@@ -18,7 +18,6 @@ use script_lang::script::Script;
 use script_line::reason::Reason;
 use script_text::lines::next_line;
 use std::alloc::Global;
-use thread_machine::later::later;
 use trace_check::{parts, text_of_verdict};
 use written_trace::verdict::Verdict;
 
@@ -49,7 +48,6 @@ fn count_lines(text: &[u8]) -> u32
 
 /// The verdict on a trace.
 fn reply_for_trace(alloc: Global, script: Script, trace: &[u8]) -> Result<Reply, NoMemory>
-    requires { later_of script ≡ false }
     ensures status { IfOk result (λ reply. reply.status ≡ (outcome_of_verdict (verdict script trace.now)).status) }
     ensures text { IfOk result (λ reply. reply.text ≡ (outcome_of_verdict (verdict script trace.now)).text) }
     ensures answer { IfOk result (λ reply. IsAnswer reply.status) }
@@ -68,8 +66,7 @@ fn reply_for_script(
     text: &[u8],
     trace: Option<&[u8]>,
 ) -> Result<Reply, NoMemory>
-    requires built { later_of script ≡ false }
-    requires small { length text.now ≤ SCRIPT_LIMIT }
+    requires { length text.now ≤ SCRIPT_LIMIT }
     ensures status { IfOk result (λ reply. reply.status ≡ (outcome_of_trace script text.now (option_copied trace.entry)).status) }
     ensures text { IfOk result (λ reply. reply.text ≡ (outcome_of_trace script text.now (option_copied trace.entry)).text) }
     ensures answer { IfOk result (λ reply. IsAnswer reply.status) }
@@ -86,25 +83,6 @@ fn reply_for_script(
     }
 }
 
-/// What `check` makes of an accepted script and of the trace after it.
-fn check_or_later(
-    alloc: Global,
-    script: Script,
-    text: &[u8],
-    trace: Option<&[u8]>,
-) -> Result<Reply, NoMemory>
-    requires { length text.now ≤ SCRIPT_LIMIT }
-    ensures status { IfOk result (λ reply. reply.status ≡ (outcome_of_accepted script text.now (option_copied trace.entry)).status) }
-    ensures text { IfOk result (λ reply. reply.text ≡ (outcome_of_accepted script text.now (option_copied trace.entry)).text) }
-    ensures answer { IfOk result (λ reply. IsAnswer reply.status) }
-{
-    if later(&script) {
-        fixed_reply(alloc, Status::Script, b"bad line 0 later\n")
-    } else {
-        reply_for_script(alloc, script, text, trace)
-    }
-}
-
 /// What `check` makes of the two parts of an input.
 fn check_parts(alloc: Global, text: &[u8], trace: Option<&[u8]>) -> Result<Reply, NoMemory>
     ensures status { IfOk result (λ reply. reply.status ≡ (outcome_of_parts text.now (option_copied trace.entry)).status) }
@@ -115,18 +93,29 @@ fn check_parts(alloc: Global, text: &[u8], trace: Option<&[u8]>) -> Result<Reply
         return reply_for_bad(alloc, too_long());
     }
     match script_of_text(alloc, text)? {
-        Ok(script) => check_or_later(alloc, script, text, trace),
+        Ok(script) => reply_for_script(alloc, script, text, trace),
         Err(bad) => reply_for_bad(alloc, bad),
     }
 }
 
-/// What `check` answers and writes. Where a trace follows an accepted script, that is Complete exactly where this is the trace of a
-/// legal run of the script, of which the laws of every run hold, and else Illegal with the first line at which it leaves these.
-pub fn check(alloc: Global, read: &ReadText) -> Result<Reply, NoMemory>
+/// The reply for what was read, of which `IsChecked` says more.
+fn reply_for_input(alloc: Global, read: &ReadText) -> Result<Reply, NoMemory>
     ensures status { IfOk result (λ reply. reply.status ≡ (outcome_of_check read.now).status) }
     ensures text { IfOk result (λ reply. reply.text ≡ (outcome_of_check read.now).text) }
     ensures answer { IfOk result (λ reply. IsAnswer reply.status) }
-    ensures checked { IsChecked read.now (outcome_of_check read.now) }
+{
+    match read {
+        ReadText::Whole(input) => {
+            let (text, trace) = parts(input.slice());
+            check_parts(alloc, text, trace)
+        }
+        ReadText::TooLong => reply_for_bad(alloc, too_long()),
+    }
+}
+
+/// The laws on texts of traces, as they speak of what `check` makes.
+fn checked_inputs()
+    ensures { (read : ReadText) → IsChecked read (outcome_of_check read) }
 {
     written_trace::laws::parts();
     written_trace::laws::legal_traces();
@@ -135,11 +124,16 @@ pub fn check(alloc: Global, read: &ReadText) -> Result<Reply, NoMemory>
     script_lang::laws::read_is_spelled();
     script_requests::laws::sound_scripts();
     kernel_laws::laws::every_run();
-    match read {
-        ReadText::Whole(input) => {
-            let (text, trace) = parts(input.slice());
-            check_parts(alloc, text, trace)
-        }
-        ReadText::TooLong => reply_for_bad(alloc, too_long()),
-    }
+}
+
+/// What `check` answers and writes: the verdict on the trace that follows a script, or what is bad of the script's part. Where a trace
+/// follows an accepted script, it is Complete exactly where that is the trace of a legal run of the script, of which the laws of
+/// every run hold, and else Illegal with the first line at which it leaves these.
+pub fn check(alloc: Global, read: &ReadText) -> Result<Reply, NoMemory>
+    ensures answer { IfOk result (λ reply. IsAnswer reply.status) }
+    ensures said { IfOk result (λ reply. IsChecked read.now (outcome_with reply.status reply.text)) }
+{
+    checked_inputs();
+    let reply = reply_for_input(alloc, read)?;
+    Ok(reply)
 }

@@ -2,7 +2,9 @@
 #![tactic(auto)]
 
 pub mod check;
+mod frame;
 pub mod laws;
+pub mod load;
 pub mod play;
 pub mod reading;
 pub mod reply;
@@ -11,4 +13,6 @@ pub mod script_in;
 pub mod show;
 pub mod status;
 pub mod top;
+mod turns;
+mod words;
 pub mod writing;

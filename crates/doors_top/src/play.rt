@@ -1,25 +1,24 @@
 //! What `play` answers and writes for what was read.
-ghost use Rattle.std.specs.Prelude.{◌≡◌, false, IfOk, []};
-ghost use Rattle.script_requests.specs.Words.{has_later_parts as later_of, refused_text};
+ghost use Rattle.std.specs.Prelude.{◌≡◌, IfOk, []};
+ghost use Rattle.script_requests.specs.Words.{refused_text};
 ghost use Rattle.written_script.specs.Words.{ending_of, refusal, text_of_history};
 ghost use Rattle.sys_run.specs.Words.{history};
 ghost use Rattle.doors_top.specs.declared.script_in.TheConstants.{SCRIPT_LIMIT};
-ghost use Rattle.doors_top.specs.Outcomes.{outcome_of_play, outcome_of_script, outcome_of_turns};
 ghost use Rattle.doors_top.specs.Input.{IsWithinLimit};
+ghost use Rattle.doors_top.specs.Outcomes.{outcome_of_turns, outcome_with};
 ghost use Rattle.doors_top.specs.Status.{status_of_ending};
-ghost use Rattle.doors_top.specs.Top.{IsAnswer, LawsOfPlay, LawsOfScript, IsDecidedText, TurnsOfPlay};
+ghost use Rattle.doors_top.specs.Top.{IsAnswer, IsPlayed, LawsOfScript};
 
 use crate::reading::ReadText;
-use crate::reply::{Reply, fixed_reply, reply_for_bad};
+use crate::reply::{Reply, reply_for_bad};
 use crate::script_in::script_in;
 use crate::status::Status;
+use crate::turns::take_turns;
 use dk_base::error::NoMemory;
 use dk_base::number::Tid;
 use script_lang::script::Script;
 use std::alloc::Global;
-use sys_run::laws;
 use sys_run::sys::{Played, Sys};
-use thread_machine::later::later;
 use trace_text::{text_before_refused, text_of_run};
 
 /// The text of a run that ends after its last turn.
@@ -57,11 +56,8 @@ fn play_turns(alloc: Global, sys: &mut Sys) -> Result<Reply, NoMemory>
     ensures answer { IfOk result (λ reply. IsAnswer reply.status) }
     ensures laws { IfOk result (λ _. LawsOfScript sys.old.script (refusal sys.old.script)) }
 {
-    laws::whole_plays();
-    laws::refused_plays();
-    match sys.play_schedule()? {
+    match take_turns(sys)? {
         Played::Over => {
-            sys.finish()?;
             let reply = reply_at_end(alloc, sys)?;
             Ok(reply)
         }
@@ -72,9 +68,8 @@ fn play_turns(alloc: Global, sys: &mut Sys) -> Result<Reply, NoMemory>
     }
 }
 
-/// What `play` makes of a script that needs nothing that is not built.
+/// What `play` makes of a script.
 fn play_script(alloc: Global, script: Script) -> Result<Reply, NoMemory>
-    requires { later_of script ≡ false }
     ensures status { IfOk result (λ reply. reply.status ≡ (outcome_of_turns script (refusal script)).status) }
     ensures text { IfOk result (λ reply. reply.text ≡ (outcome_of_turns script (refusal script)).text) }
     ensures answer { IfOk result (λ reply. IsAnswer reply.status) }
@@ -84,33 +79,21 @@ fn play_script(alloc: Global, script: Script) -> Result<Reply, NoMemory>
     play_turns(alloc, &mut sys)
 }
 
-/// What `play` makes of a script.
-fn play_or_later(alloc: Global, script: Script) -> Result<Reply, NoMemory>
-    ensures status { IfOk result (λ reply. reply.status ≡ (outcome_of_script script).status) }
-    ensures text { IfOk result (λ reply. reply.text ≡ (outcome_of_script script).text) }
-    ensures answer { IfOk result (λ reply. IsAnswer reply.status) }
-    ensures laws { IfOk result (λ _. later_of script ≡ false → LawsOfScript script (refusal script)) }
-{
-    if later(&script) {
-        fixed_reply(alloc, Status::Script, b"bad line 0 later\n")
-    } else {
-        play_script(alloc, script)
-    }
-}
-
-/// What `play` answers and writes.
+/// What `play` answers and writes: the text of the run that the turns of the script make, or what is bad of the script.
 pub fn play(alloc: Global, read: &ReadText) -> Result<Reply, NoMemory>
     requires { IsWithinLimit SCRIPT_LIMIT read.now }
-    ensures status { IfOk result (λ reply. reply.status ≡ (outcome_of_play read.now).status) }
-    ensures text { IfOk result (λ reply. reply.text ≡ (outcome_of_play read.now).text) }
     ensures answer { IfOk result (λ reply. IsAnswer reply.status) }
-    ensures spelled { IfOk result (λ _. IsDecidedText read.now) }
-    ensures turns { TurnsOfPlay read.now }
-    ensures laws { IfOk result (λ _. LawsOfPlay read.now) }
+    ensures said { IfOk result (λ reply. IsPlayed read.now (outcome_with reply.status reply.text)) }
 {
     written_script::laws::played_turns();
     match script_in(alloc, read)? {
-        Ok(script) => play_or_later(alloc, script),
-        Err(bad) => reply_for_bad(alloc, bad),
+        Ok(script) => {
+            let reply = play_script(alloc, script)?;
+            Ok(reply)
+        }
+        Err(bad) => {
+            let reply = reply_for_bad(alloc, bad)?;
+            Ok(reply)
+        }
     }
 }

@@ -1,6 +1,6 @@
 //! What a command answers and writes.
 ghost use Rattle.std.specs.Prelude.{◌≡◌, IfOk};
-ghost use Rattle.doors_top.specs.Outcomes.{outcome_of_bad};
+ghost use Rattle.doors_top.specs.Outcomes.{outcome_of_bad, outcome_with, usage};
 
 use crate::status::Status;
 use dk_base::error::NoMemory;
@@ -9,6 +9,8 @@ use script_lang::bad::Bad;
 use script_lang::bad_text::bad_text;
 use std::alloc::Global;
 
+const USAGE: &[u8] = b"usage: doors play|run|show|check|load N\n";
+
 /// A status with the text that goes with it.
 #[derive(Drop)]
 pub struct Reply {
@@ -16,13 +18,16 @@ pub struct Reply {
     pub text: Bytes,
 }
 
-/// A reply of a line that is given.
-pub fn fixed_reply(alloc: Global, status: Status, line: &[u8]) -> Result<Reply, NoMemory>
-    ensures status { IfOk result (λ reply. reply.status ≡ status) }
-    ensures text { IfOk result (λ reply. reply.text ≡ line.now) }
+/// The reply to words that are no command.
+pub fn usage_reply(alloc: Global) -> Result<Reply, NoMemory>
+    ensures status { IfOk result (λ reply. reply.status ≡ Status.Usage) }
+    ensures made { IfOk result (λ reply. outcome_with reply.status reply.text ≡ usage) }
 {
-    let text = Bytes::from_slice(alloc, line)?;
-    Ok(Reply { status, text })
+    let text = Bytes::from_slice(alloc, USAGE)?;
+    Ok(Reply {
+        status: Status::Usage,
+        text,
+    })
 }
 
 /// The reply that tells what is bad of an input.

@@ -1,16 +1,16 @@
 //! What `run` answers and writes for what was read.
-ghost use Rattle.std.specs.Prelude.{◌≡◌, ◌+◌, ◌++◌, Some, true, false, length, sum, IfOk};
-ghost use Rattle.script_requests.specs.Words.{has_later_parts as later_of, tail_text};
+ghost use Rattle.std.specs.Prelude.{◌≡◌, ◌+◌, ◌++◌, Some, true, length, sum, IfOk};
+ghost use Rattle.script_requests.specs.Words.{tail_text};
 ghost use Rattle.written_script.specs.Words.{ending_of, is_over, text_of_history};
 ghost use Rattle.sys_run.specs.Words.{LawsOf, history};
 ghost use Rattle.doors_top.specs.declared.script_in.TheConstants.{SCRIPT_LIMIT};
 ghost use Rattle.doors_top.specs.Outcomes.{outcome_with};
 ghost use Rattle.doors_top.specs.Input.{IsSpelled, IsWithinLimit};
 ghost use Rattle.doors_top.specs.Status.{status_of_ending};
-ghost use Rattle.doors_top.specs.Top.{IsAnswer, IsDecidedText, IsOutcomeOfRun, IsOfSomeRun, RunsOrLater};
+ghost use Rattle.doors_top.specs.Top.{IsAnswer, IsOfSomeRun, IsRan};
 
 use crate::reading::ReadText;
-use crate::reply::{Reply, fixed_reply, reply_for_bad};
+use crate::reply::{Reply, reply_for_bad};
 use crate::script_in::script_in;
 use crate::status::Status;
 use dk_base::error::NoMemory;
@@ -21,7 +21,6 @@ use std::alloc::Global;
 use std::sync::Wait;
 use std::thread::Threads;
 use sys_run::sys::Sys;
-use thread_machine::later::later;
 use trace_text::text_with_tail;
 
 /// The text of a run that is over, with the line `tail N` after it.
@@ -50,29 +49,14 @@ fn reply_for_ran(alloc: Global, ran: &Ran) -> Result<Reply, NoMemory>
 {
     written_trace::laws::turns_of_texts();
     written_trace::laws::legal_traces();
+    written_trace::laws::fronts_of_runs();
     ran.sys.events();
     let reply = reply_with_tail(alloc, &ran.sys, ran.tail)?;
     Ok(reply)
 }
 
-/// Runs a script that needs nothing that is not built.
+/// Runs a script.
 fn run_script<G: Gate + Sync, R: Threads + Wait + Sync>(
-    rt: &R,
-    alloc: Global,
-    script: Script,
-    gate: &G,
-) -> Result<Reply, NoMemory>
-    requires built { later_of script ≡ false }
-    requires spelled { IsSpelled script }
-    ensures answer { IfOk result (λ reply. IsAnswer reply.status) }
-    ensures run { IfOk result (λ reply. IsOfSomeRun script (outcome_with reply.status reply.text)) }
-{
-    let ran = run_threads(rt, alloc, script, gate)?;
-    reply_for_ran(alloc, &ran)
-}
-
-/// What `run` makes of a script.
-fn run_or_later<G: Gate + Sync, R: Threads + Wait + Sync>(
     rt: &R,
     alloc: Global,
     script: Script,
@@ -80,18 +64,15 @@ fn run_or_later<G: Gate + Sync, R: Threads + Wait + Sync>(
 ) -> Result<Reply, NoMemory>
     requires { IsSpelled script }
     ensures answer { IfOk result (λ reply. IsAnswer reply.status) }
-    ensures run { IfOk result (λ reply. RunsOrLater script (later_of script) (outcome_with reply.status reply.text)) }
+    ensures run { IfOk result (λ reply. IsOfSomeRun script (outcome_with reply.status reply.text)) }
 {
-    if later(&script) {
-        fixed_reply(alloc, Status::Script, b"bad line 0 later\n")
-    } else {
-        run_script(rt, alloc, script, gate)
-    }
+    let ran = run_threads(rt, alloc, script, gate)?;
+    reply_for_ran(alloc, &ran)
 }
 
 /// What `run` answers and writes: the text of a run in which each thread of the script had a driver of its own, or the calling
-/// thread where none could be started, in whatever order the system made, and the line `tail N`. The schedule is passed over. It
-/// may wait; what it promises holds where it returns.
+/// thread where none could be started, in whatever order the system made, and the line `tail N`; or what is bad of the script. The
+/// schedule is passed over. It may wait; what it promises holds where it returns.
 pub(crate) fn run<G: Gate + Sync, R: Threads + Wait + Sync>(
     rt: &R,
     alloc: Global,
@@ -100,12 +81,17 @@ pub(crate) fn run<G: Gate + Sync, R: Threads + Wait + Sync>(
 ) -> Result<Reply, NoMemory>
     requires { IsWithinLimit SCRIPT_LIMIT read.now }
     ensures answer { IfOk result (λ reply. IsAnswer reply.status) }
-    ensures spelled { IfOk result (λ _. IsDecidedText read.now) }
-    ensures outcome { IfOk result (λ reply. IsOutcomeOfRun read.now (outcome_with reply.status reply.text)) }
+    ensures said { IfOk result (λ reply. IsRan read.now (outcome_with reply.status reply.text)) }
 {
     script_lang::laws::read_is_spelled();
     match script_in(alloc, read)? {
-        Ok(script) => run_or_later(rt, alloc, script, gate),
-        Err(bad) => reply_for_bad(alloc, bad),
+        Ok(script) => {
+            let reply = run_script(rt, alloc, script, gate)?;
+            Ok(reply)
+        }
+        Err(bad) => {
+            let reply = reply_for_bad(alloc, bad)?;
+            Ok(reply)
+        }
     }
 }

@@ -8,11 +8,11 @@ use script_requests::ending::Ending;
 /// How a command ended.
 #[derive(Clone, Copy, Debug, PartialEq, Eq)]
 pub enum Status {
-    /// `play`, `run`: no thread can go on, and none waits for another. `show`: the input is a script. `check`: the trace is that of a legal run.
+    /// `play`, `run`, `load`: no thread can go on, and none waits for another. `show`: the input is a script. `check`: the trace is that of a legal run.
     Complete,
     /// No thread can go on, and some wait in a call, at a port or for a path.
     Stalled,
-    /// The input is no script, or too long, or a script that cannot be run yet, or one without a line `trace` for `check`.
+    /// The input is no script, or too long, or for `check` a script without a line `trace` after it.
     Script,
     /// The words are no command.
     Usage,
@@ -67,7 +67,7 @@ impl Status {
     {
         match self {
             Status::Usage => Some(
-                "doors: give one word, play, run, show or check, and a script as the input (check: a script, a line trace and a trace); read on in README.md (load is not built yet)",
+                "doors: give one word, play, run, show or check, and a script as the input (check: a script, a line trace and a trace), or load and a number from 1 to 16000; read on in README.md",
             ),
             Status::Memory => Some("doors: out of memory"),
             Status::ReadFault => Some("doors: the standard input could not be read"),

@@ -1,5 +1,7 @@
 ghost use Rattle.std.specs.Prelude.{◌≤◌};
 
+mod failing;
+
 use dk_base::list::{Bytes, CallList};
 use dk_base::memory::{MemSink, MemSource};
 use dk_base::outside::NoGate;
@@ -54,7 +56,7 @@ fn is_answer<R: Threads + Wait + Sync>(
     Ok(ends_with(rt, alloc, words, &mut source, &mut sink, expected))
 }
 
-const ECHO: &str =
+pub(crate) const ECHO: &str =
     "doors script 1\nprocess srv\nthread s\ncreate d echo 7\nattach $d echo\nserve\nend\nproc echo\nreturn $arg\nend\nprocess cli\nthread c\nawait echo\nopen d echo\ncall r $d \"hi\"\nend\n";
 
 const ECHO_TRACE: &str =
@@ -67,7 +69,7 @@ const CANONICAL: &str =
     "doors script 1\nbudget 100000\nprocess a limit 256\nthread t\nsend 3 1 2\nreturn \"A\\x0a\" + $v desc $d!\nend\n";
 
 /// The words and the input, and then how many of its bytes are left, the output and the status.
-const ANSWERS: [(&[&str], &str, usize, &str, Status); 19] = [
+const ANSWERS: [(&[&str], &str, usize, &str, Status); 22] = [
     (&["play"], ECHO, 0, ECHO_TRACE, Status::Complete),
     (&["show"], SPACED, 0, CANONICAL, Status::Complete),
     // a wait that nothing ends
@@ -189,6 +191,28 @@ const ANSWERS: [(&[&str], &str, usize, &str, Status); 19] = [
     ),
     // no line `trace`
     (&["check"], ECHO, 0, "bad line 17 trace\n", Status::Script),
+    // nothing is read
+    (
+        &["load", "1"],
+        ECHO,
+        166,
+        "load 1 calls 1 ok 1 events 11 end complete\n",
+        Status::Complete,
+    ),
+    (
+        &["load", "01"],
+        ECHO,
+        166,
+        "usage: doors play|run|show|check|load N\n",
+        Status::Usage,
+    ),
+    (
+        &["load"],
+        ECHO,
+        166,
+        "usage: doors play|run|show|check|load N\n",
+        Status::Usage,
+    ),
 ];
 
 #[test]
@@ -211,30 +235,53 @@ fn commands_are_answered(rt: HostRuntime) -> Result<(), Fail> {
 /// One thread that exits, in 38 bytes.
 const EXIT: &str = "doors script 1\nprocess p\nthread t\nend\n";
 
-/// The word, the input, the read and the write of five bytes that fail, and then how many bytes of the input are left, the
+/// The words, the input, the read and the write of five bytes that fail, and then how many bytes of the input are left, the
 /// output and the status.
-const FAULTS: [(&str, &str, (u64, u64), usize, &str, Status); 8] = [
-    ("play", ECHO, (9, 0), 126, "", Status::ReadFault),
-    ("play", ECHO, (0, 3), 0, "1 s s crea", Status::WriteFault),
-    ("run", EXIT, (3, 0), 28, "", Status::ReadFault),
-    ("run", EXIT, (0, 3), 0, "1 t t exit", Status::WriteFault),
-    ("show", ECHO, (9, 0), 126, "", Status::ReadFault),
-    ("show", ECHO, (0, 3), 0, "doors scri", Status::WriteFault),
-    ("check", ECHO, (9, 0), 126, "", Status::ReadFault),
-    ("check", ECHO, (0, 3), 0, "bad line 1", Status::WriteFault),
+const FAULTS: [(&[&str], &str, (u64, u64), usize, &str, Status); 10] = [
+    (&["play"], ECHO, (9, 0), 126, "", Status::ReadFault),
+    (&["play"], ECHO, (0, 3), 0, "1 s s crea", Status::WriteFault),
+    (&["run"], EXIT, (3, 0), 28, "", Status::ReadFault),
+    (&["run"], EXIT, (0, 3), 0, "1 t t exit", Status::WriteFault),
+    (&["show"], ECHO, (9, 0), 126, "", Status::ReadFault),
+    (&["show"], ECHO, (0, 3), 0, "doors scri", Status::WriteFault),
+    (&["check"], ECHO, (9, 0), 126, "", Status::ReadFault),
+    (
+        &["check"],
+        ECHO,
+        (0, 3),
+        0,
+        "bad line 1",
+        Status::WriteFault,
+    ),
+    (
+        &["load", "3"],
+        ECHO,
+        (1, 0),
+        166,
+        "load 3 calls 3 ok 3 events 27 end complete\n",
+        Status::Complete,
+    ),
+    (
+        &["load", "3"],
+        ECHO,
+        (0, 3),
+        166,
+        "load 3 cal",
+        Status::WriteFault,
+    ),
 ];
 
 #[test]
 fn reads_and_writes_fail(rt: HostRuntime) -> Result<(), Fail> {
     let alloc = rt.alloc();
-    for (word, input, failing, left, output, status) in FAULTS {
+    for (words, input, failing, left, output, status) in FAULTS {
         let expected = Expected {
             left,
             output,
             status,
         };
-        let is_cut = is_answer(&rt, alloc, &[word], input, 5, failing, &expected)?;
-        assert!(rt; is_cut, "{word}: {output}");
+        let is_cut = is_answer(&rt, alloc, words, input, 5, failing, &expected)?;
+        assert!(rt; is_cut, "{output}");
     }
     Ok(())
 }

@@ -1,32 +1,11 @@
-use Rattle.doors_top.proofs.Checks.{is_checked}
+use Rattle.std.proofs.Common.{sym, subst}
+use Rattle.doors_top.specs.Outcomes.{Outcome, outcome_of_check}
+use Rattle.doors_top.specs.Top.{IsChecked}
+use Rattle.doors_top.proofs.Frames.{same_outcome}
 use Rattle.doors_top.proofs.check.check.Goals as goal
 
-pub returns-in-Whole-clause-checked : goal.returns-in-Whole-clause-checked
-returns-in-Whole-clause-checked c =
-    is_checked (record {
-      read = c.read_is_spelled.ensures;
-      sound = c.sound_scripts.ensures;
-      every = c.every_run.ensures;
-      legal = c.legal_traces.ensures.found;
-      again = c.legal_traces.ensures.again;
-      differs = c.first_differences.ensures.found;
-      first = c.first_differences.ensures.again;
-      decided = c.text_is_decided.ensures;
-      found = c.parts.ensures.found;
-      none = c.parts.ensures.none;
-    }) _
-
-pub returns-in-TooLong-clause-checked : goal.returns-in-TooLong-clause-checked
-returns-in-TooLong-clause-checked c =
-    is_checked (record {
-      read = c.read_is_spelled.ensures;
-      sound = c.sound_scripts.ensures;
-      every = c.every_run.ensures;
-      legal = c.legal_traces.ensures.found;
-      again = c.legal_traces.ensures.again;
-      differs = c.first_differences.ensures.found;
-      first = c.first_differences.ensures.again;
-      decided = c.text_is_decided.ensures;
-      found = c.parts.ensures.found;
-      none = c.parts.ensures.none;
-    }) _
+pub returns-clause-said : goal.returns-clause-said
+returns-clause-said c =
+    subst (λ (made : Outcome). IsChecked c.args.read.now made)
+    (sym (same_outcome (outcome_of_check c.args.read.now) _ _ c.in_ok-reply.ensures.status c.in_ok-reply.ensures.text))
+    (c.checked_inputs.ensures c.args.read.now)

@@ -1,11 +1,15 @@
-use Rattle.doors_top.proofs.Plays.{play_turns}
+use Rattle.std.proofs.Common.{sym, ◌∙◌}
+use Rattle.doors_top.proofs.Plays.{play_turns, played_ok, played_bad}
 use Rattle.doors_top.proofs.play.play.Goals as goal
 
-pub returns-in-Ok-clause-turns : goal.returns-in-Ok-clause-turns
-returns-in-Ok-clause-turns c = play_turns _ c.played_turns.ensures.whole c.played_turns.ensures.refused
+pub returns-in_ok-reply-in-Ok-clause-said : goal.returns-in_ok-reply-in-Ok-clause-said
+returns-in_ok-reply-in-Ok-clause-said c =
+    let reply = c.in_ok-reply-in-Ok.ensures in
+    played_ok _ _ _ _ (sym c.in_ok-script.ensures.script ∙ c.in-Ok.is) reply.status reply.text c.script_in.ensures.spelled
+    (play_turns _ c.played_turns.ensures.whole c.played_turns.ensures.refused) reply.laws
 
-pub returns-in-Err-clause-turns : goal.returns-in-Err-clause-turns
-returns-in-Err-clause-turns c = play_turns _ c.played_turns.ensures.whole c.played_turns.ensures.refused
-
-pub returns-in_err-script-clause-turns : goal.returns-in_err-script-clause-turns
-returns-in_err-script-clause-turns c = play_turns _ c.played_turns.ensures.whole c.played_turns.ensures.refused
+pub returns-in_ok-reply-in-Err-clause-said : goal.returns-in_ok-reply-in-Err-clause-said
+returns-in_ok-reply-in-Err-clause-said c =
+    let reply = c.in_ok-reply-in-Err.ensures in
+    played_bad _ _ _ _ (sym c.in_ok-script.ensures.script ∙ c.in-Err.is) reply.status reply.text c.script_in.ensures.spelled
+    (play_turns _ c.played_turns.ensures.whole c.played_turns.ensures.refused)

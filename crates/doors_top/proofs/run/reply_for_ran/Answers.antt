@@ -4,7 +4,7 @@ use Rattle.doors_top.proofs.run.reply_for_ran.Goals as goal
 
 pub returns-clause-run : goal.returns-clause-run
 returns-clause-run c =
-    is_run c.turns_of_texts.ensures.traces c.legal_traces.ensures.again c.args.ran.now.sys c.args.ran.now.tail _ _
+    is_run c.turns_of_texts.ensures.traces c.legal_traces.ensures.again c.fronts_of_runs.ensures.found c.args.ran.now.sys c.args.ran.now.tail _ _
     (record {
       spelled = c.requires.spelled;
       allowed = c.events.ensures.run.allowed;

@@ -6,7 +6,7 @@ use Rattle.doors_top.specs.Top.{IsOfSomeRun}
 use Rattle.doors_top.proofs.run.run_script.Goals as goal
 
 pub reply_for_ran-requires-clause-spelled : goal.reply_for_ran-requires-clause-spelled
-reply_for_ran-requires-clause-spelled g c = subst IsSpelled (sym c.in_ok-ran.ensures.script) c.requires.spelled
+reply_for_ran-requires-clause-spelled g c = subst IsSpelled (sym c.in_ok-ran.ensures.script) c.requires
 
 pub returns-clause-run : goal.returns-clause-run
 returns-clause-run g c =
