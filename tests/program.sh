@@ -515,7 +515,19 @@ words() {
     usage show check
     usage CHECK
     usage " check"
+    usage load
     usage load 0
+    usage load 01
+    usage load 16001
+    usage load 100000000000000000001
+    usage load 1 2
+    usage load -1
+    usage load +1
+    usage load 1x
+    usage load ""
+    usage load " 1"
+    usage LOAD 1
+    usage 1 load
     usage RUN
     usage "run "
     usage run run
@@ -526,11 +538,30 @@ words() {
     usage "$(printf '\377')"
 }
 
+# The line of a load, of each twice. A call has six events, the server three more, and each of the clients, of which there are
+# four or as many as calls, two. Nothing is read.
+loads() {
+    for calls in 1 2 3 4 5 1000 16000; do
+        clients=$((calls < 4 ? calls : 4))
+        echo "load $calls calls $calls ok $calls events $((6 * calls + 3 + 2 * clients)) end complete" >"$work/load"
+        for time in first second; do
+            {
+                run load $calls
+                judge "load $calls, the $time time" $? 0 "$work/load"
+                cat >"$work/rest"
+            } <"$echo_script"
+            if cmp -s "$work/rest" "$echo_script"; then pass; else fail "load $calls" "some of the input was read"; fi
+        done
+    done
+    run load $calls <&-
+    judge "load $calls with a closed input" $? 0 "$work/load"
+}
+
 # Output that cannot be written, and input that cannot be read.
 faults() {
-    for word in play run show check walk; do
+    for word in play run show check "load 3" walk; do
         input=$echo_script
-        [ $word != check ] || input=$checked
+        [ "$word" != check ] || input=$checked
         "$program" $word <"$input" >/dev/full 2>"$work/err"
         found=$?
         : >"$work/out"
@@ -648,6 +679,7 @@ for program in "$@"; do
     cut_chains
     refused_starts
     words
+    loads
     faults
     sizes
     byte_by_byte
