@@ -557,6 +557,28 @@ loads() {
     judge "load $calls with a closed input" $? 0 "$work/load"
 }
 
+# A kill at each turn of a nested call: `check` finds legal what `play` writes.
+killed_at_each_turn() {
+    for input in tests/play/server_killed_at_turn_*_of_a_nested_call.in; do
+        run play <"$input"
+        cp "$work/out" "$work/killed"
+        echo "legal $(grep -c '^[0-9]' "$work/killed")" >"$work/legal"
+        with_trace "$input" "$work/killed" >"$work/input"
+        run check <"$work/input"
+        judge "$input with its trace" $? 0 "$work/legal"
+    done
+}
+
+# A reader of the output that goes away after the first byte.
+readers_that_go() {
+    input=tests/play/sixteen_thousand_calls.in
+    for word in play run; do
+        { "$program" $word <"$input" 2>"$work/err"; echo $? >"$work/found"; } | head -c 1 >"$work/first"
+        : >"$work/out"
+        judge "$word to a reader that goes" "$(cat "$work/found")" 7 "$work/nothing"
+    done
+}
+
 # Output that cannot be written, and input that cannot be read.
 faults() {
     for word in play run show check "load 3" walk; do
@@ -680,6 +702,8 @@ for program in "$@"; do
     refused_starts
     words
     loads
+    killed_at_each_turn
+    readers_that_go
     faults
     sizes
     byte_by_byte
