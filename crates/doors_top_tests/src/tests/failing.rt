@@ -31,7 +31,7 @@ struct Made {
 fn make<R: Threads + Wait + Sync>(
     rt: &R,
     alloc: Global,
-    word: &str,
+    words: &[&str],
     input: &[u8],
     failing: u64,
 ) -> Result<Made, NoMemory> {
@@ -42,7 +42,7 @@ fn make<R: Threads + Wait + Sync>(
         CallList::from_slice(alloc, &[failing])?,
     )?;
     let mut source = MemSource::new(Bytes::from_slice(alloc, input)?, CallList::new(alloc));
-    let status = doors_main(rt, alloc, &[word], &mut source, &mut sink, &NoGate);
+    let status = doors_main(rt, alloc, words, &mut source, &mut sink, &NoGate);
     Ok(Made {
         status,
         output: Bytes::from_slice(alloc, sink.held())?,
@@ -86,7 +86,7 @@ fn judge<R: Threads + Wait + Sync>(rt: &R, alloc: Global, trace: &[u8]) -> Resul
     let mut input = Bytes::from_slice(alloc, FOUR_CLIENTS.as_bytes())?;
     input.append(b"trace\n")?;
     input.append(trace)?;
-    make(rt, alloc, "check", input.slice(), 0)
+    make(rt, alloc, &["check"], input.slice(), 0)
 }
 
 /// Whether the whole lines are event lines of a legal run, and then perhaps its end line, and what stands after them begins the next.
@@ -111,37 +111,55 @@ fn is_front_of_run<R: Threads + Wait + Sync>(
     })
 }
 
-/// Whether a run of the four clients whose write of this number fails leaves a front of a legal run, or all of one.
+/// Whether a run of the four clients whose write of this number fails leaves a front of a legal run. A run of them needs at least a
+/// hundred writes.
 fn is_cut_run<R: Threads + Wait + Sync>(rt: &R, alloc: Global, failing: u64) -> Result<bool, Fail> {
-    let made = make(rt, alloc, "run", FOUR_CLIENTS.as_bytes(), failing)?;
+    let made = make(rt, alloc, &["run"], FOUR_CLIENTS.as_bytes(), failing)?;
     let output = made.output.slice();
-    match made.status {
-        Status::WriteFault => is_front_of_run(rt, alloc, output),
-        Status::Complete => {
-            let judged = judge(rt, alloc, output)?;
-            Ok(judged.status == Status::Complete)
-        }
-        _ => Ok(false),
+    if made.status == Status::WriteFault {
+        return is_front_of_run(rt, alloc, output);
     }
+    let judged = judge(rt, alloc, output)?;
+    Ok(failing > 100 && made.status == Status::Complete && judged.status == Status::Complete)
 }
 
-/// Whether a write of this number that fails leaves the text's first bytes, as many as the writes before it took, and else all of it.
+/// Whether a write of this number that fails leaves the text's first bytes, as many as the writes before it took; and where there are
+/// fewer writes, whether all of the text is written.
 fn is_cut_text<R: Threads + Wait + Sync>(
     rt: &R,
     alloc: Global,
-    word: &str,
+    words: &[&str],
     input: &[u8],
     whole: &Made,
     failing: u64,
 ) -> Result<bool, Fail> {
-    let made = make(rt, alloc, word, input, failing)?;
+    let made = make(rt, alloc, words, input, failing)?;
     let output = made.output.slice();
-    if made.status == Status::WriteFault {
-        let before = failing.wrapping_sub(1).wrapping_mul(PIECE as u64);
-        Ok(output.len() as u64 == before && whole.output.slice().starts_with(output))
+    let before = failing.wrapping_sub(1).wrapping_mul(PIECE as u64);
+    Ok(if before < whole.output.len() as u64 {
+        made.status == Status::WriteFault
+            && output.len() as u64 == before
+            && whole.output.slice().starts_with(output)
     } else {
-        Ok(made.status == whole.status && output == whole.output.slice())
+        made.status == whole.status && output == whole.output.slice()
+    })
+}
+
+/// Whether each write of a command leaves a front of its text where it fails, and the text needs as many writes as this.
+fn are_cut_texts<R: Threads + Wait + Sync>(
+    rt: &R,
+    alloc: Global,
+    words: &[&str],
+    input: &[u8],
+    writes: u64,
+) -> Result<bool, Fail> {
+    let whole = make(rt, alloc, words, input, 0)?;
+    for failing in 1..=150 {
+        if !is_cut_text(rt, alloc, words, input, &whole, failing)? {
+            return Ok(false);
+        }
     }
+    Ok(whole.output.len() as u64 > writes.wrapping_sub(1).wrapping_mul(PIECE as u64))
 }
 
 #[test]
@@ -153,15 +171,24 @@ fn each_write_of_a_run_fails(rt: HostRuntime) -> Result<(), Fail> {
     Ok(())
 }
 
+/// The words, the input, and how many writes the text needs at least.
+const TEXTS: [(&[&str], &str, u64); 4] = [
+    (&["play"], FOUR_CLIENTS, 100),
+    (&["show"], FOUR_CLIENTS, 60),
+    (
+        &["check"],
+        "doors script 1\nprocess p\nthread t\nend\ntrace\n1 t t exit EBADF\nend complete 1\n",
+        8,
+    ),
+    (&["load", "3"], "", 6),
+];
+
 #[test]
 fn each_write_of_a_command_fails(rt: HostRuntime) -> Result<(), Fail> {
     let alloc = rt.alloc();
-    for word in ["play", "show", "check"] {
-        let whole = make(&rt, alloc, word, FOUR_CLIENTS.as_bytes(), 0)?;
-        for failing in 1..=150 {
-            let is_cut = is_cut_text(&rt, alloc, word, FOUR_CLIENTS.as_bytes(), &whole, failing)?;
-            assert!(rt; is_cut, "{word}: write {failing}");
-        }
+    for (words, input, writes) in TEXTS {
+        let are_cut = are_cut_texts(&rt, alloc, words, input.as_bytes(), writes)?;
+        assert!(rt; are_cut, "{input}");
     }
     Ok(())
 }
