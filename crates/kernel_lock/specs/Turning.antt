@@ -7,7 +7,7 @@ use Rattle.written_script.specs.Words.{is_over}
 use Rattle.sys_run.specs.Sys.{SysValue, WorksOn, history, is_working, state_of_run, threads_woken_by, with_turn}
 use Rattle.work_ops.specs.Words.{TaskValue}
 use Rattle.kernel_lock.specs.Ends.{first_runnable_of, has_ended, is_member}
-use Rattle.kernel_lock.specs.declared.looks.Idle.{Idle}
+use Rattle.kernel_lock.specs.declared.running.looks.Idle.{Idle}
 use Rattle.kernel_lock.specs.declared.turns.HandedIn.{HandedIn}
 use Rattle.kernel_lock.specs.declared.turns.HandedIn.TheVariants as handed
 use Rattle.kernel_lock.specs.declared.turns.Next.{Next}
@@ -102,9 +102,9 @@ pub record IsNextOf (h : UnderLock) (first : Option Tid) : Type 0 where
   pub first_is : first_runnable_of (state_of_run h.sys) h.refused ≡ first
 
 abbrev pub IsNext : UnderLock → Next → Type 0
-IsNext h (next.Runnable t look) = IsNextOf h (Some t)
-IsNext h (next.Waits look) = IsNextOf h None
-IsNext h (next.Ended look) = has_ended h.sys h.stopped ≡ true
+IsNext h (next.Runnable t look) = IsNextOf h (Some t) × (look.run.value ≡ h.sys)
+IsNext h (next.Waits look) = IsNextOf h None × (look.run.value ≡ h.sys) × (look.marks.value.items ≡ h.refused)
+IsNext h (next.Ended look) = (has_ended h.sys h.stopped ≡ true) × (look.run.value ≡ h.sys) × (look.stopped ≡ h.stopped)
 
 -- the start of this thread is marked as refused
 abbrev pub with_refused : UnderLock → Tid → UnderLock

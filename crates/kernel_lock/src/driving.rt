@@ -3,7 +3,7 @@ ghost use Rattle.std.specs.Prelude.{◌≡◌, IfErr, IfOk, true};
 ghost use Rattle.kernel_lock.specs.Ends.{has_ended};
 ghost use Rattle.kernel_lock.specs.Leaving.{IsLeft};
 
-use crate::looks::{Ended, GoesOn, Left};
+use crate::running::looks::{Ended, GoesOn, Left};
 use crate::share::TurnShare;
 use crate::shared::Shared;
 use crate::turns::{HandedIn, Next, Turn};

@@ -4,7 +4,6 @@
 
 pub mod driving;
 mod handing;
-pub mod looks;
 pub mod run;
 pub mod running;
 pub mod share;

@@ -6,7 +6,9 @@ ghost use Rattle.kernel_lock.specs.Ends.{first_runnable_of, has_ended, is_member
 ghost use Rattle.kernel_lock.specs.Leaving.{IsLeft};
 ghost use Rattle.kernel_lock.specs.Turning.{held, is_any_of, IsTurn, IsNext, stopped_by, with_refused};
 
-use crate::looks::{AllIdle, Ended, GoesOn, Idle, Left, Marked};
+pub mod looks;
+
+use crate::running::looks::{AllIdle, Ended, GoesOn, Idle, Left, Marked};
 use crate::share::TurnShare;
 use crate::turns::{Next, ToNotify, Turn};
 use dk_base::error::NoMemory;
@@ -193,6 +195,7 @@ impl<L: Ledger> Running<L> {
     pub fn needs_driver(&self, t: Tid) -> Result<GoesOn, Left>
         ensures needs { OnOk result ((has_ended self.now.sys self.now.stopped || is_member self.now.refused.items t.0) ≡ false) }
         ensures needs_none { OnErr result ((has_ended self.now.sys self.now.stopped || is_member self.now.refused.items t.0) ≡ true) }
+        ensures going { IfOk result (λ look. look.run.value ≡ self.now.sys) }
         ensures left { IfErr result (λ left. IsLeft t.0 left) }
     {
         let going = match self.standing() {

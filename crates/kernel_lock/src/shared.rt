@@ -1,8 +1,8 @@
 //! The lock, with a condition variable for each driver.
 ghost use Rattle.std.specs.Prelude.{◌≡◌, ◌≤◌, [], length, IfOk};
 
-use crate::looks::AllIdle;
 use crate::running::Running;
+use crate::running::looks::AllIdle;
 use crate::turns::ToNotify;
 use dk_base::error::NoMemory;
 use dk_base::list::{Room, Sequence};

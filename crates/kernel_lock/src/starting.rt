@@ -3,7 +3,7 @@ ghost use Rattle.std.specs.Prelude.{◌≡◌, ◌+◌, ◌≤◌, ◌<◌, leng
 ghost use Rattle.kernel_lock.specs.Leaving.{IsLeft};
 
 use crate::driving::{Departed, drive, drive_refused};
-use crate::looks::Left;
+use crate::running::looks::Left;
 use crate::share::TurnShare;
 use crate::shared::Shared;
 use dk_base::error::NoMemory;

@@ -1,5 +1,5 @@
 //! What a look under the lock gives.
-use crate::looks::{AllIdle, Ended, GoesOn, Idle};
+use crate::running::looks::{AllIdle, Ended, GoesOn, Idle};
 use dk_base::list::TidList;
 use dk_base::number::Tid;
 use work_ops::task::Task;

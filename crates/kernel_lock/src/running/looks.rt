@@ -1,5 +1,5 @@
-//! What a look under the lock found, for the time after it. A driver goes on, leaves or is not started by such a value alone, and
-//! only looks make them.
+//! What a look under the lock found, for the time after it. By such values a driver goes on, waits and leaves; only the methods of
+//! what lies under the lock make them.
 ghost use Rattle.std.specs.Prelude.{◌≡◌, true, false, None};
 ghost use Rattle.written_kernel.specs.Words.{is_runnable};
 ghost use Rattle.sys_run.specs.Sys.{state_of_run};
@@ -64,7 +64,7 @@ pub enum Left {
 
 impl GoesOn {
     /// A look at a run that goes on.
-    pub(crate) fn seen(run: &Sys) -> Self
+    pub(super) fn seen(run: &Sys) -> Self
         requires { has_ended run.now false ≡ false }
         ensures { result.run.value ≡ run.now }
     {
@@ -82,7 +82,7 @@ impl GoesOn {
 
 impl Ended {
     /// A look at a run that has ended.
-    pub(crate) fn seen(run: &Sys, stopped: bool) -> Self
+    pub(super) fn seen(run: &Sys, stopped: bool) -> Self
         requires { has_ended run.now stopped ≡ true }
         ensures run { result.run.value ≡ run.now }
         ensures stopped { result.stopped ≡ stopped }
@@ -96,7 +96,7 @@ impl Ended {
 
 impl Idle {
     /// A look at a run that goes on, and at a thread that is not runnable.
-    pub(crate) fn seen(run: &Sys, thread: Tid) -> Self
+    pub(super) fn seen(run: &Sys, thread: Tid) -> Self
         requires goes_on { has_ended run.now false ≡ false }
         requires not_runnable { is_runnable (state_of_run run.now) thread.0 ≡ false }
         ensures run { result.run.value ≡ run.now }
@@ -119,7 +119,7 @@ impl Idle {
 
 impl AllIdle {
     /// A look at a run that goes on, and at the marks, no thread of which is runnable.
-    pub(crate) fn seen(run: &Sys, marks: &Vec<Tid>) -> Self
+    pub(super) fn seen(run: &Sys, marks: &Vec<Tid>) -> Self
         requires goes_on { has_ended run.now false ≡ false }
         requires none_runnable { first_runnable_of (state_of_run run.now) marks.now.items ≡ None }
         ensures run { result.run.value ≡ run.now }
@@ -134,7 +134,7 @@ impl AllIdle {
 
 impl Marked {
     /// A look at the marks, of which one is the thread's.
-    pub(crate) fn seen(marks: &Vec<Tid>, thread: Tid) -> Self
+    pub(super) fn seen(marks: &Vec<Tid>, thread: Tid) -> Self
         requires { is_member marks.now.items thread.0 ≡ true }
         ensures marks { result.marks.value ≡ marks.now }
         ensures thread { result.thread ≡ thread }
