@@ -1,5 +1,5 @@
 //! The memory for associations that end at once.
-ghost use Rattle.std.specs.Prelude.{◌≡◌, ℕ, [], OnOk};
+ghost use Rattle.std.specs.Prelude.{◌≡◌, ℕ, [], OnErr, OnOk};
 ghost use Rattle.associated_ports.specs.Ended.{HasRoomToEnd};
 
 use dk_base::error::NoMemory;
@@ -37,7 +37,8 @@ impl Ending {
 
     /// Room for so many; what was listed goes. Want of memory leaves the lists empty.
     pub fn reserve(&mut self, n: usize) -> Result<(), NoMemory>
-        ensures { OnOk result (HasRoomToEnd self.new n) }
+        ensures room { OnOk result (HasRoomToEnd self.new n) }
+        ensures empty { OnErr result ((self.new.ports.items ≡ []) × (self.new.ids.items ≡ [])) }
     {
         self.clear();
         self.ports.reserve(n)?;

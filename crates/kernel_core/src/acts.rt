@@ -125,6 +125,7 @@ pub fn enter(
     ensures keeps { OnOk result (KeepsForNotices store.old store.new) }
     ensures others { is_leaving request ≡ false → OnOk result (FillsOnePool (touched_by (stored_state store.old) t.0 request) store.old store.new) }
     ensures parked { is_leaving request ≡ true → OnOk result (ParksAgain parked.new store.old store.new) }
+    ensures parked_as_before { OnErr result (parked.new ≡ parked.old) }
     ensures as_before { OnErr result (stored_state store.new ≡ stored_state store.old) }
     ensures fills { OnErr result (FillsNoPool store.old store.new) }
 {

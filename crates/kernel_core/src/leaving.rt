@@ -32,6 +32,7 @@ pub fn interrupt(
     ensures answer { IfOk result (λ answer. answer ≡ (interrupt (stored_state store.old) thread.0).answer) }
     ensures keeps { OnOk result (KeepsForNotices store.old store.new) }
     ensures parked { OnOk result (ParksAgain parked.new store.old store.new) }
+    ensures parked_as_before { OnErr result (parked.new ≡ parked.old) }
     ensures as_before { OnErr result (stored_state store.new ≡ stored_state store.old) }
     ensures fills { OnErr result (FillsNoPool store.old store.new) }
 {
@@ -51,6 +52,7 @@ fn leave_process(
     ensures state { OnOk result (StandsFor (stored_state store.new) (leave_process (stored_state store.old) p.0)) }
     ensures keeps { OnOk result (KeepsForNotices store.old store.new) }
     ensures parked { OnOk result (ParksAgain parked.new store.old store.new) }
+    ensures parked_as_before { OnErr result (parked.new ≡ parked.old) }
     ensures as_before { OnErr result (stored_state store.new ≡ stored_state store.old) }
     ensures fills { OnErr result (FillsNoPool store.old store.new) }
 {
@@ -73,6 +75,7 @@ pub fn exit(
     ensures answer { IfOk result (λ answer. answer ≡ (exit (stored_state store.old) t.0 p.0).answer) }
     ensures keeps { OnOk result (KeepsForNotices store.old store.new) }
     ensures parked { OnOk result (ParksAgain parked.new store.old store.new) }
+    ensures parked_as_before { OnErr result (parked.new ≡ parked.old) }
     ensures as_before { OnErr result (stored_state store.new ≡ stored_state store.old) }
     ensures fills { OnErr result (FillsNoPool store.old store.new) }
 {
@@ -97,6 +100,7 @@ pub fn kill(
     ensures answer { IfOk result (λ answer. answer ≡ (kill (stored_state store.old) p.0).answer) }
     ensures keeps { OnOk result (KeepsForNotices store.old store.new) }
     ensures parked { OnOk result (ParksAgain parked.new store.old store.new) }
+    ensures parked_as_before { OnErr result (parked.new ≡ parked.old) }
     ensures as_before { OnErr result (stored_state store.new ≡ stored_state store.old) }
     ensures fills { OnErr result (FillsNoPool store.old store.new) }
 {
@@ -128,6 +132,7 @@ pub fn revoke(
     ensures answer { IfOk result (λ answer. answer ≡ (revoke (stored_state store.old) p.0 fd).answer) }
     ensures keeps { OnOk result (KeepsForNotices store.old store.new) }
     ensures parked { OnOk result (ParksAgain parked.new store.old store.new) }
+    ensures parked_as_before { OnErr result (parked.new ≡ parked.old) }
     ensures as_before { OnErr result (stored_state store.new ≡ stored_state store.old) }
     ensures fills { OnErr result (FillsNoPool store.old store.new) }
 {
@@ -179,6 +184,7 @@ pub fn enter(
     ensures answer { IfOk result (λ answer. answer ≡ (entry_about Subject.leaving (stored_state store.old) t.0 p.0 request).answer) }
     ensures keeps { OnOk result (KeepsForNotices store.old store.new) }
     ensures parked { is_leaving request ≡ true → OnOk result (ParksAgain parked.new store.old store.new) }
+    ensures parked_as_before { OnErr result (parked.new ≡ parked.old) }
     ensures stays { is_leaving request ≡ false → store.new ≡ store.old }
     ensures as_before { OnErr result (stored_state store.new ≡ stored_state store.old) }
     ensures fills { OnErr result (FillsNoPool store.old store.new) }

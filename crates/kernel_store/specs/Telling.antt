@@ -77,6 +77,13 @@ pub record HasRoomToTell (rooms : TellingRooms) (n : ℕ) : Type 0 where
   pub changed : STEP_MAX + 2 ≤ rooms.changed.spare
   pub ending : HasRoomToEnd rooms.ending n
 
+-- nothing is listed in that memory
+pub record TellsNothing (rooms : TellingRooms) : Type 0 where
+  pub gone : rooms.gone.items ≡ []
+  pub changed : rooms.changed.items ≡ []
+  pub ports : rooms.ending.ports.items ≡ []
+  pub ids : rooms.ending.ids.items ≡ []
+
 -- an object that a turn readies, if it is the end of a pipe, is one of this pipe
 abbrev pub ReadiesAtMost : State → ℕ → Option Request → Option ℕ → Type 0
 ReadiesAtMost m t q pipe = (o : Obj) → readied m t q ≡ Some o → is_end o ≡ true → is_of_pipe pipe o ≡ true

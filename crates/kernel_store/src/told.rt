@@ -1,6 +1,6 @@
 //! What is known before an act of what ports are told after it, and the memory for that.
-ghost use Rattle.std.specs.Prelude.{◌≡◌, [], OnOk};
-ghost use Rattle.kernel_store.specs.Telling.{HasRoomToTell, is_nothing};
+ghost use Rattle.std.specs.Prelude.{◌≡◌, [], OnErr, OnOk};
+ghost use Rattle.kernel_store.specs.Telling.{HasRoomToTell, TellsNothing, is_nothing};
 
 use associated_ports::ending::Ending;
 use dk_base::error::NoMemory;
@@ -54,11 +54,13 @@ impl TellingRooms {
     /// Room for what any event can change, where there are so many associations; what was listed goes. Want of memory leaves the
     /// lists empty.
     pub fn reserve(&mut self, n: usize) -> Result<(), NoMemory>
-        ensures { OnOk result (HasRoomToTell self.new n) }
+        ensures room { OnOk result (HasRoomToTell self.new n) }
+        ensures empty { OnErr result (TellsNothing self.new) }
     {
         self.gone.clear();
-        self.gone.reserve(STEP_MAX)?;
         self.changed.clear();
+        self.ending.clear();
+        self.gone.reserve(STEP_MAX)?;
         self.changed.reserve(STEP_MAX + 2)?;
         self.ending.reserve(n)
     }

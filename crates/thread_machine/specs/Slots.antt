@@ -6,6 +6,10 @@ pub record Slot : Type 0 where
   pub name : List ℕ
   pub value : Value
 
+-- no name and no value
+abbrev pub empty_slot : Slot
+empty_slot = record { name = []; value = empty_value }
+
 -- the variables, and how many more can be set without memory
 pub record Slots : Type 0 where
   pub set : List Slot

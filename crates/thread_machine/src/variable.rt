@@ -1,6 +1,6 @@
 ghost use Rattle.std.specs.Prelude.{◌≡◌, ◌≤◌, length, IfOk, MatchOption, slice_get};
 ghost use Rattle.script_requests.specs.Words.{greatest_data as greatest_data_of, with_both};
-ghost use Rattle.thread_machine.specs.Slots.{greatest_descriptors as greatest_descriptors_of, greatest_name as greatest_name_of, visible_value};
+ghost use Rattle.thread_machine.specs.Slots.{empty_slot, greatest_descriptors as greatest_descriptors_of, greatest_name as greatest_name_of, visible_value};
 
 use crate::fill::{fill, first_items};
 use dk_base::error::NoMemory;
@@ -54,7 +54,10 @@ impl Model for Variable {
 }
 
 impl Variable {
-    pub fn new(alloc: Global) -> Result<Self, NoMemory> {
+    /// No name and no value, and room for the longest. Want of memory is the only error.
+    pub fn new(alloc: Global) -> Result<Self, NoMemory>
+        ensures { IfOk result (λ variable. variable ≡ empty_slot) }
+    {
         Ok(Variable {
             name: Room::with_room(alloc, greatest_name())?,
             bytes: Room::with_room(alloc, greatest_data())?,

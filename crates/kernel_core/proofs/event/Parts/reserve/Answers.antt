@@ -53,7 +53,7 @@ returns-clause-ready c =
       notices = c.in_ok-reserve_notices.ensures.room;
       opened = search rules;
       agreed = search rules;
-      rooms = subst (λ k. HasRoomToTell c.reserve-4.new.self (k + 1)) c.association_count.ensures.len c.in_ok-reserve-4.ensures;
+      rooms = subst (λ k. HasRoomToTell c.reserve-4.new.self (k + 1)) c.association_count.ensures.len c.in_ok-reserve-4.ensures.room;
     }
 
 pub reserve_notices-requires : goal.reserve_notices-requires
