@@ -1,8 +1,7 @@
 -- What `load` answers and writes, from the clauses of the calls that it makes.
-use Rattle.std.proofs.Common.{◌≡◌, ℕ, List, ◌++◌, codes, Some, None, ap, ◌∙◌}
+use Rattle.std.proofs.Common.{◌≡◌, ℕ, List, ◌++◌, codes, ap, ◌∙◌}
 use Rattle.load_gen.specs.Words.{load_script, summary_of}
-use Rattle.script_lang.specs.Words.{ScriptValue}
-use Rattle.written_script.specs.Words.{History, Refusal, ending_of, refusal}
+use Rattle.written_script.specs.Words.{History, ending_of}
 use Rattle.sys_run.specs.Words.{IsPlay, SysValue, history}
 use Rattle.doors_top.specs.declared.status.Status.{Status}
 use Rattle.doors_top.specs.Outcomes.{outcome_of_load, outcome_with}
@@ -17,7 +16,3 @@ load_outcome n q status text is hs ht =
     same_outcome (outcome_of_load n) status text
     (hs ∙ ap (λ (h : History). status_of_ending (ending_of h.state)) is.same_run)
     (ht ∙ ap (λ (h : History). summary_of n h ++ codes "\n") is.same_run)
-
--- a script of which no turn is refused
-pub not_refused : (script : ScriptValue) (refused : Refusal) → refusal script ≡ Some refused → refusal script ≡ None → ⊥
-not_refused script refused some none = cc

@@ -1,5 +1,5 @@
 -- What the top call promises.
-use Rattle.std.specs.Prelude.{ℕ, ◌≡◌, ◌≤◌, ◌⊎◌, ⊤, Bool, true, false, List, length, Option, Some, None, Result, Ok, Err, IfSome, IfOk}
+use Rattle.std.specs.Prelude.{ℕ, ◌≡◌, ◌≤◌, ◌⊎◌, ⊤, true, false, List, length, Option, Some, None, Result, Ok, Err, IfSome, IfOk}
 use Rattle.std.specs.Io.KnownBytes.{Appends}
 use Rattle.doors_top.specs.declared.status.Status.{Status}
 use Rattle.doors_top.specs.declared.status.Status.TheVariants as status

@@ -3,7 +3,7 @@ ghost use Rattle.std.specs.Prelude.{◌≡◌, ◌≢◌, IfOk, IsErrOf, IfErr};
 ghost use Rattle.dk_base.specs.Words.{Rose};
 ghost use Rattle.doors_top.specs.Input.{LeavesRest};
 ghost use Rattle.doors_top.specs.Outcomes.{outcome_with};
-ghost use Rattle.doors_top.specs.Top.{HasText, IsAnswer, IsRead, IsWritten, IsWrittenOf, LeavesInput, LeavesOutput};
+ghost use Rattle.doors_top.specs.Top.{HasText, IsAnswer, IsRead, IsWritten, IsWrittenOf, LeavesOutput};
 
 use crate::reading::{ReadText, ReadingFault, read_all};
 use crate::reply::Reply;

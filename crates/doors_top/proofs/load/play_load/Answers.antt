@@ -1,9 +1,9 @@
 use Rattle.std.proofs.Common.{ap, subst}
 use Rattle.load_gen.specs.Words.{load_script}
 use Rattle.script_lang.specs.Words.{ScriptValue}
-use Rattle.sys_run.specs.Words.{IsBefore, SysValue, refusal_at}
+use Rattle.sys_run.specs.Words.{SysValue}
 use Rattle.doors_top.specs.Turns.{IsPlayedOut}
-use Rattle.doors_top.proofs.Loads.{load_outcome, not_refused}
+use Rattle.doors_top.proofs.Loads.{load_outcome}
 use Rattle.doors_top.proofs.Plays.{laws_of_turns}
 use Rattle.doors_top.proofs.load.play_load.Goals as goal
 
