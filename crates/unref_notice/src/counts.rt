@@ -1,7 +1,8 @@
 //! How many references each object has, which doors had more than one when the step began, and have one, and which ends of pipes had some,
 //! and have none.
-ghost use Rattle.std.specs.Prelude.{◌≡◌, ◌+◌, ◌-◌, ◌<◌, ◌≤◌, ◌++◌, ◌∷◌, ◌||◌, ℕ, [], IsSorted, OnErr, OnOk, if◌then◌else◌, length, true, vec_capacity, vec_len};
+ghost use Rattle.std.specs.Prelude.{◌≡◌, ◌+◌, ◌-◌, ◌<◌, ◌≤◌, ◌++◌, ◌∷◌, ◌||◌, ℕ, [], IsSorted, OnErr, OnOk, Some, cond, if◌then◌else◌, length, true, vec_capacity, vec_len};
 ghost use Rattle.std.specs.List.{list_any};
+ghost use Rattle.std.specs.Map.{lookup};
 ghost use Rattle.std.specs.Ordering.{nat_cmp};
 ghost use Rattle.dk_base.specs.declared.object.Obj.{Obj};
 ghost use Rattle.indexmap.specs.IndexMap.{KeepsRoom, spare};
@@ -84,6 +85,20 @@ fn count_at(opening: &IndexMap<Key, u64>, key: Key) -> u64
     }
 }
 
+/// This is kept of an object from now on. One of which something was kept is looked up once.
+fn write<T: Drop>(kept: &mut IndexMap<Key, T>, key: Key, value: T)
+    requires spare { 0 < spare kept.old }
+    ensures lookup { (k : Key) → lookup (same_key k) kept.new.entries ≡ cond (same_key key k) (Some value) (lookup (same_key k) kept.old.entries) }
+    ensures spare { spare kept.old ≤ spare kept.new + 1 }
+{
+    match kept.get_mut(&key) {
+        Some(place) => *place = value,
+        None => {
+            kept.insert(key, value).unwrap();
+        }
+    }
+}
+
 /// The object of this key has so many references now, and is among those that are touched. Whether it was so far is given.
 fn recount(
     tallies: &mut IndexMap<Key, Tally>,
@@ -106,7 +121,7 @@ fn recount(
     if !was_touched {
         touched.push_reserved(key);
     }
-    tallies.insert(key, Tally { now, touched: true }).unwrap();
+    write(tallies, key, Tally { now, touched: true });
 }
 
 /// The objects that are touched had as many references when the step began as they have now, and are touched no more.
@@ -120,7 +135,7 @@ fn settle(tallies: &mut IndexMap<Key, Tally>, opening: &mut IndexMap<Key, u64>, 
 {
     for key in touched {
         let now = now_at(tallies, *key);
-        opening.insert(*key, now).unwrap();
+        write(opening, *key, now);
         tallies
             .insert(
                 *key,
