@@ -489,6 +489,7 @@ impl Holdings {
         ensures uses { self.old.left ≤ self.new.left + TRANSIT_MAX }
         ensures unused { OnErr result (self.new.left ≡ self.old.left) }
         ensures references { (o : Obj) → references_of self.new o ≤ references_of self.old o }
+        ensures others { IfOk result (λ left. ChangesOnly left.dropped self.old self.new) }
     {
         self.calls.are_sound();
         let left = leave(

@@ -1,18 +1,20 @@
 -- A port changes: what is known of the threads that wait at ports, where those that wait at this one are asked.
-use Rattle.std.proofs.Common.{ℕ, ◌≡◌, ◌≢◌, ◌==◌, ◌||◌, Bool, true, false, true≢false, List, Option, Some, None, if◌then◌else◌, inl, inr, is_none, refl, sym, ap, ◌∙◌, arith}
+use Rattle.std.proofs.Common.{ℕ, suc, ◌+◌, ◌≡◌, ◌≢◌, ◌==◌, ◌||◌, Bool, true, false, true≢false, cond, length, List, [], ◌∷◌, Option, Some, None, filter, if◌then◌else◌, inl, inr, is_none, refl, sym, ap, ap₂, ◌∙◌, arith}
 use Rattle.std.proofs.lemmas.Bool.{cases_eq}
 use Rattle.std.proofs.lemmas.Bool.Decides.{nat_tests}
 use Rattle.dk_base.specs.ByNumber.{at_number}
 use Rattle.dk_base.specs.declared.object.Obj.TheVariants as obj
 use Rattle.kernel_records.specs.declared.record.ThreadState.TheVariants as is
-use Rattle.kernel_records.specs.Words.{Port, ProcessTable, change_at_number, change_found, is_ready_for, port_in, port_of, send_error, send_event, send_if_allowed, state_in, thread_at, user_event, with_event}
-use Rattle.kernel_records.proofs.Lists.{at_number-renumbered_there}
+use Rattle.kernel_records.specs.declared.association.AssocKey.{AssocKey}
+use Rattle.kernel_records.specs.declared.association.Association.{Association}
+use Rattle.kernel_records.specs.Words.{Port, ProcessTable, change_at_number, change_found, count_object, has_key, is_ready_for, make_port, new_port, port_in, port_of, send_error, send_event, send_if_allowed, state_in, thread_at, user_event, with_event, withdraw_event, withdraw_events, without_event}
+use Rattle.kernel_records.proofs.Lists.{at_number-push, at_number-renumbered_there}
 use Rattle.written_kernel.specs.Types.{ThreadState}
 use Rattle.proc_table.specs.Words.{is_getting}
 use Rattle.thread_set.specs.declared.set.ThreadSet.{ThreadSet}
 use Rattle.thread_set.specs.Words.{has, with_thread}
 use Rattle.kernel_holdings.specs.Words.{HoldingsValue, references_of}
-use Rattle.kernel_store.specs.Turning.{KnowsPorts, has_ended_at, waits_at}
+use Rattle.kernel_store.specs.Turning.{IsSamePort, KnowsPorts, has_ended_at, waits_at}
 
 pub port_elsewhere : (ports : List Port) (q : ℕ) (change : Port → Port) (p : ℕ) → p ≢ q → port_of (change_at_number ports q change) p ≡ port_of ports p
 port_elsewhere ports q change p other = go (at_number ports q) refl
@@ -25,17 +27,17 @@ port_elsewhere ports q change p other = go (at_number ports q) refl
         apart = grind (arith, nat_tests, other)
 
 pub waits_at_port :
-    (table : ProcessTable) (held : HoldingsValue) (before after : List Port) (q : ℕ) (old now : ThreadSet) → ((p : ℕ) → p ≢ q → port_of after p ≡ port_of before p) →
+    (table : ProcessTable) (had held : HoldingsValue) (before after : List Port) (q : ℕ) (old now : ThreadSet) → ((p : ℕ) → p ≢ q → IsSamePort p had before held after) →
     ((t : ℕ) → waits_at q (state_in (thread_at table t)) ≡ true → has now t ≡ has_ended_at held after (state_in (thread_at table t))) →
-    ((t : ℕ) → waits_at q (state_in (thread_at table t)) ≡ false → has now t ≡ has old t) → KnowsPorts table held before old → KnowsPorts table held after now
-waits_at_port table held before after q old now others asked unasked k = record { known = λ t e. go t (waits_at q (state_in (thread_at table t))) refl e }
+    ((t : ℕ) → waits_at q (state_in (thread_at table t)) ≡ false → has now t ≡ has old t) → KnowsPorts table had before old → KnowsPorts table held after now
+waits_at_port table had held before after q old now others asked unasked k = record { known = λ t e. go t (waits_at q (state_in (thread_at table t))) refl e }
   where
     unequal : (p : ℕ) → (p == q) ≡ false → p ≢ q
     unequal p e same = absurd (grind (arith, nat_tests, e, same))
 
-    same : (s : ThreadState) → waits_at q s ≡ false → has_ended_at held before s ≡ has_ended_at held after s
+    same : (s : ThreadState) → waits_at q s ≡ false → has_ended_at had before s ≡ has_ended_at held after s
     same (is.Getting p max nget one true) w = refl
-    same (is.Getting p max nget one false) w = ap (λ x. (references_of held (obj.Port p) == 0) || is_ready_for nget x) (sym (others p (unequal p w)))
+    same (is.Getting p max nget one false) w = let kept = others p (unequal p w) in ap₂ (λ n x. (n == 0) || is_ready_for nget x) (sym kept.1) (sym kept.0)
     same s w = refl
 
     go : (t : ℕ) (b : Bool) → waits_at q (state_in (thread_at table t)) ≡ b → is_getting (state_in (thread_at table t)) ≡ true → has now t ≡ has_ended_at held after (state_in (thread_at table t))
@@ -97,3 +99,32 @@ sent_elsewhere ports q events user p other = go (is_none (send_error ports q))
     go : (b : Bool) → port_of (if b then send_event ports q events user else ports) p ≡ port_of ports p
     go true = port_elsewhere ports q (with_event (user_event events user)) p other
     go false = refl
+
+-- the events of a key are withdrawn from its port alone
+pub withdrawn_elsewhere :
+    (key : AssocKey) (xs : List Association) (ports : List Port) (p : ℕ) → p ≢ key.port → port_of (withdraw_events ports (filter (has_key key) xs)) p ≡ port_of ports p
+withdrawn_elsewhere key [] ports p other = refl
+withdrawn_elsewhere key (a ∷ xs) ports p other = go (has_key key a) refl (λ left. withdrawn_elsewhere key xs left p other)
+  where
+    apart : has_key key a ≡ true → p ≢ a.key.port
+    apart e same = absurd (grind (arith, nat_tests, e, same, other))
+
+    go :
+        (b : Bool) → has_key key a ≡ b → ((left : List Port) → port_of (withdraw_events left (filter (has_key key) xs)) p ≡ port_of left p) →
+        port_of (withdraw_events ports (if b then a ∷ filter (has_key key) xs else filter (has_key key) xs)) p ≡ port_of ports p
+    go true e rest = rest (withdraw_event ports a.key.port a.number) ∙ port_elsewhere ports a.key.port (without_event a.number) p (apart e)
+    go false e rest = rest ports
+
+-- another port is made
+pub made_elsewhere : (ports : List Port) (p : ℕ) → p ≢ length ports + 1 → port_of (make_port ports) p ≡ port_of ports p
+made_elsewhere ports p other = ap port_in (at_number-push ports (new_port (length ports + 1)) p ∙ ap (λ b. if b then Some (new_port (length ports + 1)) else at_number ports p) apart)
+  where
+    apart : (p == suc (length ports)) ≡ false
+    apart = grind (arith, nat_tests, other)
+
+pub not_this_port : (p q : ℕ) → p ≢ q → count_object (obj.Port p) (obj.Port q ∷ []) ≡ 0
+not_this_port p q other = go (p == q) (grind (arith, nat_tests, other))
+  where
+    go : (b : Bool) → b ≡ false → 0 + cond b 1 0 ≡ 0
+    go true e = absurd (true≢false e)
+    go false e = refl

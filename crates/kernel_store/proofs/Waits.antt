@@ -1,14 +1,15 @@
 -- What is known of threads that wait at ports, as a thread changes or comes, and as references and ports do.
-use Rattle.std.proofs.Common.{ℕ, suc, ◌≡◌, ◌≢◌, ◌==◌, ◌++◌, ◌∷◌, ◌&&◌, ◌||◌, not, [], Bool, true, false, List, Option, Some, None, length, option_map, if◌then◌else◌, inl, inr, refl, sym, ap, ◌∙◌, arith}
+use Rattle.std.proofs.Common.{ℕ, suc, ◌≡◌, ◌≢◌, ◌==◌, ◌++◌, ◌∷◌, ◌&&◌, ◌||◌, not, [], Bool, true, false, List, Option, Some, None, find, length, option_map, if◌then◌else◌, inl, inr, refl, sym, ap, ◌∙◌, arith}
 use Rattle.std.specs.List.{list_any}
 use Rattle.std.proofs.lemmas.Bool.{cases_eq}
 use Rattle.std.proofs.lemmas.Bool.Decides.{nat_tests}
 use Rattle.dk_base.specs.ByNumber.{at_number}
 use Rattle.dk_base.specs.declared.object.Obj.TheVariants as obj
 use Rattle.kernel_records.specs.declared.record.ThreadState.TheVariants as is
-use Rattle.kernel_records.specs.Words.{Port, ProcessTable, change_thread, count_object, idle_thread, is_ready_for, opening_state, port_of, set_thread_state, state_in, thread_at, thread_at_state, thread_in_invocation, thread_outside}
-use Rattle.kernel_records.proofs.Lists.{at_number-push}
-use Rattle.written_kernel.specs.Types.{Call, Item, Name, Obj, Thread, ThreadState}
+use Rattle.kernel_records.specs.declared.record.CallStage.TheVariants as stage
+use Rattle.kernel_records.specs.Words.{Leaving, Port, ProcessTable, change_thread, count_object, deserted_at, deserted_in, idle_thread, interrupted_state, interrupted_where, is_left, is_ready_for, is_served_by, left_thread, left_thread_of, left_threads, opening_state, port_of, set_thread_state, state_in, thread_at, thread_at_state, thread_in_invocation, thread_outside}
+use Rattle.kernel_records.proofs.Lists.{at_number-map, at_number-push}
+use Rattle.written_kernel.specs.Types.{Call, CallStage, Item, Name, Obj, Thread, ThreadState}
 use Rattle.written_kernel.proofs.Threads.{thread_at-change_thread}
 use Rattle.call_agreement.proofs.Free.{changed_elsewhere, changed_here}
 use Rattle.proc_table.specs.Words.{is_getting}
@@ -35,6 +36,43 @@ not_both e f = absurd cc
 
 pub turned_gets_not : (s : ThreadState) → is_getting s ≡ false → GetsNoMore (thread_at_state s)
 turned_gets_not s none x e = absurd (not_both none e)
+
+-- threads are interrupted, left and ended
+left_gets_so : (who : Leaving) (now : ℕ) (served : Option Call) → GetsNoMore (left_thread who now served)
+left_gets_so who now served x = ended (who.ends x.number)
+  where
+    interrupted : (s : ThreadState) → is_getting (interrupted_state s) ≡ true → interrupted_state s ≡ s
+    interrupted (is.Getting port max nget one i) e = absurd cc
+    interrupted s e = refl
+
+    where_so : (b : Bool) → is_getting (interrupted_where b x).state ≡ true → (interrupted_where b x).state ≡ x.state
+    where_so true e = interrupted x.state e
+    where_so false e = refl
+
+    at :
+        (b : Bool) (no_cancel : Bool) (s : CallStage) → is_getting (deserted_at now no_cancel s (interrupted_where b x)).state ≡ true →
+        (deserted_at now no_cancel s (interrupted_where b x)).state ≡ x.state
+    at b no_cancel (stage.Given u) e = absurd cc
+    at b true (stage.Entered u) e = where_so b e
+    at b false (stage.Entered u) e = where_so b e
+    at b no_cancel s e = where_so b e
+
+    left :
+        (l : Bool) (b : Bool) (r : Call) → is_getting (if l then deserted_at now r.no_cancel r.stage (interrupted_where b x) else interrupted_where b x).state ≡ true →
+        (if l then deserted_at now r.no_cancel r.stage (interrupted_where b x) else interrupted_where b x).state ≡ x.state
+    left true b r e = at b r.no_cancel r.stage e
+    left false b r e = where_so b e
+
+    deserted :
+        (b : Bool) (o : Option Call) → is_getting (deserted_in who now o (interrupted_where b x)).state ≡ true → (deserted_in who now o (interrupted_where b x)).state ≡ x.state
+    deserted b None e = where_so b e
+    deserted b (Some r) e = left (is_left who r) b r e
+
+    ended :
+        (b : Bool) → is_getting (if b then record x { invocation = None; state = is.Done } else deserted_in who now served (interrupted_where (who.interrupts x.number) x)).state ≡ true →
+        (if b then record x { invocation = None; state = is.Done } else deserted_in who now served (interrupted_where (who.interrupts x.number) x)).state ≡ x.state
+    ended true e = absurd cc
+    ended false e = deserted (who.interrupts x.number) served e
 
 module _ {tables : List (List (Option Obj))} {names : List Name} {calls : List Call} {ports : List Port} {ended : ThreadSet} where
   -- no more threads wait at ports
@@ -71,6 +109,16 @@ module _ {tables : List (List (Option Obj))} {names : List Name} {calls : List C
       go : (b : Bool) (o : Option Thread) → is_getting (state_in (if b then Some y else o)) ≡ true → state_in (if b then Some y else o) ≡ state_in o
       go true o e = absurd (not_both none e)
       go false o e = refl
+
+  pub waits_left : (table : ProcessTable) (who : Leaving) (now : ℕ) (left : List Call) → KnowsPortsIn table tables names calls ports ended → KnowsPortsIn (left_threads who now left table) tables names calls ports ended
+  waits_left table who now left k = waits_fewer k (λ t e. same t ∙ go (thread_at table t) (ap is_getting (sym (same t)) ∙ e))
+    where
+      same : (t : ℕ) → state_in (thread_at (left_threads who now left table) t) ≡ state_in (option_map (left_thread_of who now left) (thread_at table t))
+      same t = ap state_in (at_number-map (left_thread_of who now left) table.threads t)
+
+      go : (o : Option Thread) → is_getting (state_in (option_map (left_thread_of who now left) o)) ≡ true → state_in (option_map (left_thread_of who now left) o) ≡ state_in o
+      go None e = refl
+      go (Some x) e = left_gets_so who now (find (is_served_by x.number) left) x e
 
 -- a thread as it is added
 pub new_gets_not : (spare : Bool) → is_getting (opening_state spare) ≡ false

@@ -10,7 +10,7 @@ use Rattle.thread_set.specs.Words.{has}
 use Rattle.written_kernel.specs.Types.{Call, Name, Obj, ThreadState}
 use Rattle.written_kernel.specs.Words.{State, can_go_on, state_of}
 use Rattle.exit_paths.specs.Words.{has_ready}
-use Rattle.kernel_holdings.specs.Words.{HoldingsValue, references_to}
+use Rattle.kernel_holdings.specs.Words.{HoldingsValue, references_of, references_to}
 
 -- as `can_go_on`, where a caller goes on by a call of its own that can be collected
 abbrev pub can_turn_at : State → ℕ → ThreadState → Bool
@@ -53,3 +53,7 @@ pub record KnowsPortsIn (table : ProcessTable) (tables : List (List (Option Obj)
 
 abbrev pub KnowsPorts : ProcessTable → HoldingsValue → List Port → ThreadSet → Type 0
 KnowsPorts table held ports ended = KnowsPortsIn table held.tables held.names.names held.calls.tree.calls ports ended
+
+-- a port is as it was, and so is how much refers to it
+abbrev pub IsSamePort : ℕ → HoldingsValue → List Port → HoldingsValue → List Port → Type 0
+IsSamePort p had before held ports = (port_of ports p ≡ port_of before p) × (references_of held (obj.Port p) ≡ references_of had (obj.Port p))

@@ -4,10 +4,10 @@ ghost use Rattle.std.specs.List.{list_any};
 ghost use Rattle.std.specs.Option.{option_to_list};
 ghost use Rattle.dk_base.specs.declared.limits.TheConstants.{THREADS_MAX};
 ghost use Rattle.dk_base.specs.declared.object.Obj.TheVariants as obj;
-ghost use Rattle.kernel_records.specs.Words.{Port, object_named, port_of, state_in, table_in, thread_at};
+ghost use Rattle.kernel_records.specs.Words.{Port, object_named, state_in, table_in, thread_at};
 ghost use Rattle.kernel_holdings.specs.Words.{HoldingsValue, references_of, results_in};
 ghost use Rattle.thread_set.specs.Words.{has};
-ghost use Rattle.kernel_store.specs.Turning.{KnowsPorts, has_ended_at, is_port, waits_at};
+ghost use Rattle.kernel_store.specs.Turning.{IsSamePort, KnowsPorts, has_ended_at, is_port, waits_at};
 
 use associated_ports::ports::AssociatedPorts;
 use call_tree::parts::Outcome;
@@ -99,7 +99,7 @@ fn ask_at(
     }
 }
 
-/// A port changes: of the threads that wait at it, those whose wait can end.
+/// A port changes, or what refers to it: of the threads that wait at it, those whose wait can end. No other thread is asked.
 pub fn note_port(
     ended: &mut ThreadSet,
     q: u32,
@@ -107,7 +107,7 @@ pub fn note_port(
     held: &Holdings,
     ports: &AssociatedPorts,
 )
-    ensures { (before : List Port) → ((p : ℕ) → p ≢ q → port_of ports.now.ports.ports p ≡ port_of before p) → KnowsPorts processes.now held.now before ended.old → KnowsPorts processes.now held.now ports.now.ports.ports ended.new }
+    ensures { (had : HoldingsValue) (before : List Port) → ((p : ℕ) → p ≢ q → IsSamePort p had before held.now ports.now.ports.ports) → KnowsPorts processes.now had before ended.old → KnowsPorts processes.now held.now ports.now.ports.ports ended.new }
 {
     let mut rest = processes.getting();
     while let Some(t) = rest.least() {

@@ -10,7 +10,7 @@ ghost use Rattle.kernel_store.specs.Channels.{HasRoomForEvents, HasRoomForPipe, 
 ghost use Rattle.kernel_store.specs.Frames.{KeepsPools};
 ghost use Rattle.kernel_store.specs.Stored.{HasRoom, HasRoomForNotices, stored_state};
 
-use crate::ports::{find_ended, note_port};
+use crate::ports::note_port;
 use crate::store::Store;
 use dk_base::error::{Errno, NoMemory};
 use dk_base::list::Room;
@@ -168,7 +168,13 @@ impl Store {
     {
         let number = self.ports.create(alloc);
         let fd = self.held.insert(p, Obj::Port(number));
-        self.ended = find_ended(&self.processes, &self.held, &self.ports);
+        note_port(
+            &mut self.ended,
+            number,
+            &self.processes,
+            &self.held,
+            &self.ports,
+        );
         fd
     }
 
@@ -319,7 +325,13 @@ impl Store {
         ensures keeps { KeepsPools self.old self.new }
     {
         self.ports.associate(key, object, events, user);
-        self.ended = find_ended(&self.processes, &self.held, &self.ports);
+        note_port(
+            &mut self.ended,
+            key.port,
+            &self.processes,
+            &self.held,
+            &self.ports,
+        );
     }
 
     /// The association of a port with a descriptor of a process ends, if there is one, and what it queued is withdrawn
@@ -330,6 +342,12 @@ impl Store {
         ensures keeps { KeepsPools self.old self.new }
     {
         self.ports.dissociate(key);
-        self.ended = find_ended(&self.processes, &self.held, &self.ports);
+        note_port(
+            &mut self.ended,
+            key.port,
+            &self.processes,
+            &self.held,
+            &self.ports,
+        );
     }
 }

@@ -11,7 +11,7 @@ ghost use Rattle.kernel_store.specs.Stored.{stored_state};
 
 use crate::leaving::{held_items, leave_notices};
 use crate::paths::note_turn;
-use crate::ports::{find_ended, note_wait};
+use crate::ports::{find_ended, has_port, note_references, note_wait};
 use crate::sets::set_of;
 use crate::store::Store;
 use dk_base::error::NoMemory;
@@ -105,7 +105,13 @@ impl Store {
             &self.doors,
         );
         let _threads = self.processes.thread_count();
-        self.ended = find_ended(&self.processes, &self.held, &self.ports);
+        note_references(
+            &mut self.ended,
+            has_port(left.dropped.slice()),
+            &self.processes,
+            &self.held,
+            &self.ports,
+        );
         Ok(set_of(left.parked.slice()))
     }
 

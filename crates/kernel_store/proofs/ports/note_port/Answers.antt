@@ -17,6 +17,6 @@ loop-t-preserved c =
     c.put.ensures c.ask_at.ensures.asked c.ask_at.ensures.not_asked c.ask_at.ensures.others c.loop-t.invariant
 
 pub returns : goal.returns
-returns c = λ before same known.
-    waits_at_port c.args.processes.now c.args.held.now before c.args.ports.now.ports.ports c.args.q c.args.ended.now c.loop-t.ended same
+returns c = λ had before same known.
+    waits_at_port c.args.processes.now had c.args.held.now before c.args.ports.now.ports.ports c.args.q c.args.ended.now c.loop-t.ended same
     (λ t w. c.loop-t.invariant.asked t (c.in_default.ensures.none t) w) c.loop-t.invariant.others known

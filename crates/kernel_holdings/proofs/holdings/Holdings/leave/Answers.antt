@@ -1,6 +1,6 @@
 use Rattle.std.proofs.Common.{length, sym, subst, ap, ◌∙◌, map, arith}
 use Rattle.exit_paths.specs.Words.{in_transit}
-use Rattle.kernel_records.specs.Words.{is_object}
+use Rattle.kernel_records.specs.Words.{count_object, is_object}
 use Rattle.call_tree.specs.Words.{CallsValue}
 use Rattle.kernel_holdings.specs.Words.{IsCountOf}
 use Rattle.kernel_holdings.proofs.TransitCounts.{handed_out}
@@ -47,6 +47,18 @@ returns-clause-uses c =
 
 pub returns-clause-references : goal.returns-clause-references
 returns-clause-references c = λ o. omega (arith, (invariant_of-self-2 c).0 o, c.self.invariant.0 o, c.down_all.ensures.counts o, ap (λ (v : HoldingsValue). references_of v o) c.self.view_is)
+
+pub returns-clause-others : goal.returns-clause-others
+returns-clause-others c = λ o none.
+    omega (
+      arith,
+      (invariant_of-self-2 c).0 o,
+      c.self.invariant.0 o,
+      c.down_all.ensures.counts o,
+      ap (count_object o) c.slice.ensures,
+      none,
+      ap (λ (v : HoldingsValue). references_of v o) c.self.view_is,
+    )
 
 pub overflow_sub-self : goal.overflow_sub-self
 overflow_sub-self c = let all = c.in_ok-left.ensures.left.dropped.in_all in omega (arith, all, c.self.invariant.2, c.len.ensures)

@@ -1,4 +1,6 @@
-use Rattle.kernel_store.proofs.Waits.{waits_anew}
+use Rattle.std.proofs.Common.{ap, refl, ◌∙◌}
+use Rattle.kernel_records.specs.Words.{port_of}
+use Rattle.kernel_store.proofs.PortWaits.{withdrawn_elsewhere}
 use Rattle.kernel_store.proofs.store.Store.associate.Goals as goal
 
 pub invariant_of-self : goal.invariant_of-self
@@ -8,5 +10,5 @@ invariant_of-self c = (
   c.self.invariant.2,
   c.self.invariant.3,
   c.self.invariant.4,
-  waits_anew c.self.inside.processes c.self.inside.held c.associate.new.self.ports.ports c.find_ended-self-inside.result c.find_ended-self-inside.ensures,
+  c.note_port.ensures c.self.inside.held c.self.inside.ports.ports.ports (λ p n. (ap (λ ps. port_of ps p) c.associate.ensures.ports ∙ withdrawn_elsewhere c.args.key c.self.inside.ports.assocs.list.associations c.self.inside.ports.ports.ports p n, refl)) c.self.invariant.5,
 )

@@ -1,4 +1,4 @@
-use Rattle.kernel_store.specs.Turning.{KnowsPaths}
+use Rattle.kernel_store.specs.Turning.{KnowsPaths, KnowsPorts, is_port}
 use Rattle.kernel_store.proofs.Knowing.{knows_left}
 use Rattle.std.proofs.Common.{◌≡◌, ◌+◌, ◌++◌, ◌<◌, ◌==◌, ◌&&◌, ℕ, true, false, not, length, sym, ap, ◌∙◌, subst, subst₂, arith, rules}
 use Rattle.std.specs.List.{list_any}
@@ -25,7 +25,7 @@ use Rattle.kernel_store.proofs.LeftStore.{early, parked_early}
 use Rattle.kernel_store.proofs.Lost.{can_end}
 use Rattle.kernel_store.proofs.There.{there_fewer}
 use Rattle.kernel_store.proofs.Short.{no_less_items, there_before}
-use Rattle.kernel_store.proofs.Waits.{waits_anew}
+use Rattle.kernel_store.proofs.Waits.{others_kept, waits_left}
 use Rattle.kernel_store.proofs.store.Store.leave.Goals as goal
 
 pub leave-requires-clause-can : goal.leave-requires-clause-can
@@ -86,7 +86,9 @@ invariant_of-self-2 c =
       no_less_items s.short.items s.pools c.leave.new.pools c.self.invariant.4
           (there_before s.pools c.leave.new.pools (agreed.common ∙ ap (λ (t : ProcessTable). length t.processes) exited.threads ∙ sym c.self.invariant.0.common) (agreed.private ∙ sym c.self.invariant.0.private))
           exited.items,
-      waits_anew c.leave.new.procs c.leave.new.self s.ports.ports.ports c.find_ended-self-inside.result c.find_ended-self-inside.ensures,
+      c.note_references.ensures s.held
+          (others_kept s.held c.leave.new.self c.in_ok-left.left.dropped c.has_port.result (c.has_port.ensures ∙ ap (list_any is_port) c.slice-4.ensures) c.in_ok-left.ensures.others)
+          (subst (λ table. KnowsPorts table s.held s.ports.ports.ports s.ended) (sym exited.threads) (waits_left s.processes who (s.events + 1) tree.calls c.self.invariant.5)),
     )
 
 pub returns-clause-state : goal.returns-clause-state
@@ -122,7 +124,7 @@ returns-clause-keeps c =
 
 pub set_of-requires : goal.set_of-requires
 set_of-requires c =
-    rw (c.slice-4.ensures, c.in_ok-left.ensures.left.parked) (told_within (became_idle c.self.inside.processes c.leave.new.procs))
+    rw (c.slice-5.ensures, c.in_ok-left.ensures.left.parked) (told_within (became_idle c.self.inside.processes c.leave.new.procs))
 
 pub returns-clause-parked : goal.returns-clause-parked
 returns-clause-parked c =
@@ -133,7 +135,7 @@ returns-clause-parked c =
     let before = agrees_later c.self.invariant.0 (s.events + 1) (omega arith) in
     let all : (t : ℕ) → became_idle s.processes c.leave.new.procs t ≡ true → has c.set_of.result t ≡ true =
     has_idle s.processes c.leave.new.procs c.set_of.result c.thread_count-threads.ensures.few
-    (λ t. c.set_of.ensures t ∙ ap (list_any (λ (u : Tid). u.0 == t)) (c.slice-4.ensures ∙ exited.parked)) in
+    (λ t. c.set_of.ensures t ∙ ap (list_any (λ (u : Tid). u.0 == t)) (c.slice-5.ensures ∙ exited.parked)) in
     record {
       idle =
           λ t e f.

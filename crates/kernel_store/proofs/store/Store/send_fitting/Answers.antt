@@ -1,4 +1,4 @@
-use Rattle.std.proofs.Common.{ap, ◌∙◌}
+use Rattle.std.proofs.Common.{ap, refl, ◌∙◌}
 use Rattle.kernel_records.specs.Words.{port_of}
 use Rattle.kernel_store.proofs.PortWaits.{port_elsewhere}
 use Rattle.kernel_store.proofs.store.Store.send_fitting.Goals as goal
@@ -10,5 +10,5 @@ invariant_of-self c = (
   c.self.invariant.2,
   c.self.invariant.3,
   c.self.invariant.4,
-  c.note_port.ensures c.self.inside.ports.ports.ports (λ p n. ap (λ ps. port_of ps p) c.send_fitting.ensures.ports ∙ port_elsewhere c.self.inside.ports.ports.ports c.args.q _ p n) c.self.invariant.5,
+  c.note_port.ensures c.self.inside.held c.self.inside.ports.ports.ports (λ p n. (ap (λ ps. port_of ps p) c.send_fitting.ensures.ports ∙ port_elsewhere c.self.inside.ports.ports.ports c.args.q _ p n, refl)) c.self.invariant.5,
 )

@@ -1,4 +1,4 @@
-use Rattle.std.proofs.Common.{ap, ◌∙◌}
+use Rattle.std.proofs.Common.{ap, refl, ◌∙◌}
 use Rattle.kernel_records.specs.Words.{port_of}
 use Rattle.kernel_store.proofs.PortWaits.{sent_elsewhere}
 use Rattle.kernel_store.proofs.store.Store.send_if_allowed.Goals as goal
@@ -10,5 +10,5 @@ invariant_of-self c = (
   c.self.invariant.2,
   c.self.invariant.3,
   c.self.invariant.4,
-  c.note_port.ensures c.self.inside.ports.ports.ports (λ p n. ap (λ ps. port_of ps p) c.send_if_allowed-error.ensures.ports ∙ sent_elsewhere c.self.inside.ports.ports.ports c.args.q c.args.events c.args.user p n) c.self.invariant.5,
+  c.note_port.ensures c.self.inside.held c.self.inside.ports.ports.ports (λ p n. (ap (λ ps. port_of ps p) c.send_if_allowed-error.ensures.ports ∙ sent_elsewhere c.self.inside.ports.ports.ports c.args.q c.args.events c.args.user p n, refl)) c.self.invariant.5,
 )
