@@ -132,7 +132,7 @@ impl Holdings {
         self.names.len();
     }
 
-    /// No more objects are in transit than can be counted, were there some more.
+    /// So few objects are in transit that those of one more call can be counted with them.
     fn carries_few(&self)
         ensures { in_transit self.now.calls.tree.calls ≤ TRANSIT_MAX }
     {
