@@ -641,6 +641,11 @@ sizes() {
     # one byte above the limit of the whole input
     { printf 'doors script 1\ntrace\n' && head -c 403701740 /dev/zero; } | run check
     judge "check of 403701761 bytes" $? 2 "$work/size"
+    # an input that grows as long as it is read: a writer that stops only where nothing reads any more
+    for word in play run show check; do
+        yes '' 2>"$work/yes" | run $word
+        judge "$word of an input that never ends" $? 2 "$work/size"
+    done
     dd if=/dev/zero bs=1048577 count=1 2>"$work/dd" | tr '\000' 'x' >"$work/line"
     { printf 'doors script 1\ntrace\n' && cat "$work/line"; } >"$work/checked"
     { printf 'illegal line 1\nwant end complete 0\nhave ' && cat "$work/line" && echo; } >"$work/long_line"
