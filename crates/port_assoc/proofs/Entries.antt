@@ -5,17 +5,17 @@ use Rattle.std.proofs.lemmas.List.{length-map, map-append}
 use Rattle.std.proofs.lemmas.List.Sums.{sum_by-cons}
 use Rattle.std.proofs.lemmas.Map.Keys.{IsDistinct-head, IsDistinct-tail}
 use Rattle.std.specs.List.{AllByRecursion, IsDistinct, position_or_len}
-use Rattle.std.specs.Map.{keys_of, lookup, remove_entry, set_value, values_of}
+use Rattle.std.specs.Map.{keys_of, lookup, remove_entry, set_value}
 use Rattle.dk_base.specs.declared.number.Fd.{Fd}
 use Rattle.kernel_records.specs.declared.association.AssocKey.{AssocKey}
 use Rattle.kernel_records.specs.declared.association.Association.{Association}
-use Rattle.kernel_records.specs.Words.{armed_at, association_at, change_first, disarmed, has_key, has_number, is_armed_at, is_of_row, is_same_association_key}
+use Rattle.kernel_records.specs.Words.{armed_at, association_at, change_first, disarmed, has_key, is_armed_at, is_of_row, is_same_association_key}
 use Rattle.kernel_records.proofs.Places.{change_first-none}
 use Rattle.port_assoc.specs.declared.key.Key.{Key}
 use Rattle.port_assoc.specs.declared.watch.Watch.{Watch}
 use Rattle.port_assoc.specs.Keys.{association_key, key_of, same_key}
 use Rattle.port_assoc.specs.Lists.{without_first}
-use Rattle.port_assoc.specs.Table.{HaveDistinctKeys, association_in, is_armed_entry, association_of, associations_in, is_key_of_row, is_watch_of}
+use Rattle.port_assoc.specs.Table.{HaveDistinctKeys, association_in, is_armed_entry, association_of, associations_in, is_key_of_row}
 
 alike : (key : AssocKey) (k : Key) → same_key (key_of key) k ≡ is_same_association_key key (association_key k)
 alike key k = refl
@@ -58,10 +58,6 @@ first_of_keys : (process : ℕ) (fd : Fd) (es : List (Key × Watch)) → positio
 first_of_keys process fd [] = refl
 first_of_keys process fd (e ∷ es) = ap (λ n. cond (not (is_key_of_row process fd e.0)) (1 + n) 0) (first_of_keys process fd es)
 
-first_of_values : (n : ℕ) (es : List (Key × Watch)) → position_or_len (is_watch_of n) (values_of es) ≡ position_or_len (has_number n) (associations_in es)
-first_of_values n [] = refl
-first_of_values n (e ∷ es) = ap (λ k. cond (not (is_watch_of n e.1)) (1 + k) 0) (first_of_values n es)
-
 abbrev within : ℕ → ℕ → Option ℕ
 within n len = cond (nat_lt n len) (Some n) None
 
@@ -69,11 +65,6 @@ pub row_place : (process : ℕ) (fd : Fd) (es : List (Key × Watch)) → positio
 row_place process fd es =
     ap (λ n. within n (length (keys_of es))) (first_of_keys process fd es)
     ∙ ap (within (position_or_len (is_of_row process fd) (associations_in es))) (length-map es (λ e. e.0) ∙ sym (length-map es association_in))
-
-pub number_place : (n : ℕ) (es : List (Key × Watch)) → position (is_watch_of n) (values_of es) ≡ position (has_number n) (associations_in es)
-number_place n es =
-    ap (λ k. within k (length (values_of es))) (first_of_values n es)
-    ∙ ap (within (position_or_len (has_number n) (associations_in es))) (length-map es (λ e. e.1) ∙ sym (length-map es association_in))
 
 -- counted
 

@@ -5,3 +5,4 @@ pub mod Watching
 pub mod Ended
 pub mod Numbers
 pub mod EndedProcess
+pub mod Rising

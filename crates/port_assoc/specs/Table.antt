@@ -1,5 +1,5 @@
 -- Associations as a map keeps them.
-use Rattle.std.specs.Prelude.{◌≡◌, ◌==◌, ◌&&◌, ℕ, Bool, List, [], ◌∷◌, None, map, not}
+use Rattle.std.specs.Prelude.{◌≡◌, ◌==◌, ◌&&◌, ℕ, Bool, List, [], ◌∷◌, None, map, nat_lt, not}
 use Rattle.dk_base.specs.declared.number.Fd.{Fd}
 use Rattle.kernel_records.specs.declared.association.Association.{Association}
 use Rattle.kernel_records.specs.Words.{association_at}
@@ -25,8 +25,8 @@ is_key_of_row process fd k = (k.process == process) && (k.fd == fd.0)
 abbrev pub is_key_of_other_process : ℕ → Key → Bool
 is_key_of_other_process process k = not (k.process == process)
 
-abbrev pub is_watch_of : ℕ → Watch → Bool
-is_watch_of n w = w.number == n
+abbrev pub is_entry_below : ℕ → Key × Watch → Bool
+is_entry_below n e = nat_lt e.1.number n
 
 abbrev pub is_armed_entry : ℕ → Key × Watch → Bool
 is_armed_entry port e = e.1.armed && (e.0.port == port)

@@ -1,7 +1,7 @@
 //! The associations of a kernel.
 ghost use Rattle.std.specs.Prelude.{◌≡◌, ◌+◌, ◌<◌, ◌≤◌, ◌++◌, ◌^◌, None, OnErr, OnOk, IfOk, IsOk, Some, find, length, ok_or};
 ghost use Rattle.dk_base.specs.declared.limits.TheConstants.{EVENTS_MAX};
-ghost use Rattle.kernel_records.specs.Words.{IsAscending, armed_at, associate, association_at, association_number, associations_of_process, associations_of_row, dissociate, end_process_associations, end_row, fire_first, fired_of, first_fired, has_key, has_number, is_fired_by, is_of_row, no_associations, number_in, numbers_of, ports_of, retrieve_association};
+ghost use Rattle.kernel_records.specs.Words.{IsAscending, armed_at, associate, association_at, association_number, associations_of_process, associations_of_row, dissociate, end_process_associations, end_row, fire_first, fired_of, first_fired, has_key, is_fired_by, is_of_row, no_associations, number_in, numbers_of, ports_of, retrieve_association};
 ghost use Rattle.port_assoc.specs.Lists.{without_first};
 ghost use Rattle.port_assoc.specs.Table.{HaveDistinctKeys};
 ghost use Rattle.port_assoc.specs.Words.{HasRoomFor, IsAlone, KeepsRoom};
@@ -214,18 +214,6 @@ impl Assocs {
         Some(a)
     }
 
-    /// The first of a number ends, if there is one, and is told.
-    fn end_first_numbered(&mut self, n: u32) -> Option<Association>
-        ensures ended { result ≡ find (has_number n) self.old.list.associations }
-        ensures made { self.new.list.made ≡ self.old.list.made }
-        ensures left { self.new.list.associations ≡ without_first (has_number n) self.old.list.associations }
-        ensures room { KeepsRoom self.old self.new }
-    {
-        let a = self.table.first_numbered(n)?;
-        self.end_found(a);
-        Some(a)
-    }
-
     /// A descriptor of a process is closed: all that watch by it end. Their ports and their numbers follow, in order, what is in the
     /// lists.
     pub fn drop_fd(&mut self, process: Pid, fd: Fd, ports: &mut Room<u32>, ids: &mut Room<u32>)
@@ -261,7 +249,9 @@ impl Assocs {
         ensures list { self.new.list ≡ retrieve_association self.old.list id }
         ensures room { KeepsRoom self.old self.new }
     {
-        while let Some(_a) = self.end_first_numbered(id) {}
+        if let Some(a) = self.table.numbered(id) {
+            self.end_found(a);
+        }
     }
 
     /// The number of the first armed one that watches an object and is told something, where the object is ready for these. No other

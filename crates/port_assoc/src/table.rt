@@ -1,9 +1,10 @@
 //! Associations by their keys, in order.
-ghost use Rattle.std.specs.Prelude.{◌≡◌, ◌+◌, ◌<◌, ◌≤◌, ◌++◌, ◌^◌, [], ◌∷◌, None, IsOk, OnOk, count_by, filter, find, length, position, slice_get};
-ghost use Rattle.kernel_records.specs.Words.{armed_at, association_at, change_first, disarmed, has_key, has_number, is_of_other_process, is_of_row};
+ghost use Rattle.std.specs.Prelude.{◌≡◌, ◌+◌, ◌<◌, ◌≤◌, ◌++◌, ◌^◌, ℕ, [], ◌∷◌, None, IsOk, OnOk, count_by, false, filter, find, length, position, slice_get, true};
+ghost use Rattle.std.specs.List.Sorted.{IsPartitionPoint, IsPartitionedBy};
+ghost use Rattle.kernel_records.specs.Words.{IsAscending, armed_at, association_at, association_number, change_first, disarmed, has_key, has_number, is_of_other_process, is_of_row};
 ghost use Rattle.port_assoc.specs.Lists.{without_first};
-ghost use Rattle.indexmap.specs.IndexMap.{keys, values};
-ghost use Rattle.port_assoc.specs.Table.{HaveDistinctKeys, is_armed_entry, is_key_of_other_process, is_key_of_row, is_watch_of};
+ghost use Rattle.indexmap.specs.IndexMap.{keys};
+ghost use Rattle.port_assoc.specs.Table.{HaveDistinctKeys, is_armed_entry, is_entry_below, is_key_of_other_process, is_key_of_row};
 
 use crate::key::{Key, key_of};
 use crate::watch::{Watch, association_of};
@@ -44,11 +45,12 @@ fn place_of_row(entries: &IndexMap<Key, Watch>, process: Pid, fd: Fd) -> Option<
         .position(|key| key.process == process.0 && key.fd == fd.0)
 }
 
-/// The place of the first that is of a number.
-fn place_of_number(entries: &IndexMap<Key, Watch>, n: u32) -> Option<usize>
-    ensures { result ≡ position (is_watch_of n) (values entries.now) }
+/// How many entries have smaller numbers. They stand first.
+fn count_below(entries: &IndexMap<Key, Watch>, n: u32) -> usize
+    requires { IsPartitionedBy (is_entry_below n) entries.now.entries }
+    ensures { IsPartitionPoint (λ e. is_entry_below n e ≡ true) (λ e. is_entry_below n e ≡ false) entries.now.entries result }
 {
-    entries.values().position(|watch| watch.number == n)
+    entries.partition_point(|_key, watch| watch.number < n)
 }
 
 /// How many armed entries there are of a port.
@@ -126,14 +128,16 @@ impl Table {
         self.at(place)
     }
 
-    /// The first of a number.
-    #[tactic(auto, using(crate::proofs::Entries::distinct_keys, crate::proofs::Entries::number_place, crate::proofs::Lists::find_place, kernel_records::proofs::Places::find_nowhere))]
-    pub fn first_numbered(&self, n: u32) -> Option<Association>
+    /// The association of a number, where they stand in order of number. It is looked for by halves.
+    #[tactic(auto, using(crate::proofs::Entries::distinct_keys))]
+    pub fn numbered(&self, n: u32) -> Option<Association>
+        requires { (made : ℕ) × IsAscending association_number 0 made self.now.items }
         ensures found { result ≡ find (has_number n) self.now.items }
         ensures distinct { HaveDistinctKeys self.now.items }
     {
-        let place = place_of_number(&self.entries, n)?;
-        self.at(place)
+        let place = count_below(&self.entries, n);
+        let a = self.at(place)?;
+        if a.number == n { Some(a) } else { None }
     }
 
     /// How many associations of a port are armed.

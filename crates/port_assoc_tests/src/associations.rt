@@ -173,6 +173,24 @@ fn ends(alloc: Global) -> bool {
         && fires(&mut assocs, Obj::PipeIn(1), IN, Some((1, 4, 3, IN)))
 }
 
+/// The event of one in the middle of the list is retrieved: it alone ends, and once.
+fn is_retrieved(alloc: Global) -> bool {
+    let Some(mut assocs) = watched(alloc) else {
+        return false;
+    };
+    assocs.retrieved(3);
+    assocs.retrieved(3);
+    assocs.retrieved(5);
+    assocs.number_at(key(1, 1, 4)).is_none()
+        && assocs.number_at(key(1, 1, 3)) == Some(1)
+        && assocs.number_at(key(2, 1, 3)) == Some(2)
+        && assocs.number_at(key(1, 2, 3)) == Some(4)
+        && assocs.len() == 3
+        && fires(&mut assocs, Obj::PipeOut(1), OUT, None)
+        && associates(alloc, &mut assocs, key(1, 1, 4), Obj::PipeOut(1), OUT, None)
+        && assocs.number_at(key(1, 1, 4)) == Some(5)
+}
+
 /// A descriptor is closed: all that watch by it end, whether they have fired or not.
 fn closes(alloc: Global) -> bool {
     let Some(mut assocs) = watched(alloc) else {
@@ -229,6 +247,7 @@ fn associations_fire_in_order(rt: HostRuntime) {
 fn associations_end(rt: HostRuntime) {
     assert!(rt; replaces(rt.alloc()));
     assert!(rt; ends(rt.alloc()));
+    assert!(rt; is_retrieved(rt.alloc()));
     assert!(rt; closes(rt.alloc()));
     assert!(rt; ends_with_process(rt.alloc()));
 }
