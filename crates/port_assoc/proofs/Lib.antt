@@ -6,3 +6,4 @@ pub mod Ended
 pub mod Numbers
 pub mod EndedProcess
 pub mod Rising
+pub mod Counted

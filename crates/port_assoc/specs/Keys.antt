@@ -1,14 +1,17 @@
 -- What maps find associations and objects by.
-use Rattle.std.specs.Prelude.{Bool}
+use Rattle.std.specs.Prelude.{ℕ, Bool}
+use Rattle.dk_base.specs.declared.number.Fd.{Fd}
 use Rattle.dk_base.specs.declared.object.Obj.{Obj}
 use Rattle.dk_base.specs.declared.object.Obj.TheVariants as obj
 use Rattle.kernel_records.specs.declared.association.AssocKey.{AssocKey}
 use Rattle.kernel_records.specs.Words.{descriptor, pid}
 use Rattle.port_assoc.specs.declared.key.Key.{Key}
 use Rattle.port_assoc.specs.declared.key.ObjectKey.{ObjectKey}
+use Rattle.port_assoc.specs.declared.key.Row.{Row}
 use Rattle.port_assoc.specs.declared.key.ObjectKey.TheVariants as object
 use Rattle.port_assoc.specs.contracts.key.KeyPartialEq.TheImpl as key_eq
 use Rattle.port_assoc.specs.contracts.key.ObjectKeyPartialEq.TheImpl as object_key_eq
+use Rattle.port_assoc.specs.contracts.key.RowPartialEq.TheImpl as row_eq
 
 abbrev pub key_of : AssocKey → Key
 key_of k = record { port = k.port; process = k.process.0; fd = k.fd.0 }
@@ -18,6 +21,12 @@ association_key k = record { port = k.port; process = pid k.process; fd = descri
 
 abbrev pub same_key : Key → Key → Bool
 same_key = (key_eq.ghosts).eq
+
+abbrev pub row_at : ℕ → Fd → Row
+row_at process fd = record { process = process; fd = fd.0 }
+
+abbrev pub same_row : Row → Row → Bool
+same_row = (row_eq.ghosts).eq
 
 abbrev pub object_key : Obj → ObjectKey
 object_key (obj.Door d) = object.Door d

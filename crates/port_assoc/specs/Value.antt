@@ -1,10 +1,12 @@
 -- The associations of a kernel, with the room for more.
-use Rattle.std.specs.Prelude.{◌≡◌, ℕ, ◌<◌, ◌≤◌, List, [], filter}
+use Rattle.std.specs.Prelude.{◌≡◌, ℕ, ◌<◌, ◌≤◌, List, [], filter, length}
 use Rattle.std.specs.List.{cons_option}
 use Rattle.dk_base.specs.declared.object.Obj.{Obj}
 use Rattle.kernel_records.specs.declared.association.AssocKey.{AssocKey}
 use Rattle.kernel_records.specs.declared.association.Association.{Association}
 use Rattle.kernel_records.specs.Words.{AssociationList, association_at, has_key, is_watcher}
+use Rattle.port_assoc.specs.declared.key.Row.{Row}
+use Rattle.port_assoc.specs.Rows.{RowCounts, count_at, is_in_row}
 use Rattle.port_assoc.specs.Watchers.{WatchLists, room_at, watchers_of}
 
 -- how many were made, with those that have not ended; how many more take no memory; and the armed ones of each object
@@ -28,3 +30,7 @@ IsAlone list key = filter (has_key key) list.associations ≡ cons_option (assoc
 -- the list of each object has the armed ones that watch it, in order
 abbrev pub IsWatched : List Association → WatchLists → Type 0
 IsWatched xs lists = (o : Obj) → watchers_of lists o ≡ filter (is_watcher o) xs
+
+-- each descriptor of a process is counted as often as associations watch by it
+abbrev pub AreCounted : List Association → RowCounts → Type 0
+AreCounted xs counts = (r : Row) → count_at counts r ≡ length (filter (is_in_row r) xs)

@@ -6,7 +6,9 @@ ghost use Rattle.port_assoc.specs.Lists.{without_first};
 ghost use Rattle.port_assoc.specs.Table.{HaveDistinctKeys};
 ghost use Rattle.port_assoc.specs.Words.{HasRoomFor, IsAlone, KeepsRoom};
 
+use crate::key::row_at;
 use crate::process_end::end_watches;
+use crate::rows::Rows;
 use crate::table::Table;
 use crate::watch_list::told_events;
 use crate::watchers::Watchers;
@@ -27,17 +29,19 @@ pub struct Assocs {
     made: u32,
     table: Table,
     watchers: Watchers,
+    rows: Rows,
 }
 
 impl Model for Assocs {
+    ghost use Rattle.std.specs.Prelude.{min};
     ghost use Rattle.kernel_records.specs.Words.{IsAscending, association_number};
-    ghost use Rattle.port_assoc.specs.Value.{AssocsValue, IsWatched};
+    ghost use Rattle.port_assoc.specs.Value.{AreCounted, AssocsValue, IsWatched};
 
     ghost Value = { AssocsValue };
 
-    ghost view = { λ s. record { list = record { made = s.made; associations = s.table.items }; spare = s.table.spare; lists = s.watchers } };
+    ghost view = { λ s. record { list = record { made = s.made; associations = s.table.items }; spare = min s.table.spare s.rows.spare; lists = s.watchers } };
 
-    ghost invariant = { λ s. IsWatched s.table.items s.watchers × IsAscending association_number 0 s.made s.table.items };
+    ghost invariant = { λ s. IsWatched s.table.items s.watchers × IsAscending association_number 0 s.made s.table.items × AreCounted s.table.items s.rows.counts };
 }
 
 /// What an association queues where its object is ready for these.
@@ -67,6 +71,7 @@ impl Assocs {
             made: 0,
             table: Table::new(alloc),
             watchers: Watchers::new(alloc),
+            rows: Rows::new(alloc),
         }
     }
 
@@ -109,6 +114,7 @@ impl Assocs {
         ensures succeeds { HasRoomFor self.old object → IsOk result }
     {
         self.table.reserve()?;
+        self.rows.reserve()?;
         self.watchers.reserve(object, alloc)
     }
 
@@ -123,6 +129,7 @@ impl Assocs {
     {
         self.table.remove(a.key);
         self.watchers.end(a);
+        self.rows.down(row_at(a.key.process, a.key.fd));
     }
 
     /// The association of a key ends, if there is one, and is told.
@@ -165,6 +172,7 @@ impl Assocs {
         };
         self.table.push(a);
         self.watchers.push(a);
+        self.rows.up(row_at(key.process, key.fd));
         let ended = replaced?;
         Some(ended.number)
     }
@@ -202,13 +210,17 @@ impl Assocs {
         }
     }
 
-    /// The first that watches by this descriptor of a process ends, if there is one, and is told.
+    /// The first that watches by this descriptor of a process ends, if there is one, and is told. Where there is none, no association
+    /// is looked at.
     pub fn end_first_of_row(&mut self, process: Pid, fd: Fd) -> Option<Association>
         ensures ended { result ≡ find (is_of_row process.0 fd) self.old.list.associations }
         ensures made { self.new.list.made ≡ self.old.list.made }
         ensures left { self.new.list.associations ≡ without_first (is_of_row process.0 fd) self.old.list.associations }
         ensures room { KeepsRoom self.old self.new }
     {
+        if self.rows.count(row_at(process, fd)) == 0 {
+            return None;
+        }
         let a = self.table.first_of_row(process, fd)?;
         self.end_found(a);
         Some(a)
@@ -242,6 +254,7 @@ impl Assocs {
     {
         end_watches(&self.table, &mut self.watchers, process, ports, ids);
         self.table.end_process(process);
+        self.rows.end_process(process);
     }
 
     /// The event of an association was retrieved: it ends.

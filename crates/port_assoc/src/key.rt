@@ -1,6 +1,6 @@
 //! What maps find associations and objects by.
 ghost use Rattle.std.specs.Prelude.{◌≡◌};
-ghost use Rattle.port_assoc.specs.Keys.{association_key, key_of, object_key};
+ghost use Rattle.port_assoc.specs.Keys.{association_key, key_of, object_key, row_at};
 
 use dk_base::number::{Fd, Pid};
 use dk_base::object::Obj;
@@ -31,6 +31,22 @@ pub fn association_key(key: Key) -> AssocKey
         port: key.port,
         process: Pid(key.process),
         fd: Fd(key.fd),
+    }
+}
+
+/// A descriptor of a process, by which its associations are counted.
+#[derive(Clone, Copy, PartialEq, Eq, Hash, Drop)]
+pub struct Row {
+    pub process: u32,
+    pub fd: u32,
+}
+
+pub fn row_at(process: Pid, fd: Fd) -> Row
+    ensures { result ≡ row_at process.0 fd }
+{
+    Row {
+        process: process.0,
+        fd: fd.0,
     }
 }
 

@@ -4,6 +4,7 @@
 pub mod assocs;
 mod key;
 mod process_end;
+mod rows;
 mod table;
 mod watch;
 mod watch_list;

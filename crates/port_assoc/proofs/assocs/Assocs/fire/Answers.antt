@@ -1,6 +1,7 @@
 use Rattle.std.proofs.Common.{Some, ap, option_map, sym, ◌∙◌}
 use Rattle.kernel_records.specs.Words.{disarmed, fired_of, is_fired_by}
 use Rattle.kernel_records.proofs.Places.{change_first-none}
+use Rattle.port_assoc.proofs.Counted.{fired_counted}
 use Rattle.port_assoc.proofs.Numbers.{numbers_fired}
 use Rattle.port_assoc.proofs.Watching.{disarmed_first, first_watched, watched_fired, watched_still}
 use Rattle.port_assoc.proofs.assocs.Assocs.fire.Goals as goal
@@ -9,6 +10,7 @@ pub invariant_of-self : goal.invariant_of-self
 invariant_of-self c = (
   watched_still c.self.inside.table.items c.self.inside.watchers c.take_told.new.self c.args.object c.args.ready c.self.invariant.0 c.take_told.ensures.watchers (sym c.in_err-a.ensures.result),
   c.self.invariant.1,
+  c.self.invariant.2,
 )
 
 pub returns-in_err-a-clause-fired : goal.returns-in_err-a-clause-fired
@@ -31,6 +33,7 @@ invariant_of-self-2 c =
     rw (c.disarm.ensures.items ∙ first) (
       watched_fired xs old new c.args.object c.args.ready c.self.invariant.0 c.take_told.ensures.watchers,
       numbers_fired (is_fired_by c.args.object c.args.ready) xs c.self.inside.made c.self.invariant.1,
+      fired_counted (is_fired_by c.args.object c.args.ready) xs c.self.inside.rows.counts c.self.invariant.2,
     )
 
 pub returns-clause-fired : goal.returns-clause-fired
