@@ -191,27 +191,51 @@ fn is_retrieved(alloc: Global) -> bool {
         && assocs.number_at(key(1, 1, 4)) == Some(5)
 }
 
+/// Whether what ends as a descriptor is closed is of these ports and numbers, in order.
+fn drops(
+    alloc: Global,
+    assocs: &mut Assocs,
+    process: u32,
+    fd: u32,
+    ports: &[u32],
+    numbers: &[u32],
+) -> bool {
+    let count = assocs.len();
+    let (Ok(mut told), Ok(mut ids)) = (Room::with_room(alloc, count), Room::with_room(alloc, count))
+    else {
+        return false;
+    };
+    assocs.drop_fd(Pid(process), Fd(fd), &mut told, &mut ids);
+    told.slice() == ports && ids.slice() == numbers
+}
+
 /// A descriptor is closed: all that watch by it end, whether they have fired or not.
 fn closes(alloc: Global) -> bool {
     let Some(mut assocs) = watched(alloc) else {
         return false;
     };
-    if !fires(&mut assocs, Obj::PipeIn(1), IN, Some((1, 1, 3, IN))) {
-        return false;
-    }
-    let count = assocs.len();
-    let (Ok(mut ports), Ok(mut ids)) = (
-        Room::with_room(alloc, count),
-        Room::with_room(alloc, count),
-    ) else {
-        return false;
-    };
-    assocs.drop_fd(Pid(1), Fd(3), &mut ports, &mut ids);
-    ports.slice() == [1, 2].as_slice()
-        && ids.slice() == [1, 2].as_slice()
+    fires(&mut assocs, Obj::PipeIn(1), IN, Some((1, 1, 3, IN)))
+        && drops(alloc, &mut assocs, 1, 3, &[1, 2], &[1, 2])
         && assocs.len() == 2
         && fires(&mut assocs, Obj::PipeIn(1), IN, Some((1, 4, 3, IN)))
         && fires(&mut assocs, Obj::PipeIn(1), IN, None)
+}
+
+/// Descriptors are closed that have no associations, or none any more, beside others: nothing ends, and nothing is told. One that is
+/// associated again, and whose association is replaced, has one.
+fn closes_again(alloc: Global) -> bool {
+    let Some(mut assocs) = watched(alloc) else {
+        return false;
+    };
+    let row = key(3, 1, 4);
+    drops(alloc, &mut assocs, 1, 5, &[], &[])
+        && drops(alloc, &mut assocs, 1, 4, &[1], &[3])
+        && drops(alloc, &mut assocs, 1, 4, &[], &[])
+        && associates(alloc, &mut assocs, row, Obj::PipeIn(1), IN, None)
+        && associates(alloc, &mut assocs, row, Obj::PipeOut(1), OUT, Some(5))
+        && drops(alloc, &mut assocs, 1, 4, &[3], &[6])
+        && drops(alloc, &mut assocs, 1, 4, &[], &[])
+        && assocs.len() == 3
 }
 
 /// A process ends: all its own end, whether they have fired or not; another's is left.
@@ -249,5 +273,6 @@ fn associations_end(rt: HostRuntime) {
     assert!(rt; ends(rt.alloc()));
     assert!(rt; is_retrieved(rt.alloc()));
     assert!(rt; closes(rt.alloc()));
+    assert!(rt; closes_again(rt.alloc()));
     assert!(rt; ends_with_process(rt.alloc()));
 }
