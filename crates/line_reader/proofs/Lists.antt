@@ -1,11 +1,12 @@
 -- The lists of operands, one item after another.
 use Rattle.std.proofs.Common.{◌≡◌, ℕ, ◌<◌, Bool, true, false, cond, List, [], ◌∷◌, length, Some, Result, Ok, Err, refl, ap, sym, ◌∙◌, arith}
 use Rattle.std.proofs.lemmas.Bool.{false≢true}
+use Rattle.script_line.specs.Words.{Tables}
 use Rattle.line_reader.specs.Types.{Piece, Reason}
 use Rattle.line_reader.specs.Combinators.{Rest, Reader, pure, value_with_rest, misspelling, then_read, items_to, ◌>>=◌}
-use Rattle.line_reader.specs.Operands.{is_rsize, is_no_stop, pass_from_word, fd_from_word, piece_from_word, is_plus, more_pieces}
+use Rattle.line_reader.specs.Operands.{is_rsize, is_no_stop, pass_from_word, fd_from_word, piece_from_word, is_plus, more_pieces, thread_from_word}
 use Rattle.line_reader.specs.ListContracts.{next_item, next_piece, piece_after}
-use Rattle.line_reader.proofs.SkippedWords.{at_words, moved, skips-pass_from_word, skips-fd_from_word, skips-piece_from_word}
+use Rattle.line_reader.proofs.SkippedWords.{at_words, moved, skips-pass_from_word, skips-fd_from_word, skips-piece_from_word, skips-thread_from_word}
 use Rattle.line_reader.proofs.ItemByItem.{IsByItem, items_by_item, onto, then_all, first_then, first_then-onto, first_at_words, if_at, is_taken, words_left}
 
 pub passes_by_item : IsByItem (items_to is_rsize pass_from_word) (next_item is_rsize pass_from_word)
@@ -13,6 +14,9 @@ passes_by_item = items_by_item is_rsize pass_from_word skips-pass_from_word
 
 pub ports_by_item : IsByItem (items_to is_no_stop fd_from_word) (next_item is_no_stop fd_from_word)
 ports_by_item = items_by_item is_no_stop fd_from_word skips-fd_from_word
+
+pub threads_by_item : (tables : Tables) → IsByItem (items_to is_no_stop (thread_from_word tables)) (next_item is_no_stop (thread_from_word tables))
+threads_by_item tables = items_by_item is_no_stop (thread_from_word tables) (skips-thread_from_word tables)
 
 -- data
 

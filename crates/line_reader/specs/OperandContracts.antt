@@ -16,6 +16,10 @@ Gives read old value new = read old ≡ Ok (value, new)
 abbrev pub Reads : {A : Type 0} → Reader A → Rest → Result A Fault → Rest → Type 0
 Reads read old result new = MatchResult result (λ value. Gives read old value new) (λ fault. Fails (read old) fault)
 
+-- a call gave what this reader gives, with what it leaves; after a fault nothing is left to read
+abbrev pub ReadsOn : {A : Type 0} → Reader A → Rest → Result (A × Rest) Fault → Type 0
+ReadsOn read old result = MatchResult result (λ found. read old ≡ Ok found) (λ fault. Fails (read old) fault)
+
 abbrev pub first_word : List (List ℕ) → Option (List ℕ)
 first_word [] = None
 first_word (word ∷ words) = Some word

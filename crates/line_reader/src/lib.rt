@@ -2,14 +2,15 @@
 //! are exactly these definitions.
 #![tactic(auto)]
 
-pub mod choices;
-pub mod data;
-pub mod descriptors;
+mod choices;
+mod data;
+mod descriptors;
 pub mod fault;
-pub mod named;
-pub mod operands;
-pub mod read_create_to_info;
-pub mod read_getn_to_end;
-pub mod read_getparam_to_detach;
-pub mod read_line;
-pub mod read_open_to_get;
+pub mod line_rest;
+mod named;
+mod operands;
+mod read_create_to_info;
+mod read_getn_to_end;
+mod read_getparam_to_detach;
+mod read_line;
+mod read_open_to_get;

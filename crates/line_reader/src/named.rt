@@ -2,11 +2,14 @@
 
 ghost use Rattle.std.specs.Prelude.{◌≡◌};
 ghost use Rattle.line_reader.specs.Operands.{name as name_read, procedure as procedure_read, thread_from_word as thread_from_word_read, thread as thread_read, process as process_read, path as path_read};
+ghost use Rattle.line_reader.specs.Combinators.{items_to};
+ghost use Rattle.line_reader.specs.Operands.{is_no_stop};
+ghost use Rattle.line_reader.specs.ListContracts.{next_item};
 ghost use Rattle.line_reader.specs.OperandContracts.{Reads};
 
 use crate::fault::Fault;
 use crate::operands::Operands;
-use dk_base::list::{Bytes, Sequence};
+use dk_base::list::{Bytes, Sequence, TidList};
 use dk_base::number::{PathId, Pid, Tid};
 use script_line::tables::Tables;
 use std::alloc::Global;
@@ -42,6 +45,26 @@ impl<'a> Operands<'a> {
     {
         let word = self.next_word()?;
         self.thread_from_word(tables, word)
+    }
+
+    fn next_thread(&mut self, tables: &Tables) -> Result<Option<Tid>, Fault>
+        ensures { Reads (next_item is_no_stop (thread_from_word_read tables.now)) self.old result self.new }
+    {
+        if self.peek().is_none() {
+            return Ok(None);
+        }
+        Ok(Some(self.thread(tables)?))
+    }
+
+    /// THREAD .. to the line's end.
+    pub fn threads(&mut self, alloc: Global, tables: &Tables) -> Result<TidList, Fault>
+        ensures { Reads (items_to is_no_stop (thread_from_word_read tables.now)) self.old result self.new }
+    {
+        let mut threads = Sequence::new(alloc);
+        while let Some(thread) = self.next_thread(tables)? {
+            threads.push(thread)?;
+        }
+        Ok(threads)
     }
 
     /// PROCESS.

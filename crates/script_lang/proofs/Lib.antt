@@ -6,7 +6,6 @@ pub mod OfPlace
 pub mod ReaderSteps
 pub mod NamesSteps
 pub mod ReaderEnd
-pub mod Turns
 pub mod ReadingBegins
 pub mod FirstUses
 pub mod PathNumbers

@@ -1,7 +1,7 @@
 ghost use Rattle.std.specs.Prelude.{◌≡◌, ◌≤◌, length, Ok, Err, MatchResult, MatchOption, IfOk};
 ghost use Rattle.std.specs.List.{list_all};
 ghost use Rattle.script_text.specs.Words.{is_printable as is_printable_byte};
-ghost use Rattle.line_reader.specs.Words.{Fails, Reads};
+ghost use Rattle.line_reader.specs.Words.{Fails, ReadsOn};
 ghost use Rattle.script_lang.specs.Dispatch.{item_reader};
 ghost use Rattle.script_lang.specs.Items.{item_in_body as item_in_body_read, item_in_context};
 ghost use Rattle.script_lang.specs.Parsing.{is_printable_line as is_line_printable, is_skipped as is_line_skipped, line_spelling};
@@ -10,7 +10,7 @@ use crate::context::Context;
 use crate::item::{ScriptLine, ScriptLineRead, ScriptPlace};
 use crate::items::{item_at_start, item_in_members, item_in_processes, item_in_schedule};
 use line_reader::fault::Fault;
-use line_reader::operands::Operands;
+use line_reader::line_rest::LineRest;
 use script_line::keyword_words::keyword_of;
 use script_line::reason::Reason;
 use script_line::tables::Tables;
@@ -46,36 +46,36 @@ pub struct LineReader {
 }
 
 impl LineReader {
-    fn item_in_body(
+    fn item_in_body<'a>(
         &self,
         process: u32,
         word: &[u8],
-        operands: &mut Operands,
-    ) -> Result<ScriptLine, Fault>
-        ensures { Reads (item_reader (item_in_body_read self.now.version self.now.tables process word.now)) operands.old result operands.new }
+        rest: LineRest<'a>,
+    ) -> Result<(ScriptLine, LineRest<'a>), Fault>
+        ensures { ReadsOn (item_reader (item_in_body_read self.now.version self.now.tables process word.now)) rest.entry result }
     {
         let Some(keyword) = keyword_of(self.version, word) else {
             return Err(Fault::Bad(Reason::Word));
         };
-        let line = operands.line(self.alloc, &self.tables, process, keyword)?;
-        Ok(ScriptLine::Do { line })
+        let (line, rest) = rest.line(self.alloc, &self.tables, process, keyword)?;
+        Ok((ScriptLine::Do { line }, rest))
     }
 
     /// The item that begins with this word, after these lines.
-    fn item(
+    fn item<'a>(
         &self,
         context: &Context,
         word: &[u8],
-        operands: &mut Operands,
-    ) -> Result<ScriptLine, Fault>
-        ensures { Reads (item_reader (item_in_context self.now.version self.now.tables context.now word.now)) operands.old result operands.new }
+        rest: LineRest<'a>,
+    ) -> Result<(ScriptLine, LineRest<'a>), Fault>
+        ensures { ReadsOn (item_reader (item_in_context self.now.version self.now.tables context.now word.now)) rest.entry result }
     {
         match context.place() {
-            ScriptPlace::Start => item_at_start(self.alloc, &self.tables, word, operands),
-            ScriptPlace::Processes => item_in_processes(self.alloc, &self.tables, word, operands),
-            ScriptPlace::Members => item_in_members(self.alloc, &self.tables, word, operands),
-            ScriptPlace::Body => self.item_in_body(context.process(), word, operands),
-            ScriptPlace::Schedule => item_in_schedule(self.alloc, &self.tables, word, operands),
+            ScriptPlace::Start => item_at_start(self.alloc, &self.tables, word, rest),
+            ScriptPlace::Processes => item_in_processes(self.alloc, &self.tables, word, rest),
+            ScriptPlace::Members => item_in_members(self.alloc, &self.tables, word, rest),
+            ScriptPlace::Body => self.item_in_body(context.process(), word, rest),
+            ScriptPlace::Schedule => item_in_schedule(self.alloc, &self.tables, word, rest),
         }
     }
 
@@ -93,9 +93,8 @@ impl LineReader {
         let Some((word, rest)) = next_word(line) else {
             return Ok(None);
         };
-        let mut operands = Operands::new(rest);
-        let item = self.item(context, word, &mut operands)?;
-        let known = operands.is_known();
+        let (item, rest) = self.item(context, word, LineRest::new(rest))?;
+        let known = rest.is_known();
         Ok(Some(ScriptLineRead { item, known }))
     }
 }
