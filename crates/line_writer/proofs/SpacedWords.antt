@@ -91,7 +91,5 @@ parted tables (Repeat times) = refl
 parted tables (If what) = refl
 parted tables End = refl
 
-pub line_put : (text : List ℕ) (tables : Tables) (line : Line) → (text ++ keyword_word (keyword_of_line line)) ++ spaced_words (operand_words tables line) ≡ text ++ joined_words (line_words tables line)
-line_put text tables line =
-    append_assoc text (keyword_word (keyword_of_line line)) (spaced_words (operand_words tables line)) ∙
-    ap (λ rest. text ++ rest) (sym (joined_first (keyword_word (keyword_of_line line)) (operand_words tables line)) ∙ ap joined_words (sym (parted tables line)))
+pub line_made : (tables : Tables) (line : Line) → keyword_word (keyword_of_line line) ++ spaced_words (operand_words tables line) ≡ joined_words (line_words tables line)
+line_made tables line = sym (joined_first (keyword_word (keyword_of_line line)) (operand_words tables line)) ∙ ap joined_words (sym (parted tables line))

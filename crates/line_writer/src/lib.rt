@@ -3,4 +3,4 @@
 
 pub mod put_line;
 mod put_lines;
-pub mod put_operands;
+mod put_operands;

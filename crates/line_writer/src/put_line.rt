@@ -1,11 +1,12 @@
 //! A line as text.
 
-ghost use Rattle.std.specs.Prelude.{◌≡◌, ◌++◌, OnOk};
+ghost use Rattle.std.specs.Prelude.{◌≡◌, ◌++◌, IfOk, OnOk, OnErr};
 ghost use Rattle.script_text.specs.Words.{joined_words};
 ghost use Rattle.script_line.specs.Words.{keyword_of_line as keyword_that_begins, line_words};
 
 use crate::put_lines::put_line_operands;
 use dk_base::error::NoMemory;
+use dk_base::list::Bytes;
 use script_line::keyword::Keyword;
 use script_line::keyword_words::word_of;
 use script_line::line::Line;
@@ -58,17 +59,27 @@ pub fn keyword_of_line(line: &Line) -> Keyword
     }
 }
 
-/// Puts the canonical words of a line, with a space between each two, after a text. Want of memory may leave some of
-/// them there.
-#[tactic(auto, using(crate::proofs::SpacedWords::line_put))]
+/// The canonical words of a line, with a space between each two.
+#[tactic(auto, using(crate::proofs::SpacedWords::line_made))]
+fn line_text(alloc: Global, tables: &Tables, line: &Line) -> Result<Bytes, NoMemory>
+    ensures { IfOk result (λ text. text ≡ joined_words (line_words tables.now line.now)) }
+{
+    let mut text = Writer::new(alloc)?;
+    text.first(word_of(keyword_of_line(line)).as_bytes())?;
+    put_line_operands(alloc, tables, &mut text, line)?;
+    Ok(text.into_bytes())
+}
+
+/// Puts the canonical words of a line, with a space between each two, after a text. Want of memory leaves it as it was.
 pub fn put_line(
     alloc: Global,
     tables: &Tables,
     text: &mut Writer,
     line: &Line,
 ) -> Result<(), NoMemory>
-    ensures { OnOk result (text.new ≡ text.old ++ joined_words (line_words tables.now line.now)) }
+    ensures ok { OnOk result (text.new ≡ text.old ++ joined_words (line_words tables.now line.now)) }
+    ensures err { OnErr result (text.new ≡ text.old) }
 {
-    text.first(word_of(keyword_of_line(line)).as_bytes())?;
-    put_line_operands(alloc, tables, text, line)
+    let words = line_text(alloc, tables, line)?;
+    text.bytes(words.slice())
 }
