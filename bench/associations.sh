@@ -1,9 +1,9 @@
 #!/bin/sh
 # Nanoseconds per event of `doors play` of events that touch one pipe, beside no other association and beside 1,000 of other pipes, which wait at ten
-# ports of ten processes and never fire: writes and reads, and writes of which a port is told, each with its `associate`, its `get` and its `read`; and of
-# associations that are made and dissociated. Each is the time that so many such events more take, so neither the program's start nor what was made
-# before is in it; the runs take turns, and the least time of each counts. Run by hand on a machine that does nothing else, after `rt run` built the
-# program in crates/doors; wants GNU date.
+# ports of ten processes and never fire: writes and reads, and writes of which a port is told, each with its `associate`, its `get` and its `read`; of
+# associations that are made and dissociated; and of descriptors that are made and closed. Each is the time that so many such events more take, so neither
+# the program's start nor what was made before is in it; the runs take turns, and the least time of each counts. Run by hand on a machine that does nothing
+# else, after `rt run` built the program in crates/doors; wants GNU date.
 #
 # usage: bench/associations.sh [PROGRAM] [RUNS]
 set -eu
@@ -34,6 +34,12 @@ writes() {
 told_writes() {
     others "$1"
     printf '%s\n' "repeat $2" 'associate $q $r in 1' 'write $w "a"' 'get $q' 'read x $r 1' end end
+}
+
+# So many descriptors are made and closed, by which nothing watches.
+closed() {
+    others "$1"
+    printf '%s\n' "repeat $2" 'dup e $r' 'close $e' end end
 }
 
 # So many associations are made and dissociated.
@@ -73,3 +79,4 @@ echo 'work nanoseconds/event-beside-none nanoseconds/event-beside-1000 quotient'
 measure writes-and-reads writes 10000 2
 measure writes-that-a-port-is-told told_writes 10000 4
 measure associations-made-and-dissociated dissociated 10000 2
+measure descriptors-made-and-closed closed 10000 2
