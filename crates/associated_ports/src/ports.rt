@@ -27,10 +27,19 @@ use std::marker::Model;
 
 /// The ports of a kernel, and the associations of objects with them. At every moment each port has room for one event more of each
 /// association of it that is armed, so what fires is queued without memory.
-#[derive(Drop)]
 pub struct AssociatedPorts {
     ports: Ports,
     assocs: Assocs,
+}
+
+/// By hand, so that dropping these ports is one call for its holder, who would otherwise drop each of its parts.
+impl Drop for AssociatedPorts {
+    fn drop(self) {
+        let AssociatedPorts {
+            ports: _,
+            assocs: _,
+        } = self;
+    }
 }
 
 impl Model for AssociatedPorts {

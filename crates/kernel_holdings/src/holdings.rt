@@ -7,7 +7,6 @@ ghost use Rattle.dk_base.specs.declared.object.Obj.{Obj};
 ghost use Rattle.dk_base.specs.declared.object.Obj.TheVariants as obj;
 ghost use Rattle.kernel_records.specs.declared.record.Call.{Call};
 ghost use Rattle.kernel_records.specs.Words.{AreNumbered, close_row, close_table, collect_call, count_object, descriptor, door_attached, empty_table, enter_call, fail_call, free_place, free_rows, give_call, has_double_release, insert_row, insert_rows, is_client_call_of, is_given_as, is_object, is_queued_as, is_served_by, is_to_collect_as, leaving_of, live_calls, lowest_free, name_in, new_descriptors, notice_doors, object_named, objects_passed, open_call, release_rows, return_call, table_in, with_name, with_table, without_name};
-ghost use Rattle.written_kernel.specs.Words.{objects_collected_in};
 ghost use Rattle.name_space.specs.Words.{HasRoomForName};
 ghost use Rattle.call_tree.specs.Calls.{args_in};
 ghost use Rattle.call_tree.specs.Words.{HasRoomForCall, IsThread, is_called_by, outcome_in, queued_call};
@@ -39,7 +38,6 @@ use unref_notice::counts::{Counts, STEP_MAX};
 /// What refers to objects. At every moment the count of each object is that of the descriptors that name it, of its names, and of
 /// what is in transit of it with calls; and it is known how many objects are in transit in all. Clauses see tables, names and calls, of
 /// the counts those at the beginning of the step, and how often a reference may yet come or go in the step (`left`).
-#[derive(Drop)]
 pub struct Holdings {
     tables: Tables,
     names: Names,
@@ -47,6 +45,19 @@ pub struct Holdings {
     counts: Counts,
     /// How many objects are in transit with calls.
     carried: usize,
+}
+
+/// By hand, so that dropping what refers to objects is one call for its holder, who would otherwise drop each of its parts.
+impl Drop for Holdings {
+    fn drop(self) {
+        let Holdings {
+            tables: _,
+            names: _,
+            calls: _,
+            counts: _,
+            carried: _,
+        } = self;
+    }
 }
 
 impl Model for Holdings {
