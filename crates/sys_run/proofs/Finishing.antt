@@ -81,7 +81,7 @@ pub run-then : (script : ScriptValue) (ts us : List ℕ) → run script (ts ++ u
 unfolding run
 run-then script ts us = run_from-then script ts us (first_history script)
 
-if_some : (b : Bool) (o : Option ℕ) (t : ℕ) → (if b then o else None) ≡ Some t → (b ≡ true) × (o ≡ Some t)
+pub if_some : (b : Bool) (o : Option ℕ) (t : ℕ) → (if b then o else None) ≡ Some t → (b ≡ true) × (o ≡ Some t)
 if_some true o t h = (refl, h)
 if_some false o t h = cc
 

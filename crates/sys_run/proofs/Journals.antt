@@ -2,7 +2,7 @@
 use Rattle.std.proofs.Common.{◌≡◌, ℕ, ◌+◌, ◌≤◌, ◌<◌, List, [], ◌∷◌, ◌++◌, length, true, arith, refl, ap, ◌∙◌, length-append, zero-add}
 use Rattle.std.specs.Prelude.{nat_le, nat_lt, not}
 use Rattle.std.proofs.lemmas.Bool.Decides.{nat_tests}
-use Rattle.written_kernel.specs.Words.{MayTurn, event_of, is_runnable}
+use Rattle.written_kernel.specs.Words.{MayTurn, StandsFor, State, event_of, is_runnable}
 use Rattle.script_lang.specs.Words.{ScriptValue}
 use Rattle.written_script.specs.Words.{History, IsAllowed, IsDeclared, first_history, history_after, request_at_turn, run, run_from, threads_of_events}
 use Rattle.written_script.proofs.Histories.{run-append, AreRunnableFrom-append, threads_of_events-append, length-threads_of_events, events-run}
@@ -18,6 +18,10 @@ history-with_turn p t =
 pub events-history : (p : SysValue) → (history p).state.events ≡ length p.journal
 unfolding history
 events-history p = events-run p.script (threads_of_events p.journal) ∙ length-threads_of_events p.journal
+
+-- a kernel counts the events after which it stands
+pub events-counted : (p : SysValue) (kernel : State) → StandsFor kernel (state_of_run p) → kernel.events ≡ length p.journal
+events-counted p kernel stands = ap (λ (m : State). m.events) stands ∙ events-history p
 
 -- what a journal's history keeps
 pub known-history : (p : SysValue) → IsJournal p → IsKnownHistory p.script (history p)

@@ -8,3 +8,4 @@ pub mod Systems
 pub mod Turning
 pub mod Turns
 pub mod WholePlays
+pub mod FirstTurns

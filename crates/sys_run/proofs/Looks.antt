@@ -10,7 +10,7 @@ use Rattle.written_script.specs.Words.{ending_of, ending_waiting, ending_with, i
 use Rattle.written_script.proofs.Histories.{IsOpening-opening_of}
 use Rattle.written_script.proofs.RunTurns.{turns_of-run}
 use Rattle.kernel_laws.specs.Words.{Laws}
-use Rattle.sys_run.specs.Sys.{SysValue, history, state_of_run, next_turn, LawsOf, IsJournal}
+use Rattle.sys_run.specs.Sys.{SysValue, history, state_of_run, next_turn, scheduled_turn, LawsOf, IsJournal}
 use Rattle.sys_run.specs.Threads.{is_any}
 use Rattle.sys_run.proofs.Journals.{length-history, le-not_lt, declared-history}
 use Rattle.sys_run.proofs.Systems.{waiting_threads-kept}
@@ -46,6 +46,18 @@ pub next_turn-least :
     (p : SysValue) (o : Option ℕ) → true ≡ nat_lt (length p.journal) p.script.budget → o ≡ least_runnable (state_of_run p) →
     o ≡ next_turn p
 next_turn-least p o left e = let test : nat_lt (length p.journal) p.script.budget ≡ true = sym left in rw test e
+
+pub next_turn-used : (p : SysValue) → false ≡ nat_lt (length p.journal) p.script.budget → None ≡ next_turn p
+next_turn-used p used = let test : nat_lt (length p.journal) p.script.budget ≡ false = sym used in rw test refl
+
+-- the thread of the schedule's next turn
+pub scheduled-left :
+    (p : SysValue) (o : Option Tid) → true ≡ nat_lt (length p.journal) p.script.budget → o ≡ slice_get p.script.schedule (length p.journal) →
+    o ≡ scheduled_turn p
+scheduled-left p o left e = let test : nat_lt (length p.journal) p.script.budget ≡ true = sym left in rw test e
+
+pub scheduled-used : (p : SysValue) → false ≡ nat_lt (length p.journal) p.script.budget → None ≡ scheduled_turn p
+scheduled-used p used = let test : nat_lt (length p.journal) p.script.budget ≡ false = sym used in rw test refl
 
 -- the laws of every run, as they are told
 abbrev pub EveryRun : Type 0

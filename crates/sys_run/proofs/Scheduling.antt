@@ -95,7 +95,7 @@ length-take-few zero (x ∷ xs) = omega arith
 length-take-few (suc n) [] = omega arith
 length-take-few (suc n) (x ∷ xs) = let rest : length (take n xs) ≤ n = length-take-few n xs in omega arith
 
-drop-all : {X : Type 0} (k : ℕ) (xs : List X) → length xs ≤ k → drop k xs ≡ []
+pub drop-all : {X : Type 0} (k : ℕ) (xs : List X) → length xs ≤ k → drop k xs ≡ []
 drop-all zero [] h = refl
 drop-all zero (x ∷ xs) h = absurd (omega arith)
 drop-all (suc k) [] h = refl

@@ -1,12 +1,13 @@
-ghost use Rattle.std.specs.Prelude.{◌≡◌, ◌↔◌, IsTrue, ℕ, ◌+◌, ◌<◌, ◌≤◌, ◌∷◌, ◌++◌, [], length, slice_get, Some, IfOk, option_map, OnOk, OnErr, take, true, false, nat_lt, All};
+ghost use Rattle.std.specs.Prelude.{◌≡◌, ◌↔◌, IsTrue, ℕ, ◌+◌, ◌<◌, ◌≤◌, [], length, slice_get, Some, IfOk, option_map, OnOk, OnErr, take, true, false, All};
 ghost use Rattle.dk_base.specs.declared.limits.TheConstants.{BUDGET_MAX};
 ghost use Rattle.written_kernel.specs.Words.{is_runnable, output_at, state_of, waiting_threads};
 ghost use Rattle.script_requests.specs.Words.{IsDeclaredEvent, IsDeclaredThread};
 ghost use Rattle.written_script.specs.Words.{ending_of, is_over, scheduled_turns, tid_number};
 ghost use Rattle.sys_run.specs.Sys.{with_journal, history, state_of_run, with_turn, with_turns, turns_left, next_turn, scheduled_turn, threads_woken_by, LawsOf, IsJournal, WorksOn, is_working};
 
+use crate::kernel_looks::{ending_of, next_scheduled, next_thread};
 use crate::opening::{first_machines, open};
-use crate::threads::{all_waiting, is_any_waiting};
+use crate::threads::all_waiting;
 use crate::turn::take_turn;
 use dk_base::error::NoMemory;
 use dk_base::event::Event;
@@ -219,37 +220,18 @@ impl Sys {
         kernel_laws::laws::every_run();
     }
 
-    // Whether another event may be made.
-    fn has_budget(&self) -> bool
-        ensures { result ≡ nat_lt (length self.now.journal) self.now.script.budget }
-    {
-        self.journal.len() < self.script.budget() as usize
-    }
-
     // The thread that `finish` lets take the next turn.
     fn next_thread(&self) -> Option<Tid>
         ensures { option_map tid_number result ≡ next_turn self.now }
     {
-        if self.has_budget() {
-            self.kernel.least_runnable()
-        } else {
-            None
-        }
+        next_thread(&self.script, &self.kernel)
     }
 
     // The thread that `play_schedule` lets take the next turn.
     fn next_scheduled(&self) -> Option<Tid>
         ensures { result ≡ scheduled_turn self.now }
     {
-        if self.has_budget() {
-            self.script
-                .schedule()
-                .slice()
-                .get(self.journal.len())
-                .copied()
-        } else {
-            None
-        }
+        next_scheduled(&self.script, &self.kernel)
     }
 
     /// Whether a thread can take a turn; false for a thread that the script does not declare.
@@ -273,11 +255,7 @@ impl Sys {
     pub fn ending(&self) -> Ending
         ensures { result ≡ ending_of (state_of_run self.now) }
     {
-        match self.kernel.least_runnable() {
-            Some(_) => Ending::Budget,
-            None if is_any_waiting(&self.kernel) => Ending::Stalled,
-            None => Ending::Complete,
-        }
+        ending_of(&self.kernel)
     }
 
     pub fn script(&self) -> &Script

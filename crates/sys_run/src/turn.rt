@@ -1,11 +1,12 @@
 //! One turn of a thread: its request or the end of its wait, the kernel's step, and the event.
-ghost use Rattle.std.specs.Prelude.{◌≡◌, ◌+◌, ◌<◌, ◌≤◌, ◌∷◌, ◌++◌, [], length, IfOk, OnOk, OnErr, true, vec_len, vec_capacity};
-ghost use Rattle.dk_base.specs.declared.limits.TheConstants.{EVENTS_MAX};
-ghost use Rattle.written_kernel.specs.Words.{IsStep, StandsFor, State, is_runnable, output_at, state_of, step, what_of, with_output};
+ghost use Rattle.std.specs.Prelude.{◌≡◌, ◌<◌, List, IfOk, OnOk, OnErr, vec_len, vec_capacity};
+ghost use Rattle.written_kernel.specs.Types.{Event as EventValue};
+ghost use Rattle.written_kernel.specs.Words.{IsStep, StandsFor, State, state_of, step, what_of, with_output};
 ghost use Rattle.script_requests.specs.Words.{Frame};
 ghost use Rattle.thread_machine.specs.Words.{HasRoomForAnswer, IsMachine, Stands};
-ghost use Rattle.sys_run.specs.Sys.{with_journal, state_of_run, with_turn, threads_woken_by, MachineStands, IsJournal};
+ghost use Rattle.sys_run.specs.Sys.{with_journal, state_of_run, with_turn, threads_woken_by, MachineStands};
 ghost use Rattle.sys_run.specs.TurnRequests.{MayTake, request_if_running};
+ghost use Rattle.sys_run.specs.Turns.{CanTurn, HasTurned};
 
 use crate::what;
 use dk_base::answer::Answer;
@@ -59,56 +60,63 @@ fn with_output(stepped: Stepped, output: Option<Bytes>) -> Stepped
     }
 }
 
-// One turn of a thread, where there is room for its event.
-fn turn(
+/// What a turn gives: its event, and in order the threads that were not runnable before and are now.
+#[derive(Drop)]
+pub(crate) struct Turned {
+    pub event: Event,
+    pub woken: TidList,
+}
+
+/// One turn of a thread, with the bytes of its task where it ends one: its event, and the threads that it wakes. Want of memory leaves
+/// kernel and machine as they were.
+pub(crate) fn turn(
     alloc: Global,
     script: &Script,
     kernel: &mut Kernel,
     machine: &mut Machine,
-    journal: &mut Vec<Event>,
     t: Tid,
     output: Option<Bytes>,
-) -> Result<TidList, NoMemory>
-    requires output { output ≡ output_at (state_of (state_of_run (with_journal script.now journal.old.items)) t.0) }
-    requires room { vec_len journal.old < vec_capacity journal.old }
+) -> Result<Turned, NoMemory>
     requires machine_room { HasRoomForAnswer machine.old }
-    requires run { IsJournal (with_journal script.now journal.old.items) }
-    requires kernel { StandsFor kernel.old (state_of_run (with_journal script.now journal.old.items)) }
-    requires machine { MachineStands script.now journal.old.items t.0 machine.old }
-    requires can { is_runnable (state_of_run (with_journal script.now journal.old.items)) t.0 ≡ true }
-    requires left { length journal.old.items < script.now.budget }
-    ensures journal { OnOk result (with_journal script.now journal.new.items ≡ with_turn (with_journal script.now journal.old.items) t.0) }
-    ensures kernel { OnOk result (StandsFor kernel.new (state_of_run (with_turn (with_journal script.now journal.old.items) t.0))) }
-    ensures machine { OnOk result (MachineStands script.now journal.new.items t.0 machine.new) }
-    ensures woken { IfOk result (λ woken. woken ≡ threads_woken_by (with_journal script.now journal.old.items) t.0) }
-    ensures journal_err { OnErr result (journal.new.items ≡ journal.old.items) }
+    requires can { (es : List EventValue) × CanTurn script.now es kernel.old machine.old t.0 output }
+    ensures turned { IfOk result (λ x. (es : List EventValue) → CanTurn script.now es kernel.old machine.old t.0 output → HasTurned script.now es t.0 x kernel.new machine.new) }
     ensures kernel_err { OnErr result (kernel.new ≡ kernel.old) }
     ensures machine_err { OnErr result (machine.new ≡ machine.old) }
 {
     let root = kernel.root(t);
+    let number = kernel.events() as u32 + 1;
     let (what, stepped) = step(alloc, script, kernel, machine, t)?;
     let stepped = with_output(stepped, output);
-    machine.take(script, &stepped.answer);
-    Ok(push_event(journal, t, root, what, stepped))
+    let Stepped { answer, woken } = stepped;
+    machine.take(script, &answer);
+    Ok(Turned {
+        event: Event {
+            number,
+            thread: t,
+            root,
+            what,
+            answer,
+        },
+        woken,
+    })
 }
 
-// Appends the event of a step, and answers the threads that it woke.
-fn push_event(journal: &mut Vec<Event>, t: Tid, root: Tid, what: What, stepped: Stepped) -> TidList
-    requires room { vec_len journal.old < vec_capacity journal.old }
-    requires few { length journal.old.items < EVENTS_MAX }
-    ensures journal { journal.new.items ≡ journal.old.items ++ record { number = length journal.old.items + 1; thread = t; root = root; what = what; answer = stepped.answer } ∷ [] }
-    ensures woken { result ≡ stepped.woken }
+/// The same, for which the machine gets room first. Want of memory leaves the kernel as it was, and the machine where it stood.
+pub(crate) fn turn_with_room(
+    alloc: Global,
+    script: &Script,
+    kernel: &mut Kernel,
+    machine: &mut Machine,
+    t: Tid,
+    output: Option<Bytes>,
+) -> Result<Turned, NoMemory>
+    requires { (es : List EventValue) × CanTurn script.now es kernel.old machine.old t.0 output }
+    ensures turned { IfOk result (λ x. (es : List EventValue) → CanTurn script.now es kernel.old machine.old t.0 output → HasTurned script.now es t.0 x kernel.new machine.new) }
+    ensures kernel_err { OnErr result (kernel.new ≡ kernel.old) }
+    ensures machine_err { OnErr result ((es : List EventValue) → MachineStands script.now es t.0 machine.old → MachineStands script.now es t.0 machine.new) }
 {
-    let Stepped { answer, woken } = stepped;
-    let number = journal.len() as u32 + 1;
-    journal.push_reserved(Event {
-        number,
-        thread: t,
-        root,
-        what,
-        answer,
-    });
-    woken
+    machine.make_room(alloc)?;
+    turn(alloc, script, kernel, machine, t, output)
 }
 
 /// One turn of a thread, with the bytes of its task where it ends one. Exactly its event is appended; answers the threads that it wakes. Want of memory leaves the
@@ -122,12 +130,7 @@ pub(crate) fn take_turn(
     t: Tid,
     output: Option<Bytes>,
 ) -> Result<TidList, NoMemory>
-    requires output { output ≡ output_at (state_of (state_of_run (with_journal script.now journal.old.items)) t.0) }
-    requires run { IsJournal (with_journal script.now journal.old.items) }
-    requires kernel { StandsFor kernel.old (state_of_run (with_journal script.now journal.old.items)) }
-    requires machine { MachineStands script.now journal.old.items t.0 machine.old }
-    requires can { is_runnable (state_of_run (with_journal script.now journal.old.items)) t.0 ≡ true }
-    requires left { length journal.old.items < script.now.budget }
+    requires { CanTurn script.now journal.old.items kernel.old machine.old t.0 output }
     ensures journal { OnOk result (with_journal script.now journal.new.items ≡ with_turn (with_journal script.now journal.old.items) t.0) }
     ensures kernel { OnOk result (StandsFor kernel.new (state_of_run (with_turn (with_journal script.now journal.old.items) t.0))) }
     ensures machine { MachineStands script.now journal.new.items t.0 machine.new }
@@ -135,9 +138,10 @@ pub(crate) fn take_turn(
     ensures journal_err { OnErr result (journal.new.items ≡ journal.old.items) }
     ensures kernel_err { OnErr result (kernel.new ≡ kernel.old) }
 {
-    machine.make_room(alloc)?;
     make_room(journal)?;
-    turn(alloc, script, kernel, machine, journal, t, output)
+    let turned = turn_with_room(alloc, script, kernel, machine, t, output)?;
+    journal.push_reserved(turned.event);
+    Ok(turned.woken)
 }
 
 fn make_room(journal: &mut Vec<Event>) -> Result<(), NoMemory>

@@ -7,6 +7,7 @@ use script_lang::parse::parse;
 use script_lang::script::Script;
 use std::alloc::Global;
 use std::test::Fail;
+use sys_run::playing::{Playing, Told};
 use sys_run::sys::{Played, Sys};
 
 const FIRST: Tid = Tid(1);
@@ -172,6 +173,85 @@ fn runs(rt: HostRuntime) -> Result<(), Fail> {
     for row in ROWS {
         let is_right = is_right(rt.alloc(), &row);
         assert!(rt; is_right, "{}", row.name);
+    }
+    Ok(())
+}
+
+/// Some turns of another kind: a task is done, and the run ends in a third way.
+const OTHERS: [&str; 2] = [
+    "doors script 1\nprocess p\nthread w\n work h digest \"hi\"\nend\n",
+    "doors script 1\nbudget 3\nprocess p\nthread w\n repeat 9\n  open d x\n end\nend\n",
+];
+
+fn is_same(told: &Event, kept: &Event) -> bool {
+    told.number == kept.number
+        && told.thread == kept.thread
+        && told.root == kept.root
+        && told.what == kept.what
+}
+
+fn tells_event(playing: &mut Playing, kept: &Event) -> bool {
+    matches!(playing.next(), Ok(Told::Event { event }) if is_same(&event, kept))
+}
+
+/// Whether exactly these events are told, and then this end.
+fn tells(playing: &mut Playing, journal: &[Event], ends: Played) -> bool {
+    for kept in journal {
+        if !tells_event(playing, kept) {
+            return false;
+        }
+    }
+    matches!(playing.next(), Ok(Told::End { played }) if played == ends)
+}
+
+/// Plays the schedule, and then all turns that are left unless it is refused.
+fn play_all(sys: &mut Sys) -> Option<Played>
+    requires { sys.old.journal ≡ [] }
+{
+    match sys.play_schedule() {
+        Ok(Played::Over) if sys.finish().is_ok() => Some(Played::Over),
+        Ok(Played::Refused { turn, thread }) => Some(Played::Refused { turn, thread }),
+        _ => None,
+    }
+}
+
+/// Whether the run of a script is told as it was kept.
+fn is_told(playing: &mut Playing, sys: &mut Sys) -> bool
+    requires { sys.old.journal ≡ [] }
+{
+    match play_all(sys) {
+        Some(ends) => tells(playing, sys.journal(), ends) && playing.ending() == sys.ending(),
+        None => false,
+    }
+}
+
+fn is_told_and_kept(alloc: Global, told: Script, kept: Script) -> bool {
+    match (Playing::new(alloc, told), Sys::new(alloc, kept)) {
+        (Ok(mut playing), Ok(mut sys)) => is_told(&mut playing, &mut sys),
+        _ => false,
+    }
+}
+
+fn is_told_of(alloc: Global, text: &str) -> bool {
+    if text.len() >= 4_000_000_000 {
+        return false;
+    }
+    match (parse(alloc, text.as_bytes()), parse(alloc, text.as_bytes())) {
+        (Ok(told), Ok(kept)) => is_told_and_kept(alloc, told, kept),
+        _ => false,
+    }
+}
+
+/// The events that are told are those that are kept.
+#[test]
+fn told_events(rt: HostRuntime) -> Result<(), Fail> {
+    for row in ROWS {
+        let is_right = is_told_of(rt.alloc(), row.text);
+        assert!(rt; is_right, "{}", row.name);
+    }
+    for text in OTHERS {
+        let is_right = is_told_of(rt.alloc(), text);
+        assert!(rt; is_right, "{text}");
     }
     Ok(())
 }

@@ -12,11 +12,18 @@ index_mut-machine-requires c =
     has_machine _ _ _ _ _ c.self.invariant (rw (← c.self.view_is) at c.requires.can)
     in omega (arith, has.place)
 
-pub take_turn-requires-clause-machine : goal.take_turn-requires-clause-machine
-take_turn-requires-clause-machine c =
+pub take_turn-requires : goal.take_turn-requires
+take_turn-requires c =
     let has : HasMachine c.args.t.0 c.self.inside.machines.items =
     has_machine _ _ _ _ _ c.self.invariant (rw (← c.self.view_is) at c.requires.can)
-    in machine-stands _ _ _ _ _ _ c.self.invariant has (slice_get_read _ _ _ _ refl has.place c.index_mut-machine.ensures.value)
+    in record {
+      run = c.self.invariant.journal_is_run;
+      kernel_stands = c.self.invariant.kernel_stands;
+      machine_stands = machine-stands _ _ _ _ _ _ c.self.invariant has (slice_get_read _ _ _ _ refl has.place c.index_mut-machine.ensures.value);
+      can = rw (← c.self.view_is) at c.requires.can;
+      left = rw (← c.self.view_is) at c.requires.left;
+      is_output = rw (← c.self.view_is) at c.requires.output;
+    }
 
 pub invariant_of-self : goal.invariant_of-self
 invariant_of-self c =
