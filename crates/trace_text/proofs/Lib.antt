@@ -1,2 +1,3 @@
 pub mod PlusJoined
 pub mod NamedThreads
+pub mod RunLines

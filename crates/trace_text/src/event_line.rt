@@ -30,7 +30,8 @@ pub fn push_line(
     push_answer(alloc, text, script, &event.answer)
 }
 
-fn push_whole_line(
+/// Adds the event's line, with its line feed.
+pub fn push_whole_line(
     alloc: Global,
     text: &mut Bytes,
     script: &Script,

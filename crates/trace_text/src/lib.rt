@@ -7,9 +7,11 @@ mod attributes;
 mod data_text;
 mod event_line;
 mod last_line;
+mod run_text;
 mod trace;
 mod turn;
 mod what_word;
 
-pub use trace::{end_line, line, text_before_refused, text_of_run, text_with_tail};
+pub use run_text::RunText;
+pub use trace::{end_line, line, text_with_tail};
 pub use turn::thread_of;

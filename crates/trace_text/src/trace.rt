@@ -1,15 +1,14 @@
 //! Lines and whole texts of traces.
 
 ghost use Rattle.std.specs.Prelude.{◌≡◌, ◌++◌, Some, IfOk, OnOk};
-ghost use Rattle.script_requests.specs.Words.{end_line_of, line_of, refused_text, tail_text, trace_text};
+ghost use Rattle.script_requests.specs.Words.{end_line_of, line_of, tail_text, trace_text};
 
 use super::append::push_line_end;
 use super::event_line::{push_line, push_lines};
-use super::last_line::{push_end_line, push_refused_line, push_tail};
+use super::last_line::{push_end_line, push_tail};
 use dk_base::error::NoMemory;
 use dk_base::event::Event;
 use dk_base::list::{Bytes, TidList};
-use dk_base::number::Tid;
 use script_lang::script::Script;
 use script_requests::ending::Ending;
 use std::alloc::Global;
@@ -57,23 +56,8 @@ fn push_run(
     push_line_end(text)
 }
 
-/// The text of a run with these events and this end; `waiting` are the threads that wait at the end, of which a stalled
-/// run tells.
-pub fn text_of_run(
-    alloc: Global,
-    script: &Script,
-    events: &[Event],
-    ending: Ending,
-    waiting: &TidList,
-) -> Result<Bytes, NoMemory>
-    ensures { IfOk result (λ text. text ≡ trace_text script.now events.now ending waiting.now) }
-{
-    let mut text = Bytes::new(alloc);
-    push_run(alloc, &mut text, script, events, ending, waiting)?;
-    Ok(text)
-}
-
-/// As `text_of_run`, with the line `tail N` after it, for any number.
+/// The text of a run with these events and this end, with the line `tail N` after it, for any number; `waiting` are the threads that wait
+/// at the end, of which a stalled run tells.
 pub fn text_with_tail(
     alloc: Global,
     script: &Script,
@@ -87,23 +71,5 @@ pub fn text_with_tail(
     let mut text = Bytes::new(alloc);
     push_run(alloc, &mut text, script, events, ending, waiting)?;
     push_tail(&mut text, tail)?;
-    Ok(text)
-}
-
-/// The text of a run with these events before a schedule's turn, counted from 1, that its thread could not take.
-#[tactic(auto, unfolding(script_requests::specs::TraceText::refused_text))]
-pub fn text_before_refused(
-    alloc: Global,
-    script: &Script,
-    events: &[Event],
-    turn: u32,
-    thread: Tid,
-) -> Result<Bytes, NoMemory>
-    ensures { IfOk result (λ text. text ≡ refused_text script.now events.now turn thread) }
-{
-    let mut text = Bytes::new(alloc);
-    push_lines(alloc, &mut text, script, events)?;
-    push_refused_line(&mut text, script, turn, thread)?;
-    push_line_end(&mut text)?;
     Ok(text)
 }

@@ -11,7 +11,7 @@ use script_requests::ending::Ending;
 use std::alloc::Global;
 use std::process::Abort;
 use std::test::Fail;
-use trace_text::{end_line, line, text_before_refused, text_of_run, thread_of};
+use trace_text::{RunText, end_line, line, text_with_tail, thread_of};
 
 /// A server `s` with a procedure `echo`, a client `c`, and a spare.
 const SCRIPT: &str =
@@ -345,22 +345,40 @@ fn end_lines<R: Abort>(rt: &R, alloc: Global, script: &Script, waiting: &TidList
     }
 }
 
+/// The lines of events, one after another.
+fn lines_of(alloc: Global, script: &Script, events: &[Event]) -> Result<RunText, NoMemory> {
+    let mut text = RunText::new(alloc);
+    for event in events {
+        text = text.with_event(alloc, script, event)?;
+    }
+    Ok(text)
+}
+
 fn texts_of_events<R: Abort>(
     rt: &R,
     alloc: Global,
     script: &Script,
     events: &[Event],
     waiting: &TidList,
-) {
-    let run = text_of_run(alloc, script, events, Ending::Stalled, waiting);
+) -> Result<(), NoMemory> {
+    let run = lines_of(alloc, script, events)?.with_end(script, Ending::Stalled, 2, waiting);
     let expected = "1 s s create ok fd 0\n2 c c await wait\nend stalled 2 c\n";
     assert!(rt; is_text(&run, expected));
-    let cut = text_before_refused(alloc, script, events, 3, C);
+    let cut = lines_of(alloc, script, events)?.with_refused_turn(script, 3, C);
     let expected = "1 s s create ok fd 0\n2 c c await wait\nrefused turn 3 c\n";
     assert!(rt; is_text(&cut, expected));
+    let tailed = text_with_tail(alloc, script, events, Ending::Stalled, waiting, 2);
+    let expected = "1 s s create ok fd 0\n2 c c await wait\nend stalled 2 c\ntail 2\n";
+    assert!(rt; is_text(&tailed, expected));
+    Ok(())
 }
 
-fn whole_texts<R: Abort>(rt: &R, alloc: Global, script: &Script, waiting: &TidList) {
+fn whole_texts<R: Abort>(
+    rt: &R,
+    alloc: Global,
+    script: &Script,
+    waiting: &TidList,
+) -> Result<(), NoMemory> {
     let events = [
         Event {
             number: 1,
@@ -377,7 +395,7 @@ fn whole_texts<R: Abort>(rt: &R, alloc: Global, script: &Script, waiting: &TidLi
             answer: Answer::Wait,
         },
     ];
-    texts_of_events(rt, alloc, script, &events, waiting);
+    texts_of_events(rt, alloc, script, &events, waiting)
 }
 
 /// Lines with the thread that each names.
@@ -419,7 +437,7 @@ fn ends<R: Abort>(rt: &R, alloc: Global, script: &Script) -> Result<(), Fail> {
 
 fn whole_runs<R: Abort>(rt: &R, alloc: Global, script: &Script) -> Result<(), Fail> {
     let waiting = TidList::from_slice(alloc, &[C])?;
-    whole_texts(rt, alloc, script, &waiting);
+    whole_texts(rt, alloc, script, &waiting)?;
     Ok(())
 }
 
