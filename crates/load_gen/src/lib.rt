@@ -6,4 +6,4 @@ mod load_script;
 mod summary_line;
 
 pub use load_script::{CALLS_MAX, generate};
-pub use summary_line::summary;
+pub use summary_line::{SummaryLine, summary};

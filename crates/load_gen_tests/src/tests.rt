@@ -1,9 +1,11 @@
+ghost use Rattle.std.specs.Prelude.{◌≡◌, []};
+
 use load_gen::{CALLS_MAX, generate, summary};
 use script_lang::parse::parse;
 use script_lang::print::print;
 use script_lang::script::Script;
 use std::alloc::Global;
-use sys_run::sys::Sys;
+use sys_run::playing::Playing;
 
 /// What `show` prints of a load of so many calls.
 const SHOWN: [(u32, &str); 5] = [
@@ -56,15 +58,15 @@ const LOADS: [(u32, &str); 3] = [
     (5, "load 5 calls 5 ok 5 events 41 end complete"),
 ];
 
-fn is_summary(alloc: Global, n: u32, sys: &mut Sys, expected: &str) -> bool {
-    sys.finish().is_ok()
-        && sys.over()
-        && matches!(summary(alloc, n, sys), Ok(line) if line.slice() == expected.as_bytes())
+fn is_summary(alloc: Global, n: u32, playing: Playing, expected: &str) -> bool
+    requires { playing.journal ≡ [] }
+{
+    matches!(summary(alloc, n, playing), Ok(told) if told.line.slice() == expected.as_bytes())
 }
 
 fn is_told(alloc: Global, n: u32, script: Script, expected: &str) -> bool {
-    match Sys::new(alloc, script) {
-        Ok(mut sys) => is_summary(alloc, n, &mut sys, expected),
+    match Playing::new(alloc, script) {
+        Ok(playing) => is_summary(alloc, n, playing, expected),
         Err(_) => false,
     }
 }
