@@ -3,4 +3,3 @@ pub mod Input
 pub mod Status
 pub mod Top
 pub mod Output
-pub mod Turns

@@ -13,6 +13,5 @@ pub mod script_in;
 pub mod show;
 pub mod status;
 pub mod top;
-mod turns;
 mod words;
 pub mod writing;

@@ -1,8 +1,8 @@
 //! What `play` answers and writes for what was read.
-ghost use Rattle.std.specs.Prelude.{◌≡◌, IfOk, []};
-ghost use Rattle.script_requests.specs.Words.{refused_text};
+ghost use Rattle.std.specs.Prelude.{◌≡◌, IfOk, OnOk, []};
+ghost use Rattle.script_requests.specs.Words.{lines_text, refused_text};
 ghost use Rattle.written_script.specs.Words.{ending_of, refusal, text_of_history};
-ghost use Rattle.sys_run.specs.Words.{history};
+ghost use Rattle.sys_run.specs.Words.{EndsPlay, LawsOf, history};
 ghost use Rattle.doors_top.specs.declared.script_in.TheConstants.{SCRIPT_LIMIT};
 ghost use Rattle.doors_top.specs.Input.{IsWithinLimit};
 ghost use Rattle.doors_top.specs.Outcomes.{outcome_of_turns, outcome_with};
@@ -13,23 +13,53 @@ use crate::reading::ReadText;
 use crate::reply::{Reply, reply_for_bad};
 use crate::script_in::script_in;
 use crate::status::Status;
-use crate::turns::take_turns;
 use dk_base::error::NoMemory;
 use dk_base::number::Tid;
 use script_lang::script::Script;
 use std::alloc::Global;
-use sys_run::sys::{Played, Sys};
-use trace_text::{text_before_refused, text_of_run};
+use sys_run::playing::{Playing, Told};
+use sys_run::sys::Played;
+use trace_text::RunText;
+
+/// What was told of a run: the lines of its events, and how it ended.
+#[derive(Drop)]
+struct Taken {
+    text: RunText,
+    played: Played,
+}
+
+/// Takes the turns that `play` takes, and adds the line of each event as it is told. No event is kept.
+fn take_turns(alloc: Global, playing: &mut Playing) -> Result<Taken, NoMemory>
+    requires { playing.old.journal ≡ [] }
+    ensures script { OnOk result (playing.new.script ≡ playing.old.script) }
+    ensures lines { IfOk result (λ taken. taken.text ≡ lines_text playing.new.script (history playing.new).events) }
+    ensures ended { IfOk result (λ taken. EndsPlay playing.old.script playing.new taken.played) }
+    ensures laws { OnOk result (LawsOf playing.new) }
+{
+    let mut text = RunText::new(alloc);
+    loop {
+        match playing.next()? {
+            Told::Event { event } => text = text.with_event(alloc, playing.script(), &event)?,
+            Told::End { played } => return Ok(Taken { text, played }),
+        }
+    }
+}
 
 /// The text of a run that ends after its last turn.
-fn reply_at_end(alloc: Global, sys: &Sys) -> Result<Reply, NoMemory>
-    ensures status { IfOk result (λ reply. reply.status ≡ status_of_ending (ending_of (history sys.now).state)) }
-    ensures text { IfOk result (λ reply. reply.text ≡ text_of_history sys.now.script (history sys.now)) }
+fn reply_at_end(playing: &Playing, text: RunText) -> Result<Reply, NoMemory>
+    requires { text ≡ lines_text playing.now.script (history playing.now).events }
+    ensures status { IfOk result (λ reply. reply.status ≡ status_of_ending (ending_of (history playing.now).state)) }
+    ensures text { IfOk result (λ reply. reply.text ≡ text_of_history playing.now.script (history playing.now)) }
     ensures answer { IfOk result (λ reply. IsAnswer reply.status) }
 {
-    let ending = sys.ending();
-    let waiting = sys.waiting()?;
-    let text = text_of_run(alloc, sys.script(), sys.journal(), ending, &waiting)?;
+    let ending = playing.ending();
+    let waiting = playing.waiting()?;
+    let text = text.with_end(
+        playing.script(),
+        ending,
+        u64::from(playing.events()),
+        &waiting,
+    )?;
     Ok(Reply {
         status: Status::of_ending(ending),
         text,
@@ -37,11 +67,17 @@ fn reply_at_end(alloc: Global, sys: &Sys) -> Result<Reply, NoMemory>
 }
 
 /// The text of a run whose next turn is refused.
-fn reply_for_refusal(alloc: Global, sys: &Sys, turn: u32, thread: Tid) -> Result<Reply, NoMemory>
+fn reply_for_refusal(
+    playing: &Playing,
+    text: RunText,
+    turn: u32,
+    thread: Tid,
+) -> Result<Reply, NoMemory>
+    requires { text ≡ lines_text playing.now.script (history playing.now).events }
     ensures status { IfOk result (λ reply. reply.status ≡ Status.Turn) }
-    ensures text { IfOk result (λ reply. reply.text ≡ refused_text sys.now.script (history sys.now).events turn thread) }
+    ensures text { IfOk result (λ reply. reply.text ≡ refused_text playing.now.script (history playing.now).events turn thread) }
 {
-    let text = text_before_refused(alloc, sys.script(), sys.journal(), turn, thread)?;
+    let text = text.with_refused_turn(playing.script(), turn, thread)?;
     Ok(Reply {
         status: Status::Turn,
         text,
@@ -49,20 +85,21 @@ fn reply_for_refusal(alloc: Global, sys: &Sys, turn: u32, thread: Tid) -> Result
 }
 
 /// Takes the turns of the schedule and then all others, and gives the text of the run.
-fn play_turns(alloc: Global, sys: &mut Sys) -> Result<Reply, NoMemory>
-    requires { sys.old.journal ≡ [] }
-    ensures status { IfOk result (λ reply. reply.status ≡ (outcome_of_turns sys.old.script (refusal sys.old.script)).status) }
-    ensures text { IfOk result (λ reply. reply.text ≡ (outcome_of_turns sys.old.script (refusal sys.old.script)).text) }
+fn play_turns(alloc: Global, playing: &mut Playing) -> Result<Reply, NoMemory>
+    requires { playing.old.journal ≡ [] }
+    ensures status { IfOk result (λ reply. reply.status ≡ (outcome_of_turns playing.old.script (refusal playing.old.script)).status) }
+    ensures text { IfOk result (λ reply. reply.text ≡ (outcome_of_turns playing.old.script (refusal playing.old.script)).text) }
     ensures answer { IfOk result (λ reply. IsAnswer reply.status) }
-    ensures laws { IfOk result (λ _. LawsOfScript sys.old.script (refusal sys.old.script)) }
+    ensures laws { IfOk result (λ _. LawsOfScript playing.old.script (refusal playing.old.script)) }
 {
-    match take_turns(sys)? {
+    let Taken { text, played } = take_turns(alloc, playing)?;
+    match played {
         Played::Over => {
-            let reply = reply_at_end(alloc, sys)?;
+            let reply = reply_at_end(playing, text)?;
             Ok(reply)
         }
         Played::Refused { turn, thread } => {
-            let reply = reply_for_refusal(alloc, sys, turn, thread)?;
+            let reply = reply_for_refusal(playing, text, turn, thread)?;
             Ok(reply)
         }
     }
@@ -75,8 +112,8 @@ fn play_script(alloc: Global, script: Script) -> Result<Reply, NoMemory>
     ensures answer { IfOk result (λ reply. IsAnswer reply.status) }
     ensures laws { IfOk result (λ _. LawsOfScript script (refusal script)) }
 {
-    let mut sys = Sys::new(alloc, script)?;
-    play_turns(alloc, &mut sys)
+    let mut playing = Playing::new(alloc, script)?;
+    play_turns(alloc, &mut playing)
 }
 
 /// What `play` answers and writes: the text of the run that the turns of the script make, or what is bad of the script.
