@@ -47,6 +47,10 @@ pub enum Answer {
     Client {
         process: Pid,
     },
+    /// This child process began.
+    Child {
+        process: Pid,
+    },
     Cancel {
         yes: bool,
     },
@@ -101,6 +105,7 @@ impl Answer {
             Answer::Param { value } => Answer::Param { value: *value },
             Answer::Info(info) => Answer::Info(*info),
             Answer::Client { process } => Answer::Client { process: *process },
+            Answer::Child { process } => Answer::Child { process: *process },
             Answer::Cancel { yes } => Answer::Cancel { yes: *yes },
             Answer::Data { bytes } => Answer::Data {
                 bytes: bytes.copy(alloc)?,

@@ -36,6 +36,7 @@ pub enum What {
     Interrupt,
     Kill,
     Exit,
+    Fork,
     Work,
     Accept,
     Collect,

@@ -143,6 +143,10 @@ pub enum Request {
         process: Pid,
     },
     Exit,
+    /// A child process begins, with what its parent has open (fork(2)).
+    Fork {
+        child: Pid,
+    },
     Work {
         op: Op,
         bytes: Bytes,
@@ -268,6 +272,7 @@ impl Request {
             Request::Interrupt { thread } => Request::Interrupt { thread: *thread },
             Request::Kill { process } => Request::Kill { process: *process },
             Request::Exit => Request::Exit,
+            Request::Fork { child } => Request::Fork { child: *child },
             Request::Work { op, bytes } => Request::Work {
                 op: *op,
                 bytes: bytes.copy(alloc)?,

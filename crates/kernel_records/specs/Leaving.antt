@@ -7,7 +7,7 @@ use Rattle.dk_base.specs.declared.error.Errno.TheVariants.{EBADF, EINTR}
 use Rattle.dk_base.specs.declared.object.Inv.{Inv}
 use Rattle.dk_base.specs.ByNumber.{at_number}
 use Rattle.kernel_records.specs.declared.leaving.Leaver.{Leaver}
-use Rattle.kernel_records.specs.declared.leaving.Leaver.TheVariants.{Interrupted, Ended, EndedProcess, Revoked}
+use Rattle.kernel_records.specs.declared.leaving.Leaver.TheVariants.{Interrupted, Ended, EndedProcess, Revoked, Forked}
 use Rattle.kernel_records.specs.declared.record.Call.{Call}
 use Rattle.kernel_records.specs.declared.record.CallStage.{CallStage}
 use Rattle.kernel_records.specs.declared.record.CallStage.TheVariants as stage
@@ -21,7 +21,7 @@ use Rattle.kernel_records.specs.declared.record.ThreadState.TheVariants as is
 use Rattle.kernel_records.specs.Calls.{CallTree, is_served_by, without_arguments_at}
 use Rattle.kernel_records.specs.Doors.{is_owned_by}
 use Rattle.kernel_records.specs.Notices.{NoticeList}
-use Rattle.kernel_records.specs.ProcessTable.{ProcessTable, ended_thread, idle_thread, process_in, thread_at}
+use Rattle.kernel_records.specs.ProcessTable.{ProcessTable, ended_thread, idle_thread, is_fellow_caller, process_in, thread_at}
 
 -- which threads end, which callers are interrupted, and which doors become invalid, by their numbers
 pub record Leaving : Type 0 where
@@ -47,11 +47,16 @@ process_end table doors p =
 abbrev pub revocation : ℕ → Leaving
 revocation d = record { ends = λ u. false; interrupts = λ u. false; loses = λ e. e == d }
 
+-- the other threads of a process that wait for calls, as one of its threads forks
+abbrev pub forking : ProcessTable → ℕ → Leaving
+forking table t = record { ends = λ u. false; interrupts = λ u. is_fellow_caller table t u; loses = λ d. false }
+
 abbrev pub leaving_of : ProcessTable → List Door → Leaver → Leaving
 leaving_of table doors (Interrupted t) = interruption t.0
 leaving_of table doors (Ended t) = thread_end t.0
 leaving_of table doors (EndedProcess p) = process_end table doors p.0
 leaving_of table doors (Revoked d) = revocation d
+leaving_of table doors (Forked t) = forking table t.0
 
 -- calls
 

@@ -1,12 +1,13 @@
 -- Server pools: which idle thread is picked, and what waits (door_create(3C), door_bind(3C); the order is this
 -- project's profile).
-use Rattle.std.specs.Prelude.{ℕ, List, [], ◌∷◌, Option, Bool, false, ◌==◌, ◌&&◌, if◌then◌else◌, Some, None, zero, suc, nat_le, map, filter, count_by, length}
+use Rattle.std.specs.Prelude.{ℕ, List, [], ◌∷◌, Option, Bool, false, not, ◌==◌, ◌&&◌, if◌then◌else◌, Some, None, zero, suc, nat_le, map, filter, count_by, length}
 use Rattle.dk_base.specs.ByNumber.{at_number, with_at_number}
 use Rattle.dk_base.specs.declared.object.Item.TheVariants as item
 use Rattle.kernel_records.specs.declared.pool.Parked.{Parked}
 use Rattle.kernel_records.specs.declared.pool.Pool.{Pool}
 use Rattle.kernel_records.specs.declared.pool.Pool.TheVariants.{Common, Private}
 use Rattle.kernel_records.specs.declared.pool.Waiting.{Waiting}
+use Rattle.kernel_records.specs.declared.pool.TheConstants.{LOST_DOOR}
 use Rattle.kernel_records.specs.declared.record.Call.{Call}
 use Rattle.kernel_records.specs.declared.record.Door.{Door}
 use Rattle.kernel_records.specs.declared.record.Notice.{Notice}
@@ -49,6 +50,15 @@ bind_thread bindings t d = with_at_number bindings t (Some d)
 -- it is bound to none
 abbrev pub unbind_thread : List (Option ℕ) → ℕ → List (Option ℕ)
 unbind_thread bindings t = with_at_number bindings t None
+
+-- it is bound to the door that is lost
+abbrev pub bind_lost : List (Option ℕ) → ℕ → List (Option ℕ)
+bind_lost bindings t = bind_thread bindings t LOST_DOOR
+
+-- a thread is bound to a door that is there
+abbrev pub is_bound_to_some : Option ℕ → Bool
+is_bound_to_some None = false
+is_bound_to_some (Some d) = not (d == LOST_DOOR)
 
 abbrev pub pool_of_thread : Thread → Option ℕ → Pool
 pool_of_thread x None = Common x.process

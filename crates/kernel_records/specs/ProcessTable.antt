@@ -1,13 +1,14 @@
 -- Processes and threads, numbered from 1 by their places. Every reader is total: a number that no thread has reads as that of a
 -- Done thread, and a writer at such a number changes nothing.
-use Rattle.std.specs.Prelude.{ℕ, ◌+◌, List, Option, Bool, true, false, ◌==◌, ◌&&◌, not, if◌then◌else◌, Some, None, count_by, position}
+use Rattle.std.specs.Prelude.{ℕ, ◌+◌, List, Option, Bool, true, false, ◌==◌, ◌&&◌, not, if◌then◌else◌, Some, None, count_by, map, position}
 use Rattle.std.specs.List.{list_any}
+use Rattle.dk_base.specs.declared.number.Pid.{Pid}
 use Rattle.dk_base.specs.declared.object.Inv.{Inv}
 use Rattle.dk_base.specs.declared.object.Item.{Item}
 use Rattle.dk_base.specs.ByNumber.{at_number, with_at_number}
 use Rattle.kernel_records.specs.declared.record.Process.{Process}
 use Rattle.kernel_records.specs.declared.record.ProcessStage.{ProcessStage}
-use Rattle.kernel_records.specs.declared.record.ProcessStage.TheVariants.{Live, Ended}
+use Rattle.kernel_records.specs.declared.record.ProcessStage.TheVariants.{Unborn, Live, Ended}
 use Rattle.kernel_records.specs.declared.record.Thread.{Thread}
 use Rattle.kernel_records.specs.declared.record.ThreadState.{ThreadState}
 use Rattle.kernel_records.specs.declared.record.ThreadState.TheVariants as is
@@ -21,9 +22,10 @@ pub record ProcessTable : Type 0 where
 
 -- as it is made, with the number of descriptors that it may have
 abbrev pub new_process : ℕ → ℕ → Process
-new_process n limit = record { number = n; made = 0; limit = limit; stage = Live }
+new_process n limit = record { number = n; made = 0; limit = limit; parent = None; stage = Live }
 
 abbrev pub is_live_stage : ProcessStage → Bool
+is_live_stage Unborn = false
 is_live_stage Live = true
 is_live_stage Ended = false
 
@@ -34,6 +36,27 @@ is_live_in (Some p) = is_live_stage p.stage
 abbrev pub ended_process : Process → Process
 ended_process p = record p { stage = Ended }
 
+-- a child of a process, which has not begun
+
+abbrev pub child_of : ℕ → Process → Process
+child_of parent p = record p { parent = Some (pid parent); stage = Unborn }
+
+abbrev pub is_unborn_stage : ProcessStage → Bool
+is_unborn_stage Unborn = true
+is_unborn_stage Live = false
+is_unborn_stage Ended = false
+
+abbrev pub is_unborn_in : Option Process → Bool
+is_unborn_in None = false
+is_unborn_in (Some p) = is_unborn_stage p.stage
+
+abbrev pub parent_in : Option Process → Option Pid
+parent_in None = None
+parent_in (Some p) = p.parent
+
+abbrev pub live_process : Process → Process
+live_process p = record p { stage = Live }
+
 -- threads
 
 abbrev pub opening_state : Bool → ThreadState
@@ -41,7 +64,14 @@ opening_state spare = if spare then is.Dormant else is.Running
 
 -- as it is made: a spare thread is Dormant
 abbrev pub new_thread : ℕ → ℕ → Bool → Thread
-new_thread n p spare = record { number = n; made = 0; process = pid p; invocation = None; state = opening_state spare }
+new_thread n p spare = record { number = n; made = 0; process = pid p; spare = spare; invocation = None; state = opening_state spare }
+
+-- of a process that has not begun each thread is
+abbrev pub unborn_thread : ℕ → ℕ → Bool → Thread
+unborn_thread n p spare = record { number = n; made = 0; process = pid p; spare = spare; invocation = None; state = is.Dormant }
+
+abbrev pub new_thread_where : Bool → ℕ → ℕ → Bool → Thread
+new_thread_where unborn n p spare = if unborn then unborn_thread n p spare else new_thread n p spare
 
 abbrev pub thread_at : ProcessTable → ℕ → Option Thread
 thread_at table t = at_number table.threads t
@@ -53,6 +83,10 @@ process_in (Some x) = x.process.0
 abbrev pub state_in : Option Thread → ThreadState
 state_in None = is.Done
 state_in (Some x) = x.state
+
+abbrev pub is_spare_in : Option Thread → Bool
+is_spare_in None = false
+is_spare_in (Some x) = x.spare
 
 abbrev pub invocation_in : Option Thread → Option Inv
 invocation_in None = None
@@ -154,6 +188,42 @@ is_active_of p x = (x.process.0 == p) && is_active x.state
 
 abbrev pub active_threads : ProcessTable → ℕ → ℕ
 active_threads table p = count_by (is_active_of p) table.threads
+
+-- a child process is declared, and begins: its threads run that are no spares
+
+abbrev pub change_process_in : ProcessTable → ℕ → (Process → Process) → Option Process → ProcessTable
+change_process_in table p change None = table
+change_process_in table p change (Some x) = record table { processes = with_at_number table.processes p (change x) }
+
+abbrev pub change_process : ProcessTable → ℕ → (Process → Process) → ProcessTable
+change_process table p change = change_process_in table p change (at_number table.processes p)
+
+abbrev pub make_child : ProcessTable → ℕ → ℕ → ProcessTable
+make_child table child parent = change_process table child (child_of parent)
+
+-- a thread of a process that is no spare
+abbrev pub is_first_of : ℕ → Thread → Bool
+is_first_of p x = (x.process.0 == p) && not x.spare
+
+abbrev pub begun_thread : ℕ → Thread → Thread
+begun_thread p x = if is_first_of p x then thread_at_state is.Running x else x
+
+abbrev pub begin_process : ProcessTable → ℕ → ProcessTable
+begin_process table p = change_process (record table { threads = map (begun_thread p) table.threads }) p live_process
+
+-- the place of the least thread of a process that is no spare, if it has one
+abbrev pub first_place : ProcessTable → ℕ → Option ℕ
+first_place table p = position (is_first_of p) table.threads
+
+-- a thread that waits for a call
+abbrev pub is_calling : ThreadState → Bool
+is_calling (is.Calling c) = true
+is_calling _ = false
+
+-- another thread of the process of thread t, which waits for a call
+abbrev pub is_fellow_caller : ProcessTable → ℕ → ℕ → Bool
+is_fellow_caller table t u =
+    not (u == t) && ((process_in (thread_at table u) == process_in (thread_at table t)) && is_calling (state_in (thread_at table u)))
 
 -- a thread that is parked stands in a pool, and one that ended has left for good
 abbrev pub is_idle : ThreadState → Bool

@@ -11,4 +11,6 @@ pub enum Leaver {
     EndedProcess { process: Pid },
     /// A door is revoked (door_revoke(3C)).
     Revoked { door: u32 },
+    /// A thread forks: the other threads of its process are interrupted that wait for calls.
+    Forked { thread: Tid },
 }

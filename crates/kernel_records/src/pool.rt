@@ -9,6 +9,10 @@ pub enum Pool {
     Private(u32),
 }
 
+/// No door has this number, so that door is never valid. A thread that begins in a child process, whose parent's thread was bound to a
+/// door, is bound to it (door_bind(3C)).
+pub const LOST_DOOR: u32 = 0;
+
 /// An idle thread, where it is parked, and since which event.
 #[derive(Clone, Copy)]
 pub struct Parked {

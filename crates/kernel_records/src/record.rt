@@ -11,23 +11,27 @@ use std::alloc::Global;
 /// Whether a process lives.
 #[derive(Clone, Copy)]
 pub enum ProcessStage {
+    /// A child process that has not begun (fork(2)).
+    Unborn,
     Live,
     Ended,
 }
 
-/// A process, the event that made it (0 for those of the opening state), and how many descriptors it may have.
+/// A process, the event that made it (0 for those of the opening state), how many descriptors it may have, and the process that it is
+/// a child of, if it is one.
 #[derive(Clone, Copy)]
 pub struct Process {
     pub number: u32,
     pub made: u64,
     pub limit: u32,
+    pub parent: Option<Pid>,
     pub stage: ProcessStage,
 }
 
 /// What a thread is at.
 #[derive(Drop)]
 pub enum ThreadState {
-    /// A spare server thread that was not started.
+    /// A spare server thread that was not started, or a thread of a child process that has not begun.
     Dormant,
     Running,
     /// Parked in a pool since this event.
@@ -93,12 +97,13 @@ impl ThreadState {
     }
 }
 
-/// A thread, the event that made it, its process, its invocation of a server procedure, and its state.
+/// A thread, the event that made it, its process, whether it is a spare, its invocation of a server procedure, and its state.
 #[derive(Drop)]
 pub struct Thread {
     pub number: u32,
     pub made: u64,
     pub process: Pid,
+    pub spare: bool,
     pub invocation: Option<Inv>,
     pub state: ThreadState,
 }
