@@ -103,6 +103,42 @@ row_taken t n o is h =
     let k : lowest_row t < length t = omega arith in
     ap (λ p. set t p (Some o)) (is ∙ sym (place_is t k))
 
+-- any free row is taken
+
+pub row_free : (t : List (Option Obj)) (n : ℕ) → n < length t → object_in (slice_get t n) ≡ None → is_none (get_or t n None) ≡ true
+row_free [] n h e = absurd (omega arith)
+row_free (None ∷ t) zero h e = refl
+row_free (Some o ∷ t) zero h e = cc
+row_free (row ∷ t) (suc n) h e = row_free t n (omega arith) e
+
+-- one that is not the lowest
+pub lowest_put :
+    (t : List (Option Obj)) (n : ℕ) (o : Obj) → n < length t → is_none (get_or t n None) ≡ true → (n ≡ lowest_row t → ⊥) →
+    lowest_row (set t n (Some o)) ≡ lowest_row t
+lowest_put [] n o h read not = absurd (omega arith)
+lowest_put (None ∷ t) zero o h read not = absurd (not (omega arith))
+lowest_put (Some x ∷ t) zero o h read not = cc
+lowest_put (None ∷ t) (suc n) o h read not = omega arith
+lowest_put (Some x ∷ t) (suc n) o h read not = omega (arith, lowest_put t n o (omega arith) read (λ e. not (omega (arith, e))))
+
+pub free_put : (t : List (Option Obj)) (n : ℕ) (o : Obj) → n < length t → is_none (get_or t n None) ≡ true → free_rows (set t n (Some o)) + 1 ≡ free_rows t
+free_put t n o h read =
+    let e = sum_by-set (λ (row : Option Obj). cond (is_none row) 1 0) t n (Some o) None h in
+    let k = rw read at e in
+    omega arith
+
+pub there_put : (t : List (Option Obj)) (n : ℕ) (o : Obj) → n < length t → object_in (slice_get (set t n (Some o)) n) ≡ Some o
+there_put [] n o h = absurd (omega arith)
+there_put (row ∷ t) zero o h = refl
+there_put (row ∷ t) (suc n) o h = there_put t n o (omega arith)
+
+pub others_put : (t : List (Option Obj)) (n m : ℕ) (o : Obj) → (m ≡ n → ⊥) → object_in (slice_get (set t n (Some o)) m) ≡ object_in (slice_get t m)
+others_put [] n m o not = refl
+others_put (row ∷ t) zero zero o not = absurd (not refl)
+others_put (row ∷ t) zero (suc m) o not = refl
+others_put (row ∷ t) (suc n) zero o not = refl
+others_put (row ∷ t) (suc n) (suc m) o not = others_put t n m o (λ e. not (ap suc e))
+
 -- a row is closed
 
 pub named_there : (t : List (Option Obj)) (n : ℕ) → is_some (object_in (slice_get t n)) ≡ true → (n < length t) × (is_none (get_or t n None) ≡ false)

@@ -1,6 +1,6 @@
 //! The table of a process's descriptors.
 ghost use Rattle.std.specs.Prelude.{◌≡◌, ◌+◌, ◌<◌, ◌≤◌, ◌++◌, List, Option, Some, None, IfOk, IfErr, OnOk, OnErr, is_none, is_some, length, true};
-ghost use Rattle.kernel_records.specs.Words.{close_row, close_table, descriptor, empty_table, first_refusal, free_place, free_rows, insert_row, insert_rows, lowest_free, new_descriptors, object_named, objects_of};
+ghost use Rattle.kernel_records.specs.Words.{close_row, close_table, descriptor, empty_table, first_refusal, free_place, free_rows, insert_row, insert_rows, lowest_free, new_descriptors, object_named, objects_of, with_row};
 ghost use Rattle.fd_table.specs.Duplicated.{dup_row, dup_tests};
 
 use crate::rows::{close_rows, list_objects, lowest_from};
@@ -89,6 +89,21 @@ impl FdTable {
         match self.rows.get(fd.0 as usize) {
             Some(row) => *row,
             None => None,
+        }
+    }
+
+    /// The object gets this descriptor, of a table with so many rows, in which it names nothing (fork(2)). It takes no memory.
+    pub fn put(&mut self, fd: Fd, object: Obj)
+        requires below { fd.0 < length self.old }
+        requires free { object_named self.old fd ≡ None }
+        ensures row { self.new ≡ with_row self.old fd.0 (Some object) }
+        ensures there { object_named self.new fd ≡ Some object }
+        ensures others { (other : Fd) → (other.0 ≡ fd.0 → ⊥) → object_named self.new other ≡ object_named self.old other }
+    {
+        self.rows[fd.0 as usize] = Some(object);
+        self.free -= 1;
+        if fd.0 == self.lowest {
+            self.lowest = lowest_from(&self.rows, fd.0 + 1);
         }
     }
 

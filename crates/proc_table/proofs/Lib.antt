@@ -3,3 +3,4 @@ pub mod Noting
 pub mod Others
 pub mod Places
 pub mod Walking
+pub mod Begun

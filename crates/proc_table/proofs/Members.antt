@@ -5,7 +5,9 @@ use Rattle.std.proofs.lemmas.List.{length-map, take_at}
 use Rattle.dk_base.specs.ByNumber.{at_number}
 use Rattle.kernel_records.specs.declared.record.Thread.{Thread}
 use Rattle.kernel_records.proofs.Lists.{at_number-map, at_number-push, at_number-set, numbered_past}
+use Rattle.kernel_records.proofs.NumberedLists.{map_first}
 use Rattle.kernel_records.proofs.Places.{numbered_here}
+use Rattle.kernel_records.specs.Words.{begun_thread}
 use Rattle.proc_table.specs.declared.crews.Crews.{Crews}
 use Rattle.proc_table.specs.Crews.{AreCrews, has_in, is_of}
 use Rattle.proc_table.specs.Ends.{ended_where_of}
@@ -81,27 +83,52 @@ crews_more {s} {r} {xs} a p n x l m o added = record { those = those; numbered =
         go true f g = let k : u ≡ n = grind (arith, nat_tests) in ap (λ z. z.number) (sym (some_of x y g)) ∙ m ∙ sym k
         go false f g = a.numbered u y g
 
--- all threads of a process end
-pub crews_ended : {s : Crews} {xs : List Thread} → AreCrews s xs → (p : ℕ) → AreCrews s (map (ended_where_of p) xs)
-crews_ended {s} {xs} a p =
+-- all threads change, and none its number or its process
+pub crews_mapped :
+    {s : Crews} {xs : List Thread} → AreCrews s xs → (f : Thread → Thread) → ((x : Thread) → (f x).number ≡ x.number) → ((x : Thread) → (f x).process.0 ≡ x.process.0) →
+    AreCrews s (map f xs)
+crews_mapped {s} {xs} a f number process =
     record {
-      those = λ q u. a.those q u ∙ same q (at_number xs u) ∙ ap (is_of q) (sym (at_number-map (ended_where_of p) xs u));
-      numbered = λ u y e. go u y (at_number xs u) refl (sym (at_number-map (ended_where_of p) xs u) ∙ e);
+      those = λ q u. a.those q u ∙ same q (at_number xs u) ∙ ap (is_of q) (sym (at_number-map f xs u));
+      numbered = λ u y e. go u y (at_number xs u) refl (sym (at_number-map f xs u) ∙ e);
     }
   where
-    kept : (q : ℕ) (x : Thread) (b : Bool) → (x.process.0 == p) ≡ b → (x.process.0 == q) ≡ ((ended_where_of p x).process.0 == q)
-    kept q x b e = grind (arith, nat_tests)
+    same : (q : ℕ) (o : Option Thread) → is_of q o ≡ is_of q (option_map f o)
+    same q None = refl
+    same q (Some x) = ap (λ n. n == q) (sym (process x))
 
+    go : (u : ℕ) (y : Thread) (o : Option Thread) → at_number xs u ≡ o → option_map f o ≡ Some y → y.number ≡ u
+    go u y None e g = cc
+    go u y (Some x) e g = ap (λ z. z.number) (sym (some_of (f x) y g)) ∙ number x ∙ a.numbered u x e
+
+-- all threads of a process end
+pub crews_ended : {s : Crews} {xs : List Thread} → AreCrews s xs → (p : ℕ) → AreCrews s (map (ended_where_of p) xs)
+crews_ended a p = crews_mapped a (ended_where_of p) number process
+  where
     number : (x : Thread) → (ended_where_of p x).number ≡ x.number
     number x = grind (arith, nat_tests)
 
-    same : (q : ℕ) (o : Option Thread) → is_of q o ≡ is_of q (option_map (ended_where_of p) o)
-    same q None = refl
-    same q (Some x) = kept q x (x.process.0 == p) refl
+    process : (x : Thread) → (ended_where_of p x).process.0 ≡ x.process.0
+    process x = grind (arith, nat_tests)
 
-    go : (u : ℕ) (y : Thread) (o : Option Thread) → at_number xs u ≡ o → option_map (ended_where_of p) o ≡ Some y → y.number ≡ u
-    go u y None e f = cc
-    go u y (Some x) e f = ap (λ z. z.number) (sym (some_of (ended_where_of p x) y f)) ∙ number x ∙ a.numbered u x e
+-- a process begins
+pub crews_begun : {s : Crews} {xs : List Thread} → AreCrews s xs → (p : ℕ) → AreCrews s (map (begun_thread p) xs)
+crews_begun a p = crews_mapped a (begun_thread p) number process
+  where
+    number : (x : Thread) → (begun_thread p x).number ≡ x.number
+    number x = grind (arith, nat_tests)
+
+    process : (x : Thread) → (begun_thread p x).process.0 ≡ x.process.0
+    process x = grind (arith, nat_tests)
+
+-- one more thread is changed, of those that are changed from the first on
+pub mapped_next :
+    (f : Thread → Thread) (i : ℕ) (xs : List Thread) (d : Thread) → i < length xs →
+    slice_set (map_first f i xs) i (f (get_or (map_first f i xs) i d)) ≡ map_first f (suc i) xs
+mapped_next f zero [] d l = absurd (omega arith)
+mapped_next f zero (y ∷ ys) d l = refl
+mapped_next f (suc i) [] d l = absurd (omega arith)
+mapped_next f (suc i) (y ∷ ys) d l = ap (λ zs. f y ∷ zs) (mapped_next f i ys d (omega arith))
 
 -- no set has a thread
 pub none_in : (s : ThreadSet) → ((t : ℕ) → has s t ≡ false) → (n p t : ℕ) → has_in (slice_get (replicate n s) p) t ≡ false

@@ -1,26 +1,29 @@
 //! Processes and threads.
-ghost use Rattle.std.specs.Prelude.{◌≡◌, ℕ, ◌+◌, ◌<◌, ◌≤◌, ◌++◌, ◌∷◌, ◌↔◌, [], false, true, false, length, None, count_by, map, IfNone, IfOk, IfSome, OnOk, OnErr};
+ghost use Rattle.std.specs.Prelude.{◌≡◌, ℕ, ◌+◌, ◌<◌, ◌≤◌, ◌++◌, ◌∷◌, ◌↔◌, [], false, true, false, length, None, count_by, map, position, IfNone, IfOk, IfSome, OnOk, OnErr};
 ghost use Rattle.std.specs.List.{list_any};
+ghost use Rattle.std.specs.Option.{option_map};
 ghost use Rattle.dk_base.specs.declared.error.ProcFault.TheVariants.{Full};
 ghost use Rattle.dk_base.specs.declared.limits.TheConstants.{PROCESSES_MAX, THREADS_MAX};
 ghost use Rattle.dk_base.specs.ByNumber.{at_number};
 ghost use Rattle.kernel_records.specs.declared.record.ThreadState.TheVariants.{Done};
 ghost use Rattle.proc_table.specs.Ends.{end_proc, ended_where_of};
 ghost use Rattle.proc_table.specs.Crews.{is_of};
+ghost use Rattle.proc_table.specs.Begins.{first_number};
 ghost use Rattle.proc_table.specs.Standing.{goes_on, is_awaiting, is_getting};
 ghost use Rattle.thread_set.specs.Words.{has, with_thread};
-ghost use Rattle.kernel_records.specs.Words.{ProcessTable, active_threads, cancelled_thread, change_thread, end_invocation, end_process, end_thread, enter_thread, give_thread, interrupted_thread, invocation_in, is_active_of, is_done, is_idle, is_idle_thread, is_last, is_live_in, keeps_alive, new_process, new_thread, opening_state, park_thread, process_in, set_thread_state, state_in, thread_at};
+ghost use Rattle.kernel_records.specs.Words.{ProcessTable, active_threads, begin_process, begun_thread, cancelled_thread, change_process, change_thread, end_invocation, end_process, end_thread, enter_thread, give_thread, interrupted_thread, invocation_in, is_active_of, is_done, is_fellow_caller, is_first_of, is_idle, is_idle_thread, is_last, is_live_in, is_spare_in, is_unborn_in, keeps_alive, live_process, make_child, new_process, new_thread, opening_state, parent_in, park_thread, process_in, set_thread_state, state_in, thread_at, unborn_thread};
 
 use crate::crews::Crews;
 use crate::standing::Standing;
 use crate::thread::{
-    cancel, end, end_invocation, end_where_of, enter, interrupt, is_active_of, park, turn,
+    begin_where_first, cancel, end, end_invocation, end_where_of, enter, interrupt, is_active_of,
+    is_calling, is_first_of, park, turn,
 };
 use dk_base::error::ProcFault;
 use dk_base::limits::{PROCESSES_MAX, THREADS_MAX};
 use dk_base::number::{Pid, Tid};
 use dk_base::object::{Inv, Item};
-use kernel_records::numbered::numbered_item;
+use kernel_records::numbered::{numbered_item, place_of};
 use kernel_records::record::{Process, ProcessStage, Thread, ThreadState};
 use std::alloc::Global;
 use std::marker::Model;
@@ -66,7 +69,7 @@ fn opening_state(spare: bool) -> ThreadState
 
 /// The place of a thread that has not ended.
 #[tactic(auto, using(crate::proofs::Places::thread_there))]
-fn place_of(threads: &[Thread], t: Tid) -> usize
+fn thread_place(threads: &[Thread], t: Tid) -> usize
     requires { is_done (state_in (at_number threads.now t.0)) ≡ false }
     ensures there { result < length threads.now }
     ensures place { result + 1 ≡ t.0 }
@@ -111,6 +114,23 @@ fn count_active(threads: &[Thread], p: Pid) -> usize
         .count()
 }
 
+/// The place, from 0, of the least thread of a process that is no spare.
+fn first_place(threads: &[Thread], p: Pid) -> Option<usize>
+    ensures { result ≡ position (is_first_of p.0) threads.now }
+{
+    threads.iter().position(|thread| is_first_of(thread, p))
+}
+
+/// The threads of a process run that are no spares.
+fn begin_threads(threads: &mut [Thread], p: Pid)
+    ensures { threads.new ≡ map (begun_thread p.0) threads.old }
+{
+    for i in 0..threads.len() {
+        let thread = &mut threads[i];
+        begin_where_first(thread, p);
+    }
+}
+
 /// All threads of a process end.
 fn end_threads(threads: &mut [Thread], p: Pid)
     ensures { threads.new ≡ map (ended_where_of p.0) threads.old }
@@ -152,10 +172,54 @@ impl Procs {
             number,
             made: 0,
             limit,
+            parent: None,
             stage: ProcessStage::Live,
         };
         match self.processes.push(process) {
             Ok(()) => Ok(Pid(number)),
+            Err(_) => Err(ProcFault::Memory),
+        }
+    }
+
+    /// A process is a child of another, and has not begun. A number that no process has is none.
+    pub fn make_child(&mut self, child: Pid, parent: Pid)
+        ensures { self.new ≡ make_child self.old child.0 parent.0 }
+    {
+        if let Some(place) = place_of(&self.processes, child.0) {
+            let process = &mut self.processes[place];
+            process.parent = Some(parent);
+            process.stage = ProcessStage::Unborn;
+        }
+    }
+
+    /// Another thread of a process that has not begun, under the next number: it is Dormant, whether or not it is a spare.
+    /// It is Full exactly where 64 threads are there, and Memory is want of memory. Either leaves all as it was.
+    pub fn add_unborn_thread(&mut self, p: Pid, spare: bool) -> Result<Tid, ProcFault>
+        requires { is_unborn_in (at_number self.old.processes p.0) ≡ true }
+        ensures ok { OnOk result (self.new ≡ record self.old { threads = self.old.threads ++ unborn_thread (length self.old.threads + 1) p.0 spare ∷ [] }) }
+        ensures number { IfOk result (λ t. t.0 ≡ length self.old.threads + 1) }
+        ensures full { (result ≡ Err Full) ↔ (length self.old.threads ≡ THREADS_MAX) }
+        ensures err { OnErr result (self.new ≡ self.old) }
+    {
+        let count = self.threads.len() as u32;
+        if count == THREADS_MAX {
+            return Err(ProcFault::Full);
+        }
+        let number = count + 1;
+        let thread = Thread {
+            number,
+            made: 0,
+            process: p,
+            spare,
+            invocation: None,
+            state: ThreadState::Dormant,
+        };
+        match self.threads.push(thread) {
+            Ok(()) => {
+                self.standing.note(Tid(number), &ThreadState::Dormant);
+                self.crews.add(p, Tid(number));
+                Ok(Tid(number))
+            }
             Err(_) => Err(ProcFault::Memory),
         }
     }
@@ -178,6 +242,7 @@ impl Procs {
             number,
             made: 0,
             process: p,
+            spare,
             invocation: None,
             state: opening_state(spare),
         };
@@ -215,6 +280,53 @@ impl Procs {
             Some(process) => matches!(process.stage, ProcessStage::Live),
             None => false,
         }
+    }
+
+    /// Whether a process is a child that has not begun. A number that no process has isn't.
+    pub fn is_unborn(&self, p: Pid) -> bool
+        ensures { result ≡ is_unborn_in (at_number self.now.processes p.0) }
+    {
+        match numbered_item(&self.processes, p.0) {
+            Some(process) => matches!(process.stage, ProcessStage::Unborn),
+            None => false,
+        }
+    }
+
+    /// The process that a process is a child of, if it is one.
+    pub fn parent_of(&self, p: Pid) -> Option<Pid>
+        ensures { result ≡ parent_in (at_number self.now.processes p.0) }
+    {
+        match numbered_item(&self.processes, p.0) {
+            Some(process) => process.parent,
+            None => None,
+        }
+    }
+
+    /// Whether a thread is a spare, started or not. A number that no thread has isn't.
+    pub fn is_spare(&self, t: Tid) -> bool
+        ensures { result ≡ is_spare_in (thread_at self.now t.0) }
+    {
+        match numbered_item(&self.threads, t.0) {
+            Some(thread) => thread.spare,
+            None => false,
+        }
+    }
+
+    /// The least thread of a process that is no spare, if it has one.
+    pub fn first_thread(&self, p: Pid) -> Option<Tid>
+        ensures { option_map (λ t. t.0) result ≡ first_number self.now p.0 }
+    {
+        match first_place(&self.threads, p) {
+            Some(place) => Some(Tid(place as u32 + 1)),
+            None => None,
+        }
+    }
+
+    /// Whether `u` is another thread of `t`'s process, and waits for a call.
+    pub fn is_fellow_caller(&self, t: Tid, u: Tid) -> bool
+        ensures { result ≡ is_fellow_caller self.now t.0 u.0 }
+    {
+        u.0 != t.0 && self.process_of(u).0 == self.process_of(t).0 && is_calling(self.state(u))
     }
 
     /// A thread's process, 0 for a number that no thread has.
@@ -316,7 +428,7 @@ impl Procs {
         requires { is_done (state_in (thread_at self.old t.0)) ≡ false }
         ensures { self.new ≡ set_thread_state self.old t.0 state }
     {
-        let place = place_of(&self.threads, t);
+        let place = thread_place(&self.threads, t);
         let thread = &mut self.threads[place];
         turn(thread, state);
         self.standing.note(t, &thread.state);
@@ -359,7 +471,7 @@ impl Procs {
         requires { state_in (thread_at self.old t.0) ≡ ThreadState.Given item }
         ensures { self.new ≡ enter_thread self.old t.0 item }
     {
-        let place = place_of(&self.threads, t);
+        let place = thread_place(&self.threads, t);
         let thread = &mut self.threads[place];
         enter(thread, item);
         self.standing.note(t, &thread.state);
@@ -424,9 +536,27 @@ impl Procs {
         requires { is_done (state_in (thread_at self.old t.0)) ≡ false }
         ensures { self.new ≡ end_invocation self.old t.0 }
     {
-        let place = place_of(&self.threads, t);
+        let place = thread_place(&self.threads, t);
         let thread = &mut self.threads[place];
         end_invocation(thread);
+    }
+
+    /// A process lives from now on; its threads stay as they are. A number that no process has begins none.
+    fn start_process(&mut self, p: Pid)
+        ensures { self.new ≡ change_process self.old p.0 live_process }
+    {
+        if let Some(place) = place_of(&self.processes, p.0) {
+            self.processes[place].stage = ProcessStage::Live;
+        }
+    }
+
+    /// A child process begins: its threads run that are no spares. A number that no process has begins none.
+    pub fn begin(&mut self, child: Pid)
+        ensures { self.new ≡ begin_process self.old child.0 }
+    {
+        begin_threads(&mut self.threads, child);
+        self.standing = Standing::of(&self.threads);
+        self.start_process(child);
     }
 
     /// A process ends; its threads stay as they are. A number that no process has ends no process.

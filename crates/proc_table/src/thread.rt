@@ -1,6 +1,6 @@
 //! What becomes of one thread, and what is asked of one.
 ghost use Rattle.std.specs.Prelude.{◌≡◌};
-ghost use Rattle.kernel_records.specs.Words.{cancelled_thread, ended_thread, idle_thread, interrupted_thread, is_active, is_active_of, is_idle, thread_at_state, thread_in_invocation, thread_outside};
+ghost use Rattle.kernel_records.specs.Words.{begun_thread, cancelled_thread, ended_thread, idle_thread, interrupted_thread, is_active, is_active_of, is_calling, is_first_of, is_idle, thread_at_state, thread_in_invocation, thread_outside};
 ghost use Rattle.proc_table.specs.Ends.{ended_where_of};
 
 use dk_base::number::{Pid, Tid};
@@ -26,6 +26,29 @@ pub fn is_active_of(thread: &Thread, p: Pid) -> bool
     ensures { result ≡ is_active_of p.0 thread.now }
 {
     thread.process.0 == p.0 && is_active(&thread.state)
+}
+
+/// Whether this is a thread of process `p` that is no spare.
+pub fn is_first_of(thread: &Thread, p: Pid) -> bool
+    ensures { result ≡ is_first_of p.0 thread.now }
+{
+    thread.process.0 == p.0 && !thread.spare
+}
+
+/// It runs, where it is one of process `p` and no spare: the process begins.
+pub fn begin_where_first(thread: &mut Thread, p: Pid)
+    ensures { thread.new ≡ begun_thread p.0 thread.old }
+{
+    if is_first_of(thread, p) {
+        thread.state = ThreadState::Running;
+    }
+}
+
+/// Whether a thread at this waits for a call.
+pub fn is_calling(state: &ThreadState) -> bool
+    ensures { result ≡ is_calling state.now }
+{
+    matches!(state, ThreadState::Calling { .. })
 }
 
 /// It turns to another state.

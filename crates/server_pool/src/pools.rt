@@ -5,7 +5,8 @@ ghost use Rattle.std.specs.Option.{option_copied, option_map};
 ghost use Rattle.dk_base.specs.declared.error.Errno.TheVariants.{EAGAIN, EBADF};
 ghost use Rattle.dk_base.specs.declared.limits.TheConstants.{THREADS_MAX};
 ghost use Rattle.kernel_records.specs.declared.pool.Pool.TheVariants.{Private};
-ghost use Rattle.kernel_records.specs.Words.{bind_thread, bound_at, unbind_thread};
+ghost use Rattle.kernel_records.specs.declared.pool.TheConstants.{LOST_DOOR};
+ghost use Rattle.kernel_records.specs.Words.{bind_lost, bind_thread, bound_at, unbind_thread};
 ghost use Rattle.server_pool.specs.Words.{AllBelow, AllParkedBefore, IsAscending, IsStack, change_pool, change_spares, count_calls, drop_door_in, drop_threads_in, empty_pool, enqueue_in, first_match, is_call_too_many, is_thread, is_waiting_as, item_room_in, items_at, items_waiting_at, lowest_spare, match_in, may_bind, next_of, no_pools, park_in, pick_of, pool_at, queue_in, size_in, spares_of, stack_in, thread_of, thread_room_in, unbind_each, unpark_in, with_room, with_spare, withdraw_in, without_highest, without_lowest, without_spare};
 
 use crate::bindings::{bound_at, no_bindings, set_binding};
@@ -22,7 +23,7 @@ use dk_base::list::Room;
 use dk_base::number::{Pid, Tid};
 use dk_base::object::Item;
 use kernel_records::numbered::numbered_item;
-use kernel_records::pool::{Parked, Pool, Waiting};
+use kernel_records::pool::{LOST_DOOR, Parked, Pool, Waiting};
 use std::alloc::Global;
 use std::marker::Model;
 
@@ -154,6 +155,15 @@ impl Pools {
         ensures { self.new ≡ record self.old { bindings = bind_thread self.old.bindings t.0 d } }
     {
         set_binding(&mut self.bindings, t, Some(d));
+    }
+
+    /// A thread that is not parked is bound to the door that is lost, in place of the one that it was bound to (fork(2)).
+    pub fn bind_lost(&mut self, t: Tid)
+        requires { (pool : Pool) → list_any (is_thread t.0) (stack_in self.old pool) ≡ false }
+        ensures bindings { self.new ≡ record self.old { bindings = bind_lost self.old.bindings t.0 } }
+        ensures bound { 1 ≤ t.0 → t.0 ≤ THREADS_MAX → bound_at self.new.bindings t.0 ≡ Some LOST_DOOR }
+    {
+        set_binding(&mut self.bindings, t, Some(LOST_DOOR));
     }
 
     /// The same, of a door of which this is known: EBADF where it is not valid, EINVAL where it is not private or another process's.

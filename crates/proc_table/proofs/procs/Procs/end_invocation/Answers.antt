@@ -7,7 +7,7 @@ use Rattle.proc_table.proofs.procs.Procs.end_invocation.Goals as goal
 
 pub invariant_of-self : goal.invariant_of-self
 invariant_of-self c =
-    (c.self.invariant.0, c.self.invariant.1, omega (arith, c.self.invariant.2, length-set c.self.inside.threads.items c.place_of-place.result c.end_invocation.new.thread), noted_same c.self.invariant.3 c.place_of-place.result c.end_invocation.new.thread c.index_mut-thread.result.now (rw (← c.deref.ensures.value) c.place_of-place.ensures.there) (ap (λ y. y.state) c.end_invocation.ensures ∙ ap (λ y. y.state) c.index_mut-thread.ensures.value), crews_kept c.self.invariant.4 c.place_of-place.result c.end_invocation.new.thread c.index_mut-thread.result.now (rw (← c.deref.ensures.value) c.place_of-place.ensures.there) (ap (λ y. y.number) c.end_invocation.ensures ∙ ap (λ y. y.number) c.index_mut-thread.ensures.value) (ap (λ y. y.process) c.end_invocation.ensures ∙ ap (λ y. y.process) c.index_mut-thread.ensures.value))
+    (c.self.invariant.0, c.self.invariant.1, omega (arith, c.self.invariant.2, length-set c.self.inside.threads.items c.thread_place-place.result c.end_invocation.new.thread), noted_same c.self.invariant.3 c.thread_place-place.result c.end_invocation.new.thread c.index_mut-thread.result.now (rw (← c.deref.ensures.value) c.thread_place-place.ensures.there) (ap (λ y. y.state) c.end_invocation.ensures ∙ ap (λ y. y.state) c.index_mut-thread.ensures.value), crews_kept c.self.invariant.4 c.thread_place-place.result c.end_invocation.new.thread c.index_mut-thread.result.now (rw (← c.deref.ensures.value) c.thread_place-place.ensures.there) (ap (λ y. y.number) c.end_invocation.ensures ∙ ap (λ y. y.number) c.index_mut-thread.ensures.value) (ap (λ y. y.process) c.end_invocation.ensures ∙ ap (λ y. y.process) c.index_mut-thread.ensures.value))
 
 pub returns : goal.returns
-returns c = rw (← c.self.view_is) (changed (record { processes = c.self.inside.processes.items; threads = c.self.inside.threads.items }) (thread_outside) c.args.t.0 c.place_of-place.result c.index_mut-thread.result.now c.end_invocation.new.thread c.place_of-place.ensures.place (rw (← c.deref.ensures.value) c.place_of-place.ensures.there) (c.end_invocation.ensures ∙ ap (thread_outside) c.index_mut-thread.ensures.value))
+returns c = rw (← c.self.view_is) (changed (record { processes = c.self.inside.processes.items; threads = c.self.inside.threads.items }) (thread_outside) c.args.t.0 c.thread_place-place.result c.index_mut-thread.result.now c.end_invocation.new.thread c.thread_place-place.ensures.place (rw (← c.deref.ensures.value) c.thread_place-place.ensures.there) (c.end_invocation.ensures ∙ ap (thread_outside) c.index_mut-thread.ensures.value))
