@@ -19,7 +19,7 @@ use Rattle.written_kernel.specs.Descriptors.{await, await_name, door_named}
 use Rattle.written_kernel.specs.Doors.{accept, accept_call, accept_notice, begin_call, begin_notice, call, collect, create, fail_begin, has_room, return, return_parked, return_unbound, tables_with}
 use Rattle.written_kernel.specs.Binding.{information_of_bound}
 use Rattle.written_kernel.specs.Information.{credentials, information, parameter as get_parameter, door_at, set_parameter}
-use Rattle.written_kernel.specs.Leaving.{test_cancel, exit, kill, leave, leave_process, leave_thread, revoke}
+use Rattle.written_kernel.specs.Leaving.{test_cancel, exit, fork, kill, leave, leave_process, leave_thread, revoke}
 use Rattle.written_kernel.specs.Pipes.{held_in, pipe_at, table_with_reader}
 use Rattle.dk_base.specs.declared.set.PollSet.{PollSet}
 use Rattle.written_kernel.specs.Associations.{associated, dissociated, key_at, watched}
@@ -224,12 +224,14 @@ pub data Moves (m : State) (t : ℕ) : Option Request → ActResult → Type 0 w
       (act_result (record (with_state m t is.Running) { channels = take_found m.channels q max })
       (found_answer m q max one))
   ends : (r : Request) (p : ℕ) → IsEnding m t r p → Moves m t (Some r) (act_result (leave_process m p) answer.Done)
+  forks : (child : Pid) → IsFree m t (request.Fork child) → Moves m t (Some (request.Fork child)) (fork m t (process_of m t) child.0)
 
 -- whether callers, threads or doors leave by it
 abbrev pub is_leave : {m : State} {t : ℕ} {q : Option Request} {a : ActResult} → Moves m t q a → Bool
 is_leave (leaves r who e) = true
 is_leave (revokes fd f) = true
 is_leave (ends r p e) = true
+is_leave (forks child f) = true
 is_leave _ = false
 
 pub given_is : (c t : ℕ) (r : Call) → is_given_as c t r ≡ true → (r.number ≡ c) × (r.stage ≡ stage.Given (tid t))
@@ -330,6 +332,7 @@ module _ (m : State) (t : ℕ) where
   effect_moves (request.Interrupt u) f = leaves _ _ (interrupts u)
   effect_moves (request.Kill p) f = kill_moves p
   effect_moves request.Exit f = exit_moves
+  effect_moves (request.Fork child) f = forks child f
   effect_moves (request.Info fd) f = nothing _ (informs fd f)
   effect_moves request.InfoQuery f = nothing _ (informs_bound f)
   effect_moves (request.GetParam fd x) f = nothing _ (values fd x f)

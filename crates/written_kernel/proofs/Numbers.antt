@@ -7,7 +7,7 @@ use Rattle.dk_base.specs.declared.object.Item.TheVariants as item
 use Rattle.dk_base.specs.declared.request.Param.TheVariants as param
 use Rattle.kernel_records.specs.declared.record.CallStage.TheVariants as stage
 use Rattle.kernel_records.specs.declared.record.NoticeStage.TheVariants as notice
-use Rattle.kernel_records.specs.Words.{CallTree, IsAscending, IsCounted, Leaving, NoticeList, at_stage, call_number, change_first, end_notice, end_owner, is_client_call_of, is_given_as, is_given_notice_as, is_notice_entered_by, is_queued_as, is_queued_in, is_to_collect_as, is_waiting_notice_as, left_call, new_door, new_notice, notice_at, notice_number, objects_passed, open_call, process_end, return_call, revocation, revoke_door, revoked_door, set_param, tid, with_door, with_param, without_arguments_at}
+use Rattle.kernel_records.specs.Words.{CallTree, IsAscending, IsCounted, Leaving, NoticeList, at_stage, call_number, change_first, end_notice, end_owner, forking, is_client_call_of, is_given_as, is_given_notice_as, is_notice_entered_by, is_queued_as, is_queued_in, is_to_collect_as, is_waiting_notice_as, left_call, new_door, new_notice, notice_at, notice_number, objects_passed, open_call, process_end, return_call, revocation, revoke_door, revoked_door, set_param, tid, with_door, with_param, without_arguments_at}
 use Rattle.written_kernel.specs.Acts.{ActResult}
 use Rattle.written_kernel.proofs.Moves.{Moves, act_moves}
 use Rattle.written_kernel.specs.State.{State, calls_waiting, now, pick, process_of, table_of}
@@ -195,6 +195,7 @@ move-listed m t q a (Moves.collects c e) l = one_call_moves m (is_to_collect_as 
 move-listed m t q a (Moves.leaves r who _) l = leave-listed m who l
 move-listed m t q a (Moves.revokes fd f) l = revoke-listed m (process_of m t) fd l
 move-listed m t q a (Moves.ends r p _) l = leave_process-listed m p l
+move-listed m t q a (Moves.forks child f) l = leave-listed m (forking m.process_table t) l
 move-listed m t q a _ l = l
 
 pub act-listed : (m : State) (t : ℕ) (r : Option Request) → IsListed m → IsListed (act m t r).state

@@ -1,23 +1,25 @@
 -- What holds of the states in which a run may begin.
-use Rattle.std.proofs.Common.{◌≡◌, ◌<◌, ◌≤◌, ℕ, zero, suc, ◌+◌, ◌==◌, Bool, true, false, if◌then◌else◌, List, [], ◌∷◌, ◌++◌, Option, None, Some, option_map, unwrap_or, length, length-append, map, replicate, slice_get, refl, sym, subst, ap, ap₂, ◌∙◌, ◌⊎◌, inl, inr, ⊎_elim, arith}
+use Rattle.std.proofs.Common.{◌≡◌, ◌<◌, ◌≤◌, ℕ, zero, suc, ◌+◌, ◌==◌, ◌||◌, Bool, true, false, true≢false, if◌then◌else◌, List, [], ◌∷◌, ◌++◌, Option, None, Some, option_map, unwrap_or, length, length-append, map, replicate, slice_get, refl, sym, subst, ap, ap₂, ◌∙◌, ◌⊎◌, inl, inr, ⊎_elim, arith}
 use Rattle.std.proofs.lemmas.Bool.Decides.{nat_tests}
+use Rattle.std.specs.List.{list_any}
 use Rattle.std.proofs.lemmas.List.{length-map, map-append}
 use Rattle.dk_base.specs.ByNumber.{at_number}
 use Rattle.dk_base.specs.declared.limits.TheConstants.{THREADS_MAX}
-use Rattle.written_kernel.specs.Types.{Fd, Obj, Process, Thread}
-use Rattle.kernel_records.specs.declared.record.ProcessStage.TheVariants.{Live}
+use Rattle.written_kernel.specs.Types.{Fd, Obj, Pid, Process, Thread}
+use Rattle.kernel_records.specs.declared.record.ProcessStage.TheVariants.{Live, Unborn}
 use Rattle.kernel_records.specs.declared.record.ThreadState.TheVariants as is
-use Rattle.kernel_records.specs.Words.{CallTree, NoticeList, bound_at, bound_in, empty_table, invocation_in, items_in_order, kept_notices, live_calls, new_process, new_thread, no_associations, object_in, object_named, opening_state, state_in, table_in}
-use Rattle.written_kernel.specs.State.{State, bound_of, invocation_of, object_at, state_of, thread_of, waiting_items}
+use Rattle.kernel_records.specs.Words.{CallTree, NoticeList, ProcessTable, bound_at, bound_in, change_process_in, child_of, empty_table, invocation_in, is_unborn_in, items_in_order, kept_notices, live_calls, make_child, new_process, new_thread_where, no_associations, object_in, object_named, opening_state, parent_in, pid, process_in, state_in, table_in}
+use Rattle.written_kernel.specs.State.{State, bound_of, invocation_of, is_unborn_process, object_at, parent_of, process_of, state_of, table_of, thread_of, waiting_items}
 use Rattle.written_kernel.specs.Kept.{forget}
-use Rattle.written_kernel.specs.Opening.{IsOpening, no_process, opening, with_new_process, with_new_thread, with_processes}
-use Rattle.written_kernel.specs.Opening.IsOpening.{processes, thread}
-use Rattle.kernel_records.proofs.Lists.{numbered_push, at_number-map, at_number-suc, numbered_within}
+use Rattle.written_kernel.specs.Opening.{IsOpening, is_thread_of, no_process, opening, with_child, with_new_process, with_new_thread, with_processes}
+use Rattle.written_kernel.specs.Opening.IsOpening.{child as is_child, processes, thread}
+use Rattle.kernel_records.proofs.Lists.{numbered_push, at_number-map, at_number-suc, numbered_within, same_length}
+use Rattle.written_kernel.proofs.Threads.{at_number-change_process, map-change_process}
 
 pub record IsOpeningProcess (p : ℕ) (x : Process) : Type 0 where
   pub number : x.number ≡ p
   pub made : x.made ≡ 0
-  pub stage : x.stage ≡ Live
+  pub stage : (x.stage ≡ Live) ⊎ (x.stage ≡ Unborn)
 
 pub record IsOpeningThread (t : ℕ) (x : Thread) : Type 0 where
   pub number : x.number ≡ t
@@ -53,9 +55,46 @@ length-with_new_process :
 length-with_new_process m limit =
     length-append m.process_table.processes (new_process (length m.process_table.processes + 1) limit ∷ [])
 
+-- the thread that is one more
+abbrev pub next_thread : State → ℕ → Bool → Thread
+next_thread m p spare = new_thread_where (is_unborn_process m p) (length m.process_table.threads + 1) p spare
+
+next_process : (m : State) (p : ℕ) (spare : Bool) → (next_thread m p spare).process.0 ≡ p
+next_process m p spare = go (is_unborn_process m p)
+  where
+    go : (b : Bool) → (new_thread_where b (length m.process_table.threads + 1) p spare).process.0 ≡ p
+    go true = refl
+    go false = refl
+
 pub length-with_new_thread :
     (m : State) (p : ℕ) (spare : Bool) → length (with_new_thread m p spare).process_table.threads ≡ length m.process_table.threads + 1
-length-with_new_thread m p spare = length-append m.process_table.threads (new_thread (length m.process_table.threads + 1) p spare ∷ [])
+length-with_new_thread m p spare = length-append m.process_table.threads (next_thread m p spare ∷ [])
+
+pub length-with_child :
+    (m : State) (c parent : ℕ) → length (with_child m c parent).process_table.processes ≡ length m.process_table.processes
+length-with_child m c parent =
+    same_length process_number (with_child m c parent).process_table.processes m.process_table.processes
+    (map-change_process process_number m.process_table c (child_of parent) (λ x. refl))
+  where
+    process_number : Process → ℕ
+    process_number x = x.number
+
+-- a process is made a child, and no thread changes
+pub threads-make_child : (table : ProcessTable) (c parent : ℕ) → (make_child table c parent).threads ≡ table.threads
+threads-make_child table c parent = go (at_number table.processes c)
+  where
+    go : (o : Option Process) → (change_process_in table c (child_of parent) o).threads ≡ table.threads
+    go None = refl
+    go (Some x) = refl
+
+pub thread_of-with_child : (m : State) (c parent t : ℕ) → thread_of (with_child m c parent) t ≡ thread_of m t
+thread_of-with_child m c parent t = ap (λ xs. at_number xs t) (threads-make_child m.process_table c parent)
+
+pub process_at-with_child :
+    (m : State) (c parent p : ℕ) →
+    at_number (with_child m c parent).process_table.processes p
+    ≡ (if p == c then option_map (child_of parent) (at_number m.process_table.processes c) else at_number m.process_table.processes p)
+process_at-with_child m c parent p = at_number-change_process m.process_table c p (child_of parent)
 
 length-with_processes :
     (limits : List ℕ) (m : State) →
@@ -131,7 +170,7 @@ with_new_process-opened m limit h =
     record {
       processes =
           still_each IsOpeningProcess m.process_table.processes (new_process (length m.process_table.processes + 1) limit) h.processes
-          (record { number = refl; made = refl; stage = refl });
+          (record { number = refl; made = refl; stage = inl refl });
       tables = ap (λ ts. ts ++ empty_table limit ∷ []) h.tables ∙ sym (map-append opening_table m.process_table.processes (new_process (length m.process_table.processes + 1) limit ∷ []));
       threads = h.threads;
       declared = λ t x e. declared_still m limit x.process.0 (h.declared t x e);
@@ -158,13 +197,10 @@ with_new_thread-opened m p spare there few h =
       processes = h.processes;
       tables = h.tables;
       threads =
-          still_each IsOpeningThread m.process_table.threads (new_thread (length m.process_table.threads + 1) p spare) h.threads
-          (record { number = refl; made = refl; invocation = refl; state = begins spare });
+          still_each IsOpeningThread m.process_table.threads (next_thread m p spare) h.threads (new (is_unborn_process m p));
       declared =
-          still_each (λ t (x : Thread). IsDeclaredIn m x.process.0) m.process_table.threads
-          (new_thread (length m.process_table.threads + 1) p spare)
-          h.declared
-          there;
+          still_each (λ t (x : Thread). IsDeclaredIn m x.process.0) m.process_table.threads (next_thread m p spare) h.declared
+          (subst (IsDeclaredIn m) (sym (next_process m p spare)) there);
       few_threads =
           let more : length (with_new_thread m p spare).process_table.threads ≡ length m.process_table.threads + 1 = length-with_new_thread m p spare in
           omega arith;
@@ -181,9 +217,171 @@ with_new_thread-opened m p spare there few h =
     begins true = inr refl
     begins false = inl refl
 
+    new : (b : Bool) → IsOpeningThread (length m.process_table.threads + 1) (new_thread_where b (length m.process_table.threads + 1) p spare)
+    new true = record { number = refl; made = refl; invocation = refl; state = inr refl }
+    new false = record { number = refl; made = refl; invocation = refl; state = begins spare }
+
+-- another of these processes is a child
+with_child-opened : (m : State) (c parent : ℕ) → IsOpened m → IsOpened (with_child m c parent)
+with_child-opened m c parent h =
+    record {
+      processes = λ p x e. child_or_not p x (p == c) refl (sym (process_at-with_child m c parent p) ∙ e);
+      tables = h.tables ∙ sym (map-change_process opening_table m.process_table c (child_of parent) (λ x. refl));
+      threads = λ t x e. h.threads t x (sym (thread_of-with_child m c parent t) ∙ e);
+      declared =
+          λ t x e.
+          let there : IsDeclaredIn m x.process.0 = h.declared t x (sym (thread_of-with_child m c parent t) ∙ e) in
+          (there.0, subst (λ n. x.process.0 ≤ n) (sym (length-with_child m c parent)) there.1);
+      few_threads = subst (λ (xs : List Thread). length xs ≤ THREADS_MAX) (sym (threads-make_child m.process_table c parent)) h.few_threads;
+      bindings = h.bindings;
+      names = h.names;
+      doors = h.doors;
+      call_tree = h.call_tree;
+      notice_list = h.notice_list;
+      channels = h.channels;
+      events = h.events;
+    }
+  where
+    made_child : (p : ℕ) (x : Process) (o : Option Process) → at_number m.process_table.processes p ≡ o → option_map (child_of parent) o ≡ Some x → IsOpeningProcess p x
+    made_child p x None f e = cc
+    made_child p x (Some y) f e =
+        let it : child_of parent y ≡ x = cc in
+        subst (IsOpeningProcess p) it (record { number = (h.processes p y f).number; made = (h.processes p y f).made; stage = inr refl })
+
+    child_or_not :
+        (p : ℕ) (x : Process) (b : Bool) → (p == c) ≡ b →
+        (if b then option_map (child_of parent) (at_number m.process_table.processes c) else at_number m.process_table.processes p) ≡ Some x →
+        IsOpeningProcess p x
+    child_or_not p x true f e =
+        let it : p ≡ c = grind (arith, nat_tests) in
+        made_child p x (at_number m.process_table.processes c) (ap (at_number m.process_table.processes) it) e
+    child_or_not p x false f e = h.processes p x e
+
 pub opened : {m : State} → IsOpening m → IsOpened m
 opened (processes limits) = with_processes-opened no_process limits no_process-opened
+opened (is_child {m} c parent first after there long none h) = with_child-opened m c parent (opened h)
 opened (thread {m} p spare low high few h) = with_new_thread-opened m p spare (low, high) few (opened h)
+
+-- children, and the threads of what has not begun
+
+pub record IsOpeningChild (m : State) (c parent : ℕ) : Type 0 where
+  pub first : 1 ≤ parent
+  pub after : parent < c
+  pub limit : length (table_of m c) ≡ length (table_of m parent)
+
+parents-with_processes :
+    (limits : List ℕ) (m : State) → ((p : ℕ) → parent_of m p ≡ None) → (p : ℕ) → parent_of (with_processes m limits) p ≡ None
+parents-with_processes [] m h p = h p
+parents-with_processes (limit ∷ limits) m h p = parents-with_processes limits (with_new_process m limit) one p
+  where
+    new : Process
+    new = new_process (length m.process_table.processes + 1) limit
+
+    one : (q : ℕ) → parent_of (with_new_process m limit) q ≡ None
+    one q = ap parent_in (numbered_push m.process_table.processes new q) ∙ go (q == length m.process_table.processes + 1)
+      where
+        go : (b : Bool) → parent_in (if b then Some new else at_number m.process_table.processes q) ≡ None
+        go true = refl
+        go false = h q
+
+pub children-opening : {m : State} → IsOpening m → (p : ℕ) (q : Pid) → parent_of m p ≡ Some q → IsOpeningChild m p q.0
+children-opening (processes limits) p q e =
+    let none : parent_of (opening limits) p ≡ None = parents-with_processes limits no_process no_parent p in
+    let it : None ≡ Some q = sym none ∙ e in
+    cc
+  where
+    no_parent : (k : ℕ) → parent_of no_process k ≡ None
+    no_parent zero = refl
+    no_parent (suc k) = ap parent_in (at_number-suc {X = Process} [] k)
+children-opening (is_child {m} c parent first after there long none h) p q e =
+    go (children-opening h p q) (p == c) refl (at_number m.process_table.processes c)
+    (ap parent_in (sym (process_at-with_child m c parent p)) ∙ e)
+  where
+    made : (o : Option Process) → p ≡ c → parent_in (option_map (child_of parent) o) ≡ Some q → IsOpeningChild (with_child m c parent) p q.0
+    made None i f = cc
+    made (Some x) i f =
+        let it : pid parent ≡ q = cc in
+        subst (λ n. IsOpeningChild (with_child m c parent) n q.0) (sym i)
+        (subst (λ (n : Pid). IsOpeningChild (with_child m c parent) c n.0) it (record { first = first; after = after; limit = long }))
+
+    go :
+        (parent_of m p ≡ Some q → IsOpeningChild m p q.0) → (b : Bool) → (p == c) ≡ b → (o : Option Process) →
+        parent_in (if b then option_map (child_of parent) o else at_number m.process_table.processes p) ≡ Some q →
+        IsOpeningChild (with_child m c parent) p q.0
+    go g true i o f = made o (grind (arith, nat_tests)) f
+    go g false i o f =
+        let it : IsOpeningChild m p q.0 = g f in record { first = it.first; after = it.after; limit = it.limit }
+children-opening (thread {m} n spare low high few h) p q e =
+    let it : IsOpeningChild m p q.0 = children-opening h p q e in record { first = it.first; after = it.after; limit = it.limit }
+
+-- a test that no item passes fails at each place
+pub none_passes :
+    {X : Type 0} (test : X → Bool) (xs : List X) → list_any test xs ≡ false → (k : ℕ) (x : X) → at_number xs k ≡ Some x → test x ≡ false
+none_passes test xs e zero x f = cc
+none_passes {X} test xs e (suc k) x f = go xs k e (sym (at_number-suc xs k) ∙ f)
+  where
+    first : (a b : Bool) → a || b ≡ false → a ≡ false
+    first false b g = refl
+    first true b g = cc
+
+    second : (a b : Bool) → a || b ≡ false → b ≡ false
+    second false b g = g
+    second true b g = cc
+
+    go : (ys : List X) (i : ℕ) → list_any test ys ≡ false → slice_get ys i ≡ Some x → test x ≡ false
+    go [] i g f = cc
+    go (y ∷ ys) zero g f = let it : y ≡ x = cc in subst (λ z. test z ≡ false) it (first (test y) (list_any test ys) g)
+    go (y ∷ ys) (suc i) g f = go ys i (second (test y) (list_any test ys) g) f
+
+pub unborn-opening : {m : State} → IsOpening m → (t : ℕ) → is_unborn_process m (process_of m t) ≡ true → state_of m t ≡ is.Dormant
+unborn-opening (processes limits) t e =
+    let none : thread_of (opening limits) t ≡ None = ap (λ xs. at_number xs t) (opening_threads limits) ∙ no_thread t in
+    let it : false ≡ true = ap (λ o. is_unborn_process (opening limits) (process_in o)) (sym none) ∙ e in
+    cc
+  where
+    no_thread : (k : ℕ) → at_number {X = Thread} [] k ≡ None
+    no_thread zero = refl
+    no_thread (suc k) = at_number-suc {X = Thread} [] k
+unborn-opening (is_child {m} c parent first after there long none h) t e =
+    ap state_in same ∙ go (unborn-opening h t) (thread_of m t) refl (process_of m t == c) refl
+    (sym (ap is_unborn_in (process_at-with_child m c parent (process_of m t)))
+    ∙ ap (λ o. is_unborn_process (with_child m c parent) (process_in o)) (sym same)
+    ∙ e)
+  where
+    same : thread_of (with_child m c parent) t ≡ thread_of m t
+    same = thread_of-with_child m c parent t
+
+    go :
+        (is_unborn_process m (process_of m t) ≡ true → state_of m t ≡ is.Dormant) → (o : Option Thread) → thread_of m t ≡ o → (b : Bool) →
+        (process_of m t == c) ≡ b →
+        is_unborn_in
+        (if b then option_map (child_of parent) (at_number m.process_table.processes c) else at_number m.process_table.processes (process_of m t))
+        ≡ true →
+        state_of m t ≡ is.Dormant
+    go k o f false i g = k g
+    go k None f true i g = let it : process_of m t ≡ 0 = ap process_in f in grind (arith, nat_tests)
+    go k (Some x) f true i g =
+        let it : process_of m t ≡ x.process.0 = ap process_in f in
+        let not_of_it : (x.process.0 == c) ≡ false = none_passes (is_thread_of c) m.process_table.threads none t x f in
+        absurd (true≢false (sym (subst (λ n. (n == c) ≡ true) it i) ∙ not_of_it))
+unborn-opening (thread {m} p spare low high few h) t e =
+    go (unborn-opening h t) (t == length m.process_table.threads + 1) refl
+    (ap (λ o. is_unborn_process m (process_in o)) (sym (numbered_push m.process_table.threads (next_thread m p spare) t)) ∙ e)
+    (ap state_in (numbered_push m.process_table.threads (next_thread m p spare) t))
+  where
+    new : (b : Bool) → is_unborn_process m p ≡ b → b ≡ true → (new_thread_where b (length m.process_table.threads + 1) p spare).state ≡ is.Dormant
+    new true f g = refl
+    new false f g = cc
+
+    go :
+        (is_unborn_process m (process_of m t) ≡ true → state_of m t ≡ is.Dormant) → (b : Bool) →
+        (t == length m.process_table.threads + 1) ≡ b →
+        is_unborn_process m (process_in (if b then Some (next_thread m p spare) else thread_of m t)) ≡ true →
+        state_of (with_new_thread m p spare) t ≡ state_in (if b then Some (next_thread m p spare) else thread_of m t) →
+        state_of (with_new_thread m p spare) t ≡ is.Dormant
+    go k true i g f =
+        f ∙ new (is_unborn_process m p) refl (ap (is_unborn_process m) (sym (next_process m p spare)) ∙ g)
+    go k false i g f = f ∙ k g
 
 -- readers at such a state
 

@@ -7,9 +7,9 @@ use Rattle.dk_base.specs.ByNumber.{at_number}
 use Rattle.dk_base.specs.declared.object.Item.TheVariants as item
 use Rattle.written_kernel.specs.Types.{Item, Parked, Pool, Thread, ThreadState, Waiting}
 use Rattle.kernel_records.specs.declared.record.ThreadState.TheVariants as is
-use Rattle.kernel_records.specs.Words.{ProcessTable, better_parked, bound_at, is_dormant, is_spare_of, make_notice, new_thread, parked_at, parked_in, parked_thread, pick_among, pool_of_thread, set_thread_state, start_thread_at, state_in, thread_at, thread_at_state}
+use Rattle.kernel_records.specs.Words.{ProcessTable, better_parked, bound_at, is_dormant, is_spare_of, make_notice, new_thread, parked_at, parked_in, parked_thread, pick_among, pool_of_thread, process_in, set_thread_state, start_thread_at, state_in, thread_at, thread_at_state}
 use Rattle.written_kernel.specs.Notices.{is_due, make_each, make_notices}
-use Rattle.written_kernel.specs.State.{State, door_of, now, pick, pool_of, state_of, waiting_items, with_state}
+use Rattle.written_kernel.specs.State.{State, door_of, now, pick, pool_of, process_of, state_of, waiting_items, with_state}
 use Rattle.written_kernel.specs.Settle.{fail_each, fail_one, fail_return, fail_returns, give, give_and_start, give_each, give_one, give_to, has_lost_door, needs_spare, settle, settle_pools, start_each, start_one, start_spares}
 use Rattle.written_kernel.specs.Telling.{tell}
 use Rattle.kernel_records.proofs.Lists.{at_number-suc, same_length}
@@ -31,17 +31,34 @@ dormant_is : (s : ThreadState) → is_dormant s ≡ true → s ≡ is.Dormant
 dormant_is is.Dormant e = refl
 dormant_is s e = cc
 
-spare_is_dormant :
-    (table : ProcessTable) (p i : ℕ) → position (is_spare_of p) table.threads ≡ Some i →
-    state_in (thread_at table (i + 1)) ≡ is.Dormant
-spare_is_dormant table p i e =
-    let x : IsSpareAt table.threads p i = spare_at table.threads p i e in
-    ap state_in (ap (at_number table.threads) (omega arith) ∙ at_number-suc table.threads i ∙ x.there)
-    ∙ dormant_is x.spare.state (second (x.spare.process.0 == p) (is_dormant x.spare.state) x.is_spare)
+-- and is of the process
+record IsSpareThread (table : ProcessTable) (p t : ℕ) : Type 0 where
+  dormant : state_in (thread_at table t) ≡ is.Dormant
+  process : process_in (thread_at table t) ≡ p
+
+spare_thread : (table : ProcessTable) (p i : ℕ) → position (is_spare_of p) table.threads ≡ Some i → IsSpareThread table p (i + 1)
+spare_thread table p i e =
+    record {
+      dormant = ap state_in found ∙ dormant_is x.spare.state (second (x.spare.process.0 == p) (is_dormant x.spare.state) x.is_spare);
+      process = ap process_in found ∙ same (first (x.spare.process.0 == p) (is_dormant x.spare.state) x.is_spare);
+    }
   where
+    x : IsSpareAt table.threads p i
+    x = spare_at table.threads p i e
+
+    found : thread_at table (i + 1) ≡ Some x.spare
+    found = ap (at_number table.threads) (omega arith) ∙ at_number-suc table.threads i ∙ x.there
+
+    first : (b c : Bool) → b && c ≡ true → b ≡ true
+    first true c e = refl
+    first false c e = cc
+
     second : (b c : Bool) → b && c ≡ true → c ≡ true
     second true c e = e
     second false c e = cc
+
+    same : (x.spare.process.0 == p) ≡ true → x.spare.process.0 ≡ p
+    same f = grind (arith, nat_tests)
 
 -- a state with one notice more
 abbrev pub with_notice_of : State → ℕ → State
@@ -102,25 +119,40 @@ module _ (P : State → Type 0) where
   pub give-all : KeptByGiving → (m : State) → P m → P (give m)
   give-all one m h = give_each-all one m (waiting_items m) h
 
-  start_one-all : KeptByStarting → (m : State) (p : ℕ) (b : Bool) → P m → P (start_one m p b)
-  start_one-all one m p false h = h
-  start_one-all one m p true h = go (position (is_spare_of p) m.process_table.threads) refl
+  -- of a process that needs a spare
+  abbrev pub KeptByNeeded : State → State → State → Type 0
+  KeptByNeeded before ungiven given =
+      (m : State) (t : ℕ) → state_of m t ≡ is.Dormant → needs_spare before ungiven given (process_of m t) ≡ true → P m →
+      P (with_state m t is.Running)
+
+  start_one-all :
+      (before ungiven given : State) → KeptByNeeded before ungiven given → (m : State) (p : ℕ) (b : Bool) →
+      needs_spare before ungiven given p ≡ b → P m → P (start_one m p b)
+  start_one-all before ungiven given one m p false n h = h
+  start_one-all before ungiven given one m p true n h = go (position (is_spare_of p) m.process_table.threads) refl
     where
       go :
           (o : Option ℕ) → position (is_spare_of p) m.process_table.threads ≡ o →
           P (record m { process_table = start_thread_at m.process_table o })
       go None e = h
-      go (Some i) e = one m (i + 1) (spare_is_dormant m.process_table p i e) h
+      go (Some i) e =
+          let x : IsSpareThread m.process_table p (i + 1) = spare_thread m.process_table p i e in
+          one m (i + 1) x.dormant (ap (needs_spare before ungiven given) x.process ∙ n) h
 
-  start_each-all : KeptByStarting → (before ungiven given : State) (n : ℕ) → P given → P (start_each before ungiven given n)
-  start_each-all one before ungiven given zero h = h
-  start_each-all one before ungiven given (suc n) h =
-      start_one-all one (start_each before ungiven given n) (suc n) (needs_spare before ungiven given (suc n))
-      (start_each-all one before ungiven given n h)
+  start_each-needed :
+      (before ungiven given : State) → KeptByNeeded before ungiven given → (n : ℕ) → P given → P (start_each before ungiven given n)
+  start_each-needed before ungiven given one zero h = h
+  start_each-needed before ungiven given one (suc n) h =
+      start_one-all before ungiven given one (start_each before ungiven given n) (suc n) (needs_spare before ungiven given (suc n)) refl
+      (start_each-needed before ungiven given one n h)
+
+  pub start_spares-needed :
+      (before ungiven given : State) → KeptByNeeded before ungiven given → P given → P (start_spares before ungiven given)
+  start_spares-needed before ungiven given one h =
+      start_each-needed before ungiven given one (length given.process_table.processes) h
 
   pub start_spares-all : KeptByStarting → (before ungiven given : State) → P given → P (start_spares before ungiven given)
-  start_spares-all one before ungiven given h =
-      start_each-all one before ungiven given (length given.process_table.processes) h
+  start_spares-all one before ungiven given h = start_spares-needed before ungiven given (λ m t d n k. one m t d k) h
 
   abbrev pub KeptByTelling : Type 0
   KeptByTelling = (m : State) → P m → P (tell m)

@@ -1,25 +1,26 @@
 -- What every step keeps: the numbers of processes and threads, who the threads are, and what doors were made as.
-use Rattle.std.proofs.Common.{◌≡◌, ℕ, ◌+◌, Bool, true, false, if◌then◌else◌, List, [], ◌∷◌, ◌++◌, Option, None, Some, option_map, length, map, unwrap_or, refl, sym, ap, ◌∙◌, length-set}
+use Rattle.std.proofs.Common.{◌≡◌, ℕ, ◌+◌, Bool, true, false, if◌then◌else◌, List, [], ◌∷◌, ◌++◌, Option, None, Some, is_some, option_map, length, map, unwrap_or, refl, sym, ap, ◌∙◌, length-set}
 use Rattle.std.proofs.lemmas.List.{length-map, map-append}
 use Rattle.dk_base.specs.ByNumber.{at_number}
 use Rattle.written_kernel.specs.Types.{Attrs, Door, Fd, Item, Name, Obj, Param, Pass, Pid, Process, Request, Thread, ThreadState}
 use Rattle.dk_base.specs.declared.object.Item.TheVariants as item
 use Rattle.dk_base.specs.declared.request.Param.TheVariants as param
+use Rattle.dk_base.specs.declared.request.Request.TheVariants as request
 use Rattle.kernel_records.specs.declared.record.ThreadState.TheVariants as is
-use Rattle.kernel_records.specs.Words.{CallTree, Leaving, NoticeList, ProcessTable, close_row, close_table, end_owner, end_process, ended_process, free_place, free_row, insert_row, insert_rows, process_end, process_in, release_row, release_rows, revocation, revoke_door, revoked_door, set_param, thread_at_state, thread_outside, with_door, with_ended, with_param, with_row, with_table, change_thread}
+use Rattle.kernel_records.specs.Words.{CallTree, Leaving, NoticeList, ProcessTable, begin_process, begun_thread, close_row, close_table, end_owner, end_process, ended_process, first_place, forking, free_place, free_row, insert_row, insert_rows, live_process, process_end, process_in, release_row, release_rows, revocation, revoke_door, revoked_door, set_param, thread_at_state, thread_outside, with_door, with_ended, with_param, with_row, with_table, change_thread}
 use Rattle.written_kernel.specs.Acts.{ActResult}
 use Rattle.written_kernel.proofs.Moves.{Moves, act_moves}
-use Rattle.written_kernel.specs.State.{Channels, State, now, process_of, table_of, thread_of, with_state, with_table_of}
+use Rattle.written_kernel.specs.State.{Channels, State, bound_of, now, process_of, table_of, thread_of, with_state, with_table_of}
 use Rattle.written_kernel.specs.Descriptors.{insert_object}
 use Rattle.written_kernel.specs.Doors.{create, has_room, tables_after_collect, tables_after_pass, tables_with}
-use Rattle.written_kernel.specs.Leaving.{leave, leave_process, revoke}
+use Rattle.written_kernel.specs.Leaving.{bind_first, bindings_after_fork, fork, leave, leave_process, revoke}
 use Rattle.written_kernel.specs.Information.{door_at}
 use Rattle.written_kernel.specs.Settle.{fail_return, give_one, settle}
 use Rattle.written_kernel.specs.Telling.{tell}
 use Rattle.written_kernel.specs.Step.{act, step}
 use Rattle.written_kernel.proofs.Settling.{settle-all, with_notice_of}
 use Rattle.kernel_records.proofs.Lists.{length-with_at_number, same_length, same_numbered, at_number-map, at_number-extends, map-with_at_number, Extends, Extends-same, Extends-then}
-use Rattle.written_kernel.proofs.Threads.{map-change_thread, map-left_threads, processes-change_thread, threads-end_process}
+use Rattle.written_kernel.proofs.Threads.{map-begin_process, map-change_process, map-change_thread, map-left_threads, processes-change_thread, threads-end_process}
 use Rattle.written_kernel.proofs.Doors.{map-change_door, map-end_owner}
 
 -- what of a thread, of a process and of a door never changes
@@ -28,17 +29,19 @@ pub record ThreadIdentity : Type 0 where
   pub number : ℕ
   pub made : ℕ
   pub process : Pid
+  pub spare : Bool
 
 abbrev pub thread_identity : Thread → ThreadIdentity
-thread_identity x = record { number = x.number; made = x.made; process = x.process }
+thread_identity x = record { number = x.number; made = x.made; process = x.process; spare = x.spare }
 
 pub record ProcessIdentity : Type 0 where
   pub number : ℕ
   pub made : ℕ
   pub limit : ℕ
+  pub parent : Option Pid
 
 abbrev pub process_identity : Process → ProcessIdentity
-process_identity x = record { number = x.number; made = x.made; limit = x.limit }
+process_identity x = record { number = x.number; made = x.made; limit = x.limit; parent = x.parent }
 
 pub record DoorIdentity : Type 0 where
   pub number : ℕ
@@ -55,7 +58,7 @@ pub record Keeps (m n : State) : Type 0 where
   pub processes : map process_identity n.process_table.processes ≡ map process_identity m.process_table.processes
   pub threads : map thread_identity n.process_table.threads ≡ map thread_identity m.process_table.threads
   pub bindings : length n.bindings ≡ length m.bindings
-  pub tables : map length n.tables ≡ map length m.tables
+  pub tables : length n.tables ≡ length m.tables
   pub doors : Extends (map door_identity m.doors) (map door_identity n.doors)
   pub events : n.events ≡ m.events
 
@@ -92,10 +95,10 @@ thread-keeps m t change tree list same =
       events = refl;
     }
 
--- the same with tables, each as long as before
+-- the same with as many tables
 message-keeps :
     (m : State) (t : ℕ) (change : Thread → Thread) (tables : List (List (Option Obj))) (tree : CallTree) (list : NoticeList) →
-    ((x : Thread) → thread_identity (change x) ≡ thread_identity x) → map length tables ≡ map length m.tables →
+    ((x : Thread) → thread_identity (change x) ≡ thread_identity x) → length tables ≡ length m.tables →
     Keeps m
     (record m { process_table = change_thread m.process_table t change; tables = tables; call_tree = tree; notice_list = list })
 message-keeps m t change tables tree list same long =
@@ -118,14 +121,13 @@ tables-with_table_of :
 tables-with_table_of m p table e =
     map-with_at_number length m.tables p table (λ y h. e ∙ ap (λ (rows : Option (List (Option Obj))). length (unwrap_or rows [])) h)
 
-with_table_of-keeps :
-    (m : State) (p : ℕ) (table : List (Option Obj)) → length table ≡ length (table_of m p) → Keeps m (with_table_of m p table)
-with_table_of-keeps m p table e =
+with_table_of-keeps : (m : State) (p : ℕ) (table : List (Option Obj)) → Keeps m (with_table_of m p table)
+with_table_of-keeps m p table =
     record {
       processes = refl;
       threads = refl;
       bindings = refl;
-      tables = tables-with_table_of m p table e;
+      tables = length-with_at_number m.tables p table;
       doors = doors_same m.doors;
       events = refl;
     }
@@ -147,6 +149,11 @@ pub length-insert_rows : (table : List (Option Obj)) (objects : List Obj) → le
 length-insert_rows table [] = refl
 length-insert_rows table (o ∷ os) = length-insert_rows (insert_row table o) os ∙ length-set table (free_place table) (Some o)
 
+-- as many tables, each as long as before
+
+same_long : (tables olds : List (List (Option Obj))) → map length tables ≡ map length olds → length tables ≡ length olds
+same_long tables olds e = same_length length tables olds e
+
 after_pass-long : (m : State) (p : ℕ) (pass : List Pass) → map length (tables_after_pass m p pass) ≡ map length m.tables
 after_pass-long m p pass =
     tables-with_table_of m p (release_rows (table_of m p) pass) (length-release_rows (table_of m p) pass)
@@ -165,8 +172,7 @@ after_collect-long m p objects = go (has_room m p objects)
 -- another object, or none, at a place
 with_row-keeps :
     (m : State) (p place : ℕ) (o : Option Obj) → Keeps m (with_table_of m p (with_row (table_of m p) place o))
-with_row-keeps m p place o =
-    with_table_of-keeps m p (with_row (table_of m p) place o) (length-set (table_of m p) place o)
+with_row-keeps m p place o = with_table_of-keeps m p (with_row (table_of m p) place o)
 
 insert_object-keeps : (m : State) (p : ℕ) (o : Obj) → Keeps m (insert_object m p o).state
 insert_object-keeps m p o = with_row-keeps m p (free_place (table_of m p)) (Some o)
@@ -227,7 +233,7 @@ made_channel-keeps m p objects c =
       processes = refl;
       threads = refl;
       bindings = refl;
-      tables = with-long m p objects;
+      tables = same_long _ _ (with-long m p objects);
       doors = doors_same m.doors;
       events = refl;
     }
@@ -270,7 +276,7 @@ process_ended-keeps m p =
       processes = processes-end_process m.process_table p;
       threads = ap (map thread_identity) (threads-end_process m.process_table p);
       bindings = refl;
-      tables = tables-with_table_of m p (close_table (table_of m p)) (length-map (table_of m p) free_row);
+      tables = length-with_at_number m.tables p (close_table (table_of m p));
       doors = Extends-same (map door_identity m.doors) _ (map-end_owner door_identity (λ x. refl) m.doors p);
       events = refl;
     }
@@ -290,7 +296,7 @@ revoked-keeps m p place d =
       processes = refl;
       threads = refl;
       bindings = refl;
-      tables = tables-with_table_of m p (close_row (table_of m p) place) (length-set (table_of m p) place None);
+      tables = length-with_at_number m.tables p (close_row (table_of m p) place);
       doors = Extends-same (map door_identity m.doors) _ (map-change_door door_identity m.doors d revoked_door (λ x. refl));
       events = refl;
     }
@@ -301,6 +307,54 @@ revoke-keeps m p fd =
     (leave-keeps m (revocation (door_at m p fd)))
     (revoked-keeps (leave m (revocation (door_at m p fd))) p fd.0 (door_at m p fd))
 
+-- the state as a child process begins with these bindings and this table
+abbrev pub begun : State → ℕ → List (Option ℕ) → List (Option Obj) → State
+begun m child bindings table =
+    record m { process_table = begin_process m.process_table child; bindings = bindings; tables = with_table m.tables child table }
+
+begun-keeps :
+    (m : State) (child : ℕ) (bindings : List (Option ℕ)) (table : List (Option Obj)) → length bindings ≡ length m.bindings →
+    Keeps m (begun m child bindings table)
+begun-keeps m child bindings table e =
+    record {
+      processes =
+          map-change_process process_identity
+          (record m.process_table { threads = map (begun_thread child) m.process_table.threads })
+          child live_process
+          (λ x. refl);
+      threads = map-begin_process thread_identity (λ x. refl) m.process_table child;
+      bindings = e;
+      tables = length-with_at_number m.tables child table;
+      doors = doors_same m.doors;
+      events = refl;
+    }
+
+-- a fork leaves the calls of others, and then a child begins
+pub fork-is :
+    (m : State) (t p child : ℕ) →
+    (fork m t p child).state
+    ≡ begun (leave m (forking m.process_table t)) child (bindings_after_fork m t child) (table_of m p)
+fork-is m t p child = refl
+
+bind_first-length : (bindings : List (Option ℕ)) (o : Option ℕ) → length (bind_first bindings o) ≡ length bindings
+bind_first-length bindings None = refl
+bind_first-length bindings (Some place) = length-with_at_number bindings (place + 1) _
+
+pub bindings_after_fork-length : (m : State) (t child : ℕ) → length (bindings_after_fork m t child) ≡ length m.bindings
+bindings_after_fork-length m t child = go (is_some (bound_of m t))
+  where
+    go :
+        (b : Bool) → length (if b then bind_first m.bindings (first_place m.process_table child) else m.bindings) ≡ length m.bindings
+    go true = bind_first-length m.bindings (first_place m.process_table child)
+    go false = refl
+
+pub fork-keeps : (m : State) (t p child : ℕ) → Keeps m (fork m t p child).state
+fork-keeps m t p child =
+    keeps_then
+    (leave-keeps m (forking m.process_table t))
+    (begun-keeps (leave m (forking m.process_table t)) child (bindings_after_fork m t child) (table_of m p)
+    (bindings_after_fork-length m t child))
+
 move-keeps : (m : State) (t : ℕ) (q : Option Request) (a : ActResult) → Moves m t q a → Keeps m a.state
 move-keeps m t q a (Moves.nothing x _) = keeps_same m
 move-keeps m t q a (Moves.rows r place o x _) = with_row-keeps m (process_of m t) place o
@@ -310,25 +364,59 @@ move-keeps m t q a (Moves.parameter fd x value f) = set_param-keeps m _ x value
 move-keeps m t q a (Moves.makes entry cookie attrs f) = create-keeps m (process_of m t) entry cookie attrs
 move-keeps m t q a (Moves.turns s x _ _) = with_state-keeps m t s
 move-keeps m t q a (Moves.calls fd bytes pass rsize f) =
-    message-keeps m t _ _ _ m.notice_list (λ x. refl) (after_pass-long m (process_of m t) pass)
-move-keeps m t q a (Moves.returns bytes pass f e) = message-keeps m t _ _ _ _ (λ x. refl) (after_pass-long m (process_of m t) pass)
+    message-keeps m t _ _ _ m.notice_list (λ x. refl) (same_long _ _ (after_pass-long m (process_of m t) pass))
+move-keeps m t q a (Moves.returns bytes pass f e) = message-keeps m t _ _ _ _ (λ x. refl) (same_long _ _ (after_pass-long m (process_of m t) pass))
 move-keeps m t q a (Moves.returns_unbound bytes pass f e) =
     keeps_then
-    (message-keeps m t thread_outside _ a.state.call_tree a.state.notice_list (λ x. refl) (after_pass-long m (process_of m t) pass))
+    (message-keeps m t thread_outside _ a.state.call_tree a.state.notice_list (λ x. refl) (same_long _ _ (after_pass-long m (process_of m t) pass)))
     (bindings-keeps _ _ (length-with_at_number m.bindings t None))
-move-keeps m t q a (Moves.enters r h e) = message-keeps m t _ _ _ m.notice_list (λ x. refl) (with-long m (process_of m t) r.objects)
+move-keeps m t q a (Moves.enters r h e) = message-keeps m t _ _ _ m.notice_list (λ x. refl) (same_long _ _ (with-long m (process_of m t) r.objects))
 move-keeps m t q a (Moves.fails r h e) = thread-keeps m t _ _ m.notice_list (λ x. refl)
 move-keeps m t q a (Moves.enters_notice n h) = thread-keeps m t _ m.call_tree _ (λ x. refl)
-move-keeps m t q a (Moves.collects c e) = message-keeps m t _ _ _ m.notice_list (λ x. refl) (after_collect-long m (process_of m t) _)
+move-keeps m t q a (Moves.collects c e) = message-keeps m t _ _ _ m.notice_list (λ x. refl) (same_long _ _ (after_collect-long m (process_of m t) _))
 move-keeps m t q a (Moves.leaves r who _) = leave-keeps m who
 move-keeps m t q a (Moves.revokes fd f) = revoke-keeps m (process_of m t) fd
 move-keeps m t q a (Moves.passes r c x _) = channels-keeps m c
 move-keeps m t q a (Moves.makes_channel r c objects x _) = made_channel-keeps m (process_of m t) objects c
 move-keeps m t q a (Moves.retrieves port max nget one _) = keeps_then (with_state-keeps m t is.Running) (channels-keeps (with_state m t is.Running) _)
 move-keeps m t q a (Moves.ends r p _) = leave_process-keeps m p
+move-keeps m t q a (Moves.forks child f) = fork-keeps m t (process_of m t) child.0
 
 pub act-keeps : (m : State) (t : ℕ) (r : Option Request) → Keeps m (act m t r).state
 act-keeps m t r = move-keeps m t r (act m t r) (act_moves m t r)
+
+-- each table is as long as before, where that of a child that begins is as long as its parent's
+
+abbrev pub ForksFit : State → ℕ → Option Request → Type 0
+ForksFit m t q =
+    (child : Pid) → q ≡ Some (request.Fork child) → length (table_of m (process_of m t)) ≡ length (table_of m child.0)
+
+move-limits :
+    (m : State) (t : ℕ) (q : Option Request) (a : ActResult) → Moves m t q a → ForksFit m t q →
+    map length a.state.tables ≡ map length m.tables
+move-limits m t q a (Moves.rows r place o x _) h =
+    tables-with_table_of m (process_of m t) (with_row (table_of m (process_of m t)) place o)
+    (length-set (table_of m (process_of m t)) place o)
+move-limits m t q a (Moves.makes entry cookie attrs f) h =
+    tables-with_table_of m (process_of m t) _ (length-set (table_of m (process_of m t)) (free_place (table_of m (process_of m t))) _)
+move-limits m t q a (Moves.calls fd bytes pass rsize f) h = after_pass-long m (process_of m t) pass
+move-limits m t q a (Moves.returns bytes pass f e) h = after_pass-long m (process_of m t) pass
+move-limits m t q a (Moves.returns_unbound bytes pass f e) h = after_pass-long m (process_of m t) pass
+move-limits m t q a (Moves.enters r g e) h = with-long m (process_of m t) r.objects
+move-limits m t q a (Moves.collects c e) h = after_collect-long m (process_of m t) _
+move-limits m t q a (Moves.revokes fd f) h =
+    tables-with_table_of m (process_of m t) (close_row (table_of m (process_of m t)) fd.0)
+    (length-set (table_of m (process_of m t)) fd.0 None)
+move-limits m t q a (Moves.makes_channel r c objects x _) h = with-long m (process_of m t) objects
+move-limits m t q a (Moves.ends r p _) h =
+    tables-with_table_of m p (close_table (table_of m p)) (length-map (table_of m p) free_row)
+move-limits m t q a (Moves.forks child f) h =
+    tables-with_table_of m child.0 (table_of m (process_of m t)) (h child refl)
+move-limits m t q a _ h = refl
+
+pub act-limits :
+    (m : State) (t : ℕ) (q : Option Request) → ForksFit m t q → map length (act m t q).state.tables ≡ map length m.tables
+act-limits m t q h = move-limits m t q (act m t q) (act_moves m t q) h
 
 -- settling
 
@@ -372,7 +460,7 @@ pub record StepKeeps (m n : State) : Type 0 where
   pub processes : map process_identity n.process_table.processes ≡ map process_identity m.process_table.processes
   pub threads : map thread_identity n.process_table.threads ≡ map thread_identity m.process_table.threads
   pub bindings : length n.bindings ≡ length m.bindings
-  pub tables : map length n.tables ≡ map length m.tables
+  pub tables : length n.tables ≡ length m.tables
   pub doors : Extends (map door_identity m.doors) (map door_identity n.doors)
   pub events : n.events ≡ m.events + 1
 
@@ -399,7 +487,7 @@ processes-step m t r =
     same_length process_identity (step m t r).state.process_table.processes m.process_table.processes (step-keeps m t r).processes
 
 pub tables-step : (m : State) (t : ℕ) (r : Option Request) → length (step m t r).state.tables ≡ length m.tables
-tables-step m t r = same_length length (step m t r).state.tables m.tables (step-keeps m t r).tables
+tables-step m t r = (step-keeps m t r).tables
 
 pub doors-step :
     (m : State) (t : ℕ) (r : Option Request) → Extends (map door_identity m.doors) (map door_identity (step m t r).state.doors)

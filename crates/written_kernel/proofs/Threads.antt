@@ -5,8 +5,8 @@ use Rattle.written_kernel.specs.Types.{Call, CallStage, Inv, Process, Thread, Th
 use Rattle.kernel_records.specs.declared.record.CallStage.TheVariants as stage
 use Rattle.kernel_records.specs.declared.record.ThreadState.TheVariants as is
 use Rattle.dk_base.specs.ByNumber.{at_number}
-use Rattle.kernel_records.specs.Words.{Leaving, ProcessTable, cancelled_invocation, cancelled_thread, change_thread, change_thread_in, deserted_at, deserted_in, end_process, ended_process, ended_thread, idle_thread, interrupted_state, interrupted_thread, interrupted_where, invocation_in, is_left, is_served_by, left_thread, left_thread_of, left_threads, thread_at, with_ended}
-use Rattle.kernel_records.proofs.Lists.{at_number-renumbered_there, map-with_at_number, map-map_same}
+use Rattle.kernel_records.specs.Words.{Leaving, ProcessTable, cancelled_invocation, cancelled_thread, begin_process, begun_thread, change_process, change_process_in, change_thread, change_thread_in, deserted_at, deserted_in, end_process, ended_process, ended_thread, idle_thread, interrupted_state, interrupted_thread, interrupted_where, invocation_in, is_first_of, is_left, is_served_by, left_thread, left_thread_of, left_threads, live_process, thread_at, thread_at_state, with_ended}
+use Rattle.kernel_records.proofs.Lists.{at_number-map, at_number-renumbered_there, map-with_at_number, map-map_same}
 
 -- a change of one thread
 
@@ -71,6 +71,74 @@ at_number-end_process table p q = go (at_number table.processes p) refl
         at_number (with_ended table p o).processes q ≡ (if q == p then option_map ended_process o else at_number table.processes q)
     go None e = there (q == p) refl e
     go (Some x) e = at_number-renumbered_there table.processes p q (ended_process x) x e
+
+-- the beginning of a process
+
+pub threads-begin_process :
+    (table : ProcessTable) (p : ℕ) → (begin_process table p).threads ≡ map (begun_thread p) table.threads
+threads-begin_process table p = go (at_number table.processes p)
+  where
+    begun : ProcessTable
+    begun = record table { threads = map (begun_thread p) table.threads }
+
+    go : (o : Option Process) → (change_process_in begun p live_process o).threads ≡ map (begun_thread p) table.threads
+    go None = refl
+    go (Some x) = refl
+
+pub thread_at-begin_process :
+    (table : ProcessTable) (p u : ℕ) → thread_at (begin_process table p) u ≡ option_map (begun_thread p) (thread_at table u)
+thread_at-begin_process table p u =
+    ap (λ xs. at_number xs u) (threads-begin_process table p) ∙ at_number-map (begun_thread p) table.threads u
+
+-- a process changes
+pub at_number-change_process :
+    (table : ProcessTable) (p q : ℕ) (change : Process → Process) →
+    at_number (change_process table p change).processes q
+    ≡ (if q == p then option_map change (at_number table.processes p) else at_number table.processes q)
+at_number-change_process table p q change = go (at_number table.processes p) refl
+  where
+    there : (b : Bool) → (q == p) ≡ b → at_number table.processes p ≡ None → at_number table.processes q ≡ (if b then None else at_number table.processes q)
+    there true f e = ap (at_number table.processes) (grind (arith, nat_tests)) ∙ e
+    there false f e = refl
+
+    go :
+        (o : Option Process) → at_number table.processes p ≡ o →
+        at_number (change_process_in table p change o).processes q ≡ (if q == p then option_map change o else at_number table.processes q)
+    go None e = there (q == p) refl e
+    go (Some x) e = at_number-renumbered_there table.processes p q (change x) x e
+
+pub at_number-begin_process :
+    (table : ProcessTable) (p q : ℕ) →
+    at_number (begin_process table p).processes q
+    ≡ (if q == p then option_map live_process (at_number table.processes p) else at_number table.processes q)
+at_number-begin_process table p q = at_number-change_process (record table { threads = map (begun_thread p) table.threads }) p q live_process
+
+-- a reader that does not see the change reads the same processes
+pub map-change_process :
+    {Y : Type 0} (f : Process → Y) (table : ProcessTable) (p : ℕ) (change : Process → Process) →
+    ((x : Process) → f (change x) ≡ f x) → map f (change_process table p change).processes ≡ map f table.processes
+map-change_process f table p change same = go (at_number table.processes p) refl
+  where
+    go :
+        (o : Option Process) → at_number table.processes p ≡ o →
+        map f (change_process_in table p change o).processes ≡ map f table.processes
+    go None e = refl
+    go (Some x) e = map-with_at_number f table.processes p (change x) (λ y h. let k : x ≡ y = cc in same x ∙ ap f k)
+
+-- a thread of a process that begins stays, or runs
+pub begun_thread-case : (P : Thread → Type 0) (p : ℕ) (x : Thread) → P x → P (thread_at_state is.Running x) → P (begun_thread p x)
+begun_thread-case P p x same runs = go (is_first_of p x)
+  where
+    go : (b : Bool) → P (if b then thread_at_state is.Running x else x)
+    go true = runs
+    go false = same
+
+pub map-begin_process :
+    {Y : Type 0} (f : Thread → Y) → ((x : Thread) → f (thread_at_state is.Running x) ≡ f x) → (table : ProcessTable) (p : ℕ) →
+    map f (begin_process table p).threads ≡ map f table.threads
+map-begin_process f same table p =
+    ap (map f) (threads-begin_process table p)
+    ∙ map-map_same f (begun_thread p) (λ x. begun_thread-case (λ y. f y ≡ f x) p x refl (same x)) table.threads
 
 -- threads when callers and threads leave
 

@@ -1,14 +1,14 @@
--- The acts of leaving: interrupts, the ends of threads and of processes, and door_revoke(3C); and how a server learns that its
--- client has left. What becomes of calls, threads and notices is one word for all of them, `leave`, which takes each record from
+-- The acts of leaving: interrupts, the ends of threads and of processes, door_revoke(3C), and fork(2), at which callers are
+-- interrupted; and how a server learns that its client has left. What becomes of calls, threads and notices is one word for all of them, `leave`, which takes each record from
 -- what stands before the event.
-use Rattle.std.specs.Prelude.{ℕ, List, [], Option, Bool, false, Some, None, if◌then◌else◌}
+use Rattle.std.specs.Prelude.{ℕ, ◌+◌, List, [], ◌∷◌, Option, Bool, false, not, Some, None, if◌then◌else◌, is_some}
 use Rattle.written_kernel.specs.Types.{Fd, Inv, Request}
-use Rattle.dk_base.specs.declared.error.Errno.TheVariants.{EINVAL}
+use Rattle.dk_base.specs.declared.error.Errno.TheVariants.{EAGAIN, EINVAL}
 use Rattle.dk_base.specs.declared.request.Request.TheVariants as request
 use Rattle.dk_base.specs.declared.answer.Answer.TheVariants as answer
 use Rattle.kernel_records.specs.declared.record.ThreadState.TheVariants as is
-use Rattle.kernel_records.specs.Words.{Leaving, Test, close_row, close_table, end_owner, end_process, interruption, is_last, left_calls, left_notices, left_threads, process_end, revocation, revoke_door, revoke_tests, thread_end, with_table}
-use Rattle.written_kernel.specs.State.{State, door_of, invocation_of, is_live_process, now, table_of, with_state}
+use Rattle.kernel_records.specs.Words.{Leaving, Test, begin_process, bind_lost, close_row, close_table, end_owner, end_process, first_place, forking, interruption, is_last, left_calls, left_notices, left_threads, pid, process_end, refused_where, revocation, revoke_door, revoke_tests, thread_end, with_table}
+use Rattle.written_kernel.specs.State.{State, bound_of, door_of, invocation_of, is_live_process, is_unborn_process, now, table_of, with_state}
 use Rattle.written_kernel.specs.Acts.{ActResult, no_act}
 use Rattle.written_kernel.specs.Information.{door_at}
 
@@ -41,7 +41,7 @@ leave_process m p =
 abbrev pub exit : State → ℕ → ℕ → ActResult
 exit m t p = record { state = if is_last m.process_table t p then leave_process m p else leave_thread m t; answer = answer.Done }
 
--- a process that lives ends, whoever asks
+-- a process that lives ends, whoever asks; one that has not begun stays so
 abbrev pub kill : State → ℕ → ActResult
 kill m p = record { state = if is_live_process m p then leave_process m p else m; answer = answer.Done }
 
@@ -61,6 +61,33 @@ revoke m p fd =
       answer = answer.Done;
     }
 
+-- fork: EAGAIN for a child that has begun. The other threads of the process that wait for calls are interrupted; the child begins with
+-- the descriptors of the process, under the same numbers, and its threads run that are no spares. Where the thread that forks is bound
+-- to a door, the child's first thread is bound to the lost one. No association is of the child.
+
+abbrev pub forking_tests : State → ℕ → List Test
+forking_tests m child = refused_where (not (is_unborn_process m child)) EAGAIN ∷ []
+
+abbrev pub bind_first : List (Option ℕ) → Option ℕ → List (Option ℕ)
+bind_first bindings None = bindings
+bind_first bindings (Some place) = bind_lost bindings (place + 1)
+
+abbrev pub bindings_after_fork : State → ℕ → ℕ → List (Option ℕ)
+bindings_after_fork m t child =
+    if is_some (bound_of m t) then bind_first m.bindings (first_place m.process_table child) else m.bindings
+
+abbrev pub fork : State → ℕ → ℕ → ℕ → ActResult
+fork m t p child =
+    record {
+      state =
+          record (leave m (forking m.process_table t)) {
+            process_table = begin_process (leave m (forking m.process_table t)).process_table child;
+            bindings = bindings_after_fork m t child;
+            tables = with_table m.tables child (table_of m p);
+          };
+      answer = answer.Child (pid child);
+    }
+
 -- whether the client of an invocation has left it
 
 abbrev pub is_cancelled : Option Inv → Bool
@@ -78,6 +105,7 @@ wake m t = record { state = with_state m t is.Running; answer = answer.Failure E
 
 abbrev pub tests_of_leaving : State → ℕ → ℕ → Request → List Test
 tests_of_leaving m t p (request.Revoke fd) = revoking_tests m p fd
+tests_of_leaving m t p (request.Fork child) = forking_tests m child.0
 tests_of_leaving m t p _ = []
 
 abbrev pub effect_of_leaving : State → ℕ → ℕ → Request → ActResult
@@ -85,5 +113,6 @@ effect_of_leaving m t p (request.Revoke fd) = revoke m p fd
 effect_of_leaving m t p (request.Interrupt thread) = interrupt m thread.0
 effect_of_leaving m t p (request.Kill process) = kill m process.0
 effect_of_leaving m t p request.Exit = exit m t p
+effect_of_leaving m t p (request.Fork child) = fork m t p child.0
 effect_of_leaving m t p request.TestCancel = test_cancel m t
 effect_of_leaving m t p _ = no_act m

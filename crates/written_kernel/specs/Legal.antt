@@ -3,13 +3,16 @@ use Rattle.std.specs.Prelude.{ℕ, ◌≡◌, ◌≤◌, ◌<◌, Option, Some, 
 use Rattle.written_kernel.specs.Types.{Request}
 use Rattle.dk_base.specs.declared.request.Request.TheVariants as request
 use Rattle.dk_base.specs.declared.limits.TheConstants.{DATA_MAX, ANSWER_ITEMS_MAX, EVENTS_MAX}
-use Rattle.written_kernel.specs.State.{State}
+use Rattle.kernel_records.specs.Words.{pid}
+use Rattle.written_kernel.specs.State.{State, parent_of, process_of}
 use Rattle.written_kernel.specs.Turns.{is_runnable, is_running}
 
 -- the threads and processes that a request of thread t names are there, and its counts are in range
 abbrev pub IsFit : State → ℕ → Request → Type 0
 IsFit m t (request.Interrupt thread) = (1 ≤ thread.0) × (thread.0 ≤ length m.process_table.threads)
 IsFit m t (request.Kill process) = (1 ≤ process.0) × (process.0 ≤ length m.process_table.processes)
+-- a child of the thread's own process
+IsFit m t (request.Fork child) = parent_of m child.0 ≡ Some (pid (process_of m t))
 IsFit m t (request.Read fd max) = (1 ≤ max) × (max ≤ DATA_MAX)
 IsFit m t (request.GetN port max nget wait) = max ≤ ANSWER_ITEMS_MAX
 IsFit m t _ = Unit {0}

@@ -1,9 +1,11 @@
--- The opening state: processes, and threads of them that run or are dormant.
-use Rattle.std.specs.Prelude.{ℕ, ◌+◌, ◌<◌, ◌≤◌, ◌++◌, List, [], ◌∷◌, Bool, None, length, replicate}
+-- The opening state: processes, of which some are children that have not begun, and threads of them that run or are dormant.
+use Rattle.std.specs.Prelude.{ℕ, ◌≡◌, ◌+◌, ◌<◌, ◌≤◌, ◌++◌, ◌==◌, List, [], ◌∷◌, Bool, false, None, length, replicate}
+use Rattle.std.specs.List.{list_any}
 use Rattle.dk_base.specs.declared.limits.TheConstants.{THREADS_MAX}
 use Rattle.kernel_records.specs.Words.{no_associations}
-use Rattle.kernel_records.specs.Words.{empty_table, new_process, new_thread}
-use Rattle.written_kernel.specs.State.{State}
+use Rattle.kernel_records.specs.Words.{empty_table, make_child, new_process, new_thread_where}
+use Rattle.written_kernel.specs.Types.{Thread}
+use Rattle.written_kernel.specs.State.{State, is_unborn_process, table_of}
 
 abbrev pub no_process : State
 no_process =
@@ -35,16 +37,31 @@ with_processes m (limit ∷ limits) = with_processes (with_new_process m limit) 
 abbrev pub opening : List ℕ → State
 opening limits = with_processes no_process limits
 
--- one thread more
+-- a process is a child of another
+abbrev pub with_child : State → ℕ → ℕ → State
+with_child m child parent = record m { process_table = make_child m.process_table child parent }
+
+-- one thread more: it is Dormant where it is a spare, or its process has not begun
 abbrev pub with_new_thread : State → ℕ → Bool → State
 with_new_thread m p spare =
     record m {
-      process_table = record m.process_table { threads = m.process_table.threads ++ new_thread (length m.process_table.threads + 1) p spare ∷ [] };
+      process_table =
+          record m.process_table {
+            threads = m.process_table.threads ++ new_thread_where (is_unborn_process m p) (length m.process_table.threads + 1) p spare ∷ [];
+          };
     }
+
+abbrev pub is_thread_of : ℕ → Thread → Bool
+is_thread_of p x = x.process.0 == p
 
 -- the states in which a run may begin
 pub data IsOpening : State → Type 0 where
   processes : (limits : List ℕ) → IsOpening (opening limits)
+  -- a child is above its parent, may have as many descriptors, and has no thread yet
+  child :
+      {m : State} (child parent : ℕ) → 1 ≤ parent → parent < child → child ≤ length m.process_table.processes →
+      length (table_of m child) ≡ length (table_of m parent) → list_any (is_thread_of child) m.process_table.threads ≡ false →
+      IsOpening m → IsOpening (with_child m child parent)
   -- a thread is of a process that is there, and there is a place for its binding
   thread :
       {m : State} (p : ℕ) (spare : Bool) → 1 ≤ p → p ≤ length m.process_table.processes → length m.process_table.threads < THREADS_MAX →

@@ -2,9 +2,9 @@
 -- has reads as nothing.
 use Rattle.std.specs.Prelude.{ℕ, ◌+◌, List, Option, Bool, false, not, Some, None, find}
 use Rattle.dk_base.specs.ByNumber.{at_number}
-use Rattle.written_kernel.specs.Types.{Call, Door, Fd, Inv, Name, Notice, Obj, Parked, PathId, Pool, Thread, ThreadState, Waiting}
+use Rattle.written_kernel.specs.Types.{Call, Door, Fd, Inv, Name, Notice, Obj, Parked, PathId, Pid, Pool, Thread, ThreadState, Waiting}
 use Rattle.kernel_records.specs.Words.{AssociationList}
-use Rattle.kernel_records.specs.Words.{CallTree, NoticeList, Pipe, Port, ProcessTable, bound_at, invocation_in, is_client_call_of, is_live_in, name_in, object_named, pick_parked, pool_in, process_in, queue_length, state_in, table_in, thread_at, set_thread_state, is_valid_in, items_in_order, with_table}
+use Rattle.kernel_records.specs.Words.{CallTree, NoticeList, Pipe, Port, ProcessTable, bound_at, invocation_in, is_client_call_of, is_live_in, is_unborn_in, name_in, object_named, parent_in, pick_parked, pool_in, process_in, queue_length, state_in, table_in, thread_at, set_thread_state, is_valid_in, items_in_order, with_table}
 
 -- What carries bytes or events from one thread to another and is no door, numbered from 1 by its place; and which ports are told of
 -- which objects.
@@ -17,7 +17,7 @@ pub record Channels : Type 0 where
 -- places as they do; there is a place for the binding of each thread that there can be.
 pub record State : Type 0 where
   pub process_table : ProcessTable
-  -- the door that a thread is bound to, or none
+  -- the door that a thread is bound to, which may be the lost one, or none
   pub bindings : List (Option ℕ)
   pub tables : List (List (Option Obj))
   pub names : List Name
@@ -36,6 +36,14 @@ now m = m.events + 1
 
 abbrev pub is_live_process : State → ℕ → Bool
 is_live_process m p = is_live_in (at_number m.process_table.processes p)
+
+-- a child process that has not begun
+abbrev pub is_unborn_process : State → ℕ → Bool
+is_unborn_process m p = is_unborn_in (at_number m.process_table.processes p)
+
+-- the process that a process is a child of, if it is one
+abbrev pub parent_of : State → ℕ → Option Pid
+parent_of m p = parent_in (at_number m.process_table.processes p)
 
 abbrev pub thread_of : State → ℕ → Option Thread
 thread_of m t = thread_at m.process_table t

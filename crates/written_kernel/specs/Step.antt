@@ -1,5 +1,5 @@
 -- One event: the act of a thread, and what follows it.
-use Rattle.std.specs.Prelude.{ℕ, ◌+◌, List, [], Option, Some, None}
+use Rattle.std.specs.Prelude.{ℕ, ◌+◌, List, Option, Some, None}
 use Rattle.written_kernel.specs.Types.{Answer, Errno, Event, Request, ThreadState, Tid, What}
 use Rattle.dk_base.specs.declared.answer.Answer.TheVariants.{Data}
 use Rattle.dk_base.specs.declared.request.Request.TheVariants as request
@@ -131,6 +131,7 @@ what_of_entry (request.Alert port mode events user) = what.Alert
 what_of_entry (request.Interrupt thread) = what.Interrupt
 what_of_entry (request.Kill process) = what.Kill
 what_of_entry request.Exit = what.Exit
+what_of_entry (request.Fork child) = what.Fork
 what_of_entry (request.Work op bytes) = what.Work
 
 abbrev pub what_of_wait : ThreadState → What

@@ -34,6 +34,7 @@ subject_of (request.Revoke fd) = Subject.leaving
 subject_of (request.Interrupt thread) = Subject.leaving
 subject_of (request.Kill process) = Subject.leaving
 subject_of request.Exit = Subject.leaving
+subject_of (request.Fork child) = Subject.leaving
 subject_of request.TestCancel = Subject.leaving
 subject_of request.Pipe = Subject.pipes
 subject_of (request.Write fd bytes) = Subject.pipes
