@@ -15,7 +15,7 @@ use Rattle.written_kernel.proofs.Refusals.{not_held}
 use Rattle.written_kernel.proofs.Settling.{channels-settle_pools, settle_pools-alone}
 use Rattle.act_changes.proofs.Rows.{IsRowAfter}
 use Rattle.act_changes.specs.Closed.{closes}
-use Rattle.act_changes.specs.Changed.{Changes, IsAfterAct, IsMade, Stands, readied, touched_pipe}
+use Rattle.act_changes.specs.Changed.{Changes, IsAfterAct, IsMade, Stands, UnbornHaveNoRows, readied, touched_pipe}
 use Rattle.act_changes.specs.Ends.{HasNoMore}
 use Rattle.act_changes.proofs.Closed.{act_leaves}
 use Rattle.act_changes.proofs.Pipes.{holds_less, holds_more, made_bytes, other_bytes}
@@ -98,16 +98,18 @@ module _ (m : State) (t : ℕ) where
 
 -- what an act changes
 
-pub row_after : (m : State) (t : ℕ) (q : Option Request) (n : State) → IsAfterAct m t q n → (p : ℕ) (fd : Fd) → IsRowAfter (closes m t q p fd) (object_at m p fd) (object_at n p fd)
-row_after m t q n h p fd =
-    subst (λ tables. IsRowAfter (closes m t q p fd) (object_at m p fd) (object_named (table_in tables p) fd)) (sym h.tables) (act_leaves m t q p fd)
+pub row_after :
+    (m : State) (t : ℕ) (q : Option Request) (n : State) → UnbornHaveNoRows m → IsAfterAct m t q n → (p : ℕ) (fd : Fd) →
+    IsRowAfter (closes m t q p fd) (object_at m p fd) (object_at n p fd)
+row_after m t q n u h p fd =
+    subst (λ tables. IsRowAfter (closes m t q p fd) (object_at m p fd) (object_named (table_in tables p) fd)) (sym h.tables) (act_leaves m t u q p fd)
 
-pub changes : (m : State) (t : ℕ) (q : Option Request) (n : State) → IsAfterAct m t q n → Changes m t q n
-changes m t q n h =
+pub changes : (m : State) (t : ℕ) (q : Option Request) (n : State) → UnbornHaveNoRows m → IsAfterAct m t q n → Changes m t q n
+changes m t q n u h =
     record {
-      kept = λ p fd o e f. kept_row (closes m t q p fd) _ _ o (row_after m t q n h p fd) e f;
-      gone = λ p fd f. gone_row (closes m t q p fd) _ _ (row_after m t q n h p fd) f;
-      same = λ p fd o x e f. same_row (closes m t q p fd) _ _ o x (row_after m t q n h p fd) e f;
+      kept = λ p fd o e f. kept_row (closes m t q p fd) _ _ o (row_after m t q n u h p fd) e f;
+      gone = λ p fd f. gone_row (closes m t q p fd) _ _ (row_after m t q n u h p fd) f;
+      same = λ p fd o x e f. same_row (closes m t q p fd) _ _ o x (row_after m t q n u h p fd) e f;
       bytes = λ k e. ap (λ (c : Channels). held_in (record m { channels = c }) k) h.channels ∙ move_bytes m t q (act m t q) (act_moves m t q) k e;
       no_more = λ o e. subst (λ (c : Channels). HasNoMore m.channels.pipes c.pipes o) (sym h.channels) (move_more m t q (act m t q) (act_moves m t q) o e);
     }

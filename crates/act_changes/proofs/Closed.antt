@@ -1,20 +1,21 @@
 -- What an act leaves of each row.
-use Rattle.std.specs.Prelude.{ℕ, ◌≡◌, ◌≤◌, ◌+◌, ◌==◌, ◌&&◌, ◌||◌, List, [], ◌∷◌, Option, Bool, true, false, if◌then◌else◌, Some, None, is_none, length, nat_lt}
+use Rattle.std.specs.Prelude.{ℕ, ◌≡◌, ◌≤◌, ◌+◌, ◌==◌, ◌&&◌, ◌||◌, List, [], ◌∷◌, Option, Bool, true, false, if◌then◌else◌, not, Some, None, is_none, length, nat_lt}
 use Rattle.std.specs.List.{list_any}
 use Rattle.std.proofs.Common.{refl, ap₂, subst}
 use native.Mathlib.Omega.{arith}
 use Rattle.std.proofs.lemmas.Bool.Decides.{nat_tests}
-use Rattle.written_kernel.specs.Types.{Errno, Fd, Name, Obj, Pass, PathId, Request}
-use Rattle.dk_base.specs.declared.error.Errno.TheVariants.{EMFILE}
+use Rattle.written_kernel.specs.Types.{Errno, Fd, Name, Obj, Pass, PathId, Pid, Request}
+use Rattle.dk_base.specs.declared.error.Errno.TheVariants.{EAGAIN, EMFILE}
 use Rattle.dk_base.specs.declared.object.Obj.TheVariants as obj
 use Rattle.dk_base.specs.declared.request.Request.TheVariants as request
 use Rattle.kernel_records.specs.Words.{close_row, close_table, door_attached, free_place, free_rows, insert_rows, is_last, is_ready_for, is_to_collect_as, lowest_free, object_named, refused_where, release_rows, table_in, with_row, with_table}
 use Rattle.kernel_records.proofs.Passing.{releases}
-use Rattle.written_kernel.specs.Words.{ActResult, State, act, await_name, effect, exit, find_call, get_from, get_many, has_invalid_door, has_room, is_live_process, kill, leave_process, leave_thread, name_of, object_at, objects_collected_in, port, port_at, process_of, refusal_of, retrieve, return, return_parked, return_unbound, table_of, tables_after_collect, tables_with, tell_queued, unless_refused, wait_for}
+use Rattle.written_kernel.specs.Words.{ActResult, State, act, await_name, effect, exit, find_call, fork, get_from, get_many, has_invalid_door, has_room, is_live_process, is_unborn_process, kill, leave_process, leave_thread, name_of, object_at, objects_collected_in, port, port_at, process_of, refusal_of, retrieve, return, return_parked, return_unbound, table_of, tables_after_collect, tables_with, tell_queued, unless_refused, wait_for}
 use Rattle.written_kernel.proofs.Moves.{IsFree, Moves, act_moves}
 use Rattle.written_kernel.proofs.Refusals.{not_held}
+use Rattle.act_changes.specs.Changed.{UnbornHaveNoRows}
 use Rattle.act_changes.specs.Closed.{Closing, closed_by, closes, is_closed, is_descriptor, released}
-use Rattle.act_changes.proofs.Rows.{IsRowAfter, by_table, close_all, close_one, fill_lowest, fill_some, release_some, stays}
+use Rattle.act_changes.proofs.Rows.{IsRowAfter, by_table, close_all, close_one, fill_lowest, fill_some, release_some, stays, was_free}
 
 -- tests
 
@@ -149,22 +150,38 @@ module _ (m : State) (t : ℕ) where
       let few : nat_lt (free_rows (table_of m owner)) 2 ≡ false = not_held [] (refused_where (nat_lt (free_rows (table_of m owner)) 2) EMFILE) [] f in
       grind (arith, nat_tests, few)
 
-  effect_leaves : (r : Request) → IsFree m t r → Leaves (closed_by m t owner r) (effect m t owner r)
-  effect_leaves (request.Create entry cookie attrs) f = filled m owner (Some (obj.Door (length m.doors + 1))) (not_held (_ ∷ []) _ [] f)
-  effect_leaves (request.Call fd bytes pass rsize) f = released_some m owner pass
-  effect_leaves (request.Return bytes pass) f = return_leaves bytes pass
-  effect_leaves (request.Revoke fd) f = closed_one m owner fd
-  effect_leaves (request.Close fd) f = closed_one m owner fd
-  effect_leaves (request.Dup fd) f = filled m owner (object_at m owner fd) (not_held (_ ∷ []) _ [] f)
-  effect_leaves (request.Open path) f = filled m owner (Some (obj.Door (door_attached (name_of m path)))) (not_held (_ ∷ []) _ [] f)
-  effect_leaves (request.Await path) f = await_leaves path (name_of m path)
-  effect_leaves (request.Kill p) f = kill_leaves p.0
-  effect_leaves request.Exit f = exit_leaves
-  effect_leaves request.Pipe f = filled_some m owner (obj.PipeIn (length m.channels.pipes + 1) ∷ obj.PipeOut (length m.channels.pipes + 1) ∷ []) (two_free f)
-  effect_leaves request.PortCreate f = filled m owner (Some (obj.Port (length m.channels.ports + 1))) (not_held [] _ [] f)
-  effect_leaves (request.Get fd wait) f = get_leaves (port_at m owner fd) 1 1 true
-  effect_leaves (request.GetN fd max nget wait) f = get_many_leaves fd max nget
-  effect_leaves r f = unchanged m owner
+  -- a child that begins had no row
+  fork_leaves : (child : Pid) → UnbornHaveNoRows m → IsFree m t (request.Fork child) → Leaves Closing.nothing (fork m t owner child.0)
+  fork_leaves child h f p fd =
+      unclosed (p == child.0) _ _
+      (by_table m.tables child.0 (table_of m owner) (λ g. false)
+      (λ g. was_free (object_at m child.0 g) (object_at m owner g) (h child.0 g unborn))
+      p fd)
+    where
+      unborn : is_unborn_process m child.0 ≡ true
+      unborn = go (is_unborn_process m child.0) refl (not_held [] (refused_where (not (is_unborn_process m child.0)) EAGAIN) [] f)
+        where
+          go : (b : Bool) → is_unborn_process m child.0 ≡ b → not b ≡ false → b ≡ true
+          go true e g = refl
+          go false e g = cc
+
+  effect_leaves : UnbornHaveNoRows m → (r : Request) → IsFree m t r → Leaves (closed_by m t owner r) (effect m t owner r)
+  effect_leaves h (request.Create entry cookie attrs) f = filled m owner (Some (obj.Door (length m.doors + 1))) (not_held (_ ∷ []) _ [] f)
+  effect_leaves h (request.Call fd bytes pass rsize) f = released_some m owner pass
+  effect_leaves h (request.Return bytes pass) f = return_leaves bytes pass
+  effect_leaves h (request.Revoke fd) f = closed_one m owner fd
+  effect_leaves h (request.Close fd) f = closed_one m owner fd
+  effect_leaves h (request.Dup fd) f = filled m owner (object_at m owner fd) (not_held (_ ∷ []) _ [] f)
+  effect_leaves h (request.Open path) f = filled m owner (Some (obj.Door (door_attached (name_of m path)))) (not_held (_ ∷ []) _ [] f)
+  effect_leaves h (request.Await path) f = await_leaves path (name_of m path)
+  effect_leaves h (request.Kill p) f = kill_leaves p.0
+  effect_leaves h request.Exit f = exit_leaves
+  effect_leaves h (request.Fork child) f = fork_leaves child h f
+  effect_leaves h request.Pipe f = filled_some m owner (obj.PipeIn (length m.channels.pipes + 1) ∷ obj.PipeOut (length m.channels.pipes + 1) ∷ []) (two_free f)
+  effect_leaves h request.PortCreate f = filled m owner (Some (obj.Port (length m.channels.ports + 1))) (not_held [] _ [] f)
+  effect_leaves h (request.Get fd wait) f = get_leaves (port_at m owner fd) 1 1 true
+  effect_leaves h (request.GetN fd max nget wait) f = get_many_leaves fd max nget
+  effect_leaves h r f = unchanged m owner
 
   waited_leaves : (a : ActResult) → Moves m t None a → Leaves Closing.nothing a
   waited_leaves a (Moves.enters r g room) = filled_some m owner r.objects (grind (arith, nat_tests))
@@ -172,13 +189,15 @@ module _ (m : State) (t : ℕ) where
   waited_leaves a x = unchanged m owner
 
   -- a row that the act closes names nothing after it, and another that was open names what it named
-  pub act_leaves : (q : Option Request) (p : ℕ) (fd : Fd) → IsRowAfter (closes m t q p fd) (object_at m p fd) (object_at (act m t q).state p fd)
-  act_leaves None p fd = waited_leaves (act m t None) (act_moves m t None) p fd
-  act_leaves (Some r) p fd = go (refusal_of m t owner r) refl
+  pub act_leaves :
+      UnbornHaveNoRows m → (q : Option Request) (p : ℕ) (fd : Fd) →
+      IsRowAfter (closes m t q p fd) (object_at m p fd) (object_at (act m t q).state p fd)
+  act_leaves h None p fd = waited_leaves (act m t None) (act_moves m t None) p fd
+  act_leaves h (Some r) p fd = go (refusal_of m t owner r) refl
     where
       go :
           (o : Option Errno) → refusal_of m t owner r ≡ o →
           IsRowAfter (is_closed (closed_by m t owner r) p fd && is_none o) (object_at m p fd)
           (object_at (unless_refused m o (effect m t owner r)).state p fd)
       go (Some e) f = refused (is_closed (closed_by m t owner r) p fd) (object_at m p fd)
-      go None f = acted (is_closed (closed_by m t owner r) p fd) _ _ (effect_leaves r f p fd)
+      go None f = acted (is_closed (closed_by m t owner r) p fd) _ _ (effect_leaves h r f p fd)

@@ -1,16 +1,19 @@
 -- The states after an act to which its changes apply: as the kernel keeps them, and while what follows the act goes on.
-use Rattle.std.specs.Prelude.{ℕ, ◌≡◌, ◌==◌, ◌&&◌, Option, false, not, length, filter}
+use Rattle.std.specs.Prelude.{ℕ, ◌≡◌, ◌==◌, ◌&&◌, Option, false, true, not, length, filter}
+use native.Mathlib.Omega.{arith}
 use Rattle.std.proofs.Common.{sym, ap, ◌∙◌}
 use Rattle.std.proofs.lemmas.List.Elements.{All-weaker}
-use Rattle.written_kernel.specs.Types.{Obj, Request}
+use Rattle.written_kernel.specs.Types.{Obj, Process, Request}
 use Rattle.kernel_records.specs.declared.association.Association.{Association}
-use Rattle.kernel_records.specs.Words.{is_object, is_to_fire}
+use Rattle.kernel_records.specs.Words.{is_live_in, is_object, is_to_fire, is_unborn_in}
 use Rattle.written_kernel.specs.Words.{State, associations_in, forget, ready_at, references_of, settle_pools}
 use Rattle.written_kernel.proofs.Forget.{references_of-forget}
 use Rattle.written_kernel.proofs.Settling.{channels-settle_pools, settle_pools-alone}
+use Rattle.dk_base.specs.ByNumber.{at_number}
+use Rattle.kernel_invariant.specs.Invariant.{IsConsistent}
 use Rattle.kernel_invariant.specs.Told.{AreTold}
 use Rattle.kernel_invariant.proofs.NoticeSteps.{holdings-settle}
-use Rattle.act_changes.specs.Changed.{IsAfterAct, is_gone}
+use Rattle.act_changes.specs.Changed.{IsAfterAct, UnbornHaveNoRows, is_gone}
 use Rattle.act_changes.specs.Ends.{other_end}
 use Rattle.act_changes.proofs.Ready.{fires_alike}
 
@@ -56,3 +59,10 @@ told-kept m h =
           All-weaker (λ a. is_to_fire (ready_at (forget m)) a ≡ false) (λ a. is_to_fire (ready_at m) a ≡ false)
           (λ a e. sym (fires-forget m a) ∙ e) (associations_in m) h.wait;
     }
+
+-- in every state of a run no process that has not begun has a row
+pub unborn_have_none : (m : State) → IsConsistent m → UnbornHaveNoRows m
+unborn_have_none m h p fd e = h.no_rows p fd (not_live (at_number m.process_table.processes p) e)
+  where
+    not_live : (o : Option Process) → is_unborn_in o ≡ true → is_live_in o ≡ false
+    not_live o f = grind arith

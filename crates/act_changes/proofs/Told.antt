@@ -18,7 +18,7 @@ use Rattle.kernel_invariant.specs.Told.{AreTold}
 use Rattle.act_changes.proofs.Rows.{IsRowAfter}
 use Rattle.act_changes.specs.Ends.{is_end, other_end}
 use Rattle.act_changes.specs.Closed.{Closing, closed_rows, closes, is_acting, is_closed, is_descriptor}
-use Rattle.act_changes.specs.Changed.{IsAfterAct, IsMade, ListsGone, changed_objects, is_changed, is_gone, readied}
+use Rattle.act_changes.specs.Changed.{IsAfterAct, IsMade, ListsGone, UnbornHaveNoRows, changed_objects, is_changed, is_gone, readied}
 use Rattle.act_changes.specs.Ended.{closing, empty_rows, ended_by, is_empty_row}
 use Rattle.act_changes.specs.Told.{LeavesToTell}
 use Rattle.act_changes.proofs.Changed.{act_all, changes, row_after, stand}
@@ -146,7 +146,7 @@ empty_closed n (Closing.rows u fds) acting o p fd r whole h e = go (p == u) refl
         ∙ among_empty (is_empty_row n p) fd fds
         ∙ named L (is_empty_row n p fd) (empty ∙ ap (λ b. (b && L) && acting) f))
 
-module _ (m : State) (t : ℕ) (q : Option Request) (n : State) (k : IsAfterAct m t q n) (told : AreTold m) where
+module _ (m : State) (t : ℕ) (q : Option Request) (n : State) (u : UnbornHaveNoRows m) (k : IsAfterAct m t q n) (told : AreTold m) where
   -- the one that is made too
   made_names : (a : Association) → IsMade m t q a → names_its_object m.tables a ≡ true
   made_names a y =
@@ -160,7 +160,7 @@ module _ (m : State) (t : ℕ) (q : Option Request) (n : State) (k : IsAfterAct 
   lost : All (λ a. has_lost_its_row n.tables a ≡ closes m t q a.key.process.0 a.key.fd) (associations_in n)
   lost =
       All-weaker (λ a. names_its_object m.tables a ≡ true) (λ a. has_lost_its_row n.tables a ≡ closes m t q a.key.process.0 a.key.fd)
-      (λ a e. lost_row a.object (closes m t q a.key.process.0 a.key.fd) _ _ (row_after m t q n k a.key.process.0 a.key.fd) e)
+      (λ a e. lost_row a.object (closes m t q a.key.process.0 a.key.fd) _ _ (row_after m t q n u k a.key.process.0 a.key.fd) e)
       (associations_in n) named
 
   -- those end that are of rows which are closed
@@ -199,13 +199,13 @@ module _ (m : State) (t : ℕ) (q : Option Request) (n : State) (k : IsAfterAct 
       closes m t q a.key.process.0 a.key.fd ≡ is_closed (empty_rows n (closed_rows m t q)) a.key.process.0 a.key.fd
   row_empty a e =
       empty_closed n (closed_rows m t q) (is_acting m t q) a.object a.key.process.0 a.key.fd (object_at m a.key.process.0 a.key.fd)
-      (λ p f. process_acts m t q p f) (row_after m t q n k a.key.process.0 a.key.fd) e
+      (λ p f. process_acts m t q p f) (row_after m t q n u k a.key.process.0 a.key.fd) e
 
   ended_empty : end_lost n ≡ with_channels n (ended_by n.channels (empty_rows n (closed_rows m t q)))
   ended_empty =
       ended_as (empty_rows n (closed_rows m t q))
       (All-weaker (λ a. names_its_object m.tables a ≡ true) (Ends (empty_rows n (closed_rows m t q)))
-      (λ a e. lost_row a.object (closes m t q a.key.process.0 a.key.fd) _ _ (row_after m t q n k a.key.process.0 a.key.fd) e ∙ row_empty a e)
+      (λ a e. lost_row a.object (closes m t q a.key.process.0 a.key.fd) _ _ (row_after m t q n u k a.key.process.0 a.key.fd) e ∙ row_empty a e)
       (associations_in n) named)
 
   -- what fires
@@ -216,7 +216,7 @@ module _ (m : State) (t : ℕ) (q : Option Request) (n : State) (k : IsAfterAct 
       go : (b : Bool) → is_this_object a.object (readied m t q) ≡ b → b || (is_end a.object && is_gone m n (other_end a.object)) ≡ true
       go true g = refl
       go false g =
-          fires_since m.channels.pipes n.channels.pipes (references_of m) (references_of n) a e f ((changes m t q n k).no_more a.object g)
+          fires_since m.channels.pipes n.channels.pipes (references_of m) (references_of n) a e f ((changes m t q n u k).no_more a.object g)
 
   made_readied : (a : Association) → IsMade m t q a → is_changed m t q n a.object ≡ true
   made_readied a y =

@@ -9,7 +9,7 @@ use Rattle.dk_base.specs.declared.request.Request.TheVariants as request
 use Rattle.dk_base.specs.declared.set.PollSet.{PollSet}
 use Rattle.kernel_records.specs.declared.association.Association.{Association}
 use Rattle.kernel_records.specs.Words.{is_number, is_object, is_this_object, new_association}
-use Rattle.written_kernel.specs.Words.{State, act, associations_in, held_in, key_at, object_at, pipe_at, process_of, references_of, refusal_of}
+use Rattle.written_kernel.specs.Words.{State, act, associations_in, held_in, is_unborn_process, key_at, object_at, pipe_at, process_of, references_of, refusal_of}
 use Rattle.act_changes.specs.Closed.{closes}
 use Rattle.act_changes.specs.Ends.{HasNoMore, is_end, other_end}
 
@@ -50,6 +50,10 @@ changed_objects m t q gone = option_to_list (readied m t q) ++ map other_end gon
 -- every end of a pipe that has gone is among these
 abbrev pub ListsGone : State → State → List Obj → Type 0
 ListsGone before after gone = (o : Obj) → is_end o ≡ true → is_gone before after o ≡ true → list_any (is_object o) gone ≡ true
+
+-- a process that has not begun has no row, so that nothing of it is lost where it gets those of its parent
+abbrev pub UnbornHaveNoRows : State → Type 0
+UnbornHaveNoRows m = (p : ℕ) (fd : Fd) → is_unborn_process m p ≡ true → object_at m p fd ≡ None
 
 -- a state with the tables and the channels that an act leaves, as it is until ports are told
 pub record IsAfterAct (m : State) (t : ℕ) (q : Option Request) (n : State) : Type 0 where

@@ -1,7 +1,7 @@
 //! What an act changes. Nothing runs here: a function has no body, and a call of it hands its law to the caller's proof.
 
 ghost use Rattle.std.specs.Prelude.{ℕ, Option};
-ghost use Rattle.act_changes.specs.Changed.{Changes, IsAfterAct};
+ghost use Rattle.act_changes.specs.Changed.{Changes, IsAfterAct, UnbornHaveNoRows};
 ghost use Rattle.act_changes.specs.Told.{LeavesToTell};
 ghost use Rattle.kernel_invariant.specs.Told.{AreTold};
 ghost use Rattle.written_kernel.specs.Types.{Request};
@@ -14,13 +14,14 @@ pub fn states_after()
     ensures kept { (m : State) (t : ℕ) (q : Option Request) (n : State) → IsAfterAct m t q n → IsAfterAct m t q (forget n) }
 {}
 
-/// Which rows an act closes and which pipe's bytes it changes is told before it, by its request.
+/// Which rows an act closes and which pipe's bytes it changes is told before it, by its request, where no process that has not begun has
+/// a row.
 pub fn every_act()
-    ensures { (m : State) (t : ℕ) (q : Option Request) (n : State) → IsAfterAct m t q n → Changes m t q n }
+    ensures { (m : State) (t : ℕ) (q : Option Request) (n : State) → UnbornHaveNoRows m → IsAfterAct m t q n → Changes m t q n }
 {}
 
-/// Where ports were told before an act, the associations of the rows that it closes end, and no other; and what fires watches an object
-/// that has changed.
+/// Where ports were told before an act, and no process that has not begun has a row, the associations of the rows that it closes end, and
+/// no other; and what fires watches an object that has changed.
 pub fn every_telling()
-    ensures { (m : State) (t : ℕ) (q : Option Request) (n : State) → IsAfterAct m t q n → AreTold m → LeavesToTell m t q n }
+    ensures { (m : State) (t : ℕ) (q : Option Request) (n : State) → UnbornHaveNoRows m → IsAfterAct m t q n → AreTold m → LeavesToTell m t q n }
 {}

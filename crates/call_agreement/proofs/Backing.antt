@@ -10,13 +10,13 @@ use Rattle.kernel_records.proofs.NumberedLists.{find-passes}
 use Rattle.kernel_records.proofs.Places.{change_first-none}
 use Rattle.kernel_records.specs.declared.record.CallStage.TheVariants as stage
 use Rattle.kernel_records.specs.declared.record.ThreadState.TheVariants as is
-use Rattle.kernel_records.specs.Words.{CallTree, IsAscending, ProcessTable, at_stage, call_number, change_thread, collect_call, end_process, enter_call, enter_thread, fail_call, give_call, give_thread, invocation_in, is_client_call_of, is_done, is_dormant, is_given_as, is_given_to, is_idle, is_live_call, is_queued, is_queued_as, is_served_by, is_to_collect, is_to_collect_as, live_calls, return_call, set_thread_state, state_in, thread_at, thread_at_state, thread_in_invocation, tid, with_ended, without_arguments_at}
+use Rattle.kernel_records.specs.Words.{CallTree, IsAscending, ProcessTable, at_stage, call_number, change_thread, collect_call, end_process, enter_call, enter_thread, fail_call, give_call, give_thread, invocation_in, is_calling, is_client_call_of, is_done, is_dormant, is_given_as, is_given_to, is_idle, is_live_call, is_queued, is_queued_as, is_served_by, is_to_collect, is_to_collect_as, live_calls, return_call, set_thread_state, state_in, thread_at, thread_at_state, thread_in_invocation, tid, with_ended, without_arguments_at}
 use Rattle.written_kernel.specs.Types.{Call, CallStage, Item, Process, Thread, ThreadState}
 use Rattle.written_kernel.specs.Words.{is_running_state}
 use Rattle.call_tree.specs.Words.{is_called_by}
 use Rattle.kernel_invariant.specs.Core.{is_outside}
 use Rattle.kernel_invariant.specs.Records.{item_in}
-use Rattle.call_agreement.specs.Backed.{AreBacked, IsBacked, IsServedAt, is_calling, is_given_item}
+use Rattle.call_agreement.specs.Backed.{AreBacked, IsBacked, IsServedAt, is_given_item}
 use Rattle.call_agreement.proofs.Alls.{all_both, all_changed, all_filter, all_found, all_goes, all_push}
 use Rattle.call_agreement.proofs.Free.{backed_elsewhere, backed_on, changed_elsewhere, changed_here, either, find_none, free_turns, is_number, none_passes, not_called, not_served, number_is, serves_not, there, waits_not}
 

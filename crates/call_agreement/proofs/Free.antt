@@ -7,13 +7,13 @@ use Rattle.dk_base.specs.declared.object.Item.TheVariants as item
 use Rattle.kernel_records.proofs.Lists.{numbered_within}
 use Rattle.kernel_records.specs.declared.record.CallStage.TheVariants as stage
 use Rattle.kernel_records.specs.declared.record.ThreadState.TheVariants as is
-use Rattle.kernel_records.specs.Words.{ProcessTable, change_thread, invocation_in, is_done, is_served_by, is_to_collect, state_in, thread_at, tid}
+use Rattle.kernel_records.specs.Words.{ProcessTable, change_thread, invocation_in, is_calling, is_done, is_served_by, is_to_collect, state_in, thread_at, tid}
 use Rattle.written_kernel.specs.Types.{Call, CallStage, Thread}
 use Rattle.written_kernel.proofs.Threads.{thread_at-change_thread}
 use Rattle.call_tree.specs.Words.{IsThread, is_called_by}
 use Rattle.kernel_invariant.specs.Core.{is_outside}
 use Rattle.kernel_invariant.specs.Records.{item_in}
-use Rattle.call_agreement.specs.Backed.{AreBacked, IsBacked, IsServedAt, is_calling, is_given_item}
+use Rattle.call_agreement.specs.Backed.{AreBacked, IsBacked, IsServedAt, is_given_item}
 use Rattle.call_agreement.proofs.Alls.{all_both, all_goes}
 
 pub find_none : (test : Call → Bool) (rs : List Call) → AllByRecursion (λ r. test r ≡ false) rs → find test rs ≡ None

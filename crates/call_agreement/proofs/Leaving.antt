@@ -8,12 +8,12 @@ use Rattle.kernel_records.proofs.Lists.{at_number-map}
 use Rattle.kernel_records.proofs.NumberedLists.{find-passes}
 use Rattle.kernel_records.specs.declared.record.CallStage.TheVariants as stage
 use Rattle.kernel_records.specs.declared.record.ThreadState.TheVariants as is
-use Rattle.kernel_records.specs.Words.{CallTree, Leaving, ProcessTable, abandoned_at, broken_call_at, deserted_at, deserted_in, ended_thread, ended_where, gone_call_at, interrupted_state, interrupted_where, invocation_in, is_done, is_left, is_live_call, is_served_by, is_to_collect, left_call, left_calls, left_thread_of, left_threads, live_calls, state_in, thread_at, without_arguments_at}
+use Rattle.kernel_records.specs.Words.{CallTree, Leaving, ProcessTable, abandoned_at, broken_call_at, deserted_at, deserted_in, ended_thread, ended_where, gone_call_at, interrupted_state, interrupted_where, invocation_in, is_calling, is_done, is_left, is_live_call, is_served_by, is_to_collect, left_call, left_calls, left_thread_of, left_threads, live_calls, state_in, thread_at, without_arguments_at}
 use Rattle.written_kernel.specs.Types.{Call, CallStage, Thread, ThreadState}
 use Rattle.call_tree.specs.Words.{AreSound, is_call}
 use Rattle.kernel_invariant.specs.Core.{is_outside}
 use Rattle.kernel_invariant.specs.Records.{item_in}
-use Rattle.call_agreement.specs.Backed.{AreBacked, IsBacked, IsServedAt, is_calling}
+use Rattle.call_agreement.specs.Backed.{AreBacked, IsBacked, IsServedAt}
 use Rattle.call_agreement.proofs.Alls.{all_both, all_filter, all_found, all_map, all_numbered}
 use Rattle.call_agreement.proofs.Free.{either, is_number, there}
 

@@ -9,10 +9,6 @@ use Rattle.written_kernel.specs.Types.{Call, CallStage, ThreadState}
 use Rattle.kernel_invariant.specs.Core.{is_outside}
 use Rattle.kernel_invariant.specs.Records.{item_in}
 
-abbrev pub is_calling : ThreadState → Bool
-is_calling (is.Calling c) = true
-is_calling _ = false
-
 -- call c at this stage is given to a thread that is Given it, or was entered by one of which it is the invocation
 abbrev pub IsServedAt : ProcessTable → ℕ → CallStage → Type 0
 IsServedAt table c (stage.Given u) = state_in (thread_at table u.0) ≡ is.Given (item.Call c)

@@ -1,2 +1,3 @@
 -- The words of this crate's specs, from one place, for the crates above.
-pub use Rattle.call_agreement.specs.Backed.{AreBacked, IsBacked, IsServedAt, is_calling, is_given_item}
+pub use Rattle.call_agreement.specs.Backed.{AreBacked, IsBacked, IsServedAt, is_given_item}
+pub use Rattle.kernel_records.specs.Words.{is_calling}

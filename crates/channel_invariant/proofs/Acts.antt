@@ -9,22 +9,22 @@ use Rattle.dk_base.specs.declared.object.Obj.TheVariants as obj
 use Rattle.kernel_records.specs.declared.association.Association.{Association}
 use Rattle.kernel_records.specs.declared.record.CallStage.TheVariants as stage
 use Rattle.kernel_records.specs.declared.record.ThreadState.TheVariants as is
-use Rattle.kernel_records.specs.Words.{Leaving, Pipe, Test, all_fired, associate_tests, associations_of, at_stage, change_first, door_attached, end_owner, events_found, first_refusal, free_place, get_tests, getn_tests, has_key, has_lost_its_row, has_other_path, has_path, idle_thread, is_client_call_of, is_given_as, is_queued_as, is_to_collect_as, is_to_fire, lowest_free, names_its_object, new_door, new_pipe, new_port, objects_passed, port_of, process_end, refused_where, release_rows, return_call, revocation, thread_at_state, thread_in_invocation, thread_outside, tid, user_event, with_alert, with_door, with_event, with_row, with_table, without_arguments_at, without_found, without_oldest, written}
+use Rattle.kernel_records.specs.Words.{Leaving, Pipe, Test, all_fired, associate_tests, associations_of, at_stage, change_first, door_attached, end_owner, events_found, first_refusal, forking, free_place, get_tests, getn_tests, has_key, has_lost_its_row, has_other_path, has_path, idle_thread, is_client_call_of, is_given_as, is_queued_as, is_to_collect_as, is_to_fire, lowest_free, names_its_object, new_door, new_pipe, new_port, objects_passed, port_of, process_end, refused_where, release_rows, return_call, revocation, thread_at_state, thread_in_invocation, thread_outside, tid, user_event, with_alert, with_door, with_event, with_row, with_table, without_arguments_at, without_found, without_oldest, written}
 use Rattle.kernel_records.proofs.Lists.{Extends}
 use Rattle.written_kernel.specs.Types.{Answer, Attrs, Call, Door, Fd, Item, Name, Obj, Pass, PathId, Request, Thread, ThreadState}
-use Rattle.written_kernel.specs.Words.{ActResult, Channels, MayTurn, State, act, associations_in, create, door_at, door_named, end_lost, fail_return, find_call, fire, give_one, has_room, is_door, is_port, key_at, leave, leave_process, lost_associations, name_of, now, object_at, objects_collected_in, pipe_at, port, port_at, port_named, port_tests, process_of, ready_at, revoke, settle, settle_pools, step, table_of, tables_after_collect, take_found, tables_with, tell, watched, with_state}
+use Rattle.written_kernel.specs.Words.{ActResult, Channels, MayTurn, State, act, associations_in, create, door_at, door_named, end_lost, fail_return, find_call, fire, fork, give_one, has_room, is_door, is_port, key_at, leave, leave_process, lost_associations, name_of, now, object_at, objects_collected_in, pipe_at, port, port_at, port_named, port_tests, process_of, ready_at, revoke, settle, settle_pools, step, table_of, tables_after_collect, take_found, tables_with, tell, watched, with_state}
 use Rattle.written_kernel.proofs.Moves.{IsMaking, IsNaming, IsPassing, IsRow, IsTurn, Moves, act_moves}
 use Rattle.written_kernel.proofs.Refusals.{not_held}
 use Rattle.written_kernel.proofs.Settling.{channels-settle_pools, events-settle, pipes-settle, settle_pools-all}
 use Rattle.written_kernel.proofs.Steps.{act-keeps, create-keeps, door_identity, leave_process-keeps, revoke-keeps, set_param-keeps}
-use Rattle.written_kernel.proofs.Threads.{threads-end_process}
+use Rattle.written_kernel.proofs.Threads.{threads-begin_process, threads-end_process}
 use Rattle.channel_invariant.specs.Channels.{AreChannels, AreMadeIn, ArePipes, ArePorts, IsAmong, IsMadeObject, Made, ReferToMade, WaitsAtMade, made_in}
 use Rattle.channel_invariant.proofs.Bounds.{alert-ports, all_long, all_sent, fired-ports, length-change_at_number, make-pipes, make-ports, read-pipes, send-ports, take-ports, withdrawn-ports, write-pipes}
 use Rattle.channel_invariant.specs.Associations.{AreAssociations}
 use Rattle.channel_invariant.proofs.Associations.{alert_same, all_sent_same, associate_one, dissociate_one, end_some, fire_some, made_left, port_more, send_same, take_some}
 use Rattle.channel_invariant.proofs.Queues.{length-post_fired, length-withdraw_events}
 use Rattle.channel_invariant.proofs.Elements.{All-change_first, All-find}
-use Rattle.channel_invariant.proofs.References.{HoldsOfAll, IsMore, another_row, another_table, emptied_call, left_calls-made, left_waits, none_in, none_left, one_in, one_thread, passed, refer_to_more, released, several_rows, staged_call}
+use Rattle.channel_invariant.proofs.References.{HoldsOfAll, IsMore, another_row, another_table, begun_waits, emptied_call, left_calls-made, left_waits, none_in, none_left, one_in, one_thread, passed, refer_to_more, released, several_rows, staged_call}
 
 -- what holds between an act and what follows it too
 pub record Fits (m : State) : Type 0 where
@@ -243,6 +243,28 @@ revoke_fits m p fd h =
   where
     l : Fits (leave m (revocation (door_at m p fd)))
     l = left m h (revocation (door_at m p fd))
+
+-- the child has the rows of its parent
+fork_fits : (m : State) (t p child : ℕ) → Fits m → Fits (fork m t p child).state
+fork_fits m t p child h =
+    record {
+      pipes = h.pipes;
+      ports = h.ports;
+      associations = h.associations;
+      refers =
+          record {
+            rows = another_table (IsMadeObject (made_in m)) m.tables child (table_of m p) (h.refers.rows p) h.refers.rows;
+            names = h.refers.names;
+            calls = l.refers.calls;
+            waits =
+                subst (λ xs. All (λ (x : Thread). WaitsAtMade (made_in m) x.state) xs)
+                (sym (threads-begin_process (leave m (forking m.process_table t)).process_table child))
+                (begun_waits (made_in m) child (leave m (forking m.process_table t)).process_table.threads l.refers.waits);
+          };
+    }
+  where
+    l : Fits (leave m (forking m.process_table t))
+    l = left m h (forking m.process_table t)
 
 -- acts
 
@@ -474,6 +496,7 @@ module _ (m : State) (t : ℕ) (h : Fits m) where
   move_fits q a may (Moves.leaves r who e) = left m h who
   move_fits q a may (Moves.revokes fd f) = revoke_fits m process fd h
   move_fits q a may (Moves.ends r p e) = leave_process_fits m p h
+  move_fits q a may (Moves.forks child f) = fork_fits m t process child.0 h
   move_fits q a may (Moves.passes r c x e) = passing_fits r c x e
   move_fits q a may (Moves.makes_channel r c objects x e) = made_fits r c objects x e
   move_fits q a may (Moves.retrieves port max nget one e) =

@@ -6,13 +6,13 @@ use Rattle.std.proofs.lemmas.Option.{slice_get-map}
 use Rattle.dk_base.specs.ByNumber.{at_number}
 use Rattle.dk_base.specs.declared.object.Obj.TheVariants as obj
 use Rattle.kernel_records.specs.declared.record.ThreadState.TheVariants as is
-use Rattle.kernel_records.specs.Words.{Leaving, ProcessTable, at_stage, change_thread, change_thread_in, close_table, free_place, free_row, insert_row, insert_rows, interrupted_state, left_call, left_thread_of, object_in, object_named, objects_passed, release_rows, table_in, thread_at, with_row, with_table, without_arguments_at}
+use Rattle.kernel_records.specs.Words.{Leaving, ProcessTable, at_stage, begun_thread, change_thread, change_thread_in, close_table, free_place, free_row, insert_row, insert_rows, interrupted_state, left_call, left_thread_of, object_in, object_named, objects_passed, release_rows, table_in, thread_at, with_row, with_table, without_arguments_at}
 use Rattle.kernel_records.proofs.Lists.{at_number-with_at_number, slice_get-slice_set}
 use Rattle.kernel_records.proofs.Passing.{All-objects_passed, object_named-before}
 use Rattle.written_kernel.specs.Types.{Call, CallStage, Fd, Name, Obj, Pass, Thread, ThreadState}
 use Rattle.written_kernel.specs.Words.{objects_collected}
 use Rattle.written_kernel.proofs.CallLists.{IsOver, left_call-over}
-use Rattle.written_kernel.proofs.Threads.{left_thread_of-case}
+use Rattle.written_kernel.proofs.Threads.{begun_thread-case, left_thread_of-case}
 use Rattle.channel_invariant.specs.Channels.{AreMadeIn, IsAmong, IsMadeObject, Made, ReferToMade, WaitsAtMade}
 use Rattle.channel_invariant.proofs.Elements.{All-at_number, All-changed, All-with_at_number}
 
@@ -120,6 +120,10 @@ module _ (made : Made) where
       All-changed WaitsWell (left_thread_of who now calls)
       (λ x h. left_thread_of-case WaitsWell who now calls x h tt (marked x.state h) (λ y k. tt) (λ y k. k))
       xs all
+
+  -- a thread of a process that begins waits at no port, if it did not before
+  pub begun_waits : (child : ℕ) (xs : List Thread) → All WaitsWell xs → All WaitsWell (map (begun_thread child) xs)
+  begun_waits child xs all = All-changed WaitsWell (begun_thread child) (λ x h. begun_thread-case WaitsWell child x h tt) xs all
 
 -- more is made
 

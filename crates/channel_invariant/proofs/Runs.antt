@@ -3,10 +3,10 @@ use Rattle.std.proofs.Common.{◌+◌, ◌≤◌, Bool, true, false, List, [], �
 use Rattle.std.specs.Prelude.{All}
 use Rattle.std.proofs.lemmas.List.Elements.{All-nil, All-push}
 use Rattle.dk_base.specs.declared.limits.TheConstants.{PIPE_MAX}
-use Rattle.kernel_records.specs.Words.{CallTree, new_thread, opening_state}
+use Rattle.kernel_records.specs.Words.{CallTree, new_thread_where, opening_state}
 use Rattle.written_kernel.specs.Types.{Name, Thread}
-use Rattle.written_kernel.specs.Words.{Channels, IsOpening, IsRun, State, Turn, state_after, state_after_turn}
-use Rattle.written_kernel.proofs.Opening.{object_at-opening, opened, opening_threads}
+use Rattle.written_kernel.specs.Words.{Channels, IsOpening, IsRun, State, Turn, is_unborn_process, state_after, state_after_turn}
+use Rattle.written_kernel.proofs.Opening.{next_thread, object_at-opening, opened, opening_threads, threads-make_child}
 use Rattle.channel_invariant.specs.Channels.{AreChannels, AreMadeIn, ArePipes, ArePorts, IsAmong, IsBounded, Made, WaitsAtMade, made_in}
 use Rattle.channel_invariant.specs.Associations.{AreAssociations}
 use Rattle.channel_invariant.proofs.Associations.{no_association}
@@ -20,9 +20,15 @@ starts made false = tt
 no_thread_waits : {m : State} → IsOpening m → (made : Made) → All (λ x. WaitsAtMade made x.state) m.process_table.threads
 no_thread_waits (IsOpening.processes limits) made =
     subst (λ xs. All (λ (x : Thread). WaitsAtMade made x.state) xs) (sym (opening_threads limits)) (All-nil (λ x. WaitsAtMade made x.state))
+no_thread_waits (IsOpening.child {m} c parent first after there long none o) made =
+    subst (λ xs. All (λ (x : Thread). WaitsAtMade made x.state) xs) (sym (threads-make_child m.process_table c parent)) (no_thread_waits o made)
 no_thread_waits (IsOpening.thread {m} p spare a b c o) made =
-    All-push (λ x. WaitsAtMade made x.state) m.process_table.threads (new_thread (length m.process_table.threads + 1) p spare)
-    (no_thread_waits o made) (starts made spare)
+    All-push (λ x. WaitsAtMade made x.state) m.process_table.threads (next_thread m p spare) (no_thread_waits o made)
+    (new (is_unborn_process m p))
+  where
+    new : (u : Bool) → WaitsAtMade made (new_thread_where u (length m.process_table.threads + 1) p spare).state
+    new true = tt
+    new false = starts made spare
 
 pub opening_fits : (m : State) → IsOpening m → AreChannels m
 opening_fits m o =

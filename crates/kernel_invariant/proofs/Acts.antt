@@ -1,28 +1,28 @@
 -- What an act keeps and which arrows calls take by it; the acts that touch no call.
-use Rattle.std.specs.Prelude.{ℕ, ◌≡◌, ◌+◌, List, [], ◌∷◌, Option, Bool, true, false, Some, None, find, length, is_none, is_some, unwrap_or}
+use Rattle.std.specs.Prelude.{ℕ, ◌≡◌, ◌+◌, List, Option, Bool, true, false, Some, None, find, length}
 use Rattle.std.proofs.Common.{ap, refl, subst}
 use native.Mathlib.Omega.{arith}
 use Rattle.std.proofs.lemmas.Bool.Decides.{nat_tests}
 use Rattle.kernel_records.proofs.NumberedLists.{find-found}
-use Rattle.written_kernel.specs.Types.{Answer, Attrs, Call, Door, Fd, Inv, Name, Obj, Param, Process, Request, ThreadState}
-use Rattle.dk_base.specs.declared.error.Errno.TheVariants.{EINVAL, EMFILE}
+use Rattle.written_kernel.specs.Types.{Answer, Attrs, Call, Door, Fd, Inv, Name, Obj, Param, Request, ThreadState}
 use Rattle.kernel_records.specs.declared.record.ThreadState.TheVariants as is
-use Rattle.dk_base.specs.ByNumber.{at_number, with_at_number}
-use Rattle.kernel_records.specs.Words.{NoticeList, ProcessTable, bind_tests, call_number, first_refusal, has_notice, has_told_attributes, is_live_in, is_private_in, lowest_free, new_door, refused_where, set_param, unbind_thread, with_door, with_param}
+use Rattle.dk_base.specs.ByNumber.{with_at_number}
+use Rattle.kernel_records.specs.declared.pool.TheConstants.{LOST_DOOR}
+use Rattle.kernel_records.specs.Words.{NoticeList, ProcessTable, bind_tests, call_number, first_refusal, has_notice, is_private_in, new_door, set_param, unbind_thread, with_door, with_param}
 use Rattle.written_kernel.specs.Words.{ActResult, Channels, State, bind, binding_tests, create, create_tests, door_at, door_of, find_call, process_of, state_of, unbind, with_state, with_table_of}
 pub use Rattle.written_kernel.proofs.Moves.{act_result}
 use Rattle.kernel_invariant.specs.Records.{has_notice_number, notice_of, owner_in, record_of}
-use Rattle.kernel_invariant.specs.Core.{core, ended_in}
+use Rattle.kernel_invariant.specs.Core.{core}
 use Rattle.kernel_invariant.specs.Coherent.{IsCoherent, is_unfit}
 use Rattle.kernel_invariant.specs.Invariant.{IsConsistent}
 use Rattle.kernel_invariant.specs.Arrows.{ByAct, NoticeByAct}
 use Rattle.kernel_invariant.specs.Arrows.ByAct.{stays}
 use Rattle.kernel_invariant.specs.Arrows.NoticeByAct.{stays as notice_stays}
 use Rattle.written_kernel.proofs.Doors.{at_number-change_door}
-use Rattle.kernel_records.proofs.Lists.{numbered_push, at_number-with_at_number, length-with_at_number, numbered_past, numbered_there, numbered_within}
+use Rattle.kernel_records.proofs.Lists.{numbered_push, at_number-with_at_number, length-with_at_number, numbered_past}
 use Rattle.kernel_invariant.proofs.Later.{by_act_later, notice_by_act_later}
 use Rattle.kernel_invariant.proofs.Cores.{Turns, at_one, set_thread_state-turns, upd}
-use Rattle.kernel_invariant.proofs.Consistent.{AreTables, act_consistent, after_act, beside_consistent, call_consistent, calls_counted, channels_consistent, change-call, changed_tree, not_ended, notices_counted, own_tables, same_tables, there, thread_consistent}
+use Rattle.kernel_invariant.proofs.Consistent.{AreTables, act_consistent, after_act, awake_lives, beside_consistent, call_consistent, calls_counted, channels_consistent, change-call, changed_tree, is_awake, notices_counted, not_unborn, own_tables, same_tables, there, thread_consistent}
 use Rattle.written_kernel.proofs.Moves.{is_quiet}
 use Rattle.kernel_invariant.proofs.DoorMoves.{IsSameButLimits, door_keeps, limits_keep}
 use Rattle.kernel_invariant.proofs.Parts.{is_free, role_keeps}
@@ -84,7 +84,8 @@ pub turned_to :
     is_quiet s ≡ true → is_unfit s ≡ false → Does m t q (act_result (with_state m t s) a)
 turned_to m t q s a h e f u =
     does_thread m t q a _ _ s _ h (same_tables m h) (set_thread_state-turns m.process_table t s (there m t (λ d. grind arith)))
-    (role_keeps (core m) t s h.coherent (grind arith) (grind arith) u (λ o. absurd (grind arith)))
+    (role_keeps (core m) t s h.coherent (grind arith) (grind arith) u (grind arith) (not_unborn m t h (λ z. grind arith))
+    (λ o. absurd (grind arith)))
 
 pub names_does : (m : State) (t : ℕ) (q : Option Request) (names : List Name) (a : Answer) → IsConsistent m → Does m t q (act_result (record m { names = names }) a)
 names_does m t q names a h =
@@ -134,9 +135,11 @@ rebind_keeps m t o h free own =
       bindings =
           record {
             bound_own =
-                λ u d e. grind (arith, nat_tests, at_number-with_at_number m.bindings t u o, own d, h.coherent.bindings.bound_own u d);
+                λ u d e l. grind (arith, nat_tests, at_number-with_at_number m.bindings t u o, own d, h.coherent.bindings.bound_own u d);
             bound_private =
-                λ u d e. grind (arith, nat_tests, at_number-with_at_number m.bindings t u o, own d, h.coherent.bindings.bound_private u d);
+                λ u d e l. grind (arith, nat_tests, at_number-with_at_number m.bindings t u o, own d, h.coherent.bindings.bound_private u d);
+            idle_not_lost =
+                λ u since e f. grind (arith, nat_tests, at_number-with_at_number m.bindings t u o, own LOST_DOOR, h.coherent.doors.none_lost, h.coherent.bindings.idle_not_lost u since);
           };
       processes = h.coherent.processes;
       threads = h.coherent.threads;
@@ -190,7 +193,7 @@ with_table_of_keeps :
     (m : State) (t : ℕ) (table : List (Option Obj)) → IsConsistent m → state_of m t ≡ is.Running →
     IsConsistent (with_table_of m (process_of m t) table)
 with_table_of_keeps m t table h e =
-    act_consistent m m.process_table _ m.call_tree m.notice_list (own_tables m t table h (λ z. grind arith)) refl (calls_counted h) (notices_counted h) h.places h.coherent
+    act_consistent m m.process_table _ m.call_tree m.notice_list (own_tables m t table h (ap is_awake e)) refl (calls_counted h) (notices_counted h) h.places h.coherent
 
 pub rows_does :
     (m : State) (t : ℕ) (q : Option Request) (table : List (Option Obj)) (a : Answer) → IsConsistent m → state_of m t ≡ is.Running →
@@ -247,30 +250,6 @@ set_param_does m t q d x value a h =
       kept = same_list m.notice_list;
     }
 
--- a process that is there and has not ended is live
-pub lives : (o : Option Process) → is_some o ≡ true → ended_in o ≡ false → is_live_in o ≡ true
-lives o e f = grind arith
-
--- a table with a free place is there
-has_place :
-    (told : Bool) (o : Option (List (Option Obj))) →
-    first_refusal (refused_where told EINVAL ∷ refused_where (is_none (lowest_free (unwrap_or o []))) EMFILE ∷ []) ≡ None →
-    is_some o ≡ true
-has_place told o e = grind arith
-
--- a door is made by a process that is there, since its table has a place
-creator_lives :
-    (m : State) (t : ℕ) (attrs : Attrs) → IsConsistent m → state_of m t ≡ is.Running →
-    first_refusal (create_tests m (process_of m t) attrs) ≡ None →
-    is_live_in (at_number m.process_table.processes (process_of m t)) ≡ true
-creator_lives m t attrs h e f =
-    let within = λ (rows : List (Option Obj)) (g : at_number m.tables (process_of m t) ≡ Some rows). numbered_within m.tables (process_of m t) rows g in
-    let place : is_some (at_number m.tables (process_of m t)) ≡ true = has_place (has_told_attributes attrs) (at_number m.tables (process_of m t)) f in
-    let there : is_some (at_number m.process_table.processes (process_of m t)) ≡ true =
-    grind (arith, h.tables, within, place, numbered_there m.process_table.processes (process_of m t))
-    in
-    lives _ there (not_ended m t h (λ z. grind arith))
-
 pub create_does :
     (m : State) (t : ℕ) (q : Option Request) (entry cookie : ℕ) (attrs : Attrs) → IsConsistent m → state_of m t ≡ is.Running →
     first_refusal (create_tests m (process_of m t) attrs) ≡ None → Does m t q (create m (process_of m t) entry cookie attrs)
@@ -286,5 +265,7 @@ create_does m t q entry cookie attrs h e f =
     made : IsConsistent n
     made =
         beside_consistent m (with_door m.doors (process_of m t) entry cookie attrs) m.bindings m.names m.events h h.places
-        (door_keeps (core m) d _ h.coherent (numbered_past m.doors d.number (grind arith)) (grind (arith, creator_lives m t attrs h e f))
+        (door_keeps (core m) d _ h.coherent (numbered_past m.doors d.number (grind arith)) (omega arith)
+        (grind (arith, awake_lives m t h (ap is_awake e)))
+        (not_unborn m t h (λ z. grind arith))
         (numbered_push m.doors d))

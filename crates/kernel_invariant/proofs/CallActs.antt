@@ -1,12 +1,13 @@
 -- The acts that change a call: door_call, accept, door_return and collect.
 use Rattle.std.specs.Prelude.{ℕ, ◌≡◌, List, Option, Bool, true, false, if◌then◌else◌, Some, None, is_some, length, nat_lt}
-use Rattle.std.proofs.Common.{refl, sym, ap, subst, ◌∙◌}
+use Rattle.std.proofs.Common.{refl, sym, ap, subst, true≢false, ◌∙◌}
 use native.Mathlib.Omega.{arith}
 use Rattle.std.proofs.lemmas.Bool.Decides.{nat_tests}
 use Rattle.kernel_records.proofs.NumberedLists.{find-found, find-none, find-passes, find-past, find-push}
 use Rattle.written_kernel.specs.Types.{Answer, Call, CallStage, Fd, Notice, Obj, Pass, Request, ThreadState}
-use Rattle.kernel_records.specs.Words.{CallTree, NoticeList, ProcessTable, call_number, collect_call, end_invocation, end_notice, first_refusal, is_client_call_of, is_given_as, is_notice_entered_by, is_to_collect, is_to_collect_as, new_descriptors, notice_at, objects_passed, open_call, park_thread, return_call, set_thread_state, tid, without_arguments_at}
-use Rattle.written_kernel.specs.Words.{ActResult, State, begin_call, call, call_tests, client_call, collect, collect_answer, collect_answer_in, door_named, fail_begin, find_call, find_notice, has_invalid_door, has_room, invocation_of, is_valid, make_call, new_call, now, object_at, objects_collected, objects_collected_in, process_of, return_answer, return_parked, return_tests, return_unbound, state_of, table_of, tables_after_collect, tables_after_pass, tables_with}
+use Rattle.kernel_records.specs.declared.pool.TheConstants.{LOST_DOOR}
+use Rattle.kernel_records.specs.Words.{CallTree, NoticeList, ProcessTable, call_number, collect_call, end_invocation, end_notice, first_refusal, is_client_call_of, is_given_as, is_idle, is_notice_entered_by, is_to_collect, is_to_collect_as, new_descriptors, notice_at, objects_passed, open_call, park_thread, return_call, set_thread_state, tid, without_arguments_at}
+use Rattle.written_kernel.specs.Words.{ActResult, State, begin_call, bound_of, call, call_tests, client_call, collect, collect_answer, collect_answer_in, door_named, fail_begin, find_call, find_notice, has_invalid_door, has_room, invocation_of, is_bound_to_invalid, is_valid, make_call, new_call, now, object_at, objects_collected, objects_collected_in, process_of, return_answer, return_parked, return_tests, return_unbound, state_of, table_of, tables_after_collect, tables_after_pass, tables_with}
 use Rattle.dk_base.specs.declared.error.Errno.TheVariants.{EINVAL, EMFILE}
 use Rattle.dk_base.specs.declared.object.Obj.TheVariants as obj
 use Rattle.dk_base.specs.declared.object.Item.TheVariants as item
@@ -31,7 +32,7 @@ use Rattle.kernel_invariant.proofs.NoticeActs.{does_notice, entered_notice_is, n
 use Rattle.kernel_invariant.proofs.Cores.{Turns, act-core, at_one, end_invocation-turns, enter_thread-turns, park_thread-turns, set_thread_state-turns, upd}
 use Rattle.kernel_invariant.proofs.CallMoves.{call_keeps, enter_keeps, fail_keeps, is_after_return, return_keeps, park_keeps, collect_keeps}
 use Rattle.kernel_invariant.proofs.Acts.{Does, act_result, does_call, does_thread, same_list, unbound_does}
-use Rattle.kernel_invariant.proofs.Consistent.{AreTables, act_consistent, after_act, calls_counted, notice_found, notices_counted, own_tables, push_counted, same_tables, there}
+use Rattle.kernel_invariant.proofs.Consistent.{AreTables, act_consistent, after_act, calls_counted, is_awake, notice_found, notices_counted, own_tables, push_counted, same_tables, there}
 
 -- what a test finds is what its number finds
 pub record_found : (m : State) (test : Call → Bool) (r : Call) → IsConsistent m → find_call m test ≡ Some r → record_of m r.number ≡ Some r
@@ -54,7 +55,7 @@ pub call_does :
 call_does m t rsize fd bytes pass h e f =
     record {
       consistent =
-          act_consistent m _ _ (open_call m.call_tree r) m.notice_list (own_tables m t _ h (λ z. grind arith)) turns.processes
+          act_consistent m _ _ (open_call m.call_tree r) m.notice_list (own_tables m t _ h (ap is_awake e)) turns.processes
           (push_counted r (calls_counted h) refl) (notices_counted h) (omega (arith, turns.length, h.places))
           (subst IsCoherent (sym (act-core m _ (open_call m.call_tree r) m.notice_list t _ _ _ _ turns found (λ n. refl) (λ n. refl)))
           (call_keeps (core m) t r h.coherent
@@ -98,7 +99,7 @@ begin_does m t r h a room =
     let g : state_of m t ≡ is.Given (item.Call r.number) = a.given in
     does_call (is_given_as r.number t) (without_arguments_at (stage.Entered (tid t))) (λ x. refl)
     m t None _ _ _ is.Running _ r h
-    (own_tables m t _ h (λ z. grind arith))
+    (own_tables m t _ h (ap is_awake g))
     (enter_thread-turns m.process_table t (item.Call r.number) (there m t (λ z. grind arith)))
     a.found
     (enter_keeps (core m) t r h.coherent (record_found m _ r h a.found) g)
@@ -128,7 +129,7 @@ caller_is m t r h f e = grind (arith, h.coherent.waits.caller r.number t e)
 
 -- the objects that come with results are installed where there is room
 collect_tables :
-    (m : State) (t : ℕ) (objects : List Obj) → IsConsistent m → (state_of m t ≡ is.Done → ⊥) →
+    (m : State) (t : ℕ) (objects : List Obj) → IsConsistent m → is_awake (state_of m t) ≡ true →
     AreTables m (tables_after_collect m (process_of m t) objects)
 collect_tables m t objects h e = go (has_room m (process_of m t) objects)
   where
@@ -177,7 +178,7 @@ collect_does m t c h e s = go (find_call m (is_to_collect_as c)) refl s
         subst (λ o. Does m t None (collect_found m t p r.number o)) (sym f)
         (does_call (is_to_collect_as r.number) (without_arguments_at (stage.Answered (now m))) (λ x. refl)
         m t None _ _ _ is.Running _ r h
-        (collect_tables m t (objects_collected r.stage) h (λ z. grind arith))
+        (collect_tables m t (objects_collected r.stage) h (ap is_awake g))
         (set_thread_state-turns m.process_table t is.Running (there m t (λ z. grind arith)))
         f
         (collect_keeps (core m) t r (now m) h.coherent there_is g passes)
@@ -217,10 +218,10 @@ module _ (m : State) (t : ℕ) (bytes : List ℕ) (pass : List Pass) (h : IsCons
   returned_calls = return_call m.call_tree t bytes (objects_passed (table_of m (process_of m t)) pass)
 
   return_turns :
-      (table : ProcessTable) (s : ThreadState) (a : Answer) → is_after_return s ≡ true → a ≡ return_answer m t →
-      Turns m.process_table table t s (upd (core m).serves t None) →
+      (table : ProcessTable) (s : ThreadState) (a : Answer) → is_after_return s ≡ true →
+      (is_idle s ≡ true → bound_of m t ≡ Some LOST_DOOR → ⊥) → a ≡ return_answer m t → Turns m.process_table table t s (upd (core m).serves t None) →
       Does m t (Some (request.Return bytes pass)) (act_result (returned table returned_calls (end_notice m.notice_list t)) a)
-  return_turns table s a w z turns = go (client_call m t) refl
+  return_turns table s a w b z turns = go (client_call m t) refl
     where
       q : Option Request
       q = Some (request.Return bytes pass)
@@ -232,7 +233,7 @@ module _ (m : State) (t : ℕ) (bytes : List ℕ) (pass : List Pass) (h : IsCons
       tables = tables_after_pass m (process_of m t) pass
 
       rows : AreTables m tables
-      rows = own_tables m t _ h (λ z. grind arith)
+      rows = own_tables m t _ h (ap is_awake e)
 
       -- no notice is entered by the thread
       same_notices : find_notice m (is_notice_entered_by t) ≡ None → m.notice_list ≡ end_notice m.notice_list t
@@ -249,18 +250,18 @@ module _ (m : State) (t : ℕ) (bytes : List ℕ) (pass : List Pass) (h : IsCons
           (same_notices (none_entered m t r.number h serves))
           (does_call (is_client_call_of t) (without_arguments_at (stage.Returned bytes objects)) (λ x. refl)
           m t q a _ _ s _ r h rows turns f
-          (return_keeps (core m) t r bytes objects s h.coherent e w g serves i.0)
+          (return_keeps (core m) t r bytes objects s h.coherent e w b g serves i.0)
           (returns r bytes pass refl free i.1 i.0 z))
 
       of_notice : client_call m t ≡ None → (o : Option Notice) → find_notice m (is_notice_entered_by t) ≡ o → Does m t q (act_result (returned table m.call_tree (end_notice m.notice_list t)) a)
       of_notice f None g =
           subst (λ (list : NoticeList). Does m t q (act_result (returned table m.call_tree list) a)) (same_notices g)
           (does_thread m t q a _ tables s _ h rows turns
-          (park_keeps (core m) t s h.coherent e w (λ c i. no_client m t c h f i) (λ n i. no_entered m t n h g i)))
+          (park_keeps (core m) t s h.coherent e w b (λ c i. no_client m t c h f i) (λ n i. no_entered m t n h g i)))
       of_notice f (Some x) g =
           let entered : x.stage ≡ notice.Entered (tid t) = entered_notice_is t x (find-passes (is_notice_entered_by t) m.notice_list.notices x g) in
           does_notice (is_notice_entered_by t) notice.Over m t q a table tables s _ x h rows turns g
-          (end_notice_keeps (core m) t x.number s h.coherent e w (ap notice_in (notice_found m (is_notice_entered_by t) x h g) ∙ ap (λ z. Some z) entered))
+          (end_notice_keeps (core m) t x.number s h.coherent e w b (ap notice_in (notice_found m (is_notice_entered_by t) x h g) ∙ ap (λ z. Some z) entered))
           (notice_returns x bytes pass refl free entered)
 
       go : (o : Option Call) → client_call m t ≡ o → Does m t q (act_result (returned table returned_calls (end_notice m.notice_list t)) a)
@@ -273,10 +274,11 @@ module _ (m : State) (t : ℕ) (bytes : List ℕ) (pass : List Pass) (h : IsCons
   pub unbound_return_does : has_invalid_door m t ≡ true → Does m t (Some (request.Return bytes pass)) (return_unbound m t (process_of m t) bytes pass)
   unbound_return_does f =
       unbound_does m t _ _ (answer.Failure EINVAL) (grind (arith, nat_tests, (end_invocation-turns m.process_table t e).role t))
-      (return_turns (end_invocation m.process_table t) is.Running (answer.Failure EINVAL) refl
+      (return_turns (end_invocation m.process_table t) is.Running (answer.Failure EINVAL) refl (λ i. absurd (grind arith))
       (sym (ap (λ (b : Bool). if b then answer.Failure EINVAL else answer.Wait) f)) (end_invocation-turns m.process_table t e))
 
   pub parked_return_does : has_invalid_door m t ≡ false → Does m t (Some (request.Return bytes pass)) (return_parked m t (process_of m t) bytes pass)
   parked_return_does f =
       return_turns (park_thread m.process_table t (now m)) (is.Idle (now m)) answer.Wait refl
+      (λ i g. absurd (true≢false (ap (is_bound_to_invalid m) (sym g) ∙ f)))
       (sym (ap (λ (b : Bool). if b then answer.Failure EINVAL else answer.Wait) f)) (park_thread-turns m.process_table t (now m) (there m t (λ z. grind arith)))

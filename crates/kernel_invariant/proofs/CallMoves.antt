@@ -8,12 +8,13 @@ use Rattle.dk_base.specs.declared.object.Item.TheVariants as item
 use Rattle.kernel_records.specs.declared.record.ThreadState.TheVariants as is
 use Rattle.written_kernel.specs.Types.{Call, Errno, Obj, ThreadState}
 use Rattle.kernel_records.specs.declared.record.CallStage.TheVariants as stage
-use Rattle.kernel_records.specs.Words.{at_stage, is_to_collect, is_valid_in, new_invocation, no_cancel_of, tid, without_arguments_at}
+use Rattle.kernel_records.specs.declared.pool.TheConstants.{LOST_DOOR}
+use Rattle.kernel_records.specs.Words.{at_stage, is_idle, is_to_collect, is_valid_in, new_invocation, no_cancel_of, tid, without_arguments_at}
 use Rattle.kernel_invariant.specs.Records.{item_in, owner_in}
 use Rattle.kernel_invariant.specs.Core.{Core, abandoned_in}
 use Rattle.kernel_invariant.specs.Coherent.{IsCoherent, bound_for}
 use Rattle.kernel_invariant.proofs.Cores.{set_role, set_serves, set_call, set_new_call}
-use Rattle.kernel_invariant.proofs.Parts.{at_doors_move, at_doors_set, fit_turn, calls_move, calls_set, notices_serve, notices_turn, processes_turn, servers_move, servers_turn, waits_turn}
+use Rattle.kernel_invariant.proofs.Parts.{at_doors_move, at_doors_set, bindings_turn, fit_turn, calls_move, calls_set, notices_serve, notices_turn, processes_turn, servers_move, servers_turn, waits_turn}
 
 -- a new call of a running thread waits at a valid door
 abbrev pub with_call_of : Core → ℕ → Call → Core
@@ -65,8 +66,8 @@ call_keeps k t r h p =
           (λ u e. grind (arith, p.queued))
           (λ u e. grind (arith, p.queued));
       doors = h.doors;
-      bindings = h.bindings;
-      processes = processes_turn t _ h.processes (grind arith);
+      bindings = bindings_turn t _ h.bindings (λ e. absurd (grind arith));
+      processes = processes_turn t _ h.processes (grind arith) (grind (arith, p.running, h.processes.unborn_dormant t));
       threads = h.threads;
       has_fit_state = fit_turn t _ h refl;
     }
@@ -109,8 +110,8 @@ give_keeps k r u h p =
           at_doors_set r.number _ h.at_doors (h.at_doors.door_there r.number r p.found) (h.at_doors.no_cancel r.number r p.found)
           (λ e. grind arith) (λ v e. grind (arith, p.owner)) (λ v e. grind (arith, p.bound)) (λ v e. grind arith);
       doors = h.doors;
-      bindings = h.bindings;
-      processes = processes_turn u _ h.processes (grind (arith, p.idle));
+      bindings = bindings_turn u _ h.bindings (λ e. absurd (grind arith));
+      processes = processes_turn u _ h.processes (grind (arith, p.idle)) (grind (arith, p.idle, h.processes.unborn_dormant u));
       threads = h.threads;
       has_fit_state = fit_turn u _ h refl;
     }
@@ -151,8 +152,8 @@ enter_keeps k t r h q g =
           (λ u e. grind arith)
           (λ u e. grind (arith, h.at_doors.given_owner r.number t, h.waits.given_back r.number t));
       doors = h.doors;
-      bindings = h.bindings;
-      processes = processes_turn t _ h.processes (grind arith);
+      bindings = bindings_turn t _ h.bindings (λ e. absurd (grind arith));
+      processes = processes_turn t _ h.processes (grind arith) (grind (arith, h.processes.unborn_dormant t));
       threads = h.threads;
       has_fit_state = fit_turn t _ h refl;
     }
@@ -189,8 +190,10 @@ fail_keeps k t r x since h q g =
       calls = calls_move r _ h.calls q;
       at_doors = at_doors_move r _ h.at_doors q refl;
       doors = h.doors;
-      bindings = h.bindings;
-      processes = processes_turn t _ h.processes (grind arith);
+      bindings =
+          bindings_turn t _ h.bindings
+          (λ e f. grind (arith, h.waits.given_back r.number t g, h.at_doors.given_bound r.number t, h.doors.none_lost));
+      processes = processes_turn t _ h.processes (grind arith) (grind (arith, h.processes.unborn_dormant t));
       threads = h.threads;
       has_fit_state = fit_turn t _ h refl;
     }
@@ -208,9 +211,9 @@ returned_core k t r bytes objects s =
 
 pub return_keeps :
     (k : Core) (t : ℕ) (r : Call) (bytes : List ℕ) (objects : List Obj) (s : ThreadState) → IsCoherent k → k.role t ≡ is.Running →
-    is_after_return s ≡ true → k.call r.number ≡ Some r → item_in (k.serves t) ≡ Some (item.Call r.number) → r.abandoned ≡ false →
-    IsCoherent (returned_core k t r bytes objects s)
-return_keeps k t r bytes objects s h p z q i a =
+    is_after_return s ≡ true → (is_idle s ≡ true → k.bound t ≡ Some LOST_DOOR → ⊥) → k.call r.number ≡ Some r →
+    item_in (k.serves t) ≡ Some (item.Call r.number) → r.abandoned ≡ false → IsCoherent (returned_core k t r bytes objects s)
+return_keeps k t r bytes objects s h p z b q i a =
     record {
       waits =
           record {
@@ -233,8 +236,8 @@ return_keeps k t r bytes objects s h p z q i a =
       calls = calls_move r _ h.calls q;
       at_doors = at_doors_move r _ h.at_doors q refl;
       doors = h.doors;
-      bindings = h.bindings;
-      processes = processes_turn t _ h.processes (grind arith);
+      bindings = bindings_turn t s h.bindings b;
+      processes = processes_turn t _ h.processes (grind arith) (grind (arith, h.processes.unborn_dormant t));
       threads = h.threads;
       has_fit_state = fit_turn t s h (grind arith);
     }
@@ -245,9 +248,10 @@ parked_core k t s = set_role (set_serves k t None) t s
 
 pub park_keeps :
     (k : Core) (t : ℕ) (s : ThreadState) → IsCoherent k → k.role t ≡ is.Running → is_after_return s ≡ true →
+    (is_idle s ≡ true → k.bound t ≡ Some LOST_DOOR → ⊥) →
     ((c : ℕ) → item_in (k.serves t) ≡ Some (item.Call c) → abandoned_in (k.call c) ≡ true) →
     ((n : ℕ) → item_in (k.serves t) ≡ Some (item.Notice n) → ⊥) → IsCoherent (parked_core k t s)
-park_keeps k t s h p w q z =
+park_keeps k t s h p w b q z =
     record {
       waits = waits_turn t s h.waits (grind arith) (grind arith);
       invocations =
@@ -263,8 +267,8 @@ park_keeps k t s h p w q z =
       calls = h.calls;
       at_doors = h.at_doors;
       doors = h.doors;
-      bindings = h.bindings;
-      processes = processes_turn t _ h.processes (grind arith);
+      bindings = bindings_turn t s h.bindings b;
+      processes = processes_turn t _ h.processes (grind arith) (grind (arith, h.processes.unborn_dormant t));
       threads = h.threads;
       has_fit_state = fit_turn t s h (grind arith);
     }
@@ -299,8 +303,8 @@ collect_keeps k t r at h q g z =
       calls = calls_move r _ h.calls q;
       at_doors = at_doors_move r _ h.at_doors q refl;
       doors = h.doors;
-      bindings = h.bindings;
-      processes = processes_turn t _ h.processes (grind arith);
+      bindings = bindings_turn t _ h.bindings (λ e. absurd (grind arith));
+      processes = processes_turn t _ h.processes (grind arith) (grind (arith, h.processes.unborn_dormant t));
       threads = h.threads;
       has_fit_state = fit_turn t _ h refl;
     }

@@ -1,18 +1,18 @@
 -- Which changes of a state keep that it is consistent, but for what holds of its core.
-use Rattle.std.specs.Prelude.{ℕ, ◌≡◌, ◌≤◌, ◌+◌, List, [], ◌∷◌, ◌++◌, Option, Bool, true, false, Some, None, find, length}
-use Rattle.std.proofs.Common.{refl, sym, ap, subst, ◌∙◌, length-append}
+use Rattle.std.specs.Prelude.{ℕ, ◌≡◌, ◌≤◌, ◌+◌, List, [], ◌∷◌, ◌++◌, Option, Bool, true, false, Some, None, find, is_some, length}
+use Rattle.std.proofs.Common.{refl, sym, ap, subst, true≢false, ◌∙◌, length-append}
 use native.Mathlib.Omega.{arith}
 use Rattle.std.proofs.lemmas.Bool.Decides.{nat_tests}
 use Rattle.dk_base.specs.ByNumber.{at_number}
 use Rattle.kernel_records.specs.declared.record.ThreadState.TheVariants as is
-use Rattle.kernel_records.specs.Words.{CallTree, IsCounted, NoticeList, ProcessTable, call_number, change_first, notice_at, notice_number, object_named, table_in, with_table}
+use Rattle.kernel_records.specs.Words.{CallTree, IsCounted, NoticeList, ProcessTable, call_number, change_first, is_live_in, is_unborn_in, notice_at, notice_number, object_named, state_in, table_in, with_table}
 use Rattle.kernel_records.proofs.Lists.{at_number-with_at_number, length-with_at_number}
 use Rattle.kernel_records.proofs.NumberedLists.{counted-change_first, counted-push, find-change_first, find-found}
 use Rattle.kernel_records.proofs.Places.{length-change_first}
-use Rattle.written_kernel.specs.Types.{Call, Door, Fd, Inv, Name, Notice, NoticeStage, Obj, ThreadState}
-use Rattle.written_kernel.specs.Words.{Channels, State, find_call, find_notice, process_of, state_of}
+use Rattle.written_kernel.specs.Types.{Call, Door, Fd, Inv, Name, Notice, NoticeStage, Obj, Process, Thread, ThreadState}
+use Rattle.written_kernel.specs.Words.{Channels, State, find_call, find_notice, is_live_process, process_of, state_of, thread_of}
 use Rattle.kernel_invariant.specs.Records.{has_notice_number, has_number, notice_of}
-use Rattle.kernel_invariant.specs.Core.{core, ended_in, notice_in, noticed_door_in}
+use Rattle.kernel_invariant.specs.Core.{core, ended_in, notice_in, noticed_door_in, number_in}
 use Rattle.kernel_invariant.specs.Coherent.{IsCoherent}
 use Rattle.kernel_invariant.specs.Invariant.{IsConsistent}
 use Rattle.kernel_invariant.proofs.Cores.{IsThere, Turns, act-core, upd}
@@ -23,10 +23,10 @@ there m t h = grind (arith, h)
 
 -- rows
 
--- the tables that an act may leave: one for each process, and no row of an ended one
+-- the tables that an act may leave: one for each process, and no row of one that does not live
 pub record AreTables (m : State) (tables : List (List (Option Obj))) : Type 0 where
   pub counted : length tables ≡ length m.process_table.processes
-  pub no_rows : (p : ℕ) (fd : Fd) → ended_in ((core m).proc p) ≡ true → object_named (table_in tables p) fd ≡ None
+  pub no_rows : (p : ℕ) (fd : Fd) → is_live_process m p ≡ false → object_named (table_in tables p) fd ≡ None
 
 pub same_tables : (m : State) → IsConsistent m → AreTables m m.tables
 same_tables m h = record { counted = h.tables; no_rows = h.no_rows }
@@ -37,15 +37,41 @@ pub not_ended :
     ended_in (at_number m.process_table.processes (process_of m t)) ≡ false
 not_ended m t h e = grind (arith, h.coherent.processes.ended_done t, e)
 
+-- one that is not Dormant is of a process that has begun
+pub not_unborn :
+    (m : State) (t : ℕ) → IsConsistent m → (state_of m t ≡ is.Dormant → ⊥) →
+    is_unborn_in (at_number m.process_table.processes (process_of m t)) ≡ false
+not_unborn m t h e = grind (arith, h.coherent.processes.unborn_dormant t, e)
+
+-- and one that is neither is of a process that lives
+
+abbrev pub is_awake : ThreadState → Bool
+is_awake is.Dormant = false
+is_awake is.Done = false
+is_awake _ = true
+
+-- a process that is there, has begun and has not ended is live
+lives : (o : Option Process) → is_some o ≡ true → ended_in o ≡ false → is_unborn_in o ≡ false → is_live_in o ≡ true
+lives o e f g = grind arith
+
+pub awake_lives : (m : State) (t : ℕ) → IsConsistent m → is_awake (state_of m t) ≡ true → is_live_process m (process_of m t) ≡ true
+awake_lives m t h e =
+    lives (at_number m.process_table.processes (process_of m t)) (is_there (thread_of m t) refl) (not_ended m t h (λ z. grind arith))
+    (not_unborn m t h (λ z. grind arith))
+  where
+    is_there : (o : Option Thread) → thread_of m t ≡ o → is_some (at_number m.process_table.processes (process_of m t)) ≡ true
+    is_there None f = absurd (true≢false (sym e ∙ ap (λ z. is_awake (state_in z)) f))
+    is_there (Some x) f = h.coherent.threads.process_there t x.number (ap number_in f)
+
 -- the process of such a thread has another table
 pub own_tables :
-    (m : State) (t : ℕ) (table : List (Option Obj)) → IsConsistent m → (state_of m t ≡ is.Done → ⊥) →
+    (m : State) (t : ℕ) (table : List (Option Obj)) → IsConsistent m → is_awake (state_of m t) ≡ true →
     AreTables m (with_table m.tables (process_of m t) table)
 own_tables m t table h e =
     record {
       counted = length-with_at_number m.tables (process_of m t) table ∙ h.tables;
       no_rows =
-          λ q fd f. grind (arith, nat_tests, h.no_rows q fd f, not_ended m t h e, at_number-with_at_number m.tables (process_of m t) q table);
+          λ q fd f. grind (arith, nat_tests, h.no_rows q fd f, awake_lives m t h e, at_number-with_at_number m.tables (process_of m t) q table);
     }
 
 -- records with the numbers from 1 to the number of those made, in order
@@ -86,7 +112,7 @@ act_consistent m table tables tree list rows p calls notices places k =
       counted = calls.counted;
       coherent = k;
       tables = rows.counted ∙ sym (ap length p);
-      no_rows = λ q fd f. rows.no_rows q fd (ap (λ xs. ended_in (at_number xs q)) (sym p) ∙ f);
+      no_rows = λ q fd f. rows.no_rows q fd (ap (λ xs. is_live_in (at_number xs q)) (sym p) ∙ f);
       notices_in_order = notices.in_order;
       notices_counted = notices.counted;
       places = places;

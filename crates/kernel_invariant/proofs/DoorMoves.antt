@@ -1,10 +1,11 @@
 -- The changes of the core that concern doors alone: a door is made, or its parameters change. Each keeps what holds of a core.
-use Rattle.std.specs.Prelude.{ℕ, ◌≡◌, Option, not, true, Some, None, is_some, option_map}
+use Rattle.std.specs.Prelude.{ℕ, ◌≡◌, ◌≤◌, Option, not, true, false, Some, None, is_some, option_map}
 use Rattle.std.proofs.Common.{sym, ◌∙◌}
 use native.Mathlib.Omega.{arith}
 use Rattle.std.proofs.lemmas.Bool.Decides.{nat_tests}
 use Rattle.written_kernel.specs.Types.{Door}
-use Rattle.kernel_records.specs.Words.{is_live_in, is_private_in, is_valid_in, no_cancel_of}
+use Rattle.kernel_records.specs.declared.pool.TheConstants.{LOST_DOOR}
+use Rattle.kernel_records.specs.Words.{is_live_in, is_private_in, is_unborn_in, is_valid_in, no_cancel_of}
 use Rattle.kernel_invariant.specs.Core.{Core, door_in}
 use Rattle.kernel_invariant.specs.Coherent.{AreDoors, IsCoherent}
 use Rattle.kernel_invariant.specs.Records.{owner_in}
@@ -50,7 +51,11 @@ doors_keep k after h s doors =
           };
       doors = doors;
       bindings =
-          record { bound_own = λ v d e. s.owner d _ (h.bindings.bound_own v d e); bound_private = λ v d e. grind (arith, s.private d, h.bindings.bound_private v d e) };
+          record {
+            bound_own = λ v d e l. s.owner d _ (h.bindings.bound_own v d e l);
+            bound_private = λ v d e l. grind (arith, s.private d, h.bindings.bound_private v d e l);
+            idle_not_lost = h.bindings.idle_not_lost;
+          };
       processes = h.processes;
       threads = h.threads;
       has_fit_state = h.has_fit_state;
@@ -58,10 +63,10 @@ doors_keep k after h s doors =
 
 -- one door more
 pub door_keeps :
-    (k : Core) (d : Door) (after : ℕ → Option Door) → IsCoherent k → k.door d.number ≡ None →
-    d.owner_ended ≡ not (is_live_in (k.proc d.owner.0)) → ((e : ℕ) → after e ≡ upd k.door d.number (Some d) e) →
+    (k : Core) (d : Door) (after : ℕ → Option Door) → IsCoherent k → k.door d.number ≡ None → 1 ≤ d.number →
+    d.owner_ended ≡ not (is_live_in (k.proc d.owner.0)) → is_unborn_in (k.proc d.owner.0) ≡ false → ((e : ℕ) → after e ≡ upd k.door d.number (Some d) e) →
     IsCoherent (record k { door = after })
-door_keeps k d after h p q a =
+door_keeps k d after h p l q b a =
     doors_keep k after h
     (record {
       there = λ e f. grind (arith, nat_tests, a e);
@@ -71,8 +76,10 @@ door_keeps k d after h p q a =
       no_cancel = λ e f. grind (arith, nat_tests, a e);
     })
     (record {
+      none_lost = a LOST_DOOR ∙ grind (arith, nat_tests, h.doors.none_lost, l);
       door_number = λ e x f. grind (arith, nat_tests, a e, h.doors.door_number e x);
       owner_ended = λ e x f. grind (arith, nat_tests, a e, h.doors.owner_ended e x);
+      owner_begun = λ e x f. grind (arith, nat_tests, a e, h.doors.owner_begun e x, b);
     })
 
 -- what a change of a door's parameters leaves
@@ -96,7 +103,9 @@ limits_keep k d change after h s a =
       no_cancel = λ e f. grind (arith, nat_tests, a e, λ (x : Door). (s x).attrs);
     })
     (record {
+      none_lost = a LOST_DOOR ∙ grind (arith, nat_tests, h.doors.none_lost);
       door_number = λ e z f. grind (arith, nat_tests, a e, h.doors.door_number e, λ (x : Door). (s x).number);
       owner_ended =
           λ e z f. grind (arith, nat_tests, a e, h.doors.owner_ended e, λ (x : Door). (s x).owner, λ (x : Door). (s x).owner_ended);
+      owner_begun = λ e z f. grind (arith, nat_tests, a e, h.doors.owner_begun e, λ (x : Door). (s x).owner);
     })

@@ -16,6 +16,7 @@ use Rattle.kernel_invariant.specs.Invariant.{IsConsistent, Invariant}
 use Rattle.kernel_invariant.specs.Events.{DoorArrow, IsSameDoor}
 use Rattle.kernel_invariant.specs.Events.DoorArrow.{created}
 use Rattle.kernel_invariant.proofs.Leaving.{interrupt_leaves, one_door_changes, process_leaves, revoke_leaves, same_door, thread_leaves}
+use Rattle.kernel_invariant.proofs.Beginning.{fork_leaves}
 use Rattle.kernel_invariant.proofs.Steps.{StepDoes, running_is, step_does}
 
 -- door d, from state m to state n
@@ -58,9 +59,10 @@ move_holds :
 move_holds m t q a h may (Moves.makes entry cookie attrs f) d = create_holds m t entry cookie attrs d
 move_holds m t q a h may (Moves.parameter fd x value f) d = set_param_holds m t q x value _ d
 move_holds m t q a h may (Moves.leaves r who (interrupts u)) d = (interrupt_leaves m t u.0 h).doors d
-move_holds m t q a h may (Moves.leaves r who (exits e)) d = (thread_leaves m t q t h).doors d
-move_holds m t q a h may (Moves.revokes fd f) d = (revoke_leaves m q t fd h (running_is m t may.running)).doors d
-move_holds m t q a h may (Moves.ends r p _) d = (process_leaves m q p h t).doors d
+move_holds m t q a h may (Moves.leaves r who (exits e)) d = (thread_leaves m t q t h (running_is m t may.running)).doors d
+move_holds m t q a h may (Moves.revokes fd f) d = (revoke_leaves m t q fd h (running_is m t may.running)).doors d
+move_holds m t q a h may (Moves.ends r p _) d = (process_leaves m t q p h).doors d
+move_holds m t q a h may (Moves.forks child f) d = (fork_leaves m t child h f).doors d
 move_holds m t q a h may _ d = same_door m t q (door_of m d)
 
 act_holds : (m : State) (t : ℕ) (q : Option Request) (d : ℕ) → IsConsistent m → MayTurn m t q → Holds m t q (act m t q).state d

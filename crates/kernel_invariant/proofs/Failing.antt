@@ -13,7 +13,7 @@ use Rattle.kernel_invariant.specs.Invariant.{IsConsistent}
 use Rattle.kernel_invariant.proofs.Cores.{Turns, set_thread_state-turns}
 use Rattle.kernel_invariant.proofs.Parts.{role_keeps}
 use Rattle.kernel_invariant.proofs.Acts.{Does, does_thread, unbound_keeps}
-use Rattle.kernel_invariant.proofs.Consistent.{same_tables, there, thread_consistent}
+use Rattle.kernel_invariant.proofs.Consistent.{not_unborn, same_tables, there, thread_consistent}
 
 -- a thread that lost its door is idle
 pub record IsIdleSince (m : State) (t : ℕ) : Type 0 where
@@ -41,11 +41,11 @@ module _ (m : State) (t : ℕ) (since : ℕ) (e : state_of m t ≡ is.Idle since
   fail_return-keeps h =
       unbound_keeps (with_state m t is.FailedReturn) t
       (thread_consistent m t _ m.tables is.FailedReturn _ h (same_tables m h) fail-turns
-      (role_keeps (core m) t is.FailedReturn h.coherent (grind arith) refl refl (λ f. h.coherent.servers.outside t (ap is_outside e))))
+      (role_keeps (core m) t is.FailedReturn h.coherent (grind arith) refl refl refl (not_unborn m t h (λ z. grind arith)) (λ f. h.coherent.servers.outside t (ap is_outside e))))
       (grind (arith, nat_tests, fail-turns.role t))
 
 -- a thread that failed is told EINVAL, and goes on
 pub wake_does : (m : State) (t : ℕ) (q : Option Request) → IsConsistent m → state_of m t ≡ is.FailedReturn → Does m t q (wake m t)
 wake_does m t q h e =
     does_thread m t q _ _ _ is.Running _ h (same_tables m h) (set_thread_state-turns m.process_table t is.Running (there m t (λ z. grind arith)))
-    (role_keeps (core m) t is.Running h.coherent (grind arith) refl refl (λ f. absurd (grind arith)))
+    (role_keeps (core m) t is.Running h.coherent (grind arith) refl refl refl (not_unborn m t h (λ z. grind arith)) (λ f. absurd (grind arith)))

@@ -1,7 +1,7 @@
 -- An arrow of an act, seen from a later state in which the same doors are valid and the same threads are done.
-use Rattle.std.specs.Prelude.{ℕ, ◌≡◌, Option}
-use Rattle.std.proofs.Common.{◌∙◌, ap}
-use Rattle.written_kernel.specs.Types.{Answer, Call, Errno, Notice, Request}
+use Rattle.std.specs.Prelude.{ℕ, ◌≡◌, Option, Some, None}
+use Rattle.std.proofs.Common.{◌∙◌, ap, refl}
+use Rattle.written_kernel.specs.Types.{Answer, Call, Errno, Inv, Notice, Request}
 use Rattle.kernel_records.specs.declared.record.ThreadState.TheVariants as is
 use Rattle.written_kernel.specs.Words.{State, door_of, falls_to_one, is_valid, state_of}
 use Rattle.kernel_records.specs.Words.{is_valid_in}
@@ -9,6 +9,9 @@ use Rattle.kernel_invariant.specs.Arrows.{ByAct, EndsBy, EndsNow, NoticeByAct}
 use Rattle.kernel_invariant.specs.Arrows.ByAct.{stays, makes, enters, returns, ends, breaks_off, leaves, collects_results, collects_nothing, collects_error}
 use Rattle.kernel_invariant.specs.Arrows.NoticeByAct.{stays as notice_stays, makes as notice_makes, enters as notice_enters, returns as notice_returns, drops as notice_drops, ends as notice_ends}
 use Rattle.kernel_invariant.specs.Arrows.EndsBy.{door_invalid, server_full, interrupted, server_ended}
+use Rattle.kernel_invariant.specs.Events.{InvocationArrow, IsCancelled, IsLeft}
+use Rattle.kernel_invariant.specs.Events.InvocationArrow.{stays as invocation_stays, begins, cancels, ends as invocation_ends, leaves as invocation_leaves}
+use Rattle.kernel_invariant.specs.Events.IsLeft.{interrupted as is_interrupted, caller_ends}
 
 -- a thread is done in both of two states, or in neither
 pub record AreSameDone (n o : State) : Type 0 where
@@ -55,3 +58,46 @@ notice_by_act_later m t q a n o before after h d (notice_enters x e f g k) = not
 notice_by_act_later m t q a n o before after h d (notice_returns x bytes pass e f g) = notice_returns x bytes pass e f g
 notice_by_act_later m t q a n o before after h d (notice_drops x e f g) = notice_drops x e f (ap is_valid_in (h.doors x.door) ∙ g)
 notice_by_act_later m t q a n o before after h d (notice_ends x u e f) = notice_ends x u e (ends_now_later m n o u d f)
+
+-- one of an act that makes no notice, from a later state in which the same doors are valid
+pub notice_left_later :
+    (m : State) (t : ℕ) (q : Option Request) (a : Answer) (n o : State) (before after : Option Notice) →
+    ((d : ℕ) → is_valid o d ≡ is_valid n d) → AreSameDone n o → (before ≡ None → after ≡ None) → NoticeByAct m t q a n before after →
+    NoticeByAct m t q a o before after
+notice_left_later m t q a n o before after h d none notice_stays = notice_stays
+notice_left_later m t q a n o before after h d none (notice_makes x y e f g k l) = absurd (some_is_none x (none refl))
+  where
+    some_is_none : (x : Notice) → Some x ≡ None → ⊥
+    some_is_none x e = cc
+notice_left_later m t q a n o before after h d none (notice_enters x e f g k) = notice_enters x e f g k
+notice_left_later m t q a n o before after h d none (notice_returns x bytes pass e f g) = notice_returns x bytes pass e f g
+notice_left_later m t q a n o before after h d none (notice_drops x e f g) = notice_drops x e f (h x.door ∙ g)
+notice_left_later m t q a n o before after h d none (notice_ends x u e f) = notice_ends x u e (ends_now_later m n o u d f)
+
+-- the arrows of invocations
+
+left_later : (m : State) (t : ℕ) (q : Option Request) (n o : State) (r : Call) → AreSameDone n o → IsLeft m t q n r → IsLeft m t q o r
+left_later m t q n o r d (is_interrupted e) = is_interrupted e
+left_later m t q n o r d (caller_ends e) = caller_ends (ends_now_later m n o r.caller.0 d e)
+
+cancelled_later :
+    (m : State) (t : ℕ) (q : Option Request) (n o : State) (u : ℕ) (v : Inv) → AreSameDone n o → IsCancelled m t q n u v →
+    IsCancelled m t q o u v
+cancelled_later m t q n o u v d c =
+    record {
+      call = c.call;
+      item = c.item;
+      there = c.there;
+      entered = c.entered;
+      may_cancel = c.may_cancel;
+      is_left = left_later m t q n o c.call d c.is_left;
+    }
+
+pub serves_later :
+    (m : State) (t : ℕ) (q : Option Request) (a : Answer) (n o : State) (u : ℕ) (before after : Option Inv) →
+    AreSameDone n o → InvocationArrow m t q a n u before after → InvocationArrow m t q a o u before after
+serves_later m t q a n o u before after d invocation_stays = invocation_stays
+serves_later m t q a n o u before after d (begins i e f g k) = begins i e f g k
+serves_later m t q a n o u before after d (cancels v c) = cancels v (cancelled_later m t q n o u v d c)
+serves_later m t q a n o u before after d (invocation_ends v bytes pass e f g k) = invocation_ends v bytes pass e f g k
+serves_later m t q a n o u before after d (invocation_leaves v e) = invocation_leaves v (d.after u e)

@@ -7,20 +7,23 @@ use Rattle.std.proofs.lemmas.Option.{slice_get-map}
 use Rattle.dk_base.specs.ByNumber.{at_number}
 use Rattle.dk_base.specs.declared.answer.Answer.TheVariants as answer
 use Rattle.dk_base.specs.declared.request.Request.TheVariants as request
-use Rattle.written_kernel.specs.Types.{Door, Fd, Obj, Process, Request, Thread}
+use Rattle.written_kernel.specs.Types.{Answer, Door, Fd, Obj, Process, Request, Thread}
 use Rattle.kernel_records.specs.declared.record.ThreadState.TheVariants as is
-use Rattle.kernel_records.specs.Words.{Leaving, ProcessTable, change_door, close_row, close_table, end_owner, end_process, ended_process, free_row, interruption, left_threads, object_in, object_named, process_end, revocation, revoke_door, revoked_door, table_in, thread_end, tid, with_owner_ended, with_table}
+use Rattle.kernel_records.specs.declared.pool.TheConstants.{LOST_DOOR}
+use Rattle.kernel_records.specs.Words.{Leaving, ProcessTable, change_door, close_row, close_table, end_owner, end_process, ended_process, free_row, interruption, is_live_in, is_unborn_in, left_threads, object_in, object_named, process_end, revocation, revoke_door, revoked_door, table_in, thread_end, tid, with_owner_ended, with_table}
 use Rattle.written_kernel.specs.Words.{ActResult, State, door_at, door_of, interrupt, invocation_of, leave, leave_process, leave_thread, now, process_of, revoke, state_of, table_of}
 use Rattle.kernel_invariant.specs.Core.{ended_in}
 use Rattle.kernel_invariant.specs.Coherent.{AreDoors}
 use Rattle.kernel_invariant.specs.Invariant.{IsConsistent}
+use Rattle.kernel_invariant.specs.Arrows.{Interrupts}
+use Rattle.kernel_invariant.specs.Arrows.Interrupts.{asked}
 use Rattle.kernel_invariant.specs.Events.{DoorArrow, InvocationArrow, IsSameDoor}
 use Rattle.kernel_invariant.specs.Events.DoorArrow.{none, kept}
 use Rattle.written_kernel.proofs.Doors.{at_number-change_door}
 use Rattle.kernel_records.proofs.Lists.{at_number-map, at_number-renumbered_there, at_number-with_at_number, length-with_at_number}
 use Rattle.kernel_invariant.proofs.LeftStates.{MayLeave, left_state, leaving_does, leaving_serves}
 use Rattle.kernel_invariant.proofs.Acts.{Does, act_result}
-use Rattle.kernel_invariant.proofs.Consistent.{AreTables, own_tables}
+use Rattle.kernel_invariant.proofs.Consistent.{AreTables, is_awake, own_tables}
 
 -- an act by which threads, callers or doors leave: what it keeps, the arrows of calls and of invocations, and those of doors
 pub record Leaves (m : State) (t : ℕ) (q : Option Request) (a : ActResult) : Type 0 where
@@ -62,10 +65,10 @@ doors_ended m t q p d =
 -- callers or threads leave, and no process or door
 
 without_doors :
-    (m : State) (q : Option Request) (who : Leaving) → IsConsistent m →
-    ((u : ℕ) → who.interrupts u ≡ true → q ≡ Some (request.Interrupt (tid u))) → ((d : ℕ) → who.loses d ≡ false) →
-    MayLeave m q who m.process_table.processes m.tables m.doors
-without_doors m q who h i k =
+    (m : State) (t : ℕ) (q : Option Request) (who : Leaving) → IsConsistent m → ((u : ℕ) → who.interrupts u ≡ true → Interrupts m t q u) →
+    ((u : ℕ) → state_of m u ≡ is.Dormant → who.ends u ≡ false) → ((d : ℕ) → who.loses d ≡ false) →
+    MayLeave m t q who m.process_table.processes m.tables m.doors
+without_doors m t q who h i w k =
     record {
       interrupts = i;
       counted = h.tables;
@@ -78,31 +81,44 @@ without_doors m q who h i k =
       door_lost = λ d e. absurd (grind (arith, k d));
       are_doors = h.coherent.doors;
       ended = λ u e. inl (h.coherent.processes.ended_done u e);
+      unborn = λ u e. (h.coherent.processes.unborn_dormant u e, w u (h.coherent.processes.unborn_dormant u e));
       proc_there = λ p e. e;
     }
 
-leaves_without_doors :
-    (m : State) (t : ℕ) (q : Option Request) (who : Leaving) → IsConsistent m →
-    ((u : ℕ) → who.interrupts u ≡ true → q ≡ Some (request.Interrupt (tid u))) → ((d : ℕ) → who.loses d ≡ false) →
-    Leaves m t q (act_result (leave m who) answer.Done)
-leaves_without_doors m t q who h i k =
+pub leaves_without_doors :
+    (m : State) (t : ℕ) (q : Option Request) (who : Leaving) (a : Answer) → IsConsistent m →
+    ((u : ℕ) → who.interrupts u ≡ true → Interrupts m t q u) → ((u : ℕ) → state_of m u ≡ is.Dormant → who.ends u ≡ false) →
+    ((d : ℕ) → who.loses d ≡ false) → Leaves m t q (act_result (leave m who) a)
+leaves_without_doors m t q who a h i w k =
     record {
-      does = leaving_does m q who m.process_table.processes m.tables m.doors h may t answer.Done;
-      serves = leaving_serves m q who m.process_table.processes m.tables m.doors h may t answer.Done;
+      does = leaving_does m t q who m.process_table.processes m.tables m.doors h may a;
+      serves = leaving_serves m t q who m.process_table.processes m.tables m.doors h may a;
       doors = λ d. same_door m t q (door_of m d);
     }
   where
-    may : MayLeave m q who m.process_table.processes m.tables m.doors
-    may = without_doors m q who h i k
+    may : MayLeave m t q who m.process_table.processes m.tables m.doors
+    may = without_doors m t q who h i w k
 
 pub interrupt_leaves : (m : State) (t u : ℕ) → IsConsistent m → Leaves m t (Some (request.Interrupt (tid u))) (interrupt m u)
 interrupt_leaves m t u h =
-    leaves_without_doors m t (Some (request.Interrupt (tid u))) (interruption u) h
-    (λ v e. let same : u ≡ v = grind (arith, nat_tests) in ap (λ (n : ℕ). Some (request.Interrupt (tid n))) same)
+    leaves_without_doors m t (Some (request.Interrupt (tid u))) (interruption u) answer.Done h
+    (λ v e. let same : u ≡ v = grind (arith, nat_tests) in asked (ap (λ (n : ℕ). Some (request.Interrupt (tid n))) same))
+    (λ v e. refl)
     (λ d. refl)
 
-pub thread_leaves : (m : State) (t : ℕ) (q : Option Request) (u : ℕ) → IsConsistent m → Leaves m t q (act_result (leave_thread m u) answer.Done)
-thread_leaves m t q u h = leaves_without_doors m t q (thread_end u) h (λ v e. absurd (grind arith)) (λ d. refl)
+-- a thread that runs ends
+pub thread_leaves :
+    (m : State) (t : ℕ) (q : Option Request) (u : ℕ) → IsConsistent m → state_of m u ≡ is.Running →
+    Leaves m t q (act_result (leave_thread m u) answer.Done)
+thread_leaves m t q u h e =
+    leaves_without_doors m t q (thread_end u) answer.Done h (λ v f. absurd (grind arith)) (λ v f. no_other v (v == u) refl f) (λ d. refl)
+  where
+    no_other : (v : ℕ) (b : Bool) → (v == u) ≡ b → state_of m v ≡ is.Dormant → b ≡ false
+    no_other v true f g =
+        let same : v ≡ u = grind (arith, nat_tests) in
+        let both : is.Dormant ≡ is.Running = sym g ∙ ap (λ n. state_of m n) same ∙ e in
+        absurd (grind arith)
+    no_other v false f g = refl
 
 -- a process ends
 
@@ -127,7 +143,7 @@ ended_processes-length table p = grind (arith, length-with_at_number table.proce
 closed_row : (rows : List (Option Obj)) (i : ℕ) → object_in (slice_get (map free_row rows) i) ≡ None
 closed_row rows i = grind (arith, slice_get-map free_row rows i)
 
-module _ (m : State) (q : Option Request) (p : ℕ) (h : IsConsistent m) where
+module _ (m : State) (t : ℕ) (q : Option Request) (p : ℕ) (h : IsConsistent m) where
   abbrev who_ends : Leaving
   who_ends = process_end m.process_table m.doors p
 
@@ -140,7 +156,7 @@ module _ (m : State) (q : Option Request) (p : ℕ) (h : IsConsistent m) where
   process_at : (i : ℕ) → at_number processes_left i ≡ (if i == p then option_map ended_process (at_number m.process_table.processes p) else at_number m.process_table.processes i)
   process_at i = ended_processes m.process_table p i
 
-  no_rows_left : (i : ℕ) (fd : Fd) → ended_in (at_number processes_left i) ≡ true → object_named (table_in tables_left i) fd ≡ None
+  no_rows_left : (i : ℕ) (fd : Fd) → is_live_in (at_number processes_left i) ≡ false → object_named (table_in tables_left i) fd ≡ None
   no_rows_left i fd e =
       grind (arith, nat_tests, at_number-with_at_number m.tables p i (close_table (table_of m p)), closed_row (table_of m p) fd.0, process_at i, h.no_rows i fd)
 
@@ -150,8 +166,10 @@ module _ (m : State) (q : Option Request) (p : ℕ) (h : IsConsistent m) where
   doors_left : AreDoors (λ d. at_number (end_owner m.doors p) d) (λ i. at_number processes_left i)
   doors_left =
       record {
+        none_lost = door_left LOST_DOOR ∙ ap (option_map (with_owner_ended p)) h.coherent.doors.none_lost;
         door_number = λ d x e. grind (arith, nat_tests, door_left d, h.coherent.doors.door_number d);
         owner_ended = λ d x e. grind (arith, nat_tests, door_left d, h.coherent.doors.owner_ended d, process_at x.owner.0);
+        owner_begun = λ d x e. grind (arith, nat_tests, door_left d, h.coherent.doors.owner_begun d, process_at x.owner.0);
       }
 
   threads_ended : (u : ℕ) → ended_in (at_number processes_left (process_of m u)) ≡ true → (state_of m u ≡ is.Done) ⊎ (who_ends.ends u ≡ true)
@@ -161,7 +179,15 @@ module _ (m : State) (q : Option Request) (p : ℕ) (h : IsConsistent m) where
       go true f = inr f
       go false f = inl (h.coherent.processes.ended_done u (grind (arith, process_at (process_of m u))))
 
-  may_end : MayLeave m q who_ends processes_left tables_left (end_owner m.doors p)
+  threads_unborn :
+      (u : ℕ) → is_unborn_in (at_number processes_left (process_of m u)) ≡ true → (state_of m u ≡ is.Dormant) × (who_ends.ends u ≡ false)
+  threads_unborn u e = go (process_of m u == p) refl
+    where
+      go : (b : Bool) → (process_of m u == p) ≡ b → (state_of m u ≡ is.Dormant) × (b ≡ false)
+      go true f = absurd (grind (arith, process_at (process_of m u)))
+      go false f = (h.coherent.processes.unborn_dormant u (grind (arith, process_at (process_of m u))), refl)
+
+  may_end : MayLeave m t q who_ends processes_left tables_left (end_owner m.doors p)
   may_end =
       record {
         interrupts = λ u e. absurd (grind arith);
@@ -175,6 +201,7 @@ module _ (m : State) (q : Option Request) (p : ℕ) (h : IsConsistent m) where
         door_lost = λ d e. grind (arith, nat_tests, door_left d);
         are_doors = doors_left;
         ended = threads_ended;
+        unborn = threads_unborn;
         proc_there = λ i e. grind (arith, nat_tests, process_at i);
       }
 
@@ -183,18 +210,18 @@ module _ (m : State) (q : Option Request) (p : ℕ) (h : IsConsistent m) where
       ap (λ (table : ProcessTable). record (leave m who_ends) { process_table = table; tables = tables_left; doors = end_owner m.doors p })
       (sym (ends_beside m.process_table (left_threads who_ends (now m) m.call_tree.calls m.process_table).threads p))
 
-  pub process_leaves : (t : ℕ) → Leaves m t q (act_result (leave_process m p) answer.Done)
-  process_leaves t =
+  pub process_leaves : Leaves m t q (act_result (leave_process m p) answer.Done)
+  process_leaves =
       subst (λ n. Leaves m t q (act_result n answer.Done)) ends_as
       (record {
-        does = leaving_does m q who_ends processes_left tables_left (end_owner m.doors p) h may_end t answer.Done;
-        serves = leaving_serves m q who_ends processes_left tables_left (end_owner m.doors p) h may_end t answer.Done;
+        does = leaving_does m t q who_ends processes_left tables_left (end_owner m.doors p) h may_end answer.Done;
+        serves = leaving_serves m t q who_ends processes_left tables_left (end_owner m.doors p) h may_end answer.Done;
         doors = doors_ended m t q p;
       })
 
 -- a door is revoked
 
-module _ (m : State) (q : Option Request) (t : ℕ) (fd : Fd) (h : IsConsistent m) (e : state_of m t ≡ is.Running) where
+module _ (m : State) (t : ℕ) (q : Option Request) (fd : Fd) (h : IsConsistent m) (e : state_of m t ≡ is.Running) where
   abbrev lost_door : ℕ
   lost_door = door_at m (process_of m t) fd
 
@@ -202,7 +229,7 @@ module _ (m : State) (q : Option Request) (t : ℕ) (fd : Fd) (h : IsConsistent 
   tables_revoked = with_table m.tables (process_of m t) (close_row (table_of m (process_of m t)) fd.0)
 
   rows_revoked : AreTables m tables_revoked
-  rows_revoked = own_tables m t (close_row (table_of m (process_of m t)) fd.0) h (λ z. grind arith)
+  rows_revoked = own_tables m t (close_row (table_of m (process_of m t)) fd.0) h (ap is_awake e)
 
   door_revoked : (d : ℕ) → at_number (revoke_door m.doors lost_door) d ≡ (if d == lost_door then option_map revoked_door (door_of m lost_door) else door_of m d)
   door_revoked d = at_number-change_door m.doors lost_door d revoked_door
@@ -210,11 +237,13 @@ module _ (m : State) (q : Option Request) (t : ℕ) (fd : Fd) (h : IsConsistent 
   doors_after : AreDoors (λ d. at_number (revoke_door m.doors lost_door) d) (λ i. at_number m.process_table.processes i)
   doors_after =
       record {
+        none_lost = grind (arith, nat_tests, door_revoked LOST_DOOR, h.coherent.doors.none_lost);
         door_number = λ d x i. grind (arith, nat_tests, door_revoked d, h.coherent.doors.door_number d);
         owner_ended = λ d x i. grind (arith, nat_tests, door_revoked d, h.coherent.doors.owner_ended d);
+        owner_begun = λ d x i. grind (arith, nat_tests, door_revoked d, h.coherent.doors.owner_begun d);
       }
 
-  may_revoke : MayLeave m q (revocation lost_door) m.process_table.processes tables_revoked (revoke_door m.doors lost_door)
+  may_revoke : MayLeave m t q (revocation lost_door) m.process_table.processes tables_revoked (revoke_door m.doors lost_door)
   may_revoke =
       record {
         interrupts = λ u i. absurd (grind arith);
@@ -228,13 +257,14 @@ module _ (m : State) (q : Option Request) (t : ℕ) (fd : Fd) (h : IsConsistent 
         door_lost = λ d i. grind (arith, nat_tests, door_revoked d);
         are_doors = doors_after;
         ended = λ u i. inl (h.coherent.processes.ended_done u i);
+        unborn = λ u i. (h.coherent.processes.unborn_dormant u i, refl);
         proc_there = λ p i. i;
       }
 
   pub revoke_leaves : Leaves m t q (revoke m (process_of m t) fd)
   revoke_leaves =
       record {
-        does = leaving_does m q (revocation lost_door) m.process_table.processes tables_revoked (revoke_door m.doors lost_door) h may_revoke t answer.Done;
-        serves = leaving_serves m q (revocation lost_door) m.process_table.processes tables_revoked (revoke_door m.doors lost_door) h may_revoke t answer.Done;
+        does = leaving_does m t q (revocation lost_door) m.process_table.processes tables_revoked (revoke_door m.doors lost_door) h may_revoke answer.Done;
+        serves = leaving_serves m t q (revocation lost_door) m.process_table.processes tables_revoked (revoke_door m.doors lost_door) h may_revoke answer.Done;
         doors = doors_revoked m t q lost_door;
       }

@@ -8,7 +8,8 @@ use Rattle.written_kernel.specs.Types.{Call, Inv, Item, NoticeStage, ThreadState
 use Rattle.kernel_records.specs.declared.record.ThreadState.TheVariants as is
 use Rattle.kernel_records.specs.declared.record.CallStage.TheVariants as stage
 use Rattle.kernel_records.specs.declared.record.NoticeStage.TheVariants as notice
-use Rattle.kernel_records.specs.Words.{Leaving, cancelled_invocation, interrupted_state, is_left, is_live, is_private_in, is_valid_in, left_call, no_cancel_of, tid}
+use Rattle.kernel_records.specs.declared.pool.TheConstants.{LOST_DOOR}
+use Rattle.kernel_records.specs.Words.{Leaving, cancelled_invocation, interrupted_state, is_left, is_live, is_private_in, is_unborn_in, is_valid_in, left_call, no_cancel_of, tid}
 use Rattle.kernel_invariant.specs.Core.{Core, caller_number, door_in, ended_in, has_arguments, is_outside, is_underway, live_in}
 use Rattle.kernel_invariant.specs.Coherent.{AreAtDoors, AreCalls, AreDoors, AreInvocations, AreNoticesAtDoors, AreNoticesEntered, AreNoticesGiven, AreServers, AreWaits, IsCoherent, is_unfit}
 use Rattle.kernel_invariant.specs.Records.{item_in, owner_in, stage_in}
@@ -160,6 +161,10 @@ is_held (is.Given i) = true
 is_held (is.Calling c) = true
 is_held _ = false
 
+marked_idle : (b : Bool) (s : ThreadState) (since : ℕ) → marked b s ≡ is.Idle since → s ≡ is.Idle since
+marked_idle true s since e = grind arith
+marked_idle false s since e = e
+
 marked_held : (b : Bool) (s : ThreadState) → is_held (marked b s) ≡ true → s ≡ marked b s
 marked_held true s e = grind arith
 marked_held false s e = refl
@@ -233,6 +238,16 @@ module _ (k : Core) (who : Leaving) (now u : ℕ) (s : ThreadState) (v : Option 
   ended_now (cancels x a b c d f g j) e = absurd (grind arith)
   ended_now (stays a b c d) e = absurd (grind arith)
 
+  -- one that is idle after the event was so, or was given a call, and so is bound to no door or to one that is there
+  idle_not_lost : LeftThread k who now u s v → (since : ℕ) → s ≡ is.Idle since → k.bound u ≡ Some LOST_DOOR → ⊥
+  idle_not_lost (ends a b c) since e f = absurd (grind arith)
+  idle_not_lost (parks x a b c d i g) since e f =
+      absurd (grind (arith, h.at_doors.given_bound x.number u (ap stage_in b ∙ ap (λ z. Some z) c), b, h.doors.none_lost))
+  idle_not_lost (cancels x a b c d i g j) since e f =
+      h.bindings.idle_not_lost u since (marked_idle (who.interrupts u) (k.role u) since (sym g ∙ e)) f
+  idle_not_lost (stays a b c d) since e f =
+      h.bindings.idle_not_lost u since (marked_idle (who.interrupts u) (k.role u) since (sym c ∙ e)) f
+
   still_done : LeftThread k who now u s v → k.role u ≡ is.Done → s ≡ is.Done
   still_done p e = go (who.ends u) refl
     where
@@ -261,6 +276,8 @@ pub record LeftCore (k : Core) (who : Leaving) (now : ℕ) (l : Core) : Type 0 w
   pub doors : AreDoors l.door l.proc
   -- all threads end of a process that ends
   pub ended : (u : ℕ) → ended_in (l.proc (k.process u)) ≡ true → (k.role u ≡ is.Done) ⊎ (who.ends u ≡ true)
+  -- and none of one that has not begun
+  pub unborn : (u : ℕ) → is_unborn_in (l.proc (k.process u)) ≡ true → (k.role u ≡ is.Dormant) × (who.ends u ≡ false)
   pub proc_there : (p : ℕ) → is_some (k.proc p) ≡ true → is_some (l.proc p) ≡ true
 
 module _ (k : Core) (who : Leaving) (now : ℕ) (l : Core) (h : IsCoherent k) (p : LeftCore k who now l) where
@@ -421,14 +438,18 @@ module _ (k : Core) (who : Leaving) (now : ℕ) (l : Core) (h : IsCoherent k) (p
         doors = p.doors;
         bindings =
             record {
-              bound_own = λ t d e. grind (arith, p.bound t, p.process t, p.door_owner d, h.bindings.bound_own t d);
-              bound_private = λ t d e. grind (arith, p.bound t, p.door_private d, h.bindings.bound_private t d);
+              bound_own = λ t d e f. grind (arith, p.bound t, p.process t, p.door_owner d, h.bindings.bound_own t d);
+              bound_private = λ t d e f. grind (arith, p.bound t, p.door_private d, h.bindings.bound_private t d);
+              idle_not_lost = λ t since e f. idle_not_lost k who now t _ _ h (p.thread t) since e (sym (p.bound t) ∙ f);
             };
         processes =
             record {
               ended_done =
                   λ t e. ⊎_elim (still_done k who now t _ _ h (p.thread t)) (ended_now k who now t _ _ h (p.thread t))
                   (p.ended t (ap (λ i. ended_in (l.proc i)) (sym (p.process t)) ∙ e));
+              unborn_dormant =
+                  λ t e. let w = p.unborn t (ap (λ i. is_unborn_in (l.proc i)) (sym (p.process t)) ∙ e) in
+                  still_is k who now t _ _ h (still_elsewhere k who now t _ _ h (p.thread t) w.1 (λ c g. grind (arith, w.0))) is.Dormant w.0 refl;
             };
         threads =
             record {

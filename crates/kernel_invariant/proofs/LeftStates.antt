@@ -9,19 +9,18 @@ use Rattle.std.proofs.lemmas.Bool.Decides.{nat_tests}
 use Rattle.dk_base.specs.ByNumber.{at_number}
 use Rattle.dk_base.specs.declared.error.Errno.TheVariants.{EBADF, EINTR}
 use Rattle.dk_base.specs.declared.object.Item.TheVariants as item
-use Rattle.dk_base.specs.declared.request.Request.TheVariants as request
 use Rattle.kernel_records.proofs.NumberedLists.{counted-map, find-found, find-map, find-none, find-passes}
 use Rattle.written_kernel.specs.Types.{Answer, Call, CallStage, Door, Fd, Inv, Item, Notice, NoticeStage, Obj, Process, Request, Thread, ThreadState}
 use Rattle.kernel_records.specs.declared.record.ThreadState.TheVariants as is
 use Rattle.kernel_records.specs.declared.record.CallStage.TheVariants as stage
 use Rattle.kernel_records.specs.declared.record.NoticeStage.TheVariants as notice
-use Rattle.kernel_records.specs.Words.{Leaving, abandoned_at, broken_call_at, call_number, cancelled_invocation, deserted_at, deserted_in, ended_thread, ended_where, gone_call_at, interrupted_where, invocation_in, is_entered_by, is_given_to, is_left, is_live, is_notice_of, is_private_in, is_served_by, is_valid_in, left_call, left_notice, left_notice_at, left_thread_of, left_threads, no_cancel_of, notice_at, notice_number, object_named, process_in, state_in, table_in, tid, without_arguments_at}
+use Rattle.kernel_records.specs.Words.{Leaving, abandoned_at, broken_call_at, call_number, cancelled_invocation, deserted_at, deserted_in, ended_thread, ended_where, gone_call_at, interrupted_where, invocation_in, is_entered_by, is_given_to, is_left, is_live, is_live_in, is_notice_of, is_private_in, is_served_by, is_unborn_in, is_valid_in, left_call, left_notice, left_notice_at, left_thread_of, left_threads, no_cancel_of, notice_at, notice_number, object_named, process_in, state_in, table_in, tid, without_arguments_at}
 use Rattle.written_kernel.specs.Words.{State, door_of, invocation_of, is_valid, leave, now, process_of, state_of, thread_of}
 use Rattle.kernel_invariant.specs.Records.{item_in, notice_of, owner_in, record_of, stage_in}
 use Rattle.kernel_invariant.specs.Core.{abandoned_in, caller_number, core, ended_in, has_arguments, is_outside, is_underway, live_in, notice_in, number_in, underway_in}
 use Rattle.kernel_invariant.specs.Coherent.{AreDoors}
 use Rattle.kernel_invariant.specs.Invariant.{IsConsistent}
-use Rattle.kernel_invariant.specs.Arrows.{ByAct, EndsNow, NoticeByAct}
+use Rattle.kernel_invariant.specs.Arrows.{ByAct, EndsNow, Interrupts, NoticeByAct}
 use Rattle.kernel_invariant.specs.Arrows.ByAct.{stays, ends, breaks_off, leaves}
 use Rattle.kernel_invariant.specs.Arrows.NoticeByAct.{stays as notice_stays, drops as notice_drops, ends as notice_ends}
 use Rattle.kernel_invariant.specs.Arrows.EndsBy.{door_invalid, interrupted, server_ended}
@@ -43,11 +42,11 @@ left_state m who processes tables doors =
     }
 
 -- the processes, tables and doors that an event of leaving may leave, with this request
-pub record MayLeave (m : State) (q : Option Request) (who : Leaving) (processes : List Process) (tables : List (List (Option Obj))) (doors : List Door) : Type 0 where
-  -- a caller is interrupted by name
-  pub interrupts : (u : ℕ) → who.interrupts u ≡ true → q ≡ Some (request.Interrupt (tid u))
+pub record MayLeave (m : State) (t : ℕ) (q : Option Request) (who : Leaving) (processes : List Process) (tables : List (List (Option Obj))) (doors : List Door) : Type 0 where
+  -- the turn interrupts whoever is interrupted
+  pub interrupts : (u : ℕ) → who.interrupts u ≡ true → Interrupts m t q u
   pub counted : length tables ≡ length processes
-  pub no_rows : (p : ℕ) (fd : Fd) → ended_in (at_number processes p) ≡ true → object_named (table_in tables p) fd ≡ None
+  pub no_rows : (p : ℕ) (fd : Fd) → is_live_in (at_number processes p) ≡ false → object_named (table_in tables p) fd ≡ None
   pub door_there : (d : ℕ) → is_some (at_number doors d) ≡ is_some (door_of m d)
   pub door_owner : (d : ℕ) → owner_in (at_number doors d) ≡ owner_in (door_of m d)
   pub door_no_cancel : (d : ℕ) → no_cancel_of (at_number doors d) ≡ no_cancel_of (door_of m d)
@@ -58,6 +57,8 @@ pub record MayLeave (m : State) (q : Option Request) (who : Leaving) (processes 
   pub are_doors : AreDoors (λ d. at_number doors d) (λ p. at_number processes p)
   -- all threads end of a process that ends
   pub ended : (u : ℕ) → ended_in (at_number processes (process_of m u)) ≡ true → (state_of m u ≡ is.Done) ⊎ (who.ends u ≡ true)
+  -- and none of one that has not begun
+  pub unborn : (u : ℕ) → is_unborn_in (at_number processes (process_of m u)) ≡ true → (state_of m u ≡ is.Dormant) × (who.ends u ≡ false)
   pub proc_there : (p : ℕ) → is_some (at_number m.process_table.processes p) ≡ true → is_some (at_number processes p) ≡ true
 
 -- threads
@@ -174,7 +175,7 @@ left_notice_fields who x = record { number = grind arith; door = grind arith; st
 
 -- the whole
 
-module _ (m : State) (q : Option Request) (who : Leaving) (processes : List Process) (tables : List (List (Option Obj))) (doors : List Door) where
+module _ (m : State) (t : ℕ) (q : Option Request) (who : Leaving) (processes : List Process) (tables : List (List (Option Obj))) (doors : List Door) where
   abbrev after : State
   after = left_state m who processes tables doors
 
@@ -200,7 +201,7 @@ module _ (m : State) (q : Option Request) (who : Leaving) (processes : List Proc
   kept_process None = refl
   kept_process (Some x) = grind arith
 
-  module _ (h : IsConsistent m) (may : MayLeave m q who processes tables doors) where
+  module _ (h : IsConsistent m) (may : MayLeave m t q who processes tables doors) where
     -- what an event of leaving makes of a thread
     pub thread_after : (u : ℕ) → LeftThread (core m) who (now m) u (state_of after u) (invocation_of after u)
     thread_after u = go (thread_of m u) refl
@@ -246,6 +247,7 @@ module _ (m : State) (q : Option Request) (who : Leaving) (processes : List Proc
           door_valid = may.door_valid;
           doors = may.are_doors;
           ended = may.ended;
+          unborn = may.unborn;
           proc_there = may.proc_there;
         }
 
@@ -271,7 +273,7 @@ module _ (m : State) (q : Option Request) (who : Leaving) (processes : List Proc
 
     -- calls
 
-    module _ (t : ℕ) (a : Answer) (c : ℕ) (r : Call) (there : record_of m c ≡ Some r) where
+    module _ (a : Answer) (c : ℕ) (r : Call) (there : record_of m c ≡ Some r) where
       -- the caller of a call that is neither answered nor left waits for it
       caller_waits : is_live r.stage ≡ true → state_of m r.caller.0 ≡ is.Calling c
       caller_waits e = ap (λ o. state_of m (caller_number o)) (sym there) ∙ h.coherent.waits.calling c (ap live_in there ∙ e)
@@ -339,7 +341,7 @@ module _ (m : State) (q : Option Request) (who : Leaving) (processes : List Proc
 
     -- notices
 
-    module _ (t : ℕ) (a : Answer) (c : ℕ) (x : Notice) (there : notice_of m c ≡ Some x) where
+    module _ (a : Answer) (c : ℕ) (x : Notice) (there : notice_of m c ≡ Some x) where
       holder_is : (u : ℕ) → (x.stage ≡ notice.Given (tid u)) ⊎ (x.stage ≡ notice.Entered (tid u)) → state_of m u ≡ is.Done → ⊥
       holder_is u (inl e) f = absurd (grind (arith, h.coherent.notices_given.notice_given c u (ap notice_in there ∙ ap (λ z. Some z) e)))
       holder_is u (inr e) f = serves_not_done u (item.Notice c) (h.coherent.notices_entered.notice_entered c u (ap notice_in there ∙ ap (λ z. Some z) e)) f
@@ -360,8 +362,8 @@ module _ (m : State) (q : Option Request) (who : Leaving) (processes : List Proc
       notice_arrow (notice.Entered u) e = over_arrow u.0 (who.ends u.0) (inr e) refl
       notice_arrow s e = notice_stays
 
-    pub leaving_does : (t : ℕ) (a : Answer) → Does m t q (act_result after a)
-    leaving_does t a =
+    pub leaving_does : (a : Answer) → Does m t q (act_result after a)
+    leaving_does a =
         record {
           consistent = left_consistent;
           arrows = λ c. subst (λ o. ByAct m t q a after (record_of m c) o) (sym (calls_after c)) (go c (record_of m c) refl);
@@ -371,7 +373,7 @@ module _ (m : State) (q : Option Request) (who : Leaving) (processes : List Proc
       where
         go : (c : ℕ) (o : Option Call) → record_of m c ≡ o → ByAct m t q a after o (option_map (left_call who) o)
         go c None e = stays
-        go c (Some r) e = left_arrow t a c r e
+        go c (Some r) e = left_arrow a c r e
 
         had : (d : ℕ) (xs : List Notice) → list_any (is_notice_of d) (map (left_notice who) xs) ≡ list_any (is_notice_of d) xs
         had d [] = refl
@@ -379,12 +381,12 @@ module _ (m : State) (q : Option Request) (who : Leaving) (processes : List Proc
 
         at_notice : (c : ℕ) (o : Option Notice) → notice_of m c ≡ o → NoticeByAct m t q a after o (option_map (left_notice who) o)
         at_notice c None e = notice_stays
-        at_notice c (Some x) e = notice_arrow t a c x e x.stage refl
+        at_notice c (Some x) e = notice_arrow a c x e x.stage refl
 
     -- invocations
 
-    pub leaving_serves : (t : ℕ) (a : Answer) (u : ℕ) → InvocationArrow m t q a after u (invocation_of m u) (invocation_of after u)
-    leaving_serves t a u = go (state_of after u) (invocation_of after u) refl (thread_after u)
+    pub leaving_serves : (a : Answer) (u : ℕ) → InvocationArrow m t q a after u (invocation_of m u) (invocation_of after u)
+    leaving_serves a u = go (state_of after u) (invocation_of after u) refl (thread_after u)
       where
         Takes : Option Inv → Option Inv → Type 0
         Takes v w = InvocationArrow m t q a after u v w
@@ -394,9 +396,9 @@ module _ (m : State) (q : Option Request) (who : Leaving) (processes : List Proc
         ended_takes (Some v) e = invocation_leaves v e
 
         -- its caller has left it
-        leaves_by : (r : Call) (b : Bool) → record_of m r.number ≡ Some r → r.stage ≡ stage.Entered (tid u) → who.ends r.caller.0 ≡ b → (b || who.interrupts r.caller.0) ≡ true → IsLeft m q after r
+        leaves_by : (r : Call) (b : Bool) → record_of m r.number ≡ Some r → r.stage ≡ stage.Entered (tid u) → who.ends r.caller.0 ≡ b → (b || who.interrupts r.caller.0) ≡ true → IsLeft m t q after r
         leaves_by r true f g e l =
-            caller_ends (ends_now r.caller.0 e (λ d. grind (arith, caller_waits t a r.number r f (ap is_live g))))
+            caller_ends (ends_now r.caller.0 e (λ d. grind (arith, caller_waits a r.number r f (ap is_live g))))
         leaves_by r false f g e l = is_interrupted (may.interrupts r.caller.0 l)
 
         cancelled_takes :

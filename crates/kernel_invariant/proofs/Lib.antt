@@ -11,6 +11,7 @@ pub mod CallActs
 pub mod LeftCores
 pub mod LeftStates
 pub mod Leaving
+pub mod Beginning
 pub mod Failing
 pub mod Picks
 pub mod Pending

@@ -64,6 +64,7 @@ move_none_lost m t q a u l may n (Moves.leaves r who (exits e)) = absurd (grind 
 move_none_lost m t q a u l may n (Moves.revokes fd f) = absurd (grind arith)
 move_none_lost m t q a u l may n (Moves.ends r p (kills c e)) = absurd (grind arith)
 move_none_lost m t q a u l may n (Moves.ends r p (exits_last e)) = absurd (grind arith)
+move_none_lost m t q a u l may n (Moves.forks child f) = absurd (grind arith)
 move_none_lost m t q a u l may n _ = l u
 
 pub act_none_lost :

@@ -7,13 +7,14 @@ use Rattle.dk_base.specs.declared.object.Item.TheVariants as item
 use Rattle.written_kernel.specs.Types.{NoticeStage, ThreadState}
 use Rattle.kernel_records.specs.declared.record.ThreadState.TheVariants as is
 use Rattle.kernel_records.specs.declared.record.NoticeStage.TheVariants as notice
-use Rattle.kernel_records.specs.Words.{is_valid_in, new_invocation, tid}
+use Rattle.kernel_records.specs.declared.pool.TheConstants.{LOST_DOOR}
+use Rattle.kernel_records.specs.Words.{is_idle, is_valid_in, new_invocation, tid}
 use Rattle.kernel_invariant.specs.Core.{Core}
 use Rattle.kernel_invariant.specs.Coherent.{IsCoherent, bound_for}
 use Rattle.kernel_invariant.specs.Records.{owner_in}
 use Rattle.kernel_invariant.proofs.Cores.{set_role, set_serves, upd}
 use Rattle.kernel_invariant.proofs.CallMoves.{is_after_return}
-use Rattle.kernel_invariant.proofs.Parts.{fit_turn, notices_at_doors_move, processes_turn, servers_move, servers_turn, waits_turn}
+use Rattle.kernel_invariant.proofs.Parts.{bindings_turn, fit_turn, notices_at_doors_move, processes_turn, servers_move, servers_turn, waits_turn}
 
 abbrev pub set_notice : Core → ℕ → NoticeStage → Core
 set_notice k n s = record k { notice = upd k.notice n (Some s) }
@@ -88,8 +89,8 @@ give_notice_keeps k n u h p =
       calls = h.calls;
       at_doors = h.at_doors;
       doors = h.doors;
-      bindings = h.bindings;
-      processes = processes_turn u _ h.processes (grind (arith, p.idle));
+      bindings = bindings_turn u _ h.bindings (λ e. absurd (grind arith));
+      processes = processes_turn u _ h.processes (grind (arith, p.idle)) (grind (arith, p.idle, h.processes.unborn_dormant u));
       threads = h.threads;
       has_fit_state = fit_turn u _ h refl;
     }
@@ -131,8 +132,8 @@ enter_notice_keeps k t n h g =
       calls = h.calls;
       at_doors = h.at_doors;
       doors = h.doors;
-      bindings = h.bindings;
-      processes = processes_turn t _ h.processes (grind arith);
+      bindings = bindings_turn t _ h.bindings (λ e. absurd (grind arith));
+      processes = processes_turn t _ h.processes (grind arith) (grind (arith, h.processes.unborn_dormant t));
       threads = h.threads;
       has_fit_state = fit_turn t _ h refl;
     }
@@ -143,8 +144,8 @@ over_notice_core k t n s = set_role (set_serves (set_notice k n notice.Over) t N
 
 pub end_notice_keeps :
     (k : Core) (t n : ℕ) (s : ThreadState) → IsCoherent k → k.role t ≡ is.Running → is_after_return s ≡ true →
-    k.notice n ≡ Some (notice.Entered (tid t)) → IsCoherent (over_notice_core k t n s)
-end_notice_keeps k t n s h p w i =
+    (is_idle s ≡ true → k.bound t ≡ Some LOST_DOOR → ⊥) → k.notice n ≡ Some (notice.Entered (tid t)) → IsCoherent (over_notice_core k t n s)
+end_notice_keeps k t n s h p w b i =
     record {
       waits = waits_turn t _ h.waits (grind arith) (grind arith);
       invocations =
@@ -171,8 +172,8 @@ end_notice_keeps k t n s h p w i =
       calls = h.calls;
       at_doors = h.at_doors;
       doors = h.doors;
-      bindings = h.bindings;
-      processes = processes_turn t _ h.processes (grind arith);
+      bindings = bindings_turn t s h.bindings b;
+      processes = processes_turn t _ h.processes (grind arith) (grind (arith, h.processes.unborn_dormant t));
       threads = h.threads;
       has_fit_state = fit_turn t _ h (grind arith);
     }

@@ -6,14 +6,15 @@ use Rattle.std.proofs.lemmas.Bool.Decides.{nat_tests}
 use Rattle.std.proofs.lemmas.List.Elements.{All-nil}
 use Rattle.std.proofs.lemmas.List.{length-replicate}
 use Rattle.dk_base.specs.declared.limits.TheConstants.{THREADS_MAX}
-use Rattle.written_kernel.specs.Types.{ThreadState}
+use Rattle.written_kernel.specs.Types.{Process, ThreadState}
 use Rattle.kernel_records.specs.declared.record.ThreadState.TheVariants as is
 use Rattle.dk_base.specs.ByNumber.{at_number}
-use Rattle.kernel_records.specs.Words.{CallTree, IsCounted, NoticeList, call_number, is_to_fire, names_its_object, notice_number}
+use Rattle.kernel_records.specs.declared.pool.TheConstants.{LOST_DOOR}
+use Rattle.kernel_records.specs.Words.{CallTree, IsCounted, NoticeList, call_number, is_to_fire, is_unborn_in, names_its_object, notice_number}
 use Rattle.written_kernel.specs.Words.{Channels, IsOpening, State, associations_in, pick, pool_of, process_of, ready_at, state_of, thread_of}
 use Rattle.kernel_records.proofs.Lists.{numbered_there}
-use Rattle.written_kernel.proofs.Opening.{bound_of-opening, invocation_of-opening, length-tables_opening, object_at-opening, opened, state_of-opening, waiting_items-opening}
-use Rattle.kernel_invariant.specs.Core.{Core, core, number_in, ended_in}
+use Rattle.written_kernel.proofs.Opening.{bound_of-opening, children-opening, invocation_of-opening, length-tables_opening, object_at-opening, opened, state_of-opening, unborn-opening, waiting_items-opening}
+use Rattle.kernel_invariant.specs.Core.{Core, core, number_in, ended_in, is_ended_stage}
 use Rattle.kernel_invariant.specs.Coherent.{IsCoherent}
 use Rattle.kernel_invariant.specs.Invariant.{Invariant}
 
@@ -28,8 +29,9 @@ coherent_of :
     (k : Core) → ((c : ℕ) → k.call c ≡ None) → ((d : ℕ) → k.door d ≡ None) → ((n : ℕ) → k.notice n ≡ None) →
     ((t : ℕ) → may_open (k.role t) ≡ true) → ((t : ℕ) → k.serves t ≡ None) → ((t n : ℕ) → k.number t ≡ Some n → n ≡ t) →
     ((t : ℕ) → k.bound t ≡ None) → ((p : ℕ) → ended_in (k.proc p) ≡ false) →
+    ((t : ℕ) → is_unborn_in (k.proc (k.process t)) ≡ true → k.role t ≡ is.Dormant) →
     ((t n : ℕ) → k.number t ≡ Some n → is_some (k.proc (k.process t)) ≡ true) → IsCoherent k
-coherent_of k calls doors notices states outside numbers unbound living there =
+coherent_of k calls doors notices states outside numbers unbound living unborn there =
     record {
       waits =
           record {
@@ -77,9 +79,20 @@ coherent_of k calls doors notices states outside numbers unbound living there =
             given_bound = λ c v e. grind (arith, calls c);
             entered_owner = λ c v e. grind (arith, calls c);
           };
-      doors = record { door_number = λ d x e. grind (arith, doors d); owner_ended = λ d x e. grind (arith, doors d) };
-      bindings = record { bound_own = λ v d e. grind (arith, unbound v); bound_private = λ v d e. grind (arith, unbound v) };
-      processes = record { ended_done = λ v e. grind (arith, living (k.process v)) };
+      doors =
+          record {
+            none_lost = doors LOST_DOOR;
+            door_number = λ d x e. grind (arith, doors d);
+            owner_ended = λ d x e. grind (arith, doors d);
+            owner_begun = λ d x e. grind (arith, doors d);
+          };
+      bindings =
+          record {
+            bound_own = λ v d e f. grind (arith, unbound v);
+            bound_private = λ v d e f. grind (arith, unbound v);
+            idle_not_lost = λ v since e f. grind (arith, states v);
+          };
+      processes = record { ended_done = λ v e. grind (arith, living (k.process v)); unborn_dormant = unborn };
       threads = record { thread_number = λ v n e. grind (arith, numbers v n); process_there = there };
       has_fit_state = λ v. grind (arith, states v);
     }
@@ -93,7 +106,11 @@ module _ (m : State) (o : IsOpening m) where
   numbers t n e = grind (arith, (opened o).threads t)
 
   living : (p : ℕ) → ended_in (at_number m.process_table.processes p) ≡ false
-  living p = grind (arith, (opened o).processes p)
+  living p = go (at_number m.process_table.processes p) refl
+    where
+      go : (x : Option Process) → at_number m.process_table.processes p ≡ x → ended_in x ≡ false
+      go None e = refl
+      go (Some x) e = ⊎_elim (λ f. ap is_ended_stage f) (λ f. ap is_ended_stage f) ((opened o).processes p x e).stage
 
   there : (t n : ℕ) → number_in (thread_of m t) ≡ Some n → is_some (at_number m.process_table.processes (process_of m t)) ≡ true
   there t n e = grind (arith, (opened o).declared t, numbered_there m.process_table.processes (process_of m t))
@@ -115,7 +132,7 @@ module _ (m : State) (o : IsOpening m) where
               in_order = subst (λ (tree : CallTree). IsCounted call_number 0 tree.calls) (sym (opened o).call_tree) tt;
               counted = subst (λ (tree : CallTree). length tree.calls ≡ tree.made) (sym (opened o).call_tree) refl;
               coherent =
-                  coherent_of (core m) no_call_at_first no_door no_notice states (invocation_of-opening o) numbers (bound_of-opening o) living there;
+                  coherent_of (core m) no_call_at_first no_door no_notice states (invocation_of-opening o) numbers (bound_of-opening o) living (unborn-opening o) there;
               tables = length-tables_opening o;
               no_rows = λ p fd e. object_at-opening o p fd;
               notices_in_order = subst (λ (list : NoticeList). IsCounted notice_number 0 list.notices) (sym (opened o).notice_list) tt;
@@ -124,6 +141,7 @@ module _ (m : State) (o : IsOpening m) where
                   subst (λ (bs : List (Option ℕ)). length m.process_table.threads ≤ length bs) (sym (opened o).bindings)
                   (subst (λ n. length m.process_table.threads ≤ n) (sym (length-replicate {A = Option ℕ} THREADS_MAX None)) (opened o).few_threads);
             };
+        children = λ p q e. let i = children-opening o p q e in record { first = i.first; after = i.after; limit = i.limit };
         idle_valid = λ t d since e f. grind (arith, states t);
         given_out =
             subst (λ ws. All (λ w. pick m (pool_of m w.door) ≡ None) ws) (sym (waiting_items-opening o))

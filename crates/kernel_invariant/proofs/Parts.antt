@@ -8,10 +8,11 @@ use Rattle.written_kernel.specs.Types.{Call, CallStage, Door, Inv, NoticeStage, 
 use Rattle.kernel_records.specs.declared.record.ThreadState.TheVariants as is
 use Rattle.kernel_records.specs.declared.record.CallStage.TheVariants as stage
 use Rattle.kernel_records.specs.declared.record.NoticeStage.TheVariants as notice
-use Rattle.kernel_records.specs.Words.{is_valid_in, no_cancel_of, tid, without_arguments_at}
+use Rattle.kernel_records.specs.declared.pool.TheConstants.{LOST_DOOR}
+use Rattle.kernel_records.specs.Words.{is_idle, is_unborn_in, is_valid_in, no_cancel_of, tid, without_arguments_at}
 use Rattle.kernel_invariant.specs.Records.{item_in, owner_in}
 use Rattle.kernel_invariant.specs.Core.{Core, has_arguments, is_outside, is_underway}
-use Rattle.kernel_invariant.specs.Coherent.{AreAtDoors, AreCalls, AreNoticesAtDoors, AreNoticesEntered, AreNoticesGiven, AreProcesses, AreServers, AreWaits, IsCoherent, bound_for, is_unfit}
+use Rattle.kernel_invariant.specs.Coherent.{AreAtDoors, AreBindings, AreCalls, AreNoticesAtDoors, AreNoticesEntered, AreNoticesGiven, AreProcesses, AreServers, AreWaits, IsCoherent, bound_for, is_unfit}
 use Rattle.kernel_invariant.proofs.Cores.{set_role, upd}
 
 -- a thread turns from one state to another
@@ -67,8 +68,24 @@ notices_turn t s h p q =
 
 pub processes_turn :
     {role : ℕ → ThreadState} {process : ℕ → ℕ} {proc : ℕ → Option Process} (t : ℕ) (s : ThreadState) →
-    AreProcesses role process proc → is_done (role t) ≡ false → AreProcesses (upd role t s) process proc
-processes_turn t s h p = record { ended_done = λ v e. grind (arith, nat_tests, h.ended_done v) }
+    AreProcesses role process proc → is_done (role t) ≡ false → is_unborn_in (proc (process t)) ≡ false →
+    AreProcesses (upd role t s) process proc
+processes_turn t s h p q =
+    record {
+      ended_done = λ v e. grind (arith, nat_tests, h.ended_done v);
+      unborn_dormant = λ v e. grind (arith, nat_tests, h.unborn_dormant v);
+    }
+
+-- to a state that is not idle, or as one that is not bound to the lost door
+pub bindings_turn :
+    {role : ℕ → ThreadState} {bound : ℕ → Option ℕ} {door : ℕ → Option Door} {process : ℕ → ℕ} (t : ℕ) (s : ThreadState) →
+    AreBindings role bound door process → (is_idle s ≡ true → bound t ≡ Some LOST_DOOR → ⊥) → AreBindings (upd role t s) bound door process
+bindings_turn t s h p =
+    record {
+      bound_own = h.bound_own;
+      bound_private = h.bound_private;
+      idle_not_lost = λ v since e f. grind (arith, nat_tests, h.idle_not_lost v since, p);
+    }
 
 pub fit_turn :
     {k : Core} (t : ℕ) (s : ThreadState) → IsCoherent k → is_unfit s ≡ false → (u : ℕ) → is_unfit (upd k.role t s u) ≡ false
@@ -84,8 +101,8 @@ is_free _ = true
 -- a thread turns between states that hold no item
 pub role_keeps :
     (k : Core) (t : ℕ) (s : ThreadState) → IsCoherent k → is_free (k.role t) ≡ true → is_free s ≡ true → is_unfit s ≡ false →
-    (is_outside s ≡ true → k.serves t ≡ None) → IsCoherent (set_role k t s)
-role_keeps k t s h p q u o =
+    is_idle s ≡ false → is_unborn_in (k.proc (k.process t)) ≡ false → (is_outside s ≡ true → k.serves t ≡ None) → IsCoherent (set_role k t s)
+role_keeps k t s h p q u i b o =
     record {
       waits = waits_turn t s h.waits (grind arith) (grind arith);
       invocations = h.invocations;
@@ -96,8 +113,8 @@ role_keeps k t s h p q u o =
       calls = h.calls;
       at_doors = h.at_doors;
       doors = h.doors;
-      bindings = h.bindings;
-      processes = processes_turn t s h.processes (grind arith);
+      bindings = bindings_turn t s h.bindings (λ e. absurd (grind arith));
+      processes = processes_turn t s h.processes (grind arith) b;
       threads = h.threads;
       has_fit_state = fit_turn t s h u;
     }

@@ -63,7 +63,7 @@ pick_is m pool y e = pick_among_is m pool (length m.process_table.threads) y e
 owner_of_pick :
     (k : Core) (d t : ℕ) (x : Door) (b : Option ℕ) → IsCoherent k → k.door d ≡ Some x → k.bound t ≡ b →
     is_pool (pool_of_door x) (pool_by (k.process t) b) ≡ true → owner_in (k.door d) ≡ Some (k.process t)
-owner_of_pick k d t x b h e f g = grind (arith, nat_tests, h.bindings.bound_own t, h.doors.door_number d x)
+owner_of_pick k d t x b h e f g = grind (arith, nat_tests, h.bindings.bound_own t d, h.doors.door_number d x, h.doors.none_lost)
 
 bound_of_pick :
     (k : Core) (d t : ℕ) (x : Door) (b : Option ℕ) → IsCoherent k → k.door d ≡ Some x →

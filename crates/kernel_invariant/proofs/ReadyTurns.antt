@@ -1,9 +1,8 @@
 -- A turn that ends a wait has what its thread waits for.
-use Rattle.std.specs.Prelude.{ℕ, ◌≡◌, ◌≤◌, Option, true, false, Some, None, is_some}
+use Rattle.std.specs.Prelude.{ℕ, ◌≡◌, Option, true, false, Some, None, is_some}
 use Rattle.std.proofs.Common.{refl}
 use native.Mathlib.Omega.{arith}
 use Rattle.dk_base.specs.declared.object.Item.TheVariants as item
-use Rattle.dk_base.specs.declared.request.Request.TheVariants as request
 use Rattle.written_kernel.specs.Types.{Request, ThreadState}
 use Rattle.kernel_records.specs.declared.record.ThreadState.TheVariants as is
 use Rattle.written_kernel.specs.Words.{MayTurn, State, can_go_on, is_running_state, state_of}

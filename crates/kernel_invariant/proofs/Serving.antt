@@ -4,7 +4,7 @@ use Rattle.std.specs.Prelude.{ℕ, ◌≡◌, ◌&&◌, List, Option, Bool, true
 use Rattle.std.proofs.Common.{refl, sym, ap, subst, ◌∙◌}
 use native.Mathlib.Omega.{arith}
 use Rattle.std.proofs.lemmas.Bool.Decides.{nat_tests}
-use Rattle.written_kernel.specs.Types.{Answer, Call, Inv, Item, Pass, Request}
+use Rattle.written_kernel.specs.Types.{Call, Inv, Item, Pass, Request}
 use Rattle.dk_base.specs.declared.error.Errno.TheVariants.{EINVAL}
 use Rattle.dk_base.specs.declared.object.Item.TheVariants as item
 use Rattle.dk_base.specs.declared.request.Request.TheVariants as request
@@ -17,12 +17,12 @@ use Rattle.written_kernel.proofs.Moves.{Moves, act_moves}
 use Rattle.written_kernel.proofs.Moves.IsLeaving.{interrupts, exits}
 use Rattle.kernel_invariant.specs.Core.{is_outside}
 use Rattle.kernel_invariant.specs.Invariant.{IsConsistent, Invariant}
-use Rattle.kernel_invariant.specs.Events.{Begins, InvocationArrow, IsCancelled, IsLeft}
-use Rattle.kernel_invariant.specs.Events.InvocationArrow.{stays, begins, cancels, ends, leaves}
-use Rattle.kernel_invariant.specs.Events.IsLeft.{interrupted, caller_ends}
+use Rattle.kernel_invariant.specs.Events.{Begins, InvocationArrow}
+use Rattle.kernel_invariant.specs.Events.InvocationArrow.{stays, begins, ends}
 use Rattle.kernel_invariant.proofs.Consistent.{there}
 use Rattle.kernel_invariant.proofs.Leaving.{interrupt_leaves, thread_leaves, revoke_leaves, process_leaves}
-use Rattle.kernel_invariant.proofs.Later.{AreSameDone, ends_now_later}
+use Rattle.kernel_invariant.proofs.Beginning.{fork_leaves}
+use Rattle.kernel_invariant.proofs.Later.{serves_later}
 use Rattle.kernel_invariant.proofs.Steps.{StepDoes, step_does, running_is, same_done}
 
 -- the invocation of thread u, over an act of thread t
@@ -108,40 +108,16 @@ move_serves m t q a h may (Moves.collects c e) u = kept m t q a u (invocation-se
 move_serves m t q a h may (Moves.retrieves port max nget one e) u =
     kept m t q a u (invocation-set_thread_state m.process_table t u is.Running)
 move_serves m t q a h may (Moves.leaves r who (interrupts v)) u = (interrupt_leaves m t v.0 h).serves u
-move_serves m t q a h may (Moves.leaves r who (exits e)) u = (thread_leaves m t q t h).serves u
-move_serves m t q a h may (Moves.revokes fd f) u = (revoke_leaves m q t fd h (running_is m t may.running)).serves u
-move_serves m t q a h may (Moves.ends r p _) u = (process_leaves m q p h t).serves u
+move_serves m t q a h may (Moves.leaves r who (exits e)) u = (thread_leaves m t q t h (running_is m t may.running)).serves u
+move_serves m t q a h may (Moves.revokes fd f) u = (revoke_leaves m t q fd h (running_is m t may.running)).serves u
+move_serves m t q a h may (Moves.ends r p _) u = (process_leaves m t q p h).serves u
+move_serves m t q a h may (Moves.forks child f) u = (fork_leaves m t child h f).serves u
 move_serves m t q a h may _ u = stays
 
 act_serves : (m : State) (t : ℕ) (q : Option Request) (u : ℕ) → IsConsistent m → MayTurn m t q → Serves m t q (act m t q) u
 act_serves m t q u h may = move_serves m t q (act m t q) h may (act_moves m t q) u
 
 -- what the kernel does after an act leaves every invocation as it is, and the threads that are done as well
-
-left_later : (m : State) (q : Option Request) (n o : State) (r : Call) → AreSameDone n o → IsLeft m q n r → IsLeft m q o r
-left_later m q n o r d (interrupted e) = interrupted e
-left_later m q n o r d (caller_ends e) = caller_ends (ends_now_later m n o r.caller.0 d e)
-
-cancelled_later :
-    (m : State) (q : Option Request) (n o : State) (u : ℕ) (v : Inv) → AreSameDone n o → IsCancelled m q n u v → IsCancelled m q o u v
-cancelled_later m q n o u v d c =
-    record {
-      call = c.call;
-      item = c.item;
-      there = c.there;
-      entered = c.entered;
-      may_cancel = c.may_cancel;
-      is_left = left_later m q n o c.call d c.is_left;
-    }
-
-serves_later :
-    (m : State) (t : ℕ) (q : Option Request) (a : Answer) (n o : State) (u : ℕ) (before after : Option Inv) →
-    AreSameDone n o → InvocationArrow m t q a n u before after → InvocationArrow m t q a o u before after
-serves_later m t q a n o u before after d stays = stays
-serves_later m t q a n o u before after d (begins i e f g k) = begins i e f g k
-serves_later m t q a n o u before after d (cancels v c) = cancels v (cancelled_later m q n o u v d c)
-serves_later m t q a n o u before after d (ends v bytes pass e f g k) = ends v bytes pass e f g k
-serves_later m t q a n o u before after d (leaves v e) = leaves v (d.after u e)
 
 pub step_serves :
     (m : State) (t : ℕ) (q : Option Request) (u : ℕ) → Invariant m → MayTurn m t q →

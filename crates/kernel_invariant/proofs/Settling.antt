@@ -1,17 +1,19 @@
 -- What the kernel does after an act: notices are made of doors that are due, idle threads that lost their door fail, calls and
 -- notices that wait are given to the others, until no pool has both, spare threads start, and ports are told. Then no idle thread has lost the door that it is bound to.
-use Rattle.std.specs.Prelude.{ℕ, ◌≡◌, ◌+◌, List, [], ◌∷◌, Option, Bool, true, false, ◌==◌, if◌then◌else◌, Some, None, All}
-use Rattle.std.proofs.Common.{inl, inr, refl, sym, ap, subst, ◌∙◌}
+use Rattle.std.specs.Prelude.{ℕ, ◌≡◌, ◌+◌, ◌&&◌, ◌||◌, not, List, [], ◌∷◌, Option, Bool, true, false, ◌==◌, if◌then◌else◌, Some, None, All, is_none, is_some, slice_get, suc}
+use Rattle.std.proofs.Common.{inl, inr, refl, sym, ap, ap₂, subst, true≢false, ◌∙◌}
 use native.Mathlib.Omega.{arith}
 use Rattle.std.proofs.lemmas.Bool.Decides.{nat_tests}
 use Rattle.dk_base.specs.declared.object.Item.TheVariants as item
 use Rattle.kernel_records.proofs.NumberedLists.{find-as, find-past, find-push}
-use Rattle.written_kernel.specs.Types.{Call, Item, Notice, Parked, ThreadState, Waiting}
+use Rattle.written_kernel.specs.Types.{Call, Door, Item, Notice, Parked, ThreadState, Waiting}
 use Rattle.kernel_records.specs.declared.record.ThreadState.TheVariants as is
 use Rattle.kernel_records.specs.declared.record.CallStage.TheVariants as stage
 use Rattle.kernel_records.specs.declared.record.NoticeStage.TheVariants as notice
-use Rattle.kernel_records.specs.Words.{at_stage, call_number, notice_at, is_idle, is_queued_as, is_valid_in, is_waiting_notice_as, new_notice, notice_number, set_thread_state, tid, waiting_call, waiting_notice}
-use Rattle.written_kernel.specs.Words.{State, door_of, fail_return, fail_returns, find_call, find_notice, give, give_and_start, give_each, give_one, give_to, has_invalid_door, has_lost_door, invocation_of, is_due, make_notices, now, pick, pool_of, settle, settle_pools, state_of, tell, waiting_items, with_state}
+use Rattle.kernel_records.specs.Words.{at_stage, call_number, has_common_door, is_common_of, is_pool, is_unborn_in, notice_at, is_idle, pid, thread_at_state, is_queued_as, is_valid_in, is_waiting_notice_as, new_notice, notice_number, set_thread_state, tid, waiting_call, waiting_notice}
+use Rattle.kernel_records.specs.declared.pool.Pool.TheVariants.{Common}
+use Rattle.kernel_records.proofs.Lists.{at_number-suc}
+use Rattle.written_kernel.specs.Words.{State, bound_of, door_of, fail_return, fail_returns, find_call, find_notice, give, give_and_start, give_each, give_one, give_to, has_invalid_door, has_lost_door, invocation_of, is_due, is_unborn_process, make_notices, needs_spare, now, pick, pool_of, process_of, settle, settle_pools, state_of, tell, waiting_items, with_state}
 use Rattle.kernel_invariant.specs.Records.{notice_of, owner_in, record_of}
 use Rattle.kernel_invariant.specs.Core.{core, door_in, notice_in, noticed_door_in}
 use Rattle.kernel_invariant.specs.Coherent.{bound_for}
@@ -25,15 +27,17 @@ use Rattle.kernel_invariant.proofs.Cores.{Turns, at_one, set_thread_state-turns,
 use Rattle.kernel_invariant.proofs.NoticeMoves.{GivesNotice, give_notice_keeps, make_notice_keeps}
 use Rattle.kernel_invariant.proofs.CallMoves.{Gives, give_keeps}
 use Rattle.kernel_invariant.proofs.Parts.{role_keeps}
-use Rattle.kernel_invariant.proofs.Consistent.{act_consistent, call_consistent, calls_counted, channels_consistent, change-call, moved-notice, notice_consistent, notices_counted, push_counted, same_tables, there, thread_consistent}
+use Rattle.kernel_invariant.proofs.Consistent.{act_consistent, call_consistent, calls_counted, channels_consistent, change-call, moved-notice, not_unborn, notice_consistent, notices_counted, push_counted, same_tables, there, thread_consistent}
 use Rattle.kernel_invariant.proofs.Failing.{IsIdleSince, bound-unbind_thread, fail-turns, fail_return-keeps, idle_of_lost}
 use Rattle.kernel_invariant.proofs.Pending.{IsPendingItem, Pending, all_pending, calls_ascend, notices_ascend, others_are}
 use Rattle.kernel_invariant.proofs.Pending.IsPendingItem.{a_call, a_notice}
-use Rattle.kernel_invariant.proofs.Picks.{IsParked, IsOfPool, pick_is, parked_is, picked_is}
+use Rattle.kernel_invariant.proofs.Picks.{IsParked, IsOfPool, IsPick, pick_is, parked_is, picked_is, pool_by}
 use Rattle.written_kernel.proofs.Giving.{all_given_out}
 use Rattle.written_kernel.proofs.Notices.{IsDue, due_is}
 use Rattle.written_kernel.proofs.Failing.{has_lost_door-fail_returns}
-use Rattle.written_kernel.proofs.Settling.{fail_returns-all, make_notices-all, make_notices-alone, start_spares-all, with_notice_of}
+use Rattle.written_kernel.proofs.Settling.{KeptByGiving, KeptByNeeded, fail_returns-all, give-all, make_notices-all, make_notices-alone, start_spares-needed, with_notice_of}
+use Rattle.written_kernel.proofs.Places.{IsIn, place_of}
+use Rattle.written_kernel.proofs.Threads.{processes-change_thread}
 use Rattle.dk_base.specs.ByNumber.{at_number}
 
 pub giving_then : (o p q : Option Call) → ByGiving o p → ByGiving p q → ByGiving o q
@@ -253,11 +257,13 @@ give_does m h = give_each_does (waiting_items m) m h (all_pending m h)
 
 -- a spare thread starts
 
-start_does : (m : State) (t : ℕ) → IsConsistent m → state_of m t ≡ is.Dormant → Gave m (with_state m t is.Running)
-start_does m t h e =
+start_does :
+    (m : State) (t : ℕ) → IsConsistent m → state_of m t ≡ is.Dormant → is_unborn_process m (process_of m t) ≡ false →
+    Gave m (with_state m t is.Running)
+start_does m t h e b =
     turned_gave m (with_state m t is.Running) t is.Running
     (thread_consistent m t _ m.tables is.Running _ h (same_tables m h) turns
-    (role_keeps (core m) t is.Running h.coherent (grind arith) refl refl (λ f. absurd (grind arith))))
+    (role_keeps (core m) t is.Running h.coherent (grind arith) refl refl refl b (λ f. absurd (grind arith))))
     (λ c. stays) (λ c. notice_stays) turns refl (ap is_at_rest e) refl (λ f. absurd (grind arith)) (λ u f. f)
   where
     turns : Turns m.process_table (set_thread_state m.process_table t is.Running) t is.Running (core m).serves
@@ -309,10 +315,84 @@ pub make_notices_does : (before m : State) → IsConsistent m → Makes m (make_
 make_notices_does before m h =
     record { consistent = make_notices-all IsConsistent before (make_keeps before) m h; alone = make_notices-alone before m }
 
+-- a process that needs a spare has begun: it made a door, or had an idle thread
+
+has_owner : (doors : List Door) (p : ℕ) → has_common_door doors p ≡ true → (d : Door) × IsIn d doors × (d.owner.0 ≡ p)
+has_owner [] p e = absurd (grind arith)
+has_owner (x ∷ xs) p e = go (is_common_of p x) refl (has_owner xs p) e
+  where
+    go :
+        (b : Bool) → is_common_of p x ≡ b → (has_common_door xs p ≡ true → (d : Door) × IsIn d xs × (d.owner.0 ≡ p)) →
+        b || has_common_door xs p ≡ true → (d : Door) × IsIn d (x ∷ xs) × (d.owner.0 ≡ p)
+    go true f ih g = (x, inl refl, grind (arith, nat_tests))
+    go false f ih g = let y = ih g in (y.0, inr y.1, y.2)
+
+door_begun : (m : State) (p : ℕ) → IsConsistent m → has_common_door m.doors p ≡ true → is_unborn_process m p ≡ false
+door_begun m p h e =
+    let x : (d : Door) × IsIn d m.doors × (d.owner.0 ≡ p) = has_owner m.doors p e in
+    let i : (i : ℕ) × (slice_get m.doors i ≡ Some x.0) = place_of x.0 m.doors x.1 in
+    ap (is_unborn_process m) (sym x.2) ∙ h.coherent.doors.owner_begun (suc i.0) x.0 (at_number-suc m.doors i.0 ∙ i.1)
+
+idle_begun : (m : State) (p : ℕ) (o : Option Parked) → IsConsistent m → pick m (Common (pid p)) ≡ o → is_some o ≡ true → is_unborn_process m p ≡ false
+idle_begun m p None h e f = absurd (grind arith)
+idle_begun m p (Some y) h e f =
+    let i : IsPick m (Common (pid p)) y = pick_is m (Common (pid p)) y e in
+    let k : IsParked m y.thread.0 y = parked_is m y.thread.0 y i.parked in
+    let own : process_of m y.thread.0 ≡ p = of_pool (bound_of m y.thread.0) (ap (is_pool (Common (pid p))) (sym k.pool) ∙ i.of_pool) in
+    ap (is_unborn_process m) (sym own) ∙ not_unborn m y.thread.0 h (λ z. grind (arith, k.idle))
+  where
+    of_pool : {q : ℕ} (b : Option ℕ) → is_pool (Common (pid p)) (pool_by q b) ≡ true → q ≡ p
+    of_pool {q} None g = grind (arith, nat_tests)
+    of_pool {q} (Some d) g = absurd (grind arith)
+
+needs_begun :
+    (before ungiven given : State) (p : ℕ) → IsConsistent ungiven → IsConsistent given →
+    given.process_table.processes ≡ ungiven.process_table.processes → needs_spare before ungiven given p ≡ true →
+    is_unborn_process given p ≡ false
+needs_begun before ungiven given p h k same e =
+    go (has_common_door given.doors p) refl (is_some (pick ungiven (Common (pid p)))) refl
+  where
+    no_and : (b : Bool) → (not b && false) || false ≡ false
+    no_and true = refl
+    no_and false = refl
+
+    go :
+        (a : Bool) → has_common_door given.doors p ≡ a → (b : Bool) → is_some (pick ungiven (Common (pid p))) ≡ b →
+        is_unborn_process given p ≡ false
+    go true f b g = door_begun given p k f
+    go false f true g =
+        ap (λ xs. is_unborn_in (at_number xs p)) same ∙ idle_begun ungiven p (pick ungiven (Common (pid p))) h refl g
+    go false f false g = absurd (true≢false (sym e ∙ ap₂ (λ a b. (not (has_common_door before.doors p) && a) || (b && is_none (pick given (Common (pid p))))) f g ∙ no_and (has_common_door before.doors p)))
+
+-- what starting keeps besides, with the processes as they are after giving
+record Started (m given n : State) : Type 0 where
+  gave : Gave m n
+  processes : n.process_table.processes ≡ given.process_table.processes
+
+processes-give : (m : State) → (give m).process_table.processes ≡ m.process_table.processes
+processes-give m = give-all (λ n. n.process_table.processes ≡ m.process_table.processes) one m refl
+  where
+    one : KeptByGiving (λ n. n.process_table.processes ≡ m.process_table.processes)
+    one n w x p e = go w.item
+      where
+        go : (i : Item) → (give_one n i x.thread.0).process_table.processes ≡ m.process_table.processes
+        go (item.Call c) = processes-change_thread n.process_table x.thread.0 (thread_at_state (is.Given (item.Call c))) ∙ e
+        go (item.Notice c) = processes-change_thread n.process_table x.thread.0 (thread_at_state (is.Given (item.Notice c))) ∙ e
+
 give_and_start_does : (before m : State) → IsConsistent m → Gave m (give_and_start before m)
 give_and_start_does before m h =
-    start_spares-all (Gave m) (λ n t d g. gave_then m n (with_state n t is.Running) g (start_does n t g.consistent d)) before m (give m)
-    (give_does m h)
+    (start_spares-needed (Started m (give m)) before m (give m) one (record { gave = give_does m h; processes = refl })).gave
+  where
+    one : KeptByNeeded (Started m (give m)) before m (give m)
+    one n t d needs s =
+        let begun : is_unborn_process n (process_of n t) ≡ false =
+        ap (λ xs. is_unborn_in (at_number xs (process_of n t))) s.processes
+        ∙ needs_begun before m (give m) (process_of n t) h (give_does m h).consistent (processes-give m) needs
+        in
+        record {
+          gave = gave_then m n (with_state n t is.Running) s.gave (start_does n t s.gave.consistent d begun);
+          processes = processes-change_thread n.process_table t (thread_at_state is.Running) ∙ s.processes;
+        }
 
 -- and ports are told, which changes nothing else
 tell_gave : (m n : State) → Gave m n → Gave m (tell n)

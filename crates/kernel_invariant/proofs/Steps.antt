@@ -1,20 +1,24 @@
 -- What an act does, and what the kernel does after it.
-use Rattle.std.specs.Prelude.{ℕ, ◌≡◌, ◌+◌, ◌==◌, ◌&&◌, [], ◌∷◌, Option, false, not, true}
+use Rattle.std.specs.Prelude.{ℕ, ◌≡◌, ◌+◌, ◌==◌, ◌&&◌, List, [], ◌∷◌, Option, Some, None, false, length, not, option_map, true, unwrap_or}
 use Rattle.std.proofs.lemmas.Bool.Decides.{nat_tests}
 use Rattle.dk_base.specs.declared.error.Errno.TheVariants.{EINVAL, ETIME}
 use Rattle.written_kernel.proofs.Refusals.{not_held}
-use Rattle.std.proofs.Common.{refl, sym, ◌∙◌, ap}
+use Rattle.std.proofs.Common.{refl, sym, subst, ◌∙◌, ap}
 use native.Mathlib.Omega.{arith}
-use Rattle.written_kernel.specs.Types.{Request}
+use Rattle.dk_base.specs.ByNumber.{at_number}
+use Rattle.written_kernel.specs.Types.{Obj, Pid, Process, Request}
 use Rattle.kernel_records.specs.declared.record.ThreadState.TheVariants as is
-use Rattle.kernel_records.specs.Words.{has_bad_count, insert_rows, is_valid_in, must_wait, refused_where}
-use Rattle.written_kernel.specs.Words.{ActResult, MayTurn, State, act, can_go_on, is_running, object_at, port, port_at, port_tests, process_of, settle, state_of, step, table_of, with_event_counted}
+use Rattle.kernel_records.specs.Words.{has_bad_count, insert_rows, is_valid_in, must_wait, parent_in, pid, refused_where, table_in}
+use Rattle.written_kernel.specs.Words.{ActResult, MayTurn, State, act, can_go_on, is_running, object_at, parent_of, port, port_at, port_tests, process_of, settle, state_of, step, table_of, with_event_counted}
 use Rattle.kernel_invariant.specs.Coherent.{is_fit_wait}
 use Rattle.kernel_invariant.specs.Records.{record_of}
-use Rattle.kernel_invariant.specs.Invariant.{IsConsistent, Invariant}
+use Rattle.kernel_invariant.specs.Invariant.{IsChildOf, IsConsistent, Invariant}
 use Rattle.kernel_invariant.specs.Arrows.{Arrow}
 use Rattle.kernel_invariant.proofs.Later.{AreSameDone, by_act_later}
 use Rattle.written_kernel.proofs.Moves.{Moves, act_moves}
+use Rattle.written_kernel.proofs.Settling.{tables-settle}
+use Rattle.written_kernel.proofs.Steps.{ForksFit, ProcessIdentity, act-limits, process_identity, step-keeps}
+use Rattle.kernel_records.proofs.Lists.{same_numbered}
 use Rattle.written_kernel.proofs.Moves.IsBinding.{binds, unbinds}
 use Rattle.written_kernel.proofs.Moves.IsTurn.{awaits, finds, lost_port, starts_work, waits_for_many, waits_for_one, wakes, was_interrupted, works}
 use Rattle.written_kernel.proofs.Moves.IsLeaving.{interrupts, exits}
@@ -25,6 +29,7 @@ use Rattle.kernel_invariant.proofs.NoticeActs.{begin_notice_does}
 use Rattle.kernel_invariant.proofs.Consistent.{beside_consistent}
 use Rattle.kernel_invariant.proofs.Failing.{wake_does}
 use Rattle.kernel_invariant.proofs.Leaving.{interrupt_leaves, thread_leaves, revoke_leaves, process_leaves}
+use Rattle.kernel_invariant.proofs.Beginning.{fork_leaves}
 use Rattle.kernel_invariant.proofs.Settling.{Settles, idle_valid_of, is_at_rest, settle_does}
 
 pub running_is : (m : State) (t : ℕ) → is_running m t ≡ true → state_of m t ≡ is.Running
@@ -67,12 +72,56 @@ move_does m t q a h may (Moves.fails r e full) = fail_does m t r h e full
 move_does m t q a h may (Moves.enters_notice n e) = begin_notice_does m t n h e
 move_does m t q a h may (Moves.collects c e) = collect_does m t c h e (sym (ap (can_go_on m) e) ∙ may.runnable)
 move_does m t q a h may (Moves.leaves r who (interrupts u)) = (interrupt_leaves m t u.0 h).does
-move_does m t q a h may (Moves.leaves r who (exits e)) = (thread_leaves m t q t h).does
-move_does m t q a h may (Moves.revokes fd f) = (revoke_leaves m q t fd h (running_is m t may.running)).does
-move_does m t q a h may (Moves.ends r p _) = (process_leaves m q p h t).does
+move_does m t q a h may (Moves.leaves r who (exits e)) = (thread_leaves m t q t h (running_is m t may.running)).does
+move_does m t q a h may (Moves.revokes fd f) = (revoke_leaves m t q fd h (running_is m t may.running)).does
+move_does m t q a h may (Moves.ends r p _) = (process_leaves m t q p h).does
+move_does m t q a h may (Moves.forks child f) = (fork_leaves m t child h f).does
 
 pub act_does : (m : State) (t : ℕ) (q : Option Request) → IsConsistent m → MayTurn m t q → Does m t q (act m t q)
 act_does m t q h may = move_does m t q (act m t q) h may (act_moves m t q)
+
+-- a child keeps its parent and its limit
+module _ (m : State) (t : ℕ) (q : Option Request) (h : Invariant m) (may : MayTurn m t q) where
+  forks_fit : ForksFit m t q
+  forks_fit child e =
+      let fit : parent_of m child.0 ≡ Some (pid (process_of m t)) = (subst (MayTurn m t) e may).fit in
+      sym (h.children child.0 (pid (process_of m t)) fit).limit
+
+  limit_kept : (p : ℕ) → length (table_of (step m t q).state p) ≡ length (table_of m p)
+  unfolding step
+  limit_kept p =
+      ap (λ ts. length (table_in ts p)) (tables-settle m (act m t q).state)
+      ∙ long (at_number (act m t q).state.tables p)
+      ∙ ap long_in (same_numbered length (act m t q).state.tables m.tables p (act-limits m t q forks_fit))
+      ∙ sym (long (at_number m.tables p))
+    where
+      long_in : Option ℕ → ℕ
+      long_in None = 0
+      long_in (Some n) = n
+
+      long : (o : Option (List (Option Obj))) → length (unwrap_or o []) ≡ long_in (option_map length o)
+      long None = refl
+      long (Some rows) = refl
+
+  parent_kept : (p : ℕ) → parent_of (step m t q).state p ≡ parent_of m p
+  parent_kept p =
+      from_identity (at_number (step m t q).state.process_table.processes p)
+      ∙ ap identity_parent
+      (same_numbered process_identity (step m t q).state.process_table.processes m.process_table.processes p (step-keeps m t q).processes)
+      ∙ sym (from_identity (at_number m.process_table.processes p))
+    where
+      identity_parent : Option ProcessIdentity → Option Pid
+      identity_parent None = None
+      identity_parent (Some x) = x.parent
+
+      from_identity : (o : Option Process) → parent_in o ≡ identity_parent (option_map process_identity o)
+      from_identity None = refl
+      from_identity (Some x) = refl
+
+  child_kept : (p : ℕ) (c : Pid) → parent_of (step m t q).state p ≡ Some c → IsChildOf (step m t q).state p c.0
+  child_kept p c e =
+      let i : IsChildOf m p c.0 = h.children p c (sym (parent_kept p) ∙ e) in
+      record { first = i.first; after = i.after; limit = limit_kept p ∙ i.limit ∙ sym (limit_kept c.0) }
 
 counted_keeps : (m : State) → IsConsistent m → IsConsistent (with_event_counted m)
 counted_keeps m h = beside_consistent m m.doors m.bindings m.names (m.events + 1) h h.places h.coherent
@@ -92,6 +141,7 @@ unfolding step
 step_invariant m t q h may =
     record {
       consistent = counted_keeps (settle m (act m t q).state) d.settled.gave.consistent;
+      children = child_kept m t q h may;
       idle_valid = idle_valid_of (settle m (act m t q).state) d.settled.none_lost;
       given_out = d.settled.given_out;
       told = record { rows = d.settled.told.rows; wait = d.settled.told.wait };

@@ -1,7 +1,7 @@
 -- The arrows of calls and of notices: from the state before an event to the state after it each record stays as it is or takes
 -- arrows of these tables. An arrow keeps each field of the record that it doesn't name, and says what the event answers.
 use Rattle.std.specs.Prelude.{ℕ, ◌≡◌, ◌⊎◌, List, Option, Bool, true, false, Some, None, length, nat_lt}
-use Rattle.written_kernel.specs.Types.{Answer, Call, Door, Errno, Fd, Notice, Obj, Pass, Request}
+use Rattle.written_kernel.specs.Types.{Answer, Call, Door, Errno, Fd, Notice, Obj, Pass, Pid, Request}
 use Rattle.dk_base.specs.declared.error.Errno.TheVariants.{EBADF, EINTR, EMFILE}
 use Rattle.dk_base.specs.declared.object.Obj.TheVariants as obj
 use Rattle.dk_base.specs.declared.object.Item.TheVariants as item
@@ -11,7 +11,7 @@ use Rattle.kernel_records.specs.declared.record.ThreadState.TheVariants as is
 use Rattle.kernel_records.specs.declared.record.CallStage.TheVariants as stage
 use Rattle.kernel_records.specs.declared.record.NoticeStage.TheVariants as notice
 use Rattle.kernel_records.specs.Words.{abandoned_at, at_stage, cookie_of, entry_of, first_refusal, gone_call_at, is_live, new_descriptors, notice_at, objects_passed, tid, without_arguments_at}
-use Rattle.written_kernel.specs.Words.{State, call_tests, door_of, falls_to_one, has_room, is_valid, may_have_notice, new_call, now, object_at, process_of, return_answer, return_tests, state_of, table_of}
+use Rattle.written_kernel.specs.Words.{State, call_tests, door_of, falls_to_one, forking_tests, has_room, is_valid, may_have_notice, new_call, now, object_at, process_of, return_answer, return_tests, state_of, table_of}
 use Rattle.kernel_invariant.specs.Core.{has_arguments}
 
 -- the table of a thread's process
@@ -27,6 +27,13 @@ pub record EndsNow (m n : State) (u : ℕ) : Type 0 where
   pub before : state_of m u ≡ is.Done → ⊥
   pub after : state_of n u ≡ is.Done
 
+-- The turn of thread t interrupts thread u: it asks for that, or it is a Fork that is not refused, and u another thread of its process.
+pub data Interrupts (m : State) (t : ℕ) (q : Option Request) (u : ℕ) : Type 0 where
+  asked : q ≡ Some (request.Interrupt (tid u)) → Interrupts m t q u
+  forked :
+      (child : Pid) → q ≡ Some (request.Fork child) → first_refusal (forking_tests m child.0) ≡ None → process_of m u ≡ process_of m t →
+      (u ≡ t → ⊥) → Interrupts m t q u
+
 -- Why a call ends without results, by an act of thread t from state m to state n: a constructor for each cause. The caller does
 -- not end in the event.
 pub data EndsBy (m : State) (t : ℕ) (q : Option Request) (a : Answer) (n : State) (r : Call) : Errno → Type 0 where
@@ -40,7 +47,7 @@ pub data EndsBy (m : State) (t : ℕ) (q : Option Request) (a : Answer) (n : Sta
       has_own_room m t r.objects ≡ false → a ≡ answer.EnterFailed r.number → EndsBy m t q a n r EMFILE
   -- its caller is interrupted before a thread has entered it
   interrupted :
-      q ≡ Some (request.Interrupt r.caller) → has_arguments r.stage ≡ true → (state_of n r.caller.0 ≡ is.Done → ⊥) →
+      Interrupts m t q r.caller.0 → has_arguments r.stage ≡ true → (state_of n r.caller.0 ≡ is.Done → ⊥) →
       EndsBy m t q a n r EINTR
   -- the thread that it was given to, or that has entered it, ends
   server_ended :
@@ -71,9 +78,9 @@ pub data ByAct (m : State) (t : ℕ) (q : Option Request) (a : Answer) (n : Stat
   -- to Ended
   ends :
       (r : Call) (e : Errno) → EndsBy m t q a n r e → ByAct m t q a n (Some r) (Some (without_arguments_at (stage.Ended e) r))
-  -- Entered to Ended, at an Interrupt of its caller: the thread that entered it stays in its invocation
+  -- Entered to Ended, where its caller is interrupted: the thread that entered it stays in its invocation
   breaks_off :
-      (r : Call) (u : ℕ) → q ≡ Some (request.Interrupt r.caller) → r.stage ≡ stage.Entered (tid u) →
+      (r : Call) (u : ℕ) → Interrupts m t q r.caller.0 → r.stage ≡ stage.Entered (tid u) →
       (state_of n r.caller.0 ≡ is.Done → ⊥) → ByAct m t q a n (Some r) (Some (abandoned_at (stage.Ended EINTR) r))
   -- to Gone, where its caller ends
   leaves :

@@ -5,7 +5,8 @@ use Rattle.dk_base.specs.declared.object.Item.TheVariants as item
 use Rattle.kernel_records.specs.declared.record.ThreadState.TheVariants as is
 use Rattle.kernel_records.specs.declared.record.CallStage.TheVariants as stage
 use Rattle.kernel_records.specs.declared.record.NoticeStage.TheVariants as notice
-use Rattle.kernel_records.specs.Words.{is_live_in, is_private_in, is_valid_in, no_cancel_of, tid}
+use Rattle.kernel_records.specs.declared.pool.TheConstants.{LOST_DOOR}
+use Rattle.kernel_records.specs.Words.{is_live_in, is_private_in, is_unborn_in, is_valid_in, no_cancel_of, tid}
 use Rattle.kernel_invariant.specs.Core.{Core, caller_number, door_in, abandoned_in, live_in, underway_in, has_arguments, is_outside, ended_in, owner_at}
 use Rattle.kernel_invariant.specs.Records.{owner_in, stage_in, item_in}
 
@@ -90,18 +91,24 @@ pub record AreAtDoors (call : ℕ → Option Call) (door : ℕ → Option Door) 
 
 -- doors by themselves
 pub record AreDoors (door : ℕ → Option Door) (proc : ℕ → Option Process) : Type 0 where
+  -- no door has the number of the lost one
+  pub none_lost : door LOST_DOOR ≡ None
   pub door_number : (d : ℕ) (x : Door) → door d ≡ Some x → x.number ≡ d
   -- a door says whether the process that made it has ended
   pub owner_ended : (d : ℕ) (x : Door) → door d ≡ Some x → x.owner_ended ≡ not (is_live_in (proc x.owner.0))
+  -- a process that has not begun made none
+  pub owner_begun : (d : ℕ) (x : Door) → door d ≡ Some x → is_unborn_in (proc x.owner.0) ≡ false
 
--- a thread is bound only to a private door of its own process
-pub record AreBindings (bound : ℕ → Option ℕ) (door : ℕ → Option Door) (process : ℕ → ℕ) : Type 0 where
-  pub bound_own : (t d : ℕ) → bound t ≡ Some d → owner_in (door d) ≡ Some (process t)
-  pub bound_private : (t d : ℕ) → bound t ≡ Some d → is_private_in (door d) ≡ true
+-- a thread is bound only to a private door of its own process, or to the one that is lost, and no Idle thread is bound to that
+pub record AreBindings (role : ℕ → ThreadState) (bound : ℕ → Option ℕ) (door : ℕ → Option Door) (process : ℕ → ℕ) : Type 0 where
+  pub bound_own : (t d : ℕ) → bound t ≡ Some d → (d == LOST_DOOR) ≡ false → owner_in (door d) ≡ Some (process t)
+  pub bound_private : (t d : ℕ) → bound t ≡ Some d → (d == LOST_DOOR) ≡ false → is_private_in (door d) ≡ true
+  pub idle_not_lost : (t since : ℕ) → role t ≡ is.Idle since → bound t ≡ Some LOST_DOOR → ⊥
 
--- an ended process has only Done threads
+-- an ended process has only Done threads, and one that has not begun only Dormant ones
 pub record AreProcesses (role : ℕ → ThreadState) (process : ℕ → ℕ) (proc : ℕ → Option Process) : Type 0 where
   pub ended_done : (t : ℕ) → ended_in (proc (process t)) ≡ true → role t ≡ is.Done
+  pub unborn_dormant : (t : ℕ) → is_unborn_in (proc (process t)) ≡ true → role t ≡ is.Dormant
 
 -- threads by themselves
 pub record AreThreads (process : ℕ → ℕ) (number : ℕ → Option ℕ) (proc : ℕ → Option Process) : Type 0 where
@@ -130,7 +137,7 @@ pub record IsCoherent (k : Core) : Type 0 where
   pub calls : AreCalls k.call k.made
   pub at_doors : AreAtDoors k.call k.door k.process k.bound
   pub doors : AreDoors k.door k.proc
-  pub bindings : AreBindings k.bound k.door k.process
+  pub bindings : AreBindings k.role k.bound k.door k.process
   pub processes : AreProcesses k.role k.process k.proc
   pub threads : AreThreads k.process k.number k.proc
   pub has_fit_state : (t : ℕ) → is_unfit (k.role t) ≡ false

@@ -1,7 +1,7 @@
 -- What the invariant and the laws see of a state: functions of the numbers of threads, doors, processes and calls.
 use Rattle.std.specs.Prelude.{ℕ, Option, Bool, true, false, Some, None}
 use Rattle.written_kernel.specs.Types.{Call, CallStage, Door, Inv, Notice, NoticeStage, Process, ProcessStage, Thread, ThreadState}
-use Rattle.kernel_records.specs.declared.record.ProcessStage.TheVariants.{Live, Ended}
+use Rattle.kernel_records.specs.declared.record.ProcessStage.TheVariants.{Unborn, Live, Ended}
 use Rattle.kernel_records.specs.declared.record.ThreadState.TheVariants as is
 use Rattle.kernel_records.specs.declared.record.CallStage.TheVariants as stage
 use Rattle.dk_base.specs.ByNumber.{at_number}
@@ -100,6 +100,7 @@ is_outside _ = false
 
 -- of a process
 abbrev pub is_ended_stage : ProcessStage → Bool
+is_ended_stage Unborn = false
 is_ended_stage Live = false
 is_ended_stage Ended = true
 

@@ -2,7 +2,7 @@
 -- invocation of each thread one of its own; a door that is due has just one notice more; what its answer tells is so; doors are
 -- made and kept; a refused entry changes nothing; and only an entry of leaving, or the end of a wait of a thread that is bound to
 -- a door that is not valid, leaves a thread idle that is so bound.
-use Rattle.std.specs.Prelude.{ℕ, ◌≡◌, ◌+◌, ◌≤◌, ◌⊎◌, Option, List, Some, None, Bool, false, true}
+use Rattle.std.specs.Prelude.{ℕ, ◌≡◌, ◌+◌, ◌⊎◌, Option, List, Some, None, Bool, false, true}
 use Rattle.written_kernel.specs.Types.{Answer, Call, Door, Errno, Fd, Inv, Item, Notice, Pass, Request, ThreadState}
 use Rattle.dk_base.specs.declared.error.Errno.TheVariants.{EMFILE}
 use Rattle.dk_base.specs.declared.object.Item.TheVariants as item
@@ -15,7 +15,7 @@ use Rattle.written_kernel.specs.Words.{State, act, can_end_getting, door_of, fal
 use Rattle.kernel_invariant.specs.Records.{notice_of, record_of, stage_of}
 use Rattle.kernel_invariant.specs.Coherent.{is_fit_wait}
 use Rattle.kernel_invariant.specs.Invariant.{Invariant}
-use Rattle.kernel_invariant.specs.Arrows.{Arrow, EndsNow, NoticeArrow}
+use Rattle.kernel_invariant.specs.Arrows.{Arrow, EndsNow, Interrupts, NoticeArrow}
 
 -- the answer says that an invocation of this item begins
 abbrev pub Begins : Answer → Item → Type 0
@@ -24,18 +24,18 @@ Begins (answer.EnteredNotice n entry cookie) i = i ≡ item.Notice n
 Begins a i = ⊥
 
 -- the caller of a call leaves it by the event: it is interrupted, or ends
-pub data IsLeft (m : State) (q : Option Request) (n : State) (r : Call) : Type 0 where
-  interrupted : q ≡ Some (request.Interrupt r.caller) → IsLeft m q n r
-  caller_ends : EndsNow m n r.caller.0 → IsLeft m q n r
+pub data IsLeft (m : State) (t : ℕ) (q : Option Request) (n : State) (r : Call) : Type 0 where
+  interrupted : Interrupts m t q r.caller.0 → IsLeft m t q n r
+  caller_ends : EndsNow m n r.caller.0 → IsLeft m t q n r
 
--- thread u has entered this call, whose door does not bar cancels, and whose caller leaves it by the event
-pub record IsCancelled (m : State) (q : Option Request) (n : State) (u : ℕ) (v : Inv) : Type 0 where
+-- thread u has entered this call, whose door does not bar cancels, and whose caller leaves it by the event of thread t
+pub record IsCancelled (m : State) (t : ℕ) (q : Option Request) (n : State) (u : ℕ) (v : Inv) : Type 0 where
   pub call : Call
   pub item : v.item ≡ item.Call call.number
   pub there : record_of m call.number ≡ Some call
   pub entered : call.stage ≡ stage.Entered (tid u)
   pub may_cancel : no_cancel_of (door_of m call.door) ≡ false
-  pub is_left : IsLeft m q n call
+  pub is_left : IsLeft m t q n call
 
 -- The invocation of thread u, by an event of thread t: it stays, begins at an accept of its own, has its flag set where its client
 -- leaves, ends at a Return of its own that is not refused, or leaves with its thread.
@@ -44,7 +44,7 @@ pub data InvocationArrow (m : State) (t : ℕ) (q : Option Request) (a : Answer)
   begins :
       (i : Item) → u ≡ t → q ≡ None → state_of m t ≡ is.Given i → Begins a i →
       InvocationArrow m t q a n u None (Some (new_invocation i))
-  cancels : (v : Inv) → IsCancelled m q n u v → InvocationArrow m t q a n u (Some v) (Some (cancelled_invocation v))
+  cancels : (v : Inv) → IsCancelled m t q n u v → InvocationArrow m t q a n u (Some v) (Some (cancelled_invocation v))
   ends :
       (v : Inv) (bytes : List ℕ) (pass : List Pass) → u ≡ t → q ≡ Some (request.Return bytes pass) →
       first_refusal (return_tests m t (process_of m t) bytes pass) ≡ None → a ≡ return_answer m t →
@@ -128,6 +128,7 @@ is_leaving (request.Revoke fd) = true
 is_leaving (request.Interrupt thread) = true
 is_leaving (request.Kill process) = true
 is_leaving request.Exit = true
+is_leaving (request.Fork child) = true
 is_leaving _ = false
 
 -- a turn whose act can leave a thread idle that is bound to a door that is not valid: an entry of leaving, and the end of a wait of

@@ -4,6 +4,7 @@ pub mod Parking
 pub mod Spares
 pub mod Stacks
 pub mod Starting
+pub mod Beginning
 pub mod WaitingLists
 pub mod Queues
 pub mod Leaving

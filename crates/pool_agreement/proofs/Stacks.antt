@@ -5,6 +5,7 @@ use Rattle.dk_base.specs.ByNumber.{at_number, with_at_number}
 use Rattle.dk_base.specs.declared.object.Item.{Item}
 use Rattle.kernel_records.specs.declared.pool.Parked.{Parked}
 use Rattle.kernel_records.specs.declared.pool.Pool.{Pool}
+use Rattle.kernel_records.specs.declared.pool.TheConstants.{LOST_DOOR}
 use Rattle.kernel_records.specs.declared.record.Thread.{Thread}
 use Rattle.kernel_records.specs.declared.record.ThreadState.{ThreadState}
 use Rattle.kernel_records.specs.declared.record.ThreadState.TheVariants as is
@@ -107,8 +108,8 @@ module _
 
   pub own_pool_there :
       HasPlaces table v.bindings doors tree.calls list.notices → (t : ℕ) (x : Thread) → thread_at table t ≡ Some x →
-      is_some (pool_at v (pool_by x.process.0 (bound_at v.bindings t))) ≡ true
-  own_pool_there places t x e = go (bound_at v.bindings t) refl
+      (bound_at v.bindings t ≡ Some LOST_DOOR → ⊥) → is_some (pool_at v (pool_by x.process.0 (bound_at v.bindings t))) ≡ true
+  own_pool_there places t x e not_lost = go (bound_at v.bindings t) refl
     where
       private_there : (o : Option Door) → is_private_in o ≡ true → is_some o ≡ true
       private_there None f = cc
@@ -116,13 +117,18 @@ module _
 
       go : (b : Option ℕ) → bound_at v.bindings t ≡ b → is_some (pool_at v (pool_by x.process.0 b)) ≡ true
       go None f = there_too v.common table.processes x.process.0 h.common (places.process_there t x e)
-      go (Some d) f = there_too v.private doors d h.private (private_there (at_number doors d) (places.bound_private t d f))
+      go (Some d) f = there_too v.private doors d h.private (private_there (at_number doors d) (places.bound_private t d f (apart (d == LOST_DOOR) refl)))
+        where
+          apart : (c : Bool) → (d == LOST_DOOR) ≡ c → (d == LOST_DOOR) ≡ false
+          apart true g = absurd (not_lost (f ∙ ap Some (grind (arith, nat_tests))))
+          apart false g = g
 
   pub agrees_park :
       HasPlaces table v.bindings doors tree.calls list.notices → (t k : ℕ) (x : Thread) (pool : Pool) → thread_at table t ≡ Some x →
       is_idle x.state ≡ false → is_dormant x.state ≡ false → n < k → pool ≡ pool_by (process_in (thread_at table t)) (bound_at v.bindings t) →
+      (bound_at v.bindings t ≡ Some LOST_DOOR → ⊥) →
       Agrees k (park_thread table t k) doors tree list (change_pool v pool (park_in (record { thread = tid t; pool = pool; since = k })))
-  agrees_park places t k x pool e idle dormant l own =
+  agrees_park places t k x pool e idle dormant l own not_lost =
       record {
         stacks = λ q. subst (λ b. IsStackOf after b k q (stack_in w q)) (sym (bindings-change_pool v pool (park_in y))) (stack q (is_pool pool q) refl);
         queues = λ q. subst (IsQueueOf doors tree.calls list.notices q) (sym (queue q (is_pool pool q) refl)) (h.queues q);
@@ -170,7 +176,7 @@ module _
       there : is_some (pool_at v pool) ≡ true
       there =
           ap (λ q. is_some (pool_at v q)) (own ∙ ap (λ o. pool_by (process_in o) (bound_at v.bindings t)) e)
-          ∙ own_pool_there places t x e
+          ∙ own_pool_there places t x e not_lost
 
       own_stack : IsStackOf after v.bindings k pool (stack_in w pool)
       own_stack =

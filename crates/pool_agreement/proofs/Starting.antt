@@ -6,9 +6,10 @@ use Rattle.kernel_records.specs.declared.pool.Parked.{Parked}
 use Rattle.kernel_records.specs.declared.pool.Pool.{Pool}
 use Rattle.kernel_records.specs.declared.pool.Pool.TheVariants.{Common, Private}
 use Rattle.kernel_records.specs.declared.record.Process.{Process}
+use Rattle.kernel_records.specs.declared.record.Thread.{Thread}
 use Rattle.kernel_records.specs.declared.record.ThreadState.{ThreadState}
 use Rattle.kernel_records.specs.declared.record.ThreadState.TheVariants as is
-use Rattle.kernel_records.specs.Words.{CallTree, NoticeList, ProcessTable, is_dormant, is_idle, new_thread, opening_state, parked_at, parked_thread, set_thread_state, start_spare, state_in, thread_at, thread_at_state}
+use Rattle.kernel_records.specs.Words.{CallTree, NoticeList, ProcessTable, is_dormant, is_idle, new_thread, parked_at, parked_thread, set_thread_state, start_spare, state_in, thread_at, thread_at_state, unborn_thread}
 use Rattle.written_kernel.specs.Types.{Door}
 use Rattle.kernel_records.proofs.Lists.{at_number-suc, is_some-at_number, numbered_past, numbered_push}
 use Rattle.written_kernel.proofs.Threads.{processes-change_thread}
@@ -149,107 +150,123 @@ module _
 
   -- a thread is made
 
-  module _ (p : ℕ) (spare : Bool) where
+  module _ (x : Thread) where
     abbrev number : ℕ
     number = length table.threads + 1
 
     abbrev with_thread : ProcessTable
-    with_thread = record table { threads = table.threads ++ new_thread number p spare ∷ [] }
+    with_thread = record table { threads = table.threads ++ x ∷ [] }
 
     at_others : (u : ℕ) → (u == number) ≡ false → thread_at with_thread u ≡ thread_at table u
-    at_others u e =
-        numbered_push table.threads (new_thread number p spare) u
-        ∙ ap (λ b. if b then Some (new_thread number p spare) else at_number table.threads u) e
+    at_others u e = numbered_push table.threads x u ∙ ap (λ b. if b then Some x else at_number table.threads u) e
 
-    at_new : thread_at with_thread number ≡ Some (new_thread number p spare)
-    at_new = numbered_push table.threads (new_thread number p spare) number ∙ grind (arith, nat_tests)
+    at_new : thread_at with_thread number ≡ Some x
+    at_new = numbered_push table.threads x number ∙ grind (arith, nat_tests)
 
     none_before : thread_at table number ≡ None
     none_before = numbered_past table.threads number (omega arith)
 
-    not_idle : (b : Bool) → is_idle (opening_state b) ≡ false
-    not_idle true = refl
-    not_idle false = refl
-
-    stacks_after : (q : Pool) → IsStackOf with_thread v.bindings n q (stack_in v q)
-    stacks_after q =
+    stacks_after : is_idle x.state ≡ false → (q : Pool) → IsStackOf with_thread v.bindings n q (stack_in v q)
+    stacks_after not_idle q =
         stack_kept number table v.bindings with_thread v.bindings n n q (stack_in v q)
         (record { others = λ u e. ap (parked_thread v.bindings u) (at_others u e) }) (h.stacks q) (le_refl n)
         (nowhere table v.bindings number q (ap (parked_thread v.bindings number) none_before))
         (nowhere with_thread v.bindings number q
-        (not_parked with_thread v.bindings number (ap (λ o. is_idle (state_in o)) at_new ∙ not_idle spare)))
+        (not_parked with_thread v.bindings number (ap (λ o. is_idle (state_in o)) at_new ∙ not_idle)))
 
     spares_after :
         (q : ℕ) → spares_among with_thread q (length with_thread.threads)
-        ≡ spares_among table q (length table.threads) ++ spare_in q number (Some (new_thread number p spare))
+        ≡ spares_among table q (length table.threads) ++ spare_in q number (Some x)
     spares_after q =
-        ap (spares_among with_thread q) (length-append table.threads (new_thread number p spare ∷ []) ∙ add-one (length table.threads))
+        ap (spares_among with_thread q) (length-append table.threads (x ∷ []) ∙ add-one (length table.threads))
         ∙ ap₂ (λ us vs. us ++ vs)
         (spares_same table with_thread q (length table.threads) (λ u l. ap (spare_in q u) (at_others u (grind (arith, nat_tests)))))
         (ap (spare_at with_thread q) (sym (add-one (length table.threads))) ∙ ap (spare_in q number) at_new)
 
+    -- one that is neither parked nor Dormant
+    agrees_active : is_idle x.state ≡ false → is_dormant x.state ≡ false → Agrees n with_thread doors tree list v
+    agrees_active not_idle not_dormant =
+        record {
+          stacks = stacks_after not_idle;
+          queues = h.queues;
+          spares =
+              λ q. h.spares q
+              ∙ sym (append-nil (spares_among table q (length table.threads)))
+              ∙ ap (λ us. spares_among table q (length table.threads) ++ us) (sym (not_spare_in q number (Some x) not_dormant))
+              ∙ sym (spares_after q);
+          calls = h.calls;
+          call_dates = h.call_dates;
+          notices = h.notices;
+          notice_dates = h.notice_dates;
+          kept = h.kept;
+          common = h.common;
+          spare_lists = h.spare_lists;
+          private = h.private;
+        }
+
+    -- one that is Dormant
+    agrees_dormant :
+        (p : ℕ) → x.process.0 ≡ p → is_dormant x.state ≡ true → is_some (at_number table.processes p) ≡ true →
+        Agrees n with_thread doors tree list (change_spares v p (with_spare number))
+    agrees_dormant p own dormant process =
+        record {
+          stacks = stacks_after (dormant_not_idle x.state dormant);
+          queues = h.queues;
+          spares = λ q. spares q (p == q) refl ∙ sym (spares_after q);
+          calls = h.calls;
+          call_dates = h.call_dates;
+          notices = h.notices;
+          notice_dates = h.notice_dates;
+          kept = h.kept;
+          common = h.common;
+          spare_lists = length-change_at_number v.spares p (with_spare number) ∙ h.spare_lists;
+          private = h.private;
+        }
+      where
+        there : is_some (at_number v.spares p) ≡ true
+        there = is_some-at_number v.spares p ∙ grind (arith, nat_tests, is_some-at_number table.processes p)
+
+        -- it is one of its process's
+        listed : (q : ℕ) (b : Bool) → (p == q) ≡ b → (if b then number ∷ [] else []) ≡ spare_in q number (Some x)
+        listed q b e =
+            ap (λ c. if c then number ∷ [] else []) (sym (and_true b))
+            ∙ ap₂ (λ c d. if c && d then number ∷ [] else []) (sym (ap (λ k. k == q) own ∙ e)) (sym dormant)
+          where
+            and_true : (c : Bool) → (c && true) ≡ c
+            and_true true = refl
+            and_true false = refl
+
+        spares :
+            (q : ℕ) (b : Bool) → (p == q) ≡ b →
+            spares_of (change_spares v p (with_spare number)) q ≡ spares_among table q (length table.threads) ++ spare_in q number (Some x)
+        spares q false e =
+            spares-change_other v p q (with_spare number) e ∙ h.spares q
+            ∙ sym (append-nil (spares_among table q (length table.threads)))
+            ∙ ap (λ us. spares_among table q (length table.threads) ++ us) (listed q false e)
+        spares q true e =
+            ap (spares_of (change_spares v p (with_spare number))) (sym (same_number p q e))
+            ∙ spares-change_same v p (with_spare number) there
+            ∙ ap (with_spare number) (h.spares p)
+            ∙ ap (λ r. spares_among table r (length table.threads) ++ number ∷ []) (same_number p q e)
+            ∙ ap (λ us. spares_among table q (length table.threads) ++ us) (listed q true e)
+
   pub agrees_thread :
       (p : ℕ) →
       Agrees n (record table { threads = table.threads ++ new_thread (length table.threads + 1) p false ∷ [] }) doors tree list v
-  agrees_thread p =
-      record {
-        stacks = stacks_after p false;
-        queues = h.queues;
-        spares =
-            λ q. h.spares q
-            ∙ sym (append-nil (spares_among table q (length table.threads)))
-            ∙ ap (λ us. spares_among table q (length table.threads) ++ us)
-            (sym (not_spare_in q (length table.threads + 1) (Some (new_thread (length table.threads + 1) p false)) refl))
-            ∙ sym (spares_after p false q);
-        calls = h.calls;
-        call_dates = h.call_dates;
-        notices = h.notices;
-        notice_dates = h.notice_dates;
-        kept = h.kept;
-        common = h.common;
-        spare_lists = h.spare_lists;
-        private = h.private;
-      }
+  agrees_thread p = agrees_active (new_thread (length table.threads + 1) p false) refl refl
 
   pub agrees_spare :
       (p : ℕ) → is_some (at_number table.processes p) ≡ true →
       Agrees n (record table { threads = table.threads ++ new_thread (length table.threads + 1) p true ∷ [] }) doors tree list
       (change_spares v p (with_spare (length table.threads + 1)))
-  agrees_spare p process =
-      record {
-        stacks = stacks_after p true;
-        queues = h.queues;
-        spares = λ q. spares q (p == q) refl ∙ sym (spares_after p true q);
-        calls = h.calls;
-        call_dates = h.call_dates;
-        notices = h.notices;
-        notice_dates = h.notice_dates;
-        kept = h.kept;
-        common = h.common;
-        spare_lists = length-change_at_number v.spares p (with_spare k) ∙ h.spare_lists;
-        private = h.private;
-      }
-    where
-      k : ℕ
-      k = length table.threads + 1
+  agrees_spare p process = agrees_dormant (new_thread (length table.threads + 1) p true) p refl refl process
 
-      there : is_some (at_number v.spares p) ≡ true
-      there = is_some-at_number v.spares p ∙ grind (arith, nat_tests, is_some-at_number table.processes p)
-
-      spares :
-          (q : ℕ) (b : Bool) → (p == q) ≡ b →
-          spares_of (change_spares v p (with_spare k)) q
-          ≡ spares_among table q (length table.threads) ++ spare_in q k (Some (new_thread k p true))
-      spares q false e =
-          spares-change_other v p q (with_spare k) e ∙ h.spares q
-          ∙ sym (append-nil (spares_among table q (length table.threads)))
-          ∙ ap (λ b. spares_among table q (length table.threads) ++ (if b && true then k ∷ [] else [])) (sym e)
-      spares q true e =
-          ap (spares_of (change_spares v p (with_spare k))) (sym (same_number p q e))
-          ∙ spares-change_same v p (with_spare k) there
-          ∙ ap (with_spare k) (h.spares p)
-          ∙ ap (λ r. spares_among table r (length table.threads) ++ k ∷ []) (same_number p q e)
-          ∙ ap (λ b. spares_among table q (length table.threads) ++ (if b && true then k ∷ [] else [])) (sym e)
+  -- of a process that has not begun, where each is Dormant, whether or not it is a spare
+  pub agrees_unborn :
+      (p : ℕ) (spare : Bool) → is_some (at_number table.processes p) ≡ true →
+      Agrees n (record table { threads = table.threads ++ unborn_thread (length table.threads + 1) p spare ∷ [] }) doors tree list
+      (change_spares v p (with_spare (length table.threads + 1)))
+  agrees_unborn p spare process = agrees_dormant (unborn_thread (length table.threads + 1) p spare) p refl refl process
 
 -- no process, no door, no call and no notice
 

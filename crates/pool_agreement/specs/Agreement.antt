@@ -1,9 +1,12 @@
 -- What server pools hold, and what the records of threads, doors, calls and notices say of it. The pools are redundant: each is found
 -- by a search of the records, which the pools save.
-use Rattle.std.specs.Prelude.{ℕ, ◌≡◌, ◌≤◌, ◌++◌, ◌==◌, ◌&&◌, ◌||◌, not, nat_lt, List, [], ◌∷◌, Option, Bool, true, Some, None, filter, if◌then◌else◌, is_some, length, map, slice_get, suc, zero}
+use Rattle.std.specs.Prelude.{ℕ, ◌≡◌, ◌≤◌, ◌++◌, ◌==◌, ◌&&◌, ◌||◌, not, nat_lt, List, [], ◌∷◌, Option, Bool, false, true, Some, None, filter, if◌then◌else◌, is_some, length, map, slice_get, suc, zero}
 use Rattle.std.specs.List.{AllByRecursion}
 use Rattle.dk_base.specs.ByNumber.{at_number}
 use Rattle.written_kernel.specs.Types.{Call, Door, Notice, Parked, Pool, Thread, Waiting}
+use Rattle.dk_base.specs.declared.number.Tid.{Tid}
+use Rattle.kernel_records.specs.declared.pool.TheConstants.{LOST_DOOR}
+use Rattle.kernel_records.specs.declared.record.CallStage.TheVariants as stage
 use Rattle.kernel_records.specs.Words.{CallTree, IsAscending, NoticeList, ProcessTable, bound_at, call_number, is_kept_notice, is_owned_by, is_pool, is_private_in, is_queued, is_queued_in, is_spare_of, is_valid_door, is_waiting_stage, notice_number, parked_at, pool_in, process_in, thread_at, waiting_call, waiting_notice}
 use Rattle.server_pool.specs.Words.{IsOrderedBy, IsStack, PoolsValue, is_waiting_call, queue_in, spares_of, stack_in}
 
@@ -107,14 +110,17 @@ pub record Agrees (latest : ℕ) (table : ProcessTable) (doors : List Door) (tre
   pub private : length pools.private ≡ length doors
 
 -- What the invariant says of the records, as far as pools need it: threads and doors have the numbers of their places; the
--- processes of threads and of valid doors, the doors to which threads are bound, and those of waiting calls and of notices are there.
+-- processes of threads and of valid doors, the doors to which threads are bound, but for the one that is lost, and those of waiting
+-- calls and of notices are there. A thread that was given a call is not bound to the lost door.
 pub record HasPlaces (table : ProcessTable) (bindings : List (Option ℕ)) (doors : List Door) (calls : List Call) (notices : List Notice) : Type 0 where
   pub thread_number : (t : ℕ) (x : Thread) → thread_at table t ≡ Some x → x.number ≡ t
   pub process_there : (t : ℕ) (x : Thread) → thread_at table t ≡ Some x → is_some (at_number table.processes x.process.0) ≡ true
   pub owner_there :
       (d : ℕ) (x : Door) → at_number doors d ≡ Some x → is_valid_door x ≡ true → is_some (at_number table.processes x.owner.0) ≡ true
   pub door_number : (d : ℕ) (x : Door) → at_number doors d ≡ Some x → x.number ≡ d
-  pub bound_private : (t d : ℕ) → bound_at bindings t ≡ Some d → is_private_in (at_number doors d) ≡ true
-  pub bound_own : (t d : ℕ) → bound_at bindings t ≡ Some d → is_owned_by (process_in (thread_at table t)) (at_number doors d) ≡ true
+  pub bound_private : (t d : ℕ) → bound_at bindings t ≡ Some d → (d == LOST_DOOR) ≡ false → is_private_in (at_number doors d) ≡ true
+  pub bound_own :
+      (t d : ℕ) → bound_at bindings t ≡ Some d → (d == LOST_DOOR) ≡ false → is_owned_by (process_in (thread_at table t)) (at_number doors d) ≡ true
+  pub given_not_lost : (i : ℕ) (r : Call) (u : Tid) → slice_get calls i ≡ Some r → r.stage ≡ stage.Given u → bound_at bindings u.0 ≡ Some LOST_DOOR → ⊥
   pub queued_door : (i : ℕ) (r : Call) → slice_get calls i ≡ Some r → is_queued r.stage ≡ true → is_some (at_number doors r.door) ≡ true
   pub notice_door : (i : ℕ) (n : Notice) → slice_get notices i ≡ Some n → is_some (at_number doors n.door) ≡ true

@@ -19,7 +19,8 @@ IsGivenOut pools = (pool : Pool) → IsGivenOutIn pools pool
 abbrev pub IsGivenOutBut : Pool → PoolsValue → Type 0
 IsGivenOutBut touched pools = (pool : Pool) → is_pool touched pool ≡ false → IsGivenOutIn pools pool
 
--- the pool in which a thread of a process parks that is bound to a door, or to none
+-- the pool in which a thread of a process parks that is bound to a door, or to none; of the door that is lost there is no pool, and no
+-- thread parks that is bound to it
 abbrev pub pool_by : ℕ → Option ℕ → Pool
 pool_by p None = Common (pid p)
 pool_by p (Some d) = Private d
