@@ -10,9 +10,8 @@ use Rattle.kernel_records.specs.Words.{CallTree, call_number, is_live, is_live_c
 use Rattle.kernel_records.proofs.NumberedLists.{find-as, find-passes}
 use Rattle.written_kernel.specs.Types.{Call, Item}
 use Rattle.server_pool.specs.Words.{is_item}
-use Rattle.call_tree.specs.Words.{AreLive, AreSound, LeftSoFar, PartsOfLeaving, abandon_call, and_one, call_so_far, calls_so_far, is_call, is_called_by, lose_server, nothing_left, refuse_call}
+use Rattle.call_tree.specs.Words.{AreLive, AreSound, LeftSoFar, PartsOfLeaving, abandon_call, and_one, call_so_far, calls_so_far, is_call, lose_server, nothing_left, refuse_call}
 use Rattle.call_tree.specs.declared.parts.Leave.TheVariants.{Finished}
-use Rattle.call_tree.proofs.Keys.{queued_is}
 use Rattle.pool_agreement.proofs.Readers.{same_number}
 use Rattle.pool_agreement.proofs.WaitingLists.{both_true}
 use Rattle.exit_paths.specs.Words.{AreRefused, HaveEnded, all_left, refused_caller, refused_item}

@@ -122,7 +122,7 @@ module _ (doors : List Door) (tree : CallTree) (notices : List Notice) (sound : 
         none true = refl
         none false = refl
 
-    one_among : (n : ℕ) → 0 < r.caller.0 → r.caller.0 ≤ n → is_call_of_any doors tree.calls test n q (waiting_call r) ≡ test r.caller.0
+    pub one_among : (n : ℕ) → 0 < r.caller.0 → r.caller.0 ≤ n → is_call_of_any doors tree.calls test n q (waiting_call r) ≡ test r.caller.0
     one_among zero p l = absurd (omega arith)
     one_among (suc n) p l = ⊎_elim here_is (λ m. before m (one_among n p (omega arith))) (eq-or-lt_of_le l)
       where
@@ -153,7 +153,7 @@ module _ (doors : List Door) (tree : CallTree) (notices : List Notice) (sound : 
             ap₂ (λ a b. a || (test (suc n) && b)) ih (one_caller (suc n) ∙ apart r.caller.0 (suc n) m)
             ∙ none (test r.caller.0) (test (suc n))
 
-  no_notice : (x : Notice) (n : ℕ) → is_call_of_any doors tree.calls test n q (waiting_notice x) ≡ false
+  pub no_notice : (x : Notice) (n : ℕ) → is_call_of_any doors tree.calls test n q (waiting_notice x) ≡ false
   no_notice x zero = refl
   no_notice x (suc n) = ap₂ (λ a b. a || (test (suc n) && b)) (no_notice x n) (go (find (is_called_by (suc n)) tree.calls)) ∙ none (test (suc n))
     where

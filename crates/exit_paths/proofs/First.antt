@@ -43,8 +43,9 @@ can_exit_first calls e =
             process_there = λ t x f. absurd (nothing_at t x f);
             owner_there = λ d x f v. absurd (nothing_at d x f);
             door_number = λ d x f. absurd (nothing_at d x f);
-            bound_private = λ t d f. absurd (unbound THREADS_MAX t d f);
-            bound_own = λ t d f. absurd (unbound THREADS_MAX t d f);
+            bound_private = λ t d f g. absurd (unbound THREADS_MAX t d f);
+            bound_own = λ t d f g. absurd (unbound THREADS_MAX t d f);
+            given_not_lost = λ i r u f g. cc;
             queued_door = λ i r f q. cc;
             notice_door = λ i n f. cc;
           });

@@ -4,7 +4,7 @@ use Rattle.std.proofs.Math.Path.{fun_ext}
 use Rattle.std.proofs.lemmas.Bool.Decides.{nat_tests}
 use Rattle.dk_base.specs.ByNumber.{at_number}
 use Rattle.kernel_records.specs.declared.leaving.Leaver.{Leaver}
-use Rattle.kernel_records.specs.declared.leaving.Leaver.TheVariants.{Interrupted, Ended, EndedProcess, Revoked}
+use Rattle.kernel_records.specs.declared.leaving.Leaver.TheVariants.{Interrupted, Ended, EndedProcess, Revoked, Forked}
 use Rattle.kernel_records.specs.declared.record.CallStage.TheVariants as stage
 use Rattle.kernel_records.specs.Words.{CallTree, Leaving, NoticeList, ProcessTable, bound_at, cancelled_thread, change_thread, deserted_at, deserted_in, ended_thread, interrupted_where, is_left, is_owned_by, is_served_by, leaving_of, left_thread_of, left_threads, parked_at, parked_thread, process_in, thread_at, tid}
 use Rattle.written_kernel.specs.Types.{Call, CallStage, Door, Parked, Pool, Thread}
@@ -16,7 +16,7 @@ use Rattle.pool_agreement.specs.Words.{Agrees, IsParkedIn, pool_by}
 use Rattle.pool_agreement.proofs.Parked.{all_in}
 use Rattle.pool_agreement.proofs.Readers.{same_number}
 use Rattle.pool_agreement.proofs.Stacks.{length-change_thread, thread_elsewhere, thread_there}
-use Rattle.exit_paths.specs.Words.{own_pool_in}
+use Rattle.exit_paths.specs.Words.{own_pool_in, with_interrupted}
 
 -- each thread keeps its process
 
@@ -51,17 +51,21 @@ left_process who now calls x = ended (who.ends x.number)
     ended false =
         served (find (is_served_by x.number) calls) (interrupted_where (who.interrupts x.number) x) ∙ interrupted (who.interrupts x.number)
 
--- who leaves is the same as long as processes are the same
-leaving_same :
-    (a b : ProcessTable) (doors : List Door) (who : Leaver) → ((u : ℕ) → process_in (thread_at a u) ≡ process_in (thread_at b u)) →
-    leaving_of a doors who ≡ leaving_of b doors who
-leaving_same a b doors (Interrupted t) h = refl
-leaving_same a b doors (Ended t) h = refl
-leaving_same a b doors (EndedProcess p) h =
+-- who leaves is the same as long as processes are the same, and those that are interrupted were told apart before
+interrupting_same :
+    (a b : ProcessTable) (doors : List Door) (who : Leaver) (f : ℕ → Bool) → ((u : ℕ) → process_in (thread_at a u) ≡ process_in (thread_at b u)) →
+    with_interrupted f (leaving_of a doors who) ≡ with_interrupted f (leaving_of b doors who)
+interrupting_same a b doors (Interrupted t) f h = refl
+interrupting_same a b doors (Ended t) f h = refl
+interrupting_same a b doors (EndedProcess p) f h =
     ap
-    (λ (f : ℕ → Bool). record { ends = f; interrupts = λ u. false; loses = λ d. is_owned_by p.0 (at_number doors d) })
+    (λ (g : ℕ → Bool). record { ends = g; interrupts = f; loses = λ d. is_owned_by p.0 (at_number doors d) })
     (fun_ext (λ u. ap (λ k. k == p.0) (h u)))
-leaving_same a b doors (Revoked d) h = refl
+interrupting_same a b doors (Revoked d) f h = refl
+interrupting_same a b doors (Forked t) f h = refl
+
+pub interrupting_as : (who : Leaving) (f : ℕ → Bool) → ((u : ℕ) → f u ≡ who.interrupts u) → with_interrupted f who ≡ who
+interrupting_as who f same = ap (λ (g : ℕ → Bool). with_interrupted g who) (fun_ext same)
 
 -- the threads 1 to i have met their fates
 pub record HasLeft (who : Leaving) (now : ℕ) (calls : List Call) (i : ℕ) (before after : ProcessTable) : Type 0 where
@@ -185,12 +189,12 @@ module _
 
 -- the fate of the next thread, by the processes as they are now
 pub fate_now :
-    {now : ℕ} {calls : List Call} {i : ℕ} {before after : ProcessTable} (doors : List Door) (who : Leaver) →
-    HasLeft (leaving_of before doors who) now calls i before after → (f : Thread → Thread) (t : ℕ) →
-    ((x : Thread) → x.number ≡ t → left_thread_of (leaving_of after doors who) now calls x ≡ f x) →
+    {now : ℕ} {calls : List Call} {i : ℕ} {before after : ProcessTable} (doors : List Door) (who : Leaver) (interrupted : ℕ → Bool) →
+    HasLeft (leaving_of before doors who) now calls i before after → with_interrupted interrupted (leaving_of before doors who) ≡ leaving_of before doors who →
+    (f : Thread → Thread) (t : ℕ) → ((x : Thread) → x.number ≡ t → left_thread_of (with_interrupted interrupted (leaving_of after doors who)) now calls x ≡ f x) →
     (x : Thread) → x.number ≡ t → left_thread_of (leaving_of before doors who) now calls x ≡ f x
-fate_now {now} {calls} {i} {before} {after} doors who h f t fate x e =
-    ap (λ l. left_thread_of l now calls x) (sym (leaving_same after before doors who (same_process h))) ∙ fate x e
+fate_now {now} {calls} {i} {before} {after} doors who interrupted h as_told f t fate x e =
+    ap (λ l. left_thread_of l now calls x) (sym as_told ∙ sym (interrupting_same after before doors who interrupted (same_process h))) ∙ fate x e
 
 -- and after all of them
 
@@ -201,9 +205,3 @@ process_kept l now calls table t = ap process_in (at_number-map (left_thread_of 
     go : (o : Option Thread) → process_in (option_map (left_thread_of l now calls) o) ≡ process_in o
     go None = refl
     go (Some x) = left_process l now calls x
-
-pub leaving_after :
-    (table : ProcessTable) (doors : List Door) (who : Leaver) (l : Leaving) (now : ℕ) (calls : List Call) →
-    leaving_of (left_threads l now calls table) doors who ≡ leaving_of table doors who
-leaving_after table doors who l now calls =
-    leaving_same (left_threads l now calls table) table doors who (process_kept l now calls table)

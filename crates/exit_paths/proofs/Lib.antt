@@ -9,6 +9,7 @@ mod CallersLeft
 mod Exited
 mod CallsSoFar
 mod DoorsLost
+mod ForkLeft
 mod Untaken
 mod Unmoved
 mod Alone

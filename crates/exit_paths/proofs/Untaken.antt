@@ -207,7 +207,7 @@ module _ {n : ℕ} {table : ProcessTable} {doors : List Door} {tree : CallTree} 
 
 -- a call waits at a door as its record says
 
-found_place : {X : Type 0} (p : X → Bool) (xs : List X) (x : X) → find p xs ≡ Some x → (i : ℕ) × (slice_get xs i ≡ Some x)
+pub found_place : {X : Type 0} (p : X → Bool) (xs : List X) (x : X) → find p xs ≡ Some x → (i : ℕ) × (slice_get xs i ≡ Some x)
 found_place p [] x e = cc
 found_place p (y ∷ ys) x e = go (p y) e (λ k. found_place p ys x k)
   where

@@ -150,7 +150,7 @@ all_walked_ended {refused} {tree} {now} {n} set table p h is end =
 -- items that leave with their callers
 
 module _ (doors : List Door) (calls : List Call) (q : Pool) (w : Waiting) where
-  any_beyond : (test : ℕ → Bool) (n m : ℕ) → n ≤ m → ((u : ℕ) → n < u → u ≤ m → test u ≡ false) → is_call_of_any doors calls test m q w ≡ is_call_of_any doors calls test n q w
+  pub any_beyond : (test : ℕ → Bool) (n m : ℕ) → n ≤ m → ((u : ℕ) → n < u → u ≤ m → test u ≡ false) → is_call_of_any doors calls test m q w ≡ is_call_of_any doors calls test n q w
   any_beyond test n zero l none = ap (λ k. is_call_of_any doors calls test k q w) (sym zero_is)
     where
       zero_is : n ≡ 0
@@ -218,6 +218,31 @@ left_skipped {who} {now} {calls} {i} {before} {after} h j l same =
     stays u None e f = e ∙ sym (ap (option_map (left_thread_of who now calls)) e)
     stays u (Some x) e f = e ∙ sym (ap Some (f x e)) ∙ sym (ap (option_map (left_thread_of who now calls)) e)
 
+-- a thread that was not touched stays as it is where the caller of the call that it serves leaves
+pub untouched :
+    (touched : ThreadSet) (table : ProcessTable) (tree : CallTree) → AreSound tree → (now t : ℕ) (x : Thread) → x.number ≡ t → has touched t ≡ false →
+    thread_at table t ≡ Some x → (r : Call) → find (is_served_by x.number) tree.calls ≡ Some r →
+    IfSome (deserted_in_call (find (is_called_by r.caller.0) tree.calls)) (λ d. is_some (thread_at table d.server.0) ≡ true → has touched d.server.0 ≡ true) →
+    deserted_at now r.no_cancel r.stage x ≡ x
+untouched touched table tree sound now t x n e there r f server =
+    touches r.stage r.no_cancel (find-passes (is_served_by x.number) tree.calls r f)
+    (subst (λ o. IfSome (deserted_in_call o) (λ d. is_some (thread_at table d.server.0) ≡ true → has touched d.server.0 ≡ true)) (sound.caller (is_served_by x.number) r f) server)
+  where
+    touches : (s : CallStage) (b : Bool) → (not r.abandoned && (is_given_to x.number s || is_entered_by x.number s)) ≡ true → IfSome (deserted_at_stage b s) (λ d. is_some (thread_at table d.server.0) ≡ true → has touched d.server.0 ≡ true) → deserted_at now b s x ≡ x
+    touches (stage.Given u) b g h =
+        let k : u.0 ≡ x.number = same_number u.0 x.number (given (not r.abandoned) (u.0 == x.number) g) in
+        absurd (clash (has touched t) (subst (λ v. has touched v ≡ true) (k ∙ n) (h (ap (λ v. is_some (thread_at table v)) (k ∙ n) ∙ ap is_some there))) e)
+      where
+        given : (a c : Bool) → (a && (c || false)) ≡ true → c ≡ true
+        given true true m = refl
+        given true false m = cc
+        given false c m = cc
+    touches (stage.Entered u) true g h = refl
+    touches (stage.Entered u) false g h =
+        let k : u.0 ≡ x.number = same_number u.0 x.number (both_true (not r.abandoned) (u.0 == x.number) g).1 in
+        absurd (clash (has touched t) (subst (λ v. has touched v ≡ true) (k ∙ n) (h (ap (λ v. is_some (thread_at table v)) (k ∙ n) ∙ ap is_some there))) e)
+    touches _ b g h = refl
+
 -- which may change where a process ends
 
 module _
@@ -243,31 +268,11 @@ module _
       served None f = refl
       served (Some r) f = left (is_thread_of table p r.caller.0) refl
         where
-          serves : is_served_by x.number r ≡ true
-          serves = find-passes (is_served_by x.number) tree.calls r f
-
-          touches : (s : CallStage) (b : Bool) → (not r.abandoned && (is_given_to x.number s || is_entered_by x.number s)) ≡ true → IfSome (deserted_at_stage b s) (λ d. is_some (thread_at table d.server.0) ≡ true → has touched d.server.0 ≡ true) → deserted_at now b s x ≡ x
-          touches (stage.Given u) b g h =
-              let k : u.0 ≡ x.number = same_number u.0 x.number (given (not r.abandoned) (u.0 == x.number) g) in
-              absurd (clash (has touched t) (subst (λ v. has touched v ≡ true) (k ∙ n) (h (ap (λ v. is_some (thread_at table v)) (k ∙ n) ∙ ap is_some there))) e)
-            where
-              given : (a c : Bool) → (a && (c || false)) ≡ true → c ≡ true
-              given true true m = refl
-              given true false m = cc
-              given false c m = cc
-          touches (stage.Entered u) true g h = refl
-          touches (stage.Entered u) false g h =
-              let k : u.0 ≡ x.number = same_number u.0 x.number (both_true (not r.abandoned) (u.0 == x.number) g).1 in
-              absurd (clash (has touched t) (subst (λ v. has touched v ≡ true) (k ∙ n) (h (ap (λ v. is_some (thread_at table v)) (k ∙ n) ∙ ap is_some there))) e)
-          touches _ b g h = refl
-
           left : (b : Bool) → is_thread_of table p r.caller.0 ≡ b → deserted_in (process_end table doors p) now (Some r) x ≡ x
           left false f2 = ap (λ b. if b || false then deserted_at now r.no_cancel r.stage x else x) f2
           left true f2 =
               ap (λ b. if b || false then deserted_at now r.no_cancel r.stage x else x) f2
-              ∙ touches r.stage r.no_cancel serves
-              (subst (λ o. IfSome (deserted_in_call o) (λ d. is_some (thread_at table d.server.0) ≡ true → has touched d.server.0 ≡ true)) (sound.caller (is_served_by x.number) r f)
-              (servers r.caller.0 (of_process r.caller.0 f2)))
+              ∙ untouched touched table tree sound now t x n e there r f (servers r.caller.0 (of_process r.caller.0 f2))
 
       by_end : (b : Bool) → is_thread_of table p x.number ≡ b → left_thread_of (process_end table doors p) now tree.calls x ≡ x
       by_end true f = absurd (clash (has touched t) (own t (of_process t (subst (λ k. is_thread_of table p k ≡ true) n f))) e)

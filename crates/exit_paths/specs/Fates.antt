@@ -1,7 +1,8 @@
 -- What becomes of a thread where callers are interrupted or end, and threads end, as decided for it.
-use Rattle.std.specs.Prelude.{ℕ, Bool, Option, Some, None, if◌then◌else◌}
+use Rattle.std.specs.Prelude.{ℕ, Bool, false, true, List, Option, Some, None, if◌then◌else◌, find}
 use Rattle.kernel_records.specs.declared.record.CallStage.TheVariants as stage
-use Rattle.kernel_records.specs.Words.{ProcessTable, cancelled_thread, change_thread, ended_thread, idle_thread, interrupted_where}
+use Rattle.kernel_records.specs.Words.{Leaving, ProcessTable, cancelled_thread, change_thread, ended_thread, idle_thread, interrupted_where, is_served_by}
+use Rattle.call_tree.specs.Words.{is_given}
 use Rattle.written_kernel.specs.Types.{Call, CallStage, Thread}
 use Rattle.exit_paths.specs.declared.fates.Desertion.{Desertion}
 use Rattle.exit_paths.specs.declared.fates.Desertion.TheVariants.{Stays, Parks, IsCancelled}
@@ -13,6 +14,12 @@ abbrev pub deserted_as : ℕ → Desertion → Thread → Thread
 deserted_as now Stays x = x
 deserted_as now Parks x = idle_thread now x
 deserted_as now IsCancelled x = cancelled_thread x
+
+-- it is parked again
+abbrev pub parks_again : Desertion → Bool
+parks_again Stays = false
+parks_again Parks = true
+parks_again IsCancelled = false
 
 abbrev pub fated : ℕ → Fate → Thread → Thread
 fated now fate x = if fate.ends then ended_thread x else deserted_as now fate.desertion (interrupted_where fate.interrupted x)
@@ -42,3 +49,15 @@ parked_of (Some d) t = d.server.0
 abbrev pub woken_of : Option ℕ → ℕ → ℕ
 woken_of None t = t
 woken_of (Some c) t = c
+
+-- who leaves, with the callers that are interrupted as they were told apart before the first change
+abbrev pub with_interrupted : (ℕ → Bool) → Leaving → Leaving
+with_interrupted interrupted who = record who { interrupts = interrupted }
+
+-- the call that a thread serves was given to it, and is not entered
+abbrev pub is_given_in : Option Call → Bool
+is_given_in None = false
+is_given_in (Some r) = is_given r.stage
+
+abbrev pub serves_given : List Call → ℕ → Bool
+serves_given calls t = is_given_in (find (is_served_by t) calls)

@@ -1,17 +1,17 @@
-//! The four exit paths.
+//! The exit paths.
 ghost use Rattle.std.specs.Prelude.{◌≡◌, ◌≤◌, ℕ, IfOk, OnErr, is_some, true};
 ghost use Rattle.dk_base.specs.ByNumber.{at_number};
-ghost use Rattle.kernel_records.specs.Words.{interruption, process_end, revocation, thread_end};
+ghost use Rattle.kernel_records.specs.Words.{forking, interruption, process_end, revocation, thread_end};
 ghost use Rattle.exit_paths.specs.Words.{AreLost, CanExit, HasExited, IsAsBefore, in_transit};
 
 use crate::calls::{end_all, end_caller, end_server, leave_call, refuse_lost};
 use crate::fates::{
-    are_few, desert_server, deserted_by, end_thread, leave_threads, make_room, parked_of,
-    room_for_server, touched_by, woken_of,
+    are_few, desert_server, deserted_by, end_thread, fellow_callers, leave_threads, make_room,
+    parked_of, room_for_server, servers_of, touched_by, woken_of,
 };
 use crate::left::Left;
 use crate::marks::{has_turned, is_idle_thread, list_new, list_one, room_for_all, room_for_one};
-use crate::queues::{drop_doors, room_for_items, withdraw_all, withdraw_caller};
+use crate::queues::{drop_doors, room_for_items, withdraw_all, withdraw_caller, withdraw_callers};
 use call_tree::calls::Calls;
 use call_tree::laws::parts_of_leaving;
 use call_tree::parts::Leave;
@@ -19,10 +19,12 @@ use dk_base::error::NoMemory;
 use dk_base::list::{ItemList, Room, TidList};
 use dk_base::number::{Pid, Tid};
 use door_object::doors::Doors;
+use fork_step::forking::fork_calls;
 use kernel_records::leaving::Leaver;
 use proc_table::procs::Procs;
 use server_pool::pools::Pools;
 use std::alloc::Global;
+use thread_set::set::ThreadSet;
 
 /// A thread is interrupted: its call ends EINTR, unless it was returned or has ended, and its wait for the events of a port is marked.
 /// The thread that was given the call is parked again; the one that is in it is told so by its flag, unless the call's door has
@@ -60,6 +62,63 @@ pub fn interrupt(
         dropped,
         parked: list_one(parked, server, parks),
         woken: list_one(woken, t, wakes),
+        untaken: ItemList::new(alloc),
+    })
+}
+
+/// A thread forks: the calls of the other threads of its process end EINTR, each as for `interrupt`. At most `carried` objects are in
+/// transit with calls. Want of memory leaves all as it was.
+pub fn fork_exit(
+    alloc: Global,
+    procs: &mut Procs,
+    calls: &mut Calls,
+    pools: &mut Pools,
+    doors: &Doors,
+    t: Tid,
+    step: u64,
+    carried: usize,
+) -> Result<Left, NoMemory>
+    requires can { CanExit step doors.now.items (record { procs = procs.old; calls = calls.old; pools = pools.old }) }
+    requires carried { in_transit calls.old.tree.calls ≤ carried }
+    ensures left { IfOk result (HasExited (forking procs.old t.0) step doors.now.items (record { procs = procs.old; calls = calls.old; pools = pools.old }) (record { procs = procs.new; calls = calls.new; pools = pools.new })) }
+    ensures as_before { OnErr result (IsAsBefore (record { procs = procs.old; calls = calls.old; pools = pools.old }) (record { procs = procs.new; calls = calls.new; pools = pools.new })) }
+{
+    calls.are_sound();
+    are_few(procs);
+    parts_of_leaving();
+    let callers = fellow_callers(procs, t);
+    let touched = servers_of(procs, calls, callers);
+    make_room(pools, procs, touched)?;
+    let parked = room_for_all(alloc)?;
+    let woken = room_for_all(alloc)?;
+    let mut given = room_for_all(alloc)?;
+    let mut cancelled = room_for_all(alloc)?;
+    let mut those = room_for_all(alloc)?;
+    let mut dropped = Room::with_room(alloc, carried)?;
+    let was_idle = procs.idle();
+    let was_ready = calls.collecting();
+    callers.list(&mut those);
+    withdraw_callers(pools, doors, calls, callers);
+    leave_threads(
+        procs,
+        pools,
+        Leaver::Forked { thread: t },
+        callers,
+        calls,
+        touched,
+        step,
+    );
+    fork_calls(
+        calls,
+        &those.into_list(),
+        &mut dropped,
+        &mut given,
+        &mut cancelled,
+    );
+    Ok(Left {
+        dropped: dropped.into_list(),
+        parked: list_new(parked, was_idle, procs.idle()),
+        woken: list_new(woken, was_ready, calls.collecting()),
         untaken: ItemList::new(alloc),
     })
 }
@@ -143,7 +202,7 @@ pub fn proc_exit(
     let who = Leaver::EndedProcess { process: p };
     drop_doors(pools, doors, lost, &mut untaken);
     withdraw_all(pools, doors, calls, procs, p);
-    leave_threads(procs, pools, who, calls, touched, step);
+    leave_threads(procs, pools, who, ThreadSet::new(), calls, touched, step);
     refuse_lost(calls, doors, who, untaken.slice(), &mut dropped);
     end_all(alloc, calls, procs, p, &mut dropped);
     Ok(Left {

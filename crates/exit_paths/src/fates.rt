@@ -1,16 +1,16 @@
 //! What becomes of threads and of their pools where callers are interrupted, threads end and doors are lost.
 ghost use Rattle.std.specs.Prelude.{◌≡◌, ℕ, ◌+◌, ◌<◌, ◌≤◌, List, IfSome, OnOk, false, true, find, is_some, length};
 ghost use Rattle.dk_base.specs.declared.limits.TheConstants.{THREADS_MAX};
-ghost use Rattle.kernel_records.specs.Words.{CallTree, NoticeList, change_thread, deserted_in, end_thread, interrupted_where, is_served_by, leaving_of, left_thread_of, left_threads, parked_at, park_thread, thread_at};
+ghost use Rattle.kernel_records.specs.Words.{CallTree, NoticeList, change_thread, deserted_in, end_thread, interrupted_where, is_fellow_caller, is_served_by, leaving_of, left_thread_of, left_threads, parked_at, park_thread, thread_at};
 ghost use Rattle.written_kernel.specs.Types.{Door, Parked, Pool, Thread};
 ghost use Rattle.server_pool.specs.Words.{AllParkedBefore, pool_at, stack_in, thread_room_in};
 ghost use Rattle.call_tree.specs.Words.{caller_among, is_called_by};
 ghost use Rattle.pool_agreement.specs.Words.{Agrees, AgreesSomehow};
 ghost use Rattle.proc_table.specs.Words.{is_of};
 ghost use Rattle.thread_set.specs.Words.{has};
-ghost use Rattle.exit_paths.specs.Words.{CanParkAgain, HasNoLessRoom, HoldsSame, KeepsItems, deserted_as, deserted_in_call, fated, own_pool_in, parked_of, with_deserted, woken_of};
+ghost use Rattle.exit_paths.specs.Words.{CanParkAgain, HasNoLessRoom, HoldsSame, KeepsItems, deserted_as, deserted_in_call, fated, own_pool_in, parked_of, parks_again, serves_given, with_deserted, with_interrupted, woken_of};
 
-use crate::who_leaves::{ends, interrupts, own_pool};
+use crate::who_leaves::{ends, own_pool};
 use call_tree::calls::Calls;
 use dk_base::error::NoMemory;
 use dk_base::number::{Pid, Tid};
@@ -44,13 +44,20 @@ struct Fate {
 
 /// What the caller of a thread's call leaves it at: parked again where it was given the call, with the flag of its invocation set
 /// where it has entered the call, unless the call's door has DOOR_NO_CANCEL (door_create(3C)).
-fn desertion_of(who: Leaver, processes: &Procs, calls: &Calls, t: Tid) -> Desertion
-    ensures { (doors : List Door) (now : ℕ) (x : Thread) → deserted_in (leaving_of processes.now doors who) now (find (is_served_by t.0) calls.now.tree.calls) x ≡ deserted_as now result x }
+fn desertion_of(
+    who: Leaver,
+    interrupted: ThreadSet,
+    processes: &Procs,
+    calls: &Calls,
+    t: Tid,
+) -> Desertion
+    ensures left { (doors : List Door) (now : ℕ) (x : Thread) → deserted_in (with_interrupted (has interrupted) (leaving_of processes.now doors who)) now (find (is_served_by t.0) calls.now.tree.calls) x ≡ deserted_as now result x }
+    ensures parks { parks_again result ≡ true → serves_given calls.now.tree.calls t.0 ≡ true }
 {
     let Some(call) = calls.served_by(t) else {
         return Desertion::Stays;
     };
-    if !ends(who, processes, call.caller) && !interrupts(who, call.caller) {
+    if !ends(who, processes, call.caller) && !interrupted.has(call.caller) {
         return Desertion::Stays;
     }
     match call.stage {
@@ -61,13 +68,14 @@ fn desertion_of(who: Leaver, processes: &Procs, calls: &Calls, t: Tid) -> Desert
 }
 
 /// What becomes of a thread, as long as the calls and the processes of threads are as they were.
-fn fate_of(who: Leaver, processes: &Procs, calls: &Calls, t: Tid) -> Fate
-    ensures { (doors : List Door) (now : ℕ) (x : Thread) → x.number ≡ t.0 → left_thread_of (leaving_of processes.now doors who) now calls.now.tree.calls x ≡ fated now result x }
+fn fate_of(who: Leaver, interrupted: ThreadSet, processes: &Procs, calls: &Calls, t: Tid) -> Fate
+    ensures fate { (doors : List Door) (now : ℕ) (x : Thread) → x.number ≡ t.0 → left_thread_of (with_interrupted (has interrupted) (leaving_of processes.now doors who)) now calls.now.tree.calls x ≡ fated now result x }
+    ensures parks { parks_again result.desertion ≡ true → serves_given calls.now.tree.calls t.0 ≡ true }
 {
     Fate {
         ends: ends(who, processes, t),
-        interrupted: interrupts(who, t),
-        desertion: desertion_of(who, processes, calls, t),
+        interrupted: interrupted.has(t),
+        desertion: desertion_of(who, interrupted, processes, calls, t),
     }
 }
 
@@ -115,7 +123,7 @@ fn park_again(processes: &mut Procs, pools: &mut Pools, t: Tid, since: u64)
 
 /// A thread that is there goes on as its caller has left it.
 fn desert(processes: &mut Procs, pools: &mut Pools, t: Tid, desertion: Desertion, now: u64)
-    requires { CanParkAgain processes.old pools.old t.0 now }
+    requires { parks_again desertion ≡ true → CanParkAgain processes.old pools.old t.0 now }
     ensures thread { processes.new ≡ change_thread processes.old t.0 (deserted_as now desertion) }
     ensures agreed { (doors : List Door) (tree : CallTree) (list : NoticeList) → Agrees now processes.old doors tree list pools.old → Agrees now processes.new doors tree list pools.new }
     ensures keeps { KeepsItems pools.old pools.new }
@@ -139,7 +147,7 @@ fn interrupt_where(processes: &mut Procs, t: Tid, interrupted: bool)
 
 /// One thread that is there meets its fate.
 fn leave_thread(processes: &mut Procs, pools: &mut Pools, t: Tid, fate: Fate, now: u64)
-    requires { CanParkAgain processes.old pools.old t.0 now }
+    requires { parks_again fate.desertion ≡ true → CanParkAgain processes.old pools.old t.0 now }
     ensures thread { processes.new ≡ change_thread processes.old t.0 (fated now fate) }
     ensures agreed { (doors : List Door) (tree : CallTree) (list : NoticeList) → Agrees now processes.old doors tree list pools.old → Agrees now processes.new doors tree list pools.new }
     ensures keeps { KeepsItems pools.old pools.new }
@@ -153,12 +161,13 @@ fn leave_thread(processes: &mut Procs, pools: &mut Pools, t: Tid, fate: Fate, no
     desert(processes, pools, t, fate.desertion, now);
 }
 
-/// What becomes of all threads at an event, where those are given that may change, and the lowest of them is first. It takes no memory.
-/// The calls are not yet changed.
+/// What becomes of all threads at an event, where those are given that are interrupted, and those that may change, and the lowest of them
+/// is first. It takes no memory. The calls are not yet changed.
 pub fn leave_threads(
     processes: &mut Procs,
     pools: &mut Pools,
     who: Leaver,
+    interrupted: ThreadSet,
     calls: &Calls,
     touched: ThreadSet,
     now: u64,
@@ -166,8 +175,9 @@ pub fn leave_threads(
     requires agreed { AgreesSomehow now processes.old pools.old }
     requires numbered { (t : ℕ) (x : Thread) → thread_at processes.old t ≡ Some x → x.number ≡ t }
     requires earlier { (t : ℕ) (x : Parked) → parked_at processes.old pools.old.bindings t ≡ Some x → x.since < now }
+    requires interrupted { (doors : List Door) (u : ℕ) → has interrupted u ≡ (leaving_of processes.old doors who).interrupts u }
     requires there { (t : ℕ) → has touched t ≡ true → is_some (thread_at processes.old t) ≡ true }
-    requires room { (t : ℕ) → has touched t ≡ true → length processes.old.threads ≤ thread_room_in pools.old (own_pool_in processes.old pools.old.bindings t) }
+    requires room { (t : ℕ) → has touched t ≡ true → serves_given calls.now.tree.calls t ≡ true → length processes.old.threads ≤ thread_room_in pools.old (own_pool_in processes.old pools.old.bindings t) }
     requires others { (doors : List Door) (t : ℕ) (x : Thread) → has touched t ≡ false → thread_at processes.old t ≡ Some x → left_thread_of (leaving_of processes.old doors who) now calls.now.tree.calls x ≡ x }
     ensures threads { (doors : List Door) → processes.new ≡ left_threads (leaving_of processes.old doors who) now calls.now.tree.calls processes.old }
     ensures agreed { (doors : List Door) (tree : CallTree) (list : NoticeList) → Agrees now processes.old doors tree list pools.old → Agrees now processes.new doors tree list pools.new }
@@ -175,7 +185,7 @@ pub fn leave_threads(
 {
     let mut walk = Walk::over(touched);
     while let Some(t) = walk.next() {
-        let fate = fate_of(who, processes, calls, t);
+        let fate = fate_of(who, interrupted, processes, calls, t);
         leave_thread(processes, pools, t, fate, now);
     }
 }
@@ -243,7 +253,7 @@ fn is_there(processes: &Procs, t: Tid) -> bool
 
 /// The thread whose caller leaves goes on as its caller has left it. It takes no memory.
 pub fn desert_server(processes: &mut Procs, pools: &mut Pools, deserted: Option<Deserted>, now: u64)
-    requires { IfSome deserted (λ d. is_some (thread_at processes.old d.server.0) ≡ true → CanParkAgain processes.old pools.old d.server.0 now) }
+    requires { IfSome deserted (λ d. parks_again d.desertion ≡ true → is_some (thread_at processes.old d.server.0) ≡ true → CanParkAgain processes.old pools.old d.server.0 now) }
     ensures thread { processes.new ≡ with_deserted now deserted processes.old }
     ensures agreed { (doors : List Door) (tree : CallTree) (list : NoticeList) → Agrees now processes.old doors tree list pools.old → Agrees now processes.new doors tree list pools.new }
     ensures keeps { KeepsItems pools.old pools.new }
@@ -283,6 +293,34 @@ pub fn touched_by(processes: &Procs, calls: &Calls, p: Pid) -> ThreadSet
     let own = processes.threads_of(p);
     let mut touched = own;
     let mut walk = Walk::over(own);
+    while let Some(t) = walk.next() {
+        put_server(&mut touched, processes, deserted_by(calls, t));
+    }
+    touched
+}
+
+// a fork
+
+/// The other threads of a thread's process that wait for calls.
+pub fn fellow_callers(processes: &Procs, t: Tid) -> ThreadSet
+    ensures { (u : ℕ) → has result u ≡ is_fellow_caller processes.now t.0 u }
+{
+    let mut callers = ThreadSet::new();
+    let own = processes.threads_of(processes.process_of(t));
+    let mut walk = Walk::over(own);
+    while let Some(u) = walk.next() {
+        callers.put(u, processes.is_fellow_caller(t, u));
+    }
+    callers
+}
+
+/// The threads that serve the calls of these callers, as far as they may change.
+pub fn servers_of(processes: &Procs, calls: &Calls, callers: ThreadSet) -> ThreadSet
+    ensures there { (t : ℕ) → has result t ≡ true → is_some (thread_at processes.now t) ≡ true }
+    ensures servers { (t : ℕ) → has callers t ≡ true → IfSome (deserted_in_call (find (is_called_by t) calls.now.tree.calls)) (λ d. is_some (thread_at processes.now d.server.0) ≡ true → has result d.server.0 ≡ true) }
+{
+    let mut touched = ThreadSet::new();
+    let mut walk = Walk::over(callers);
     while let Some(t) = walk.next() {
         put_server(&mut touched, processes, deserted_by(calls, t));
     }

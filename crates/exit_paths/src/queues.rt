@@ -2,6 +2,8 @@
 ghost use Rattle.std.specs.Prelude.{◌≡◌, ℕ, ◌≤◌, ◌++◌, ◌==◌, ◌&&◌, [], Bool, IfOk, find, false, length, true};
 ghost use Rattle.std.specs.List.{list_any};
 ghost use Rattle.dk_base.specs.ByNumber.{at_number};
+ghost use Rattle.dk_base.specs.declared.limits.TheConstants.{THREADS_MAX};
+ghost use Rattle.thread_set.specs.Words.{has};
 ghost use Rattle.kernel_records.specs.Words.{is_pool, pool_in};
 ghost use Rattle.written_kernel.specs.Types.{Pool, Waiting};
 ghost use Rattle.server_pool.specs.Words.{is_waiting_at};
@@ -21,6 +23,7 @@ use proc_table::procs::Procs;
 use proc_table::walk::Walk;
 use server_pool::pools::Pools;
 use std::alloc::Global;
+use thread_set::set::ThreadSet;
 
 /// A call leaves the pool of its door, if it waits there. The call itself stays as it is.
 fn withdraw_call(pools: &mut Pools, doors: &Doors, call: &Call)
@@ -47,6 +50,16 @@ pub fn withdraw_all(pools: &mut Pools, doors: &Doors, calls: &Calls, procs: &Pro
 {
     let threads = procs.threads_of(p);
     let mut walk = Walk::over(threads);
+    while let Some(t) = walk.next() {
+        withdraw_caller(pools, doors, calls, t);
+    }
+}
+
+/// The calls of these callers leave the pools in which they wait.
+pub fn withdraw_callers(pools: &mut Pools, doors: &Doors, calls: &Calls, callers: ThreadSet)
+    ensures { HaveLeft (is_call_of_any doors.now.items calls.now.tree.calls (has callers) THREADS_MAX) pools.old pools.new }
+{
+    let mut walk = Walk::over(callers);
     while let Some(t) = walk.next() {
         withdraw_caller(pools, doors, calls, t);
     }

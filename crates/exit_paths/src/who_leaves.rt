@@ -23,16 +23,6 @@ pub fn ends(who: Leaver, processes: &Procs, t: Tid) -> bool
     }
 }
 
-/// Whether the call of a thread is interrupted, and its wait for events.
-pub fn interrupts(who: Leaver, t: Tid) -> bool
-    ensures { (table : ProcessTable) (doors : List Door) → result ≡ (leaving_of table doors who).interrupts t.0 }
-{
-    match who {
-        Leaver::Interrupted { thread } => t.0 == thread.0,
-        _ => false,
-    }
-}
-
 /// Whether a process made a door.
 fn is_owned(doors: &Doors, d: u32, p: Pid) -> bool
     ensures { result ≡ is_owned_by p.0 (at_number doors.now.items d) }
@@ -54,7 +44,7 @@ pub fn loses(who: Leaver, doors: &Doors, d: u32) -> bool
     }
 }
 
-/// The pool in which a thread parks.
+/// The pool in which a thread parks. Of the door that is lost there is none.
 pub fn own_pool(processes: &Procs, pools: &Pools, t: Tid) -> Pool
     ensures { result ≡ own_pool_in processes.now pools.now.bindings t.0 }
 {

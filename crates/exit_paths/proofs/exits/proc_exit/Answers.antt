@@ -1,13 +1,12 @@
-use Rattle.std.proofs.Common.{inl, ◌≡◌, ◌++◌, length, sym, ap, ◌∙◌, subst, le_trans}
-use Rattle.kernel_records.specs.Words.{Leaving, ProcessTable, process_end}
-use Rattle.kernel_records.specs.declared.leaving.Leaver.TheVariants.{EndedProcess}
+use Rattle.std.proofs.Common.{inl, ◌≡◌, ◌==◌, ◌++◌, length, sym, ap, ◌∙◌, subst, le_trans}
+use Rattle.kernel_records.specs.Words.{ProcessTable, process_end}
 use Rattle.exit_paths.specs.Words.{DropsTransit, dropped_items, has_ready, is_idle_at, is_thread_of}
 use Rattle.exit_paths.proofs.Alike.{agrees_same}
 use Rattle.exit_paths.proofs.Untaken.{lost_same, tells_calls, tells_dropped, untaken_there}
 use Rattle.exit_paths.proofs.DoorsLost.{process_calls, process_goes}
 use Rattle.exit_paths.proofs.Exited.{exited, room_there, somehow}
 use Rattle.exit_paths.proofs.ItemsLeft.{left_then}
-use Rattle.exit_paths.proofs.LeftThreads.{leaving_after}
+use Rattle.exit_paths.proofs.LeftThreads.{process_kept}
 use Rattle.exit_paths.proofs.Transit.{drops_nothing}
 use Rattle.exit_paths.proofs.Walked.{stays}
 use Rattle.std.proofs.lemmas.List.{length-map}
@@ -19,10 +18,10 @@ leave_threads-requires-clause-agreed c =
     (process_goes c.requires.can.agreed c.are_sound.ensures c.args.p.0 c.args.lost.now c.requires.declared c.requires.lost)
 
 pub leave_threads-requires-clause-room : goal.leave_threads-requires-clause-room
-leave_threads-requires-clause-room c = λ t here.
+leave_threads-requires-clause-room c = λ t here given.
     room_there c.requires.can c.make_room.ensures.same (left_then c.drop_doors.ensures.left c.withdraw_all.ensures)
     (process_goes c.requires.can.agreed c.are_sound.ensures c.args.p.0 c.args.lost.now c.requires.declared c.requires.lost) t
-    (c.in_ok-make_room.ensures.room t here) (c.touched_by-touched.ensures.there t here)
+    (c.in_ok-make_room.ensures.room t here) (c.touched_by-touched.ensures.there t here) given
 
 pub leave_threads-requires-clause-others : goal.leave_threads-requires-clause-others
 leave_threads-requires-clause-others c = λ doors t x other there.
@@ -38,7 +37,6 @@ returns-clause-left c =
     let after = c.leave_threads.new.processes in
     let parts = c.parts_of_leaving.ensures tree c.are_sound.ensures in
     let refused = c.refuse_lost.ensures.tree table in
-    let who = EndedProcess c.args.p in
     let told : c.into_list-2.result ≡ dropped_items doors c.args.lost.now c.make_room.new.pools =
     c.into_list-2.ensures ∙ c.drop_doors.ensures.told ∙ ap (λ xs. xs ++ dropped_items doors c.args.lost.now c.make_room.new.pools) c.in_ok-untaken.ensures.empty in
     let items : c.slice.result.now ≡ dropped_items doors c.args.lost.now c.make_room.new.pools =
@@ -49,7 +47,7 @@ returns-clause-left c =
     c.are_sound.ensures
     (process_calls table after doors p parts c.requires.declared
     (λ t. ap (λ (x : ProcessTable). is_thread_of x p t) (c.leave_threads.ensures.threads doors)
-    ∙ ap (λ (l : Leaving). l.ends t) (leaving_after table doors who (process_end table doors p) c.args.step tree.calls))
+    ∙ ap (λ k. k == p) (process_kept (process_end table doors p) c.args.step tree.calls table t))
     (ap (λ (x : ProcessTable). length x.threads) (c.leave_threads.ensures.threads doors) ∙ length-map table.threads _) refused
     (tells_calls (agrees_same c.requires.can.agreed c.make_room.ensures.same) (process_end table doors p) c.args.lost.now
     (lost_same (process_end table doors p) c.args.lost.now c.make_room.ensures.same c.requires.lost) c.slice.result.now items)

@@ -18,7 +18,7 @@ desert_server-requires c =
     server_parks c.requires.can c.room_for_server.ensures.same c.withdraw_caller.ensures
     (caller_goes c.args.doors.now.items c.args.calls.now.tree c.requires.can.list.notices (thread_end c.args.t.0) c.are_sound.ensures c.args.t.0
     (λ r. or_false (r.caller.0 == c.args.t.0)) (λ d. refl))
-    c.deserted_by-deserted.result c.in_ok-room_for_server.ensures.room
+    c.args.t.0 c.deserted_by-deserted.result c.deserted_by-deserted.ensures c.in_ok-room_for_server.ensures.room
 
 pub returns-clause-left : goal.returns-clause-left
 returns-clause-left c =

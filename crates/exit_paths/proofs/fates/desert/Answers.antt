@@ -1,6 +1,6 @@
 use Rattle.std.proofs.Common.{sym, ap, ◌∙◌}
 use Rattle.kernel_records.specs.Words.{change_thread}
-use Rattle.exit_paths.specs.Words.{deserted_as}
+use Rattle.exit_paths.specs.Words.{deserted_as, parks_again}
 use Rattle.exit_paths.proofs.Fated.{agrees_cancelled, change_nothing}
 use Rattle.exit_paths.proofs.fates.desert.Goals as goal
 
@@ -11,3 +11,6 @@ returns-in-Stays-clause-thread c =
 
 pub returns-in-IsCancelled-clause-agreed : goal.returns-in-IsCancelled-clause-agreed
 returns-in-IsCancelled-clause-agreed c = λ doors tree list h. rw c.cancel.ensures (agrees_cancelled h c.args.t.0)
+
+pub park_again-requires : goal.park_again-requires
+park_again-requires c = c.requires (ap parks_again c.in-Parks.is)

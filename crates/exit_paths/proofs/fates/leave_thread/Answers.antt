@@ -8,11 +8,13 @@ use Rattle.exit_paths.proofs.fates.leave_thread.Goals as goal
 pub desert-requires : goal.desert-requires
 desert-requires c =
     let same = own_pool_interrupted c.args.processes.now c.args.pools.now.bindings c.args.t.0 c.args.fate.interrupted in
+    λ parks.
+    let can = c.requires parks in
     rw c.interrupt_where.ensures
     (record {
-      there = there_changed c.args.processes.now c.args.t.0 (interrupted_where c.args.fate.interrupted) c.requires.there;
-      room = rw same c.requires.room;
-      later = rw same c.requires.later;
+      there = there_changed c.args.processes.now c.args.t.0 (interrupted_where c.args.fate.interrupted) can.there;
+      room = rw same can.room;
+      later = rw same can.later;
     })
 
 pub returns-then-fate-clause-agreed : goal.returns-then-fate-clause-agreed

@@ -1,9 +1,10 @@
 use Rattle.std.proofs.Common.{◌≡◌, ◌+◌, ◌-◌, ◌<◌, ◌≤◌, length, sym, ◌∙◌, subst, arith}
 use Rattle.kernel_records.specs.Words.{leaving_of}
 use Rattle.server_pool.specs.Words.{thread_room_in}
+use Rattle.thread_set.specs.Words.{has}
 use Rattle.exit_paths.specs.Words.{fated, own_pool_in}
 use Rattle.exit_paths.proofs.Fated.{keeps_self, keeps_then}
-use Rattle.exit_paths.proofs.LeftThreads.{HasLeft, all_left, fate_now, next_later, next_left, next_room, next_there}
+use Rattle.exit_paths.proofs.LeftThreads.{HasLeft, all_left, fate_now, interrupting_as, next_later, next_left, next_room, next_there}
 use Rattle.exit_paths.proofs.MadeRoom.{numbered_low}
 use Rattle.exit_paths.proofs.Walked.{left_skipped, none_left}
 use Rattle.exit_paths.proofs.fates.leave_threads.Goals as goal
@@ -34,10 +35,10 @@ leave_thread-requires c =
     let own = own_pool_in c.loop-t.processes c.loop-t.pools.bindings t in
     let left =
     left_skipped (c.loop-t.invariant.1 c.requires.agreed.doors) i (omega (arith, step.later)) (λ u a b x e. c.requires.others c.requires.agreed.doors u x (step.between u a (omega (arith, b, next))) e) in
-    record {
+    λ parks. record {
       there = next_there c.args.pools.now c.loop-t.pools left c.loop-t.invariant.3.bindings t next within;
       room =
-          next_room c.args.pools.now c.loop-t.pools left c.loop-t.invariant.3.bindings t next within (c.requires.room t step.here)
+          next_room c.args.pools.now c.loop-t.pools left c.loop-t.invariant.3.bindings t next within (c.requires.room t step.here (c.fate_of-fate.ensures.parks parks))
           (λ pool. omega (arith, c.loop-t.invariant.4 pool, step.later));
       later =
           next_later c.args.pools.now c.loop-t.pools left c.loop-t.invariant.3.bindings t next c.requires.agreed.doors
@@ -60,8 +61,9 @@ loop-t-preserved c =
           (sym next ∙ sym step.done)
           (next_left left t (fated c.args.now c.fate_of-fate.result) c.leave_thread.new.processes next
           c.leave_thread.ensures.thread
-          (fate_now doors c.args.who left (fated c.args.now c.fate_of-fate.result) t
-          (c.fate_of-fate.ensures doors c.args.now))
+          (fate_now doors c.args.who (has c.args.interrupted) left (interrupting_as (leaving_of c.args.processes.now doors c.args.who) (has c.args.interrupted) (c.requires.interrupted doors))
+          (fated c.args.now c.fate_of-fate.result) t
+          (c.fate_of-fate.ensures.fate doors c.args.now))
           (c.requires.numbered t)),
       λ doors tree list h. c.leave_thread.ensures.agreed doors tree list (c.loop-t.invariant.2 doors tree list h),
       keeps_then c.args.pools.now c.loop-t.pools c.leave_thread.new.pools c.loop-t.invariant.3 c.leave_thread.ensures.keeps,

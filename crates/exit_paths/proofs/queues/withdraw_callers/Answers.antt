@@ -1,0 +1,46 @@
+use Rattle.std.proofs.Common.{sym, ap, ◌∙◌, subst, arith}
+use Rattle.dk_base.specs.declared.limits.TheConstants.{THREADS_MAX}
+use Rattle.proc_table.specs.Words.{Walks}
+use Rattle.thread_set.specs.Words.{has}
+use Rattle.exit_paths.specs.Words.{is_call_of_any}
+use Rattle.exit_paths.proofs.ItemsLeft.{left_as, left_none, left_then}
+use Rattle.exit_paths.proofs.Walked.{any_beyond, any_walked}
+use Rattle.exit_paths.proofs.queues.withdraw_callers.Goals as goal
+
+pub loop-t-init : goal.loop-t-init
+loop-t-init c = (
+  subst (λ s. Walks s c.over-walk.result) (sym c.over-walk.ensures.rest) c.over-walk.ensures.walks,
+  left_as (left_none c.args.pools.now)
+      (λ q w. sym (ap (λ n. is_call_of_any c.args.doors.now.items c.args.calls.now.tree.calls (has c.over-walk.result.rest) n q w) c.over-walk.ensures.start)),
+  omega (arith, c.over-walk.ensures.start),
+)
+
+pub loop-t-smaller : goal.loop-t-smaller
+loop-t-smaller c =
+    let step = c.in-Some.ensures.next c.over-walk.result.rest c.loop-t.invariant.0 in
+    omega (arith, step.later, step.done, c.in-Some.ensures.within.1)
+
+pub loop-t-preserved : goal.loop-t-preserved
+loop-t-preserved c =
+    let doors = c.args.doors.now.items in
+    let calls = c.args.calls.now.tree.calls in
+    let set = c.over-walk.result.rest in
+    let step = c.in-Some.ensures.next set c.loop-t.invariant.0 in (
+      step.walks,
+      left_as (left_then c.loop-t.invariant.1 c.withdraw_caller.ensures)
+          (λ q w.
+          any_walked doors calls q w (has set) c.loop-t.walk.done c.in-Some.t.0 step.later step.between step.here
+          ∙ ap (λ n. is_call_of_any doors calls (has set) n q w) (sym step.done)),
+      omega (arith, step.done, c.in-Some.ensures.within.1),
+    )
+
+pub returns : goal.returns
+returns c =
+    let doors = c.args.doors.now.items in
+    let calls = c.args.calls.now.tree.calls in
+    let set = c.over-walk.result.rest in
+    let end = c.in_default.ensures.end set c.loop-t.invariant.0 in
+    left_as c.loop-t.invariant.1
+    (λ q w.
+    sym (any_beyond doors calls q w (has set) c.loop-t.walk.done THREADS_MAX c.loop-t.invariant.2 (λ u a b. end u a))
+    ∙ ap (λ s. is_call_of_any doors calls (has s) THREADS_MAX q w) c.over-walk.ensures.rest)
