@@ -248,7 +248,7 @@ few_in_transit tree sound few =
     let all = carried tree.calls few in
     omega (arith, calls, all)
 
-named_rows : (t : List (Option Obj)) → length (objects_of t) ≤ length t
+pub named_rows : (t : List (Option Obj)) → length (objects_of t) ≤ length t
 named_rows [] = omega arith
 named_rows (None ∷ t) = let rest = named_rows t in omega (arith, rest)
 named_rows (Some o ∷ t) = let rest = named_rows t in omega (arith, rest)

@@ -1,4 +1,5 @@
 mod NoTable
+mod Copied
 mod FreeTable
 pub mod Referring
 pub mod TableCounts

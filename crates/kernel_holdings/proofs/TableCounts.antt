@@ -196,6 +196,19 @@ count_in-install o ts p xs free =
     (λ e. omega (arith, rows, ap (λ u. count_object o (objects_of u)) e, ap free_rows e, free, count_by-le-length (is_object o) xs)) in
     omega (arith, changed, rows)
 
+-- a table that names nothing, of as many rows as another one, gets the rows of that one
+pub count_in-copy :
+    (o : Obj) (ts : List (List (Option Obj))) (p q : ℕ) → objects_of (table_in ts q) ≡ [] → length (table_in ts q) ≡ length (table_in ts p) →
+    count_in o (with_table ts q (table_in ts p)) ≡ count_in o ts + count_object o (objects_of (table_in ts p))
+count_in-copy o ts p q none long =
+    let t = table_in ts p in
+    let changed = count_in-with_table o ts q t (λ e. no_rows t (sym long ∙ ap length e)) in
+    omega (arith, changed, ap (count_object o) none)
+  where
+    no_rows : (t : List (Option Obj)) → length t ≡ 0 → count_object o (objects_of t) ≡ 0
+    no_rows [] h = refl
+    no_rows (x ∷ xs) h = absurd (omega (arith, h))
+
 -- the counts of objects, after as much was counted up or down as tables changed
 
 pub held_more :

@@ -6,7 +6,7 @@ ghost use Rattle.dk_base.specs.declared.limits.TheConstants.{DESCRIPTORS_MAX, PA
 ghost use Rattle.dk_base.specs.declared.object.Obj.{Obj};
 ghost use Rattle.dk_base.specs.declared.object.Obj.TheVariants as obj;
 ghost use Rattle.kernel_records.specs.declared.record.Call.{Call};
-ghost use Rattle.kernel_records.specs.Words.{AreNumbered, close_row, close_table, collect_call, count_object, descriptor, door_attached, empty_table, enter_call, fail_call, free_place, free_rows, give_call, has_double_release, insert_row, insert_rows, is_client_call_of, is_given_as, is_object, is_queued_as, is_served_by, is_to_collect_as, leaving_of, live_calls, lowest_free, name_in, new_descriptors, notice_doors, object_named, objects_passed, open_call, release_rows, return_call, table_in, with_name, with_table, without_name};
+ghost use Rattle.kernel_records.specs.Words.{AreNumbered, close_row, close_table, collect_call, count_object, descriptor, door_attached, empty_table, enter_call, fail_call, free_place, free_rows, give_call, has_double_release, insert_row, insert_rows, is_client_call_of, is_given_as, is_object, is_queued_as, is_served_by, is_to_collect_as, leaving_of, live_calls, lowest_free, name_in, new_descriptors, notice_doors, object_named, objects_of, objects_passed, open_call, release_rows, return_call, table_in, with_name, with_table, without_name};
 ghost use Rattle.name_space.specs.Words.{HasRoomForName};
 ghost use Rattle.call_tree.specs.Calls.{args_in};
 ghost use Rattle.call_tree.specs.Words.{HasRoomForCall, IsThread, is_called_by, outcome_in, queued_call};
@@ -274,6 +274,26 @@ impl Holdings {
     {
         lower_table(&mut self.counts, &self.tables, p);
         self.tables.close_all(p);
+    }
+
+    /// The table of a process, which has no row, gets those of a process below it, under the same numbers (fork(2)). What they name is
+    /// handed out. It takes no memory.
+    pub fn copy_rows(&mut self, parent: Pid, child: Pid, added: &mut Room<Obj>)
+        requires order { (1 ≤ parent.0) × (parent.0 < child.0) × (child.0 ≤ length self.old.tables) }
+        requires none { objects_of (table_in self.old.tables child.0) ≡ [] }
+        requires limits { length (table_in self.old.tables child.0) ≡ length (table_in self.old.tables parent.0) }
+        requires empty { added.old.items ≡ [] }
+        requires room { DESCRIPTORS_MAX ≤ added.old.spare }
+        requires left { DESCRIPTORS_MAX ≤ self.old.left }
+        ensures same { self.new ≡ record (self.old) { tables = with_table self.old.tables child.0 (table_in self.old.tables parent.0); left = self.new.left } }
+        ensures added { added.new.items ≡ objects_of (table_in self.old.tables parent.0) }
+        ensures left { self.old.left ≤ self.new.left + DESCRIPTORS_MAX }
+        ensures references { (o : Obj) → references_of self.new o ≤ references_of self.old o + count_object o added.new.items }
+        ensures others { ChangesOnly added.new.items self.old self.new }
+    {
+        self.are_few();
+        self.tables.copy_rows(parent, child, added);
+        self.counts.up_all(added.slice());
     }
 
     /// What a process's descriptors name follows what is in `into`, and those with release are closed. It takes no memory.

@@ -7,7 +7,7 @@ ghost use Rattle.kernel_holdings.specs.Words.{CanEnd};
 use call_tree::calls::Calls;
 use dk_base::error::NoMemory;
 use door_object::doors::Doors;
-use exit_paths::exits::{interrupt, proc_exit, revoke_all, thread_exit};
+use exit_paths::exits::{fork_exit, interrupt, proc_exit, revoke_all, thread_exit};
 use exit_paths::left::Left;
 use kernel_records::leaving::Leaver;
 use proc_table::procs::Procs;
@@ -44,5 +44,8 @@ pub fn leave(
             alloc, procs, calls, pools, doors, process, lost, step, carried,
         ),
         Leaver::Revoked { door } => revoke_all(alloc, procs, calls, pools, doors, door, carried),
+        Leaver::Forked { thread } => fork_exit(
+            alloc, procs, calls, pools, doors, thread, step, carried,
+        ),
     }
 }

@@ -1,7 +1,7 @@
 //! The descriptor tables of processes, at their places.
 ghost use Rattle.std.specs.Prelude.{◌≡◌, ◌+◌, ◌<◌, ◌≤◌, ◌++◌, [], ◌∷◌, length, None, true, is_none, is_some, nat_le, IfSome, IfNone, OnOk, OnErr};
 ghost use Rattle.dk_base.specs.ByNumber.{at_number};
-ghost use Rattle.kernel_records.specs.Words.{close_row, close_table, descriptor, empty_table, free_place, free_rows, insert_row, insert_rows, is_bad_pass, lowest_free, new_descriptors, object_named, objects_passed, release_rows, table_in, with_table};
+ghost use Rattle.kernel_records.specs.Words.{close_row, close_table, descriptor, empty_table, free_place, free_rows, insert_row, insert_rows, is_bad_pass, lowest_free, new_descriptors, object_named, objects_of, objects_passed, release_rows, table_in, with_table};
 
 use arg_transfer::passing::{check_pass, install_fitting, take_out};
 use dk_base::error::NoMemory;
@@ -9,6 +9,7 @@ use dk_base::list::{FdList, ObjList, PassList, Room};
 use dk_base::number::{Fd, Pid};
 use dk_base::object::Obj;
 use fd_table::table::FdTable;
+use fork_step::forking::fork_rows;
 use kernel_records::numbered::numbered_item;
 use std::alloc::Global;
 use std::marker::Model;
@@ -140,6 +141,20 @@ impl Tables {
             let table = &mut self.tables[place];
             table.close_all();
         }
+    }
+
+    /// The table of a process, which has no row, gets those of a process below it, under the same numbers. What they name follows what is
+    /// in `added`. It takes no memory.
+    pub fn copy_rows(&mut self, parent: Pid, child: Pid, added: &mut Room<Obj>)
+        requires order { (1 ≤ parent.0) × (parent.0 < child.0) × (child.0 ≤ length self.old) }
+        requires none { objects_of (table_in self.old child.0) ≡ [] }
+        requires limits { length (table_in self.old child.0) ≡ length (table_in self.old parent.0) }
+        requires room { length (objects_of (table_in self.old parent.0)) ≤ added.old.spare }
+        ensures tables { self.new ≡ with_table self.old child.0 (table_in self.old parent.0) }
+        ensures added { added.new.items ≡ added.old.items ++ objects_of (table_in self.old parent.0) }
+    {
+        let (lower, upper) = self.tables.split_at_mut(child.0 as usize - 1);
+        fork_rows(&lower[parent.0 as usize - 1], &mut upper[0], added);
     }
 
     /// Whether these descriptors cannot be passed out of a process's table (door_call(3C)).

@@ -4,10 +4,11 @@ use Rattle.std.proofs.lemmas.Bool.Decides.{nat_tests}
 use Rattle.dk_base.specs.ByNumber.{with_at_number}
 use Rattle.dk_base.specs.declared.object.Item.TheVariants as item
 use Rattle.kernel_records.specs.declared.pool.Pool.TheVariants.{Common, Private}
+use Rattle.kernel_records.specs.declared.pool.TheConstants.{LOST_DOOR}
 use Rattle.kernel_records.specs.declared.record.ThreadState.TheVariants as is
 use Rattle.kernel_records.specs.Words.{bound_at, end_thread, enter_call, enter_notice, enter_thread, is_dormant, is_done, is_idle, park_thread, process_in, set_thread_state, state_in, thread_at, tid}
 use Rattle.written_kernel.specs.Types.{Pool, Thread, ThreadState}
-use Rattle.written_kernel.specs.Words.{is_running, is_running_state, state_of}
+use Rattle.written_kernel.specs.Words.{bound_of, is_running, is_running_state, state_of}
 use Rattle.kernel_invariant.specs.Core.{is_outside}
 use Rattle.server_pool.specs.Words.{AllParkedBefore, PoolValue, PoolsValue, change_pool, item_room_in, park_in, pool_at, stack_in, thread_room_in}
 use Rattle.pool_agreement.specs.Words.{Agrees, IsGivenOut, IsGivenOutBut, own_pool, pool_by}
@@ -123,12 +124,17 @@ module _ {s now : StoreValue} (h : IsAgreed s) (same : s ≡ now) where
 
   -- a thread parks
 
-  module _ (t : ℕ) (placed : ArePlaced (stored_state now)) (there : is_done (state_of (stored_state now) t) ≡ false) where
+  module _
+      (t : ℕ) (placed : ArePlaced (stored_state now)) (there : is_done (state_of (stored_state now) t) ≡ false)
+      (not_lost : bound_of (stored_state now) t ≡ Some LOST_DOOR → ⊥) where
     pub thread : (x : Thread) × (thread_at s.processes t ≡ Some x)
     thread = thread_there (thread_at s.processes t) (ap is_done (state_is t) ∙ there)
 
     placed_here : ArePlaced (stored_state s)
     placed_here = subst (λ (v : StoreValue). ArePlaced (stored_state v)) (sym same) placed
+
+    not_lost_here : bound_at s.pools.bindings t ≡ Some LOST_DOOR → ⊥
+    not_lost_here e = not_lost (ap (λ (v : StoreValue). bound_of (stored_state v) t) (sym same) ∙ e)
 
     abbrev pool : Pool
     pool = own_pool (stored_state now) t
@@ -139,7 +145,7 @@ module _ {s now : StoreValue} (h : IsAgreed s) (same : s ≡ now) where
     pool_there : is_some (pool_at s.pools pool) ≡ true
     pool_there =
         ap (λ p. is_some (pool_at s.pools p)) (own ∙ ap (λ o. pool_by (process_in o) (bound_at s.pools.bindings t)) thread.1)
-        ∙ own_pool_there h placed_here t thread.0 thread.1
+        ∙ own_pool_there h placed_here t thread.0 thread.1 not_lost_here
 
     pub room_there : HasRoom now pool → 0 < thread_room_in s.pools pool
     room_there room =
@@ -154,7 +160,7 @@ module _ {s now : StoreValue} (h : IsAgreed s) (same : s ≡ now) where
         let early : s.latest ≤ s.events = subst (λ (v : StoreValue). v.latest ≤ v.events) (sym same) first in
         let state : thread.0.state ≡ state_of (stored_state now) t = sym (ap state_in thread.1) ∙ state_is t in
         agrees_park h placed_here t (s.events + 1) thread.0 pool thread.1 (ap is_idle state ∙ idle) (ap is_dormant state ∙ dormant)
-        (omega (arith, early)) own
+        (omega (arith, early)) own not_lost_here
 
   pub above :
       (t : ℕ) (pool : Pool) → now.latest ≤ now.events → AllParkedBefore (stack_in s.pools pool) (record { thread = tid t; pool = pool; since = s.events + 1 })

@@ -6,7 +6,7 @@ use Rattle.dk_base.specs.ByNumber.{at_number}
 use Rattle.dk_base.specs.declared.number.PathId.{PathId}
 use Rattle.kernel_records.specs.declared.record.ThreadState.TheVariants as is
 use Rattle.kernel_records.specs.declared.record.CallStage.TheVariants as stage
-use Rattle.kernel_records.specs.Words.{Leaving, ProcessTable, change_thread, deserted_at, deserted_in, end_process, idle_thread, interrupted_state, interrupted_where, is_left, is_served_by, left_thread, left_thread_of, left_threads, name_in, opening_state, set_thread_state, state_in, thread_at, thread_at_state, thread_in_invocation, thread_outside}
+use Rattle.kernel_records.specs.Words.{Leaving, ProcessTable, change_thread, deserted_at, deserted_in, end_process, idle_thread, interrupted_state, interrupted_where, is_left, is_served_by, left_thread, left_thread_of, left_threads, name_in, set_thread_state, state_in, thread_at, thread_at_state, thread_in_invocation, thread_outside}
 use Rattle.kernel_records.proofs.Lists.{at_number-map, at_number-push}
 use Rattle.written_kernel.specs.Types.{Call, CallStage, Item, Name, Thread, ThreadState}
 use Rattle.call_agreement.proofs.Free.{changed_elsewhere, changed_here}
@@ -102,11 +102,6 @@ module _ {names : List Name} {named : ThreadSet} where
       go : (o : Option Thread) (path : PathId) → state_in (option_map (left_thread_of who now calls) o) ≡ is.Awaiting path → state_in o ≡ is.Awaiting path
       go None path e = e
       go (Some x) path e = left_still who now (find (is_served_by x.number) calls) x path e
-
--- a thread as it is added
-pub new_awaits_not : (spare : Bool) (path : PathId) → opening_state spare ≡ is.Awaiting path → ⊥
-new_awaits_not true path e = absurd cc
-new_awaits_not false path e = absurd cc
 
 -- no thread is there
 pub knows_none : (table : ProcessTable) (names : List Name) (named : ThreadSet) → table.threads ≡ [] → KnowsPaths table names named

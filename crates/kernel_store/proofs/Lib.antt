@@ -27,3 +27,6 @@ mod HeldNotices
 pub mod Knowing
 pub mod Waits
 pub mod PortWaits
+mod Forking
+mod Copied
+mod LostDoor

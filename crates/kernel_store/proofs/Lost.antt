@@ -1,7 +1,7 @@
 -- What the exit paths need of a process that ends: it is there, and its valid doors are those at which something waits.
 use Rattle.std.proofs.Common.{◌≡◌, ℕ, List, sym, subst}
 use Rattle.kernel_records.specs.declared.leaving.Leaver.{Leaver}
-use Rattle.kernel_records.specs.declared.leaving.Leaver.TheVariants.{Interrupted, Ended, EndedProcess, Revoked}
+use Rattle.kernel_records.specs.declared.leaving.Leaver.TheVariants.{Interrupted, Ended, EndedProcess, Revoked, Forked}
 use Rattle.kernel_records.specs.Words.{AreNumbered, process_end}
 use Rattle.exit_paths.specs.Words.{AreLost}
 use Rattle.exit_paths.proofs.Owned.{owned_lost}
@@ -15,6 +15,7 @@ pub can_end :
 can_end {s} {now} same h numbered waiting (Interrupted t) lost declared is = tt
 can_end {s} {now} same h numbered waiting (Ended t) lost declared is = tt
 can_end {s} {now} same h numbered waiting (Revoked d) lost declared is = tt
+can_end {s} {now} same h numbered waiting (Forked t) lost declared is = tt
 can_end {s} {now} same h numbered waiting (EndedProcess p) lost declared is =
     let here : WaitAtValidDoors (stored_state s) = subst (λ (v : StoreValue). WaitAtValidDoors (stored_state v)) (sym same) waiting in
     let there = subst (λ (v : StoreValue). IsDeclared (EndedProcess p) (stored_state v)) (sym same) declared in

@@ -127,4 +127,4 @@ pub ended_lost :
     {m : State} {t : ℕ} {q : Option Request} {closed : ClosedRows} {pipe : Option ℕ} {gone : List Obj} {n : State} → IsLeftToTell m t q closed pipe gone n →
     with_channels n (ended_by n.channels (empty_rows n (closing_of closed))) ≡ end_lost n
 ended_lost {m} {t} {q} {closed} {pipe} {gone} {n} h =
-    ap (λ (x : Closing). with_channels n (ended_by n.channels (empty_rows n x))) h.rows ∙ sym (leaves_to_tell m t q n h.after h.told).ended_empty
+    ap (λ (x : Closing). with_channels n (ended_by n.channels (empty_rows n x))) h.rows ∙ sym (leaves_to_tell m t q n h.unborn h.after h.told).ended_empty

@@ -1,8 +1,9 @@
 -- A thread that parks at the present event, at which none parked yet.
 use Rattle.std.proofs.Common.{◌≡◌, ◌<◌, ◌≤◌, ◌+◌, ℕ, Bool, true, false, Option, None, Some, option_map, is_some, refl, sym, subst, ap, ◌∙◌, arith}
+use Rattle.kernel_records.specs.declared.pool.TheConstants.{LOST_DOOR}
 use Rattle.kernel_records.specs.Words.{is_done, is_dormant, is_idle, is_pool, park_thread, tid}
 use Rattle.written_kernel.specs.Types.{Parked, Pool}
-use Rattle.written_kernel.specs.Words.{state_of}
+use Rattle.written_kernel.specs.Words.{bound_of, state_of}
 use Rattle.server_pool.specs.Words.{PoolValue, PoolsValue, change_pool, item_room_in, park_in, pool_at, pool_or_empty, thread_room_in}
 use Rattle.pool_agreement.specs.Words.{Agrees, IsGivenOut, IsGivenOutBut, own_pool}
 use Rattle.kernel_store.specs.Frames.{CanAct, FillsOnePool}
@@ -23,12 +24,12 @@ items_parked v pool y q = go (is_pool pool q) refl
     go false e = ap (λ (o : Option PoolValue). (pool_or_empty o).item_room) (pool_kept v pool q (park_in y) e)
 
 -- a store `s` as its fields say, which is `now` in the clauses
-module _ {s now : StoreValue} (h : IsAgreed s) (same : s ≡ now) (t : ℕ) (can : CanAct (own_pool (stored_state now) t) now) (there : is_done (state_of (stored_state now) t) ≡ false) where
+module _ {s now : StoreValue} (h : IsAgreed s) (same : s ≡ now) (t : ℕ) (can : CanAct (own_pool (stored_state now) t) now) (there : is_done (state_of (stored_state now) t) ≡ false) (not_lost : bound_of (stored_state now) t ≡ Some LOST_DOOR → ⊥) where
   pub can_park : CanParkAgain s.processes s.pools t (s.events + 1)
   can_park =
       record {
-        there = ap is_some (thread h same t can.placed there).1;
-        room = subst (λ p. 0 < thread_room_in s.pools p) (own h same t can.placed there) (room_there h same t can.placed there can.room);
+        there = ap is_some (thread h same t can.placed there not_lost).1;
+        room = subst (λ p. 0 < thread_room_in s.pools p) (own h same t can.placed there not_lost) (room_there h same t can.placed there not_lost can.room);
         later = above h same t (own_pool_in s.processes s.pools.bindings t) can.latest;
       }
 
@@ -41,7 +42,7 @@ module _ {s now : StoreValue} (h : IsAgreed s) (same : s ≡ now) (t : ℕ) (can
       subst
       (λ pool. Agrees (s.events + 1) (park_thread s.processes t (s.events + 1)) s.doors.items s.calls.tree s.notices.list
       (change_pool s.pools pool (park_in (record { thread = tid t; pool = pool; since = s.events + 1 }))))
-      (own h same t can.placed there) (parked h same t can.placed there idle dormant can.latest)
+      (own h same t can.placed there not_lost) (parked h same t can.placed there not_lost idle dormant can.latest)
 
   -- what it leaves of the pools, and of all else what is said
   pub parked_keeps :
@@ -72,7 +73,7 @@ module _ {s now : StoreValue} (h : IsAgreed s) (same : s ≡ now) (t : ℕ) (can
         given_out =
             λ given.
             let here : IsGivenOut s.pools = subst (λ (v : StoreValue). IsGivenOut v.pools) (sym same) given in
-            subst (λ pool. IsGivenOutBut pool after.pools) (sym (own h same t can.placed there))
+            subst (λ pool. IsGivenOutBut pool after.pools) (sym (own h same t can.placed there not_lost))
             (subst (IsGivenOutBut place.pool) (sym pools) (given_out_but s.pools place.pool (park_in place) here));
       }
 

@@ -1,18 +1,54 @@
 -- A thread that is made, with a number above all others, and a spare that is taken back where there is no memory for it.
-use Rattle.std.proofs.Common.{◌≡◌, ℕ, zero, suc, ◌+◌, ◌-◌, ◌<◌, ◌==◌, Bool, true, false, if◌then◌else◌, List, [], ◌∷◌, ◌++◌, Option, Some, None, option_map, is_some, length, length-append, take, refl, sym, ap, ◌∙◌, subst, arith}
+use Rattle.std.proofs.Common.{◌≡◌, ℕ, zero, suc, ◌+◌, ◌-◌, ◌<◌, ◌==◌, ◌||◌, Bool, true, false, if◌then◌else◌, List, [], ◌∷◌, ◌++◌, Option, Some, None, option_map, is_some, length, length-append, take, refl, sym, ap, ◌∙◌, subst, arith}
 use Rattle.std.proofs.lemmas.Bool.Decides.{nat_tests}
 use Rattle.dk_base.specs.ByNumber.{at_number}
-use Rattle.kernel_records.specs.Words.{CallTree, NoticeList, ProcessTable, is_live_in, is_spare_of, thread_at}
+use Rattle.dk_base.specs.declared.number.PathId.{PathId}
+use Rattle.kernel_records.specs.declared.record.ThreadState.TheVariants as is
+use Rattle.proc_table.specs.Words.{is_getting}
+use Rattle.kernel_records.specs.Words.{CallTree, NoticeList, ProcessTable, is_live_in, is_spare_of, is_unborn_in, new_thread_where, thread_at}
 use Rattle.written_kernel.specs.Types.{Door, Process, Thread}
 use Rattle.server_pool.specs.Words.{AllBelow, PoolsValue, change_at_number, change_spares, spares_of, spares_or_none, with_spare, without_highest}
 use Rattle.server_pool.proofs.Changed.{changed_elsewhere, changed_here}
 use Rattle.pool_agreement.specs.Words.{Agrees, spare_at, spare_in, spares_among}
 use Rattle.pool_agreement.proofs.Readers.{length-change_at_number, same_number}
+use Rattle.pool_agreement.proofs.Starting.{agrees_spare, agrees_thread, agrees_unborn}
 use Rattle.exit_paths.specs.Words.{HoldsSame}
 
-pub is_there : (o : Option Process) → is_live_in o ≡ true → is_some o ≡ true
+pub is_there : (o : Option Process) → (is_live_in o || is_unborn_in o) ≡ true → is_some o ≡ true
 is_there None e = cc
 is_there (Some x) e = refl
+
+-- a thread as it is added, of a process that has begun or not
+
+pub where_awaits_not : (unborn : Bool) (n p : ℕ) (spare : Bool) (path : PathId) → (new_thread_where unborn n p spare).state ≡ is.Awaiting path → ⊥
+where_awaits_not true n p spare path e = absurd cc
+where_awaits_not false n p true path e = absurd cc
+where_awaits_not false n p false path e = absurd cc
+
+pub where_gets_not : (unborn : Bool) (n p : ℕ) (spare : Bool) → is_getting (new_thread_where unborn n p spare).state ≡ false
+where_gets_not true n p spare = refl
+where_gets_not false n p true = refl
+where_gets_not false n p false = refl
+
+module _
+    {n : ℕ} {table : ProcessTable} {doors : List Door} {tree : CallTree} {list : NoticeList} {v : PoolsValue} (h : Agrees n table doors tree list v) (p : ℕ) where
+  abbrev with_where : Bool → Bool → ProcessTable
+  with_where unborn spare = record table { threads = table.threads ++ new_thread_where unborn (length table.threads + 1) p spare ∷ [] }
+
+  -- one that is Dormant is among the spares
+  pub agrees_dormant :
+      (unborn spare dormant : Bool) → dormant ≡ (spare || unborn) → dormant ≡ true → is_some (at_number table.processes p) ≡ true →
+      Agrees n (with_where unborn spare) doors tree list (change_spares v p (with_spare (length table.threads + 1)))
+  agrees_dormant true spare dormant is e there = agrees_unborn h p spare there
+  agrees_dormant false true dormant is e there = agrees_spare h p there
+  agrees_dormant false false dormant is e there = cc
+
+  -- another is not
+  pub agrees_awake : (unborn spare dormant : Bool) → dormant ≡ (spare || unborn) → dormant ≡ false → Agrees n (with_where unborn spare) doors tree list v
+  agrees_awake false false dormant is e = agrees_thread h p
+  agrees_awake true true dormant is e = cc
+  agrees_awake true false dormant is e = cc
+  agrees_awake false true dormant is e = cc
 
 -- the spares are below each number above those of all threads
 

@@ -7,7 +7,7 @@ use Rattle.dk_base.specs.ByNumber.{at_number}
 use Rattle.dk_base.specs.declared.object.Obj.TheVariants as obj
 use Rattle.kernel_records.specs.declared.record.ThreadState.TheVariants as is
 use Rattle.kernel_records.specs.declared.record.CallStage.TheVariants as stage
-use Rattle.kernel_records.specs.Words.{Leaving, Port, ProcessTable, change_thread, count_object, deserted_at, deserted_in, idle_thread, interrupted_state, interrupted_where, is_left, is_ready_for, is_served_by, left_thread, left_thread_of, left_threads, opening_state, port_of, set_thread_state, state_in, thread_at, thread_at_state, thread_in_invocation, thread_outside}
+use Rattle.kernel_records.specs.Words.{Leaving, Port, ProcessTable, change_thread, count_object, deserted_at, deserted_in, idle_thread, interrupted_state, interrupted_where, is_left, is_ready_for, is_served_by, left_thread, left_thread_of, left_threads, port_of, set_thread_state, state_in, thread_at, thread_at_state, thread_in_invocation, thread_outside}
 use Rattle.kernel_records.proofs.Lists.{at_number-map, at_number-push}
 use Rattle.written_kernel.specs.Types.{Call, CallStage, Item, Name, Obj, Thread, ThreadState}
 use Rattle.written_kernel.proofs.Threads.{thread_at-change_thread}
@@ -119,11 +119,6 @@ module _ {tables : List (List (Option Obj))} {names : List Name} {calls : List C
       go : (o : Option Thread) → is_getting (state_in (option_map (left_thread_of who now left) o)) ≡ true → state_in (option_map (left_thread_of who now left) o) ≡ state_in o
       go None e = refl
       go (Some x) e = left_gets_so who now (find (is_served_by x.number) left) x e
-
--- a thread as it is added
-pub new_gets_not : (spare : Bool) → is_getting (opening_state spare) ≡ false
-new_gets_not true = refl
-new_gets_not false = refl
 
 -- no thread is there
 pub waits_none :

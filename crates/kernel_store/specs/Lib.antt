@@ -1,4 +1,5 @@
 pub mod Failing
+pub mod Forking
 pub mod Channels
 pub mod Frames
 pub mod Giving

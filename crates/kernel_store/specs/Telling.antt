@@ -1,7 +1,7 @@
 -- What ports are told once all else that follows an act is done.
 use Rattle.std.specs.Prelude.{◌≡◌, ℕ, ◌+◌, ◌≤◌, ◌==◌, ◌&&◌, ◌||◌, Bool, List, [], ◌∷◌, length, Option, None, Some, All, true, false, filter, is_none}
 use Rattle.std.specs.List.{list_any}
-use Rattle.act_changes.specs.Changed.{IsAfterAct, is_gone, readied}
+use Rattle.act_changes.specs.Changed.{IsAfterAct, UnbornHaveNoRows, is_gone, readied}
 use Rattle.act_changes.specs.Closed.{Closing, closed_rows}
 use Rattle.act_changes.specs.Ended.{process_ended, rows_ended}
 use Rattle.act_changes.specs.Ends.{is_end}
@@ -88,10 +88,12 @@ pub record TellsNothing (rooms : TellingRooms) : Type 0 where
 abbrev pub ReadiesAtMost : State → ℕ → Option Request → Option ℕ → Type 0
 ReadiesAtMost m t q pipe = (o : Obj) → readied m t q ≡ Some o → is_end o ≡ true → is_of_pipe pipe o ≡ true
 
--- Ports were told in the state m. Of a turn in it all is done but that they are told again, which has led to the state n. These are the
--- rows that its request closes, the pipe of what it readies, and the ends of pipes that have gone.
+-- Ports were told in the state m, in which no process that has not begun has a row. Of a turn in it all is done but that they are told
+-- again, which has led to the state n. These are the rows that its request closes, the pipe of what it readies, and the ends of pipes
+-- that have gone.
 pub record IsLeftToTell (m : State) (t : ℕ) (q : Option Request) (closed : ClosedRows) (pipe : Option ℕ) (lost : List Obj) (n : State) : Type 0 where
   pub told : AreTold m
+  pub unborn : UnbornHaveNoRows m
   pub after : IsAfterAct m t q n
   pub rows : closing_of closed ≡ closed_rows m t q
   pub readied : ReadiesAtMost m t q pipe

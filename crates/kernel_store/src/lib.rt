@@ -2,6 +2,7 @@
 //! in agreement with threads, doors, calls and notices.
 #![tactic(auto)]
 
+mod beginning;
 mod leaving;
 mod notices;
 mod paths;

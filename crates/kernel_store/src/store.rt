@@ -13,6 +13,7 @@ ghost use Rattle.kernel_store.specs.Stored.{AreThere, IsAgreed, may_have_notice_
 mod calls;
 mod channels;
 mod descriptors;
+mod forking;
 mod settling;
 mod steps;
 mod telling;

@@ -1,5 +1,5 @@
 //! Calls and notices, and the threads that serve them.
-ghost use Rattle.std.specs.Prelude.{◌≡◌, ℕ, ◌+◌, ◌<◌, ◌≤◌, ◌^◌, ◌∷◌, List, true, find, length, is_some, IfNone, IsSome, OnSome, Some};
+ghost use Rattle.std.specs.Prelude.{◌≡◌, ℕ, ◌+◌, ◌<◌, ◌≤◌, ◌^◌, ◌∷◌, List, false, true, find, length, is_some, IfNone, IsSome, OnSome, Some};
 ghost use Rattle.dk_base.specs.declared.object.Item.TheVariants as item;
 ghost use Rattle.dk_base.specs.declared.limits.TheConstants.{PASS_MAX, QUEUE_MAX};
 ghost use Rattle.kernel_records.specs.declared.record.ThreadState.TheVariants as is;
@@ -7,7 +7,7 @@ ghost use Rattle.kernel_records.specs.Words.{collect_call, end_invocation, end_n
 ghost use Rattle.call_tree.specs.Calls.{args_in};
 ghost use Rattle.call_tree.specs.Words.{outcome_in, queued_call};
 ghost use Rattle.written_kernel.specs.Types.{Pool};
-ghost use Rattle.written_kernel.specs.Words.{bound_of, calls_waiting, is_running, is_valid, now, pool_of, state_of};
+ghost use Rattle.written_kernel.specs.Words.{bound_of, calls_waiting, has_invalid_door, is_running, is_valid, now, pool_of, state_of};
 ghost use Rattle.pool_agreement.specs.Words.{own_pool};
 ghost use Rattle.kernel_holdings.specs.Words.{results_in};
 ghost use Rattle.thread_set.specs.declared.set.ThreadSet.{ThreadSet};
@@ -115,9 +115,11 @@ impl Store {
         objects
     }
 
-    /// A thread that runs returns to its client, if it has one, or its notice is over, and it is parked (door_return(3C)).
+    /// A thread that runs returns to its client, if it has one, or its notice is over, and it is parked (door_return(3C)). It is not bound
+    /// to a door that is not valid.
     pub fn return_call(&mut self, t: Tid, bytes: Bytes, objects: ObjList)
         requires running { is_running (stored_state self.old) t.0 ≡ true }
+        requires parks { has_invalid_door (stored_state self.old) t.0 ≡ false }
         requires can_act { CanAct (own_pool (stored_state self.old) t.0) self.old }
         requires held { AreHeld (stored_state self.old) }
         requires references { HasRoomForReferences self.old }

@@ -1,11 +1,11 @@
 //! The processes and threads of the opening, the memory that an event can need, and where its step begins and ends.
-ghost use Rattle.std.specs.Prelude.{◌≡◌, ℕ, ◌+◌, ◌<◌, ◌≤◌, ◌++◌, ◌∷◌, [], Bool, List, filter, length, true, IfOk, OnOk, OnErr};
+ghost use Rattle.std.specs.Prelude.{◌≡◌, ◌||◌, ℕ, ◌+◌, ◌<◌, ◌≤◌, ◌++◌, ◌∷◌, [], Bool, List, filter, length, true, IfOk, OnOk, OnErr};
 ghost use Rattle.dk_base.specs.declared.limits.TheConstants.{DESCRIPTORS_MAX, PROCESSES_MAX, THREADS_MAX, EVENTS_MAX};
 ghost use Rattle.dk_base.specs.declared.object.Obj.{Obj};
 ghost use Rattle.written_kernel.specs.Types.{Pool};
 ghost use Rattle.kernel_records.specs.declared.pool.Pool.TheVariants as pool;
 ghost use Rattle.kernel_records.specs.Words.{empty_table, new_process, notice_doors, pid};
-ghost use Rattle.written_kernel.specs.Words.{is_live_process, with_event_counted, with_new_process, with_new_thread};
+ghost use Rattle.written_kernel.specs.Words.{is_live_process, is_unborn_process, with_event_counted, with_new_process, with_new_thread};
 ghost use Rattle.server_pool.specs.Words.{empty_pool};
 ghost use Rattle.unref_notice.specs.Words.{was_shared};
 ghost use Rattle.unref_notice.specs.declared.counts.TheConstants.{STEP_MAX};
@@ -14,6 +14,7 @@ ghost use Rattle.unref_notice.specs.declared.notices.TheConstants.{NOTICES_MAX};
 ghost use Rattle.kernel_store.specs.Frames.{FillsNoPool, IsAtRest, KeepsPools};
 ghost use Rattle.kernel_store.specs.Stored.{ArePlaced, HasBegun, HasRoom, HasRoomForNotices, HasWholeStep, has_fallen_since, stored_state};
 
+use crate::beginning::{add_thread, begins_dormant};
 use crate::notices::renew_room;
 use crate::store::Store;
 use dk_base::error::NoMemory;
@@ -77,24 +78,25 @@ impl Store {
         Ok(self)
     }
 
-    /// Another thread of a process that lives, under the next number: one that runs, or a spare one that was not started. Want
-    /// of memory changes nothing.
+    /// Another thread of a process that lives, or has not begun, under the next number: one that runs, or one that is Dormant, as a
+    /// spare one or one of a process that has not begun. Want of memory changes nothing.
     pub fn add_thread(&mut self, p: Pid, spare: bool) -> Result<Tid, NoMemory>
         requires few { length self.old.processes.threads < THREADS_MAX }
-        requires lives { is_live_process (stored_state self.old) p.0 ≡ true }
+        requires lives { (is_live_process (stored_state self.old) p.0 || is_unborn_process (stored_state self.old) p.0) ≡ true }
         ensures ok { OnOk result (stored_state self.new ≡ with_new_thread (stored_state self.old) p.0 spare) }
         ensures number { IfOk result (λ t. t.0 ≡ length self.old.processes.threads + 1) }
         ensures err { OnErr result (stored_state self.new ≡ stored_state self.old) }
         ensures rest { (n : ℕ) → IsAtRest n self.old → IsAtRest n self.new }
     {
         let number = Tid(self.processes.thread_count() + 1);
-        if spare {
+        let dormant = begins_dormant(&self.processes, p, spare);
+        if dormant {
             self.pools.add_spare(p, number)?;
         }
-        if self.processes.add_thread(p, spare).is_ok() {
+        if add_thread(&mut self.processes, p, spare).is_ok() {
             return Ok(number);
         }
-        if spare {
+        if dormant {
             self.pools.take_back(p);
         }
         Err(NoMemory)

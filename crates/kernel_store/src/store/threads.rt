@@ -6,6 +6,7 @@ ghost use Rattle.kernel_records.specs.Words.{bind_thread, close_table, end_owner
 ghost use Rattle.written_kernel.specs.Words.{bound_of, forget, is_running, leave, state_of, table_of, with_state};
 ghost use Rattle.dk_base.specs.declared.limits.TheConstants.{DESCRIPTORS_MAX};
 ghost use Rattle.kernel_holdings.specs.Words.{TRANSIT_MAX};
+ghost use Rattle.kernel_store.specs.Forking.{KeepsDormant};
 ghost use Rattle.kernel_store.specs.Frames.{AreItsDoors, CanLeave, IsDeclared, FillsNoPool, FillsNoQueue, IsActive, KeepsForNotices, KeepsPools, ParksAgain};
 ghost use Rattle.kernel_store.specs.Stored.{stored_state};
 
@@ -80,6 +81,7 @@ impl Store {
         ensures queues { FillsNoQueue self.old self.new }
         ensures parked { IfOk result (λ parked. ParksAgain parked self.old self.new) }
         ensures left { OnOk result (self.old.left ≤ self.new.left + TRANSIT_MAX) }
+        ensures dormant { OnOk result (KeepsDormant (leaving_of (stored_state self.old).process_table (stored_state self.old).doors who) (stored_state self.old) (stored_state self.new)) }
         ensures as_before { OnErr result (stored_state self.new ≡ stored_state self.old) }
         ensures fills { OnErr result (FillsNoPool self.old self.new) }
     {

@@ -10,7 +10,7 @@ use Rattle.kernel_store.proofs.LeftOut.{has_idle, left_out, told_within}
 use Rattle.call_agreement.proofs.Leaving.{calls_left}
 use Rattle.call_agreement.specs.Words.{AreBacked}
 use Rattle.kernel_holdings.specs.Words.{HoldingsValue}
-use Rattle.kernel_records.specs.Words.{CallTree, ProcessTable, kept_notices, leaving_of, left_notices}
+use Rattle.kernel_records.specs.Words.{CallTree, ProcessTable, is_dormant, kept_notices, leaving_of, left_notices, state_in, thread_at}
 use Rattle.written_kernel.specs.Words.{forget, leave}
 use Rattle.server_pool.specs.Words.{item_room_in}
 use Rattle.pool_agreement.specs.Words.{Agrees}
@@ -20,8 +20,8 @@ use Rattle.unref_notice.specs.Words.{AreAllLeft}
 use Rattle.kernel_store.specs.Held.{AreHeld}
 use Rattle.kernel_store.proofs.HeldNotices.{all_are_left}
 use Rattle.kernel_store.specs.Stored.{ArePlaced, StoreValue, stored_state}
-use Rattle.exit_paths.proofs.LeftThreads.{leaving_after}
-use Rattle.kernel_store.proofs.LeftStore.{early, parked_early}
+use Rattle.kernel_store.proofs.LeftStore.{all_left_alike, early, notices_alike, parked_early}
+use Rattle.kernel_store.proofs.Forking.{dormant_left}
 use Rattle.kernel_store.proofs.Lost.{can_end}
 use Rattle.kernel_store.proofs.There.{there_fewer}
 use Rattle.kernel_store.proofs.Short.{no_less_items, there_before}
@@ -52,12 +52,11 @@ leave_notices-requires-clause-left c =
     let who = leaving_of s.processes doors c.args.who in
     let tree = s.held.calls.tree in
     let exited = c.in_ok-left.ensures.left in
-    let after : leaving_of c.leave.new.procs doors c.args.who ≡ who =
-    ap (λ (t : ProcessTable). leaving_of t doors c.args.who) exited.threads ∙ leaving_after s.processes doors c.args.who who (s.events + 1) tree.calls in
-    subst (λ w. AreAllLeft w (c.slice-2.result.now ++ c.slice-3.result.now) s.notices.list.notices) (sym after)
+    subst (λ (table : ProcessTable). AreAllLeft (leaving_of table doors c.args.who) (c.slice-2.result.now ++ c.slice-3.result.now) s.notices.list.notices) (sym exited.threads)
+    (all_left_alike s.processes doors who (s.events + 1) tree.calls c.args.who (c.slice-2.result.now ++ c.slice-3.result.now) s.notices.list.notices
     (rw (c.slice-2.ensures, c.slice-3.ensures)
     (all_are_left who s.processes s.notices.list.notices c.in_ok-left.left.untaken c.in_ok-had.had.items (subst (λ (v : StoreValue). AreHeld (stored_state v)) (sym c.self.view_is) c.requires.can.held)
-    (exited.untaken s.notices.list (agrees_later c.self.invariant.0 (s.events + 1) (let l = early c.self.invariant.0 c.self.view_is c.requires.can.latest in omega arith))) (c.in_ok-had.ensures doors)))
+    (exited.untaken s.notices.list (agrees_later c.self.invariant.0 (s.events + 1) (let l = early c.self.invariant.0 c.self.view_is c.requires.can.latest in omega arith))) (c.in_ok-had.ensures doors))))
 
 pub leave_notices-requires-clause-kept : goal.leave_notices-requires-clause-kept
 leave_notices-requires-clause-kept c = list_is_kept c.self.invariant.0
@@ -71,10 +70,10 @@ invariant_of-self-2 c =
     let exited = c.in_ok-left.ensures.left in
     let placed = subst (λ (v : StoreValue). ArePlaced (stored_state v)) (sym c.self.view_is) c.requires.can.placed in
     let l : s.latest < s.events + 1 = early c.self.invariant.0 c.self.view_is c.requires.can.latest in
-    let after : leaving_of c.leave.new.procs doors c.args.who ≡ who =
-    ap (λ (t : ProcessTable). leaving_of t doors c.args.who) exited.threads ∙ leaving_after s.processes doors c.args.who who (s.events + 1) tree.calls in
     let notices : c.leave_notices.new.notices.list ≡ kept_notices doors (left_notices who s.notices.list) =
-    c.leave_notices.ensures.list ∙ ap (λ w. kept_notices doors (left_notices w s.notices.list)) after in
+    c.leave_notices.ensures.list
+    ∙ ap (λ (t : ProcessTable). kept_notices doors (left_notices (leaving_of t doors c.args.who) s.notices.list)) exited.threads
+    ∙ ap (kept_notices doors) (notices_alike s.processes doors who (s.events + 1) tree.calls c.args.who s.notices.list) in
     let agreed = exited.agreed s.notices.list (agrees_later c.self.invariant.0 (s.events + 1) (omega arith)) in (
       subst (λ list. Agrees (s.events + 1) c.leave.new.procs doors c.leave.new.self.calls.tree list c.leave.new.pools) (sym notices)
           agreed,
@@ -98,10 +97,10 @@ returns-clause-state c =
     let who = leaving_of s.processes doors c.args.who in
     let tree = s.held.calls.tree in
     let exited = c.in_ok-left.ensures.left in
-    let after : leaving_of c.leave.new.procs doors c.args.who ≡ who =
-    ap (λ (t : ProcessTable). leaving_of t doors c.args.who) exited.threads ∙ leaving_after s.processes doors c.args.who who (s.events + 1) tree.calls in
     let notices : c.leave_notices.new.notices.list ≡ kept_notices doors (left_notices who s.notices.list) =
-    c.leave_notices.ensures.list ∙ ap (λ w. kept_notices doors (left_notices w s.notices.list)) after in
+    c.leave_notices.ensures.list
+    ∙ ap (λ (t : ProcessTable). kept_notices doors (left_notices (leaving_of t doors c.args.who) s.notices.list)) exited.threads
+    ∙ ap (kept_notices doors) (notices_alike s.processes doors who (s.events + 1) tree.calls c.args.who s.notices.list) in
     rw c.in_ok-left.ensures.same
     (rw (exited.threads, exited.bindings, exited.calls, notices)
     (ap (λ (v : StoreValue). forget (leave (stored_state v) (leaving_of v.processes v.doors.items c.args.who))) c.self.view_is))
@@ -147,3 +146,13 @@ returns-clause-parked c =
           c.leave.new.self.calls.tree s.notices.list s.pools c.leave.new.pools before (exited.agreed s.notices.list before) exited.threads exited.calls
           exited.bindings c.set_of.result all (subst (λ (v : StoreValue). IsGivenOut v.pools) (sym c.self.view_is) out) pool;
     }
+
+pub returns-clause-dormant : goal.returns-clause-dormant
+returns-clause-dormant c = λ t stays asleep.
+    let s = c.self.inside in
+    let placed = subst (λ (v : StoreValue). ArePlaced (stored_state v)) (sym c.self.view_is) c.requires.can.placed in
+    let who = leaving_of s.processes s.doors.items c.args.who in
+    ap (λ (table : ProcessTable). is_dormant (state_in (thread_at table t))) c.in_ok-left.ensures.left.threads
+    ∙ dormant_left s.processes s.held.calls.tree.calls who (s.events + 1) placed.thread_number c.self.invariant.2 t
+    (ap (λ (v : StoreValue). (leaving_of v.processes v.doors.items c.args.who).ends t) c.self.view_is ∙ stays)
+    (ap (λ (v : StoreValue). is_dormant (state_in (thread_at v.processes t))) c.self.view_is ∙ asleep)

@@ -7,6 +7,7 @@ use Rattle.call_agreement.proofs.Backing.{returned_turns}
 use Rattle.pool_agreement.proofs.Noticing.{agrees_end_notice, list_is_kept}
 use Rattle.pool_agreement.proofs.Queues.{agrees_return}
 use Rattle.kernel_store.proofs.Acts.{running_not_done, running_not_dormant, running_not_idle, state_is}
+use Rattle.kernel_store.proofs.LostDoor.{lost_not_valid}
 use Rattle.kernel_store.proofs.Parking.{can_park, parked_here, parked_keeps, parked_queues}
 use Rattle.unref_notice.specs.Words.{IsAllEntered}
 use Rattle.kernel_store.specs.Held.{AreHeld}
@@ -20,7 +21,7 @@ use Rattle.kernel_store.specs.Turning.{is_port}
 use Rattle.kernel_store.proofs.store.Store.return_call.Goals as goal
 
 pub park-requires : goal.park-requires
-park-requires c = can_park c.self.invariant.0 c.self.view_is c.args.t.0 c.requires.can_act (running_not_done _ c.requires.running)
+park-requires c = can_park c.self.invariant.0 c.self.view_is c.args.t.0 c.requires.can_act (running_not_done _ c.requires.running) (lost_not_valid (stored_state c.args.self.now) c.args.t.0 c.requires.parks)
 
 pub end_notice-requires-clause-entered : goal.end_notice-requires-clause-entered
 end_notice-requires-clause-entered c =
@@ -38,7 +39,7 @@ invariant_of-self c =
     rw (c.give_back.ensures.same, c.give_back.ensures.calls, ended, c.park.ensures.thread, c.park.ensures.pools) (
       agrees_end_notice
           (agrees_return
-          (parked_here c.self.invariant.0 c.self.view_is c.args.t.0 c.requires.can_act (running_not_done _ running) (running_not_idle _ running) (running_not_dormant _ running))
+          (parked_here c.self.invariant.0 c.self.view_is c.args.t.0 c.requires.can_act (running_not_done _ running) (lost_not_valid (stored_state c.args.self.now) c.args.t.0 c.requires.parks) (running_not_idle _ running) (running_not_dormant _ running))
           c.args.t.0 c.args.bytes c.args.objects)
           c.args.t.0,
       rw (c.give_back.ensures.same, c.give_back.ensures.calls) at (there_more c.self.inside.doors.items c.self.inside.held c.give_back.new.self c.args.objects c.self.invariant.1 (rw (← c.self.view_is) at c.requires.there) c.give_back.ensures.references),
@@ -53,11 +54,11 @@ invariant_of-self c =
 
 pub returns-clause-keeps : goal.returns-clause-keeps
 returns-clause-keeps c =
-    parked_keeps c.self.invariant.0 c.self.view_is c.args.t.0 c.requires.can_act (running_not_done _ c.requires.running) _ c.park.ensures.pools refl (search rules) (search rules) (search rules)
+    parked_keeps c.self.invariant.0 c.self.view_is c.args.t.0 c.requires.can_act (running_not_done _ c.requires.running) (lost_not_valid (stored_state c.args.self.now) c.args.t.0 c.requires.parks) _ c.park.ensures.pools refl (search rules) (search rules) (search rules)
 
 pub returns-clause-queues : goal.returns-clause-queues
 returns-clause-queues c =
-    parked_queues c.self.invariant.0 c.self.view_is c.args.t.0 c.requires.can_act (running_not_done _ c.requires.running) _ c.park.ensures.pools
+    parked_queues c.self.invariant.0 c.self.view_is c.args.t.0 c.requires.can_act (running_not_done _ c.requires.running) (lost_not_valid (stored_state c.args.self.now) c.args.t.0 c.requires.parks) _ c.park.ensures.pools
 
 pub returns-clause-state : goal.returns-clause-state
 returns-clause-state c =

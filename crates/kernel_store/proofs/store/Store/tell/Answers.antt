@@ -13,7 +13,7 @@ fire-requires-clause-named c =
     let n = stored_state c.args.self.now in
     subst (λ (gone : List Obj). AreNamed (stored_state c.end_closed.new.self) c.args.pipe gone) (sym c.slice.ensures)
     (left_named c.requires.told.0 c.requires.told.1 c.requires.told.2 n (stored_state c.end_closed.new.self) c.args.pipe c.args.rooms.now.gone.items
-    (leaves_to_tell c.requires.told.0 c.requires.told.1 c.requires.told.2 n h.after h.told)
+    (leaves_to_tell c.requires.told.0 c.requires.told.1 c.requires.told.2 n h.unborn h.after h.told)
     (c.end_closed.ensures.state ∙ ended_lost h) h.readied h.gone)
 
 pub returns-clause-state : goal.returns-clause-state
