@@ -9,7 +9,7 @@ use Rattle.dk_base.specs.Words.{RoomValue}
 use Rattle.kernel_store.specs.declared.told.ClosedRows.{ClosedRows}
 use Rattle.kernel_store.specs.declared.told.ClosedRows.TheVariants as closed
 use Rattle.kernel_store.specs.declared.told.TellingRooms.{TellingRooms}
-use Rattle.written_kernel.specs.Types.{Answer, Obj, Request, Stepped}
+use Rattle.written_kernel.specs.Types.{Answer, Fd, Obj, Request, Stepped}
 use Rattle.written_kernel.specs.Words.{IsStep, StandsFor, State, act, enter, forget, give, has_first_common_door, process_of, settle, settle_pools, step, tell, with_event_counted, woken_threads}
 use Rattle.pool_agreement.specs.Words.{IsGivenOut, is_this}
 use Rattle.kernel_store.specs.Words.{AreGone, ArePlaced, FillsNoPool, HasBegun, HasOpened, IsAtRest, IsInEvent, IsLeftToTell, KeepsForNotices, KeepsPools, ReadiesAtMost, StoreValue, can_turn, closing_of, is_of_pipe, stored_state}
@@ -58,6 +58,7 @@ has_acted start before n t q taken a first can noticing turning same ready acted
       first_common = made;
       keeps = keeps;
       told = can.told;
+      unborn = can.unborn;
       rows = rows;
       readied = readied;
       fallen = refl;
@@ -176,6 +177,7 @@ module _ {start before after : Parts} {t : ℕ} {q : Option Request} {taken : Ta
       subst (IsLeftToTell m t q taken.closed taken.pipe gone) (sym (pooled_acted s settles))
       (record {
         told = h.told;
+        unborn = h.unborn;
         after = settled_is_after m t q m n after_acted;
         rows = h.rows;
         readied = h.readied;
@@ -194,11 +196,11 @@ module _ {start before after : Parts} {t : ℕ} {q : Option Request} {taken : Ta
   events_settled s e = let g : IsSettled m (stored_state s) = settled_after m n (stored_state s) t q h.acted e in g.events ∙ sym events_acted
 
   pub ready_settled :
-      (s : StoreValue) (list : RoomValue ℕ) (rooms : TellingRooms) → stored_state s ≡ settle m n →
-      IsReadyToSettle (record after { store = s; fallen = list; rooms = rooms })
-  ready_settled s list rooms e =
+      (s : StoreValue) (list : RoomValue ℕ) (rooms : TellingRooms) (fds : RoomValue Fd) → stored_state s ≡ settle m n →
+      IsReadyToSettle (record after { store = s; fallen = list; rooms = rooms; released = fds })
+  ready_settled s list rooms fds e =
       let g : IsSettled m (stored_state s) = settled_after m n (stored_state s) t q h.acted e in
-      ready_after before (record after { store = s; fallen = list; rooms = rooms }) taken h.ready h.woken (g.threads ∙ sym (ap (λ (k : State). length k.process_table.threads) h.same))
+      ready_after before (record after { store = s; fallen = list; rooms = rooms; released = fds }) taken h.ready h.woken (g.threads ∙ sym (ap (λ (k : State). length k.process_table.threads) h.same))
 
   -- no more notices are made than doors fell to one reference
   pub made_settled :

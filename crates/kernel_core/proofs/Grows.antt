@@ -18,11 +18,12 @@ use Rattle.kernel_records.specs.declared.record.ThreadState.TheVariants as is
 use Rattle.kernel_records.specs.declared.record.CallStage.TheVariants as stage
 use Rattle.kernel_records.specs.declared.port.Alert.{Alert}
 use Rattle.dk_base.specs.ByNumber.{at_number}
-use Rattle.kernel_records.specs.Words.{CallTree, NoticeList, Port, ProcessTable, events_found, first_found, found_at, record_of, records_of, at_stage, change_first, change_thread, change_thread_in, end_notice, enter_notice, first_refusal, idle_thread, insert_row, is_client_call_of, is_given_as, is_live_call, is_queued_as, is_to_collect_as, left_call, new_descriptors, object_passed, objects_passed, process_end, return_call, revocation, revoked_door, thread_at, thread_at_state, thread_in_invocation, thread_outside, tid, unbind_thread, with_owner_ended, without_arguments_at, Leaving, Test, change_door, change_door_in, refused_where, with_param, has_refused_size, has_too_many, is_valid_in, refuses_descriptors_in}
-use Rattle.written_kernel.specs.Words.{ActResult, Channels, IsFit, StandsFor, State, after_sending, errors_of_sending, event_answer, found_answer, held_in, pipe_at, port, port_at, act, call, call_tests, client_call, collect, collect_answer, collect_answer_in, create, door_named, find_call, fail_return, give_one, has_lost_door, has_room, is_due, leave, leave_process, new_call, now, object_at, objects_collected_in, pass_tests, pick, pool_of, process_of, return_tests, revoke, settle, state_of, table_of, tables_after_collect, tables_after_pass, tables_with, tell, with_state, set_parameter, door_at, door_of, pool_tests}
+use Rattle.kernel_records.specs.Words.{CallTree, NoticeList, Port, ProcessTable, events_found, first_found, found_at, record_of, records_of, at_stage, change_first, change_thread, change_thread_in, end_notice, begin_process, begun_thread, enter_notice, first_refusal, forking, idle_thread, insert_row, is_client_call_of, is_given_as, is_live_call, is_queued_as, is_to_collect_as, left_call, new_descriptors, object_passed, objects_passed, process_end, return_call, revocation, revoked_door, thread_at, thread_at_state, thread_in_invocation, thread_outside, tid, unbind_thread, with_owner_ended, without_arguments_at, Leaving, Test, change_door, change_door_in, refused_where, with_param, has_refused_size, has_too_many, is_valid_in, refuses_descriptors_in}
+use Rattle.written_kernel.specs.Words.{ActResult, Channels, IsFit, StandsFor, State, after_sending, errors_of_sending, event_answer, fork, found_answer, held_in, pipe_at, port, port_at, act, call, call_tests, client_call, collect, collect_answer, collect_answer_in, create, door_named, find_call, fail_return, give_one, has_lost_door, has_room, is_due, leave, leave_process, new_call, now, object_at, objects_collected_in, pass_tests, pick, pool_of, process_of, return_tests, revoke, settle, state_of, table_of, tables_after_collect, tables_after_pass, tables_with, tell, with_state, set_parameter, door_at, door_of, pool_tests}
 use Rattle.kernel_records.proofs.Lists.{length-with_at_number}
 use Rattle.kernel_records.proofs.Places.{length-change_first}
 use Rattle.written_kernel.proofs.CallLists.{IsOver, left_call-over}
+use Rattle.written_kernel.proofs.Threads.{threads-begin_process}
 use Rattle.written_kernel.proofs.Leaving.{calls-leave, threads-leave, threads_of-leave_process}
 use Rattle.written_kernel.proofs.Settling.{settle-all, with_notice_of}
 use Rattle.channel_invariant.specs.Channels.{IsAmong, Made, WaitsAtMade, made_in}
@@ -390,6 +391,22 @@ leave_process-grows m p =
       small = g.small;
     }
 
+-- a child begins
+fork-grows : (m : State) (t p child : ℕ) → Grows 1 m (fork m t p child).state
+fork-grows m t p child =
+    let g = leave-grows m (forking m.process_table t) in
+    record {
+      threads = threads-begun (leave m (forking m.process_table t)).process_table child ∙ g.threads;
+      calls = g.calls;
+      doors = g.doors;
+      calls_made = g.calls_made;
+      events = refl;
+      small = g.small;
+    }
+  where
+    threads-begun : (table : ProcessTable) (p : ℕ) → length (begin_process table p).threads ≡ length table.threads
+    threads-begun table p = ap length (threads-begin_process table p) ∙ length-map table.threads (begun_thread p)
+
 revoke-tidy : (m : State) (t : ℕ) (q : Option Request) (p : ℕ) (fd : Fd) → IsTidy m t q (revoke m p fd)
 revoke-tidy m t q p fd =
     let g = leave-grows m (revocation (door_at m p fd)) in
@@ -509,6 +526,7 @@ move-tidy m t q a (Moves.enters_notice n e) =
 move-tidy m t q a (Moves.collects c e) = collect-tidy m t q (process_of m t) c
 move-tidy m t q a (Moves.leaves r who _) = record { grows = leave-grows m who; small = λ h fit. tt }
 move-tidy m t q a (Moves.revokes fd f) = revoke-tidy m t q (process_of m t) fd
+move-tidy m t q a (Moves.forks child f) = record { grows = fork-grows m t (process_of m t) child.0; small = λ h fit. tt }
 move-tidy m t q a (Moves.ends r p _) = record { grows = leave_process-grows m p; small = λ h fit. tt }
 move-tidy m t q a (Moves.passes r c x p) = record { grows = channels-grow m c; small = λ h fit. passed-small m t r c x p fit }
 move-tidy m t q a (Moves.makes_channel r c objects x (makes_pipe f)) = door-tidy m a.state t q a refl refl refl refl (omega arith) tt

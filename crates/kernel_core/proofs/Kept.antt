@@ -1,11 +1,12 @@
 -- A kernel's events keep that what it keeps comes from a written state, and a refused entry changes nothing else.
-use Rattle.std.proofs.Common.{◌≡◌, ℕ, ◌+◌, ◌<◌, ◌≤◌, Bool, true, false, not, List, Option, Some, None, Result, Ok, Err, IfOk, OnOk, OnErr, slice_get, length, refl, subst, sym, ap, ◌∙◌, arith, All, is_some}
+use Rattle.std.proofs.Common.{◌≡◌, ℕ, ◌+◌, ◌<◌, ◌≤◌, ◌||◌, ⊎_elim, true≢false, Bool, true, false, if◌then◌else◌, not, List, Option, Some, None, Result, Ok, Err, IfOk, OnOk, OnErr, slice_get, length, refl, subst, sym, ap, ◌∙◌, arith, All, is_some}
+use Rattle.std.specs.List.{list_any}
 use Rattle.kernel_records.proofs.NumberedLists.{find-slice_get}
 use Rattle.written_kernel.specs.Types.{Call, CallStage, Door, Errno, NoMemory, Notice, NoticeStage, Process, Request, Stepped, Thread, ThreadState, Tid}
 use Rattle.dk_base.specs.declared.answer.Answer.TheVariants.{Failure}
 use Rattle.dk_base.specs.declared.limits.TheConstants.{EVENTS_MAX, THREADS_MAX}
-use Rattle.written_kernel.specs.Words.{IsOpening, IsStep, MayTurn, StandsFor, State, act, effect, forget, has_lost_door, opening, pick, pool_of, invocation_of, state_of, process_of, refusal_of, step, unless_refused, waiting_items, with_event_counted, with_new_thread, is_live_process, door_of, port, port_at, thread_of}
-use Rattle.written_kernel.specs.Opening.IsOpening.{processes, thread}
+use Rattle.written_kernel.specs.Words.{IsOpening, IsStep, MayTurn, StandsFor, State, act, effect, forget, has_lost_door, opening, pick, pool_of, invocation_of, state_of, process_of, refusal_of, step, unless_refused, waiting_items, with_child, with_event_counted, with_new_thread, bound_of, is_live_process, is_thread_of, is_unborn_process, door_of, port, port_at, table_of, thread_of}
+use Rattle.written_kernel.specs.Opening.IsOpening.{child, processes, thread}
 use Rattle.written_kernel.proofs.Forget.{IsStep-stands_for, act-forget, is_runnable-forget, refusal_of-forget, waiting_items-forget}
 use Rattle.dk_base.specs.ByNumber.{at_number}
 use Rattle.std.proofs.lemmas.Bool.Decides.{nat_tests}
@@ -13,20 +14,22 @@ use Rattle.kernel_records.specs.declared.record.CallStage.TheVariants as stage
 use Rattle.kernel_records.specs.declared.record.NoticeStage.TheVariants as notice
 use Rattle.kernel_records.specs.declared.record.ThreadState.TheVariants as is
 use Rattle.dk_base.specs.declared.object.Item.TheVariants as item
-use Rattle.kernel_records.specs.Words.{call_number, is_kept_notice, is_live_call, is_live_in, is_live_stage, is_owned_by, is_queued, is_valid_door, is_valid_in, is_waiting_stage, notice_number, process_in, tid}
+use Rattle.kernel_records.specs.Words.{call_number, is_kept_notice, is_live_call, is_live_in, is_live_stage, is_owned_by, is_private_in, is_queued, is_unborn_in, is_unborn_stage, is_valid_door, is_valid_in, is_waiting_stage, notice_number, process_in, tid}
 use Rattle.kernel_records.proofs.Lists.{numbered_there}
 use Rattle.written_kernel.proofs.Opening.{IsDeclaredIn, forget-opening, opened}
 use Rattle.written_kernel.proofs.Steps.{events-step}
 use Rattle.channel_invariant.specs.Channels.{AreChannels}
 use Rattle.channel_invariant.proofs.Acts.{step_fits}
 use Rattle.channel_invariant.proofs.Runs.{opening_fits}
-use Rattle.kernel_invariant.specs.Coherent.{is_unfit}
+use Rattle.kernel_records.specs.declared.pool.TheConstants.{LOST_DOOR}
+use Rattle.kernel_invariant.specs.Coherent.{bound_for, is_unfit}
 use Rattle.kernel_invariant.specs.Core.{door_in, is_outside, notice_in, noticed_door_in, number_in}
 use Rattle.kernel_invariant.specs.Events.{Keeps, may_lose_door}
 use Rattle.kernel_invariant.specs.Invariant.{IsConsistent}
 use Rattle.kernel_invariant.specs.Told.{AreTold}
-use Rattle.act_changes.proofs.Kept.{told-forget, told-kept}
-use Rattle.kernel_invariant.specs.Records.{item_in, notice_of, owner_in, stage_in}
+use Rattle.act_changes.specs.Changed.{UnbornHaveNoRows}
+use Rattle.act_changes.proofs.Kept.{told-forget, told-kept, unborn_have_none}
+use Rattle.kernel_invariant.specs.Records.{item_in, notice_of, owner_in, record_of, stage_in}
 use Rattle.kernel_store.specs.Words.{AreHeld, ArePlaced, WaitAtValidDoors, held_as, stored_state}
 use Rattle.kernel_core.specs.declared.event.Parts.{Parts}
 use Rattle.kernel_core.specs.Acted.{CanStep, IsBetweenEvents}
@@ -182,13 +185,24 @@ pub opening_kept : {m : State} → IsOpening m → IsKept m
 opening_kept {m} o =
     record { written = m; stands = sym (forget-opening o); invariant = opening_keeps m o; channels = opening_fits m o; opening = λ e. o }
 
--- the processes of an opening live
-pub opening_lives : (m : State) (p : ℕ) → IsOpening m → IsDeclaredIn m p → is_live_process m p ≡ true
-opening_lives m p o there = go (at_number m.process_table.processes p) refl (numbered_there m.process_table.processes p there.0 there.1)
+-- the processes of an opening live, or have not begun
+pub opening_stands : (m : State) (p : ℕ) → IsOpening m → IsDeclaredIn m p → (is_live_process m p || is_unborn_process m p) ≡ true
+opening_stands m p o there = go (at_number m.process_table.processes p) refl (numbered_there m.process_table.processes p there.0 there.1)
   where
-    go : (x : Option Process) → at_number m.process_table.processes p ≡ x → is_some x ≡ true → is_live_in x ≡ true
+    go : (x : Option Process) → at_number m.process_table.processes p ≡ x → is_some x ≡ true → (is_live_in x || is_unborn_in x) ≡ true
     go None e f = grind arith
-    go (Some x) e f = ap is_live_stage ((opened o).processes p x e).stage
+    go (Some x) e f =
+        ⊎_elim (λ s. ap (λ k. is_live_stage k || is_unborn_stage k) s) (λ s. ap (λ k. is_live_stage k || is_unborn_stage k) s) ((opened o).processes p x e).stage
+
+-- a process of an opening becomes a child
+pub child_kept :
+    (old new : State) (child parent : ℕ) → IsKept old → old.events ≡ 0 → (1 ≤ parent) × (parent < child) × (child ≤ length old.process_table.processes) →
+    length (table_of old child) ≡ length (table_of old parent) → list_any (is_thread_of child) old.process_table.threads ≡ false →
+    new ≡ with_child old child parent → IsKept new
+child_kept old new c parent k z order limit none e = subst IsKept (sym e) (opening_kept (child c parent order.0 order.1 order.2 limit none (k.opening z)))
+
+pub within_child : (m : State) (child parent : ℕ) → IsWithin m → IsWithin (with_child m child parent)
+within_child m c parent w = record { events = w.events; doors = w.doors; calls_made = w.calls_made; notices_made = w.notices_made; small = w.small }
 
 pub processes_kept : (limits : List ℕ) (m : State) → m ≡ opening limits → IsKept m
 processes_kept limits m e = subst IsKept (sym e) (opening_kept (processes limits))
@@ -247,6 +261,22 @@ module _ (m : State) (h : IsConsistent m) where
       ap (λ o. is_some (door_of m (noticed_door_in o))) (sym found)
       ∙ h.coherent.notices_at_doors.notice_door n.number (ap (λ o. is_some (notice_in o)) found)
 
+  -- a thread that was given a call is bound to the call's door, or to none
+  given_not_lost : (i : ℕ) (r : Call) (u : Tid) → slice_get m.call_tree.calls i ≡ Some r → r.stage ≡ stage.Given u → bound_of m u.0 ≡ Some LOST_DOOR → ⊥
+  given_not_lost i r u e s lost =
+      let found = find-slice_get call_number m.call_tree.calls 0 i r h.in_order e in
+      let bound = h.coherent.at_doors.given_bound r.number u.0 (ap stage_in found ∙ ap Some s) in
+      none (door_in (record_of m r.number)) (sym bound ∙ lost)
+    where
+      none : (d : ℕ) → bound_for d (door_of m d) ≡ Some LOST_DOOR → ⊥
+      none d f = go (is_private_in (door_of m d)) refl f
+        where
+          go : (b : Bool) → is_private_in (door_of m d) ≡ b → (if b then Some d else None) ≡ Some LOST_DOOR → ⊥
+          go true g k =
+              let same : d ≡ LOST_DOOR = cc in
+              true≢false (sym g ∙ ap is_private_in (ap (door_of m) same ∙ h.coherent.doors.none_lost))
+          go false g k = cc
+
   places : ArePlaced m
   places =
       record {
@@ -254,8 +284,9 @@ module _ (m : State) (h : IsConsistent m) where
         process_there = λ t x e. ap (λ o. is_some (at_number m.process_table.processes (process_in o))) (sym e) ∙ h.coherent.threads.process_there t x.number (thread_is t x e);
         owner_there = owner_is;
         door_number = λ d x e. h.coherent.doors.door_number d x e;
-        bound_private = λ t d e. h.coherent.bindings.bound_private t d e;
-        bound_own = λ t d e. own_is (process_of m t) d (h.coherent.bindings.bound_own t d e);
+        bound_private = λ t d e f. h.coherent.bindings.bound_private t d e f;
+        bound_own = λ t d e f. own_is (process_of m t) d (h.coherent.bindings.bound_own t d e f);
+        given_not_lost = given_not_lost;
         queued_door = λ i r e q. queued_is i r e;
         notice_door = noticed_is;
       }
@@ -311,6 +342,7 @@ placed-forget n h =
       door_number = h.door_number;
       bound_private = h.bound_private;
       bound_own = h.bound_own;
+      given_not_lost = λ i r u e s. let at = kept_of is_live_call n.call_tree.calls i r e in h.given_not_lost at.0 r u at.1 s;
       queued_door = λ i r e q. let at = kept_of is_live_call n.call_tree.calls i r e in h.queued_door at.0 r at.1 q;
       notice_door = λ i x e. let at = kept_of (is_kept_notice n.doors) n.notice_list.notices i x e in h.notice_door at.0 x at.1;
     }
@@ -377,6 +409,7 @@ can_step p m same k few =
     record {
       numbers = numbers_kept (stored_state p.store) k.0 w early;
       told = subst AreTold (sym k.0.stands) (told-forget k.0.written k.0.invariant.told);
+      unborn = subst UnbornHaveNoRows (sym k.0.stands) (unborn_have_none k.0.written k.0.invariant.consistent);
       none_past = stands_live (stored_state p.store) k.0.written k.0.stands;
       placed = subst ArePlaced (sym k.0.stands) (placed-forget k.0.written (places k.0.written k.0.invariant.consistent));
       waiting = subst WaitAtValidDoors (sym k.0.stands) (waits-forget k.0.written (waits k.0.written k.0.invariant.consistent));

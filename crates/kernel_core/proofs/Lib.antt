@@ -6,6 +6,7 @@ pub mod Sending
 pub mod Steps
 pub mod Readers
 pub mod Kept
+mod Forking
 pub mod Tests
 pub mod Channels
 pub mod Collected
@@ -20,5 +21,6 @@ pub mod Finishing
 mod Told
 pub mod Turning
 mod Served
+mod FirstRuns
 mod Losing
 mod CanSettle

@@ -260,6 +260,7 @@ move_past m t q a (Moves.collects c f) e p h = absurd (true≢false e)
 move_past m t q a (Moves.leaves r who f) e p h = absurd (true≢false e)
 move_past m t q a (Moves.revokes fd f) e p h = absurd (true≢false e)
 move_past m t q a (Moves.ends r u f) e p h = absurd (true≢false e)
+move_past m t q a (Moves.forks child f) e p h = absurd (true≢false e)
 move_past m t q a _ e p h = record { calls = h.calls; notices = h.notices }
 
 abbrev pub IsNoReturn : Request → Type 0
@@ -274,6 +275,7 @@ entry_forgets m t r a (Moves.leaves s who (IsLeaving.exits f)) e u = absurd (tru
 entry_forgets m t r a (Moves.revokes fd f) e u = absurd (true≢false e)
 entry_forgets m t r a (Moves.ends s p (IsEnding.kills v f)) e u = absurd (true≢false e)
 entry_forgets m t r a (Moves.ends s p (IsEnding.exits_last f)) e u = absurd (true≢false e)
+entry_forgets m t r a (Moves.forks child f) e u = absurd (true≢false e)
 entry_forgets m t r a x e u = refl
 
 end_forgets : (m : State) (t : ℕ) (a : ActResult) (x : Moves m t None a) → ((c : ℕ) → state_of m t ≡ is.Calling c → ⊥) → forgets x ≡ false

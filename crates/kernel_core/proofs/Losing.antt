@@ -1,15 +1,16 @@
 -- Where the threads are that have lost their doors by the act of a turn: they park in the pool that it touches, or parked again by it since
 -- their callers left.
-use Rattle.std.proofs.Common.{◌≡◌, ◌⊎◌, inl, inr, ℕ, ◌==◌, ◌&&◌, Bool, true, false, not, if◌then◌else◌, find, Option, None, Some, option_map, refl, sym, subst, ap, ◌∙◌, true≢false, arith}
+use Rattle.std.proofs.Common.{◌≡◌, ◌⊎◌, inl, inr, ⊎_elim, ℕ, ◌==◌, ◌&&◌, Bool, true, false, not, if◌then◌else◌, find, Option, None, Some, option_map, refl, sym, subst, ap, ◌∙◌, true≢false, arith}
 use Rattle.std.proofs.lemmas.Bool.Decides.{nat_tests}
 use Rattle.dk_base.specs.ByNumber.{at_number}
 use Rattle.dk_base.specs.declared.object.Item.TheVariants as item
 use Rattle.kernel_records.specs.declared.pool.Pool.TheVariants.{Private}
+use Rattle.kernel_records.specs.declared.pool.TheConstants.{LOST_DOOR}
 use Rattle.kernel_records.specs.declared.record.ThreadState.TheVariants as is
 use Rattle.kernel_records.specs.Words.{Leaving, ProcessTable, change_thread, deserted_in, ended_thread, idle_thread, interrupted_where, is_idle, is_owned_by, is_pool, is_served_by, is_valid_in, left_thread_of, left_threads, process_end, process_in, revoke_door, revoked_door, state_in, thread_at, thread_at_state, thread_in_invocation, with_ended, with_owner_ended}
 use Rattle.kernel_records.proofs.Lists.{at_number-map}
 use Rattle.written_kernel.specs.Types.{Door, Pool, Process, Request, Thread}
-use Rattle.written_kernel.specs.Words.{ActResult, State, act, bound_of, door_at, has_invalid_door, has_lost_door, is_bound_to_invalid, leave, leave_process, now, process_of, revoke, state_of, thread_of}
+use Rattle.written_kernel.specs.Words.{ActResult, State, act, bound_of, door_at, fork, has_invalid_door, has_lost_door, is_bound_to_invalid, leave, leave_process, now, process_of, revoke, state_of, thread_of}
 use Rattle.written_kernel.proofs.Doors.{at_number-change_door}
 use Rattle.written_kernel.proofs.Failing.{has_lost_door-same}
 use Rattle.written_kernel.proofs.Moves.{IsBinding, IsTurn, Moves, act_moves}
@@ -19,6 +20,7 @@ use Rattle.pool_agreement.proofs.Readers.{is_pool-self, same_number}
 use Rattle.pool_agreement.proofs.Stacks.{thread_elsewhere, thread_there}
 use Rattle.kernel_store.specs.Words.{ArePlaced}
 use Rattle.kernel_core.specs.Entries.{touched_by}
+use Rattle.kernel_core.proofs.FirstRuns.{bound_or_runs}
 
 abbrev pub may_lose : Option Request → Bool
 may_lose None = true
@@ -77,6 +79,26 @@ module _ (m : State) (none : (v : ℕ) → has_lost_door m v ≡ false) where
       go : (b : Bool) → is_idle (state_of m u) ≡ b → (is_pool pool (own_pool n u) ≡ true) ⊎ (is_idle (state_of m u) ≡ false)
       go true f = absurd (true≢false (sym (both_of (is_idle (state_of n u)) (has_invalid_door n u) e).1 ∙ same ∙ was_valid u f))
       go false f = inr f
+
+  -- a child begins
+  fork_loses : (t p child u : ℕ) → has_lost_door (fork m t p child).state u ≡ true → is_idle (state_of m u) ≡ false
+  fork_loses t p child u e = go (is_idle (state_of m u)) refl
+    where
+      n : State
+      n = (fork m t p child).state
+
+      invalid : (b : Option ℕ) → is_bound_to_invalid (fork m t p child).state b ≡ is_bound_to_invalid m b
+      invalid None = refl
+      invalid (Some d) = refl
+
+      go : (b : Bool) → is_idle (state_of m u) ≡ b → b ≡ false
+      go true f =
+          let lost = both_of (is_idle (state_of n u)) (has_invalid_door n u) e in
+          absurd
+          (true≢false
+          (⊎_elim (λ same. sym lost.1 ∙ invalid (bound_of n u) ∙ ap (is_bound_to_invalid m) same ∙ was_valid u f) (λ runs. sym lost.0 ∙ ap is_idle runs)
+          (bound_or_runs m t p child u)))
+      go false f = refl
 
   -- one door is revoked
   revoked_loses :
@@ -137,8 +159,14 @@ module _ (m : State) (none : (v : ℕ) → has_lost_door m v ≡ false) where
         by_door : (b : Option ℕ) → bound_of m u ≡ b → is_bound_to_invalid m b ≡ false → is_bound_to_invalid n b ≡ true → (process_of m u == p) ≡ true
         by_door None f g h = cc
         by_door (Some k) f g h =
-            owner (at_number m.doors k) (placed.bound_own u k f) g (ap (λ o. not (is_valid_in o)) (sym (at_number-map (with_owner_ended p) m.doors k)) ∙ h)
+            owner (at_number m.doors k) (placed.bound_own u k f (is_there (k == LOST_DOOR) refl)) g (ap (λ o. not (is_valid_in o)) (sym (at_number-map (with_owner_ended p) m.doors k)) ∙ h)
           where
+            -- the lost door is not valid
+            is_there : (c : Bool) → (k == LOST_DOOR) ≡ c → c ≡ false
+            is_there true i =
+                let lost : LOST_DOOR ≡ k = grind (arith, nat_tests) in absurd (true≢false (ap (λ j. is_bound_to_invalid m (Some j)) lost ∙ g))
+            is_there false i = refl
+
             owner :
                 (o : Option Door) → is_owned_by (process_of m u) o ≡ true → not (is_valid_in o) ≡ false → not (is_valid_in (option_map (with_owner_ended p) o)) ≡ true →
                 (process_of m u == p) ≡ true
@@ -175,6 +203,7 @@ module _ (m : State) (none : (v : ℕ) → has_lost_door m v ≡ false) where
     move_loses t q a u may (Moves.revokes fd f) e =
         revoked_loses (process_of m t) (door_at m (process_of m t) fd) (revoke m (process_of m t) fd).state u refl refl e
     move_loses t q a u may (Moves.ends r p i) e = inr (ended_loses p u e)
+    move_loses t q a u may (Moves.forks child f) e = inr (fork_loses t (process_of m t) child.0 u e)
     move_loses t q a u may _ e = absurd (true≢false (sym e ∙ none u))
 
     pub act_loses : (t : ℕ) (q : Option Request) → may_lose q ≡ true → (u : ℕ) → has_lost_door (act m t q).state u ≡ true → IsFound m t q (act m t q).state u

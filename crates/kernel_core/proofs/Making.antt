@@ -25,6 +25,7 @@ placed-with_notice_of m d there h =
       door_number = h.door_number;
       bound_private = h.bound_private;
       bound_own = h.bound_own;
+      given_not_lost = h.given_not_lost;
       queued_door = h.queued_door;
       notice_door =
           pushed_is m.notice_list.notices (new_notice (m.notice_list.made + 1) (now m) d) (λ n. is_some (door_of m n.door) ≡ true) there

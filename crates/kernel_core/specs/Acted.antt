@@ -1,5 +1,6 @@
 -- What an event needs of the parts of a kernel, and what it has done once its act is done.
 use Rattle.std.specs.Prelude.{ℕ, ◌≡◌, ◌<◌, Option, false}
+use Rattle.act_changes.specs.Changed.{UnbornHaveNoRows}
 use Rattle.act_changes.specs.Closed.{closed_rows}
 use Rattle.dk_base.specs.declared.limits.TheConstants.{EVENTS_MAX}
 use Rattle.written_kernel.specs.Types.{Answer, Request}
@@ -23,6 +24,7 @@ IsBetweenEvents parts = IsAtRest parts.store.events parts.store
 pub record CanStep (parts : Parts) : Type 0 where
   pub numbers : HasNumbersLeft (stored_state parts.store)
   pub told : AreTold (stored_state parts.store)
+  pub unborn : UnbornHaveNoRows (stored_state parts.store)
   pub none_past : HasNothingPast (stored_state parts.store)
   pub placed : ArePlaced (stored_state parts.store)
   pub waiting : WaitAtValidDoors (stored_state parts.store)
@@ -51,6 +53,7 @@ pub record HasActed (start : Parts) (t : ℕ) (q : Option Request) (before after
   pub keeps : KeepsForNotices before.store after.store
   -- what is told of its request: the rows that it closes, and the pipe of what it readies
   pub told : AreTold (stored_state start.store)
+  pub unborn : UnbornHaveNoRows (stored_state start.store)
   pub rows : closing_of taken.closed ≡ closed_rows (stored_state start.store) t q
   pub readied : ReadiesAtMost (stored_state start.store) t q taken.pipe
   pub fallen : after.fallen ≡ before.fallen

@@ -1,6 +1,7 @@
 pub mod Acted
 pub mod Entries
 pub mod Finding
+pub mod Forking
 pub mod Kept
 pub mod Numbers
 pub mod Watched

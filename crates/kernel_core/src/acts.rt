@@ -7,6 +7,7 @@ ghost use Rattle.kernel_invariant.specs.Events.{is_leaving};
 ghost use Rattle.kernel_core.specs.Entries.{made_first, may_make_first, touched_by};
 ghost use Rattle.written_kernel.specs.Words.{StandsFor, act, enter, is_runnable, is_running, process_of, state_of};
 ghost use Rattle.kernel_core.specs.Finding.{HasRoomToFind};
+ghost use Rattle.kernel_core.specs.Forking.{MayFork};
 ghost use Rattle.kernel_core.specs.Handed.{count_passed, ending_of, events_at_end, objects_at_end};
 ghost use Rattle.kernel_core.specs.Kept.{HasNothingPast};
 ghost use Rattle.kernel_core.specs.Numbers.{HasNumbersLeft};
@@ -119,6 +120,7 @@ pub fn enter(
     requires running { is_running (stored_state store.old) t.0 ≡ true }
     requires held { AreHeld (stored_state store.old) }
     requires own { p.0 ≡ process_of (stored_state store.old) t.0 }
+    requires may_fork { MayFork (stored_state store.old) t.0 request }
     requires room { IsRoomFor (count_passed request) objects }
     ensures state { OnOk result (StandsFor (stored_state store.new) (enter (stored_state store.old) t.0 p.0 request).state) }
     ensures answer { IfOk result (λ answer. answer ≡ (enter (stored_state store.old) t.0 p.0 request).answer) }
@@ -150,6 +152,7 @@ pub fn enter(
         | Request::Interrupt { .. }
         | Request::Kill { .. }
         | Request::Exit
+        | Request::Fork { .. }
         | Request::TestCancel => leaving::enter(store, alloc, t, p, request, parked),
         Request::Pipe | Request::Write { .. } | Request::Read { .. } => {
             pipes::enter(store, alloc, t, p, request)

@@ -1,7 +1,7 @@
 //! The acts of bindings.
 ghost use Rattle.std.specs.Prelude.{◌≡◌, None, true};
 ghost use Rattle.kernel_records.specs.Words.{first_refusal};
-ghost use Rattle.written_kernel.specs.Words.{Subject, bind, binding_tests, bound_tests, information_of_bound, is_running, unbind};
+ghost use Rattle.written_kernel.specs.Words.{Subject, bind, binding_tests, bound_tests, information_of_bound, is_running, queried_tests, unbind};
 ghost use Rattle.kernel_core.specs.Entries.{entry_about};
 ghost use Rattle.kernel_store.specs.Words.{FillsNoPool, stored_state};
 
@@ -11,6 +11,7 @@ use dk_base::answer::Answer;
 use dk_base::error::Errno;
 use dk_base::number::{Fd, Pid, Tid};
 use dk_base::request::Request;
+use kernel_records::pool::LOST_DOOR;
 use kernel_store::store::Store;
 
 /// door_bind(3C): EBADF for no door or an invalid one, EINVAL for one that is not private or is another process's.
@@ -54,6 +55,16 @@ pub fn unbind(store: &mut Store, t: Tid) -> Answer
     Answer::Done
 }
 
+/// EBADF for a thread that is bound to no door, or to the one that is lost.
+pub fn query_refusal(store: &Store, t: Tid) -> Option<Errno>
+    ensures { result ≡ first_refusal (queried_tests (stored_state store.now) t.0) }
+{
+    match store.bound_door(t) {
+        Some(door) if door != LOST_DOOR => None,
+        _ => Some(Errno::EBADF),
+    }
+}
+
 /// door_info(3C) of DOOR_QUERY: what the process is told of the door that the thread is bound to.
 pub fn information_of_bound(store: &Store, t: Tid, p: Pid) -> Answer
     ensures { result ≡ (information_of_bound (stored_state store.now) t.0 p.0).answer }
@@ -77,7 +88,7 @@ pub fn enter(store: &mut Store, t: Tid, p: Pid, request: Request) -> Answer
             Some(error) => Answer::Failure(error),
             None => unbind(store, t),
         },
-        Request::InfoQuery => match bound_refusal(store, t) {
+        Request::InfoQuery => match query_refusal(store, t) {
             Some(error) => Answer::Failure(error),
             None => information_of_bound(store, t, p),
         },

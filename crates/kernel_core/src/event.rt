@@ -9,6 +9,7 @@ ghost use Rattle.written_kernel.specs.Types.{Request};
 ghost use Rattle.unref_notice.specs.declared.counts.TheConstants.{STEP_MAX};
 ghost use Rattle.kernel_core.specs.Acted.{CanNoticeAfter, CanStep, HasActed, IsBetweenEvents};
 ghost use Rattle.kernel_core.specs.declared.event.Parts.{Parts};
+ghost use Rattle.kernel_core.specs.Forking.{MayFork};
 ghost use Rattle.kernel_core.specs.Numbers.{HasNumbersLeft};
 ghost use Rattle.kernel_core.specs.Woken.{AreTurns, HasTurnsAfter, IsReady, IsReadyToSettle, turned_threads};
 
@@ -16,12 +17,12 @@ use crate::acts::{ending_of, enter, go_on, made_first, needs_of};
 use crate::doors::count_at_end;
 use crate::notices::settle;
 use crate::ports::{count_found, room_to_find};
-use crate::telling::{closed_by, pipe_readied};
+use crate::telling::{closed_by, pipe_readied, put_back};
 use dk_base::answer::Answer;
 use dk_base::error::NoMemory;
 use dk_base::event::Stepped;
 use dk_base::list::{Room, TidList};
-use dk_base::number::{Pid, Tid};
+use dk_base::number::{Fd, Pid, Tid};
 use dk_base::request::Request;
 use kernel_records::pool::Pool;
 use kernel_store::store::Store;
@@ -40,6 +41,8 @@ pub struct Parts {
     pub woken: Room<Tid>,
     /// Room for what ports are told by an event.
     pub rooms: TellingRooms,
+    /// Room for the descriptors that a call or a return releases.
+    pub released: Room<Fd>,
 }
 
 /// What is known before an event: the threads that can take a turn; and what is told of its request: the rows that it closes, and the
@@ -129,6 +132,7 @@ impl Parts {
         self.store.gone(&mut self.rooms.gone);
         settle(&mut self.store, &mut self.fallen, touched, parked, first);
         self.store.tell(&closed, pipe, &mut self.rooms);
+        put_back(closed, &mut self.released);
         self.end_event(alloc, were, answer)
     }
 
@@ -136,6 +140,7 @@ impl Parts {
     pub fn enter(&mut self, alloc: Global, t: Tid, request: Request) -> Result<Stepped, NoMemory>
         requires running { is_running (stored_state self.old.store) t.0 ≡ true }
         requires can_step { CanStep self.old }
+        requires may_fork { MayFork (stored_state self.old.store) t.0 request }
         requires noticing { CanNoticeAfter (stored_state self.old.store) t.0 (Some request) }
         requires turning { HasTurnsAfter (stored_state self.old.store) t.0 (Some request) }
         requires none_lost { is_leaving request ≡ false → (u : ℕ) → has_lost_door (act (stored_state self.old.store) t.0 (Some request)).state u ≡ false }
@@ -147,7 +152,7 @@ impl Parts {
         let p = self.store.processes().process_of(t);
         let needs = needs_of(&self.store, t, p, &request);
         let objects = Room::with_room(alloc, needs.passed)?;
-        let closed = closed_by(&self.store, alloc, t, p, &request)?;
+        let closed = closed_by(&self.store, alloc, t, p, &request, &mut self.released)?;
         let pipe = pipe_readied(&self.store, p, &request);
         let taken = self.reserve(needs.touched, closed, pipe)?;
         let mut parked = ThreadSet::new();

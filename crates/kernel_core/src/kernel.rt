@@ -1,11 +1,11 @@
-ghost use Rattle.std.specs.Prelude.{ℕ, ◌≡◌, ◌+◌, ◌<◌, ◌≤◌, ◌↔◌, Some, None, true, length, IfOk, OnOk, OnErr};
+ghost use Rattle.std.specs.Prelude.{ℕ, ◌≡◌, ◌+◌, ◌<◌, ◌≤◌, ◌↔◌, Some, None, true, false, length, IfOk, OnOk, OnErr};
 ghost use Rattle.std.specs.Option.{option_map};
-ghost use Rattle.std.specs.List.{AllByRecursion};
+ghost use Rattle.std.specs.List.{AllByRecursion, list_any};
 ghost use Rattle.dk_base.specs.declared.answer.Answer.TheVariants.{Failure};
 ghost use Rattle.dk_base.specs.declared.error.ProcFault.TheVariants.{Full};
 ghost use Rattle.written_kernel.specs.Types.{Errno};
 ghost use Rattle.dk_base.specs.declared.limits.TheConstants.{DESCRIPTORS_MAX, PROCESSES_MAX, THREADS_MAX, EVENTS_MAX};
-ghost use Rattle.written_kernel.specs.Words.{IsFit, IsStep, MayGoOn, StandsFor, State, is_runnable, is_running, least_runnable, opening, process_of, refusal_of, root, state_of, step, with_event_counted, with_new_thread, with_processes};
+ghost use Rattle.written_kernel.specs.Words.{IsFit, IsStep, MayGoOn, StandsFor, State, is_runnable, is_running, is_thread_of, least_runnable, opening, process_of, refusal_of, root, state_of, step, table_of, with_child, with_event_counted, with_new_thread, with_processes};
 ghost use Rattle.kernel_core.specs.Kept.{IsKept};
 ghost use Rattle.kernel_store.specs.Words.{IsAtRest, stored_state};
 ghost use Rattle.kernel_core.specs.Within.{IsWithin, IsSmall};
@@ -60,11 +60,24 @@ impl Kernel {
             fallen: Room::new(alloc),
             woken: Room::new(alloc),
             rooms: TellingRooms::new(alloc),
+            released: Room::new(alloc),
         };
         Ok(Kernel { alloc, parts })
     }
 
-    /// Another thread of a process, which runs, or is a spare one that was not started.
+    /// A process is a child of another, which may have as many descriptors, and has not begun. No event was made yet, and the child has no
+    /// thread yet.
+    pub fn make_child(&mut self, child: Pid, parent: Pid)
+        requires opening { self.old.events ≡ 0 }
+        requires order { (1 ≤ parent.0) × (parent.0 < child.0) × (child.0 ≤ length self.old.process_table.processes) }
+        requires limits { length (table_of self.old child.0) ≡ length (table_of self.old parent.0) }
+        requires no_thread { list_any (is_thread_of child.0) self.old.process_table.threads ≡ false }
+        ensures { self.new ≡ with_child self.old child.0 parent.0 }
+    {
+        self.parts.store.make_child(child, parent);
+    }
+
+    /// Another thread of a process, which runs, or is a spare one that was not started; one of a process that has not begun is Dormant.
     pub fn add_thread(&mut self, process: Pid, spare: bool) -> Result<Tid, ProcFault>
         requires opening { self.old.events ≡ 0 }
         requires declared { (1 ≤ process.0) × (process.0 ≤ length self.old.process_table.processes) }

@@ -3,11 +3,12 @@
 ghost use Rattle.std.specs.Prelude.{◌≡◌, None, false, is_some, true, IfOk, OnErr, OnOk};
 ghost use Rattle.dk_base.specs.ByNumber.{at_number};
 ghost use Rattle.kernel_records.specs.Words.{first_refusal};
-ghost use Rattle.written_kernel.specs.Words.{StandsFor, Subject, exit, interrupt, kill, leave_process, revoke, revoking_tests, state_of, test_cancel, wake};
+ghost use Rattle.written_kernel.specs.Words.{StandsFor, Subject, exit, fork, forking_tests, interrupt, kill, leave_process, process_of, revoke, revoking_tests, state_of, test_cancel, wake};
 ghost use Rattle.kernel_core.specs.Kept.{HasNothingPast};
 ghost use Rattle.kernel_invariant.specs.Events.{is_leaving};
 ghost use Rattle.kernel_core.specs.Entries.{entry_about};
-ghost use Rattle.kernel_store.specs.Words.{CanLeave, FillsNoPool, IsActive, KeepsForNotices, KeepsPools, NothingAfter, ParksAgain, stored_state};
+ghost use Rattle.kernel_core.specs.Forking.{MayFork};
+ghost use Rattle.kernel_store.specs.Words.{CanLeave, FillsNoPool, IsActive, KeepsForNotices, KeepsPools, MayBegin, NothingAfter, ParksAgain, stored_state};
 
 use crate::descriptors::door_named;
 use dk_base::answer::Answer;
@@ -143,6 +144,40 @@ pub fn revoke(
     Ok(Answer::Done)
 }
 
+/// fork(2): EAGAIN for a child that has begun.
+pub fn fork_refusal(store: &Store, child: Pid) -> Option<Errno>
+    ensures { result ≡ first_refusal (forking_tests (stored_state store.now) child.0) }
+{
+    if store.processes().is_unborn(child) {
+        None
+    } else {
+        Some(Errno::EAGAIN)
+    }
+}
+
+/// fork(2): a child of the thread's process, which has not begun, begins.
+pub fn fork(
+    store: &mut Store,
+    alloc: Global,
+    t: Tid,
+    p: Pid,
+    child: Pid,
+    parked: &mut ThreadSet,
+) -> Result<Answer, NoMemory>
+    requires can_leave { CanLeave store.old }
+    requires may { MayBegin p.0 child.0 (stored_state store.old) }
+    ensures state { OnOk result (StandsFor (stored_state store.new) (fork (stored_state store.old) t.0 p.0 child.0).state) }
+    ensures answer { IfOk result (λ answer. answer ≡ (fork (stored_state store.old) t.0 p.0 child.0).answer) }
+    ensures keeps { OnOk result (KeepsForNotices store.old store.new) }
+    ensures parked { OnOk result (ParksAgain parked.new store.old store.new) }
+    ensures parked_as_before { OnErr result (parked.new ≡ parked.old) }
+    ensures as_before { OnErr result (stored_state store.new ≡ stored_state store.old) }
+    ensures fills { OnErr result (FillsNoPool store.old store.new) }
+{
+    *parked = store.fork(alloc, t, p, child)?;
+    Ok(Answer::Child { process: child })
+}
+
 /// Whether the client of a thread's invocation has left it. A thread without an invocation is told no.
 pub fn test_cancel(store: &Store, t: Tid) -> Answer
     ensures { result ≡ (test_cancel (stored_state store.now) t.0).answer }
@@ -180,6 +215,8 @@ pub fn enter(
     requires latest { NothingAfter store.old.events store.old }
     requires can_leave { is_leaving request ≡ true → CanLeave store.old }
     requires declared { is_some (at_number (stored_state store.old).process_table.processes p.0) ≡ true }
+    requires own { p.0 ≡ process_of (stored_state store.old) t.0 }
+    requires may_fork { MayFork (stored_state store.old) t.0 request }
     ensures state { OnOk result (StandsFor (stored_state store.new) (entry_about Subject.leaving (stored_state store.old) t.0 p.0 request).state) }
     ensures answer { IfOk result (λ answer. answer ≡ (entry_about Subject.leaving (stored_state store.old) t.0 p.0 request).answer) }
     ensures keeps { OnOk result (KeepsForNotices store.old store.new) }
@@ -197,6 +234,10 @@ pub fn enter(
         Request::Interrupt { thread } => interrupt(store, alloc, thread, parked),
         Request::Kill { process } => kill(store, alloc, process, parked),
         Request::Exit => exit(store, alloc, t, p, parked),
+        Request::Fork { child } => match fork_refusal(store, child) {
+            Some(error) => Ok(Answer::Failure(error)),
+            None => fork(store, alloc, t, p, child, parked),
+        },
         Request::TestCancel => Ok(test_cancel(store, t)),
         _ => Ok(Answer::Done),
     }

@@ -4,7 +4,9 @@ ghost use Rattle.dk_base.specs.declared.object.Obj.{Obj};
 ghost use Rattle.act_changes.specs.Changed.{readied_by};
 ghost use Rattle.act_changes.specs.Closed.{Closing, closed_by, released};
 ghost use Rattle.act_changes.specs.Ends.{is_end};
+ghost use Rattle.dk_base.specs.Words.{RoomValue};
 ghost use Rattle.kernel_store.specs.Words.{closing_of, is_of_pipe, stored_state};
+ghost use Rattle.kernel_store.specs.declared.told.ClosedRows.TheVariants as list_of;
 ghost use Rattle.written_kernel.specs.Words.{object_at};
 
 use crate::pipes::pipe_at;
@@ -16,20 +18,21 @@ use dk_base::request::Request;
 use kernel_store::store::Store;
 use kernel_store::told::ClosedRows;
 use std::alloc::Global;
+use std::mem;
 
-/// The descriptors that a call or a return releases. It takes no memory where it releases none.
-fn released(alloc: Global, pass: &PassList) -> Result<Room<Fd>, NoMemory>
+/// The descriptors that a call or a return releases, in what is kept for them, which they take with them.
+fn released(alloc: Global, pass: &PassList, room: &mut Room<Fd>) -> Result<Room<Fd>, NoMemory>
     ensures { IfOk result (λ fds. fds.items ≡ released pass.now) }
 {
     let items = pass.slice();
-    let mut fds = Room::new(alloc);
+    room.clear();
     for x in items {
         if x.release {
-            fds.reserve(1)?;
-            fds.push(x.fd);
+            room.reserve(1)?;
+            room.push(x.fd);
         }
     }
-    Ok(fds)
+    Ok(mem::replace(room, Room::new(alloc)))
 }
 
 /// All rows of a process that ends.
@@ -43,26 +46,36 @@ fn rows_at_end(p: Pid, ends: bool) -> ClosedRows
     }
 }
 
-/// The rows that an entry of thread `t` of process `p` closes.
+/// The rows that an entry of thread `t` of process `p` closes. Those that a call or a return releases are listed in what is kept for them.
 pub fn closed_by(
     store: &Store,
     alloc: Global,
     t: Tid,
     p: Pid,
     request: &Request,
+    room: &mut Room<Fd>,
 ) -> Result<ClosedRows, NoMemory>
     ensures { IfOk result (λ rows. closing_of rows ≡ closed_by (stored_state store.now) t.0 p.0 request.now) }
 {
     match request {
         Request::Close { fd } | Request::Revoke { fd } => Ok(ClosedRows::Row(p, *fd)),
         Request::Call { pass, .. } | Request::Return { pass, .. } => {
-            Ok(ClosedRows::Rows(p, released(alloc, pass)?))
+            Ok(ClosedRows::Rows(p, released(alloc, pass, room)?))
         }
         Request::Kill { process } => {
             Ok(rows_at_end(*process, store.processes().is_live(*process)))
         }
         Request::Exit => Ok(rows_at_end(p, store.processes().is_last(t, p))),
         _ => Ok(ClosedRows::Nothing),
+    }
+}
+
+/// What descriptors were listed in, once they are told of, is kept for the next ones.
+pub fn put_back(closed: ClosedRows, room: &mut Room<Fd>)
+    ensures { (p : Pid) (fds : RoomValue Fd) → closed ≡ list_of.Rows p fds → room.new ≡ fds }
+{
+    if let ClosedRows::Rows(_, fds) = closed {
+        *room = fds;
     }
 }
 

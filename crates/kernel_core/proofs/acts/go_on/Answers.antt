@@ -50,3 +50,11 @@ returns-in-Nothing-clause-state c =
     let m = stored_state c.args.store.now in
     is_kept (stored_state c.args.store.now) (act m c.args.t.0 None).state
     (go_on_past m c.args.t.0 c.requires.can_act.placed c.requires.none_past (λ k e. grind arith)) (grind arith)
+
+pub returns-in-Got-clause-answer : goal.returns-in-Got-clause-answer
+returns-in-Got-clause-answer c =
+    let m = stored_state c.args.store.now in
+    c.end_getting.ensures.answer
+    ∙ ap (λ (a : ActResult). a.answer)
+    (ended_getting m c.args.t.0 (process_of m c.args.t.0) (state_of m c.args.t.0) c.in-Got.port c.in-Got.max c.in-Got.one c.in-Got.interrupted
+    (sym c.in-Got.is ∙ c.requires.at))

@@ -3,4 +3,4 @@ use Rattle.act_changes.specs.Closed.{released}
 use Rattle.kernel_core.proofs.telling.released.Given as goal
 
 abbrev pub invariant-loop-x : goal.invariant-loop-x
-invariant-loop-x l = l.fds.items ++ released (drop l.x-index l.items) ≡ released l.items
+invariant-loop-x l = l.room.items ++ released (drop l.x-index l.items) ≡ released l.items

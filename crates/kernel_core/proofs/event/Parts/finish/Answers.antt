@@ -50,7 +50,7 @@ end_event-requires-clause-few c =
 pub end_event-requires-clause-ready : goal.end_event-requires-clause-ready
 end_event-requires-clause-ready c =
     let h = c.requires.acted.4 in
-    ready_settled h c.tell.new.self c.settle.new.fallen c.tell.new.rooms (settled_acted h c.settle.new.store c.tell.new.self c.settle.ensures.state c.tell.ensures.state)
+    ready_settled h c.tell.new.self c.settle.new.fallen c.tell.new.rooms c.put_back.new.room (settled_acted h c.settle.new.store c.tell.new.self c.settle.ensures.state c.tell.ensures.state)
 
 pub returns-clause-step : goal.returns-clause-step
 returns-clause-step c =

@@ -4,7 +4,7 @@ use Rattle.kernel_records.specs.Words.{ProcessTable}
 use Rattle.written_kernel.specs.Words.{State}
 use Rattle.written_kernel.proofs.Opening.{IsDeclaredIn}
 use Rattle.kernel_store.specs.Words.{stored_state}
-use Rattle.kernel_core.proofs.Kept.{opening_lives, thread_result}
+use Rattle.kernel_core.proofs.Kept.{opening_stands, thread_result}
 use Rattle.kernel_core.proofs.kernel.Kernel.add_thread.Goals as goal
 
 pub invariant_of-self : goal.invariant_of-self
@@ -28,4 +28,4 @@ pub add_thread-requires-clause-lives : goal.add_thread-requires-clause-lives
 add_thread-requires-clause-lives c =
     let old = stored_state c.self.inside.parts.store in
     let there : IsDeclaredIn old c.args.process.0 = subst (λ k. IsDeclaredIn k c.args.process.0) (sym c.self.view_is) c.requires.declared in
-    opening_lives old c.args.process.0 (c.self.invariant.0.opening (ap (λ (k : State). k.events) c.self.view_is ∙ c.requires.opening)) there
+    opening_stands old c.args.process.0 (c.self.invariant.0.opening (ap (λ (k : State). k.events) c.self.view_is ∙ c.requires.opening)) there

@@ -1,6 +1,7 @@
 use Rattle.std.proofs.Common.{◌∙◌, Some, subst, sym}
 use Rattle.written_kernel.specs.Words.{IsFit}
 use Rattle.kernel_store.specs.Words.{stored_state}
+use Rattle.kernel_core.proofs.Forking.{may_fork}
 use Rattle.kernel_core.proofs.Kept.{can_step, kept_result, none_lost, noticing, refused_result, refused_stands, turning}
 use Rattle.kernel_core.proofs.Steps.{step_stands, step_within, step_small}
 use Rattle.kernel_core.proofs.kernel.Kernel.enter.Goals as goal
@@ -33,6 +34,9 @@ returns-clause-refused_step c =
 
 pub enter-requires-clause-can_step : goal.enter-requires-clause-can_step
 enter-requires-clause-can_step c = can_step c.self.inside.parts c.args.self.now c.self.view_is c.self.invariant c.requires.few
+
+pub enter-requires-clause-may_fork : goal.enter-requires-clause-may_fork
+enter-requires-clause-may_fork c = may_fork (stored_state c.self.inside.parts.store) c.args.self.now c.args.t.0 c.args.request c.self.view_is c.self.invariant.0 c.requires.fit
 
 pub enter-requires-clause-none_lost : goal.enter-requires-clause-none_lost
 enter-requires-clause-none_lost c =
