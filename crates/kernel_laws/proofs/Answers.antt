@@ -9,7 +9,7 @@ use Rattle.kernel_records.specs.declared.record.ThreadState.TheVariants as is
 use Rattle.kernel_records.specs.Words.{Port, alert_event, events_found, first_found, found_at, has_bad_count, is_given_as, is_given_notice_as, is_ready_for, must_wait, port_in, record_of, records_of, refused_where}
 use Rattle.kernel_records.proofs.NumberedLists.{find-passes}
 use Rattle.dk_base.specs.declared.request.Request.TheVariants as request
-use Rattle.written_kernel.specs.Words.{MayEnter, MayTurn, State, Turn, accept_call, accept_notice, after_sending, await_name, begin_call, effect, errors_of_sending, event_answer, fail_begin, found_answer, get, get_from, get_many, go_on, has_invalid_door, has_port_references, has_room, held_in, name_of, object_at, pipe_at, port, port_at, port_tests, process_of, refusal_of, retrieve, return_parked, return_unbound, state_at, state_of, step, tell_queued, unless_refused, wait_for, with_state}
+use Rattle.written_kernel.specs.Words.{State, Turn, accept_call, accept_notice, after_sending, await_name, begin_call, effect, errors_of_sending, event_answer, fail_begin, found_answer, get, get_from, get_many, go_on, has_invalid_door, has_port_references, has_room, held_in, name_of, object_at, pipe_at, port, port_at, port_tests, process_of, refusal_of, retrieve, return_parked, return_unbound, state_at, state_of, step, tell_queued, unless_refused, wait_for, with_state}
 use Rattle.written_kernel.proofs.Refusals.{last_not_held, not_held}
 use Rattle.kernel_laws.specs.Channels.{AreEnough, alert_in, port_under}
 use Rattle.kernel_laws.specs.Answers.{Answers, AnswersEndsOfWaits, AnswersRequests, EndAnswers}
@@ -171,6 +171,7 @@ effect_answers m t p (request.Detach path) none = Answers.detaches path
 effect_answers m t p (request.Interrupt thread) none = Answers.interrupts thread
 effect_answers m t p (request.Kill process) none = Answers.kills process
 effect_answers m t p request.Exit none = Answers.exits
+effect_answers m t p (request.Fork child) none = Answers.forks child
 effect_answers m t p request.Pipe none = Answers.makes_pipe _ _
 effect_answers m t p (request.Write fd bytes) none =
     Answers.writes fd bytes _ (take_at_most (PIPE_MAX - length (held_in m (pipe_at m p fd))) bytes).1
@@ -207,6 +208,7 @@ cause_answers m xs c e i x a (Cause.caller_full r w f back room) = EndAnswers.co
 cause_answers m xs c e i x a (Cause.server_full r w h q f g y d) = EndAnswers.collects_error c _ (inr (inr refl))
 cause_answers m xs c e i x a (Cause.door_invalid r f g v y d) = EndAnswers.collects_error c _ (inl refl)
 cause_answers m xs c e i x a (Cause.interrupted r w h f u q d) = EndAnswers.collects_error c _ (inr (inl refl))
+cause_answers m xs c e i x a (Cause.forked r w child h f u q y d o) = EndAnswers.collects_error c _ (inr (inl refl))
 cause_answers m xs c e i x a (Cause.server_ended r u f g h d) = EndAnswers.collects_error c _ (inr (inl refl))
 
 module _ (m : State) (t : ℕ) where

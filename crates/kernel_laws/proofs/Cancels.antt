@@ -87,7 +87,7 @@ module _ (m : State) (xs : List Turn) (k : Known m xs) where
 
   left_now :
       (i u : ℕ) (x : Turn) (v : Inv) → slice_get xs i ≡ Some x → item_of (state_at m xs (i + 1)) u ≡ Some v.item →
-      IsCancelled (state_at m xs i) x.request (state_at m xs (i + 1)) u v → WasLeft m xs (i + 1) u
+      IsCancelled (state_at m xs i) x.thread x.request (state_at m xs (i + 1)) u v → WasLeft m xs (i + 1) u
   left_now i u x v e f w =
       record {
         at = i;
@@ -186,7 +186,7 @@ module _ (m : State) (xs : List Turn) (k : Known m xs) where
       (invariant_before m xs k w.at w.turn w.found) w.there
       (some_stage _ _ (ap stage_in (sym w.there) ∙ w.entered))
       (flag_is w.at w.turn w.call.number w.call w.found w.there ∙ w.may_cancel)
-      (subst (λ n. IsLeft (state_at m xs w.at) w.turn.request n w.call) (next m xs k w.at w.turn w.found) w.is_left))
+      (subst (λ n. IsLeft (state_at m xs w.at) w.turn.thread w.turn.request n w.call) (next m xs k w.at w.turn w.found) w.is_left))
     where
       by : IsFlag (invocation_of (step (state_at m xs w.at) w.turn.thread w.turn.request).state u) →
           is_cancelled (invocation_of (state_at m xs (w.at + 1)) u) ≡ true

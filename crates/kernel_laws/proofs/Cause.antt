@@ -4,8 +4,8 @@ use Rattle.std.proofs.Common.{refl, sym, ap, subst, ◌∙◌, add-one, inl, inr
 use native.Mathlib.Omega.{arith}
 use Rattle.std.proofs.lemmas.Bool.Decides.{nat_tests}
 use Rattle.std.proofs.lemmas.Option.{slice_get_within}
-use Rattle.written_kernel.specs.Types.{Answer, Call, CallStage, Errno, Fd, Obj, Pass, Request, ThreadState, Tid}
-use Rattle.dk_base.specs.declared.error.Errno.TheVariants.{EMFILE}
+use Rattle.written_kernel.specs.Types.{Answer, Call, CallStage, Errno, Fd, Obj, Pass, Pid, Request, ThreadState, Tid}
+use Rattle.dk_base.specs.declared.error.Errno.TheVariants.{EINTR, EMFILE}
 use Rattle.dk_base.specs.declared.request.Request.TheVariants as request
 use Rattle.dk_base.specs.declared.answer.Answer.TheVariants as answer
 use Rattle.kernel_records.specs.declared.record.CallStage.TheVariants as stage
@@ -15,12 +15,13 @@ use Rattle.written_kernel.specs.Words.{State, Turn, door_named, is_valid, make_c
 use Rattle.written_kernel.proofs.Runs.{state_at_all}
 use Rattle.kernel_invariant.specs.Records.{item_in, record_of, stage_in, stage_of}
 use Rattle.kernel_invariant.specs.Core.{caller_number, has_arguments, is_outside, is_underway, live_in, underway_in}
-use Rattle.kernel_invariant.specs.Arrows.{EndsNow, has_own_room, own_table}
+use Rattle.kernel_invariant.specs.Arrows.{EndsNow, Interrupts, has_own_room, own_table}
+use Rattle.kernel_invariant.specs.Arrows.Interrupts.{asked, forked as forked_by}
 use Rattle.kernel_invariant.specs.Arrows.EndsBy.{door_invalid as invalid, server_full as full, interrupted as by_caller, server_ended as by_server}
 use Rattle.run_places.specs.Places.{IsCollect, IsRefusedBy, ReturnsCall, answer_at, process_at}
 use Rattle.kernel_laws.specs.Once.{FailsToEnter}
 use Rattle.kernel_laws.specs.Cause.{AreOfOneKind, Cause, HasCause, HasRoomAt, HasTooFewAt, IsCall, IsCaused, Leaves, MakesOne, TellsSame}
-use Rattle.kernel_laws.specs.Cause.Cause.{results, caller_full, server_full, door_invalid, interrupted, server_ended}
+use Rattle.kernel_laws.specs.Cause.Cause.{results, caller_full, server_full, door_invalid, interrupted, forked, server_ended}
 use Rattle.run_places.proofs.Refusals.{FailsIn, call_fails, entry_tells, none_of, refusal_at, refusal_of_table, table_of_refusal}
 use Rattle.run_places.proofs.Refusals.FailsIn.{by_test}
 use Rattle.run_places.proofs.Counts.{room_is, too_few_is}
@@ -29,6 +30,7 @@ use Rattle.run_places.proofs.Changes.Change.{made, given, entered, returned, end
 use Rattle.run_places.proofs.Done.{doors_interrupted_at, is_leaving_turn, none_ends_at}
 use Rattle.run_places.proofs.Validity.{step_interrupts, step_loses, step_loses_over}
 use Rattle.kernel_laws.proofs.Endings.{interrupt_ends_none}
+use Rattle.kernel_laws.proofs.Forking.{fork_is_free, forks_there}
 use Rattle.kernel_laws.proofs.Ends.{keeps_at}
 use Rattle.run_places.proofs.Known.{ChangeAt, Known, TurnAt, invariant_before, never_falls, next, never_less, rises_once, same_turn, stays_or_changes, turn_at}
 use Rattle.kernel_laws.proofs.Story.{story}
@@ -81,6 +83,9 @@ same_told :
 same_told b d fds n l e f =
     ap (λ (x : List ℕ). answer.Results x fds (nat_lt n (length x))) e ∙ ap (λ (x : ℕ). answer.Results d fds (nat_lt x (length d))) f
 
+underway_live : (s : CallStage) → is_underway s ≡ true → is_live s ≡ true
+underway_live s e = grind arith
+
 waiting_underway : (s : CallStage) → has_arguments s ≡ true → is_underway s ≡ true
 waiting_underway s e = grind arith
 
@@ -106,6 +111,16 @@ same_handed o b d x y e f = cc
 
 not_asked : {q p : Option Request} {b : List ℕ} {x : List Pass} {t : Tid} → q ≡ p → q ≡ Some (request.Return b x) → p ≡ Some (request.Interrupt t) → ⊥
 not_asked e f g = cc
+
+not_forked :
+    {q p : Option Request} {b : List ℕ} {x : List Pass} {child : Pid} → q ≡ p → q ≡ Some (request.Return b x) → p ≡ Some (request.Fork child) → ⊥
+not_forked e f g = cc
+
+none_forked : {q p : Option Request} {child : Pid} → q ≡ p → q ≡ None → p ≡ Some (request.Fork child) → ⊥
+none_forked e f g = cc
+
+asked_not_forked : {q p : Option Request} {t : Tid} {child : Pid} → q ≡ p → q ≡ Some (request.Interrupt t) → p ≡ Some (request.Fork child) → ⊥
+asked_not_forked e f g = cc
 
 none_asked : {q p : Option Request} {t : Tid} → q ≡ p → q ≡ None → p ≡ Some (request.Interrupt t) → ⊥
 none_asked e f g = cc
@@ -216,13 +231,27 @@ module _ (m : State) (xs : List Turn) (k : Known m xs) where
   same_asked : (e : ℕ) (w v : Turn) → slice_get xs e ≡ Some w → slice_get xs e ≡ Some v → w.request ≡ v.request
   same_asked e w v f g = ap (λ (y : Turn). y.request) (same_turn xs e w v f g)
 
-  -- an Interrupt ends no thread
+  -- a Fork interrupts the other callers of its process
+  by_fork :
+      (e : ℕ) (w : Turn) (r : Call) (child : Pid) → w.request ≡ Some (request.Fork child) → answer_at m xs e w ≡ answer.Child child →
+      (w.thread ≡ r.caller.0 → ⊥) → process_at m xs e w.thread ≡ process_at m xs e r.caller.0 →
+      Interrupts (state_at m xs e) w.thread w.request r.caller.0
+  by_fork e w r child q y d o =
+      forked_by child q (fork_is_free m xs e w child (record { asked = q; answered = y })) (sym o) (λ same. d (sym same))
+
+  -- what interrupts a thread ends none, and makes no door invalid
+
   interrupt_ends_none_at :
-      (e : ℕ) (w : Turn) (v : Tid) (u : ℕ) → slice_get xs e ≡ Some w → w.request ≡ Some (request.Interrupt v) →
+      (e : ℕ) (w : Turn) (v u : ℕ) → slice_get xs e ≡ Some w → Interrupts (state_at m xs e) w.thread w.request v →
       EndsNow (state_at m xs e) (state_at m xs (e + 1)) u → ⊥
   interrupt_ends_none_at e w v u f q h =
-      interrupt_ends_none (state_at m xs e) (invariant_before m xs k e w f) w.thread u v
-      (subst (λ n. EndsNow (state_at m xs e) n u) (next m xs k e w f ∙ ap (λ p. (step (state_at m xs e) w.thread p).state) q) h)
+      interrupt_ends_none (state_at m xs e) (invariant_before m xs k e w f) w.thread u v w.request q
+      (subst (λ n. EndsNow (state_at m xs e) n u) (next m xs k e w f) h)
+
+  interrupt_keeps_valid :
+      (e : ℕ) (w : Turn) (v d : ℕ) → slice_get xs e ≡ Some w → Interrupts (state_at m xs e) w.thread w.request v →
+      is_valid (state_at m xs e) d ≡ true → is_valid (state_at m xs (e + 1)) d ≡ false → ⊥
+  interrupt_keeps_valid e w v d f q = still_valid (doors_interrupted_at m xs k e w v d f q)
 
   exact :
       (c e n : ℕ) (z : Turn) (a b : Answer) (p : Cause m xs c e n z a) (q : Cause m xs c e n z b) →
@@ -237,35 +266,48 @@ module _ (m : State) (xs : List Turn) (k : Known m xs) where
   exact c e n z a b (results r w fds f back room) (server_full r' w' h' q' f' g' y' d') = absurd (given_not_entered _ r' w.thread w'.thread f' g' back.was_entered)
   exact c e n z a b (results r w fds f back room) (door_invalid r' f' g' v' x' d') = absurd (not_both _ r' w.thread f' g' back.was_entered)
   exact c e n z a b (results r w fds f back room) (interrupted r' w' h' f' u' q' d') = absurd (not_asked (same_asked e w w' back.turn h') back.is_return.asked q')
+  exact c e n z a b (results r w fds f back room) (forked r' w' p' h' f' u' q' y' d' o') = absurd (not_forked (same_asked e w w' back.turn h') back.is_return.asked q')
   exact c e n z a b (results r w fds f back room) (server_ended r' u' f' g' h' d') = absurd (none_ends_at m xs k e w back.turn (ap is_leaving_turn back.is_return.asked) u' h')
   exact c e n z a b (caller_full r w f back room) (caller_full r' w' f' back' room') = (refl, tt)
   exact c e n z a b (caller_full r w f back room) (server_full r' w' h' q' f' g' y' d') = absurd (given_not_entered _ r' w.thread w'.thread f' g' back.was_entered)
   exact c e n z a b (caller_full r w f back room) (door_invalid r' f' g' v' x' d') = absurd (not_both _ r' w.thread f' g' back.was_entered)
   exact c e n z a b (caller_full r w f back room) (interrupted r' w' h' f' u' q' d') = absurd (not_asked (same_asked e w w' back.turn h') back.is_return.asked q')
+  exact c e n z a b (caller_full r w f back room) (forked r' w' p' h' f' u' q' y' d' o') = absurd (not_forked (same_asked e w w' back.turn h') back.is_return.asked q')
   exact c e n z a b (caller_full r w f back room) (server_ended r' u' f' g' h' d') = absurd (none_ends_at m xs k e w back.turn (ap is_leaving_turn back.is_return.asked) u' h')
   exact c e n z a b (server_full r w h q f g y d) (results r' w' fds' f' back' room') = absurd (given_not_entered _ r w'.thread w.thread f g back'.was_entered)
   exact c e n z a b (server_full r w h q f g y d) (caller_full r' w' f' back' room') = absurd (given_not_entered _ r w'.thread w.thread f g back'.was_entered)
   exact c e n z a b (server_full r w h q f g y d) (server_full r' w' h' q' f' g' y' d') = (refl, tt)
   exact c e n z a b (server_full r w h q f g y d) (door_invalid r' f' g' v' x' d') = absurd (given_not_queued _ r r' w.thread f f' g g')
   exact c e n z a b (server_full r w h q f g y d) (interrupted r' w' h' f' u' q' d') = absurd (none_asked (same_asked e w w' h h') q q')
+  exact c e n z a b (server_full r w h q f g y d) (forked r' w' p' h' f' u' q' y' d' o') = absurd (none_forked (same_asked e w w' h h') q q')
   exact c e n z a b (server_full r w h q f g y d) (server_ended r' u' f' g' h' d') = absurd (none_ends_at m xs k e w h (ap is_leaving_turn q) u' h')
   exact c e n z a b (door_invalid r f g v x d) (results r' w' fds' f' back' room') = absurd (not_both _ r w'.thread f g back'.was_entered)
   exact c e n z a b (door_invalid r f g v x d) (caller_full r' w' f' back' room') = absurd (not_both _ r w'.thread f g back'.was_entered)
   exact c e n z a b (door_invalid r f g v x d) (server_full r' w' h' q' f' g' y' d') = absurd (given_not_queued _ r' r w'.thread f' f g' g)
   exact c e n z a b (door_invalid r f g v x d) (door_invalid r' f' g' v' x' d') = (refl, tt)
-  exact c e n z a b (door_invalid r f g v x d) (interrupted r' w' h' f' u' q' d') = absurd (still_valid (doors_interrupted_at m xs k e w' r'.caller r.door h' q') v x)
+  exact c e n z a b (door_invalid r f g v x d) (interrupted r' w' h' f' u' q' d') = absurd (interrupt_keeps_valid e w' r'.caller.0 r.door h' (asked q') v x)
+  exact c e n z a b (door_invalid r f g v x d) (forked r' w' p' h' f' u' q' y' d' o') = absurd (interrupt_keeps_valid e w' r'.caller.0 r.door h' (by_fork e w' r' p' q' y' d' o') v x)
   exact c e n z a b (door_invalid r f g v x d) (server_ended r' u' f' g' h' d') = absurd (queued_not_served _ r r' u' f f' g g')
   exact c e n z a b (interrupted r w h f u q d) (results r' w' fds' f' back' room') = absurd (not_asked (same_asked e w' w back'.turn h) back'.is_return.asked q)
   exact c e n z a b (interrupted r w h f u q d) (caller_full r' w' f' back' room') = absurd (not_asked (same_asked e w' w back'.turn h) back'.is_return.asked q)
   exact c e n z a b (interrupted r w h f u q d) (server_full r' w' h' q' f' g' y' d') = absurd (none_asked (same_asked e w' w h' h) q' q)
-  exact c e n z a b (interrupted r w h f u q d) (door_invalid r' f' g' v' x' d') = absurd (still_valid (doors_interrupted_at m xs k e w r.caller r'.door h q) v' x')
+  exact c e n z a b (interrupted r w h f u q d) (door_invalid r' f' g' v' x' d') = absurd (interrupt_keeps_valid e w r.caller.0 r'.door h (asked q) v' x')
   exact c e n z a b (interrupted r w h f u q d) (interrupted r' w' h' f' u' q' d') = (refl, tt)
-  exact c e n z a b (interrupted r w h f u q d) (server_ended r' u' f' g' h' d') = absurd (interrupt_ends_none_at e w r.caller u' h q h')
+  exact c e n z a b (interrupted r w h f u q d) (forked r' w' p' h' f' u' q' y' d' o') = absurd (asked_not_forked (same_asked e w w' h h') q q')
+  exact c e n z a b (interrupted r w h f u q d) (server_ended r' u' f' g' h' d') = absurd (interrupt_ends_none_at e w r.caller.0 u' h (asked q) h')
+  exact c e n z a b (forked r w p h f u q y d o) (results r' w' fds' f' back' room') = absurd (not_forked (same_asked e w' w back'.turn h) back'.is_return.asked q)
+  exact c e n z a b (forked r w p h f u q y d o) (caller_full r' w' f' back' room') = absurd (not_forked (same_asked e w' w back'.turn h) back'.is_return.asked q)
+  exact c e n z a b (forked r w p h f u q y d o) (server_full r' w' h' q' f' g' y' d') = absurd (none_forked (same_asked e w' w h' h) q' q)
+  exact c e n z a b (forked r w p h f u q y d o) (door_invalid r' f' g' v' x' d') = absurd (interrupt_keeps_valid e w r.caller.0 r'.door h (by_fork e w r p q y d o) v' x')
+  exact c e n z a b (forked r w p h f u q y d o) (interrupted r' w' h' f' u' q' d') = absurd (asked_not_forked (same_asked e w' w h' h) q' q)
+  exact c e n z a b (forked r w p h f u q y d o) (forked r' w' p' h' f' u' q' y' d' o') = (refl, tt)
+  exact c e n z a b (forked r w p h f u q y d o) (server_ended r' u' f' g' h' d') = absurd (interrupt_ends_none_at e w r.caller.0 u' h (by_fork e w r p q y d o) h')
   exact c e n z a b (server_ended r u f g h d) (results r' w' fds' f' back' room') = absurd (none_ends_at m xs k e w' back'.turn (ap is_leaving_turn back'.is_return.asked) u h)
   exact c e n z a b (server_ended r u f g h d) (caller_full r' w' f' back' room') = absurd (none_ends_at m xs k e w' back'.turn (ap is_leaving_turn back'.is_return.asked) u h)
   exact c e n z a b (server_ended r u f g h d) (server_full r' w' h' q' f' g' y' d') = absurd (none_ends_at m xs k e w' h' (ap is_leaving_turn q') u h)
   exact c e n z a b (server_ended r u f g h d) (door_invalid r' f' g' v' x' d') = absurd (queued_not_served _ r' r u f' f g' g)
-  exact c e n z a b (server_ended r u f g h d) (interrupted r' w' h' f' u' q' d') = absurd (interrupt_ends_none_at e w' r'.caller u h' q' h)
+  exact c e n z a b (server_ended r u f g h d) (interrupted r' w' h' f' u' q' d') = absurd (interrupt_ends_none_at e w' r'.caller.0 u h' (asked q') h)
+  exact c e n z a b (server_ended r u f g h d) (forked r' w' p' h' f' u' q' y' d' o') = absurd (interrupt_ends_none_at e w' r'.caller.0 u h' (by_fork e w' r' p' q' y' d' o') h)
   exact c e n z a b (server_ended r u f g h d) (server_ended r' u' f' g' h' d') = (refl, tt)
 
   -- where there is a cause the call leaves
@@ -343,6 +385,19 @@ module _ (m : State) (xs : List Turn) (k : Known m xs) where
         over = ended_over _ EMFILE x.stage_after;
       }
 
+  interrupt_leaves :
+      (c e : ℕ) (r : Call) (w : Turn) → slice_get xs e ≡ Some w → record_of (state_at m xs e) c ≡ Some r → is_underway r.stage ≡ true →
+      Interrupts (state_at m xs e) w.thread w.request r.caller.0 → Leaves m xs c e
+  interrupt_leaves c e r w h f u q =
+      record {
+        within = slice_get_within xs e w h;
+        underway = ap underway_in f ∙ u;
+        over =
+            ap (λ n. underway_in (record_of n c)) (next m xs k e w h)
+            ∙ step_interrupts (state_at m xs e) w.thread c w.request r f u
+            (caller_waits m xs k e c r (omega (arith, slice_get_within xs e w h)) f (underway_live r.stage u)) q;
+      }
+
   at_once : (c e n : ℕ) (z : Turn) (a : Answer) → Cause m xs c e n z a → Leaves m xs c e
   at_once c e n z a (results r w fds f back room) = return_leaves c e w back
   at_once c e n z a (caller_full r w f back room) = return_leaves c e w back
@@ -363,14 +418,8 @@ module _ (m : State) (xs : List Turn) (k : Known m xs) where
                 (step_loses (state_at m xs e) t.turn.thread t.turn.request r.door v
                 (ap (λ n. is_valid n r.door) (sym (next m xs k e t.turn t.found)) ∙ x));
           }
-  at_once c e n z a (interrupted r w h f u q d) =
-      record {
-        within = slice_get_within xs e w h;
-        underway = ap underway_in f ∙ u;
-        over =
-            ap (λ n. underway_in (record_of n c)) (next m xs k e w h ∙ ap (λ p. (step (state_at m xs e) w.thread p).state) q)
-            ∙ step_interrupts (state_at m xs e) w.thread c r f u;
-      }
+  at_once c e n z a (interrupted r w h f u q d) = interrupt_leaves c e r w h f u (asked q)
+  at_once c e n z a (forked r w p h f u q y d o) = interrupt_leaves c e r w h f u (by_fork e w r p q y d o)
   at_once c e n z a (server_ended r u f g h d) = by (turn_at xs e within)
     where
       within : e < length xs
@@ -439,6 +488,14 @@ module _ (m : State) (xs : List Turn) (k : Known m xs) where
       cause (inr g) =
           subst (Cause m xs c b.at i z) (sym g.1) (caller_full b.row.call b.turn (b.was ∙ b.row.before) back (too_few_is (state_at m xs i) _ back.objects (room false g.0)))
 
+  cause_of_interrupt :
+      (c e n : ℕ) (w z : Turn) (r : Call) → slice_get xs e ≡ Some w → record_of (state_at m xs e) c ≡ Some r → is_underway r.stage ≡ true →
+      (state_of (state_at m xs (e + 1)) r.caller.0 ≡ is.Done → ⊥) → Interrupts (state_at m xs e) w.thread w.request r.caller.0 →
+      Cause m xs c e n z (answer.Failure EINTR)
+  cause_of_interrupt c e n w z r h f u d (asked q) = interrupted r w h f u q d
+  cause_of_interrupt c e n w z r h f u d (forked_by child q free own other) =
+      forked r w child h f u q (forks_there m xs e w child q free).answered (λ same. other (sym same)) (sym own)
+
   cause_of_end :
       (c e n : ℕ) (w z : Turn) (r : Call) (x : Errno) → slice_get xs e ≡ Some w → record_of (state_at m xs e) c ≡ Some r →
       Breaks (state_at m xs e) w.thread w.request (answer_at m xs e w) (state_at m xs (e + 1)) r x →
@@ -446,9 +503,10 @@ module _ (m : State) (xs : List Turn) (k : Known m xs) where
   cause_of_end c e n w z r x h f (by_cause y (invalid q v b d)) = door_invalid r f q v b d
   cause_of_end c e n w z r x h f (by_cause y (full q v g d a)) =
       server_full r w h q f g (a ∙ ap (λ (j : ℕ). answer.EnterFailed j) (number_of (state_at m xs e) c r f)) (too_few_is (state_at m xs e) _ r.objects d)
-  cause_of_end c e n w z r x h f (by_cause y (by_caller q v d)) = interrupted r w h f (waiting_underway r.stage v) q d
+  cause_of_end c e n w z r x h f (by_cause y (by_caller q v d)) =
+      cause_of_interrupt c e n w z r h f (waiting_underway r.stage v) d q
   cause_of_end c e n w z r x h f (by_cause y (by_server u s v d)) = server_ended r u f s v d
-  cause_of_end c e n w z r x h f (by_interrupt u q s d) = interrupted r w h f (ap is_underway s) q d
+  cause_of_end c e n w z r x h f (by_interrupt u q s d) = cause_of_interrupt c e n w z r h f (ap is_underway s) d q
 
   caused_by_end :
       (i c : ℕ) (z : Turn) (r : Call) (x : Errno) (o : Option Call) → o ≡ Some r → r.stage ≡ stage.Ended x →

@@ -5,25 +5,27 @@ use Rattle.std.specs.Option.{option_map}
 use Rattle.std.proofs.Common.{refl, sym, ap, subst, ◌∙◌, inl, inr}
 use native.Mathlib.Omega.{arith}
 use Rattle.std.proofs.lemmas.Bool.Decides.{nat_tests}
-use Rattle.written_kernel.specs.Types.{Item, Pid, Process, Request, Thread, ThreadState, Tid}
+use Rattle.written_kernel.specs.Types.{Item, Pid, Process, Request, Thread, ThreadState}
 use Rattle.dk_base.specs.ByNumber.{at_number}
 use Rattle.dk_base.specs.declared.object.Item.TheVariants as item
 use Rattle.dk_base.specs.declared.request.Request.TheVariants as request
 use Rattle.kernel_records.specs.declared.record.ThreadState.TheVariants as is
-use Rattle.kernel_records.specs.Words.{Leaving, change_thread, deserted_in, ended_process, ended_thread, idle_thread, interrupted_where, interruption, is_active, is_last, is_live_in, is_served_by, keeps_alive, left_thread_of, process_end, process_in, revocation, state_in, thread_at_state, thread_end, thread_in_invocation, thread_outside}
-use Rattle.written_kernel.specs.Words.{ActResult, State, act, door_at, exit, give_one, is_live_process, kill, leave, leave_process, leave_thread, now, process_of, settle, state_of, step, thread_of, with_event_counted}
+use Rattle.kernel_records.specs.Words.{Leaving, change_thread, deserted_in, ended_process, ended_thread, first_refusal, idle_thread, interrupted_where, interruption, is_active, is_last, is_live_in, is_served_by, is_unborn_in, keeps_alive, left_thread_of, process_end, process_in, revocation, state_in, thread_at_state, thread_end, thread_in_invocation, thread_outside}
+use Rattle.written_kernel.specs.Words.{ActResult, State, act, door_at, exit, fork, forking_tests, give_one, is_live_process, is_unborn_process, kill, leave, leave_process, leave_thread, now, process_of, settle, state_of, step, thread_of, unless_refused, with_event_counted}
 use Rattle.kernel_records.proofs.Lists.{at_number-map, at_number-suc}
 use Rattle.written_kernel.proofs.Settling.{settle-all}
 use Rattle.written_kernel.proofs.Threads.{at_number-end_process, processes-change_thread, thread_at-end_process}
 use Rattle.written_kernel.proofs.Moves.{Moves, act_moves}
 use Rattle.written_kernel.proofs.Moves.IsLeaving.{interrupts as interrupts_one, exits as exits_one}
 use Rattle.written_kernel.proofs.Moves.IsEnding.{kills as kills_one, exits_last}
-use Rattle.kernel_invariant.specs.Arrows.{EndsNow}
+use Rattle.kernel_invariant.specs.Arrows.{EndsNow, Interrupts}
+use Rattle.kernel_invariant.specs.Arrows.Interrupts.{asked, forked}
 use Rattle.kernel_invariant.specs.Core.{ended_in, number_in}
 use Rattle.kernel_invariant.specs.Invariant.{Invariant}
 use Rattle.kernel_laws.specs.Ends.{IsLast, is_ended}
 use Rattle.run_places.proofs.Done.{move_none, settle_none}
-use Rattle.kernel_laws.proofs.Left.{leave_ends}
+use Rattle.kernel_laws.proofs.Forking.{fork_ends, was_unborn}
+use Rattle.kernel_laws.proofs.Left.{fork_ends_none, leave_ends}
 use Rattle.kernel_laws.proofs.Parked.{IsThread, is_thread}
 use Rattle.run_places.proofs.Passed.{Found, any_found, found_any}
 use Rattle.run_places.proofs.ReturnRefusals.{not_both}
@@ -74,9 +76,12 @@ other_stays m e p f =
     ap ended_in (at_number-end_process (leave m (process_end m.process_table m.doors e)).process_table e p)
     ∙ ap (λ (b : Bool). ended_in (if b then option_map ended_process (at_number m.process_table.processes e) else at_number m.process_table.processes p)) f
 
+pub live_begun : (o : Option Process) → is_live_in o ≡ true → is_unborn_in o ≡ false
+live_begun o e = grind arith
+
 -- which entry of thread t ends process p
 pub data EndsOne (m : State) (t p : ℕ) : Option Request → Type 0 where
-  kills : (process : Pid) → process.0 ≡ p → EndsOne m t p (Some (request.Kill process))
+  kills : (process : Pid) → process.0 ≡ p → is_unborn_process m p ≡ false → EndsOne m t p (Some (request.Kill process))
   exits : process_of m t ≡ p → is_last m.process_table t p ≡ true → EndsOne m t p (Some request.Exit)
 
 module _ (m : State) (t p : ℕ) (lives : is_ended m p ≡ false) where
@@ -100,7 +105,11 @@ module _ (m : State) (t p : ℕ) (lives : is_ended m p ≡ false) where
   move_ends_one q a (Moves.enters_notice n _) f = absurd (same_ends a.state (changed m t (thread_in_invocation (item.Notice n.number))) f)
   move_ends_one q a (Moves.collects c _) f = absurd (same_ends a.state (changed m t (thread_at_state is.Running)) f)
   move_ends_one q a (Moves.retrieves port max nget one _) f = absurd (same_ends a.state (changed m t (thread_at_state is.Running)) f)
-  move_ends_one q a (Moves.ends r e (kills_one process _)) f = kills process (ends_it process.0 f)
+  move_ends_one q a (Moves.ends r e (kills_one process l)) f =
+      let same : process.0 ≡ p = ends_it process.0 f in
+      kills process same (subst (λ n. is_unborn_process m n ≡ false) same (live_begun (at_number m.process_table.processes process.0) l))
+  move_ends_one q a (Moves.forks child n) f =
+      absurd (not_both (is_ended a.state p) f (fork_ends m t (process_of m t) child.0 p (was_unborn m child.0 n) ∙ lives))
   move_ends_one q a (Moves.ends r e (exits_last l)) f =
       let same : process_of m t ≡ p = ends_it (process_of m t) f in
       exits same (ap (is_last m.process_table t) (sym same) ∙ l)
@@ -113,18 +122,20 @@ module _ (m : State) (t p : ℕ) (lives : is_ended m p ≡ false) where
 
 -- and each of them does
 
-pub step_kills : (m : State) (t : ℕ) (process : Pid) → is_some (at_number m.process_table.processes process.0) ≡ true → IsEnded (step m t (Some (request.Kill process))).state process.0
+pub step_kills :
+    (m : State) (t : ℕ) (process : Pid) → is_some (at_number m.process_table.processes process.0) ≡ true →
+    is_unborn_process m process.0 ≡ false → IsEnded (step m t (Some (request.Kill process))).state process.0
 unfolding step
-step_kills m t process e =
+step_kills m t process e begun =
     ap (λ ps. ended_in (at_number ps process.0)) (settle_same m (kill m process.0).state)
     ∙ go (is_live_process m process.0) refl
   where
-    not_live : (o : Option Process) → is_some o ≡ true → is_live_in o ≡ false → ended_in o ≡ true
-    not_live o f g = grind arith
+    not_live : (o : Option Process) → is_some o ≡ true → is_unborn_in o ≡ false → is_live_in o ≡ false → ended_in o ≡ true
+    not_live o f b g = grind arith
 
     go : (b : Bool) → is_live_process m process.0 ≡ b → IsEnded (if b then leave_process m process.0 else m) process.0
     go true f = process_ended m process.0 e
-    go false f = not_live (at_number m.process_table.processes process.0) e f
+    go false f = not_live (at_number m.process_table.processes process.0) e begun f
 
 pub step_exits :
     (m : State) (t : ℕ) → is_some (at_number m.process_table.processes (process_of m t)) ≡ true →
@@ -251,6 +262,7 @@ module _ (m : State) (h : Invariant m) (t u : ℕ) (before : state_of m u ≡ is
   move_ends_thread q a (Moves.leaves r who (exits_one l)) d = exits (grind (arith, nat_tests, leave_ends m (thread_end t) u h d before))
   move_ends_thread q a (Moves.revokes fd f) d = absurd (cc (leave_ends m (revocation (door_at m (process_of m t) fd)) u h d before))
   move_ends_thread q a (Moves.ends r p _) d = process_ends p q d
+  move_ends_thread q a (Moves.forks child f) d = absurd (fork_ends_none m t child.0 u h f d before)
   move_ends_thread q a x d = absurd (before ((move_none m t q a x refl).done u d))
 
   settled : (q : Option Request) (n : State) → EndsThread m t u n q → EndsThread m t u (settle m n) q
@@ -265,8 +277,19 @@ step_ends_thread m h t u q e = counted (settled m h t u e.before q (act m t q).s
     counted (exits f) = exits f
     counted (with_process f) = with_process f
 
--- an Interrupt ends none
-pub interrupt_ends_none : (m : State) → Invariant m → (t u : ℕ) (v : Tid) → EndsNow m (step m t (Some (request.Interrupt v))).state u → ⊥
+-- what interrupts a thread ends none
+pub interrupt_ends_none :
+    (m : State) → Invariant m → (t u v : ℕ) (q : Option Request) → Interrupts m t q v → EndsNow m (step m t q).state u → ⊥
 unfolding step
-interrupt_ends_none m h t u v e =
-    absurd (cc (leave_ends m (interruption v.0) u h (settle_none m (act m t (Some (request.Interrupt v))).state u e.after) e.before))
+interrupt_ends_none m h t u v q i e = go i (settle_none m (act m t q).state u e.after)
+  where
+    forks : (child : Pid) → first_refusal (forking_tests m child.0) ≡ None → state_of (act m t (Some (request.Fork child))).state u ≡ is.Done → ⊥
+    forks child f d =
+        fork_ends_none m t child.0 u h f
+        (sym (ap (λ o. state_of (unless_refused m o (fork m t (process_of m t) child.0)).state u) f) ∙ d)
+        e.before
+
+    go : Interrupts m t q v → state_of (act m t q).state u ≡ is.Done → ⊥
+    go (asked f) d =
+        absurd (cc (leave_ends m (interruption v) u h (subst (λ p. state_of (act m t p).state u ≡ is.Done) f d) e.before))
+    go (forked child f free own other) d = forks child free (subst (λ p. state_of (act m t p).state u ≡ is.Done) f d)

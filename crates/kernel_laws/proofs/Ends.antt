@@ -10,8 +10,8 @@ use Rattle.dk_base.specs.declared.object.Item.TheVariants as item
 use Rattle.dk_base.specs.declared.request.Request.TheVariants as request
 use Rattle.kernel_records.specs.declared.record.ThreadState.TheVariants as is
 use Rattle.kernel_records.specs.declared.record.CallStage.TheVariants as stage
-use Rattle.kernel_records.specs.Words.{Leaving, ProcessTable, change_thread, end_process, ended_process, ended_thread, idle_thread, interrupted_where, is_last, is_live, is_live_in, is_served_by, is_valid_in, left_thread, left_thread_of, process_end, revocation, state_in, thread_at, thread_at_state, thread_end, thread_in_invocation, thread_outside, tid, with_ended}
-use Rattle.written_kernel.specs.Words.{ActResult, MayEnter, MayTurn, State, Turn, act, door_at, door_of, exit, give_one, is_running_state, can_go_on, is_valid, leave, leave_process, leave_thread, now, process_of, served_by, settle, state_at, state_of, step, thread_of}
+use Rattle.kernel_records.specs.Words.{Leaving, ProcessTable, change_thread, end_process, ended_process, ended_thread, forking, idle_thread, interrupted_where, is_last, is_live, is_live_in, is_served_by, is_valid_in, left_thread, left_thread_of, process_end, revocation, state_in, thread_at, thread_at_state, thread_end, thread_in_invocation, thread_outside, tid, with_ended}
+use Rattle.written_kernel.specs.Words.{ActResult, MayEnter, MayTurn, State, Turn, act, door_at, door_of, exit, fork, give_one, is_running_state, is_unborn_process, can_go_on, is_valid, leave, leave_process, leave_thread, now, process_of, served_by, settle, state_at, state_of, step, thread_of}
 use Rattle.kernel_records.proofs.Lists.{at_number-map, at_number-renumbered_there, is_some-at_number}
 use Rattle.written_kernel.proofs.Steps.{process_of-step}
 use Rattle.written_kernel.proofs.Settling.{settle-all}
@@ -29,6 +29,7 @@ use Rattle.run_places.specs.Places.{notice_stage_of, notice_door, owner_of_notic
 use Rattle.kernel_laws.proofs.Endings.{EndsOne, EndsThread, is_last_thread, last_is, leave_done, process_there, step_ends_one, step_ends_thread, step_exits, step_kills}
 use Rattle.kernel_laws.proofs.Endings.EndsOne.{kills as kills_one, exits as exits_last}
 use Rattle.kernel_laws.proofs.Endings.EndsThread.{exits as own_exit, with_process as process_over}
+use Rattle.kernel_laws.proofs.Forking.{fork_ends, fork_state, was_unborn}
 use Rattle.kernel_laws.proofs.Held.{IsWith, ServesCall, serves_of}
 use Rattle.run_places.proofs.Known.{Known, invariant_after, invariant_before, next, stays}
 use Rattle.kernel_laws.proofs.Once.{caller_waits, owner_same}
@@ -144,6 +145,19 @@ leave_process_keeps m p h =
     (leave_keeps m (process_end m.process_table m.doors p) h)
     (end_keeps (leave m (process_end m.process_table m.doors p)).process_table p)
 
+fork_keeps : (m : State) (t child : ℕ) → Invariant m → is_unborn_process m child ≡ true → KeepsEndsIn m (fork m t (process_of m t) child).state
+fork_keeps m t child h unborn = record { done = done; ended = λ p e. fork_ends m t (process_of m t) child p unborn ∙ e }
+  where
+    done : (u : ℕ) → state_of m u ≡ is.Done → state_of (fork m t (process_of m t) child).state u ≡ is.Done
+    done u d = go (fork_state m t (process_of m t) child u h unborn)
+      where
+        go :
+            (state_of (fork m t (process_of m t) child).state u ≡ state_of (leave m (forking m.process_table t)) u)
+            ⊎ ((state_of m u ≡ is.Dormant) × (state_of (fork m t (process_of m t) child).state u ≡ is.Running)) →
+            state_of (fork m t (process_of m t) child).state u ≡ is.Done
+        go (inl e) = e ∙ (leave_keeps m (forking m.process_table t) h).done u d
+        go (inr e) = absurd (cc (sym e.0 ∙ d))
+
 move_keeps :
     (m : State) (t : ℕ) (q : Option Request) (a : ActResult) → Invariant m → (state_of m t ≡ is.Done → ⊥) → Moves m t q a →
     KeepsEndsIn m a.state
@@ -159,6 +173,7 @@ move_keeps m t q a i h (Moves.retrieves port max nget one e) = change_keeps m.pr
 move_keeps m t q a i h (Moves.leaves r who _) = leave_keeps m who i
 move_keeps m t q a i h (Moves.revokes fd f) = leave_keeps m (revocation (door_at m (process_of m t) fd)) i
 move_keeps m t q a i h (Moves.ends r p _) = leave_process_keeps m p i
+move_keeps m t q a i h (Moves.forks child f) = fork_keeps m t child.0 i (was_unborn m child.0 f)
 move_keeps m t q a i h _ = same_keeps m.process_table
 
 -- a thread that takes a turn is not Done
@@ -290,7 +305,7 @@ module _ (m : State) (h : Invariant m) (p : ℕ) (e : is_ended m p ≡ true) whe
   pub has_ended : (own : (c : ℕ) (r : Call) → record_of m c ≡ Some r → is_live r.stage ≡ true → state_of m r.caller.0 ≡ is.Calling c) → HasEnded m p
   has_ended own =
       record {
-        no_row = λ fd. h.consistent.no_rows p fd e;
+        no_row = λ fd. h.consistent.no_rows p fd (ended_not_live _ e);
         threads_done = threads_done;
         no_valid_door = no_valid_door;
         no_call = no_call;
@@ -336,7 +351,7 @@ module _ (m : State) (xs : List Turn) (k : Known m xs) where
       (step_ends_one (state_at m xs i) x.thread p b x.request (ap (λ n. is_ended n p) (sym (next m xs k i x e)) ∙ a))
     where
       go : (q : Option Request) → x.request ≡ q → EndsOne (state_at m xs i) x.thread p q → EndsProcess m xs i x p
-      go q f (kills_one process g) = kills process f g
+      go q f (kills_one process g b) = kills process f g b
       go q f (exits_last g l) = exits_process f g (last_is (state_at m xs i) (invariant_before m xs k i x e) x.thread p l)
 
   process_is_there : (i : ℕ) (x : Turn) (process : Pid) → slice_get xs i ≡ Some x → x.request ≡ Some (request.Kill process) →
@@ -348,10 +363,11 @@ module _ (m : State) (xs : List Turn) (k : Known m xs) where
 
   process_ends_where :
       (i p : ℕ) (x : Turn) → slice_get xs i ≡ Some x → EndsProcess m xs i x p → is_ended (state_at m xs (i + 1)) p ≡ true
-  process_ends_where i p x e (kills process f g) =
+  process_ends_where i p x e (kills process f g b) =
       subst (λ n. is_ended (state_at m xs (i + 1)) n ≡ true) g
       (ap (λ n. is_ended n process.0) (next m xs k i x e ∙ ap (λ q. (step (state_at m xs i) x.thread q).state) f)
-      ∙ step_kills (state_at m xs i) x.thread process (process_is_there i x process e f))
+      ∙ step_kills (state_at m xs i) x.thread process (process_is_there i x process e f)
+      (subst (λ n. is_unborn_process (state_at m xs i) n ≡ false) (sym g) b))
   process_ends_where i p x e (exits_process f g l) =
       subst (λ n. is_ended (state_at m xs (i + 1)) n ≡ true) g
       (ap (λ n. is_ended n (process_at m xs i x.thread)) (next m xs k i x e ∙ ap (λ q. (step (state_at m xs i) x.thread q).state) f)

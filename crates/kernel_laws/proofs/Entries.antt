@@ -11,10 +11,10 @@ use Rattle.dk_base.specs.declared.request.Param.TheVariants as param
 use Rattle.dk_base.specs.declared.request.Request.TheVariants as request
 use Rattle.kernel_records.specs.declared.association.Association.{Association}
 use Rattle.kernel_records.specs.declared.record.CallStage.TheVariants as stage
-use Rattle.kernel_records.specs.Words.{Pipe, Port, Test, alert_tests, bytes_in, first_refusal, free_rows, get_tests, getn_tests, is_client_call_of, is_entered_by, is_full_of, is_full_port, is_of_descriptors, is_of_nothing, is_of_user, is_owned_by, is_private_in, is_ready_for, is_update, is_user_event, is_valid_in, lowest_free, port_in, read_tests, refused_where, refuses_descriptors_in, send_tests, set_param_tests, user_events, would_have_no_size, write_tests, associate_tests, association_at, dissociate_tests, pid}
-use Rattle.written_kernel.specs.Words.{State, door_at, door_named, door_of, held_in, is_door, is_reading_end, is_writing_end, name_of, object_at, pipe_named, port, port_named, port_tests, readers_of, refusal_of, table_of, writers_of, association_of_key}
+use Rattle.kernel_records.specs.Words.{Pipe, Port, Test, alert_tests, bytes_in, first_refusal, free_rows, get_tests, getn_tests, is_bound_to_some, is_client_call_of, is_entered_by, is_full_of, is_full_port, is_of_descriptors, is_of_nothing, is_of_user, is_owned_by, is_private_in, is_ready_for, is_update, is_user_event, is_valid_in, lowest_free, port_in, read_tests, refused_where, refuses_descriptors_in, send_tests, set_param_tests, user_events, would_have_no_size, write_tests, associate_tests, association_at, dissociate_tests, pid}
+use Rattle.written_kernel.specs.Words.{State, bound_of, door_at, door_named, door_of, held_in, is_door, is_reading_end, is_writing_end, name_of, object_at, pipe_named, port, port_named, port_tests, readers_of, refusal_of, table_of, writers_of, association_of_key}
 use Rattle.run_places.specs.Counts.{free_places, has_own_pool}
-use Rattle.kernel_laws.specs.Entries.{Reason, count_sent, door_behind, first_reason, has_client_among, has_fewer, has_no_reader, has_no_writer, holds_all, holds_none, is_alerted, is_in, is_invalid, is_message, is_no_door, is_no_mode, is_no_port, is_no_reading_end, is_no_writing_end, is_of_another, is_of_update, is_sent, leaves_no_size, pipe_behind, port_behind, reasons, sets_descriptors, takes_no_more, where_so, is_among, is_associated}
+use Rattle.kernel_laws.specs.Entries.{Reason, count_sent, door_behind, first_reason, has_client_among, has_fewer, has_no_door, has_no_reader, has_no_writer, holds_all, holds_none, is_alerted, is_in, is_invalid, is_message, is_no_door, is_no_mode, is_no_port, is_no_reading_end, is_no_writing_end, is_of_another, is_of_update, is_sent, leaves_no_size, pipe_behind, port_behind, reasons, sets_descriptors, takes_no_more, where_so, is_among, is_associated}
 use Rattle.run_places.proofs.Counts.{free_is}
 use Rattle.kernel_laws.proofs.Installed.{first_free-within}
 use Rattle.dk_base.specs.declared.object.Src.TheVariants as src
@@ -204,6 +204,11 @@ none_associated :
 none_associated q p fd [] = refl
 none_associated q p fd (a ∷ xs) = grind (arith, nat_tests, none_associated q p fd xs)
 
+-- to no door that is there
+unbound_is : (o : Option ℕ) → not (is_bound_to_some o) ≡ has_no_door o
+unbound_is None = refl
+unbound_is (Some d) = grind arith
+
 pub refusal_is : (m : State) (t p : ℕ) (r : Request) → is_message r ≡ false → refusal_of m t p r ≡ first_reason (reasons m t p r)
 refusal_is m t p (request.Create entry cookie attrs) h = two EINVAL EMFILE _ _ _ _ refl (full_is (table_of m p))
 refusal_is m t p (request.Call fd bytes pass rsize) h = absurd (cc h)
@@ -213,6 +218,7 @@ refusal_is m t p (request.Bind fd) h =
     two EBADF EINVAL _ _ _ _ (on_valid m p fd)
     (ap (λ o. not (is_private_in o && is_owned_by p o)) (behind_is m (object_at m p fd)) ∙ unusable_is p (door_behind m (object_at m p fd)))
 refusal_is m t p (request.Info fd) h = one EBADF _ _ (no_door_is (object_at m p fd))
+refusal_is m t p request.InfoQuery h = one EBADF _ _ (unbound_is (bound_of m t))
 refusal_is m t p (request.GetParam fd x) h = one EBADF _ _ (no_door_is (object_at m p fd))
 refusal_is m t p (request.SetParam fd x value) h =
     ap (λ o. first_refusal (set_param_tests p o x value)) (behind_is m (object_at m p fd))

@@ -39,6 +39,7 @@ use Rattle.kernel_laws.proofs.Ends.{ends_holds}
 use Rattle.kernel_laws.proofs.InvalidDoors.{invalid_doors_hold}
 use Rattle.kernel_laws.proofs.Cancels.{cancels_holds}
 use Rattle.notice_laws.proofs.Notices.{notices_hold}
+use Rattle.kernel_laws.proofs.Begins.{begins_hold}
 use Rattle.kernel_laws.proofs.Pools.{bound_to_own, none_idle_in}
 use Rattle.kernel_laws.proofs.Bytes.{bytes_hold}
 use Rattle.kernel_laws.proofs.PortEvents.{port_events_hold}
@@ -185,6 +186,7 @@ all_hold m xs k h =
       tasks = tasks_hold m xs h;
       one_shot = one_shot_holds m xs h;
       lives = lives_hold m xs h;
+      begins = begins_hold m xs k;
     }
 
 pub laws_hold : (m : State) (xs : List Turn) → IsOpening m → IsRun m xs → Laws m xs

@@ -4,11 +4,13 @@ use Rattle.std.proofs.Common.{refl, sym, ap, subst, ◌∙◌, inl, inr}
 use native.Mathlib.Omega.{arith}
 use Rattle.std.proofs.lemmas.Option.{slice_get_within}
 use Rattle.written_kernel.specs.Types.{Answer, Call, CallStage, Fd, Request}
+use Rattle.dk_base.specs.declared.error.Errno.TheVariants.{EINTR}
 use Rattle.dk_base.specs.declared.answer.Answer.TheVariants as answer
 use Rattle.kernel_records.specs.declared.record.CallStage.TheVariants as stage
 use Rattle.kernel_records.specs.Words.{tid}
 use Rattle.written_kernel.specs.Words.{State, Turn, door_of, state_at}
-use Rattle.kernel_invariant.specs.Arrows.{EndsNow}
+use Rattle.kernel_invariant.specs.Arrows.{EndsNow, Interrupts}
+use Rattle.kernel_invariant.specs.Arrows.Interrupts.{asked, forked}
 use Rattle.kernel_invariant.specs.Arrows.EndsBy.{door_invalid, server_full, interrupted, server_ended}
 use Rattle.kernel_invariant.specs.Coherent.{AreAtDoors, bound_for}
 use Rattle.kernel_invariant.specs.Core.{core, door_in}
@@ -18,6 +20,7 @@ use Rattle.kernel_laws.specs.Given.{StaysGiven, GivenMoves, IsCallWith, IsGiven}
 use Rattle.run_places.proofs.Changes.{Change, gone_stage, rank_in, rank_of}
 use Rattle.run_places.proofs.Changes.Change.{made, given, entered, returned, ended, broken_off, left, results_collected, nothing_collected, error_collected}
 use Rattle.run_places.proofs.Known.{ChangeAt, Known, never_falls, never_less, rank_at, stays, stays_or_changes}
+use Rattle.kernel_laws.proofs.Forking.{forks_there}
 use Rattle.kernel_laws.proofs.Once.{owner_same}
 use Rattle.kernel_laws.proofs.Readers.{number_of}
 use Rattle.run_places.proofs.Counts.{may_serve}
@@ -131,6 +134,13 @@ module _ (m : State) (xs : List Turn) (k : Known m xs) where
             answer = a ∙ ap (λ (n : ℕ). answer.Entered n entry cookie bytes fds) f;
           }
 
+      by_interrupt :
+          (r : Call) → record_of (state_at m xs i) c ≡ Some r → Interrupts (state_at m xs i) x.thread x.request r.caller.0 →
+          stage_of (state_at m xs (i + 1)) c ≡ Some (stage.Ended EINTR) → GivenMoves m xs i x c t
+      by_interrupt r f (asked q) s = GivenMoves.caller_interrupted r f q s
+      by_interrupt r f (forked child q free own other) s =
+          GivenMoves.caller_forked r child f q (forks_there m xs i x child q free).answered own (λ same. other (sym same)) s
+
       by :
           (o p : Option Call) → record_of (state_at m xs i) c ≡ o → record_of (state_at m xs (i + 1)) c ≡ p → ChangeAt m xs i x o p →
           GivenMoves m xs i x c t
@@ -144,7 +154,7 @@ module _ (m : State) (xs : List Turn) (k : Known m xs) where
       by o p f g (ended r y (door_invalid h v u d)) = absurd (other r _ f h (λ l. cc))
       by o p f g (ended r y (server_full q s h full a)) =
           GivenMoves.fails (same r x.thread h f) (a ∙ ap (λ (n : ℕ). answer.EnterFailed n) (number r f)) (ap stage_in g)
-      by o p f g (ended r y (interrupted q v d)) = GivenMoves.caller_interrupted r f q (ap stage_in g)
+      by o p f g (ended r y (interrupted q v d)) = by_interrupt r f q (ap stage_in g)
       by o p f g (ended r y (server_ended u (inl h) v d)) =
           GivenMoves.thread_ends (subst (λ z. EndsNow (state_at m xs i) (state_at m xs (i + 1)) z) (same r u h f) v) (ap stage_in g)
       by o p f g (ended r y (server_ended u (inr h) v d)) = absurd (other r _ f h (λ l. cc))

@@ -5,24 +5,28 @@ use Rattle.std.proofs.Common.{refl, sym, ap, subst, ◌∙◌, inl, inr}
 use native.Mathlib.Omega.{arith}
 use Rattle.std.proofs.lemmas.Bool.Decides.{nat_tests}
 use Rattle.kernel_records.proofs.NumberedLists.{find-none}
-use Rattle.written_kernel.specs.Types.{Call, CallStage, Inv, Item, Process, Request, Thread, ThreadState}
+use Rattle.written_kernel.specs.Types.{Call, CallStage, Inv, Item, Pid, Process, Request, Thread, ThreadState}
 use Rattle.dk_base.specs.ByNumber.{at_number}
 use Rattle.dk_base.specs.declared.object.Item.TheVariants as item
 use Rattle.dk_base.specs.declared.request.Request.TheVariants as request
 use Rattle.kernel_records.specs.declared.record.ThreadState.TheVariants as is
 use Rattle.kernel_records.specs.declared.record.CallStage.TheVariants as stage
-use Rattle.kernel_records.specs.Words.{Leaving, ProcessTable, call_number, cancelled_invocation, deserted_at, deserted_in, end_process, ended_thread, interrupted_state, interrupted_where, interruption, invocation_in, is_left, is_served_by, left_thread, left_thread_of, process_end, revocation, state_in, thread_at, tid, with_ended}
-use Rattle.written_kernel.specs.Words.{ActResult, State, act, door_at, invocation_of, is_cancelled, leave, leave_process, now, process_of, served_by, state_of, step, thread_of}
+use Rattle.kernel_records.specs.Words.{Leaving, ProcessTable, call_number, cancelled_invocation, deserted_at, deserted_in, end_process, ended_thread, first_refusal, forking, interrupted_state, interrupted_where, interruption, invocation_in, is_fellow_caller, is_left, is_served_by, left_thread, left_thread_of, process_end, revocation, state_in, thread_at, tid, with_ended}
+use Rattle.written_kernel.specs.Words.{ActResult, State, act, door_at, fork, forking_tests, invocation_of, is_cancelled, leave, leave_process, now, process_of, served_by, state_of, step, thread_of, unless_refused}
 use Rattle.written_kernel.proofs.Invocations.{invocation_of-settle}
 use Rattle.kernel_records.proofs.Lists.{at_number-map}
 use Rattle.written_kernel.proofs.Moves.{Moves, act_moves}
 use Rattle.kernel_invariant.specs.Records.{item_in, item_of, record_of, stage_in, stage_of}
-use Rattle.kernel_invariant.specs.Core.{abandoned_in, core, is_outside, number_in, underway_in}
+use Rattle.kernel_invariant.specs.Core.{abandoned_in, caller_number, core, is_outside, live_in, number_in, underway_in}
+use Rattle.kernel_invariant.specs.Arrows.{Interrupts}
+use Rattle.kernel_invariant.specs.Arrows.Interrupts.{asked, forked}
 use Rattle.kernel_invariant.specs.Coherent.{IsCoherent}
 use Rattle.kernel_invariant.specs.Invariant.{Invariant}
 use Rattle.kernel_invariant.specs.Events.{IsLeft}
 use Rattle.kernel_invariant.specs.Events.IsLeft.{interrupted, caller_ends}
 use Rattle.run_places.proofs.Done.{move_none, settle_none}
+use Rattle.run_places.proofs.Validity.{fellow_calls}
+use Rattle.kernel_laws.proofs.Forking.{fork_invocation, fork_state, was_unborn}
 use Rattle.kernel_laws.proofs.Held.{IsWith, ServesCall, serves_of}
 
 -- no invocation is left, or its flag is set
@@ -179,6 +183,19 @@ leave_ends m who t h d b =
     go None f g = absurd (b (ap state_in f))
     go (Some x) f g = by x f (left_done who (now m) (find (is_served_by x.number) m.call_tree.calls) x g)
 
+-- and a fork ends none
+pub fork_ends_none :
+    (m : State) (t child u : ℕ) → Invariant m → first_refusal (forking_tests m child) ≡ None →
+    state_of (fork m t (process_of m t) child).state u ≡ is.Done → (state_of m u ≡ is.Done → ⊥) → ⊥
+fork_ends_none m t child u h f d b = go (fork_state m t (process_of m t) child u h (was_unborn m child f))
+  where
+    go :
+        (state_of (fork m t (process_of m t) child).state u ≡ state_of (leave m (forking m.process_table t)) u)
+        ⊎ ((state_of m u ≡ is.Dormant) × (state_of (fork m t (process_of m t) child).state u ≡ is.Running)) →
+        ⊥
+    go (inl e) = absurd (cc (leave_ends m (forking m.process_table t) u h (sym e ∙ d) b))
+    go (inr e) = absurd (cc (sym e.1 ∙ d))
+
 -- what an act does where it ends the caller
 
 abbrev Flags : State → State → ℕ → Call → Type 0
@@ -219,6 +236,7 @@ module _ (m : State) (h : Invariant m) (u : ℕ) (r : Call) (i : HasIn m u r) wh
   move_flags t q a (Moves.leaves x who _) = ends_flags who
   move_flags t q a (Moves.revokes fd f) = ends_flags (revocation (door_at m (process_of m t) fd))
   move_flags t q a (Moves.ends x p _) = process_flags p
+  move_flags t q a (Moves.forks child f) = λ b d. absurd (fork_ends_none m t child.0 r.caller.0 h f d b)
   move_flags t q a x = λ b d. absurd (b ((move_none m t q a x refl).done r.caller.0 d))
 
   step_flags : (t : ℕ) (q : Option Request) → Flags m (step m t q).state u r
@@ -227,20 +245,48 @@ module _ (m : State) (h : Invariant m) (u : ℕ) (r : Call) (i : HasIn m u r) wh
       subst IsFlag (sym (invocation_of-settle m (act m t q).state u))
       (move_flags t q _ (act_moves m t q) b (settle_none m (act m t q).state r.caller.0 d))
 
-  interrupt_flags : (t : ℕ) → IsFlag (invocation_of (step m t (Some (request.Interrupt r.caller))).state u)
+  -- and where it interrupts the caller
+
+  asked_flags : (t : ℕ) → IsFlag (invocation_of (step m t (Some (request.Interrupt r.caller))).state u)
   unfolding step
-  interrupt_flags t =
+  asked_flags t =
       subst IsFlag (sym (invocation_of-settle m (act m t (Some (request.Interrupt r.caller))).state u))
       (leave_flags m h u r i (interruption r.caller.0)
       (either_right false (r.caller.0 == r.caller.0) (grind (arith, nat_tests))))
 
-  by_leaving : (t : ℕ) (q : Option Request) → IsLeft m q (step m t q).state r → IsFlag (invocation_of (step m t q).state u)
-  by_leaving t q (interrupted e) = subst (λ p. IsFlag (invocation_of (step m t p).state u)) (sym e) (interrupt_flags t)
+  -- it waits for its call
+  is_fellow : (t : ℕ) → process_of m r.caller.0 ≡ process_of m t → (r.caller.0 ≡ t → ⊥) → is_fellow_caller m.process_table t r.caller.0 ≡ true
+  is_fellow t own other = fellow_calls m t r.caller.0 r.number waits own other
+    where
+      waits : state_of m r.caller.0 ≡ is.Calling r.number
+      waits =
+          ap (λ o. state_of m (caller_number o)) (sym i.there)
+          ∙ h.consistent.coherent.waits.calling r.number (ap live_in i.there ∙ grind (arith, i.entered))
+
+  forked_flags :
+      (t : ℕ) (child : Pid) → first_refusal (forking_tests m child.0) ≡ None → process_of m r.caller.0 ≡ process_of m t →
+      (r.caller.0 ≡ t → ⊥) → IsFlag (invocation_of (step m t (Some (request.Fork child))).state u)
+  unfolding step
+  forked_flags t child f own other =
+      subst IsFlag
+      (sym
+      (invocation_of-settle m (act m t (Some (request.Fork child))).state u
+      ∙ ap (λ o. invocation_of (unless_refused m o (fork m t (process_of m t) child.0)).state u) f
+      ∙ fork_invocation m t (process_of m t) child.0 u))
+      (leave_flags m h u r i (forking m.process_table t) (either_right false _ (is_fellow t own other)))
+
+  interrupt_flags : (t : ℕ) (q : Option Request) → Interrupts m t q r.caller.0 → IsFlag (invocation_of (step m t q).state u)
+  interrupt_flags t q (asked e) = subst (λ p. IsFlag (invocation_of (step m t p).state u)) (sym e) (asked_flags t)
+  interrupt_flags t q (forked child e f own other) =
+      subst (λ p. IsFlag (invocation_of (step m t p).state u)) (sym e) (forked_flags t child f own other)
+
+  by_leaving : (t : ℕ) (q : Option Request) → IsLeft m t q (step m t q).state r → IsFlag (invocation_of (step m t q).state u)
+  by_leaving t q (interrupted e) = interrupt_flags t q e
   by_leaving t q (caller_ends e) = step_flags t q e.before e.after
 
 pub left_flags :
     (m : State) (t : ℕ) (q : Option Request) (u : ℕ) (r : Call) → Invariant m → record_of m r.number ≡ Some r →
-    r.stage ≡ stage.Entered (tid u) → r.no_cancel ≡ false → IsLeft m q (step m t q).state r →
+    r.stage ≡ stage.Entered (tid u) → r.no_cancel ≡ false → IsLeft m t q (step m t q).state r →
     IsFlag (invocation_of (step m t q).state u)
 left_flags m t q u r h there entered may l =
     by_leaving m h u r (record { there = there; entered = entered; may_cancel = may }) t q l

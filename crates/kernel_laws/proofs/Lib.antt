@@ -1,5 +1,6 @@
 mod Installed
 mod Tables
+mod Forking
 mod Story
 mod Readers
 mod Parked
@@ -38,4 +39,6 @@ mod Fired
 mod Lives
 mod Effects
 mod Told
+mod Spares
+mod Begins
 mod EveryRun

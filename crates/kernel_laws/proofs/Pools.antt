@@ -1,5 +1,5 @@
 -- No pool has both an idle thread and what waits.
-use Rattle.std.specs.Prelude.{ℕ, ◌≡◌, ◌∷◌, [], List, Option, Bool, true, false, if◌then◌else◌, Some, None, All, find}
+use Rattle.std.specs.Prelude.{ℕ, ◌≡◌, ◌==◌, ◌⊎◌, ◌∷◌, [], List, Option, Bool, true, false, if◌then◌else◌, Some, None, All, find}
 use Rattle.std.proofs.Common.{refl, sym, ap, subst, ◌∙◌, inl, inr}
 use native.Mathlib.Omega.{arith}
 use Rattle.std.proofs.lemmas.Bool.{false≢true}
@@ -7,6 +7,7 @@ use Rattle.std.proofs.lemmas.Bool.Decides.{nat_tests}
 use Rattle.std.proofs.lemmas.List.Elements.{All-head, All-tail}
 use Rattle.written_kernel.specs.Types.{Door, Thread}
 use Rattle.kernel_records.specs.declared.pool.Pool.TheVariants.{Common, Private}
+use Rattle.kernel_records.specs.declared.pool.TheConstants.{LOST_DOOR}
 use Rattle.kernel_records.specs.Words.{is_pool, is_queued, is_waiting_stage, parked_in, parked_thread, pool_in, pool_of_thread, process_in, state_in, tid, waiting_call, waiting_notice}
 use Rattle.written_kernel.specs.Words.{State, bound_of, door_of, pick, pool_of, thread_of, waiting_items}
 use Rattle.written_kernel.proofs.Giving.{none_idle}
@@ -15,7 +16,7 @@ use Rattle.written_kernel.proofs.Waits.{in_waits, in_waits-notice}
 use Rattle.kernel_invariant.specs.Invariant.{Invariant}
 use Rattle.kernel_invariant.specs.Records.{has_notice_number, has_number, owner_in}
 use Rattle.run_places.specs.Counts.{has_own_pool}
-use Rattle.kernel_laws.specs.Pools.{HasNoneIdle, IsBoundToOwn, WaitsAt}
+use Rattle.kernel_laws.specs.Pools.{HasNoneIdle, IsBoundToLost, IsBoundToOwn, WaitsAt}
 use Rattle.run_places.specs.Places.{MayServe}
 use Rattle.run_places.proofs.Counts.{private_is}
 use Rattle.kernel_laws.proofs.Parked.{IsThread, is_thread}
@@ -83,10 +84,17 @@ module _ (m : State) (h : Invariant m) where
           ∙ ap (parked_in t (pool_of_thread x.thread (bound_of m t))) (sym (ap state_in x.there) ∙ e)))
           ∙ same_pool t d x.thread x.there serves)
 
-  pub bound_to_own : (t d : ℕ) → bound_of m t ≡ Some d → IsBoundToOwn m t d
-  bound_to_own t d e =
-      record {
-        is_private = sym (private_is (door_of m d)) ∙ h.consistent.coherent.bindings.bound_private t d e;
-        own = h.consistent.coherent.bindings.bound_own t d e;
-        valid = λ since f. h.idle_valid t d since f e;
-      }
+  pub bound_to_own : (t d : ℕ) → bound_of m t ≡ Some d → IsBoundToOwn m t d ⊎ IsBoundToLost m t d
+  bound_to_own t d e = go (d == LOST_DOOR) refl
+    where
+      go : (b : Bool) → (d == LOST_DOOR) ≡ b → IsBoundToOwn m t d ⊎ IsBoundToLost m t d
+      go false l =
+          inl
+          (record {
+            is_private = sym (private_is (door_of m d)) ∙ h.consistent.coherent.bindings.bound_private t d e l;
+            own = h.consistent.coherent.bindings.bound_own t d e l;
+            valid = λ since f. h.idle_valid t d since f e;
+          })
+      go true l =
+          let lost : d ≡ LOST_DOOR = grind (arith, nat_tests) in
+          inr (record { lost = lost; not_idle = λ since f. h.consistent.coherent.bindings.idle_not_lost t since f (e ∙ ap Some lost) })

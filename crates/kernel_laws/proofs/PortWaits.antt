@@ -12,8 +12,8 @@ use Rattle.dk_base.specs.declared.request.Request.TheVariants as request
 use Rattle.dk_base.specs.declared.answer.Answer.TheVariants as answer
 use Rattle.kernel_records.specs.declared.port.Alert.{Alert}
 use Rattle.kernel_records.specs.declared.record.ThreadState.TheVariants as is
-use Rattle.kernel_records.specs.Words.{Leaving, Port, change_thread, first_found, get_tests, getn_tests, has_bad_count, idle_thread, interrupted_state, interruption, is_ready_for, must_wait, port_in, process_end, refused_where, revocation, state_in, thread_at, thread_at_state, thread_end, thread_in_invocation, thread_outside, tid}
-use Rattle.written_kernel.specs.Words.{ActResult, MayEnter, MayTurn, State, Turn, act, door_at, effect, event_answer, found_answer, get_from, leave, now, object_at, port, port_at, port_tests, process_of, retrieve, settle, state_at, state_of, tell_queued, unless_refused, wait_for, with_state}
+use Rattle.kernel_records.specs.Words.{Leaving, Port, change_thread, first_found, forking, get_tests, getn_tests, has_bad_count, idle_thread, interrupted_state, interruption, is_calling, is_fellow_caller, is_ready_for, must_wait, port_in, process_end, refused_where, revocation, state_in, thread_at, thread_at_state, thread_end, thread_in_invocation, thread_outside, tid}
+use Rattle.written_kernel.specs.Words.{ActResult, MayEnter, MayTurn, State, Turn, act, door_at, effect, event_answer, fork, found_answer, get_from, is_unborn_process, leave, now, object_at, port, port_at, port_tests, process_of, retrieve, settle, state_at, state_of, tell_queued, unless_refused, wait_for, with_state}
 use Rattle.written_kernel.proofs.Moves.{IsFree, IsLeaving, IsTurn, Moves, act_moves}
 use Rattle.written_kernel.proofs.Refusals.{last_not_held, not_held}
 use Rattle.written_kernel.proofs.Threads.{thread_at-end_process}
@@ -28,6 +28,7 @@ use Rattle.kernel_laws.specs.PortWaits.{AsksToWait, BeginsWait, HasTooFew, PortW
 use Rattle.kernel_laws.specs.Answers.{EndAnswers}
 use Rattle.kernel_laws.proofs.Answers.{answers_ends_of_waits, asks_to_wait}
 use Rattle.kernel_laws.proofs.Channels.{IsThere, KnownChannels, answer_of, entry_answer, is_free}
+use Rattle.kernel_laws.proofs.Forking.{fork_state, no_fellow, was_unborn}
 use Rattle.kernel_laws.proofs.Parked.{IsThread, is_thread, state_there}
 use Rattle.kernel_laws.proofs.OneThread.{Settled, is_stirred, leave_none, leave_state, one_changes, settled, settled_same, state-step, state_where}
 use Rattle.kernel_laws.proofs.PortTurns.{names_port, port_there}
@@ -230,6 +231,29 @@ module _ (m : State) (xs : List Turn) (k : KnownChannels m xs) (i : ℕ) (x : Tu
           WaitChange.with_process q max nget one b (subst (EndsProcess m xs i x) same over)
       go q max nget one b false g = WaitChange.stays
 
+  -- a fork interrupts none that waits at a port
+  forks :
+      (t child : ℕ) → is_unborn_process (state_at m xs i) child ≡ true →
+      Change t (state_of (state_at m xs i) t) (state_of (fork (state_at m xs i) x.thread own child).state t)
+  forks t child f = go (fork_state (state_at m xs i) x.thread own child t inv f)
+    where
+      not_called :
+          (q max nget : ℕ) (one b : Bool) → state_of (state_at m xs i) t ≡ is.Getting q max nget one b →
+          Change t (is.Getting q max nget one b)
+          (is.Getting q max nget one (is_fellow_caller (state_at m xs i).process_table x.thread t || b))
+      not_called q max nget one b s =
+          subst (λ d. Change t (is.Getting q max nget one b) (is.Getting q max nget one (d || b)))
+          (sym (no_fellow (state_at m xs i) x.thread t (ap is_calling s)))
+          WaitChange.stays
+
+      go :
+          (state_of (fork (state_at m xs i) x.thread own child).state t
+          ≡ state_of (leave (state_at m xs i) (forking (state_at m xs i).process_table x.thread)) t)
+          ⊎ ((state_of (state_at m xs i) t ≡ is.Dormant) × (state_of (fork (state_at m xs i) x.thread own child).state t ≡ is.Running)) →
+          Change t (state_of (state_at m xs i) t) (state_of (fork (state_at m xs i) x.thread own child).state t)
+      go (inl g) = change_as t _ _ _ _ refl g (leaves t (forking (state_at m xs i).process_table x.thread) not_called)
+      go (inr g) = change_as t _ is.Dormant _ is.Running g.0 g.1 (WaitChange.elsewhere refl refl)
+
   moves :
       (t : ℕ) (q : Option Request) (a : ActResult) → Moves (state_at m xs i) x.thread q a → x.request ≡ q → answer_at m xs i x ≡ a.answer →
       Change t (state_of (state_at m xs i) t) (state_of a.state t)
@@ -251,6 +275,7 @@ module _ (m : State) (xs : List Turn) (k : KnownChannels m xs) (i : ℕ) (x : Tu
       (thread_at-end_process
       (leave (state_at m xs i) (process_end (state_at m xs i).process_table (state_at m xs i).doors p)).process_table p t))
       (process_leaves t p (ends_moves m xs k.known i x e r p g f))
+  moves t q a (Moves.forks child f) g h = forks t child.0 (was_unborn (state_at m xs i) child.0 f)
   moves t q a _ g h = WaitChange.stays
 
   state_after : (t : ℕ) → state_of (state_at m xs (i + 1)) t ≡ state_of (settle (state_at m xs i) (act (state_at m xs i) x.thread x.request).state) t

@@ -15,7 +15,8 @@ use Rattle.kernel_records.specs.Words.{bound_at, idle_thread, state_in, thread_a
 use Rattle.written_kernel.specs.Words.{MayEnter, MayTurn, State, Turn, bound_of, go_on, has_invalid_door, invocation_of, is_running_state, now, process_of, refusal_of, return, return_answer, return_parked, return_unbound, settle, state_at, state_of, step, unless_refused, wake, with_event_counted}
 use Rattle.written_kernel.proofs.Settling.{settle-all}
 use Rattle.kernel_invariant.specs.Records.{item_in, record_of, stage_in}
-use Rattle.kernel_invariant.specs.Arrows.{EndsNow}
+use Rattle.kernel_invariant.specs.Arrows.{EndsNow, Interrupts}
+use Rattle.kernel_invariant.specs.Arrows.Interrupts.{asked, forked}
 use Rattle.kernel_invariant.specs.Arrows.EndsBy.{door_invalid, server_full, interrupted, server_ended}
 use Rattle.run_places.specs.Places.{BecomesReturned, HasEntered, IsBoundToInvalid, IsBoundToNoInvalid, IsReturn, ReturnAnswers, answer_at, is_returned_in}
 use Rattle.run_places.specs.Places.ReturnAnswers.{waits, unbound}
@@ -145,6 +146,11 @@ runs_of s e = grind arith
 no_item : (o : Option Inv) (i : Item) → o ≡ None → item_in o ≡ Some i → ⊥
 no_item o i e f = grind arith
 
+-- a Return interrupts none
+no_return : {m : State} {t u : ℕ} {q : Option Request} {bytes : List ℕ} {pass : List Pass} → Interrupts m t q u → q ≡ Some (request.Return bytes pass) → ⊥
+no_return (asked e) f = cc
+no_return (forked child e free own other) f = cc
+
 -- a Return ends no thread
 change_returns :
     (m : State) (t : ℕ) (q : Option Request) (a : Answer) (n : State) (o p : Option Call) (bytes : List ℕ) (pass : List Pass) →
@@ -156,9 +162,9 @@ change_returns m t q a n o p bytes pass (given r u e) none h s = absurd (grind a
 change_returns m t q a n o p bytes pass (entered r e f g k v) none h s = absurd (cc (e, h))
 change_returns m t q a n o p bytes pass (ended r x (door_invalid e v w d)) none h s = absurd (grind arith)
 change_returns m t q a n o p bytes pass (ended r x (server_full e f g v w)) none h s = absurd (cc (e, h))
-change_returns m t q a n o p bytes pass (ended r x (interrupted e f d)) none h s = absurd (cc (e, h))
+change_returns m t q a n o p bytes pass (ended r x (interrupted e f d)) none h s = absurd (no_return e h)
 change_returns m t q a n o p bytes pass (ended r x (server_ended u e f d)) none h s = absurd (none u f)
-change_returns m t q a n o p bytes pass (broken_off r u e f d) none h s = absurd (cc (e, h))
+change_returns m t q a n o p bytes pass (broken_off r u e f d) none h s = absurd (no_return e h)
 change_returns m t q a n o p bytes pass (left r l e) none h s = absurd (none r.caller.0 e)
 change_returns m t q a n o p bytes pass (results_collected r b x e f g k l z) none h s = absurd (cc (e, h))
 change_returns m t q a n o p bytes pass (nothing_collected r b x e f g k l z) none h s = absurd (cc (e, h))

@@ -6,26 +6,27 @@ use Rattle.std.proofs.Common.{is_some, refl, sym, ap, subst, ◌∙◌}
 use native.Mathlib.Omega.{arith}
 use Rattle.std.proofs.lemmas.Bool.Decides.{nat_tests}
 use Rattle.std.proofs.lemmas.List.{length-append, length-set}
-use Rattle.written_kernel.specs.Types.{Answer, Attrs, Call, CallStage, Fd, Obj, Pass, PathId, Request, Queued}
+use Rattle.written_kernel.specs.Types.{Answer, Attrs, Call, CallStage, Fd, Obj, Pass, PathId, Pid, Process, Request, Queued}
 use Rattle.dk_base.specs.declared.error.Errno.TheVariants.{EBADF, EMFILE}
 use Rattle.dk_base.specs.declared.object.Obj.TheVariants as obj
 use Rattle.dk_base.specs.declared.request.Request.TheVariants as request
 use Rattle.dk_base.specs.declared.answer.Answer.TheVariants as answer
 use Rattle.dk_base.specs.ByNumber.{at_number}
 use Rattle.kernel_records.specs.declared.record.CallStage.TheVariants as stage
-use Rattle.kernel_records.specs.Words.{Port, close_row, close_table, descriptor, door_attached, first_found, free_place, free_rows, insert_row, insert_rows, is_to_collect_as, lowest_free, make_pipe, make_port, new_descriptors, new_door, new_pipe, new_port, object_in, object_named, refused_where, release_rows, table_in, with_door, with_row, with_table}
-use Rattle.written_kernel.specs.Words.{ActResult, Channels, State, Turn, act, collect_answer, collect_answer_in, door_of, dup, effect, event_answer, find_call, found_answer, has_room, name_of, object_at, objects_collected, objects_collected_in, port, port_at, state_at, step, table_of, tables_after_collect, tables_with}
+use Rattle.kernel_records.specs.Words.{Port, close_row, close_table, descriptor, door_attached, first_found, free_place, free_rows, insert_row, insert_rows, is_live_in, is_to_collect_as, is_unborn_in, lowest_free, make_pipe, make_port, new_descriptors, new_door, new_pipe, new_port, object_in, object_named, pid, refused_where, release_rows, table_in, with_door, with_row, with_table}
+use Rattle.written_kernel.specs.Words.{ActResult, Channels, MayEnter, MayTurn, State, Turn, act, collect_answer, collect_answer_in, door_of, dup, effect, event_answer, find_call, found_answer, has_room, name_of, object_at, objects_collected, objects_collected_in, port, port_at, state_at, step, table_of, tables_after_collect, tables_with}
 use Rattle.kernel_records.proofs.Lists.{numbered_past, numbered_push, numbered_there, same_numbered, slice_get-slice_set}
 use Rattle.written_kernel.proofs.Settling.{doors-settle, pipes-settle, tables-settle}
-use Rattle.written_kernel.proofs.Steps.{act-keeps, length-insert_rows, length-release_rows}
+use Rattle.written_kernel.proofs.Steps.{act-limits, length-insert_rows, length-release_rows}
 use Rattle.written_kernel.proofs.Moves.{IsEnding, IsFree, IsMaking, IsPassing, IsRow, IsSaid, IsTurn, Moves, act_moves, act_result}
 use Rattle.kernel_invariant.specs.Events.{IsMade}
 use Rattle.run_places.specs.Places.{IsCollect, answer_at, process_at}
 use Rattle.run_places.specs.Counts.{descriptors, limit_of}
 use Rattle.kernel_laws.specs.NoLoss.{Brings, Passes, is_descriptor, is_release_of}
 use Rattle.kernel_laws.specs.Ends.{EndsProcess}
-use Rattle.kernel_laws.specs.Rows.{ArePipeEnds, AsksFor, Closes, IsAnswered, MakesPipe, RowChange, Rows}
-use Rattle.kernel_laws.proofs.Endings.{last_is}
+use Rattle.kernel_laws.specs.Rows.{ArePipeEnds, AsksFor, Closes, Forks, IsAnswered, MakesPipe, RowChange, Rows}
+use Rattle.kernel_laws.proofs.Endings.{last_is, live_begun}
+use Rattle.kernel_laws.proofs.Forking.{fork_is_free, was_unborn}
 use Rattle.kernel_laws.proofs.Installed.{closes, lowest_place, not_released, other_row, others_stay, own_row, place_free, released_none, room_left, taken, table_elsewhere, table_then, were_free}
 use Rattle.channel_invariant.proofs.Acts.{settled_long}
 use Rattle.run_places.proofs.Known.{Known, invariant_before, next, stays}
@@ -228,7 +229,8 @@ module _ (m : State) (xs : List Turn) (k : Known m xs) (i : ℕ) (x : Turn) (e :
 
   pub ends_moves :
       (r : Request) (p : ℕ) → x.request ≡ Some r → IsEnding (state_at m xs i) x.thread r p → EndsProcess m xs i x p
-  ends_moves r p f (IsEnding.kills u l) = EndsProcess.kills u f refl
+  ends_moves r p f (IsEnding.kills u l) =
+      EndsProcess.kills u f refl (live_begun (at_number (state_at m xs i).process_table.processes u.0) l)
   ends_moves r p f (IsEnding.exits_last l) = EndsProcess.exits f refl (last_is (state_at m xs i) (invariant_before m xs k i x e) x.thread own l)
 
   copied :
@@ -384,6 +386,30 @@ module _ (m : State) (xs : List Turn) (k : Known m xs) (i : ℕ) (x : Turn) (e :
       of_call None h = nothing
       of_call (Some r) h = of_stage r r.stage h
 
+  -- a child is as large as its parent
+  same_size : (child : Pid) → x.request ≡ Some (request.Fork child) → length table ≡ length (table_of (state_at m xs i) child.0)
+  same_size child f = go (subst (MayTurn (state_at m xs i) x.thread) f (k.may i x e))
+    where
+      go : MayEnter (state_at m xs i) x.thread (request.Fork child) → length table ≡ length (table_of (state_at m xs i) child.0)
+      go may = sym ((invariant_before m xs k i x e).children child.0 (pid own) may.fit).limit
+
+  fork_moves :
+      (child : Pid) → IsFree (state_at m xs i) x.thread (request.Fork child) → Forks m xs i x child → (fd : Fd) →
+      Row child.0 fd (object_at (state_at m xs i) child.0 fd) (object_named table fd)
+  fork_moves child f g fd = by (object_named table fd) refl
+    where
+      none : object_at (state_at m xs i) child.0 fd ≡ None
+      none =
+          (invariant_before m xs k i x e).consistent.no_rows child.0 fd
+          (not_live (at_number (state_at m xs i).process_table.processes child.0) (was_unborn (state_at m xs i) child.0 f))
+        where
+          not_live : (o : Option Process) → is_unborn_in o ≡ true → is_live_in o ≡ false
+          not_live o h = grind arith
+
+      by : (o : Option Obj) → object_named table fd ≡ o → Row child.0 fd (object_at (state_at m xs i) child.0 fd) (object_named table fd)
+      by None h = moves_as child.0 fd _ None _ None none h RowChange.stays
+      by (Some o) h = moves_as child.0 fd _ None _ (Some o) none h (RowChange.forked o child g refl h)
+
   act_rows : (q : Option Request) (a : ActResult) → Moves (state_at m xs i) x.thread q a → IsAct m xs i x q a → Moved a
   act_rows q a (Moves.rows r place o y (IsRow.closes fd f)) h =
       by_table a.state.tables own (close_row table fd.0) refl (length-set table fd.0 None)
@@ -420,6 +446,9 @@ module _ (m : State) (xs : List Turn) (k : Known m xs) (i : ℕ) (x : Turn) (e :
       by_table a.state.tables p (close_table (table_of (state_at m xs i) p)) refl (length-close_table (table_of (state_at m xs i) p))
       (λ fd. gone_row p fd _ _ (all_closed (table_of (state_at m xs i) p) fd.0) (λ o. RowChange.ended o (ends_moves r p h.request f)))
   act_rows q a (Moves.makes_channel r c objects y f) h = channel_moves r c objects y f h
+  act_rows q a (Moves.forks child f) h =
+      by_table a.state.tables child.0 table refl (same_size child h.request)
+      (fork_moves child f (record { asked = h.request; answered = h.answer }))
   act_rows q a _ h = λ p fd. RowChange.stays
 
   acts : IsAct m xs i x x.request (act (state_at m xs i) x.thread x.request)
@@ -610,7 +639,7 @@ module _ (m : State) (xs : List Turn) (k : Known m xs) (i : ℕ) (x : Turn) (e :
   size_stays p =
       ap (λ ts. length (table_in ts p)) acts.tables
       ∙ sym (long (at_number (act (state_at m xs i) x.thread x.request).state.tables p))
-      ∙ ap (λ (o : Option ℕ). unwrap_or o 0) (same_numbered length _ _ p (act-keeps (state_at m xs i) x.thread x.request).tables)
+      ∙ ap (λ (o : Option ℕ). unwrap_or o 0) (same_numbered length _ _ p (act-limits (state_at m xs i) x.thread x.request same_size))
       ∙ long (at_number (state_at m xs i).tables p)
 
   -- what is closed
@@ -634,6 +663,16 @@ module _ (m : State) (xs : List Turn) (k : Known m xs) (i : ℕ) (x : Turn) (e :
   closes_here fd (Closes.by_revoke f g) = closed_row fd (tables_of (request.Revoke fd) f g)
   closes_here fd (Closes.by_release pass f g) = ((no_loss_holds m xs k).released i x pass e f).released fd g
 
+  -- a child that begins has the descriptors of its parent
+  forks_here :
+      (child : Pid) (fd : Fd) → Forks m xs i x child → object_at (state_at m xs (i + 1)) child.0 fd ≡ object_at (state_at m xs i) own fd
+  forks_here child fd f =
+      ap (λ ts. object_named (table_in ts child.0) fd)
+      (ap (λ (n : State). n.tables) (next m xs k i x e)
+      ∙ ap (λ q. (step (state_at m xs i) x.thread q).state.tables) f.asked
+      ∙ tables-effect (state_at m xs i) x.thread (request.Fork child) (fork_is_free m xs i x child f))
+      ∙ ap (λ u. object_named u fd) (table_then (state_at m xs i).tables child.0 table (same_size child f.asked))
+
 pub rows_hold : (m : State) (xs : List Turn) → Known m xs → Rows m xs
 rows_hold m xs k =
     record {
@@ -641,6 +680,7 @@ rows_hold m xs k =
       answered = λ i x fd e. told_here m xs k i x e fd;
       piped = λ i x reading writing e. piped_here m xs k i x e reading writing;
       closes = λ i x fd e. closes_here m xs k i x e fd;
+      forks = λ i x child fd e. forks_here m xs k i x e child fd;
       size =
           λ i p l.
           stays m xs (λ n. descriptors n p ≡ limit_of m p) 0 (λ a x h e f. size_stays m xs k a x e p ∙ f) i (omega arith) l (k.sizes p);

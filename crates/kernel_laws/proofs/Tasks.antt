@@ -8,8 +8,8 @@ use Rattle.dk_base.specs.declared.object.Item.TheVariants as item
 use Rattle.dk_base.specs.declared.request.Op.{Op}
 use Rattle.dk_base.specs.declared.request.Request.TheVariants as request
 use Rattle.kernel_records.specs.declared.record.ThreadState.TheVariants as is
-use Rattle.kernel_records.specs.Words.{Leaving, change_thread, idle_thread, interrupted_state, interruption, process_end, revocation, state_in, thread_at, thread_at_state, thread_end, thread_in_invocation, thread_outside}
-use Rattle.written_kernel.specs.Words.{ActResult, MayEnter, MayTurn, State, Turn, act, door_at, go_on, leave, now, process_of, settle, state_at, state_of, with_state}
+use Rattle.kernel_records.specs.Words.{Leaving, change_thread, forking, idle_thread, interrupted_state, interruption, process_end, revocation, state_in, thread_at, thread_at_state, thread_end, thread_in_invocation, thread_outside}
+use Rattle.written_kernel.specs.Words.{ActResult, MayEnter, MayTurn, State, Turn, act, door_at, fork, go_on, is_unborn_process, leave, now, process_of, settle, state_at, state_of, with_state}
 use Rattle.written_kernel.proofs.Moves.{IsLeaving, IsTurn, Moves, act_moves}
 use Rattle.written_kernel.proofs.Threads.{thread_at-end_process}
 use Rattle.kernel_invariant.specs.Invariant.{Invariant}
@@ -20,6 +20,7 @@ use Rattle.run_places.proofs.Known.{TurnAt, invariant_before, next, turn_at}
 use Rattle.kernel_laws.specs.Ends.{EndsProcess}
 use Rattle.kernel_laws.specs.Tasks.{BeginsTask, TaskChange, Tasks, WasAsked, is_at_task}
 use Rattle.kernel_laws.proofs.Channels.{KnownChannels, answer_of, entry_acted, entry_answer}
+use Rattle.kernel_laws.proofs.Forking.{fork_state, was_unborn}
 use Rattle.kernel_laws.proofs.OneThread.{Settled, is_stirred, leave_none, leave_state, one_changes, settled, settled_same, state-step, state_where}
 use Rattle.kernel_laws.proofs.Parked.{IsThread, is_thread, state_there}
 use Rattle.kernel_laws.proofs.RowChanges.{ends_moves}
@@ -161,6 +162,19 @@ module _ (m : State) (xs : List Turn) (k : KnownChannels m xs) (i : ℕ) (x : Tu
           TaskChange.with_process op input (subst (EndsProcess m xs i x) same over)
       go op input false g = TaskChange.stays
 
+  forks :
+      (t child : ℕ) → is_unborn_process (state_at m xs i) child ≡ true →
+      Change t (state_of (state_at m xs i) t) (state_of (fork (state_at m xs i) x.thread own child).state t)
+  forks t child f = go (fork_state (state_at m xs i) x.thread own child t inv f)
+    where
+      go :
+          (state_of (fork (state_at m xs i) x.thread own child).state t
+          ≡ state_of (leave (state_at m xs i) (forking (state_at m xs i).process_table x.thread)) t)
+          ⊎ ((state_of (state_at m xs i) t ≡ is.Dormant) × (state_of (fork (state_at m xs i) x.thread own child).state t ≡ is.Running)) →
+          Change t (state_of (state_at m xs i) t) (state_of (fork (state_at m xs i) x.thread own child).state t)
+      go (inl g) = change_as t _ _ _ _ refl g (none_ends t (forking (state_at m xs i).process_table x.thread) refl)
+      go (inr g) = change_as t _ is.Dormant _ is.Running g.0 g.1 (TaskChange.elsewhere refl refl)
+
   moves :
       (t : ℕ) (q : Option Request) (a : ActResult) → Moves (state_at m xs i) x.thread q a → x.request ≡ q → answer_at m xs i x ≡ a.answer →
       Change t (state_of (state_at m xs i) t) (state_of a.state t)
@@ -184,6 +198,7 @@ module _ (m : State) (xs : List Turn) (k : KnownChannels m xs) (i : ℕ) (x : Tu
       (thread_at-end_process
       (leave (state_at m xs i) (process_end (state_at m xs i).process_table (state_at m xs i).doors p)).process_table p t))
       (process_leaves t p (ends_moves m xs k.known i x e r p g f))
+  moves t q a (Moves.forks child f) g h = forks t child.0 (was_unborn (state_at m xs i) child.0 f)
   moves t q a _ g h = TaskChange.stays
 
   state_after : (t : ℕ) → state_of (state_at m xs (i + 1)) t ≡ state_of (settle (state_at m xs i) (act (state_at m xs i) x.thread x.request).state) t

@@ -1,5 +1,5 @@
 -- A thread waits after its event exactly where the answer says so.
-use Rattle.std.specs.Prelude.{ℕ, ◌≡◌, ◌==◌, List, Option, Bool, true, false, if◌then◌else◌, Some, None, find, not}
+use Rattle.std.specs.Prelude.{ℕ, ◌≡◌, ◌==◌, ◌⊎◌, List, Option, Bool, true, false, if◌then◌else◌, Some, None, find, not}
 use Rattle.std.specs.Option.{option_map}
 use Rattle.std.proofs.Common.{refl, sym, ap, subst, ◌∙◌, inl, inr}
 use native.Mathlib.Omega.{arith}
@@ -10,8 +10,8 @@ use Rattle.dk_base.specs.declared.object.Item.TheVariants as item
 use Rattle.dk_base.specs.declared.answer.Answer.TheVariants as answer
 use Rattle.kernel_records.specs.declared.record.ThreadState.TheVariants as is
 use Rattle.kernel_records.specs.declared.record.CallStage.TheVariants as stage
-use Rattle.kernel_records.specs.Words.{Leaving, ProcessTable, cancelled_thread, change_thread, deserted_at, deserted_in, ended_thread, first_found, idle_thread, interrupted_state, interrupted_where, is_left, is_served_by, is_to_collect_as, left_thread, left_thread_of, process_end, revocation, state_in, thread_at, thread_at_state, thread_in_invocation, thread_outside, tid}
-use Rattle.written_kernel.specs.Words.{ActResult, Channels, MayTurn, State, Turn, accept_call, accept_notice, act, begin_call, collect_answer, collect_answer_in, door_at, event_answer, fail_begin, find_call, found_answer, give_one, go_on, has_port_references, has_room, leave, now, port, port_at, process_of, retrieve, served_by, settle, state_at, state_of, step, thread_of, with_state}
+use Rattle.kernel_records.specs.Words.{Leaving, ProcessTable, cancelled_thread, change_thread, deserted_at, deserted_in, ended_thread, first_found, first_refusal, forking, idle_thread, interrupted_state, interrupted_where, is_left, is_served_by, is_to_collect_as, left_thread, left_thread_of, process_end, revocation, state_in, thread_at, thread_at_state, thread_in_invocation, thread_outside, tid}
+use Rattle.written_kernel.specs.Words.{ActResult, Channels, MayTurn, State, Turn, accept_call, accept_notice, act, begin_call, collect_answer, collect_answer_in, door_at, event_answer, fail_begin, find_call, fork, forking_tests, found_answer, give_one, go_on, has_port_references, has_room, leave, now, port, port_at, process_of, retrieve, served_by, settle, state_at, state_of, step, thread_of, with_state}
 use Rattle.kernel_records.proofs.Lists.{at_number-map}
 use Rattle.written_kernel.proofs.Settling.{settle-all}
 use Rattle.written_kernel.proofs.Threads.{thread_at-end_process}
@@ -22,6 +22,7 @@ use Rattle.kernel_invariant.specs.Records.{stage_in}
 use Rattle.kernel_invariant.specs.Invariant.{Invariant}
 use Rattle.kernel_invariant.specs.Events.{IsReadyEnd, IsReadyTurn}
 use Rattle.kernel_laws.specs.Waits.{WaitsWhereToldSo, is_stopped, says_wait}
+use Rattle.kernel_laws.proofs.Forking.{fork_state, was_unborn}
 use Rattle.kernel_laws.proofs.Held.{IsWith, ServesCall, serves_of}
 use Rattle.run_places.proofs.Known.{Known, invariant_before, next}
 use Rattle.kernel_laws.proofs.Parked.{IsThread, is_thread, loses_idle, picked_idle, state_elsewhere, state_there}
@@ -174,6 +175,18 @@ module _ (m : State) (t : ℕ) (h : Invariant m) where
   making_said r c objects a (IsMaking.makes_pipe f) = refl
   making_said r c objects a _ = refl
 
+  fork_over :
+      (child : ℕ) → first_refusal (forking_tests m child) ≡ None → state_of m t ≡ is.Running →
+      is_over (state_of (fork m t (process_of m t) child).state t) ≡ true
+  fork_over child f e = go (fork_state m t (process_of m t) child t h (was_unborn m child f))
+    where
+      go :
+          (state_of (fork m t (process_of m t) child).state t ≡ state_of (leave m (forking m.process_table t)) t)
+          ⊎ ((state_of m t ≡ is.Dormant) × (state_of (fork m t (process_of m t) child).state t ≡ is.Running)) →
+          is_over (state_of (fork m t (process_of m t) child).state t) ≡ true
+      go (inl g) = ap is_over g ∙ leave_over (forking m.process_table t) e
+      go (inr g) = ap is_over g.1
+
   move_stands : (r : Request) (a : ActResult) → state_of m t ≡ is.Running → Moves m t (Some r) a → Stands a.answer (state_of a.state t)
   move_stands r a e (Moves.nothing x s) = goes (said r x s) (ap is_over e)
   move_stands r a e (Moves.rows q place o x s) = goes (row_said q place o x s) (ap is_over e)
@@ -196,6 +209,7 @@ module _ (m : State) (t : ℕ) (h : Invariant m) where
       goes refl
       (ap (λ o. is_over (state_in o)) (thread_at-end_process (leave m (process_end m.process_table m.doors p)).process_table p t)
       ∙ leave_over (process_end m.process_table m.doors p) e)
+  move_stands r a e (Moves.forks child f) = goes refl (fork_over child.0 f e)
   move_stands r a e _ = goes refl (ap is_over e)
 
   -- the end of a wait

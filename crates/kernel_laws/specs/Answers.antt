@@ -39,6 +39,7 @@ pub data Answers : Request → Answer → Type 0 where
   interrupts : (thread : Tid) → Answers (request.Interrupt thread) answer.Done
   kills : (process : Pid) → Answers (request.Kill process) answer.Done
   exits : Answers request.Exit answer.Done
+  forks : (child : Pid) → Answers (request.Fork child) (answer.Child child)
   makes_pipe : (reading writing : Fd) → Answers request.Pipe (answer.TwoFds reading writing)
   writes : (fd : Fd) (bytes : List ℕ) (n : ℕ) → n ≤ length bytes → Answers (request.Write fd bytes) (answer.Count n)
   reads : (fd : Fd) (max : ℕ) (bytes : List ℕ) → length bytes ≤ max → Answers (request.Read fd max) (answer.Data bytes)

@@ -27,7 +27,7 @@ pub record WasLeft (m : State) (xs : List Turn) (i u : ℕ) : Type 0 where
   pub there : record_of (state_at m xs at) call.number ≡ Some call
   pub entered : HasEntered (state_at m xs at) u call.number
   pub may_cancel : bars_cancels (door_of (state_at m xs at) call.door) ≡ false
-  pub is_left : IsLeft (state_at m xs at) turn.request (state_at m xs (at + 1)) call
+  pub is_left : IsLeft (state_at m xs at) turn.thread turn.request (state_at m xs (at + 1)) call
   pub same : item_of (state_at m xs i) u ≡ Some (item.Call call.number)
 
 pub record Cancels (m : State) (xs : List Turn) : Type 0 where

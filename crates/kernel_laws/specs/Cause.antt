@@ -2,7 +2,7 @@
 -- one place where its call left the queue or its server, and each cause has its effect there; and a call that is live when its
 -- caller ends is Gone for ever.
 use Rattle.std.specs.Prelude.{ℕ, ◌≡◌, ◌+◌, ◌<◌, ◌≤◌, ◌↔◌, ◌⊎◌, List, true, false, Some, None, length, nat_lt, slice_get}
-use Rattle.written_kernel.specs.Types.{Answer, Call, Errno, Fd, Obj, Pass}
+use Rattle.written_kernel.specs.Types.{Answer, Call, Errno, Fd, Obj, Pass, Pid}
 use Rattle.dk_base.specs.declared.error.Errno.TheVariants.{EBADF, EINTR, EMFILE}
 use Rattle.dk_base.specs.declared.request.Request.TheVariants as request
 use Rattle.dk_base.specs.declared.answer.Answer.TheVariants as answer
@@ -70,6 +70,11 @@ pub data Cause (m : State) (xs : List Turn) (c e k : ℕ) (z : Turn) : Answer �
       (r : Call) (w : Turn) → slice_get xs e ≡ Some w → record_of (state_at m xs e) c ≡ Some r → is_underway r.stage ≡ true →
       w.request ≡ Some (request.Interrupt r.caller) → (state_of (state_at m xs (e + 1)) r.caller.0 ≡ is.Done → ⊥) →
       Cause m xs c e k z (answer.Failure EINTR)
+  -- it was underway, and another thread of its caller's process forked
+  forked :
+      (r : Call) (w : Turn) (child : Pid) → slice_get xs e ≡ Some w → record_of (state_at m xs e) c ≡ Some r → is_underway r.stage ≡ true →
+      w.request ≡ Some (request.Fork child) → answer_at m xs e w ≡ answer.Child child → (w.thread ≡ r.caller.0 → ⊥) →
+      process_at m xs e w.thread ≡ process_at m xs e r.caller.0 → Cause m xs c e k z (answer.Failure EINTR)
   -- the thread that it was given to, or that had entered it, ended, and its caller did not
   server_ended :
       (r : Call) (u : ℕ) → record_of (state_at m xs e) c ≡ Some r →
@@ -84,6 +89,7 @@ AreOfOneKind m xs c e k z a b (Cause.caller_full r w f back room) (Cause.caller_
 AreOfOneKind m xs c e k z a b (Cause.server_full r w h q f g y d) (Cause.server_full r' w' h' q' f' g' y' d') = Unit {0}
 AreOfOneKind m xs c e k z a b (Cause.door_invalid r f g v x d) (Cause.door_invalid r' f' g' v' x' d') = Unit {0}
 AreOfOneKind m xs c e k z a b (Cause.interrupted r w h f u q d) (Cause.interrupted r' w' h' f' u' q' d') = Unit {0}
+AreOfOneKind m xs c e k z a b (Cause.forked r w p h f u q y d o) (Cause.forked r' w' p' h' f' u' q' y' d' o') = Unit {0}
 AreOfOneKind m xs c e k z a b (Cause.server_ended r u f g h d) (Cause.server_ended r' u' f' g' h' d') = Unit {0}
 AreOfOneKind m xs c e k z a b p q = ⊥
 

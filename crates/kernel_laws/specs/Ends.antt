@@ -8,7 +8,7 @@ use Rattle.kernel_records.specs.declared.record.CallStage.TheVariants as stage
 use Rattle.kernel_records.specs.declared.record.NoticeStage.TheVariants as notice
 use Rattle.kernel_records.specs.declared.record.ThreadState.TheVariants as is
 use Rattle.kernel_records.specs.Words.{is_live, tid}
-use Rattle.written_kernel.specs.Words.{State, Turn, door_of, is_valid, object_at, process_of, state_at, state_of}
+use Rattle.written_kernel.specs.Words.{State, Turn, door_of, is_unborn_process, is_valid, object_at, process_of, state_at, state_of}
 use Rattle.kernel_invariant.specs.Arrows.{EndsNow}
 use Rattle.kernel_invariant.specs.Core.{ended_in}
 use Rattle.kernel_invariant.specs.Records.{owner_in, owner_of_call, record_of, stage_of}
@@ -59,9 +59,11 @@ pub record HasEnded (m : State) (p : ℕ) : Type 0 where
 abbrev pub IsLast : State → ℕ → ℕ → Type 0
 IsLast m t p = (u : ℕ) → process_of m u ≡ p → (u ≡ t → ⊥) → (state_of m u ≡ is.Done) ⊎ (state_of m u ≡ is.Dormant)
 
--- the turn of place i ends process p: it kills it, or is the Exit of its last thread that is neither Done nor Dormant
+-- the turn of place i ends process p: it kills it, which has begun, or is the Exit of its last thread that is neither Done nor Dormant
 pub data EndsProcess (m : State) (xs : List Turn) (i : ℕ) (x : Turn) (p : ℕ) : Type 0 where
-  kills : (process : Pid) → x.request ≡ Some (request.Kill process) → process.0 ≡ p → EndsProcess m xs i x p
+  kills :
+      (process : Pid) → x.request ≡ Some (request.Kill process) → process.0 ≡ p → is_unborn_process (state_at m xs i) p ≡ false →
+      EndsProcess m xs i x p
   exits :
       x.request ≡ Some request.Exit → process_at m xs i x.thread ≡ p → IsLast (state_at m xs i) x.thread p →
       EndsProcess m xs i x p

@@ -12,7 +12,7 @@ use Rattle.kernel_records.specs.declared.association.Association.{Association}
 use Rattle.kernel_records.specs.declared.record.CallStage.TheVariants as stage
 use Rattle.dk_base.specs.ByNumber.{at_number}
 use Rattle.kernel_records.specs.Words.{Pipe, Port}
-use Rattle.written_kernel.specs.Words.{State, bound_of, door_of, name_of, object_at}
+use Rattle.written_kernel.specs.Words.{State, bound_of, door_of, is_unborn_process, name_of, object_at}
 use Rattle.run_places.specs.Counts.{free_descriptors, has_attribute, has_own_pool}
 use Rattle.run_places.specs.References.{readers_left, writers_left}
 
@@ -171,6 +171,12 @@ on_no_port m p fd others = where_so EBADF (is_none (object_at m p fd)) ∷ where
 abbrev pub on_unbound : State → ℕ → List Reason
 on_unbound m t = where_so EBADF (is_none (bound_of m t)) ∷ []
 
+-- a thread is bound to none, or to a number that no door has
+
+abbrev pub has_no_door : Option ℕ → Bool
+has_no_door None = true
+has_no_door (Some d) = d == 0
+
 -- of an entry of thread t of process p
 abbrev pub reasons : State → ℕ → ℕ → Request → List Reason
 reasons m t p (request.Create entry cookie attrs) =
@@ -183,7 +189,8 @@ reasons m t p (request.Bind fd) =
     ∷ []
 reasons m t p request.Unbind = on_unbound m t
 reasons m t p (request.Info fd) = on_no_door m p fd
-reasons m t p request.InfoQuery = on_unbound m t
+reasons m t p request.InfoQuery = where_so EBADF (has_no_door (bound_of m t)) ∷ []
+reasons m t p (request.Fork child) = where_so EAGAIN (not (is_unborn_process m child.0)) ∷ []
 reasons m t p (request.GetParam fd x) = on_no_door m p fd
 reasons m t p (request.SetParam fd x value) =
     where_so EBADF (is_invalid (door_behind m (object_at m p fd)))

@@ -44,6 +44,7 @@ what_asked (request.Alert port mode events user) = what.Alert
 what_asked (request.Interrupt thread) = what.Interrupt
 what_asked (request.Kill process) = what.Kill
 what_asked request.Exit = what.Exit
+what_asked (request.Fork child) = what.Fork
 what_asked (request.Work op bytes) = what.Work
 
 -- or by what it waited in; of the states that are not named here, FailedReturn alone is one in which a wait ends

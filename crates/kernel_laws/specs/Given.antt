@@ -2,7 +2,7 @@
 -- process that made the call's door, is one that may serve it, and waits to accept the call. The call waits in no queue again, and is
 -- with no other thread.
 use Rattle.std.specs.Prelude.{ℕ, ◌≡◌, ◌+◌, ◌≤◌, ◌↔◌, ◌⊎◌, List, Some, length, slice_get}
-use Rattle.written_kernel.specs.Types.{Call}
+use Rattle.written_kernel.specs.Types.{Call, Pid}
 use Rattle.dk_base.specs.declared.error.Errno.TheVariants.{EINTR, EMFILE}
 use Rattle.dk_base.specs.declared.object.Item.TheVariants as item
 use Rattle.dk_base.specs.declared.request.Request.TheVariants as request
@@ -35,6 +35,10 @@ pub data GivenMoves (m : State) (xs : List Turn) (i : ℕ) (x : Turn) (c t : ℕ
   caller_interrupted :
       (r : Call) → record_of (state_at m xs i) c ≡ Some r → x.request ≡ Some (request.Interrupt r.caller) →
       stage_of (state_at m xs (i + 1)) c ≡ Some (stage.Ended EINTR) → GivenMoves m xs i x c t
+  caller_forked :
+      (r : Call) (child : Pid) → record_of (state_at m xs i) c ≡ Some r → x.request ≡ Some (request.Fork child) →
+      answer_at m xs i x ≡ answer.Child child → process_of (state_at m xs i) r.caller.0 ≡ process_of (state_at m xs i) x.thread →
+      (x.thread ≡ r.caller.0 → ⊥) → stage_of (state_at m xs (i + 1)) c ≡ Some (stage.Ended EINTR) → GivenMoves m xs i x c t
   thread_ends :
       EndsNow (state_at m xs i) (state_at m xs (i + 1)) t → stage_of (state_at m xs (i + 1)) c ≡ Some (stage.Ended EINTR) →
       GivenMoves m xs i x c t

@@ -27,6 +27,7 @@ use Rattle.kernel_laws.specs.PortWaits.{PortWaits}
 use Rattle.kernel_laws.specs.Tasks.{Tasks}
 use Rattle.kernel_laws.specs.OneShot.{OneShot}
 use Rattle.kernel_laws.specs.Lives.{Lives}
+use Rattle.kernel_laws.specs.Forks.{Begins}
 
 pub record AllLaws (m : State) (xs : List Turn) : Type 0 where
   pub once : Once m xs
@@ -57,6 +58,7 @@ pub record AllLaws (m : State) (xs : List Turn) : Type 0 where
   pub tasks : Tasks m xs
   pub one_shot : OneShot m xs
   pub lives : Lives m xs
+  pub begins : Begins m xs
 
 unfoldable pub Laws : State → List Turn → Type 0
 Laws m xs = AllLaws m xs

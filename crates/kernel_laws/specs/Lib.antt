@@ -11,6 +11,7 @@ pub mod Cancels
 pub mod EventsShown
 pub mod NoLoss
 pub mod Rows
+pub mod Forks
 pub mod Given
 pub mod Waits
 pub mod Held

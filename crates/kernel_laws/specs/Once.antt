@@ -108,7 +108,7 @@ pub data InvocationMoves (m : State) (xs : List Turn) (i : ℕ) (x : Turn) (t : 
       (of : Item) → t ≡ x.thread → x.request ≡ None → state_of (state_at m xs i) x.thread ≡ is.Given of → Begins (answer_at m xs i x) of →
       InvocationMoves m xs i x t None (Some (new_invocation of))
   cancels :
-      (v : Inv) → IsCancelled (state_at m xs i) x.request (state_at m xs (i + 1)) t v →
+      (v : Inv) → IsCancelled (state_at m xs i) x.thread x.request (state_at m xs (i + 1)) t v →
       InvocationMoves m xs i x t (Some v) (Some (cancelled_invocation v))
   ends :
       (v : Inv) (bytes : List ℕ) (pass : List Pass) → t ≡ x.thread → IsReturn m xs i x bytes pass →

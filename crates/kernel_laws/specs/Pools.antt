@@ -1,8 +1,9 @@
 -- Pools: no door has both an idle thread that may serve it and a call or a notice that waits; and to what doors threads are bound.
-use Rattle.std.specs.Prelude.{ℕ, ◌≡◌, ◌≤◌, List, Some, true, length}
+use Rattle.std.specs.Prelude.{ℕ, ◌≡◌, ◌≤◌, ◌⊎◌, List, Some, true, length}
 use Rattle.written_kernel.specs.Types.{Call, Notice}
 use Rattle.kernel_records.specs.declared.record.CallStage.TheVariants as stage
 use Rattle.kernel_records.specs.declared.record.NoticeStage.TheVariants as notice
+use Rattle.kernel_records.specs.declared.pool.TheConstants.{LOST_DOOR}
 use Rattle.kernel_records.specs.declared.record.ThreadState.TheVariants as is
 use Rattle.written_kernel.specs.Words.{State, Turn, bound_of, door_of, is_valid, process_of, state_at, state_of}
 use Rattle.kernel_invariant.specs.Records.{notice_of, owner_in, record_of}
@@ -26,6 +27,11 @@ pub record IsBoundToOwn (m : State) (t d : ℕ) : Type 0 where
   pub own : owner_in (door_of m d) ≡ Some (process_of m t)
   pub valid : (since : ℕ) → state_of m t ≡ is.Idle since → is_valid m d ≡ true
 
+pub record IsBoundToLost (m : State) (t d : ℕ) : Type 0 where
+  pub lost : d ≡ LOST_DOOR
+  pub not_idle : (since : ℕ) → state_of m t ≡ is.Idle since → ⊥
+
+-- or to the one that is lost, and then it is not idle
 abbrev pub AreBoundToOwn : State → List Turn → Type 0
 AreBoundToOwn m xs =
-    (i t d : ℕ) → i ≤ length xs → bound_of (state_at m xs i) t ≡ Some d → IsBoundToOwn (state_at m xs i) t d
+    (i t d : ℕ) → i ≤ length xs → bound_of (state_at m xs i) t ≡ Some d → IsBoundToOwn (state_at m xs i) t d ⊎ IsBoundToLost (state_at m xs i) t d

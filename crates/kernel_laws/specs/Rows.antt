@@ -1,8 +1,8 @@
 -- Rows: at every event each descriptor of each process names what it named, except where the event's answer gives it to a thread of
--- that process, a request of such a thread closes it, or the process ends.
+-- that process, a request of such a thread closes it, or the process begins or ends.
 use Rattle.std.specs.Prelude.{ℕ, ◌≡◌, ◌+◌, ◌≤◌, List, Option, true, Some, None, length, slice_get}
 use Rattle.std.specs.List.{list_any}
-use Rattle.written_kernel.specs.Types.{Attrs, Fd, Name, Obj, Pass, PathId}
+use Rattle.written_kernel.specs.Types.{Attrs, Fd, Name, Obj, Pass, PathId, Pid}
 use Rattle.dk_base.specs.declared.object.Obj.TheVariants as obj
 use Rattle.dk_base.specs.declared.request.Request.TheVariants as request
 use Rattle.dk_base.specs.declared.answer.Answer.TheVariants as answer
@@ -43,6 +43,11 @@ pub data Closes (m : State) (xs : List Turn) (i : ℕ) (x : Turn) (fd : Fd) : Ty
   by_revoke : x.request ≡ Some (request.Revoke fd) → answer_at m xs i x ≡ answer.Done → Closes m xs i x fd
   by_release : (pass : List Pass) → Passes m xs i x pass → list_any (is_release_of fd) pass ≡ true → Closes m xs i x fd
 
+-- the turn of place i is a Fork that begins this process
+pub record Forks (m : State) (xs : List Turn) (i : ℕ) (x : Turn) (child : Pid) : Type 0 where
+  pub asked : x.request ≡ Some (request.Fork child)
+  pub answered : answer_at m xs i x ≡ answer.Child child
+
 -- What descriptor fd of process p names before and after the turn of place i. No descriptor is closed and given
 -- out again at one event.
 pub data RowChange (m : State) (xs : List Turn) (i : ℕ) (x : Turn) (p : ℕ) (fd : Fd) : Option Obj → Option Obj → Type 0 where
@@ -62,6 +67,10 @@ pub data RowChange (m : State) (xs : List Turn) (i : ℕ) (x : Turn) (p : ℕ) (
   brought :
       (o : Obj) (c : ℕ) (fds : List Fd) → p ≡ process_at m xs i x.thread → Brings m xs i x c fds →
       list_any (is_descriptor fd) fds ≡ true → RowChange m xs i x p fd None (Some o)
+  -- the process begins, with what its parent's descriptors name
+  forked :
+      (o : Obj) (child : Pid) → Forks m xs i x child → p ≡ child.0 → object_at (state_at m xs i) (process_at m xs i x.thread) fd ≡ Some o →
+      RowChange m xs i x p fd None (Some o)
   closed : (o : Obj) → p ≡ process_at m xs i x.thread → Closes m xs i x fd → RowChange m xs i x p fd (Some o) None
   ended : (o : Obj) → EndsProcess m xs i x p → RowChange m xs i x p fd (Some o) None
 
@@ -99,5 +108,8 @@ pub record Rows (m : State) (xs : List Turn) : Type 0 where
   pub closes :
       (i : ℕ) (x : Turn) (fd : Fd) → slice_get xs i ≡ Some x → Closes m xs i x fd →
       object_at (state_at m xs (i + 1)) (process_at m xs i x.thread) fd ≡ None
+  pub forks :
+      (i : ℕ) (x : Turn) (child : Pid) (fd : Fd) → slice_get xs i ≡ Some x → Forks m xs i x child →
+      object_at (state_at m xs (i + 1)) child.0 fd ≡ object_at (state_at m xs i) (process_at m xs i x.thread) fd
   -- a process has as many descriptors as it was declared with, always
   pub size : (i p : ℕ) → i ≤ length xs → descriptors (state_at m xs i) p ≡ limit_of m p

@@ -3,3 +3,4 @@ pub mod PortRuns
 pub mod PortLaws
 pub mod AssociationRuns
 pub mod TaskRuns
+pub mod ForkRuns

@@ -2,6 +2,7 @@
 #![tactic(auto)]
 
 pub mod association_runs;
+pub mod fork_runs;
 pub mod port_laws;
 pub mod port_runs;
 pub mod task_runs;

@@ -15,7 +15,7 @@ use Rattle.kernel_records.specs.Words.{abandoned_at, at_stage, cookie_of, entry_
 use Rattle.written_kernel.specs.Words.{State, call_tests, door_of, new_call, now, object_at, process_of, return_answer, return_tests, state_of}
 use Rattle.kernel_invariant.specs.Core.{has_arguments, underway_in}
 use Rattle.kernel_invariant.specs.Records.{stage_in}
-use Rattle.kernel_invariant.specs.Arrows.{Arrow, ByAct, ByGiving, EndsBy, EndsNow, has_own_room, own_table}
+use Rattle.kernel_invariant.specs.Arrows.{Arrow, ByAct, ByGiving, EndsBy, EndsNow, Interrupts, has_own_room, own_table}
 use Rattle.kernel_invariant.specs.Arrows.ByAct.{stays, makes, enters, returns, ends, breaks_off, leaves, collects_results, collects_nothing, collects_error}
 use Rattle.kernel_invariant.specs.Arrows.ByGiving.{stays as keeps, gives}
 use Rattle.kernel_invariant.specs.Arrows.EndsBy.{door_invalid, server_full, interrupted, server_ended}
@@ -42,7 +42,7 @@ pub data Change (m : State) (t : ℕ) (q : Option Request) (a : Answer) (n : Sta
   ended :
       (r : Call) (e : Errno) → EndsBy m t q a n r e → Change m t q a n (Some r) (Some (without_arguments_at (stage.Ended e) r))
   broken_off :
-      (r : Call) (u : ℕ) → q ≡ Some (request.Interrupt r.caller) → r.stage ≡ stage.Entered (tid u) →
+      (r : Call) (u : ℕ) → Interrupts m t q r.caller.0 → r.stage ≡ stage.Entered (tid u) →
       (state_of n r.caller.0 ≡ is.Done → ⊥) → Change m t q a n (Some r) (Some (abandoned_at (stage.Ended EINTR) r))
   left :
       (r : Call) → is_live r.stage ≡ true → EndsNow m n r.caller.0 → Change m t q a n (Some r) (Some (gone_call_at r.stage r))

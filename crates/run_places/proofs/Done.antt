@@ -4,19 +4,20 @@ use Rattle.std.specs.Option.{option_map}
 use Rattle.std.proofs.Common.{refl, sym, ap, subst, ◌∙◌}
 use native.Mathlib.Omega.{arith}
 use Rattle.std.proofs.lemmas.Bool.Decides.{nat_tests}
-use Rattle.written_kernel.specs.Types.{Item, Request, Thread, ThreadState, Tid}
+use Rattle.written_kernel.specs.Types.{Errno, Item, Request, Thread, ThreadState}
 use Rattle.dk_base.specs.ByNumber.{at_number}
 use Rattle.dk_base.specs.declared.object.Item.TheVariants as item
 use Rattle.dk_base.specs.declared.request.Request.TheVariants as request
 use Rattle.kernel_records.specs.declared.record.ThreadState.TheVariants as is
-use Rattle.kernel_records.specs.Words.{ProcessTable, change_thread, idle_thread, is_valid_in, state_in, thread_at, thread_at_state, thread_in_invocation, thread_outside}
-use Rattle.written_kernel.specs.Words.{ActResult, State, Turn, act, give_one, is_valid, now, settle, state_at, state_of, step}
+use Rattle.kernel_records.specs.Words.{ProcessTable, change_thread, idle_thread, is_valid_in, state_in, thread_at, thread_at_state, thread_in_invocation, thread_outside, tid}
+use Rattle.written_kernel.specs.Words.{ActResult, State, Turn, act, effect, give_one, is_valid, now, process_of, refusal_of, settle, state_at, state_of, step, unless_refused}
 use Rattle.written_kernel.proofs.Settling.{doors-settle, settle-all}
 use Rattle.written_kernel.proofs.Threads.{thread_at-change_thread}
 use Rattle.written_kernel.proofs.Moves.{Moves, act_moves, is_leave}
 use Rattle.written_kernel.proofs.Moves.IsLeaving.{interrupts, exits}
 use Rattle.written_kernel.proofs.Moves.IsEnding.{kills, exits_last}
-use Rattle.kernel_invariant.specs.Arrows.{EndsNow}
+use Rattle.kernel_invariant.specs.Arrows.{EndsNow, Interrupts}
+use Rattle.kernel_invariant.specs.Arrows.Interrupts.{asked, forked}
 use Rattle.kernel_invariant.specs.Events.{is_leaving}
 use Rattle.run_places.proofs.Known.{Known, next}
 
@@ -72,6 +73,7 @@ move_none m t q a (Moves.retrieves port max nget one e) l = turn_none m.process_
 move_none m t q a (Moves.leaves r who e) l = absurd (cc l)
 move_none m t q a (Moves.revokes fd f) l = absurd (cc l)
 move_none m t q a (Moves.ends r p e) l = absurd (cc l)
+move_none m t q a (Moves.forks child f) l = absurd (cc l)
 move_none m t q a _ l = same_none m.process_table
 
 -- by which only an entry of leaving leaves
@@ -81,6 +83,7 @@ only_leaving m t q a (Moves.leaves r who (exits e)) l = absurd (cc l)
 only_leaving m t q a (Moves.revokes fd f) l = absurd (cc l)
 only_leaving m t q a (Moves.ends r p (kills u e)) l = absurd (cc l)
 only_leaving m t q a (Moves.ends r p (exits_last e)) l = absurd (cc l)
+only_leaving m t q a (Moves.forks child f) l = absurd (cc l)
 only_leaving m t q a _ l = refl
 
 act_none : (m : State) (t : ℕ) (q : Option Request) → is_leaving_turn q ≡ false → EndsNoneIn m (act m t q).state
@@ -115,16 +118,29 @@ pub none_ends_at :
 none_ends_at m xs k i x e l u h =
     none_ends (state_at m xs i) x.thread x.request u l (subst (λ n. EndsNow (state_at m xs i) n u) (next m xs k i x e) h)
 
--- an Interrupt makes no door invalid
+-- what interrupts a thread makes no door invalid
 
-doors_interrupted : (m : State) (t : ℕ) (u : Tid) (d : ℕ) → is_valid (step m t (Some (request.Interrupt u))).state d ≡ is_valid m d
+doors_entered :
+    (m : State) (t : ℕ) (r : Request) → (effect m t (process_of m t) r).state.doors ≡ m.doors → (act m t (Some r)).state.doors ≡ m.doors
+doors_entered m t r h = go (refusal_of m t (process_of m t) r)
+  where
+    go : (o : Option Errno) → (unless_refused m o (effect m t (process_of m t) r)).state.doors ≡ m.doors
+    go None = h
+    go (Some e) = refl
+
+doors_interrupted : (m : State) (t : ℕ) (q : Option Request) (u : ℕ) → Interrupts m t q u → (act m t q).state.doors ≡ m.doors
+doors_interrupted m t q u (asked e) =
+    subst (λ p. (act m t p).state.doors ≡ m.doors) (sym e) (doors_entered m t (request.Interrupt (tid u)) refl)
+doors_interrupted m t q u (forked child e f own other) =
+    subst (λ p. (act m t p).state.doors ≡ m.doors) (sym e) (doors_entered m t (request.Fork child) refl)
+
+valid_interrupted : (m : State) (t : ℕ) (q : Option Request) (u d : ℕ) → Interrupts m t q u → is_valid (step m t q).state d ≡ is_valid m d
 unfolding step
-doors_interrupted m t u d = ap (λ doors. is_valid_in (at_number doors d)) (doors-settle m (act m t (Some (request.Interrupt u))).state)
+valid_interrupted m t q u d h =
+    ap (λ doors. is_valid_in (at_number doors d)) (doors-settle m (act m t q).state ∙ doors_interrupted m t q u h)
 
 pub doors_interrupted_at :
-    (m : State) (xs : List Turn) → Known m xs → (i : ℕ) (x : Turn) (u : Tid) (d : ℕ) → slice_get xs i ≡ Some x →
-    x.request ≡ Some (request.Interrupt u) → is_valid (state_at m xs (i + 1)) d ≡ is_valid (state_at m xs i) d
-doors_interrupted_at m xs k i x u d e q =
-    ap (λ n. is_valid n d) (next m xs k i x e)
-    ∙ ap (λ r. is_valid (step (state_at m xs i) x.thread r).state d) q
-    ∙ doors_interrupted (state_at m xs i) x.thread u d
+    (m : State) (xs : List Turn) → Known m xs → (i : ℕ) (x : Turn) (u d : ℕ) → slice_get xs i ≡ Some x →
+    Interrupts (state_at m xs i) x.thread x.request u → is_valid (state_at m xs (i + 1)) d ≡ is_valid (state_at m xs i) d
+doors_interrupted_at m xs k i x u d e h =
+    ap (λ n. is_valid n d) (next m xs k i x e) ∙ valid_interrupted (state_at m xs i) x.thread x.request u d h

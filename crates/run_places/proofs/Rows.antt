@@ -14,7 +14,7 @@ use Rattle.kernel_records.specs.declared.record.CallStage.TheVariants as stage
 use Rattle.kernel_records.specs.Words.{abandoned_at, at_stage, cookie_of, entry_of, first_refusal, gone_call_at, is_live, new_descriptors, objects_passed, tid, without_arguments_at}
 use Rattle.written_kernel.specs.Words.{State, call_tests, door_of, new_call, object_at, process_of, return_answer, return_tests, state_of}
 use Rattle.kernel_invariant.specs.Core.{has_arguments}
-use Rattle.kernel_invariant.specs.Arrows.{EndsBy, has_own_room, own_table}
+use Rattle.kernel_invariant.specs.Arrows.{EndsBy, Interrupts, has_own_room, own_table}
 use Rattle.run_places.specs.Places.{is_answered_in, is_entered_in, is_returned_in, is_entered_stage, is_returned_stage, is_answered_stage}
 use Rattle.run_places.proofs.Changes.{Change, gone_stage}
 use Rattle.run_places.proofs.Changes.Change.{made, given, entered, returned, ended, broken_off, left, results_collected, nothing_collected, error_collected}
@@ -203,11 +203,11 @@ pub record GoesOn (s r : Call) (c : CallStage) : Type 0 where
   pub rsize : r.rsize ≡ s.rsize
   pub stage : r.stage ≡ c
 
--- it ends by one of the causes, or while a thread is in it, at an Interrupt of its caller
+-- it ends by one of the causes, or while a thread is in it, where its caller is interrupted
 pub data Breaks (m : State) (t : ℕ) (q : Option Request) (a : Answer) (n : State) (r : Call) : Errno → Type 0 where
   by_cause : (e : Errno) → EndsBy m t q a n r e → Breaks m t q a n r e
   by_interrupt :
-      (u : ℕ) → q ≡ Some (request.Interrupt r.caller) → r.stage ≡ stage.Entered (tid u) → (state_of n r.caller.0 ≡ is.Done → ⊥) →
+      (u : ℕ) → Interrupts m t q r.caller.0 → r.stage ≡ stage.Entered (tid u) → (state_of n r.caller.0 ≡ is.Done → ⊥) →
       Breaks m t q a n r EINTR
 
 pub record EndedRow (m : State) (t : ℕ) (q : Option Request) (a : Answer) (n : State) (o p : Option Call) : Type 0 where

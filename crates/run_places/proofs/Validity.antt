@@ -1,5 +1,5 @@
 -- Which acts make a door invalid, that none makes an invalid one valid, and which calls are over after an act of leaving.
-use Rattle.std.specs.Prelude.{ℕ, ◌≡◌, ◌==◌, ◌++◌, List, [], ◌∷◌, Option, Bool, true, false, if◌then◌else◌, Some, None, find}
+use Rattle.std.specs.Prelude.{ℕ, ◌≡◌, ◌==◌, ◌&&◌, ◌++◌, List, [], ◌∷◌, Option, Bool, true, false, if◌then◌else◌, not, Some, None, find}
 use Rattle.std.specs.Option.{option_map}
 use Rattle.std.proofs.Common.{refl, sym, ap, subst, ◌∙◌}
 use native.Mathlib.Omega.{arith}
@@ -12,12 +12,15 @@ use Rattle.dk_base.specs.declared.request.Param.TheVariants as param
 use Rattle.dk_base.specs.declared.request.Request.TheVariants as request
 use Rattle.dk_base.specs.ByNumber.{at_number}
 use Rattle.kernel_records.specs.declared.record.CallStage.TheVariants as stage
-use Rattle.kernel_records.specs.Words.{Leaving, at_stage, broken_call_at, call_number, change_first, ended_where, gone_call_at, interruption, is_owned_by, is_queued_as, is_valid_door, is_valid_in, left_call, process_end, revocation, revoke_door, revoked_door, set_param, tid, with_owner_ended, with_param, without_arguments_at}
-use Rattle.written_kernel.specs.Words.{ActResult, State, act, door_at, door_of, give_one, is_valid, leave, leave_process, process_of, refusal_of, revoke, settle, step, unless_refused}
+use Rattle.kernel_records.specs.declared.record.ThreadState.TheVariants as is
+use Rattle.kernel_records.specs.Words.{Leaving, at_stage, broken_call_at, call_number, change_first, ended_where, forking, gone_call_at, interruption, is_calling, is_fellow_caller, is_owned_by, is_queued_as, is_valid_door, is_valid_in, left_call, process_end, revocation, revoke_door, revoked_door, set_param, tid, with_owner_ended, with_param, without_arguments_at}
+use Rattle.written_kernel.specs.Words.{ActResult, State, act, door_at, door_of, fork, give_one, is_valid, leave, leave_process, process_of, refusal_of, revoke, settle, state_of, step, unless_refused}
 use Rattle.written_kernel.proofs.Doors.{at_number-change_door}
 use Rattle.kernel_records.proofs.Lists.{at_number-map, numbered_front}
 use Rattle.written_kernel.proofs.Settling.{doors-settle, settle-all}
 use Rattle.written_kernel.proofs.Moves.{Moves, act_moves}
+use Rattle.kernel_invariant.specs.Arrows.{Interrupts}
+use Rattle.kernel_invariant.specs.Arrows.Interrupts.{asked, forked}
 use Rattle.kernel_invariant.specs.Core.{is_underway, underway_in}
 use Rattle.kernel_invariant.specs.Records.{has_number, record_of}
 use Rattle.kernel_invariant.proofs.LeftCores.{left_fields}
@@ -170,6 +173,19 @@ step_revokes m t fd e =
     ∙ ap (λ o. is_valid (unless_refused m o (revoke m (process_of m t) fd)).state (door_at m (process_of m t) fd)) e
     ∙ revoked_here m.doors (door_at m (process_of m t) fd)
 
+-- another thread of a process waits for a call as one of its threads forks
+pub fellow_calls :
+    (m : State) (t u c : ℕ) → state_of m u ≡ is.Calling c → process_of m u ≡ process_of m t → (u ≡ t → ⊥) →
+    is_fellow_caller m.process_table t u ≡ true
+fellow_calls m t u c w own other = by (u == t) (process_of m u == process_of m t) (is_calling (state_of m u)) refl refl (ap is_calling w)
+  where
+    by :
+        (a b d : Bool) → (u == t) ≡ a → (process_of m u == process_of m t) ≡ b → d ≡ true → (not a && (b && d)) ≡ true
+    by false true true e f g = refl
+    by true b d e f g = absurd (other (grind (arith, nat_tests)))
+    by false false d e f g = absurd (grind (arith, nat_tests, own))
+    by false true false e f g = absurd (cc g)
+
 -- calls
 
 abbrev IsOver : State → ℕ → Type 0
@@ -215,20 +231,36 @@ queued_over who r l e =
     go false false false f = absurd (cc f)
 
 -- one whose caller is interrupted
-interrupted_over : (r : Call) (s : CallStage) → is_underway s ≡ true → is_underway (broken_call_at (interruption r.caller.0) s r).stage ≡ false
-interrupted_over r stage.Queued e = grind (arith, nat_tests)
-interrupted_over r (stage.Given u) e = grind (arith, nat_tests)
-interrupted_over r (stage.Entered u) e = grind (arith, nat_tests)
-interrupted_over r s e = absurd (grind arith)
+interrupted_over :
+    (who : Leaving) (r : Call) (s : CallStage) → who.interrupts r.caller.0 ≡ true → is_underway s ≡ true →
+    is_underway (broken_call_at who s r).stage ≡ false
+interrupted_over who r stage.Queued i e = grind (arith, i)
+interrupted_over who r (stage.Given u) i e = grind (arith, i)
+interrupted_over who r (stage.Entered u) i e = grind (arith, i)
+interrupted_over who r s i e = absurd (grind arith)
 
+-- as it waits for the call
 pub step_interrupts :
-    (m : State) (t c : ℕ) (r : Call) → record_of m c ≡ Some r → is_underway r.stage ≡ true →
-    IsOver (step m t (Some (request.Interrupt r.caller))).state c
+    (m : State) (t c : ℕ) (q : Option Request) (r : Call) → record_of m c ≡ Some r → is_underway r.stage ≡ true →
+    state_of m r.caller.0 ≡ is.Calling c → Interrupts m t q r.caller.0 → IsOver (step m t q).state c
 unfolding step
-step_interrupts m t c r e f =
-    settle_over m (act m t (Some (request.Interrupt r.caller))).state c
-    (ap underway_in (calls_left m (interruption r.caller.0) c ∙ ap (option_map (left_call (interruption r.caller.0))) e)
-    ∙ interrupted_over r r.stage f)
+step_interrupts m t c q r e f w i = settle_over m (act m t q).state c (go i)
+  where
+    asks : IsOver (leave m (interruption r.caller.0)) c
+    asks =
+        ap underway_in (calls_left m (interruption r.caller.0) c ∙ ap (option_map (left_call (interruption r.caller.0))) e)
+        ∙ interrupted_over (interruption r.caller.0) r r.stage (grind (arith, nat_tests)) f
+
+    forks : process_of m r.caller.0 ≡ process_of m t → (r.caller.0 ≡ t → ⊥) → IsOver (leave m (forking m.process_table t)) c
+    forks own other =
+        ap underway_in (calls_left m (forking m.process_table t) c ∙ ap (option_map (left_call (forking m.process_table t))) e)
+        ∙ interrupted_over (forking m.process_table t) r r.stage (fellow_calls m t r.caller.0 c w own other) f
+
+    go : Interrupts m t q r.caller.0 → IsOver (act m t q).state c
+    go (asked h) = subst (λ p. IsOver (act m t p).state c) (sym h) asks
+    go (forked child h free own other) =
+        subst (λ p. IsOver (act m t p).state c) (sym h)
+        (ap (λ o. underway_in (record_of (unless_refused m o (fork m t (process_of m t) child.0)).state c)) free ∙ forks own other)
 
 pub step_loses_over :
     (m : State) (t : ℕ) (q : Option Request) (c : ℕ) (r : Call) → record_of m c ≡ Some r → r.stage ≡ stage.Queued →
