@@ -1,49 +1,64 @@
 -- Keywords and their words.
-use Rattle.std.proofs.Common.{◌≡◌, ℕ, List, Option, Some, None, refl}
+use Rattle.std.proofs.Common.{◌≡◌, ℕ, ◌≤◌, Bool, true, false, cond, ◌==◌, List, Option, Some, None, refl, ap, sym, ◌∙◌, arith}
+use Rattle.std.specs.Prelude.{nat_le, bytes_eq}
 use Rattle.std.specs.Option.{option_or}
+use Rattle.std.proofs.lemmas.Bool.Decides.{nat_tests}
 use Rattle.line_reader.specs.Types.{Keyword}
-use Rattle.script_line.specs.declared.keyword.Keyword.TheVariants.{Create, Call, Return, Serve, Revoke, Bind, Unbind, Info, GetParam, SetParam, Cred, TestCancel, Exit, Close, Dup, Attach, Detach, Open, Await, Pipe, Write, Read, PortCreate, Associate, Dissociate, Get, GetN, Send, SendN, Alert, Interrupt, Kill, Work, Repeat, If, End}
-use Rattle.script_line.specs.Words.{keyword_create_to_info, keyword_getn_to_end, keyword_getparam_to_detach, keyword_of, keyword_open_to_get, keyword_word, keywords_create_to_info, keywords_getn_to_end, keywords_getparam_to_detach, keywords_open_to_get}
-use Rattle.line_laws.proofs.TableWords.{word_found}
+use Rattle.script_line.specs.declared.keyword.Keyword.TheVariants.{Create, Call, Return, Serve, Revoke, Bind, Unbind, Info, GetParam, SetParam, Cred, TestCancel, Exit, Close, Dup, Attach, Detach, Open, Await, Pipe, Write, Read, PortCreate, Associate, Dissociate, Get, GetN, Send, SendN, Alert, Interrupt, Kill, Fork, Work, Repeat, If, End}
+use Rattle.script_line.specs.Words.{keyword_create_to_info, keyword_getn_to_end, keyword_getparam_to_detach, keyword_of, keyword_open_to_get, keyword_since_2, keyword_version, keyword_word, keywords_create_to_info, keywords_getn_to_end, keywords_getparam_to_detach, keywords_open_to_get, keywords_since_2, value_of_word}
+use Rattle.script_line.proofs.Numbering.{no_value, same_some}
+use Rattle.line_laws.proofs.TableWords.{find_among, word_found}
 
-pub keyword-again : (version : ℕ) (keyword : Keyword) → keyword_of version (keyword_word keyword) ≡ Some keyword
-unfolding keyword_create_to_info keyword_getparam_to_detach keyword_open_to_get keyword_getn_to_end
-keyword-again version Create = refl
-keyword-again version Call = refl
-keyword-again version Return = refl
-keyword-again version Serve = refl
-keyword-again version Revoke = refl
-keyword-again version Bind = refl
-keyword-again version Unbind = refl
-keyword-again version Info = refl
-keyword-again version GetParam = refl
-keyword-again version SetParam = refl
-keyword-again version Cred = refl
-keyword-again version TestCancel = refl
-keyword-again version Exit = refl
-keyword-again version Close = refl
-keyword-again version Dup = refl
-keyword-again version Attach = refl
-keyword-again version Detach = refl
-keyword-again version Open = refl
-keyword-again version Await = refl
-keyword-again version Pipe = refl
-keyword-again version Write = refl
-keyword-again version Read = refl
-keyword-again version PortCreate = refl
-keyword-again version Associate = refl
-keyword-again version Dissociate = refl
-keyword-again version Get = refl
-keyword-again version GetN = refl
-keyword-again version Send = refl
-keyword-again version SendN = refl
-keyword-again version Alert = refl
-keyword-again version Interrupt = refl
-keyword-again version Kill = refl
-keyword-again version Work = refl
-keyword-again version Repeat = refl
-keyword-again version If = refl
-keyword-again version End = refl
+pub is_since_2 : (version : ℕ) → 2 ≤ version → nat_le 2 version ≡ true
+is_since_2 version least = grind (arith, nat_tests)
+
+pub keyword-again : (version : ℕ) (keyword : Keyword) → keyword_version keyword ≤ version → keyword_of version (keyword_word keyword) ≡ Some keyword
+unfolding keyword_create_to_info keyword_getparam_to_detach keyword_open_to_get keyword_getn_to_end keyword_since_2
+keyword-again version Create least = refl
+keyword-again version Call least = refl
+keyword-again version Return least = refl
+keyword-again version Serve least = refl
+keyword-again version Revoke least = refl
+keyword-again version Bind least = refl
+keyword-again version Unbind least = refl
+keyword-again version Info least = refl
+keyword-again version GetParam least = refl
+keyword-again version SetParam least = refl
+keyword-again version Cred least = refl
+keyword-again version TestCancel least = refl
+keyword-again version Exit least = refl
+keyword-again version Close least = refl
+keyword-again version Dup least = refl
+keyword-again version Attach least = refl
+keyword-again version Detach least = refl
+keyword-again version Open least = refl
+keyword-again version Await least = refl
+keyword-again version Pipe least = refl
+keyword-again version Write least = refl
+keyword-again version Read least = refl
+keyword-again version PortCreate least = refl
+keyword-again version Associate least = refl
+keyword-again version Dissociate least = refl
+keyword-again version Get least = refl
+keyword-again version GetN least = refl
+keyword-again version Send least = refl
+keyword-again version SendN least = refl
+keyword-again version Alert least = refl
+keyword-again version Interrupt least = refl
+keyword-again version Kill least = refl
+keyword-again version Fork least = ap (λ test. cond test (Some Fork) None) (is_since_2 version least)
+keyword-again version Work least = refl
+keyword-again version Repeat least = refl
+keyword-again version If least = refl
+keyword-again version End least = refl
+
+version_at_most : (keyword : Keyword) → keyword_version keyword ≤ 2
+version_at_most Fork = omega arith
+version_at_most keyword = omega arith
+
+-- a word is of one keyword alone
+pub keyword-same : (one other : Keyword) → keyword_word one ≡ keyword_word other → one ≡ other
+keyword-same one other same = same_some (sym (keyword-again 2 one (version_at_most one)) ∙ ap (keyword_of 2) same ∙ keyword-again 2 other (version_at_most other))
 
 door_found : (word : List ℕ) (keyword : Keyword) → keyword_create_to_info word ≡ Some keyword → word ≡ keyword_word keyword
 unfolding keyword_create_to_info
@@ -61,12 +76,73 @@ other_found : (word : List ℕ) (keyword : Keyword) → keyword_getn_to_end word
 unfolding keyword_getn_to_end
 other_found word keyword e = word_found keyword_word keywords_getn_to_end word keyword e
 
-either : (first second : Option Keyword) (word : List ℕ) (keyword : Keyword) → (first ≡ Some keyword → word ≡ keyword_word keyword) → (second ≡ Some keyword → word ≡ keyword_word keyword) → option_or first second ≡ Some keyword → word ≡ keyword_word keyword
-either None second word keyword one other e = other e
-either (Some found) second word keyword one other e = one e
+later_if : (test : Bool) (word : List ℕ) (keyword : Keyword) → cond test (value_of_word keyword_word keywords_since_2 word) None ≡ Some keyword → word ≡ keyword_word keyword
+later_if true word keyword e = word_found keyword_word keywords_since_2 word keyword e
+later_if false word keyword e = absurd (no_value e)
+
+later_found : (version : ℕ) (word : List ℕ) (keyword : Keyword) → keyword_since_2 version word ≡ Some keyword → word ≡ keyword_word keyword
+unfolding keyword_since_2
+later_found version word keyword e = later_if (nat_le 2 version) word keyword e
+
+either : (P : Type 0) (first second : Option Keyword) (keyword : Keyword) → (first ≡ Some keyword → P) → (second ≡ Some keyword → P) → option_or first second ≡ Some keyword → P
+either P None second keyword one other e = other e
+either P (Some found) second keyword one other e = one e
+
+-- what holds of a keyword that each part may have found
+by_part : (P : Type 0) (version : ℕ) (word : List ℕ) (keyword : Keyword)
+    → (keyword_create_to_info word ≡ Some keyword → P) → (keyword_getparam_to_detach word ≡ Some keyword → P) → (keyword_open_to_get word ≡ Some keyword → P) → (keyword_getn_to_end word ≡ Some keyword → P) → (keyword_since_2 version word ≡ Some keyword → P)
+    → keyword_of version word ≡ Some keyword → P
+by_part P version word keyword door descriptor port other later e =
+    either P (keyword_create_to_info word) _ keyword door (
+    either P (keyword_getparam_to_detach word) _ keyword descriptor (
+    either P (keyword_open_to_get word) _ keyword port (
+    either P (keyword_getn_to_end word) (keyword_since_2 version word) keyword other later))) e
 
 pub keyword-found : (version : ℕ) (word : List ℕ) (keyword : Keyword) → keyword_of version word ≡ Some keyword → word ≡ keyword_word keyword
 keyword-found version word keyword e =
-    either (keyword_create_to_info word) _ word keyword (door_found word keyword) (
-    either (keyword_getparam_to_detach word) _ word keyword (descriptor_found word keyword) (
-    either (keyword_open_to_get word) (keyword_getn_to_end word) word keyword (port_found word keyword) (other_found word keyword))) e
+    by_part (word ≡ keyword_word keyword) version word keyword (door_found word keyword) (descriptor_found word keyword) (port_found word keyword) (other_found word keyword) (later_found version word keyword) e
+
+-- a keyword of each version
+
+abbrev is_word_of : List ℕ → Keyword → Bool
+is_word_of word keyword = bytes_eq word (keyword_word keyword)
+
+abbrev is_first : Keyword → Bool
+is_first keyword = keyword_version keyword == 1
+
+abbrev IsFirst : Keyword → Type 0
+IsFirst keyword = is_first keyword ≡ true
+
+door_first : (word : List ℕ) (keyword : Keyword) → keyword_create_to_info word ≡ Some keyword → IsFirst keyword
+unfolding keyword_create_to_info
+door_first word keyword e = find_among (is_word_of word) is_first keywords_create_to_info keyword refl e
+
+descriptor_first : (word : List ℕ) (keyword : Keyword) → keyword_getparam_to_detach word ≡ Some keyword → IsFirst keyword
+unfolding keyword_getparam_to_detach
+descriptor_first word keyword e = find_among (is_word_of word) is_first keywords_getparam_to_detach keyword refl e
+
+port_first : (word : List ℕ) (keyword : Keyword) → keyword_open_to_get word ≡ Some keyword → IsFirst keyword
+unfolding keyword_open_to_get
+port_first word keyword e = find_among (is_word_of word) is_first keywords_open_to_get keyword refl e
+
+other_first : (word : List ℕ) (keyword : Keyword) → keyword_getn_to_end word ≡ Some keyword → IsFirst keyword
+unfolding keyword_getn_to_end
+other_first word keyword e = find_among (is_word_of word) is_first keywords_getn_to_end keyword refl e
+
+first_since : (version : ℕ) (keyword : Keyword) → 1 ≤ version → IsFirst keyword → keyword_version keyword ≤ version
+first_since version keyword some is = grind (arith, nat_tests)
+
+since_if : (test : Bool) (version : ℕ) (word : List ℕ) (keyword : Keyword) → nat_le 2 version ≡ test → cond test (value_of_word keyword_word keywords_since_2 word) None ≡ Some keyword → keyword_version keyword ≤ version
+since_if true version word keyword is e =
+    let second : (keyword_version keyword == 2) ≡ true = find_among (is_word_of word) (λ k. keyword_version k == 2) keywords_since_2 keyword refl e in
+    grind (arith, nat_tests)
+since_if false version word keyword is e = absurd (no_value e)
+
+later_since : (version : ℕ) (word : List ℕ) (keyword : Keyword) → keyword_since_2 version word ≡ Some keyword → keyword_version keyword ≤ version
+unfolding keyword_since_2
+later_since version word keyword e = since_if (nat_le 2 version) version word keyword refl e
+
+pub keyword-since : (version : ℕ) (word : List ℕ) (keyword : Keyword) → 1 ≤ version → keyword_of version word ≡ Some keyword → keyword_version keyword ≤ version
+keyword-since version word keyword some e =
+    by_part (keyword_version keyword ≤ version) version word keyword (λ is. first_since version keyword some (door_first word keyword is)) (λ is. first_since version keyword some (descriptor_first word keyword is)) (λ is. first_since version keyword some (port_first word keyword is))
+    (λ is. first_since version keyword some (other_first word keyword is)) (later_since version word keyword) e

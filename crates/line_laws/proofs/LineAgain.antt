@@ -2,10 +2,10 @@
 use Rattle.std.proofs.Common.{◌≡◌, ℕ, Bool, true, false, cond, List, [], ◌∷◌, Ok, refl, ap, sym, ◌∙◌}
 use Rattle.std.specs.Prelude.{codes, bytes_eq}
 use Rattle.line_reader.specs.Types.{FdArg, Line}
-use Rattle.script_line.specs.declared.line.Line.TheVariants.{Create, Call, Return, Serve, Revoke, Bind, Unbind, Info, InfoQuery, GetParam, SetParam, Cred, TestCancel, Exit, Close, Dup, Attach, Detach, Open, Await, Pipe, Write, Read, PortCreate, Associate, Dissociate, Get, GetN, Send, SendN, Alert, Interrupt, Kill, Work, Repeat, If, End}
+use Rattle.script_line.specs.declared.line.Line.TheVariants.{Create, Call, Return, Serve, Revoke, Bind, Unbind, Info, InfoQuery, GetParam, SetParam, Cred, TestCancel, Exit, Close, Dup, Attach, Detach, Open, Await, Pipe, Write, Read, PortCreate, Associate, Dissociate, Get, GetN, Send, SendN, Alert, Interrupt, Kill, Fork, Work, Repeat, If, End}
 use Rattle.script_line.specs.Words.{AreDistinct, Ends, SpellsFd, SpellsLine, Tables, greatest_32, greatest_64, keyword_of_line, keyword_word}
-use Rattle.line_reader.specs.Words.{alert_line, associate_line, attach_line, await_line, bind_line, call_line, close_line, create_line, cred_line, detach_line, dissociate_line, dup_line, end_line, exit_line, fd_from_word, get_line, getn_line, getparam_line, if_line, info_after, info_line, interrupt_line, kill_line, line_with, open_line, pcreate_line, pipe_line, pure, read_line, repeat_line, rest_of, return_line, revoke_line, send_line, sendn_line, serve_line, setparam_line, testcancel_line, then_read, unbind_line, value_with_rest, work_line, write_line}
-use Rattle.line_laws.proofs.WordKinds.{AName, AProcedure, AThread, AProcess, APath, ANumber, AnFd, APoll, AParam, AMode, AnOp, ACond, AValue}
+use Rattle.line_reader.specs.Words.{alert_line, associate_line, attach_line, await_line, bind_line, call_line, close_line, create_line, cred_line, detach_line, dissociate_line, dup_line, end_line, exit_line, fd_from_word, fork_line, get_line, getn_line, getparam_line, if_line, info_after, info_line, interrupt_line, kill_line, line_with, open_line, pcreate_line, pipe_line, pure, read_line, repeat_line, rest_of, return_line, revoke_line, send_line, sendn_line, serve_line, setparam_line, testcancel_line, then_read, unbind_line, value_with_rest, work_line, write_line}
+use Rattle.line_laws.proofs.WordKinds.{AName, AProcedure, AThread, AProcess, AChild, APath, ANumber, AnFd, APoll, AParam, AMode, AnOp, ACond, AValue}
 use Rattle.line_laws.proofs.LastOperands.{NoMore, TheAttributes, TheWait, ThePorts, TheData, DataPasses, DataPassesRsize, end_again}
 use Rattle.line_laws.proofs.Given.{no_answer}
 use Rattle.line_laws.proofs.DescriptorWords.{fd_again}
@@ -140,6 +140,10 @@ kill_line-again : (tables : Tables) (of : ℕ) (v : Values (AProcess ∷ []) NoM
 unfolding kill_line
 kill_line-again tables of v words distinct spells = all_again tables of (AProcess ∷ []) NoMore (λ v. Kill v.0) v words refl distinct spells
 
+fork_line-again : (tables : Tables) (of : ℕ) (v : Values (AChild ∷ []) NoMore) (words : List (List ℕ)) → AreDistinct tables → SpellsAll tables of (AChild ∷ []) NoMore v words → fork_line tables of (rest_of words) ≡ Ok (Fork v.0, rest_of [])
+unfolding fork_line
+fork_line-again tables of v words distinct spells = all_again tables of (AChild ∷ []) NoMore (λ v. Fork v.0) v words refl distinct spells
+
 work_line-again : (tables : Tables) (of : ℕ) (v : Values (AName ∷ AnOp ∷ []) TheData) (words : List (List ℕ)) → AreDistinct tables → SpellsAll tables of (AName ∷ AnOp ∷ []) TheData v words → work_line (rest_of words) ≡ Ok (Work v.0 v.1.0 v.1.1, rest_of [])
 unfolding work_line
 work_line-again tables of v words distinct spells = all_again tables of (AName ∷ AnOp ∷ []) TheData (λ v. Work v.0 v.1.0 v.1.1) v words refl distinct spells
@@ -210,6 +214,7 @@ line-again tables of (SendN events user to) word words distinct spells = (spells
 line-again tables of (Alert port how events user) word words distinct spells = (spells.0, alert_line-again tables of (port, (how, (events, (user, tt)))) words distinct spells.1)
 line-again tables of (Interrupt whom) word words distinct spells = (spells.0, interrupt_line-again tables of (whom, tt) words distinct spells.1)
 line-again tables of (Kill whom) word words distinct spells = (spells.0, kill_line-again tables of (whom, tt) words distinct spells.1)
+line-again tables of (Fork begins) word words distinct spells = (spells.0, fork_line-again tables of (begins, tt) words distinct spells.1)
 line-again tables of (Work var what bytes) word words distinct spells = (spells.0, work_line-again tables of (var, (what, bytes)) words distinct spells.1)
 line-again tables of (Repeat times) word words distinct spells = (spells.0, repeat_line-again tables of (times, tt) words distinct spells.1)
 line-again tables of (If what) word words distinct spells = (spells.0, if_line-again tables of (what, tt) words distinct spells.1)

@@ -3,10 +3,10 @@ use Rattle.std.proofs.Common.{◌≡◌, ℕ, Bool, true, false, cond, List, [],
 use Rattle.std.specs.Prelude.{codes, bytes_eq}
 use Rattle.line_reader.specs.Types.{Keyword, Line}
 use Rattle.script_line.specs.declared.keyword.Keyword.TheVariants as keyword
-use Rattle.script_line.specs.declared.line.Line.TheVariants.{Create, Call, Return, Serve, Revoke, Bind, Unbind, Info, InfoQuery, GetParam, SetParam, Cred, TestCancel, Exit, Close, Dup, Attach, Detach, Open, Await, Pipe, Write, Read, PortCreate, Associate, Dissociate, Get, GetN, Send, SendN, Alert, Interrupt, Kill, Work, Repeat, If, End}
+use Rattle.script_line.specs.declared.line.Line.TheVariants.{Create, Call, Return, Serve, Revoke, Bind, Unbind, Info, InfoQuery, GetParam, SetParam, Cred, TestCancel, Exit, Close, Dup, Attach, Detach, Open, Await, Pipe, Write, Read, PortCreate, Associate, Dissociate, Get, GetN, Send, SendN, Alert, Interrupt, Kill, Fork, Work, Repeat, If, End}
 use Rattle.script_line.specs.Words.{HasPaths, SpellsLine, Tables, greatest_32, greatest_64, keyword_word}
-use Rattle.line_reader.specs.Words.{Reader, Rest, alert_line, associate_line, attach_line, await_line, bind_line, call_line, close_line, create_line, cred_line, detach_line, dissociate_line, dup_line, end_line, exit_line, get_line, getn_line, getparam_line, if_line, info_after, info_line, interrupt_line, kill_line, line_with, open_line, pcreate_line, pipe_line, pure, read_line, repeat_line, rest_of, return_line, revoke_line, send_line, sendn_line, serve_line, setparam_line, testcancel_line, then_read, unbind_line, value_at_end, value_with_rest, work_line, write_line}
-use Rattle.line_laws.proofs.WordKinds.{AName, AProcedure, AThread, AProcess, APath, ANumber, AnFd, APoll, AParam, AMode, AnOp, ACond, AValue}
+use Rattle.line_reader.specs.Words.{Reader, Rest, alert_line, associate_line, attach_line, await_line, bind_line, call_line, close_line, create_line, cred_line, detach_line, dissociate_line, dup_line, end_line, exit_line, fork_line, get_line, getn_line, getparam_line, if_line, info_after, info_line, interrupt_line, kill_line, line_with, open_line, pcreate_line, pipe_line, pure, read_line, repeat_line, rest_of, return_line, revoke_line, send_line, sendn_line, serve_line, setparam_line, testcancel_line, then_read, unbind_line, value_at_end, value_with_rest, work_line, write_line}
+use Rattle.line_laws.proofs.WordKinds.{AName, AProcedure, AThread, AProcess, AChild, APath, ANumber, AnFd, APoll, AParam, AMode, AnOp, ACond, AValue}
 use Rattle.line_laws.proofs.LastOperands.{NoMore, TheAttributes, TheWait, ThePorts, TheData, DataPasses, DataPassesRsize}
 use Rattle.std.proofs.lemmas.Slice.Eq.{bytes_eq-Decides}
 use Rattle.line_laws.proofs.Given.{ended_given}
@@ -171,6 +171,11 @@ unfolding kill_line
 kill_line-found tables of words line new e known has =
     line_by tables of (AProcess ∷ []) NoMore (λ v. Kill v.0) (codes "kill") words line new (λ xs p. p) (λ xs s. (refl, s)) refl e known has
 
+fork_line-found : (tables : Tables) (of : ℕ) (words : List (List ℕ)) → IsSpelledLine tables of (codes "fork") words (fork_line tables of)
+unfolding fork_line
+fork_line-found tables of words line new e known has =
+    line_by tables of (AChild ∷ []) NoMore (λ v. Fork v.0) (codes "fork") words line new (λ xs p. p) (λ xs s. (refl, s)) refl e known has
+
 work_line-found : (tables : Tables) (of : ℕ) (words : List (List ℕ)) → IsSpelledLine tables of (codes "work") words work_line
 unfolding work_line
 work_line-found tables of words line new e known has =
@@ -243,6 +248,7 @@ line-found tables of keyword.SendN words = sendn_line-found tables of words
 line-found tables of keyword.Alert words = alert_line-found tables of words
 line-found tables of keyword.Interrupt words = interrupt_line-found tables of words
 line-found tables of keyword.Kill words = kill_line-found tables of words
+line-found tables of keyword.Fork words = fork_line-found tables of words
 line-found tables of keyword.Work words = work_line-found tables of words
 line-found tables of keyword.Repeat words = repeat_line-found tables of words
 line-found tables of keyword.If words = if_line-found tables of words

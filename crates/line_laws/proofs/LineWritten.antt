@@ -1,9 +1,9 @@
 -- The canonical words of a line spell it, one line for each command.
 use Rattle.std.proofs.Common.{◌≡◌, ℕ, true, List, [], ◌∷◌, refl}
 use Rattle.line_reader.specs.Types.{Line}
-use Rattle.script_line.specs.declared.line.Line.TheVariants.{Create, Call, Return, Serve, Revoke, Bind, Unbind, Info, InfoQuery, GetParam, SetParam, Cred, TestCancel, Exit, Close, Dup, Attach, Detach, Open, Await, Pipe, Write, Read, PortCreate, Associate, Dissociate, Get, GetN, Send, SendN, Alert, Interrupt, Kill, Work, Repeat, If, End}
+use Rattle.script_line.specs.declared.line.Line.TheVariants.{Create, Call, Return, Serve, Revoke, Bind, Unbind, Info, InfoQuery, GetParam, SetParam, Cred, TestCancel, Exit, Close, Dup, Attach, Detach, Open, Await, Pipe, Write, Read, PortCreate, Associate, Dissociate, Get, GetN, Send, SendN, Alert, Interrupt, Kill, Fork, Work, Repeat, If, End}
 use Rattle.script_line.specs.Words.{SpellsLine, Tables, greatest_32, greatest_64, line_words}
-use Rattle.line_laws.proofs.WordKinds.{AName, AProcedure, AThread, AProcess, APath, ANumber, AnFd, APoll, AParam, AMode, AnOp, ACond, AValue}
+use Rattle.line_laws.proofs.WordKinds.{AName, AProcedure, AThread, AProcess, AChild, APath, ANumber, AnFd, APoll, AParam, AMode, AnOp, ACond, AValue}
 use Rattle.line_laws.proofs.LastOperands.{NoMore, TheAttributes, TheWait, ThePorts, TheData, DataPasses, DataPassesRsize}
 use Rattle.std.specs.List.{list_all}
 use Rattle.script_text.specs.Words.{is_word}
@@ -75,6 +75,8 @@ line-written tables of (Interrupt whom) [] spells = absurd spells
 line-written tables of (Interrupt whom) (word ∷ words) spells = (refl, all_written tables of (AThread ∷ []) NoMore (whom, tt) words spells.1)
 line-written tables of (Kill whom) [] spells = absurd spells
 line-written tables of (Kill whom) (word ∷ words) spells = (refl, all_written tables of (AProcess ∷ []) NoMore (whom, tt) words spells.1)
+line-written tables of (Fork begins) [] spells = absurd spells
+line-written tables of (Fork begins) (word ∷ words) spells = (refl, all_written tables of (AChild ∷ []) NoMore (begins, tt) words spells.1)
 line-written tables of (Work var what bytes) [] spells = absurd spells
 line-written tables of (Work var what bytes) (word ∷ words) spells = (refl, all_written tables of (AName ∷ AnOp ∷ []) TheData (var, (what, bytes)) words spells.1)
 line-written tables of (Repeat times) [] spells = absurd spells
@@ -150,6 +152,8 @@ line-words tables of (Interrupt whom) [] spells = absurd spells
 line-words tables of (Interrupt whom) (word ∷ words) spells = all_are_words tables of (AThread ∷ []) NoMore (whom, tt) words refl spells.1
 line-words tables of (Kill whom) [] spells = absurd spells
 line-words tables of (Kill whom) (word ∷ words) spells = all_are_words tables of (AProcess ∷ []) NoMore (whom, tt) words refl spells.1
+line-words tables of (Fork begins) [] spells = absurd spells
+line-words tables of (Fork begins) (word ∷ words) spells = all_are_words tables of (AChild ∷ []) NoMore (begins, tt) words refl spells.1
 line-words tables of (Work var what bytes) [] spells = absurd spells
 line-words tables of (Work var what bytes) (word ∷ words) spells = all_are_words tables of (AName ∷ AnOp ∷ []) TheData (var, (what, bytes)) words refl spells.1
 line-words tables of (Repeat times) [] spells = absurd spells

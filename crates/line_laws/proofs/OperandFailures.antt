@@ -1,10 +1,10 @@
 -- A reader of operands fails with `form` or with `range` and with no other reason.
 use Rattle.std.proofs.Common.{◌≡◌, ℕ, Bool, true, false, cond, ◌&&◌, List, [], ◌∷◌, Option, Some, None, Result, Ok, Err, refl, length}
-use Rattle.std.specs.Prelude.{⊤, ◌==◌, nat_le, bytes_eq, codes}
+use Rattle.std.specs.Prelude.{⊤, ◌==◌, nat_le, bytes_eq, codes, take}
 use Rattle.line_reader.specs.Types.{Piece, Reason}
 use Rattle.script_line.specs.declared.reason.Reason.TheVariants.{Form, Range}
-use Rattle.line_reader.specs.Words.{Reader, Rest, attributes, condition, declared_number, descriptor_number, fd, fd_from_word, fill_parts, first_of, is_no_stop, is_plus, is_rsize, items_from, items_to, list_in_range, misspelling, mode, more_pieces, name, name_from_word, next_word, nonempty_list, number, number_from_word, number_reader, op, optional_word, optional_word_of, param, pass_from_word, pass_parts, passes, passes_after, path, piece_from_word, pieces, pieces_after, poll, ports, procedure, process, pure, rsize, rsize_after, spelled_value, text_piece, then_read, thread, thread_from_word, value, value_at_end, value_at_end_of, value_from_word, value_of_undeclared, value_out_of_range, value_with_rest, variable_parts, variable_piece, wait_option, ◌>>=◌}
-use Rattle.script_line.specs.Words.{Tables, attributes_of, cond_of, entry_number, greatest_64, mode_of, op_of, param_of, poll_of, process_number, thread_number}
+use Rattle.line_reader.specs.Words.{Reader, Rest, attributes, child, condition, declared_number, descriptor_number, fd, fd_from_word, fill_parts, first_of, is_no_stop, is_plus, is_rsize, items_from, items_to, list_in_range, misspelling, mode, more_pieces, name, name_from_word, next_word, nonempty_list, number, number_from_word, number_reader, op, optional_word, optional_word_of, param, parent, pass_from_word, pass_parts, passes, passes_after, path, piece_from_word, pieces, pieces_after, poll, ports, procedure, process, pure, rsize, rsize_after, spelled_value, text_piece, then_read, thread, thread_from_word, value, value_at_end, value_at_end_of, value_from_word, value_of_undeclared, value_out_of_range, value_with_rest, variable_parts, variable_piece, wait_option, ◌>>=◌}
+use Rattle.script_line.specs.Words.{Tables, attributes_of, child_number, cond_of, earlier_number, entry_number, greatest_64, mode_of, op_of, param_of, poll_of, process_number, thread_number}
 use Rattle.script_text.specs.declared.number.Number.{Number}
 use Rattle.script_text.specs.declared.number.Number.TheVariants.{Found, OutOfRange, NoNumber}
 use Rattle.script_text.specs.Words.{bounded_number, is_name, part_before_last, parts_at, string_of}
@@ -24,7 +24,7 @@ pub record ByOperands {A : Type 0} (read : Reader A) : Type 0 where
 pub fails-pure : {A : Type 0} (x : A) → ByOperands (pure x)
 fails-pure x = record { fails = λ rest. tt }
 
-fails-misspelling : {A : Type 0} → ByOperands {A = A} misspelling
+pub fails-misspelling : {A : Type 0} → ByOperands {A = A} misspelling
 fails-misspelling = record { fails = λ rest. refl }
 
 fails-value_with_rest : {A : Type 0} (words : List (List ℕ)) (x : A) → ByOperands (value_with_rest words x)
@@ -164,6 +164,12 @@ fails-thread tables = after_word (thread_from_word tables) (fails-thread_from_wo
 
 pub fails-process : (tables : Tables) → ByOperands (process tables)
 fails-process tables = fails-then name _ fails-name (λ bytes. fails-then (declared_number (process_number tables bytes)) _ (fails-declared_number (process_number tables bytes)) (λ n. fails-pure _))
+
+pub fails-parent : (tables : Tables) (before : ℕ) → ByOperands (parent tables before)
+fails-parent tables before = fails-then name _ fails-name (λ bytes. fails-then (declared_number (earlier_number (take before tables.processes) bytes)) _ (fails-declared_number (earlier_number (take before tables.processes) bytes)) (λ n. fails-pure _))
+
+pub fails-child : (tables : Tables) (process : ℕ) → ByOperands (child tables process)
+fails-child tables process = fails-then name _ fails-name (λ bytes. fails-then (declared_number (child_number tables process bytes)) _ (fails-declared_number (child_number tables process bytes)) (λ n. fails-pure _))
 
 pub fails-path : (tables : Tables) → ByOperands (path tables)
 fails-path tables = fails-then name _ fails-name (λ bytes. fails-pure _)

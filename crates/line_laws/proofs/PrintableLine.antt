@@ -16,10 +16,10 @@ use Rattle.line_reader.specs.Types.{Cond, FdArg, Line, PassArg, Piece}
 use Rattle.script_line.specs.declared.line.Cond.TheVariants.{Good, Yes, Unref, Errno as ErrnoCond}
 use Rattle.script_line.specs.declared.line.FdArg.TheVariants.{Number, Of as OfFd}
 use Rattle.script_line.specs.declared.line.Piece.TheVariants.{Text, Of, Fill}
-use Rattle.script_line.specs.declared.line.Line.TheVariants.{Create, Call, Return, Serve, Revoke, Bind, Unbind, Info, InfoQuery, GetParam, SetParam, Cred, TestCancel, Exit, Close, Dup, Attach, Detach, Open, Await, Pipe, Write, Read, PortCreate, Associate, Dissociate, Get, GetN, Send, SendN, Alert, Interrupt, Kill, Work, Repeat, If, End}
+use Rattle.script_line.specs.declared.line.Line.TheVariants.{Create, Call, Return, Serve, Revoke, Bind, Unbind, Info, InfoQuery, GetParam, SetParam, Cred, TestCancel, Exit, Close, Dup, Attach, Detach, Open, Await, Pipe, Write, Read, PortCreate, Associate, Dissociate, Get, GetN, Send, SendN, Alert, Interrupt, Kill, Fork, Work, Repeat, If, End}
 use Rattle.script_line.specs.Words.{Each, Ends, First, Flag, Spelling, SpellsFd, SpellsIndexed, SpellsLine, SpellsMorePieces, SpellsPass, SpellsPassList, SpellsPiece, SpellsPieces, SpellsRsize, SpellsVariable, SpellsWait, Tables, Then, attribute_flags, bits_of_word, cond_word, greatest_32, greatest_64, is_word_of, mode_word, op_word, param_word, poll_flags, release_mark, set_from, with_bits}
 use Rattle.script_line.proofs.Numbering.{no_value}
-use Rattle.line_laws.proofs.WordKinds.{WordKind, WordValue, SpellsWord, is_small, small_number, AName, AProcedure, AThread, AProcess, APath, ANumber, AnFd, APoll, AParam, AMode, AnOp, ACond, AValue}
+use Rattle.line_laws.proofs.WordKinds.{WordKind, WordValue, SpellsWord, is_small, small_number, AName, AProcedure, AThread, AProcess, AChild, APath, ANumber, AnFd, APoll, AParam, AMode, AnOp, ACond, AValue}
 use Rattle.line_laws.proofs.LastOperands.{Last, LastValue, SpellsLast, NoMore, TheAttributes, TheWait, ThePorts, TheData, DataPasses, DataPassesRsize}
 use Rattle.line_laws.proofs.Formats.{Values, SpellsAll, all_small}
 
@@ -108,6 +108,7 @@ word_printable tables of AName x word small spells = ap are_printable spells.1 �
 word_printable tables of AProcedure x word small spells = are_printable-name word spells.0
 word_printable tables of AThread x word small spells = are_printable-name word spells.0
 word_printable tables of AProcess x word small spells = are_printable-name word spells.0
+word_printable tables of AChild x word small spells = are_printable-name word spells.0.0
 word_printable tables of APath x word small spells = are_printable-name word spells.0
 word_printable tables of (ANumber low high) x word small spells = number_printable x low high word (small_number high small) spells
 word_printable tables of AnFd x word small spells = fd_printable x word spells
@@ -235,6 +236,7 @@ line_printable tables of (SendN events user to) (word ∷ words) spells = by_for
 line_printable tables of (Alert port how events user) (word ∷ words) spells = by_format tables of (AnFd ∷ AMode ∷ ANumber 0 greatest_32 ∷ ANumber 0 greatest_64 ∷ []) NoMore (port, (how, (events, (user, tt)))) (codes "alert") refl refl (word ∷ words) spells
 line_printable tables of (Interrupt whom) (word ∷ words) spells = by_format tables of (AThread ∷ []) NoMore (whom, tt) (codes "interrupt") refl refl (word ∷ words) spells
 line_printable tables of (Kill whom) (word ∷ words) spells = by_format tables of (AProcess ∷ []) NoMore (whom, tt) (codes "kill") refl refl (word ∷ words) spells
+line_printable tables of (Fork begins) (word ∷ words) spells = by_format tables of (AChild ∷ []) NoMore (begins, tt) (codes "fork") refl refl (word ∷ words) spells
 line_printable tables of (Work var what bytes) (word ∷ words) spells = by_format tables of (AName ∷ AnOp ∷ []) TheData (var, (what, bytes)) (codes "work") refl refl (word ∷ words) spells
 line_printable tables of (Repeat times) (word ∷ words) spells = by_format tables of (ANumber 1 1000000 ∷ []) NoMore (times, tt) (codes "repeat") refl refl (word ∷ words) spells
 line_printable tables of (If what) (word ∷ words) spells = by_format tables of (ACond ∷ []) NoMore (what, tt) (codes "if") refl refl (word ∷ words) spells

@@ -9,11 +9,11 @@ use Rattle.script_text.proofs.JoinedWords.{is_word-plain}
 use Rattle.script_text.proofs.PartWords.{is_plain-name}
 use Rattle.script_line.specs.declared.reason.Reason.TheVariants.{Form}
 use Rattle.line_reader.specs.Types.{Cond, FdArg}
-use Rattle.script_line.specs.Words.{AreDistinct, SpellsCond, SpellsFd, SpellsMode, SpellsOp, SpellsParam, SpellsPath, SpellsPoll, SpellsProcedure, SpellsProcess, SpellsThread, SpellsValue, Tables, cond_of, cond_word, entry_number, fd_word, mode_of, mode_word, modes, op_of, op_word, ops, param_of, param_word, params, path_number, path_word, poll_of, poll_word, procedure_word, process_number, process_word, thread_number, thread_word, value_word}
-use Rattle.line_reader.specs.Words.{Reader, Rest, condition, declared_number, fd, fd_from_word, mode, name, name_from_word, number, number_from_word, op, param, path, path_id, pid, poll, procedure, process, pure, spelled_value, then_read, thread, thread_from_word, tid, value, value_from_word, ◌>>=◌}
+use Rattle.script_line.specs.Words.{AreDistinct, SpellsChild, SpellsCond, SpellsFd, SpellsMode, SpellsOp, SpellsParam, SpellsPath, SpellsPoll, SpellsProcedure, SpellsProcess, SpellsThread, SpellsValue, Tables, child_number, cond_of, cond_word, entry_number, fd_word, mode_of, mode_word, modes, op_of, op_word, ops, param_of, param_word, params, path_number, path_word, poll_of, poll_word, procedure_word, process_number, process_word, thread_number, thread_word, value_word}
+use Rattle.line_reader.specs.Words.{Reader, Rest, child, condition, declared_number, fd, fd_from_word, mode, name, name_from_word, number, number_from_word, op, param, path, path_id, pid, poll, procedure, process, pure, spelled_value, then_read, thread, thread_from_word, tid, value, value_from_word, ◌>>=◌}
 use Rattle.line_laws.proofs.Given.{Clean, same_value, same_rest, in_turn, name_given, number_given, declared_given, spelled_given}
 use Rattle.line_reader.proofs.SkippedWords.{at_words}
-use Rattle.script_line.proofs.Numbering.{name_of_number, procedure_of_number, path_of_number, number_of_name, number_of_procedure, number_of_path}
+use Rattle.script_line.proofs.Numbering.{child_of_number, name_of_number, procedure_of_number, path_of_number, number_of_name, number_of_procedure, number_of_path, number_of_child}
 use Rattle.line_laws.proofs.DescriptorWords.{number_reader-spelled, name_read-spelled, fd_found, fd_again, fd_written, fd_is_word}
 use Rattle.line_laws.proofs.TableWords.{word_found, param_again, mode_again, op_again, cond_again, param_is_word, mode_is_word, op_is_word, cond_is_word, cond_found, poll_found, poll_again, poll_written, poll_is_word, value_found, value_again, value_written, value_is_word}
 
@@ -22,6 +22,7 @@ pub data WordKind : Type 0 where
   AProcedure : WordKind
   AThread : WordKind
   AProcess : WordKind
+  AChild : WordKind
   APath : WordKind
   ANumber : ℕ → ℕ → WordKind
   AnFd : WordKind
@@ -37,6 +38,7 @@ WordValue AName = List ℕ
 WordValue AProcedure = ℕ
 WordValue AThread = Tid
 WordValue AProcess = Pid
+WordValue AChild = Pid
 WordValue APath = PathId
 WordValue (ANumber low high) = ℕ
 WordValue AnFd = FdArg
@@ -53,6 +55,7 @@ read_word tables of AName = name
 read_word tables of AProcedure = procedure tables of
 read_word tables of AThread = thread tables
 read_word tables of AProcess = process tables
+read_word tables of AChild = child tables of
 read_word tables of APath = path tables
 read_word tables of (ANumber low high) = number low high
 read_word tables of AnFd = fd
@@ -68,6 +71,7 @@ read_at tables of AName word = name_from_word word
 read_at tables of AProcedure word = name_from_word word >>= (λ bytes. declared_number (entry_number tables of bytes))
 read_at tables of AThread word = thread_from_word tables word
 read_at tables of AProcess word = name_from_word word >>= (λ bytes. declared_number (process_number tables bytes) >>= (λ n. pure (pid n)))
+read_at tables of AChild word = name_from_word word >>= (λ bytes. declared_number (child_number tables of bytes) >>= (λ n. pure (pid n)))
 read_at tables of APath word = name_from_word word >>= (λ bytes. pure (path_id (path_number tables bytes)))
 read_at tables of (ANumber low high) word = number_from_word low high word
 read_at tables of AnFd word = fd_from_word word
@@ -83,6 +87,7 @@ SpellsWord tables of AName x word = SpellsName x word
 SpellsWord tables of AProcedure x word = SpellsProcedure tables of x word
 SpellsWord tables of AThread x word = SpellsThread tables x word
 SpellsWord tables of AProcess x word = SpellsProcess tables x word
+SpellsWord tables of AChild x word = SpellsChild tables of x word
 SpellsWord tables of APath x word = SpellsPath tables x word
 SpellsWord tables of (ANumber low high) x word = SpellsNumber low high x word
 SpellsWord tables of AnFd x word = SpellsFd x word
@@ -99,6 +104,7 @@ word_of tables AName x = x
 word_of tables AProcedure x = procedure_word tables x
 word_of tables AThread x = thread_word tables x
 word_of tables AProcess x = process_word tables x
+word_of tables AChild x = process_word tables x
 word_of tables APath x = path_word tables x
 word_of tables (ANumber low high) x = decimal x
 word_of tables AnFd x = fd_word x
@@ -121,6 +127,7 @@ HasPath tables AName x Others = Others
 HasPath tables AProcedure x Others = Others
 HasPath tables AThread x Others = Others
 HasPath tables AProcess x Others = Others
+HasPath tables AChild x Others = Others
 HasPath tables (ANumber low high) x Others = Others
 HasPath tables AnFd x Others = Others
 HasPath tables APoll x Others = Others
@@ -142,6 +149,7 @@ nothing_left tables of AName in_range known = refl
 nothing_left tables of AProcedure in_range known = refl
 nothing_left tables of AThread in_range known = refl
 nothing_left tables of AProcess in_range known = refl
+nothing_left tables of AChild in_range known = refl
 nothing_left tables of APath in_range known = refl
 nothing_left tables of (ANumber low high) in_range known = refl
 nothing_left tables of AnFd in_range known = refl
@@ -159,6 +167,7 @@ word_left tables of AName word words in_range known = refl
 word_left tables of AProcedure word words in_range known = refl
 word_left tables of AThread word words in_range known = refl
 word_left tables of AProcess word words in_range known = refl
+word_left tables of AChild word words in_range known = refl
 word_left tables of APath word words in_range known = refl
 word_left tables of (ANumber low high) word words in_range known = refl
 word_left tables of AnFd word words in_range known = refl
@@ -209,6 +218,19 @@ process_found tables of word rest x new e clean =
       spells = λ Others others. ((named.named, name_of_number tables.processes word later.x numbered), others);
     })
 
+child_found : (tables : Tables) (of : ℕ) (word : List ℕ) (rest : Rest) (x : Pid) (new : Rest) → read_at tables of AChild word rest ≡ Ok (x, new) → Clean new → Found tables of AChild x word rest new
+child_found tables of word rest x new e clean =
+    let turn = in_turn (name_from_word word) (λ bytes. declared_number (child_number tables of bytes) >>= (λ n. pure (pid n))) rest x new e in
+    let named = name_given word rest turn.x turn.mid turn.first in
+    let later = in_turn (declared_number (child_number tables of turn.x)) (λ n. pure (pid n)) turn.mid x new turn.then in
+    let last : later.mid ≡ new = same_rest later.then in
+    let number = declared_given (child_number tables of turn.x) turn.mid later.x later.mid later.first (subst Clean (sym last) clean) in
+    let numbered = child_of_number tables of word later.x (ap (child_number tables of) (sym named.is) ∙ number.is) in
+    subst (λ p. Found tables of AChild p word rest new) (same_value later.then) (record {
+      same = sym last ∙ number.same ∙ named.same;
+      spells = λ Others others. (((named.named, name_of_number tables.processes word later.x numbered.0), numbered.1), others);
+    })
+
 path_found : (tables : Tables) (of : ℕ) (word : List ℕ) (rest : Rest) (x : PathId) (new : Rest) → read_at tables of APath word rest ≡ Ok (x, new) → Found tables of APath x word rest new
 path_found tables of word rest x new e =
     let turn = in_turn (name_from_word word) (λ bytes. pure (path_id (path_number tables bytes))) rest x new e in
@@ -226,6 +248,7 @@ word_found_at tables of AName word rest x new small e clean =
 word_found_at tables of AProcedure word rest x new small e clean = procedure_found tables of word rest x new e clean
 word_found_at tables of AThread word rest x new small e clean = thread_found tables of word rest x new e clean
 word_found_at tables of AProcess word rest x new small e clean = process_found tables of word rest x new e clean
+word_found_at tables of AChild word rest x new small e clean = child_found tables of word rest x new e clean
 word_found_at tables of APath word rest x new small e clean = path_found tables of word rest x new e
 word_found_at tables of (ANumber low high) word rest x new small e clean =
     let number = number_given low high word rest x new (small_number high small) e clean in
@@ -251,6 +274,9 @@ word_again tables of AThread word rest x small distinct spells =
 word_again tables of AProcess word rest x small distinct spells =
     ap (then_read (λ bytes. declared_number (process_number tables bytes) >>= (λ n. pure (pid n)))) (name_read-spelled word rest spells.0) ∙
     ap (λ number. then_read (λ n. pure (pid n)) (declared_number number rest)) (number_of_name tables.processes x.0 word distinct.processes spells.1)
+word_again tables of AChild word rest x small distinct spells =
+    ap (then_read (λ bytes. declared_number (child_number tables of bytes) >>= (λ n. pure (pid n)))) (name_read-spelled word rest spells.0.0) ∙
+    ap (λ number. then_read (λ n. pure (pid n)) (declared_number number rest)) (number_of_child tables of word x.0 (number_of_name tables.processes x.0 word distinct.processes spells.0.1) spells.1)
 word_again tables of APath word rest x small distinct spells =
     ap (then_read (λ bytes. pure (path_id (path_number tables bytes)))) (name_read-spelled word rest spells.0) ∙
     ap (λ n. pure (path_id n) rest) (number_of_path tables x.0 word distinct.paths spells.1)
@@ -273,6 +299,7 @@ word_written tables of AProcedure word x spells =
     subst (SpellsProcedure tables of x) (sym is) spells
 word_written tables of AThread word x spells = subst (SpellsThread tables x) (sym (ap (λ name. unwrap_or name []) spells.1)) spells
 word_written tables of AProcess word x spells = subst (SpellsProcess tables x) (sym (ap (λ name. unwrap_or name []) spells.1)) spells
+word_written tables of AChild word x spells = subst (SpellsChild tables of x) (sym (ap (λ name. unwrap_or name []) spells.0.1)) spells
 word_written tables of APath word x spells = subst (SpellsPath tables x) (sym (ap (λ name. unwrap_or name []) spells.1)) spells
 word_written tables of (ANumber low high) word x spells = (spells.0, spells.1, refl)
 word_written tables of AnFd word x spells = fd_written x word spells
@@ -296,6 +323,7 @@ spelled_is_word tables of AName word x small spells = name_is_word word (ap is_n
 spelled_is_word tables of AProcedure word x small spells = name_is_word word spells.0
 spelled_is_word tables of AThread word x small spells = name_is_word word spells.0
 spelled_is_word tables of AProcess word x small spells = name_is_word word spells.0
+spelled_is_word tables of AChild word x small spells = name_is_word word spells.0.0
 spelled_is_word tables of APath word x small spells = name_is_word word spells.0
 spelled_is_word tables of (ANumber low high) word x small spells = number_is_word x high word spells.1 (small_number high small) spells.2
 spelled_is_word tables of AnFd word x small spells = fd_is_word x word spells

@@ -1,17 +1,18 @@
 //! What is read is spelled, what is spelled is read, and what is written is read again. No function here does anything:
 //! each carries laws on the definitions.
 
-ghost use Rattle.std.specs.Prelude.{◌≡◌, ℕ, List, ◌∷◌, true, Some};
+ghost use Rattle.std.specs.Prelude.{◌≡◌, ◌≤◌, ℕ, List, ◌∷◌, true, Some};
 ghost use Rattle.std.specs.List.{list_all};
 ghost use Rattle.script_text.specs.Words.{is_printable, is_word};
 ghost use Rattle.line_reader.specs.Types.{Keyword, Line};
-ghost use Rattle.script_line.specs.Words.{AreDistinct, SpellsLine, Tables, keyword_of, keyword_word, line_words};
+ghost use Rattle.script_line.specs.Words.{AreDistinct, SpellsLine, Tables, keyword_of, keyword_version, keyword_word, line_words};
 ghost use Rattle.line_laws.specs.LineLaws.{IsReadBack, WasRead};
 
-/// A word is a keyword exactly where it is that keyword's word.
+/// A word is a keyword exactly where it is that keyword's word, in the texts of the versions that have the keyword.
 pub fn keyword_is_read_where_spelled()
-    ensures again { (version : ℕ) (keyword : Keyword) → keyword_of version (keyword_word keyword) ≡ Some keyword }
+    ensures again { (version : ℕ) (keyword : Keyword) → keyword_version keyword ≤ version → keyword_of version (keyword_word keyword) ≡ Some keyword }
     ensures found { (version : ℕ) (word : List ℕ) (keyword : Keyword) → keyword_of version word ≡ Some keyword → word ≡ keyword_word keyword }
+    ensures since { (version : ℕ) (word : List ℕ) (keyword : Keyword) → 1 ≤ version → keyword_of version word ≡ Some keyword → keyword_version keyword ≤ version }
 {}
 
 /// The words of a line that was read spell it.

@@ -2,10 +2,10 @@
 use Rattle.std.specs.Prelude.{ℕ, Bool, true, false, codes}
 use Rattle.line_reader.specs.Types.{Keyword, Line}
 use Rattle.script_line.specs.declared.keyword.Keyword.TheVariants as keyword
-use Rattle.script_line.specs.declared.line.Line.TheVariants.{Create, Call, Return, Serve, Revoke, Bind, Unbind, Info, InfoQuery, GetParam, SetParam, Cred, TestCancel, Exit, Close, Dup, Attach, Detach, Open, Await, Pipe, Write, Read, PortCreate, Associate, Dissociate, Get, GetN, Send, SendN, Alert, Interrupt, Kill, Work, Repeat, If, End}
+use Rattle.script_line.specs.declared.line.Line.TheVariants.{Create, Call, Return, Serve, Revoke, Bind, Unbind, Info, InfoQuery, GetParam, SetParam, Cred, TestCancel, Exit, Close, Dup, Attach, Detach, Open, Await, Pipe, Write, Read, PortCreate, Associate, Dissociate, Get, GetN, Send, SendN, Alert, Interrupt, Kill, Fork, Work, Repeat, If, End}
 use Rattle.script_line.specs.Words.{Tables, greatest_32, greatest_64}
 use Rattle.line_reader.specs.Combinators.{Reader, optional_word, value_at_end, ◌>>=◌}
-use Rattle.line_reader.specs.Operands.{number, name, procedure, thread, process, path, fd, passes, rsize, ports, pieces, attributes, poll, param, mode, op, condition, value, wait_option}
+use Rattle.line_reader.specs.Operands.{number, name, procedure, thread, process, child, path, fd, passes, rsize, ports, pieces, attributes, poll, param, mode, op, condition, value, wait_option}
 
 -- create VAR PROC COOKIE ATTR ..
 unfoldable pub create_line : Tables → ℕ → Reader Line
@@ -228,6 +228,12 @@ kill_line tables = do
   whom ← process tables
   value_at_end (Kill whom)
 
+-- fork CHILD
+unfoldable pub fork_line : Tables → ℕ → Reader Line
+fork_line tables of = do
+  begins ← child tables of
+  value_at_end (Fork begins)
+
 -- work VAR OP DATA
 unfoldable pub work_line : Reader Line
 work_line = do
@@ -286,6 +292,7 @@ line_with tables process keyword.SendN = sendn_line
 line_with tables process keyword.Alert = alert_line
 line_with tables process keyword.Interrupt = interrupt_line tables
 line_with tables process keyword.Kill = kill_line tables
+line_with tables process keyword.Fork = fork_line tables process
 line_with tables process keyword.Work = work_line
 line_with tables process keyword.Repeat = repeat_line
 line_with tables process keyword.If = if_line

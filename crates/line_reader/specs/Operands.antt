@@ -1,5 +1,5 @@
 -- The operands of lines.
-use Rattle.std.specs.Prelude.{ℕ, Bool, true, false, ◌==◌, List, [], ◌∷◌, Option, Some, None, bytes_eq, codes, if◌then◌else◌}
+use Rattle.std.specs.Prelude.{ℕ, Bool, true, false, ◌==◌, List, [], ◌∷◌, Option, Some, None, bytes_eq, codes, if◌then◌else◌, take}
 use Rattle.script_text.specs.Types.{AlertMode, Attrs, Op, Param, PathId, Pid, PollSet, Tid}
 use Rattle.script_text.specs.declared.number.Number.{Number}
 use Rattle.script_text.specs.declared.number.Number.TheVariants.{Found, OutOfRange, NoNumber}
@@ -7,7 +7,7 @@ use Rattle.script_text.specs.Words.{bounded_number, is_name, part_before_last, p
 use Rattle.line_reader.specs.Types.{Cond, FdArg, PassArg, Piece}
 use Rattle.script_line.specs.declared.line.FdArg.TheVariants.{Number as NumberFd, Of as OfFd}
 use Rattle.script_line.specs.declared.line.Piece.TheVariants.{Text, Of, Fill}
-use Rattle.script_line.specs.Words.{Tables, attributes_of, cond_of, entry_number, greatest_64, mode_of, op_of, param_of, path_number, poll_of, process_number, thread_number}
+use Rattle.script_line.specs.Words.{Tables, attributes_of, child_number, cond_of, earlier_number, entry_number, greatest_64, mode_of, op_of, param_of, path_number, poll_of, process_number, thread_number}
 use Rattle.line_reader.specs.Combinators.{Reader, pure, misspelling, value_with_rest, value_out_of_range, spelled_value, declared_number, next_word, optional_word, items_to, list_in_range, ◌>>=◌}
 
 -- numbers
@@ -66,6 +66,20 @@ abbrev pub process : Tables → Reader Pid
 process tables = do
   bytes ← name
   n ← declared_number (process_number tables bytes)
+  pure (pid n)
+
+-- PARENT: a process that stands before, where so many do
+abbrev pub parent : Tables → ℕ → Reader Pid
+parent tables before = do
+  bytes ← name
+  n ← declared_number (earlier_number (take before tables.processes) bytes)
+  pure (pid n)
+
+-- CHILD: a child of this process
+abbrev pub child : Tables → ℕ → Reader Pid
+child tables process = do
+  bytes ← name
+  n ← declared_number (child_number tables process bytes)
   pure (pid n)
 
 abbrev pub path_id : ℕ → PathId

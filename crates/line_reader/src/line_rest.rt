@@ -2,13 +2,14 @@
 
 ghost use Rattle.std.specs.Prelude.{◌≡◌};
 ghost use Rattle.line_reader.specs.Combinators.{Rest, rest_of, items_to, optional_word as optional_word_read, value_at_end as value_at_end_read};
-ghost use Rattle.line_reader.specs.Operands.{is_no_stop, number as number_read, name as name_read, thread_from_word as thread_from_word_read};
+ghost use Rattle.line_reader.specs.Operands.{is_no_stop, number as number_read, name as name_read, parent as parent_read, thread_from_word as thread_from_word_read};
 ghost use Rattle.line_reader.specs.Commands.{line_with as line_with_read};
 ghost use Rattle.line_reader.specs.OperandContracts.{Gives, ReadsOn};
 
 use crate::fault::Fault;
 use crate::operands::Operands;
 use dk_base::list::{Bytes, TidList};
+use dk_base::number::Pid;
 use script_line::keyword::Keyword;
 use script_line::line::Line;
 use script_line::tables::Tables;
@@ -72,6 +73,15 @@ impl<'a> LineRest<'a> {
         let mut operands = self.operands;
         let name = operands.variable(alloc)?;
         Ok((name, LineRest { operands }))
+    }
+
+    /// PARENT: a process that stands before, where so many do.
+    pub fn parent(self, tables: &Tables, before: u32) -> Result<(Pid, Self), Fault>
+        ensures { ReadsOn (parent_read tables.now before) self.entry result }
+    {
+        let mut operands = self.operands;
+        let parent = operands.parent(tables, before)?;
+        Ok((parent, LineRest { operands }))
     }
 
     /// THREAD .. to the line's end.

@@ -1,7 +1,7 @@
 //! Operands that are names.
 
 ghost use Rattle.std.specs.Prelude.{◌≡◌};
-ghost use Rattle.line_reader.specs.Operands.{name as name_read, procedure as procedure_read, thread_from_word as thread_from_word_read, thread as thread_read, process as process_read, path as path_read};
+ghost use Rattle.line_reader.specs.Operands.{name as name_read, procedure as procedure_read, thread_from_word as thread_from_word_read, thread as thread_read, process as process_read, parent as parent_read, child as child_read, path as path_read};
 ghost use Rattle.line_reader.specs.Combinators.{items_to};
 ghost use Rattle.line_reader.specs.Operands.{is_no_stop};
 ghost use Rattle.line_reader.specs.ListContracts.{next_item};
@@ -73,6 +73,22 @@ impl<'a> Operands<'a> {
     {
         let name = self.name()?;
         Ok(Pid(self.declared_number(tables.process_number(name))))
+    }
+
+    /// PARENT: a process that stands before, where so many do.
+    pub fn parent(&mut self, tables: &Tables, before: u32) -> Result<Pid, Fault>
+        ensures { Reads (parent_read tables.now before) self.old result self.new }
+    {
+        let name = self.name()?;
+        Ok(Pid(self.declared_number(tables.earlier_number(before, name))))
+    }
+
+    /// CHILD: a child of this process.
+    pub fn child(&mut self, tables: &Tables, process: u32) -> Result<Pid, Fault>
+        ensures { Reads (child_read tables.now process) self.old result self.new }
+    {
+        let name = self.name()?;
+        Ok(Pid(self.declared_number(tables.child_number(process, name))))
     }
 
     /// PATH.

@@ -1,6 +1,6 @@
 //! Commands on waiting events, threads, processes and work, and the lines of blocks.
 
-ghost use Rattle.line_reader.specs.Commands.{getn_line as getn_line_read, send_line as send_line_read, sendn_line as sendn_line_read, alert_line as alert_line_read, interrupt_line as interrupt_line_read, kill_line as kill_line_read, work_line as work_line_read, repeat_line as repeat_line_read, if_line as if_line_read, end_line as end_line_read};
+ghost use Rattle.line_reader.specs.Commands.{getn_line as getn_line_read, send_line as send_line_read, sendn_line as sendn_line_read, alert_line as alert_line_read, interrupt_line as interrupt_line_read, kill_line as kill_line_read, fork_line as fork_line_read, work_line as work_line_read, repeat_line as repeat_line_read, if_line as if_line_read, end_line as end_line_read};
 ghost use Rattle.line_reader.specs.OperandContracts.{Reads};
 
 use crate::fault::Fault;
@@ -80,6 +80,14 @@ impl<'a> Operands<'a> {
     {
         let process = self.process(tables)?;
         self.value_at_end(Line::Kill { process })
+    }
+
+    #[tactic(auto, unfolding(crate::specs::Commands::fork_line))]
+    pub fn fork_line(&mut self, tables: &Tables, process: u32) -> Result<Line, Fault>
+        ensures { Reads (fork_line_read tables.now process) self.old result self.new }
+    {
+        let child = self.child(tables, process)?;
+        self.value_at_end(Line::Fork { child })
     }
 
     #[tactic(auto, unfolding(crate::specs::Commands::work_line))]

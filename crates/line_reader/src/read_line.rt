@@ -55,6 +55,7 @@ impl<'a> Operands<'a> {
             Keyword::Alert => self.alert_line(alloc),
             Keyword::Interrupt => self.interrupt_line(tables),
             Keyword::Kill => self.kill_line(tables),
+            Keyword::Fork => self.fork_line(tables, process),
             Keyword::Work => self.work_line(alloc),
             Keyword::Repeat => self.repeat_line(),
             Keyword::If => self.if_line(),

@@ -52,6 +52,7 @@ pub fn keyword_of_line(line: &Line) -> Keyword
         Line::Alert { .. } => Keyword::Alert,
         Line::Interrupt { .. } => Keyword::Interrupt,
         Line::Kill { .. } => Keyword::Kill,
+        Line::Fork { .. } => Keyword::Fork,
         Line::Work { .. } => Keyword::Work,
         Line::Repeat { .. } => Keyword::Repeat,
         Line::If { .. } => Keyword::If,

@@ -333,6 +333,7 @@ pub fn put_line_operands(
         } => put_alert(alloc, text, port, *mode, *events, *user),
         Line::Interrupt { thread } => text.word(tables.thread_name(*thread)),
         Line::Kill { process } => text.word(tables.process_name(*process)),
+        Line::Fork { child } => text.word(tables.process_name(*child)),
         Line::Work { var, op, bytes } => put_work(alloc, text, var, *op, bytes),
         Line::Repeat { times } => text.number(alloc, u64::from(*times)),
         Line::If { cond } => text.word(cond_word(*cond).as_bytes()),

@@ -8,19 +8,26 @@ use Rattle.script_line.specs.declared.line.Kind.TheVariants.{Act, Loop, Test, Cl
 use Rattle.script_line.specs.declared.line.Line.TheVariants.{Repeat, If, End}
 use Rattle.script_line.specs.Words.{Tables, depth_after, kind_of}
 use Rattle.script_lang.specs.declared.item.ScriptLine.{ScriptLine}
-use Rattle.script_lang.specs.declared.item.ScriptLine.TheVariants.{Budget, Process, Spare, Thread, Procedure, Do, Schedule}
+use Rattle.script_lang.specs.declared.item.ScriptLine.TheVariants.{Budget, Process, Child, Spare, Thread, Procedure, Do, Schedule}
 use Rattle.script_lang.specs.declared.item.ScriptPlace.{ScriptPlace}
 use Rattle.script_lang.specs.declared.item.ScriptPlace.TheVariants.{Start, Processes, Members, Body, Schedule as Scheduled}
+use Rattle.script_lang.specs.declared.script.Part.{Part}
+use Rattle.script_lang.specs.declared.script.Part.TheVariants.{Process as ProcessPart, Thread as ThreadPart, Procedure as ProcedurePart}
+use Rattle.script_lang.specs.declared.script.Procedure.{Procedure as ScriptProcedure}
+use Rattle.script_lang.specs.declared.script.ScriptProcess.{ScriptProcess}
+use Rattle.script_lang.specs.declared.script.ScriptThread.{ScriptThread}
 use Rattle.script_lang.specs.Context.{ContextValue, context_after, is_closed_place, context_at_depth, context_with_variables}
 use Rattle.script_lang.specs.TextReaderContracts.{is_body}
-use Rattle.script_lang.specs.Scripts.{process_of_item, threads_from, procedures_from, part_of_item, body_from, before_line, part_items}
+use Rattle.script_lang.specs.Scripts.{process_item, process_of_item, with_limits, threads_from, procedures_from, part_of_item, body_from, before_line, part_items, procedure_items, thread_items}
 use Rattle.script_lang.proofs.DraftSteps.{is_do_of_place}
+use Rattle.script_lang.proofs.ChildLimits.{item_kept, kept-with_limits}
 use Rattle.script_lang.proofs.Stand.{Stand}
 
 -- neither a budget nor a part of the schedule
 abbrev pub is_part : ScriptLine → Bool
 is_part (Budget events) = false
 is_part (Process name limit) = true
+is_part (Child name parent) = true
 is_part (Spare name) = true
 is_part (Thread name) = true
 is_part (Procedure name) = true
@@ -76,6 +83,8 @@ parts_same tables context process (Budget events ∷ items) stand =
     rw (is_do_of_place context.place (Budget events) stand.may_stand.of_place) (parts_same tables (context_after context (Budget events)) process items stand.others)
 parts_same tables context process (Process name limit ∷ items) stand =
     rw (is_do_of_place context.place (Process name limit) stand.may_stand.of_place) (ap (λ others. Process name limit ∷ others) (parts_same tables (context_after context (Process name limit)) (process + 1) items stand.others))
+parts_same tables context process (Child name parent ∷ items) stand =
+    rw (is_do_of_place context.place (Child name parent) stand.may_stand.of_place) (ap (λ others. Child name parent ∷ others) (parts_same tables (context_after context (Child name parent)) (process + 1) items stand.others))
 parts_same tables context process (Spare name ∷ items) stand =
     let place = is_do_of_place context.place (Spare name) stand.may_stand.of_place in
     rw place (ap (λ others. Spare name ∷ others) (subst (λ b. with_open b context.depth items (parts_again process items) ≡ parts_in items) place (parts_same tables (context_after context (Spare name)) process items stand.others)))
@@ -88,3 +97,24 @@ parts_same tables context process (Do line ∷ items) stand =
     rw place (line_same context process line items (depth_after context.depth (kind_of line)) refl place (parts_same tables (context_after context (Do line)) process items stand.others))
 parts_same tables context process (Schedule threads ∷ items) stand =
     rw (is_do_of_place context.place (Schedule threads) stand.may_stand.of_place) (parts_same tables (context_after context (Schedule threads)) process items stand.others)
+
+-- of processes their lines alone count
+
+parts_alike : (order : List Part) (processes others : List ScriptProcess) (threads : List ScriptThread) (procedures : List ScriptProcedure) → map process_item processes ≡ map process_item others
+    → part_items order processes threads procedures ≡ part_items order others threads procedures
+parts_alike [] processes others threads procedures same = refl
+parts_alike (ProcessPart ∷ order) [] [] threads procedures same = refl
+parts_alike (ProcessPart ∷ order) [] (other ∷ others) threads procedures same = cc
+parts_alike (ProcessPart ∷ order) (process ∷ processes) [] threads procedures same = cc
+parts_alike (ProcessPart ∷ order) (process ∷ processes) (other ∷ others) threads procedures same =
+    let first : process_item process ≡ process_item other = cc in
+    let later : map process_item processes ≡ map process_item others = cc in
+    rw (first, parts_alike order processes others threads procedures later) refl
+parts_alike (ThreadPart ∷ order) processes others [] procedures same = refl
+parts_alike (ThreadPart ∷ order) processes others (thread ∷ threads) procedures same = ap (λ items. thread_items thread thread.spare ++ items) (parts_alike order processes others threads procedures same)
+parts_alike (ProcedurePart ∷ order) processes others threads [] same = refl
+parts_alike (ProcedurePart ∷ order) processes others threads (procedure ∷ procedures) same = ap (λ items. procedure_items procedure ++ items) (parts_alike order processes others threads procedures same)
+
+pub parts_limited : (process : ℕ) (items : List ScriptLine) → part_items (filter_map part_of_item items) (with_limits [] (filter_map process_of_item items)) (threads_from process items) (procedures_from process items) ≡ parts_again process items
+parts_limited process items =
+    parts_alike (filter_map part_of_item items) (with_limits [] (filter_map process_of_item items)) (filter_map process_of_item items) (threads_from process items) (procedures_from process items) (kept-with_limits process_item item_kept (filter_map process_of_item items))

@@ -3,7 +3,7 @@ use Rattle.std.proofs.Common.{◌≡◌, ℕ, ◌≤◌, ◌<◌, ◌^◌, true,
 use Rattle.std.specs.Prelude.{codes, decimal}
 use Rattle.std.specs.List.{list_all}
 use Rattle.std.proofs.lemmas.Bool.{and_from}
-use Rattle.script_text.specs.Types.{Tid}
+use Rattle.script_text.specs.Types.{Pid, Tid}
 use Rattle.script_text.specs.Words.{SpellsName, is_name, is_word, joined_words, spaced_words}
 use Rattle.script_text.proofs.DecimalWords.{is_plain-decimal}
 use Rattle.script_text.proofs.JoinedWords.{words_of-joined_words, joined_first, is_word-plain}
@@ -11,12 +11,13 @@ use Rattle.script_text.proofs.PartWords.{is_plain-name}
 use Rattle.script_text.proofs.PrintableWords.{are_printable, are_printable-joined_words, are_printable-name, are_printable-decimal}
 use Rattle.script_lang.specs.Types.{Keyword, Line}
 use Rattle.script_line.specs.declared.keyword.Keyword.TheVariants.{Create}
-use Rattle.script_line.specs.Words.{Each, Ends, First, SpellsThread, Tables, Then, keyword_of_line, keyword_word, line_words, operand_words, thread_word}
+use Rattle.script_line.specs.Words.{Each, Ends, First, SpellsProcess, SpellsThread, Tables, Then, keyword_of_line, keyword_word, line_words, operand_words, process_word, thread_word}
 use Rattle.line_laws.proofs.LineWritten.{line-written, line-words}
 use Rattle.line_laws.proofs.PrintableLine.{line_printable}
+use Rattle.line_laws.proofs.WordKinds.{AProcess, word_written}
 use Rattle.line_writer.proofs.SpacedWords.{parted}
 use Rattle.script_lang.specs.declared.item.ScriptLine.{ScriptLine}
-use Rattle.script_lang.specs.declared.item.ScriptLine.TheVariants.{Budget, Process, Spare, Thread, Procedure, Do, Schedule}
+use Rattle.script_lang.specs.declared.item.ScriptLine.TheVariants.{Budget, Process, Child, Spare, Thread, Procedure, Do, Schedule}
 use Rattle.script_lang.specs.Context.{ContextValue, context_after}
 use Rattle.script_lang.specs.Canonical.{item_words, item_line}
 use Rattle.script_lang.specs.Parsing.{is_skipped}
@@ -80,6 +81,18 @@ process_written tables of limit name (word ∷ named ∷ words) spells =
     let limits : IsGood (codes "limit") = record { is_word = refl; printable = refl } in
     written_by tables of (Process name limit) (refl, ((spells.1.0.0, refl), inr (refl, ((omega arith, most, refl), refl)))) (keyword, (good_name name spells.1.0.0, (limits, (good_number limit (omega arith), tt)))) refl
 
+child_written : (tables : Tables) (of : ℕ) (parent : Pid) (name : List ℕ) (words : List (List ℕ)) → SpellsScriptLine tables of (Child name parent) words → IsWritten tables of (Child name parent)
+child_written tables of parent name [] spells = absurd spells
+child_written tables of parent name (word ∷ []) spells = absurd spells.1
+child_written tables of parent name (word ∷ named ∷ []) spells = absurd spells.1.1
+child_written tables of parent name (word ∷ named ∷ preposition ∷ []) spells = absurd spells.1.1.1
+child_written tables of parent name (word ∷ named ∷ preposition ∷ parent_word ∷ words) spells =
+    let is = spells.1.1.1.0 in
+    let parented : SpellsProcess tables parent (process_word tables parent) = word_written tables of AProcess parent_word parent is.0 in
+    let keyword : IsGood (codes "child") = record { is_word = refl; printable = refl } in
+    let link : IsGood (codes "of") = record { is_word = refl; printable = refl } in
+    written_by tables of (Child name parent) (refl, ((spells.1.0.0, refl), (refl, ((parented, is.1), refl)))) (keyword, (good_name name spells.1.0.0, (link, (good_name (process_word tables parent) parented.0, tt)))) refl
+
 named : (name : List ℕ) (keyword : List ℕ) (words : List (List ℕ)) → Then keyword (First (SpellsName name) Ends) words → is_name name ≡ true
 named name keyword [] spells = absurd spells
 named name keyword (word ∷ []) spells = absurd spells.1
@@ -112,6 +125,7 @@ line_is_written tables of line words spells =
 item_written : (tables : Tables) (of : ℕ) (item : ScriptLine) (words : List (List ℕ)) → SpellsScriptLine tables of item words → IsWritten tables of item
 item_written tables of (Budget events) words spells = budget_written tables of events words spells
 item_written tables of (Process name limit) words spells = process_written tables of limit name words spells
+item_written tables of (Child name parent) words spells = child_written tables of parent name words spells
 item_written tables of (Spare name) words spells =
     let is = named name (codes "spare") words spells in
     written_by tables of (Spare name) (refl, ((is, refl), refl)) (record { is_word = refl; printable = refl }, (good_name name is, tt)) refl

@@ -6,15 +6,15 @@ use Rattle.script_text.specs.Types.{Tid}
 use Rattle.script_lang.specs.Types.{Line}
 use Rattle.script_line.specs.Words.{Tables, depth_after, kind_of, paths_of}
 use Rattle.script_lang.specs.declared.item.ScriptLine.{ScriptLine}
-use Rattle.script_lang.specs.declared.item.ScriptLine.TheVariants.{Budget, Process, Spare, Thread, Procedure, Do, Schedule}
+use Rattle.script_lang.specs.declared.item.ScriptLine.TheVariants.{Budget, Process, Child, Spare, Thread, Procedure, Do, Schedule}
 use Rattle.script_lang.specs.declared.script.Part.TheVariants.{Process as ProcessPart, Thread as ThreadPart, Procedure as ProcedurePart}
 use Rattle.script_lang.specs.Context.{ContextValue, context_after, context_at_depth, context_with_variables, first_context}
 use Rattle.script_lang.specs.TextReaderContracts.{is_body}
-use Rattle.script_lang.specs.Scripts.{budget_from, budget_of, script_process, process_of_item, script_thread, threads_from, procedures_from, part_of_item, body_from, before_line, turns_of_item, script_of_items, rows_from, items_of}
+use Rattle.script_lang.specs.Scripts.{budget_from, budget_of, script_child, script_process, process_of_item, script_thread, threads_from, procedures_from, part_of_item, body_from, before_line, turns_of_item, script_of_items, rows_from, items_of}
 use Rattle.script_lang.specs.Spelled.{path_uses}
 use Rattle.script_lang.proofs.DraftSteps.{is_do_of_place}
 use Rattle.script_lang.proofs.Stand.{Stand}
-use Rattle.script_lang.proofs.CanonicalItems.{parts_in, parts_same, closed_is_no_body}
+use Rattle.script_lang.proofs.CanonicalItems.{parts_in, parts_limited, parts_same, closed_is_no_body}
 
 -- rows of a schedule
 
@@ -40,6 +40,7 @@ budget_same events [] [] = refl
 budget_same events [] (row ∷ rows) = budget_same events [] rows
 budget_same events (Budget given ∷ items) rows = budget_same events items rows
 budget_same events (Process name limit ∷ items) rows = budget_same events items rows
+budget_same events (Child name parent ∷ items) rows = budget_same events items rows
 budget_same events (Spare name ∷ items) rows = budget_same events items rows
 budget_same events (Thread name ∷ items) rows = budget_same events items rows
 budget_same events (Procedure name ∷ items) rows = budget_same events items rows
@@ -51,6 +52,7 @@ processes_same [] [] = refl
 processes_same [] (row ∷ rows) = processes_same [] rows
 processes_same (Budget given ∷ items) rows = processes_same items rows
 processes_same (Process name limit ∷ items) rows = ap (λ others. script_process name limit ∷ others) (processes_same items rows)
+processes_same (Child name parent ∷ items) rows = ap (λ others. script_child name parent ∷ others) (processes_same items rows)
 processes_same (Spare name ∷ items) rows = processes_same items rows
 processes_same (Thread name ∷ items) rows = processes_same items rows
 processes_same (Procedure name ∷ items) rows = processes_same items rows
@@ -62,6 +64,7 @@ order_same [] [] = refl
 order_same [] (row ∷ rows) = order_same [] rows
 order_same (Budget given ∷ items) rows = order_same items rows
 order_same (Process name limit ∷ items) rows = ap (λ others. ProcessPart ∷ others) (order_same items rows)
+order_same (Child name parent ∷ items) rows = ap (λ others. ProcessPart ∷ others) (order_same items rows)
 order_same (Spare name ∷ items) rows = ap (λ others. ThreadPart ∷ others) (order_same items rows)
 order_same (Thread name ∷ items) rows = ap (λ others. ThreadPart ∷ others) (order_same items rows)
 order_same (Procedure name ∷ items) rows = ap (λ others. ProcedurePart ∷ others) (order_same items rows)
@@ -73,6 +76,7 @@ uses_same [] [] = refl
 uses_same [] (row ∷ rows) = uses_same [] rows
 uses_same (Budget given ∷ items) rows = uses_same items rows
 uses_same (Process name limit ∷ items) rows = uses_same items rows
+uses_same (Child name parent ∷ items) rows = uses_same items rows
 uses_same (Spare name ∷ items) rows = uses_same items rows
 uses_same (Thread name ∷ items) rows = uses_same items rows
 uses_same (Procedure name ∷ items) rows = uses_same items rows
@@ -83,6 +87,7 @@ turns_same : (items : List ScriptLine) (rows : List (List Tid)) → flat_map tur
 turns_same [] rows = refl
 turns_same (Budget given ∷ items) rows = turns_same items rows
 turns_same (Process name limit ∷ items) rows = turns_same items rows
+turns_same (Child name parent ∷ items) rows = turns_same items rows
 turns_same (Spare name ∷ items) rows = turns_same items rows
 turns_same (Thread name ∷ items) rows = turns_same items rows
 turns_same (Procedure name ∷ items) rows = turns_same items rows
@@ -107,6 +112,7 @@ threads_same : (tables : Tables) (context : ContextValue) (process : ℕ) (items
 threads_same tables context process [] [] stand = refl
 threads_same tables context process [] (row ∷ rows) stand = threads_same tables context process [] rows stand
 threads_same tables context process (Process name limit ∷ items) rows stand = threads_same tables (context_after context (Process name limit)) (process + 1) items rows stand.others
+threads_same tables context process (Child name parent ∷ items) rows stand = threads_same tables (context_after context (Child name parent)) (process + 1) items rows stand.others
 threads_same tables context process (Spare name ∷ items) rows stand = ap (λ others. script_thread process name true [] ∷ others) (threads_same tables (context_after context (Spare name)) process items rows stand.others)
 threads_same tables context process (Thread name ∷ items) rows stand =
     rw (body_same tables (context_after context (Thread name)) items rows stand.others refl, threads_same tables (context_after context (Thread name)) process items rows stand.others) refl
@@ -116,6 +122,7 @@ procedures_same : (tables : Tables) (context : ContextValue) (process : ℕ) (it
 procedures_same tables context process [] [] stand = refl
 procedures_same tables context process [] (row ∷ rows) stand = procedures_same tables context process [] rows stand
 procedures_same tables context process (Process name limit ∷ items) rows stand = procedures_same tables (context_after context (Process name limit)) (process + 1) items rows stand.others
+procedures_same tables context process (Child name parent ∷ items) rows stand = procedures_same tables (context_after context (Child name parent)) (process + 1) items rows stand.others
 procedures_same tables context process (Procedure name ∷ items) rows stand =
     rw (body_same tables (context_after context (Procedure name)) items rows stand.others refl, procedures_same tables (context_after context (Procedure name)) process items rows stand.others) refl
 procedures_same tables context process (item ∷ items) rows stand = procedures_same tables (context_after context item) process items rows stand.others
@@ -124,8 +131,8 @@ procedures_same tables context process (item ∷ items) rows stand = procedures_
 abbrev pub rows_of : List ScriptLine → List (List Tid)
 rows_of items = rows_from 15 (flat_map turns_of_item items)
 
-pub written_script : (tables : Tables) (paths : List (List ℕ)) (items : List ScriptLine) → Stand tables first_context items → script_of_items paths (written items (rows_of items)) ≡ script_of_items paths items
-written_script tables paths items stand =
+pub written_script : (version : ℕ) (tables : Tables) (paths : List (List ℕ)) (items : List ScriptLine) → Stand tables first_context items → script_of_items version paths (written items (rows_of items)) ≡ script_of_items version paths items
+written_script version tables paths items stand =
     let rows = rows_of items in
     let budget = budget_same (budget_of items) items rows in
     let processes = processes_same items rows in
@@ -135,6 +142,6 @@ written_script tables paths items stand =
     let schedule = turns_same items rows ∙ turns_of_item-rows 15 (flat_map turns_of_item items) in
     rw (budget, processes, threads, procedures, order, schedule) refl
 
-pub script_written : (tables : Tables) (paths : List (List ℕ)) (items : List ScriptLine) → Stand tables first_context items → items_of (script_of_items paths items) ≡ written items (rows_of items)
-script_written tables paths items stand =
-    ap (λ parts. Budget (budget_of items) ∷ parts ++ map Schedule (rows_of items)) (parts_same tables first_context 0 items stand)
+pub script_written : (version : ℕ) (tables : Tables) (paths : List (List ℕ)) (items : List ScriptLine) → Stand tables first_context items → items_of (script_of_items version paths items) ≡ written items (rows_of items)
+script_written version tables paths items stand =
+    ap (λ parts. Budget (budget_of items) ∷ parts ++ map Schedule (rows_of items)) (parts_limited 0 items ∙ parts_same tables first_context 0 items stand)

@@ -8,7 +8,7 @@ use Rattle.script_line.specs.Words.{Each, Ends, First, SpellsThread, Tables, dep
 use Rattle.line_laws.proofs.WordKinds.{AThread, word_written}
 use Rattle.script_text.specs.Words.{SpellsNumber}
 use Rattle.script_lang.specs.declared.item.ScriptLine.{ScriptLine}
-use Rattle.script_lang.specs.declared.item.ScriptLine.TheVariants.{Budget, Process, Spare, Thread, Procedure, Do, Schedule}
+use Rattle.script_lang.specs.declared.item.ScriptLine.TheVariants.{Budget, Process, Child, Spare, Thread, Procedure, Do, Schedule}
 use Rattle.script_lang.specs.declared.item.ScriptPlace.{ScriptPlace}
 use Rattle.script_lang.specs.declared.item.ScriptPlace.TheVariants.{Start, Processes, Members, Body, Schedule as Scheduled}
 use Rattle.script_lang.specs.Context.{ContextValue, first_context, context_after, context_at_place, is_closed, is_closed_place, context_at_depth, context_with_variables}
@@ -122,6 +122,8 @@ parts_stand tables context [] rows start are stand = rows_stand tables context r
 parts_stand tables context (Budget events ∷ items) rows start are stand = absurd (false≢true (sym start ∙ budget_at_start context.place events stand.may_stand.of_place))
 parts_stand tables context (Process name limit ∷ items) rows start are stand =
     record { words = stand.words; spells = stand.spells; may_stand = stand.may_stand; others = parts_stand tables (context_after context (Process name limit)) items rows refl are stand.others }
+parts_stand tables context (Child name parent ∷ items) rows start are stand =
+    record { words = stand.words; spells = stand.spells; may_stand = stand.may_stand; others = parts_stand tables (context_after context (Child name parent)) items rows refl are stand.others }
 parts_stand tables context (Spare name ∷ items) rows start are stand =
     record { words = stand.words; spells = stand.spells; may_stand = stand.may_stand; others = parts_stand tables (context_after context (Spare name)) items rows start are stand.others }
 parts_stand tables context (Thread name ∷ items) rows start are stand =
@@ -163,6 +165,13 @@ parts_after_budget tables (Process name limit ∷ items) rows are stand =
       spells = stand.spells;
       may_stand = record { of_place = refl; once = refl; within_limits = refl; in_its_place = refl };
       others = parts_stand tables (context_after after_budget (Process name limit)) items rows refl are stand.others;
+    }
+parts_after_budget tables (Child name parent ∷ items) rows are stand =
+    record {
+      words = stand.words;
+      spells = stand.spells;
+      may_stand = record { of_place = refl; once = refl; within_limits = refl; in_its_place = refl };
+      others = parts_stand tables (context_after after_budget (Child name parent)) items rows refl are stand.others;
     }
 parts_after_budget tables (Schedule threads ∷ items) rows are stand =
     rw (only_schedule tables (context_at_place after_budget Scheduled) items refl stand.others) (rows_stand tables after_budget rows are refl)

@@ -8,7 +8,7 @@ use Rattle.std.proofs.lemmas.List.Folds.{list_any-append}
 use Rattle.script_text.specs.Words.{are_distinct, has_name}
 use Rattle.script_line.specs.Words.{ProcedureName, Tables, depth_after, is_same_procedure, kind_of, qualified_name}
 use Rattle.script_lang.specs.declared.item.ScriptLine.{ScriptLine}
-use Rattle.script_lang.specs.declared.item.ScriptLine.TheVariants.{Budget, Process, Spare, Thread, Procedure, Do, Schedule}
+use Rattle.script_lang.specs.declared.item.ScriptLine.TheVariants.{Budget, Process, Child, Spare, Thread, Procedure, Do, Schedule}
 use Rattle.script_lang.specs.Context.{ContextValue, first_context, is_declared_twice, context_after, context_at_depth, context_with_variables}
 use Rattle.script_lang.specs.Spelled.{SpellsScriptLines}
 use Rattle.script_lang.proofs.SpelledItems.{along}
@@ -53,6 +53,7 @@ distinct_procedures process (name ∷ names) distinct =
 no_later : (process later : ℕ) (name : List ℕ) (items : List ScriptLine) → process < later → list_any (is_same_procedure (qualified_name process name)) (procedure_names later items) ≡ false
 no_later process later name [] context = refl
 no_later process later name (Process other limit ∷ items) context = no_later process (later + 1) name items (omega arith)
+no_later process later name (Child other parent ∷ items) context = no_later process (later + 1) name items (omega arith)
 no_later process later name (Procedure other ∷ items) context = rw (other_number process later context) (no_later process later name items context)
 no_later process later name (item ∷ items) context = no_later process later name items context
 
@@ -74,6 +75,7 @@ none_after_line context (Some depth) none = record { processes = none.processes;
 none_after : (context : ContextValue) (item : ScriptLine) → is_declared_twice context item ≡ false → NoneTwice context → NoneTwice (context_after context item)
 none_after context (Budget events) once none = record { processes = none.processes; threads = none.threads; procedures = none.procedures }
 none_after context (Process name limit) once none = record { processes = distinct_more context.processes name none.processes once; threads = none.threads; procedures = refl }
+none_after context (Child name parent) once none = record { processes = distinct_more context.processes name none.processes once; threads = none.threads; procedures = refl }
 none_after context (Spare name) once none = record { processes = none.processes; threads = distinct_more context.threads name none.threads once; procedures = none.procedures }
 none_after context (Thread name) once none = record { processes = none.processes; threads = distinct_more context.threads name none.threads once; procedures = none.procedures }
 none_after context (Procedure name) once none = record { processes = none.processes; threads = none.threads; procedures = distinct_more context.procedures name none.procedures once }
@@ -105,6 +107,14 @@ none_line context (Some depth) items others = record { processes = others.proces
 none_more : (context : ContextValue) (item : ScriptLine) (items : List ScriptLine) → NoneTwice context → NoneAgain (context_after context item) items → NoneAgain context (item ∷ items)
 none_more context (Budget events) items none others = record { processes = others.processes; threads = others.threads; procedures = others.procedures }
 none_more context (Process name limit) items none others =
+    record {
+      processes = rw (← append_assoc context.processes (name ∷ []) (process_names items)) others.processes;
+      threads = λ process. others.threads (process + 1);
+      procedures =
+          distinct_append is_same_procedure (map (qualified_name (length context.processes)) context.procedures) (procedure_names (length context.processes + 1) items)
+          (distinct_procedures (length context.processes) context.procedures none.procedures) (rw (← length-append context.processes (name ∷ [])) others.procedures) (all_earlier (length context.processes) context.procedures items);
+    }
+none_more context (Child name parent) items none others =
     record {
       processes = rw (← append_assoc context.processes (name ∷ []) (process_names items)) others.processes;
       threads = λ process. others.threads (process + 1);

@@ -14,10 +14,12 @@ pub mod ItemFound
 pub mod LinesFound
 pub mod SpelledItems
 pub mod NamesInWords
+pub mod ChildLimits
 pub mod TablesOfItems
 pub mod TextFound
 pub mod NumberedUses
 pub mod DistinctItems
+pub mod ParentsOfItems
 pub mod ItemAgain
 pub mod TextOnly
 pub mod TextDecided
@@ -26,6 +28,7 @@ mod CanonicalItems
 mod CanonicalScript
 mod CanonicalStands
 mod CanonicalLines
+pub mod Versions
 mod CanonicalSpelled
 pub mod PrintSteps
 pub mod ScriptRead

@@ -8,12 +8,11 @@ use Rattle.script_text.specs.Words.{has_name}
 use Rattle.script_lang.specs.Types.{Keyword, Line, Reason}
 use Rattle.script_line.specs.declared.keyword.Keyword.TheVariants as keyword
 use Rattle.script_line.specs.declared.line.Line.TheVariants.{Attach, Detach, Open, Await}
-use Rattle.line_reader.specs.Words.{Reader, Rest, attach_line, await_line, create_line, detach_line, fd_from_word, interrupt_line, kill_line, line_with, name, name_from_word, next_word, open_line, path, path_id, pure, rest_of, value_at_end, ◌>>=◌}
-use Rattle.script_line.specs.Words.{HasPaths, SpellsLine, Tables, keyword_of, keyword_word, path_number, words_after_first}
+use Rattle.line_reader.specs.Words.{Reader, Rest, attach_line, await_line, create_line, detach_line, fd_from_word, fork_line, interrupt_line, kill_line, line_with, name, name_from_word, next_word, open_line, path, path_id, pure, rest_of, value_at_end, ◌>>=◌}
+use Rattle.script_line.specs.Words.{HasPaths, SpellsLine, Tables, keyword_word, path_number, words_after_first}
 use Rattle.line_laws.proofs.Given.{in_turn, no_answer, same_value, same_rest, name_given, ended_given}
-use Rattle.line_laws.proofs.KeywordWords.{keyword-again}
+use Rattle.line_laws.proofs.KeywordWords.{keyword-same}
 use Rattle.line_laws.proofs.LineFound.{line-found}
-use Rattle.script_line.proofs.Numbering.{same_some}
 use Rattle.line_reader.proofs.SkippedWords.{at_words, moved, SkipsWords, skips-name_from_word, skips-fd_from_word}
 use Rattle.script_lang.specs.TextTables.{path_of_words}
 use Rattle.script_lang.proofs.FirstUses.{place_within}
@@ -133,7 +132,7 @@ takes_path keyword.Await = true
 takes_path keyword = false
 
 same_reading : (tables : Tables) (paths : List (List ℕ)) (of : ℕ) (keyword : Keyword) (rest : Rest) → takes_path keyword ≡ false → line_with tables of keyword rest ≡ line_with (with_paths tables paths) of keyword rest
-unfolding create_line interrupt_line kill_line
+unfolding create_line interrupt_line kill_line fork_line
 same_reading tables paths of keyword.Attach rest none = absurd (false≢true (sym none))
 same_reading tables paths of keyword.Detach rest none = absurd (false≢true (sym none))
 same_reading tables paths of keyword.Open rest none = absurd (false≢true (sym none))
@@ -150,9 +149,7 @@ more_than (suc n) = let h = more_than n in omega arith
 
 other_keyword : (keyword : Keyword) (of : Keyword) → takes_path keyword ≡ false → takes_path of ≡ true → keyword_word keyword ≡ keyword_word of → ⊥
 other_keyword keyword of none some same =
-    let again = sym (keyword-again 1 keyword) ∙ ap (keyword_of 1) same ∙ keyword-again 1 of in
-    let is : keyword ≡ of = same_some again in
-    false≢true (sym none ∙ ap takes_path is ∙ some)
+    false≢true (sym none ∙ ap takes_path (keyword-same keyword of same) ∙ some)
 
 path_spells : (tables : Tables) (of : ℕ) (keyword : Keyword) (words : List (List ℕ)) (line : Line) (new : Rest) (n : ℕ) → takes_path keyword ≡ false → line_with tables of keyword (rest_of words) ≡ Ok (line, new) → new.known ≡ true
     → HasPaths (with_paths tables (so_many n)) line → SpellsLine (with_paths tables (so_many n)) of line (keyword_word keyword ∷ words)

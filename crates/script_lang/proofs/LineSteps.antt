@@ -31,13 +31,13 @@ unknown_more (Some m) n known others = refl
 unknown_more None n true others = refl
 unknown_more None n false others = refl
 
-finished_more : (tables : Tables) (draft : Draft) (context : ContextValue) (unknown : Option ℕ) (n : ℕ) (found : ScriptLineRead) (others : Result ScriptLinesRead Bad)
+finished_more : (version : ℕ) (tables : Tables) (draft : Draft) (context : ContextValue) (unknown : Option ℕ) (n : ℕ) (found : ScriptLineRead) (others : Result ScriptLinesRead Bad)
     → Agrees draft context → is_of_place context.place found.item ≡ true
-    → result_of_draft tables draft context.depth unknown (with_item n found others)
-    ≡ result_of_draft tables (draft_after draft context.depth found.item) (context_after context found.item).depth (first_unknown_at unknown n found.known) others
-finished_more tables draft context unknown n found (Err fault) h p = refl
-finished_more tables draft context unknown n found (Ok others) h p =
-    rw (draft_more tables.paths draft context found.item others.items h p, unknown_more unknown n found.known others.unknown) refl
+    → result_of_draft version tables draft context.depth unknown (with_item n found others)
+    ≡ result_of_draft version tables (draft_after draft context.depth found.item) (context_after context found.item).depth (first_unknown_at unknown n found.known) others
+finished_more version tables draft context unknown n found (Err fault) h p = refl
+finished_more version tables draft context unknown n found (Ok others) h p =
+    rw (draft_more version tables.paths draft context found.item others.items h p, unknown_more unknown n found.known others.unknown) refl
 
 -- a line that is an item
 pub item_line_read : (version : ℕ) (tables : Tables) (draft : Draft) (context : ContextValue) (unknown : Option ℕ) (n : ℕ) (line : List ℕ) (lines : List (List ℕ)) (found : ScriptLineRead)
@@ -45,4 +45,4 @@ pub item_line_read : (version : ℕ) (tables : Tables) (draft : Draft) (context 
     → parse_result_from version tables draft context unknown n (line ∷ lines)
     ≡ parse_result_from version tables (draft_after draft context.depth found.item) (context_after context found.item) (first_unknown_at unknown n found.known) (n + 1) lines
 item_line_read version tables draft context unknown n line lines found e h p =
-    rw e (finished_more tables draft context unknown n found (lines_read version tables (n + 1) (context_after context found.item) lines) h p)
+    rw e (finished_more version tables draft context unknown n found (lines_read version tables (n + 1) (context_after context found.item) lines) h p)

@@ -1,8 +1,8 @@
 -- What lines are read as, they spell.
 use Rattle.std.proofs.Common.{◌≡◌, ℕ, ◌+◌, Bool, true, false, cond, not, ◌==◌, List, [], ◌∷◌, ◌++◌, length, Option, Some, None, Result, Ok, Err, refl, sym, ap, ◌∙◌, subst, inl, inr}
-use Rattle.std.specs.Prelude.{map, filter_map, flat_map}
+use Rattle.std.specs.Prelude.{map, filter_map, flat_map, nat_le}
 use Rattle.std.specs.List.{list_all, cons_option, onto_first}
-use Rattle.std.proofs.lemmas.Bool.{false≢true, and_parts}
+use Rattle.std.proofs.lemmas.Bool.{false≢true, and_from, and_parts}
 use Rattle.script_text.specs.Types.{PathId}
 use Rattle.script_text.specs.Words.{has_name, words_from, words_of, words_with}
 use Rattle.script_text.specs.declared.mode.Mode.TheVariants.{Between, Word as InWord, Text}
@@ -16,7 +16,7 @@ use Rattle.script_lang.specs.declared.item.ScriptLineRead.{ScriptLineRead}
 use Rattle.script_lang.specs.Context.{ContextValue, is_closed, is_declared_twice, is_over_limit, is_misplaced, place_fault, context_after}
 use Rattle.script_lang.specs.Items.{item_in_context}
 use Rattle.script_lang.specs.Parsing.{ScriptLinesRead, is_skipped, is_printable_line, item_found, spelling_with, words_spelling, line_spelling, result_at_place, result_unless, line_read, items_read, first_unknown, with_item, line_then, result_at_end, lines_read}
-use Rattle.script_lang.specs.Spelled.{is_of_place, MayStand, SpellsScriptLines, path_uses}
+use Rattle.script_lang.specs.Spelled.{is_of_place, is_of_version, MayStand, SpellsScriptLines, path_uses}
 use Rattle.script_lang.specs.TextTables.{path_of_words}
 use Rattle.script_lang.proofs.ItemFound.{SpelledItem, MaySpell, item_spells}
 use Rattle.script_lang.proofs.LinePaths.{is_used}
@@ -40,40 +40,40 @@ some_word (b ∷ bs) read none = word_if (b == 32) (b == 34) b bs (some_word bs)
 
 -- a line by its spelling
 
-record IsLine (tables : Tables) (of : ℕ) (line : List ℕ) (item : ScriptLine) : Type 0 where
+record IsLine (version : ℕ) (tables : Tables) (of : ℕ) (line : List ℕ) (item : ScriptLine) : Type 0 where
   printable : is_printable_line line ≡ true
   read : is_skipped line ≡ false
-  is : SpelledItem tables of (words_of line) item
+  is : SpelledItem version tables of (words_of line) item
 
 record IsNoLine (line : List ℕ) : Type 0 where
   printable : is_printable_line line ≡ true
   skipped : is_skipped line ≡ true
 
-answer_found : (tables : Tables) (of : ℕ) (word : List ℕ) (words : List (List ℕ)) (read : Reader ScriptLine) (answer : Result (ScriptLine × Rest) Reason) (found : ScriptLineRead) → MaySpell tables of word (Some read) → is_used tables (path_of_words (word ∷ words)) ≡ true
-    → read (rest_of words) ≡ answer → item_found answer ≡ Ok (Some found) → found.known ≡ true → SpelledItem tables of (word ∷ words) found.item
-answer_found tables of word words read (Err reason) found spells used is e known = cc
-answer_found tables of word words read (Ok given) found spells used is e known =
+answer_found : (version : ℕ) (tables : Tables) (of : ℕ) (word : List ℕ) (words : List (List ℕ)) (read : Reader ScriptLine) (answer : Result (ScriptLine × Rest) Reason) (found : ScriptLineRead) → MaySpell version tables of word (Some read) → is_used tables (path_of_words (word ∷ words)) ≡ true
+    → read (rest_of words) ≡ answer → item_found answer ≡ Ok (Some found) → found.known ≡ true → SpelledItem version tables of (word ∷ words) found.item
+answer_found version tables of word words read (Err reason) found spells used is e known = cc
+answer_found version tables of word words read (Ok given) found spells used is e known =
     let same = given_is given found e in
-    subst (SpelledItem tables of (word ∷ words)) (ap (λ f. f.item) same) (spells.found read words given.0 given.1 refl used is (ap (λ f. f.known) same ∙ known))
+    subst (SpelledItem version tables of (word ∷ words)) (ap (λ f. f.item) same) (spells.found read words given.0 given.1 refl used is (ap (λ f. f.known) same ∙ known))
 
-given_found : (tables : Tables) (of : ℕ) (word : List ℕ) (words : List (List ℕ)) (given : Option (Reader ScriptLine)) (found : ScriptLineRead) → MaySpell tables of word given → is_used tables (path_of_words (word ∷ words)) ≡ true → spelling_with words given ≡ Ok (Some found) → found.known ≡ true → SpelledItem tables of (word ∷ words) found.item
-given_found tables of word words None found spells used e known = cc
-given_found tables of word words (Some read) found spells used e known = answer_found tables of word words read (read (rest_of words)) found spells used refl e known
+given_found : (version : ℕ) (tables : Tables) (of : ℕ) (word : List ℕ) (words : List (List ℕ)) (given : Option (Reader ScriptLine)) (found : ScriptLineRead) → MaySpell version tables of word given → is_used tables (path_of_words (word ∷ words)) ≡ true → spelling_with words given ≡ Ok (Some found) → found.known ≡ true → SpelledItem version tables of (word ∷ words) found.item
+given_found version tables of word words None found spells used e known = cc
+given_found version tables of word words (Some read) found spells used e known = answer_found version tables of word words read (read (rest_of words)) found spells used refl e known
 
-words_found : (version : ℕ) (tables : Tables) (context : ContextValue) (words : List (List ℕ)) (found : ScriptLineRead) → is_used tables (path_of_words words) ≡ true → words_spelling version tables context words ≡ Ok (Some found) → found.known ≡ true → SpelledItem tables (length context.processes) words found.item
-words_found version tables context [] found used e known = cc
-words_found version tables context (word ∷ words) found used e known =
-    given_found tables (length context.processes) word words (item_in_context version tables context word) found (item_spells context.place version tables (length context.processes) word) used e known
+words_found : (version : ℕ) (tables : Tables) (context : ContextValue) (words : List (List ℕ)) (found : ScriptLineRead) → nat_le 1 version ≡ true → is_used tables (path_of_words words) ≡ true → words_spelling version tables context words ≡ Ok (Some found) → found.known ≡ true → SpelledItem version tables (length context.processes) words found.item
+words_found version tables context [] found some used e known = cc
+words_found version tables context (word ∷ words) found some used e known =
+    given_found version tables (length context.processes) word words (item_in_context version tables context word) found (item_spells context.place version tables (length context.processes) word some) used e known
 
-spelled_if : (printable skipped : Bool) (version : ℕ) (tables : Tables) (context : ContextValue) (line : List ℕ) (found : ScriptLineRead) → is_printable_line line ≡ printable → is_skipped line ≡ skipped → is_used tables (path_of_words (words_of line)) ≡ true
-    → cond (not printable) (Err Byte) (cond skipped (Ok None) (words_spelling version tables context (words_of line))) ≡ Ok (Some found) → found.known ≡ true → IsLine tables (length context.processes) line found.item
-spelled_if false skipped version tables context line found p s used e known = cc
-spelled_if true true version tables context line found p s used e known = cc
-spelled_if true false version tables context line found p s used e known = record { printable = p; read = s; is = words_found version tables context (words_of line) found used e known }
+spelled_if : (printable skipped : Bool) (version : ℕ) (tables : Tables) (context : ContextValue) (line : List ℕ) (found : ScriptLineRead) → nat_le 1 version ≡ true → is_printable_line line ≡ printable → is_skipped line ≡ skipped → is_used tables (path_of_words (words_of line)) ≡ true
+    → cond (not printable) (Err Byte) (cond skipped (Ok None) (words_spelling version tables context (words_of line))) ≡ Ok (Some found) → found.known ≡ true → IsLine version tables (length context.processes) line found.item
+spelled_if false skipped version tables context line found some p s used e known = cc
+spelled_if true true version tables context line found some p s used e known = cc
+spelled_if true false version tables context line found some p s used e known = record { printable = p; read = s; is = words_found version tables context (words_of line) found some used e known }
 
-item_line : (version : ℕ) (tables : Tables) (context : ContextValue) (line : List ℕ) (found : ScriptLineRead) → is_used tables (path_of_words (words_of line)) ≡ true → line_spelling version tables context line ≡ Ok (Some found) → found.known ≡ true → IsLine tables (length context.processes) line found.item
+item_line : (version : ℕ) (tables : Tables) (context : ContextValue) (line : List ℕ) (found : ScriptLineRead) → nat_le 1 version ≡ true → is_used tables (path_of_words (words_of line)) ≡ true → line_spelling version tables context line ≡ Ok (Some found) → found.known ≡ true → IsLine version tables (length context.processes) line found.item
 unfolding line_spelling
-item_line version tables context line found used e known = spelled_if (is_printable_line line) (is_skipped line) version tables context line found refl refl used e known
+item_line version tables context line found some used e known = spelled_if (is_printable_line line) (is_skipped line) version tables context line found some refl refl used e known
 
 answer_some : (words : List (List ℕ)) (answer : Result (ScriptLine × Rest) Reason) → item_found answer ≡ Ok None → ⊥
 answer_some words (Err reason) e = cc
@@ -137,10 +137,11 @@ may_stand context item place e = may_if (is_declared_twice context item) (is_ove
 
 -- lines
 
--- these lines are these items, and the items' paths are in the table
-pub record AreItems (tables : Tables) (context : ContextValue) (lines : List (List ℕ)) (items : List ScriptLine) : Type 0 where
+-- these lines are these items, the items' paths are in the table, and they are of this version
+pub record AreItems (version : ℕ) (tables : Tables) (context : ContextValue) (lines : List (List ℕ)) (items : List ScriptLine) : Type 0 where
   pub spells : SpellsScriptLines tables context lines items
   pub paths : ArePaths tables (flat_map path_uses items)
+  pub of_version : list_all (is_of_version version) items ≡ true
 
 are_paths-append : (tables : Tables) (paths more : List PathId) → ArePaths tables paths → ArePaths tables more → ArePaths tables (paths ++ more)
 are_paths-append tables [] more known others = others
@@ -154,16 +155,17 @@ used_parts : (tables : Tables) (used : Option (List ℕ)) (others : List (List �
 used_parts tables None others all = (refl, all)
 used_parts tables (Some used) others all = and_parts (has_name tables.paths used) (list_all (has_name tables.paths) others) all
 
-skipped_too : (tables : Tables) (context : ContextValue) (line : List ℕ) (lines : List (List ℕ)) (items : List ScriptLine) → IsNoLine line → AreItems tables context lines items → AreItems tables context (line ∷ lines) items
-skipped_too tables context line lines [] none later = record { spells = (none.printable, record { skipped = none.skipped; others = later.spells }); paths = later.paths }
-skipped_too tables context line lines (item ∷ items) none later = record { spells = (none.printable, inl (record { skipped = none.skipped; others = later.spells })); paths = later.paths }
+skipped_too : (version : ℕ) (tables : Tables) (context : ContextValue) (line : List ℕ) (lines : List (List ℕ)) (items : List ScriptLine) → IsNoLine line → AreItems version tables context lines items → AreItems version tables context (line ∷ lines) items
+skipped_too version tables context line lines [] none later = record { spells = (none.printable, record { skipped = none.skipped; others = later.spells }); paths = later.paths; of_version = later.of_version }
+skipped_too version tables context line lines (item ∷ items) none later = record { spells = (none.printable, inl (record { skipped = none.skipped; others = later.spells })); paths = later.paths; of_version = later.of_version }
 
-item_too : (tables : Tables) (context : ContextValue) (line : List ℕ) (lines : List (List ℕ)) (item : ScriptLine) (items : List ScriptLine) → IsLine tables (length context.processes) line item → MayStand context item → AreItems tables (context_after context item) lines items
-    → AreItems tables context (line ∷ lines) (item ∷ items)
-item_too tables context line lines item items is may later =
+item_too : (version : ℕ) (tables : Tables) (context : ContextValue) (line : List ℕ) (lines : List (List ℕ)) (item : ScriptLine) (items : List ScriptLine) → IsLine version tables (length context.processes) line item → MayStand context item → AreItems version tables (context_after context item) lines items
+    → AreItems version tables context (line ∷ lines) (item ∷ items)
+item_too version tables context line lines item items is may later =
     record {
       spells = (is.printable, inr (record { read = is.read; spells = is.is.spells; may_stand = may; others = later.spells }));
       paths = are_paths-append tables (path_uses item) (flat_map path_uses items) is.is.paths later.paths;
+      of_version = and_from _ _ is.is.of_version later.of_version;
     }
 
 record WithItem (given : ScriptLineRead) (answer : Result ScriptLinesRead Bad) (found : ScriptLinesRead) : Type 0 where
@@ -184,13 +186,13 @@ with_item-found n given (Ok others) found e known =
     let all = known_if given.known n others.unknown (ap (λ f. f.unknown) same ∙ known) in
     record { others = others; is = refl; items = sym (ap (λ f. f.items) same); known = all.0; all_known = all.1 }
 
-line_found : (version : ℕ) (tables : Tables) (context : ContextValue) (line : List ℕ) (lines : List (List ℕ)) (found : ScriptLineRead) (items : List ScriptLine) → line_read version tables context line ≡ Ok (Some found) → found.known ≡ true → is_used tables (path_of_words (words_of line)) ≡ true
-    → AreItems tables (context_after context found.item) lines items → AreItems tables context (line ∷ lines) (found.item ∷ items)
+line_found : (version : ℕ) (tables : Tables) (context : ContextValue) (line : List ℕ) (lines : List (List ℕ)) (found : ScriptLineRead) (items : List ScriptLine) → nat_le 1 version ≡ true → line_read version tables context line ≡ Ok (Some found) → found.known ≡ true → is_used tables (path_of_words (words_of line)) ≡ true
+    → AreItems version tables (context_after context found.item) lines items → AreItems version tables context (line ∷ lines) (found.item ∷ items)
 unfolding line_read
-line_found version tables context line lines found items e known used later =
+line_found version tables context line lines found items some e known used later =
     let place = placed_found context (line_spelling version tables context line) found e in
-    item_too tables context line lines found.item items
-    (item_line version tables context line found used place.is known)
+    item_too version tables context line lines found.item items
+    (item_line version tables context line found some used place.is known)
     (may_stand context found.item (of_place version tables context line found place.is) place.no_fault)
     later
 
@@ -198,27 +200,28 @@ line_skipped : (version : ℕ) (tables : Tables) (context : ContextValue) (line 
 unfolding line_read
 line_skipped version tables context line e = no_line version tables context line (placed_none context (line_spelling version tables context line) e)
 
-line_step : (version : ℕ) (tables : Tables) (n : ℕ) (context : ContextValue) (line : List ℕ) (lines : List (List ℕ)) (answer : Result (Option ScriptLineRead) Reason) (found : ScriptLinesRead) → line_read version tables context line ≡ answer
+line_step : (version : ℕ) (tables : Tables) (n : ℕ) (context : ContextValue) (line : List ℕ) (lines : List (List ℕ)) (answer : Result (Option ScriptLineRead) Reason) (found : ScriptLinesRead) → nat_le 1 version ≡ true → line_read version tables context line ≡ answer
     → line_then n context (λ after. lines_read version tables (n + 1) after lines) answer ≡ Ok found → found.unknown ≡ None → is_used tables (path_of_words (words_of line)) ≡ true
-    → ((after : ContextValue) (others : ScriptLinesRead) → lines_read version tables (n + 1) after lines ≡ Ok others → others.unknown ≡ None → AreItems tables after lines others.items)
-    → AreItems tables context (line ∷ lines) found.items
-line_step version tables n context line lines (Err reason) found is e known used later = cc
-line_step version tables n context line lines (Ok None) found is e known used later =
-    skipped_too tables context line lines found.items (line_skipped version tables context line is) (later context found e known)
-line_step version tables n context line lines (Ok (Some given)) found is e known used later =
+    → ((after : ContextValue) (others : ScriptLinesRead) → lines_read version tables (n + 1) after lines ≡ Ok others → others.unknown ≡ None → AreItems version tables after lines others.items)
+    → AreItems version tables context (line ∷ lines) found.items
+line_step version tables n context line lines (Err reason) found some is e known used later = cc
+line_step version tables n context line lines (Ok None) found some is e known used later =
+    skipped_too version tables context line lines found.items (line_skipped version tables context line is) (later context found e known)
+line_step version tables n context line lines (Ok (Some given)) found some is e known used later =
     let one = with_item-found n given (lines_read version tables (n + 1) (context_after context given.item) lines) found e known in
-    subst (AreItems tables context (line ∷ lines)) (sym one.items) (
-    line_found version tables context line lines given one.others.items is one.known used (later (context_after context given.item) one.others one.is one.all_known))
+    subst (AreItems version tables context (line ∷ lines)) (sym one.items) (
+    line_found version tables context line lines given one.others.items some is one.known used (later (context_after context given.item) one.others one.is one.all_known))
 
-end_if : (closed : Bool) (n : ℕ) (tables : Tables) (context : ContextValue) (found : ScriptLinesRead) → is_closed context ≡ closed → result_at_end n closed ≡ Ok found → AreItems tables context [] found.items
-end_if false n tables context found is e = cc
-end_if true n tables context found is e =
+end_if : (closed : Bool) (n version : ℕ) (tables : Tables) (context : ContextValue) (found : ScriptLinesRead) → is_closed context ≡ closed → result_at_end n closed ≡ Ok found → AreItems version tables context [] found.items
+end_if false n version tables context found is e = cc
+end_if true n version tables context found is e =
     let same : items_read [] None ≡ found = cc in
-    subst (AreItems tables context []) (ap (λ f. f.items) same) (record { spells = is; paths = tt })
+    subst (AreItems version tables context []) (ap (λ f. f.items) same) (record { spells = is; paths = tt; of_version = refl })
 
-pub lines_found : (version : ℕ) (tables : Tables) (n : ℕ) (context : ContextValue) (lines : List (List ℕ)) (found : ScriptLinesRead) → lines_read version tables n context lines ≡ Ok found → found.unknown ≡ None → are_used tables lines ≡ true → AreItems tables context lines found.items
-lines_found version tables n context [] found e known used = end_if (is_closed context) n tables context found refl e
-lines_found version tables n context (line ∷ lines) found e known used =
+pub lines_found : (version : ℕ) (tables : Tables) (n : ℕ) (context : ContextValue) (lines : List (List ℕ)) (found : ScriptLinesRead) → nat_le 1 version ≡ true → lines_read version tables n context lines ≡ Ok found → found.unknown ≡ None → are_used tables lines ≡ true
+    → AreItems version tables context lines found.items
+lines_found version tables n context [] found some e known used = end_if (is_closed context) n version tables context found refl e
+lines_found version tables n context (line ∷ lines) found some e known used =
     let parts = used_parts tables (path_of_words (words_of line)) (filter_map path_of_words (map words_of lines)) used in
-    line_step version tables n context line lines (line_read version tables context line) found refl e known parts.0 (λ after others is all.
-    lines_found version tables (n + 1) after lines others is all parts.1)
+    line_step version tables n context line lines (line_read version tables context line) found some refl e known parts.0 (λ after others is all.
+    lines_found version tables (n + 1) after lines others some is all parts.1)

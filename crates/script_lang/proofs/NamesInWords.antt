@@ -10,7 +10,7 @@ use Rattle.script_lang.specs.Types.{Line}
 use Rattle.script_line.specs.declared.line.Line.TheVariants.{Attach, Detach, Open, Await}
 use Rattle.script_line.specs.Words.{SpellsLine, Tables, keyword_of_line, keyword_word, path_word, paths_of}
 use Rattle.script_lang.specs.declared.item.ScriptLine.{ScriptLine}
-use Rattle.script_lang.specs.declared.item.ScriptLine.TheVariants.{Budget, Process, Spare, Thread, Procedure, Do, Schedule}
+use Rattle.script_lang.specs.declared.item.ScriptLine.TheVariants.{Budget, Process, Child, Spare, Thread, Procedure, Do, Schedule}
 use Rattle.script_lang.specs.Parsing.{is_skipped}
 use Rattle.script_lang.specs.Spelled.{SpellsScriptLine, path_uses}
 use Rattle.script_lang.specs.TextTables.{second_of, third_of, process_of_words, thread_of_words, procedure_of_words, path_of_words}
@@ -36,7 +36,7 @@ no_third keyword word (second ∷ third ∷ words) other = rw other refl
 -- the first words of lines that declare something, and of those with a path
 
 abbrev declares : List ℕ → Bool
-declares word = bytes_eq word (codes "process") || (bytes_eq word (codes "spare") || (bytes_eq word (codes "thread") || bytes_eq word (codes "proc")))
+declares word = bytes_eq word (codes "process") || (bytes_eq word (codes "child") || (bytes_eq word (codes "spare") || (bytes_eq word (codes "thread") || bytes_eq word (codes "proc"))))
 
 abbrev has_path : List ℕ → Bool
 has_path word = bytes_eq word (codes "attach") || (bytes_eq word (codes "detach") || (bytes_eq word (codes "open") || bytes_eq word (codes "await")))
@@ -51,10 +51,11 @@ no_path word words pathless =
 uses_path : (word : List ℕ) (words : List (List ℕ)) (path : Option (List ℕ)) → declares word ≡ false → path_of_words (word ∷ words) ≡ path → NamesIn (word ∷ words) None None None path
 uses_path word words path nothing is =
     let process = or_parts (bytes_eq word (codes "process")) _ nothing in
-    let spare = or_parts (bytes_eq word (codes "spare")) _ process.1 in
+    let child = or_parts (bytes_eq word (codes "child")) _ process.1 in
+    let spare = or_parts (bytes_eq word (codes "spare")) _ child.1 in
     let thread = or_parts (bytes_eq word (codes "thread")) (bytes_eq word (codes "proc")) spare.1 in
     record {
-      process = no_second (codes "process") word words process.0;
+      process = rw (no_second (codes "process") word words process.0, no_second (codes "child") word words child.0) refl;
       thread = rw (no_second (codes "spare") word words spare.0, no_second (codes "thread") word words thread.0) refl;
       procedure = no_second (codes "proc") word words thread.1;
       path = is;
@@ -142,6 +143,7 @@ body_names tables of line (word ∷ words) spells =
 
 abbrev pub process_named : ScriptLine → Option (List ℕ)
 process_named (Process name limit) = Some name
+process_named (Child name parent) = Some name
 process_named item = None
 
 abbrev pub thread_named : ScriptLine → Option (List ℕ)
@@ -161,6 +163,10 @@ item_names tables of (Process name limit) [] spells = absurd spells
 item_names tables of (Process name limit) (word ∷ []) spells = absurd spells.1
 item_names tables of (Process name limit) (word ∷ named ∷ words) spells =
     rw (spells.0, spells.1.0.1) (record { process = refl; thread = refl; procedure = refl; path = no_path (codes "process") (name ∷ words) refl })
+item_names tables of (Child name parent) [] spells = absurd spells
+item_names tables of (Child name parent) (word ∷ []) spells = absurd spells.1
+item_names tables of (Child name parent) (word ∷ named ∷ words) spells =
+    rw (spells.0, spells.1.0.1) (record { process = refl; thread = refl; procedure = refl; path = no_path (codes "child") (name ∷ words) refl })
 item_names tables of (Spare name) [] spells = absurd spells
 item_names tables of (Spare name) (word ∷ []) spells = absurd spells.1
 item_names tables of (Spare name) (word ∷ named ∷ words) spells =

@@ -1,18 +1,19 @@
 -- A line that is read is one of its place.
 use Rattle.std.proofs.Common.{◌≡◌, ℕ, Bool, true, false, cond, not, List, [], ◌∷◌, Option, Some, None, Result, Ok, Err, option_map, length, refl, ap, subst}
 use Rattle.std.specs.Prelude.{codes}
+use Rattle.script_text.specs.Types.{Pid}
 use Rattle.script_text.specs.Words.{words_of}
 use Rattle.script_lang.specs.Types.{Keyword, Line, Reason}
 use Rattle.script_line.specs.declared.reason.Reason.TheVariants.{Byte}
 use Rattle.script_line.specs.Words.{Tables, keyword_of}
 use Rattle.line_reader.specs.Words.{Reader, Rest, is_no_stop, items_to, line_with, name, nonempty_list, number, optional_word, pure, rest_of, then_read, thread_from_word, value_at_end, value_at_end_of, ◌>>=◌}
 use Rattle.script_lang.specs.declared.item.ScriptLine.{ScriptLine}
-use Rattle.script_lang.specs.declared.item.ScriptLine.TheVariants.{Budget, Process, Spare, Thread, Procedure, Do, Schedule}
+use Rattle.script_lang.specs.declared.item.ScriptLine.TheVariants.{Budget, Process, Child, Spare, Thread, Procedure, Do, Schedule}
 use Rattle.script_lang.specs.declared.item.ScriptLineRead.{ScriptLineRead}
 use Rattle.script_lang.specs.declared.item.ScriptPlace.{ScriptPlace}
 use Rattle.script_lang.specs.declared.item.ScriptPlace.TheVariants.{Start, Processes, Members, Body, Schedule as Scheduled}
 use Rattle.script_lang.specs.Context.{ContextValue}
-use Rattle.script_lang.specs.Items.{budget_item, process_item, spare_item, thread_item, procedure_item, schedule_item, limit_after, line_item, is_keyword, item_in_schedule, item_in_processes, item_at_place, item_in_context}
+use Rattle.script_lang.specs.Items.{budget_item, process_item, child_item, spare_item, thread_item, procedure_item, schedule_item, limit_after, parent_after, line_item, is_keyword, is_child_keyword, item_in_schedule, item_in_processes, item_at_place, item_in_context}
 use Rattle.script_lang.specs.Parsing.{item_read, item_found, spelling_with, words_spelling, line_spelling, is_printable_line, is_skipped}
 use Rattle.script_lang.specs.Spelled.{is_of_place}
 
@@ -53,6 +54,11 @@ unfolding process_item
 only-process test h =
     only-then test name _ (λ process. only-then test (optional_word (codes "limit")) _ (λ limited. only-then test (limit_after limited) _ (λ limit. only-value_at_end test (Process process limit) (h process limit))))
 
+only-child : (tables : Tables) (before : ℕ) (test : ScriptLine → Bool) → ((name : List ℕ) (parent : Pid) → test (Child name parent) ≡ true) → GivesOnly test (child_item tables before)
+unfolding child_item
+only-child tables before test h =
+    only-then test name _ (λ child. only-then test (optional_word (codes "of")) _ (λ named. only-then test (parent_after tables before named) _ (λ parent. only-value_at_end test (Child child parent) (h child parent))))
+
 only-spare : (test : ScriptLine → Bool) → ((name : List ℕ) → test (Spare name) ≡ true) → GivesOnly test spare_item
 unfolding spare_item
 only-spare test h = only-then test name _ (λ spare. only-value_at_end test (Spare spare) (h spare))
@@ -90,8 +96,11 @@ if-gives test false one other y n = n
 schedule-gives : (tables : Tables) (word : List ℕ) (test : ScriptLine → Bool) → ((threads : _) → test (Schedule threads) ≡ true) → MayGiveOnly test (item_in_schedule tables word)
 schedule-gives tables word test s = if-gives test (is_keyword word (codes "schedule")) _ _ (some-gives test _ (only-schedule tables test s)) (none-gives test)
 
-processes-gives : (tables : Tables) (word : List ℕ) (test : ScriptLine → Bool) → ((threads : _) → test (Schedule threads) ≡ true) → ((name : List ℕ) (limit : ℕ) → test (Process name limit) ≡ true) → MayGiveOnly test (item_in_processes tables word)
-processes-gives tables word test s p = if-gives test (is_keyword word (codes "process")) _ _ (some-gives test _ (only-process test p)) (schedule-gives tables word test s)
+processes-gives : (version : ℕ) (tables : Tables) (of : ℕ) (word : List ℕ) (test : ScriptLine → Bool) → ((threads : _) → test (Schedule threads) ≡ true) → ((name : List ℕ) (limit : ℕ) → test (Process name limit) ≡ true) → ((name : List ℕ) (parent : Pid) → test (Child name parent) ≡ true)
+    → MayGiveOnly test (item_in_processes version tables of word)
+processes-gives version tables of word test s p c =
+    if-gives test (is_keyword word (codes "process")) _ _ (some-gives test _ (only-process test p)) (
+    if-gives test (is_child_keyword version word) _ _ (some-gives test _ (only-child tables of test c)) (schedule-gives tables word test s))
 
 keyword-gives : (tables : Tables) (of : ℕ) (test : ScriptLine → Bool) → ((line : Line) → test (Do line) ≡ true) → (keyword : Option Keyword) → MayGiveOnly test (option_map (line_item tables of) keyword)
 keyword-gives tables of test h None = none-gives test
@@ -99,13 +108,13 @@ keyword-gives tables of test h (Some keyword) = some-gives test _ (only-line tab
 
 place-gives : (place : ScriptPlace) (version : ℕ) (tables : Tables) (of : ℕ) (word : List ℕ) → MayGiveOnly (is_of_place place) (item_at_place place version tables of word)
 place-gives Start version tables of word =
-    if-gives _ (is_keyword word (codes "budget")) _ _ (some-gives _ _ (only-budget _ (λ events. refl))) (processes-gives tables word _ (λ threads. refl) (λ name limit. refl))
-place-gives Processes version tables of word = processes-gives tables word _ (λ threads. refl) (λ name limit. refl)
+    if-gives _ (is_keyword word (codes "budget")) _ _ (some-gives _ _ (only-budget _ (λ events. refl))) (processes-gives version tables of word _ (λ threads. refl) (λ name limit. refl) (λ name parent. refl))
+place-gives Processes version tables of word = processes-gives version tables of word _ (λ threads. refl) (λ name limit. refl) (λ name parent. refl)
 place-gives Members version tables of word =
     if-gives _ (is_keyword word (codes "spare")) _ _ (some-gives _ _ (only-spare _ (λ name. refl))) (
     if-gives _ (is_keyword word (codes "thread")) _ _ (some-gives _ _ (only-thread _ (λ name. refl))) (
     if-gives _ (is_keyword word (codes "proc")) _ _ (some-gives _ _ (only-procedure _ (λ name. refl)))
-    (processes-gives tables word _ (λ threads. refl) (λ name limit. refl))))
+    (processes-gives version tables of word _ (λ threads. refl) (λ name limit. refl) (λ name parent. refl))))
 place-gives Body version tables of word = keyword-gives tables of _ (λ line. refl) (keyword_of version word)
 place-gives Scheduled version tables of word = schedule-gives tables word _ (λ threads. refl)
 

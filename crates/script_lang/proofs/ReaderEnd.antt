@@ -27,12 +27,12 @@ no_owner (OfProcedure name) Members closed h = absurd (false≢true (sym h))
 no_owner (OfProcedure name) Schedule closed h = absurd (false≢true (sym h))
 no_owner (OfProcedure name) Body closed h = absurd (false≢true closed)
 
-script_at_end : (paths : List (List ℕ)) (draft : Draft) (depth : ℕ) → draft.owner ≡ Nobody → script_with paths draft depth [] ≡ script_of_draft paths draft
-script_at_end paths draft depth e = rw e (simp append-nil)
+script_at_end : (version : ℕ) (paths : List (List ℕ)) (draft : Draft) (depth : ℕ) → draft.owner ≡ Nobody → script_with version paths draft depth [] ≡ script_of_draft version paths draft
+script_at_end version paths draft depth e = rw e (simp append-nil)
 
-pub closed_end : (reader : TextReader) → IsInStep reader → is_closed reader.context ≡ true → reader.unknown ≡ None → remaining_result reader [] ≡ Ok (script_of_draft reader.lines.tables.paths reader.draft)
+pub closed_end : (reader : TextReader) → IsInStep reader → is_closed reader.context ≡ true → reader.unknown ≡ None → remaining_result reader [] ≡ Ok (script_of_draft reader.lines.version reader.lines.tables.paths reader.draft)
 closed_end reader sound closed known =
-    rw (closed, known, script_at_end reader.lines.tables.paths reader.draft reader.context.depth (no_owner reader.draft.owner reader.context.place closed sound.in_body)) refl
+    rw (closed, known, script_at_end reader.lines.version reader.lines.tables.paths reader.draft reader.context.depth (no_owner reader.draft.owner reader.context.place closed sound.in_body)) refl
 
 pub unknown_end : (reader : TextReader) (n : ℕ) → is_closed reader.context ≡ true → reader.unknown ≡ Some n → remaining_result reader [] ≡ Err (bad_line n Unknown)
 unknown_end reader n closed known = rw (closed, known) refl

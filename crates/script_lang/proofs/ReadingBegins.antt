@@ -13,9 +13,9 @@ use Rattle.script_lang.specs.TextReaderContracts.{remaining_result, result_of_dr
 use Rattle.script_lang.specs.TextTables.{tables_of_lines}
 use Rattle.script_lang.specs.Value.{ScriptValue}
 
-begun : (tables : Tables) (found : Result ScriptLinesRead Bad) → script_read tables found ≡ result_of_draft tables empty_draft 0 None found
-begun tables (Err bad) = refl
-begun tables (Ok found) = refl
+begun : (version : ℕ) (tables : Tables) (found : Result ScriptLinesRead Bad) → script_read version tables found ≡ result_of_draft version tables empty_draft 0 None found
+begun version tables (Err bad) = refl
+begun version tables (Ok found) = refl
 
 -- a reader after the first line
 abbrev pub first_reader : LineReader → TextReader
@@ -25,7 +25,7 @@ reading_begins : (text first rest : List ℕ) (version : ℕ) (lines : LineReade
     → lines.version ≡ version → lines.tables ≡ tables_of_lines (lines_of rest) → parse_result text ≡ remaining_result (first_reader lines) (lines_of rest)
 unfolding parse_result
 reading_begins text first rest version lines e printable named is_version is_tables =
-    rw (e, printable, named, ← is_version, ← is_tables) (begun lines.tables (lines_read lines.version lines.tables 2 first_context (lines_of rest)))
+    rw (e, printable, named, ← is_version, ← is_tables) (begun lines.version lines.tables (lines_read lines.version lines.tables 2 first_context (lines_of rest)))
 
 -- what is read of a text's lines is what the text is read as
 pub reading_goes_on : (text first rest : List ℕ) (version : ℕ) (lines : LineReader) (reader : TextReader) (answer : Result ScriptValue Bad)

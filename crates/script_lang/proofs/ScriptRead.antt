@@ -23,7 +23,7 @@ names_read : (text first : List ℕ) (lines : List (List ℕ)) (script : ScriptV
 unfolding spells
 names_read text first lines script e spelled =
     let at : SpellsLines (first ∷ lines) script = subst (λ (ls : List (List ℕ)). SpellsLines ls script) e spelled in
-    tables_again lines script at.1
+    tables_again lines script at.2
 
 pub script_is_script : (text first : List ℕ) (lines : List (List ℕ)) (script : ScriptValue) → lines_of text ≡ first ∷ lines → parse_result text ≡ Ok script → IsScript (tables_of_lines lines) script
 script_is_script text first lines script e read =

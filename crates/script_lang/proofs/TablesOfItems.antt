@@ -9,14 +9,15 @@ use Rattle.script_lang.specs.Types.{Line}
 use Rattle.script_line.specs.declared.line.Line.TheVariants.{Attach}
 use Rattle.script_line.specs.Words.{ProcedureName, Tables, depth_after, kind_of, path_word, paths_of}
 use Rattle.script_lang.specs.declared.item.ScriptLine.{ScriptLine}
-use Rattle.script_lang.specs.declared.item.ScriptLine.TheVariants.{Budget, Process, Spare, Thread, Procedure, Do, Schedule}
+use Rattle.script_lang.specs.declared.item.ScriptLine.TheVariants.{Budget, Process, Child, Spare, Thread, Procedure, Do, Schedule}
 use Rattle.script_lang.specs.declared.item.ScriptPlace.{ScriptPlace}
 use Rattle.script_lang.specs.declared.item.ScriptPlace.TheVariants.{Start, Processes, Members, Body, Schedule as Scheduled}
 use Rattle.script_lang.specs.Context.{ContextValue, first_context, is_over_limit, context_after, context_at_depth, context_with_variables}
-use Rattle.script_lang.specs.Scripts.{process_of_item, threads_from, procedures_from, name_of_procedure}
+use Rattle.script_lang.specs.Scripts.{process_of_item, with_limits, threads_from, procedures_from, name_of_procedure}
 use Rattle.script_lang.specs.Spelled.{SpellsScriptLines, MayStand, is_of_place, path_uses}
 use Rattle.script_lang.specs.TextTables.{process_of_words, thread_of_words, path_of_words, process_after, procedure_names_with, procedure_names_from as procedures_in, tables_of_lines}
 use Rattle.script_lang.proofs.NamesInWords.{NamesIn, names_skipped, process_named, thread_named, procedure_named, path_used, item_names}
+use Rattle.script_lang.proofs.ChildLimits.{kept-with_limits, name_kept}
 use Rattle.script_lang.proofs.SpelledItems.{along}
 
 -- the names that items declare, and the paths that they use
@@ -53,14 +54,17 @@ skipped_more tables line lines items names others =
 
 processes_more : (item : ScriptLine) (items : List ScriptLine) → cons_option (process_named item) (process_names items) ≡ process_names (item ∷ items)
 processes_more (Process name limit) items = refl
+processes_more (Child name parent) items = refl
 processes_more item items = refl
 
 threads_more : (process : ℕ) (item : ScriptLine) (items : List ScriptLine) → cons_option (thread_named item) (thread_names (process_after process (process_named item)) items) ≡ thread_names process (item ∷ items)
 threads_more process (Process name limit) items = refl
+threads_more process (Child name parent) items = refl
 threads_more process item items = refl
 
 procedures_more : (process : ℕ) (item : ScriptLine) (items : List ScriptLine) → procedure_names_with process (procedure_named item) (procedure_names (process_after process (process_named item)) items) ≡ procedure_names process (item ∷ items)
 procedures_more process (Process name limit) items = refl
+procedures_more process (Child name parent) items = refl
 procedures_more process item items = refl
 
 -- a line has one path at most
@@ -111,6 +115,7 @@ one_more names name room = let below = leb-false 64 (length names) room in simp 
 few_after : (context : ContextValue) (item : ScriptLine) → is_over_limit context item ≡ false → AreFew context → AreFew (context_after context item)
 few_after context (Budget events) room few = record { processes = few.processes; threads = few.threads; procedures = few.procedures }
 few_after context (Process name limit) room few = record { processes = one_more context.processes name room; threads = few.threads; procedures = omega arith }
+few_after context (Child name parent) room few = record { processes = one_more context.processes name room; threads = few.threads; procedures = omega arith }
 few_after context (Spare name) room few = record { processes = few.processes; threads = one_more context.threads name room; procedures = few.procedures }
 few_after context (Thread name) room few = record { processes = few.processes; threads = one_more context.threads name room; procedures = few.procedures }
 few_after context (Procedure name) room few = record { processes = few.processes; threads = few.threads; procedures = one_more context.procedures name room }
@@ -170,6 +175,10 @@ few_more context (Process name limit) items few stands others =
     let most = open_most context.place (length context.procedures) few.procedures in
     let processes = simp length-append at others.processes in
     record { processes = omega (arith, processes); threads = λ process. others.threads (process + 1); procedures = λ process. let next = others.procedures (process + 1) in omega (arith, most, next) }
+few_more context (Child name parent) items few stands others =
+    let most = open_most context.place (length context.procedures) few.procedures in
+    let processes = simp length-append at others.processes in
+    record { processes = omega (arith, processes); threads = λ process. others.threads (process + 1); procedures = λ process. let next = others.procedures (process + 1) in omega (arith, most, next) }
 few_more context (Spare name) items few stands others =
     record { processes = others.processes; threads = λ process. let next = simp length-append at (others.threads process) in omega (arith, next); procedures = others.procedures }
 few_more context (Thread name) items few stands others =
@@ -197,12 +206,12 @@ few_follow tables =
 
 -- what lines declare and use is what their items do
 pub record NamesAgree (tables : Tables) (lines : List (List ℕ)) (items : List ScriptLine) : Type 0 where
-  pub processes : (tables_of_lines lines).processes ≡ map (λ process. process.name) (filter_map process_of_item items)
+  pub processes : (tables_of_lines lines).processes ≡ map (λ process. process.name) (with_limits [] (filter_map process_of_item items))
   pub threads : (tables_of_lines lines).threads ≡ map (λ thread. thread.name) (threads_from 0 items)
   pub procedures : (tables_of_lines lines).procedures ≡ map name_of_procedure (procedures_from 0 items)
   pub paths : filter_map path_of_words (map words_of lines) ≡ map (path_word tables) (flat_map path_uses items)
 
-all_taken : {X Y : Type 0} (limit : ℕ) (of : X → Y) (xs : List X) (ys : List Y) → ys ≡ map of xs → length xs ≤ limit → take limit ys ≡ map of xs
+pub all_taken : {X Y : Type 0} (limit : ℕ) (of : X → Y) (xs : List X) (ys : List Y) → ys ≡ map of xs → length xs ≤ limit → take limit ys ≡ map of xs
 all_taken limit of xs ys is few = ap (take limit) is ∙ take_all limit (map of xs) (rw (length-map xs of) few)
 
 pub few_before : AreFew first_context
@@ -216,7 +225,7 @@ names_agree tables lines items spells =
     let threads = few.threads 0 in
     let procedures = few.procedures 0 in
     record {
-      processes = all_taken 64 (λ process. process.name) (filter_map process_of_item items) _ names.processes (omega (arith, few.processes));
+      processes = all_taken 64 (λ process. process.name) (filter_map process_of_item items) _ names.processes (omega (arith, few.processes)) ∙ sym (kept-with_limits (λ process. process.name) name_kept (filter_map process_of_item items));
       threads = all_taken 64 (λ thread. thread.name) (threads_from 0 items) _ (names.threads 0) (omega (arith, threads));
       procedures = all_taken 4096 name_of_procedure (procedures_from 0 items) _ (names.procedures 0) (omega (arith, few.processes, procedures));
       paths = names.paths;

@@ -1,15 +1,14 @@
 -- A line is `unknown` only where no line has another reason.
 use Rattle.std.proofs.Common.{◌≡◌, ℕ, ◌+◌, Bool, true, false, cond, not, List, [], ◌∷◌, Option, Some, None, Result, Ok, Err, refl, ap, sym, ◌∙◌}
-use Rattle.std.specs.Prelude.{⊤, bytes_eq, codes, length, option_map}
+use Rattle.std.specs.Prelude.{⊤, codes, length, option_map}
 use Rattle.std.proofs.lemmas.Bool.{false≢true}
-use Rattle.std.proofs.lemmas.Slice.Eq.{bytes_eq-Decides}
 use Rattle.script_text.specs.Words.{lines_of, words_of}
 use Rattle.script_lang.specs.Types.{Keyword, Reason}
 use Rattle.script_line.specs.declared.reason.Reason.TheVariants.{Byte, Form, Range, Twice, Many, Body as Misplaced, Unknown}
 use Rattle.line_reader.specs.Words.{Reader, Rest, is_no_stop, items_to, line_with, name, nonempty_list, number, optional_word, rest_of, thread_from_word}
 use Rattle.script_line.specs.Words.{Tables, keyword_of}
 use Rattle.line_laws.proofs.LineFailures.{line_fails}
-use Rattle.line_laws.proofs.OperandFailures.{is_of_operands, FailsByOperands, ByOperands, fails-pure, fails-then, fails-optional_word, fails-value_at_end, fails-number, fails-name, fails-thread_from_word, fails-items_to, fails-nonempty_list}
+use Rattle.line_laws.proofs.OperandFailures.{is_of_operands, FailsByOperands, ByOperands, fails-pure, fails-then, fails-optional_word, fails-value_at_end, fails-number, fails-name, fails-misspelling, fails-parent, fails-thread_from_word, fails-items_to, fails-nonempty_list}
 use Rattle.script_lang.specs.declared.bad.Bad.{Bad}
 use Rattle.script_lang.specs.declared.item.ScriptLine.{ScriptLine}
 use Rattle.script_lang.specs.declared.item.ScriptLineRead.{ScriptLineRead}
@@ -18,10 +17,12 @@ use Rattle.script_lang.specs.declared.item.ScriptPlace.TheVariants.{Start, Proce
 use Rattle.script_lang.specs.Context.{ContextValue, first_context, is_closed, is_declared_twice, is_over_limit, is_misplaced, context_after}
 use Rattle.script_lang.specs.Canonical.{header}
 use Rattle.script_lang.specs.Decided.{IsOnlyUnknown}
-use Rattle.script_lang.specs.Items.{budget_item, limit_after, process_item, spare_item, thread_item, procedure_item, schedule_item, line_item, is_keyword, item_in_schedule, item_in_processes, item_at_start, item_in_members, item_at_place, item_in_context}
-use Rattle.script_lang.specs.Parsing.{ScriptLinesRead, bad_line, is_printable_line, is_skipped, item_found, spelling_with, words_spelling, line_spelling, result_unless, result_at_place, line_read, with_item, line_then, result_at_end, lines_read, script_unless_unknown, script_read, result_after_header, text_lines_read, parse_result}
+use Rattle.script_lang.specs.Items.{budget_item, limit_after, parent_after, process_item, child_item, spare_item, thread_item, procedure_item, schedule_item, line_item, is_child_keyword, is_keyword, item_in_schedule, item_in_processes, item_at_start, item_in_members, item_at_place, item_in_context}
+use Rattle.script_lang.specs.Parsing.{ScriptLinesRead, bad_line, is_printable_line, is_skipped, item_found, spelling_with, words_spelling, line_spelling, result_unless, result_at_place, line_read, with_item, line_then, result_at_end, lines_read, script_unless_unknown, script_read, version_of, result_after_header, text_lines_read, parse_result}
+use Rattle.script_lang.specs.Spelled.{is_version}
 use Rattle.script_lang.specs.TextTables.{tables_of_lines}
 use Rattle.script_lang.specs.Value.{ScriptValue}
+use Rattle.script_lang.proofs.Versions.{version_found}
 
 abbrev is_unknown : Reason → Bool
 is_unknown Unknown = true
@@ -84,25 +85,35 @@ procedure_fails = fails-then name _ fails-name (λ procedure. fails-value_at_end
 in_schedule_fails : (tables : Tables) (word : List ℕ) → Fails (item_in_schedule tables word)
 in_schedule_fails tables word = fails_if (is_keyword word (codes "schedule")) _ _ (schedule_fails tables) tt
 
-in_processes_fails : (tables : Tables) (word : List ℕ) → Fails (item_in_processes tables word)
-in_processes_fails tables word = fails_if (is_keyword word (codes "process")) _ _ process_fails (in_schedule_fails tables word)
+parent_after_fails : (tables : Tables) (before : ℕ) (named : Bool) → ByOperands (parent_after tables before named)
+parent_after_fails tables before false = fails-misspelling
+parent_after_fails tables before true = fails-parent tables before
 
-in_start_fails : (tables : Tables) (word : List ℕ) → Fails (item_at_start tables word)
-in_start_fails tables word = fails_if (is_keyword word (codes "budget")) _ _ budget_fails (in_processes_fails tables word)
+child_fails : (tables : Tables) (before : ℕ) → ByOperands (child_item tables before)
+unfolding child_item
+child_fails tables before =
+    fails-then name _ fails-name (λ child. fails-then (optional_word (codes "of")) _ (fails-optional_word (codes "of")) (λ named. fails-then (parent_after tables before named) _ (parent_after_fails tables before named) (λ parent. fails-value_at_end _)))
 
-in_members_fails : (tables : Tables) (word : List ℕ) → Fails (item_in_members tables word)
-in_members_fails tables word =
+in_processes_fails : (version : ℕ) (tables : Tables) (process : ℕ) (word : List ℕ) → Fails (item_in_processes version tables process word)
+in_processes_fails version tables process word =
+    fails_if (is_keyword word (codes "process")) _ _ process_fails (fails_if (is_child_keyword version word) _ _ (child_fails tables process) (in_schedule_fails tables word))
+
+in_start_fails : (version : ℕ) (tables : Tables) (process : ℕ) (word : List ℕ) → Fails (item_at_start version tables process word)
+in_start_fails version tables process word = fails_if (is_keyword word (codes "budget")) _ _ budget_fails (in_processes_fails version tables process word)
+
+in_members_fails : (version : ℕ) (tables : Tables) (process : ℕ) (word : List ℕ) → Fails (item_in_members version tables process word)
+in_members_fails version tables process word =
     fails_if (is_keyword word (codes "spare")) _ _ spare_fails
-    (fails_if (is_keyword word (codes "thread")) _ _ thread_fails (fails_if (is_keyword word (codes "proc")) _ _ procedure_fails (in_processes_fails tables word)))
+    (fails_if (is_keyword word (codes "thread")) _ _ thread_fails (fails_if (is_keyword word (codes "proc")) _ _ procedure_fails (in_processes_fails version tables process word)))
 
 keyword_fails : (tables : Tables) (process : ℕ) (keyword : Option Keyword) → Fails (option_map (line_item tables process) keyword)
 keyword_fails tables process None = tt
 keyword_fails tables process (Some keyword) = fails-then (line_with tables process keyword) _ (line_fails tables process keyword) (λ line. fails-pure _)
 
 item_fails : (place : ScriptPlace) (version : ℕ) (tables : Tables) (process : ℕ) (word : List ℕ) → Fails (item_at_place place version tables process word)
-item_fails Start version tables process word = in_start_fails tables word
-item_fails Processes version tables process word = in_processes_fails tables word
-item_fails Members version tables process word = in_members_fails tables word
+item_fails Start version tables process word = in_start_fails version tables process word
+item_fails Processes version tables process word = in_processes_fails version tables process word
+item_fails Members version tables process word = in_members_fails version tables process word
 item_fails Body version tables process word = keyword_fails tables process (keyword_of version word)
 item_fails Scheduled version tables process word = in_schedule_fails tables word
 
@@ -179,22 +190,23 @@ first_known : (script : ScriptValue) (unknown : Option ℕ) (line : ℕ) → scr
 first_known script None line e = no_other (Ok script) refl e
 first_known script (Some n) line e = ap (λ answer. Some (line_of answer)) e
 
-lines_last : (text : List ℕ) (lines : List (List ℕ)) (answer : Result ScriptLinesRead Bad) (line : ℕ) → lines_of text ≡ header ∷ lines → lines_read 1 (tables_of_lines lines) 2 first_context lines ≡ answer → HasNoUnknown answer
-    → script_read (tables_of_lines lines) answer ≡ Err (bad_line line Unknown) → IsOnlyUnknown text line
-lines_last text lines (Err fault) line headed read other e = no_other (Err fault) other e
-lines_last text lines (Ok found) line headed read other e = record { lines = lines; found = found; headed = headed; read = read; first = first_known _ found.unknown line e }
+lines_last : (text : List ℕ) (version : ℕ) (lines : List (List ℕ)) (answer : Result ScriptLinesRead Bad) (line : ℕ) → is_version version ≡ true → lines_of text ≡ header version ∷ lines → lines_read version (tables_of_lines lines) 2 first_context lines ≡ answer → HasNoUnknown answer
+    → script_read version (tables_of_lines lines) answer ≡ Err (bad_line line Unknown) → IsOnlyUnknown text line
+lines_last text version lines (Err fault) line versioned headed read other e = no_other (Err fault) other e
+lines_last text version lines (Ok found) line versioned headed read other e = record { version = version; lines = lines; found = found; is_one = versioned; headed = headed; read = read; first = first_known _ found.unknown line e }
 
-header_if : (text first : List ℕ) (lines : List (List ℕ)) (line : ℕ) (is_header : Bool) → lines_of text ≡ first ∷ lines → bytes_eq first header ≡ is_header
-    → result_after_header (tables_of_lines lines) lines (cond is_header (Some 1) None) ≡ Err (bad_line line Unknown) → IsOnlyUnknown text line
-header_if text first lines line false split is_keyword e = no_other _ refl e
-header_if text first lines line true split is_keyword e =
-    lines_last text lines (lines_read 1 (tables_of_lines lines) 2 first_context lines) line
-    (split ∙ ap (λ one. one ∷ lines) ((bytes_eq-Decides first header).0 is_keyword)) refl (lines_known 1 (tables_of_lines lines) 2 first_context lines) e
+header_if : (text first : List ℕ) (lines : List (List ℕ)) (line : ℕ) (version : Option ℕ) → lines_of text ≡ first ∷ lines → version_of first ≡ version
+    → result_after_header (tables_of_lines lines) lines version ≡ Err (bad_line line Unknown) → IsOnlyUnknown text line
+header_if text first lines line None split is e = no_other _ refl e
+header_if text first lines line (Some version) split is e =
+    let found = version_found first version is in
+    lines_last text version lines (lines_read version (tables_of_lines lines) 2 first_context lines) line found.versioned
+    (split ∙ ap (λ one. one ∷ lines) found.headed) refl (lines_known version (tables_of_lines lines) 2 first_context lines) e
 
 printable_if : (text first : List ℕ) (lines : List (List ℕ)) (line : ℕ) (printable : Bool) → lines_of text ≡ first ∷ lines
-    → cond (not printable) (Err (bad_line 1 Byte)) (result_after_header (tables_of_lines lines) lines (cond (bytes_eq first header) (Some 1) None)) ≡ Err (bad_line line Unknown) → IsOnlyUnknown text line
+    → cond (not printable) (Err (bad_line 1 Byte)) (result_after_header (tables_of_lines lines) lines (version_of first)) ≡ Err (bad_line line Unknown) → IsOnlyUnknown text line
 printable_if text first lines line false split e = no_other _ refl e
-printable_if text first lines line true split e = header_if text first lines line (bytes_eq first header) split refl e
+printable_if text first lines line true split e = header_if text first lines line (version_of first) split refl e
 
 text_last : (text : List ℕ) (lines : List (List ℕ)) (line : ℕ) → lines_of text ≡ lines → text_lines_read lines ≡ Err (bad_line line Unknown) → IsOnlyUnknown text line
 text_last text [] line split e = no_other _ refl e

@@ -6,14 +6,14 @@ use Rattle.script_line.specs.declared.line.Kind.TheVariants.{Act, Loop, Test, Cl
 use Rattle.script_line.specs.declared.reason.Reason.TheVariants.{Twice, Many, Body as Misplaced}
 use Rattle.script_line.specs.Words.{depth_after, kind_of, variables_of}
 use Rattle.script_lang.specs.declared.item.ScriptLine.{ScriptLine}
-use Rattle.script_lang.specs.declared.item.ScriptLine.TheVariants.{Budget, Process, Spare, Thread, Procedure, Do, Schedule}
+use Rattle.script_lang.specs.declared.item.ScriptLine.TheVariants.{Budget, Process, Child, Spare, Thread, Procedure, Do, Schedule}
 use Rattle.script_lang.specs.declared.item.ScriptPlace.{ScriptPlace}
 use Rattle.script_lang.specs.declared.item.ScriptPlace.TheVariants.{Start, Processes, Members, Body, Schedule as Scheduled}
 use Rattle.dk_base.specs.declared.limits.TheConstants.{DEPTH_MAX, PROCEDURES_MAX, PROCESSES_MAX, THREADS_MAX, VARIABLES_MAX}
 
 pub record ContextValue : Type 0 where
   pub place : ScriptPlace
-  -- the names so far of processes, of threads with spares, and of this process's procedures
+  -- the names so far of processes with children, of threads with spares, and of this process's procedures
   pub processes : List (List ℕ)
   pub threads : List (List ℕ)
   pub procedures : List (List ℕ)
@@ -43,6 +43,7 @@ is_closed context = is_closed_place context.place
 abbrev pub is_declared_twice : ContextValue → ScriptLine → Bool
 is_declared_twice context (Budget events) = false
 is_declared_twice context (Process name limit) = has_name context.processes name
+is_declared_twice context (Child name parent) = has_name context.processes name
 is_declared_twice context (Spare name) = has_name context.threads name
 is_declared_twice context (Thread name) = has_name context.threads name
 is_declared_twice context (Procedure name) = has_name context.procedures name
@@ -66,6 +67,7 @@ is_line_over_limit context line = (is_block_start (kind_of line) && nat_le DEPTH
 abbrev pub is_over_limit : ContextValue → ScriptLine → Bool
 is_over_limit context (Budget events) = false
 is_over_limit context (Process name limit) = nat_le PROCESSES_MAX (length context.processes)
+is_over_limit context (Child name parent) = nat_le PROCESSES_MAX (length context.processes)
 is_over_limit context (Spare name) = nat_le THREADS_MAX (length context.threads)
 is_over_limit context (Thread name) = nat_le THREADS_MAX (length context.threads)
 is_over_limit context (Procedure name) = nat_le PROCEDURES_MAX (length context.procedures)
@@ -131,6 +133,7 @@ context_with_line context line = context_at_depth (context_with_variables contex
 abbrev pub context_after : ContextValue → ScriptLine → ContextValue
 context_after context (Budget events) = context_at_place context Processes
 context_after context (Process name limit) = context_with_process context name
+context_after context (Child name parent) = context_with_process context name
 context_after context (Spare name) = context_with_spare context name
 context_after context (Thread name) = context_with_thread context name
 context_after context (Procedure name) = context_with_procedure context name

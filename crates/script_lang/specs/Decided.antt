@@ -1,5 +1,5 @@
 -- Every text either spells one script, or has a first bad line with a reason.
-use Rattle.std.specs.Prelude.{ℕ, ◌≡◌, ⊤, List, ◌∷◌, Some, None, Result, Ok, Err}
+use Rattle.std.specs.Prelude.{ℕ, ◌≡◌, ⊤, true, List, ◌∷◌, Some, None, Result, Ok, Err}
 use Rattle.script_text.specs.Words.{lines_of}
 use Rattle.script_lang.specs.declared.bad.Bad.{Bad}
 use Rattle.script_lang.specs.declared.bad.ParseFault.{ParseFault}
@@ -7,7 +7,7 @@ use Rattle.script_lang.specs.declared.bad.ParseFault.TheVariants.{Bad as BadLine
 use Rattle.script_lang.specs.Context.{first_context}
 use Rattle.script_lang.specs.Canonical.{header}
 use Rattle.script_lang.specs.Parsing.{ScriptLinesRead, lines_read, first_bad_line}
-use Rattle.script_lang.specs.Spelled.{spells}
+use Rattle.script_lang.specs.Spelled.{is_version, spells}
 use Rattle.script_lang.specs.TextTables.{tables_of_lines}
 use Rattle.script_lang.specs.Value.{ScriptValue}
 
@@ -32,11 +32,13 @@ IsParsed text (Ok script) = SpellsOnly text script
 IsParsed text (Err (BadLine fault)) = SpellsNone text fault
 IsParsed text (Err NoRoom) = ⊤
 
--- No line of the text has another reason, nor has its end: the first line is the header, and the lines after it are read to
+-- No line of the text has another reason, nor has its end: the first line is the header of a version, and the lines after it are read to
 -- the end. This is the first of them that names something that is not declared.
 pub record IsOnlyUnknown (text : List ℕ) (line : ℕ) : Type 0 where
+  pub version : ℕ
   pub lines : List (List ℕ)
   pub found : ScriptLinesRead
-  pub headed : lines_of text ≡ header ∷ lines
-  pub read : lines_read 1 (tables_of_lines lines) 2 first_context lines ≡ Ok found
+  pub is_one : is_version version ≡ true
+  pub headed : lines_of text ≡ header version ∷ lines
+  pub read : lines_read version (tables_of_lines lines) 2 first_context lines ≡ Ok found
   pub first : found.unknown ≡ Some line

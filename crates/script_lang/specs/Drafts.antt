@@ -6,12 +6,13 @@ use Rattle.script_lang.specs.declared.draft.Draft.{Draft}
 use Rattle.script_lang.specs.declared.draft.Owner.{Owner}
 use Rattle.script_lang.specs.declared.draft.Owner.TheVariants.{Nobody, Thread as OfThread, Procedure as OfProcedure}
 use Rattle.script_lang.specs.declared.item.ScriptLine.{ScriptLine}
-use Rattle.script_lang.specs.declared.item.ScriptLine.TheVariants.{Budget, Process, Spare, Thread, Procedure, Do, Schedule}
+use Rattle.script_lang.specs.declared.item.ScriptLine.TheVariants.{Budget, Process, Child, Spare, Thread, Procedure, Do, Schedule}
 use Rattle.script_lang.specs.declared.script.Part.{Part}
 use Rattle.script_lang.specs.declared.script.Part.TheVariants.{Process as ProcessPart, Thread as ThreadPart, Procedure as ProcedurePart}
 use Rattle.script_lang.specs.declared.script.Procedure.{Procedure as ScriptProcedure}
+use Rattle.script_lang.specs.declared.script.ScriptProcess.{ScriptProcess}
 use Rattle.script_lang.specs.declared.script.ScriptThread.{ScriptThread}
-use Rattle.script_lang.specs.Scripts.{budget_from, script_process, process_of_item, body_from, script_thread, threads_from, script_procedure, procedures_from, part_of_item, turns_of_item}
+use Rattle.script_lang.specs.Scripts.{budget_from, script_child, script_process, process_of_item, with_limit_from, with_limits, body_from, script_thread, threads_from, script_procedure, procedures_from, part_of_item, turns_of_item}
 use Rattle.script_lang.specs.Value.{ScriptValue}
 use Rattle.dk_base.specs.declared.limits.TheConstants.{BUDGET_MAX}
 
@@ -24,6 +25,10 @@ draft_with_thread draft name spare body = record draft { threads = draft.threads
 
 abbrev pub draft_with_procedure : Draft → List ℕ → List Line → Draft
 draft_with_procedure draft name body = record draft { procedures = draft.procedures ++ script_procedure (length draft.processes) name body ∷ [] }
+
+-- a child has the limit of its parent
+abbrev pub draft_with_process : Draft → ScriptProcess → Draft
+draft_with_process draft process = record draft { processes = draft.processes ++ with_limit_from draft.processes process.parent process ∷ [] }
 
 abbrev pub draft_with_part : Draft → Part → Draft
 draft_with_part draft part = record draft { order = draft.order ++ part ∷ [] }
@@ -51,7 +56,8 @@ draft_with_line draft line (Some depth) = record draft { body = draft.body ++ li
 -- with an item, where so many blocks are open before it
 abbrev pub draft_after : Draft → ℕ → ScriptLine → Draft
 draft_after draft depth (Budget events) = record draft { budget = events }
-draft_after draft depth (Process name limit) = draft_with_part (record draft { processes = draft.processes ++ script_process name limit ∷ [] }) ProcessPart
+draft_after draft depth (Process name limit) = draft_with_part (draft_with_process draft (script_process name limit)) ProcessPart
+draft_after draft depth (Child name parent) = draft_with_part (draft_with_process draft (script_child name parent)) ProcessPart
 draft_after draft depth (Spare name) = draft_with_part (draft_with_thread draft name true []) ThreadPart
 draft_after draft depth (Thread name) = draft_in_body draft ThreadPart (OfThread name)
 draft_after draft depth (Procedure name) = draft_in_body draft ProcedurePart (OfProcedure name)
@@ -70,11 +76,12 @@ open_procedures process Nobody body = []
 open_procedures process (OfThread name) body = []
 open_procedures process (OfProcedure name) body = script_procedure process name body ∷ []
 
-abbrev pub script_with : List (List ℕ) → Draft → ℕ → List ScriptLine → ScriptValue
-script_with paths draft depth items =
+abbrev pub script_with : ℕ → List (List ℕ) → Draft → ℕ → List ScriptLine → ScriptValue
+script_with version paths draft depth items =
     record {
+      version = version;
       budget = budget_from draft.budget items;
-      processes = draft.processes ++ filter_map process_of_item items;
+      processes = with_limits draft.processes (filter_map process_of_item items);
       threads = draft.threads ++ open_threads (length draft.processes) draft.owner (draft.body ++ body_from depth items) ++ threads_from (length draft.processes) items;
       procedures = draft.procedures ++ open_procedures (length draft.processes) draft.owner (draft.body ++ body_from depth items) ++ procedures_from (length draft.processes) items;
       order = draft.order ++ filter_map part_of_item items;
@@ -83,9 +90,10 @@ script_with paths draft depth items =
     }
 
 -- the script of a draft
-abbrev pub script_of_draft : List (List ℕ) → Draft → ScriptValue
-script_of_draft paths draft =
+abbrev pub script_of_draft : ℕ → List (List ℕ) → Draft → ScriptValue
+script_of_draft version paths draft =
     record {
+      version = version;
       budget = draft.budget;
       processes = draft.processes;
       threads = draft.threads;

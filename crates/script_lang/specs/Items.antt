@@ -1,10 +1,11 @@
 -- The lines of a script after the first, by their first words.
-use Rattle.std.specs.Prelude.{ℕ, Bool, true, false, List, Option, Some, None, option_map, length, bytes_eq, codes, if◌then◌else◌}
+use Rattle.std.specs.Prelude.{ℕ, Bool, true, false, ◌&&◌, List, Option, Some, None, option_map, length, bytes_eq, codes, if◌then◌else◌, nat_le}
+use Rattle.script_text.specs.Types.{Pid}
 use Rattle.script_lang.specs.Types.{Keyword}
 use Rattle.script_line.specs.Words.{Tables, keyword_of}
-use Rattle.line_reader.specs.Words.{Reader, is_no_stop, items_to, line_with, name, nonempty_list, number, optional_word, pure, thread_from_word, value_at_end, ◌>>=◌}
+use Rattle.line_reader.specs.Words.{Reader, is_no_stop, items_to, line_with, name, misspelling, nonempty_list, number, optional_word, parent, pure, thread_from_word, value_at_end, ◌>>=◌}
 use Rattle.script_lang.specs.declared.item.ScriptLine.{ScriptLine}
-use Rattle.script_lang.specs.declared.item.ScriptLine.TheVariants.{Budget, Process, Spare, Thread, Procedure, Do, Schedule}
+use Rattle.script_lang.specs.declared.item.ScriptLine.TheVariants.{Budget, Process, Child, Spare, Thread, Procedure, Do, Schedule}
 use Rattle.script_lang.specs.declared.item.ScriptPlace.{ScriptPlace}
 use Rattle.script_lang.specs.declared.item.ScriptPlace.TheVariants.{Start, Processes, Members, Body, Schedule as Scheduled}
 use Rattle.script_lang.specs.Context.{ContextValue}
@@ -27,6 +28,18 @@ process_item = do
   limited ← optional_word (codes "limit")
   limit ← limit_after limited
   value_at_end (Process process limit)
+
+abbrev pub parent_after : Tables → ℕ → Bool → Reader Pid
+parent_after tables before false = misspelling
+parent_after tables before true = parent tables before
+
+-- child NAME of PARENT, where so many processes stand before
+unfoldable pub child_item : Tables → ℕ → Reader ScriptLine
+child_item tables before = do
+  child ← name
+  named ← optional_word (codes "of")
+  of ← parent_after tables before named
+  value_at_end (Child child of)
 
 -- spare NAME
 unfoldable pub spare_item : Reader ScriptLine
@@ -65,29 +78,36 @@ is_keyword word keyword = bytes_eq word keyword
 abbrev pub item_in_schedule : Tables → List ℕ → Option (Reader ScriptLine)
 item_in_schedule tables word = if is_keyword word (codes "schedule") then Some (schedule_item tables) else None
 
-abbrev pub item_in_processes : Tables → List ℕ → Option (Reader ScriptLine)
-item_in_processes tables word = if is_keyword word (codes "process") then Some process_item else item_in_schedule tables word
+-- from version 2 on a text may have children
+abbrev pub is_child_keyword : ℕ → List ℕ → Bool
+is_child_keyword version word = nat_le 2 version && is_keyword word (codes "child")
 
-abbrev pub item_at_start : Tables → List ℕ → Option (Reader ScriptLine)
-item_at_start tables word = if is_keyword word (codes "budget") then Some budget_item else item_in_processes tables word
+abbrev pub item_in_processes : ℕ → Tables → ℕ → List ℕ → Option (Reader ScriptLine)
+item_in_processes version tables process word =
+    if is_keyword word (codes "process") then Some process_item else (
+    if is_child_keyword version word then Some (child_item tables process) else
+    item_in_schedule tables word)
 
-abbrev pub item_in_members : Tables → List ℕ → Option (Reader ScriptLine)
-item_in_members tables word =
+abbrev pub item_at_start : ℕ → Tables → ℕ → List ℕ → Option (Reader ScriptLine)
+item_at_start version tables process word = if is_keyword word (codes "budget") then Some budget_item else item_in_processes version tables process word
+
+abbrev pub item_in_members : ℕ → Tables → ℕ → List ℕ → Option (Reader ScriptLine)
+item_in_members version tables process word =
     if is_keyword word (codes "spare") then Some spare_item else (
     if is_keyword word (codes "thread") then Some thread_item else (
     if is_keyword word (codes "proc") then Some procedure_item else
-    item_in_processes tables word))
+    item_in_processes version tables process word))
 
 abbrev pub item_in_body : ℕ → Tables → ℕ → List ℕ → Option (Reader ScriptLine)
 item_in_body version tables process word = option_map (line_item tables process) (keyword_of version word)
 
 abbrev pub item_at_place : ScriptPlace → ℕ → Tables → ℕ → List ℕ → Option (Reader ScriptLine)
-item_at_place Start version tables process word = item_at_start tables word
-item_at_place Processes version tables process word = item_in_processes tables word
-item_at_place Members version tables process word = item_in_members tables word
+item_at_place Start version tables process word = item_at_start version tables process word
+item_at_place Processes version tables process word = item_in_processes version tables process word
+item_at_place Members version tables process word = item_in_members version tables process word
 item_at_place Body version tables process word = item_in_body version tables process word
 item_at_place Scheduled version tables process word = item_in_schedule tables word
 
--- The process of a body is the last that stands before.
+-- The process of a body is the last that stands before; the parent of a child is one of those that do.
 abbrev pub item_in_context : ℕ → Tables → ContextValue → List ℕ → Option (Reader ScriptLine)
 item_in_context version tables context word = item_at_place context.place version tables (length context.processes) word

@@ -105,17 +105,19 @@ abbrev pub script_unless_unknown : ScriptValue → Option ℕ → Result ScriptV
 script_unless_unknown script None = Ok script
 script_unless_unknown script (Some n) = Err (bad_line n Unknown)
 
-abbrev pub script_read : Tables → Result ScriptLinesRead Bad → Result ScriptValue Bad
-script_read tables (Err fault) = Err fault
-script_read tables (Ok found) = script_unless_unknown (script_of_items tables.paths found.items) found.unknown
+abbrev pub script_read : ℕ → Tables → Result ScriptLinesRead Bad → Result ScriptValue Bad
+script_read version tables (Err fault) = Err fault
+script_read version tables (Ok found) = script_unless_unknown (script_of_items version tables.paths found.items) found.unknown
 
 -- the version that a text's first line names
 abbrev pub version_of : List ℕ → Option ℕ
-version_of line = if bytes_eq line header then Some 1 else None
+version_of line =
+    if bytes_eq line (header 1) then Some 1 else (
+    if bytes_eq line (header 2) then Some 2 else None)
 
 abbrev pub result_after_header : Tables → List (List ℕ) → Option ℕ → Result ScriptValue Bad
 result_after_header tables lines None = Err (bad_line 1 Header)
-result_after_header tables lines (Some version) = script_read tables (lines_read version tables 2 first_context lines)
+result_after_header tables lines (Some version) = script_read version tables (lines_read version tables 2 first_context lines)
 
 abbrev pub text_lines_read : List (List ℕ) → Result ScriptValue Bad
 text_lines_read [] = Err (bad_line 1 Header)

@@ -4,11 +4,10 @@ use Rattle.script_text.specs.Types.{NoMemory}
 use Rattle.script_text.specs.Words.{text_of_lines}
 use Rattle.script_line.specs.Words.{Tables}
 use Rattle.script_lang.specs.declared.item.ScriptLine.{ScriptLine}
-use Rattle.script_lang.specs.declared.item.ScriptLine.TheVariants.{Process}
 use Rattle.script_lang.specs.declared.print.Declared.{Declared}
 use Rattle.script_lang.specs.declared.print.Declared.TheVariants.{Process as TheProcess, Thread as TheThread, Procedure as TheProcedure}
 use Rattle.script_lang.specs.Canonical.{item_line}
-use Rattle.script_lang.specs.Scripts.{thread_items, procedure_items}
+use Rattle.script_lang.specs.Scripts.{process_item, thread_items, procedure_items}
 
 -- the canonical text of these lines
 abbrev pub items_text : Tables → List ScriptLine → List ℕ
@@ -20,6 +19,6 @@ PutsScriptLines tables items old result new = OnOk result (new ≡ old ++ items_
 
 -- the lines of a part
 abbrev pub declared_items : Declared → List ScriptLine
-declared_items (TheProcess process) = Process process.now.name process.now.limit ∷ []
+declared_items (TheProcess process) = process_item process.now ∷ []
 declared_items (TheThread thread) = thread_items thread.now thread.now.spare
 declared_items (TheProcedure procedure) = procedure_items procedure.now

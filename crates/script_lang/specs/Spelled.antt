@@ -1,10 +1,11 @@
 -- Which script a text spells: from the script's lines to the text's, with no reader.
-use Rattle.std.specs.Prelude.{ℕ, ◌≡◌, ◌⊎◌, Bool, true, false, ◌+◌, ◌==◌, nat_lt, List, [], ◌∷◌, Option, Some, None, length, flat_map, bytes_eq, codes, if◌then◌else◌}
+use Rattle.std.specs.Prelude.{ℕ, ◌≡◌, ◌⊎◌, Bool, true, false, ◌+◌, ◌==◌, ◌||◌, nat_le, nat_lt, List, [], ◌∷◌, Option, Some, None, length, flat_map, bytes_eq, codes, if◌then◌else◌}
+use Rattle.std.specs.List.{list_all}
 use Rattle.script_text.specs.Types.{PathId}
 use Rattle.script_text.specs.Words.{SpellsName, SpellsNumber, are_distinct, lines_of, words_of}
-use Rattle.script_line.specs.Words.{Each, Ends, First, Spelling, SpellsLine, SpellsThread, Tables, Then, paths_of}
+use Rattle.script_line.specs.Words.{Each, Ends, First, Spelling, SpellsLine, SpellsParent, SpellsThread, Tables, Then, line_version, paths_of}
 use Rattle.script_lang.specs.declared.item.ScriptLine.{ScriptLine}
-use Rattle.script_lang.specs.declared.item.ScriptLine.TheVariants.{Budget, Process, Spare, Thread, Procedure, Do, Schedule}
+use Rattle.script_lang.specs.declared.item.ScriptLine.TheVariants.{Budget, Process, Child, Spare, Thread, Procedure, Do, Schedule}
 use Rattle.script_lang.specs.declared.item.ScriptPlace.{ScriptPlace}
 use Rattle.script_lang.specs.declared.item.ScriptPlace.TheVariants.{Start, Processes, Members, Body, Schedule as Scheduled}
 use Rattle.script_lang.specs.Context.{ContextValue, first_context, is_closed, is_declared_twice, is_over_limit, is_misplaced, context_after}
@@ -18,10 +19,11 @@ use Rattle.dk_base.specs.declared.limits.TheConstants.{BUDGET_MAX, DESCRIPTORS_M
 abbrev pub SpellsLimit : ℕ → Spelling
 SpellsLimit limit words = ((limit ≡ DESCRIPTORS_MAX) × Ends words) ⊎ Then (codes "limit") (First (SpellsNumber 0 DESCRIPTORS_MAX limit) Ends) words
 
--- the words of a line after these
+-- the words of a line after so many processes
 abbrev pub SpellsScriptLine : Tables → ℕ → ScriptLine → Spelling
 SpellsScriptLine tables of (Budget events) = Then (codes "budget") (First (SpellsNumber 1 BUDGET_MAX events) Ends)
 SpellsScriptLine tables of (Process name limit) = Then (codes "process") (First (SpellsName name) (SpellsLimit limit))
+SpellsScriptLine tables of (Child name parent) = Then (codes "child") (First (SpellsName name) (Then (codes "of") (First (SpellsParent tables of parent) Ends)))
 SpellsScriptLine tables of (Spare name) = Then (codes "spare") (First (SpellsName name) Ends)
 SpellsScriptLine tables of (Thread name) = Then (codes "thread") (First (SpellsName name) Ends)
 SpellsScriptLine tables of (Procedure name) = Then (codes "proc") (First (SpellsName name) Ends)
@@ -33,10 +35,13 @@ SpellsScriptLine tables of (Schedule (thread ∷ threads)) = Then (codes "schedu
 abbrev pub is_of_place : ScriptPlace → ScriptLine → Bool
 is_of_place Start (Budget events) = true
 is_of_place Start (Process name limit) = true
+is_of_place Start (Child name parent) = true
 is_of_place Start (Schedule threads) = true
 is_of_place Processes (Process name limit) = true
+is_of_place Processes (Child name parent) = true
 is_of_place Processes (Schedule threads) = true
 is_of_place Members (Process name limit) = true
+is_of_place Members (Child name parent) = true
 is_of_place Members (Spare name) = true
 is_of_place Members (Thread name) = true
 is_of_place Members (Procedure name) = true
@@ -44,6 +49,20 @@ is_of_place Members (Schedule threads) = true
 is_of_place Body (Do line) = true
 is_of_place Scheduled (Schedule threads) = true
 is_of_place place item = false
+
+-- versions
+
+abbrev pub is_version : ℕ → Bool
+is_version version = (version == 1) || (version == 2)
+
+-- the least version in whose texts a line may stand
+abbrev pub item_version : ScriptLine → ℕ
+item_version (Child name parent) = 2
+item_version (Do line) = line_version line
+item_version item = 1
+
+abbrev pub is_of_version : ℕ → ScriptLine → Bool
+is_of_version version item = nat_le (item_version item) version
 
 -- a line may stand after these
 pub record MayStand (context : ContextValue) (item : ScriptLine) : Type 0 where
@@ -90,13 +109,14 @@ path_count_after n (path ∷ paths) =
 pub record SpellsScript (lines : List (List ℕ)) (script : ScriptValue) : Type 0 where
   pub items : List ScriptLine
   pub spells : SpellsScriptLines (tables_of script) first_context lines items
+  pub of_version : list_all (is_of_version script.version) items ≡ true
   pub different_paths : are_distinct bytes_eq script.paths ≡ true
   pub numbered_paths : path_count_after 0 (flat_map path_uses items) ≡ Some (length script.paths)
-  pub is_script : script_of_items script.paths items ≡ script
+  pub is_script : script_of_items script.version script.paths items ≡ script
 
 abbrev pub SpellsLines : List (List ℕ) → ScriptValue → Type 0
 SpellsLines [] script = ⊥
-SpellsLines (line ∷ lines) script = (line ≡ header) × SpellsScript lines script
+SpellsLines (line ∷ lines) script = (is_version script.version ≡ true) × (line ≡ header script.version) × SpellsScript lines script
 
 -- the text spells the script
 unfoldable pub spells : List ℕ → ScriptValue → Type 0

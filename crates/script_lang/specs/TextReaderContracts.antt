@@ -21,14 +21,14 @@ use Rattle.script_lang.specs.Drafts.{draft_after, script_with}
 use Rattle.script_lang.specs.Parsing.{ScriptLinesRead, bad_line, first_unknown, lines_read, script_unless_unknown}
 use Rattle.script_lang.specs.Value.{ScriptValue}
 
-abbrev pub result_of_draft : Tables → Draft → ℕ → Option ℕ → Result ScriptLinesRead Bad → Result ScriptValue Bad
-result_of_draft tables draft depth unknown (Err fault) = Err fault
-result_of_draft tables draft depth unknown (Ok found) = script_unless_unknown (script_with tables.paths draft depth found.items) (option_or unknown found.unknown)
+abbrev pub result_of_draft : ℕ → Tables → Draft → ℕ → Option ℕ → Result ScriptLinesRead Bad → Result ScriptValue Bad
+result_of_draft version tables draft depth unknown (Err fault) = Err fault
+result_of_draft version tables draft depth unknown (Ok found) = script_unless_unknown (script_with version tables.paths draft depth found.items) (option_or unknown found.unknown)
 
 -- the reading of the lines from the number n on, after these, where the lines before have made this draft, and this is
 -- the first of them that names something that is not declared
 abbrev pub parse_result_from : ℕ → Tables → Draft → ContextValue → Option ℕ → ℕ → List (List ℕ) → Result ScriptValue Bad
-parse_result_from version tables draft context unknown n lines = result_of_draft tables draft context.depth unknown (lines_read version tables n context lines)
+parse_result_from version tables draft context unknown n lines = result_of_draft version tables draft context.depth unknown (lines_read version tables n context lines)
 
 abbrev pub has_owner : Owner → Bool
 has_owner Nobody = false

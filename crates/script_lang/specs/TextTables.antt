@@ -1,9 +1,10 @@
 -- The names that a text declares and the paths that it uses, by the first words of its lines. In a text in which no line
 -- has a reason they are those of its script.
-use Rattle.std.specs.Prelude.{ℕ, ◌+◌, List, [], ◌∷◌, Option, Some, None, map, filter_map, take, bytes_eq, codes, if◌then◌else◌}
+use Rattle.std.specs.Prelude.{ℕ, ◌+◌, ◌++◌, List, [], ◌∷◌, Option, Some, None, map, filter_map, option_map, take, bytes_eq, codes, if◌then◌else◌}
 use Rattle.std.specs.Option.{option_or}
 use Rattle.script_text.specs.Words.{first_uses, words_of}
-use Rattle.script_line.specs.Words.{ProcedureName, Tables, qualified_name}
+use Rattle.script_text.specs.Types.{Pid}
+use Rattle.script_line.specs.Words.{ProcedureName, Tables, parent_named, qualified_name}
 use Rattle.dk_base.specs.declared.limits.TheConstants.{ALL_PROCEDURES_MAX, PROCESSES_MAX, THREADS_MAX}
 
 -- the second word of a line whose first is this
@@ -19,8 +20,21 @@ third_of keyword (word ∷ []) = None
 third_of keyword (word ∷ second ∷ []) = None
 third_of keyword (word ∷ second ∷ third ∷ words) = if bytes_eq word keyword then Some third else None
 
+-- the fourth
+abbrev pub fourth_of : List ℕ → List (List ℕ) → Option (List ℕ)
+fourth_of keyword [] = None
+fourth_of keyword (word ∷ []) = None
+fourth_of keyword (word ∷ second ∷ []) = None
+fourth_of keyword (word ∷ second ∷ third ∷ []) = None
+fourth_of keyword (word ∷ second ∷ third ∷ fourth ∷ words) = if bytes_eq word keyword then Some fourth else None
+
+-- A text of version 1 with a line `child` has a reason there, so these names count for none.
 abbrev pub process_of_words : List (List ℕ) → Option (List ℕ)
-process_of_words words = second_of (codes "process") words
+process_of_words words = option_or (second_of (codes "process") words) (second_of (codes "child") words)
+
+-- the process that the one of a line is a child of, where these stand before
+abbrev pub parent_of_words : List (List ℕ) → List (List ℕ) → Option Pid
+parent_of_words names words = option_map (parent_named names) (fourth_of (codes "child") words)
 
 abbrev pub thread_of_words : List (List ℕ) → Option (List ℕ)
 thread_of_words words = option_or (second_of (codes "spare") words) (second_of (codes "thread") words)
@@ -47,11 +61,26 @@ abbrev pub procedure_names_from : ℕ → List (List (List ℕ)) → List Proced
 procedure_names_from process [] = []
 procedure_names_from process (words ∷ lines) = procedure_names_with process (procedure_of_words words) (procedure_names_from (process_after process (process_of_words words)) lines)
 
+abbrev pub names_after : List (List ℕ) → Option (List ℕ) → List (List ℕ)
+names_after names None = names
+names_after names (Some name) = names ++ name ∷ []
+
+abbrev pub parents_with : Option (List ℕ) → Option Pid → List (Option Pid) → List (Option Pid)
+parents_with None parent others = others
+parents_with (Some name) parent others = parent ∷ others
+
+-- the parents of the processes of these lines, where the processes of these names stand before
+abbrev pub parents_from : List (List ℕ) → List (List (List ℕ)) → List (Option Pid)
+parents_from names [] = []
+parents_from names (words ∷ lines) =
+    parents_with (process_of_words words) (parent_of_words names words) (parents_from (names_after names (process_of_words words)) lines)
+
 -- Of processes, threads and procedures only so many count as a script may have: in a text with more, a line has a reason.
 abbrev pub tables_of_words : List (List (List ℕ)) → Tables
 tables_of_words lines =
     record {
       processes = take PROCESSES_MAX (filter_map process_of_words lines);
+      parents = take PROCESSES_MAX (parents_from [] lines);
       threads = take THREADS_MAX (filter_map thread_of_words lines);
       procedures = take ALL_PROCEDURES_MAX (procedure_names_from 0 lines);
       paths = first_uses (filter_map path_of_words lines);

@@ -8,9 +8,11 @@ use Rattle.script_lang.specs.declared.script.ScriptThread.{ScriptThread}
 
 -- The value of a `Script`: clauses see each `Script` as this record.
 pub record ScriptValue : Type 0 where
+  -- of the language that the text is in
+  pub version : ℕ
   -- at most this many events are made
   pub budget : ℕ
-  -- numbered from 1, as threads are
+  -- numbered from 1, as threads are; children with them
   pub processes : List ScriptProcess
   -- threads with spares
   pub threads : List ScriptThread

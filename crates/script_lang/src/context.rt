@@ -181,6 +181,7 @@ impl Context {
         match item {
             ScriptLine::Budget { .. } => self.go_to(ScriptPlace::Processes),
             ScriptLine::Process { name, .. } => self.add_process(alloc, name.slice())?,
+            ScriptLine::Child { name, .. } => self.add_process(alloc, name.slice())?,
             ScriptLine::Spare { name } => self.add_thread(alloc, name.slice())?,
             ScriptLine::Thread { name } => {
                 self.add_thread(alloc, name.slice())?;

@@ -12,6 +12,7 @@ impl Duplicate for ScriptProcess {
         Ok(ScriptProcess {
             name: self.name.copy(alloc)?,
             limit: self.limit,
+            parent: self.parent,
         })
     }
 }
@@ -43,6 +44,7 @@ impl Script {
         ensures { IfOk result (λ copy. copy ≡ self.now) }
     {
         Ok(Script {
+            version: self.version,
             budget: self.budget,
             processes: self.processes.duplicate(alloc)?,
             threads: self.threads.duplicate(alloc)?,

@@ -1,15 +1,15 @@
 ghost use Rattle.std.specs.Prelude.{◌≡◌, ◌≤◌, ◌∷◌, ◌++◌, [], true, length, OnOk};
 ghost use Rattle.dk_base.specs.declared.limits.TheConstants.{DEPTH_MAX};
 ghost use Rattle.script_line.specs.Words.{depth_after as depth_after_item, kind_of as kind_of_line};
-ghost use Rattle.script_lang.specs.Scripts.{script_process};
+ghost use Rattle.script_lang.specs.Scripts.{limit_at, script_child, script_process};
 ghost use Rattle.script_lang.specs.IsScript.{IsScript};
-ghost use Rattle.script_lang.specs.Drafts.{empty_draft, draft_in_body, draft_after_body, draft_after, draft_with_part, draft_with_thread, draft_with_procedure, draft_with_line, script_of_draft};
+ghost use Rattle.script_lang.specs.Drafts.{empty_draft, draft_in_body, draft_after_body, draft_after, draft_with_part, draft_with_process, draft_with_thread, draft_with_procedure, draft_with_line, script_of_draft};
 
 use crate::blocks::{depth_after, kind_of};
 use crate::item::ScriptLine;
 use crate::script::{Part, Procedure, Script, ScriptProcess, ScriptThread};
 use dk_base::error::NoMemory;
-use dk_base::limits::BUDGET_MAX;
+use dk_base::limits::{BUDGET_MAX, DESCRIPTORS_MAX};
 use dk_base::list::{Bytes, Sequence, TidList};
 use dk_base::number::{Pid, Tid};
 use script_line::line::{Body, Line};
@@ -36,6 +36,19 @@ pub struct Draft {
     pub schedule: TidList,
     pub owner: Owner,
     pub body: Body,
+}
+
+/// The limit of a process of these, or the greatest where there is none of this number.
+fn limit_at(processes: &[ScriptProcess], p: Pid) -> u32
+    ensures { result ≡ limit_at processes.now p }
+{
+    if p.0 == 0 {
+        return DESCRIPTORS_MAX;
+    }
+    match processes.get(p.0 as usize - 1) {
+        Some(process) => process.limit,
+        None => DESCRIPTORS_MAX,
+    }
 }
 
 impl Draft {
@@ -126,9 +139,26 @@ impl Draft {
     }
 
     fn add_process(&mut self, name: Bytes, limit: u32) -> Result<(), NoMemory>
-        ensures { OnOk result (self.new ≡ draft_with_part (record self.old { processes = self.old.processes ++ script_process name limit ∷ [] }) Part.Process) }
+        ensures { OnOk result (self.new ≡ draft_with_part (draft_with_process self.old (script_process name limit)) Part.Process) }
     {
-        self.processes.push(ScriptProcess { name, limit })?;
+        self.processes.push(ScriptProcess {
+            name,
+            limit,
+            parent: None,
+        })?;
+        self.order.push(Part::Process)
+    }
+
+    /// A child, which has the limit of its parent.
+    fn add_child(&mut self, name: Bytes, parent: Pid) -> Result<(), NoMemory>
+        ensures { OnOk result (self.new ≡ draft_with_part (draft_with_process self.old (script_child name parent)) Part.Process) }
+    {
+        let limit = limit_at(self.processes.slice(), parent);
+        self.processes.push(ScriptProcess {
+            name,
+            limit,
+            parent: Some(parent),
+        })?;
         self.order.push(Part::Process)
     }
 
@@ -161,6 +191,7 @@ impl Draft {
         match item {
             ScriptLine::Budget { events } => self.budget = events,
             ScriptLine::Process { name, limit } => self.add_process(name, limit)?,
+            ScriptLine::Child { name, parent } => self.add_child(name, parent)?,
             ScriptLine::Spare { name } => self.add_spare(alloc, process, name)?,
             ScriptLine::Thread { name } => self.open(alloc, Part::Thread, Owner::Thread(name))?,
             ScriptLine::Procedure { name } => {
@@ -172,12 +203,13 @@ impl Draft {
         Ok(())
     }
 
-    /// The script of these parts, with these names.
-    pub fn into_script(self, tables: Tables) -> Script
-        requires { IsScript tables (script_of_draft tables.paths self) }
-        ensures { result ≡ script_of_draft tables.paths self }
+    /// The script of these parts, with these names, of a text of this version.
+    pub fn into_script(self, version: u32, tables: Tables) -> Script
+        requires { IsScript tables (script_of_draft version tables.paths self) }
+        ensures { result ≡ script_of_draft version tables.paths self }
     {
         Script {
+            version,
             budget: self.budget,
             processes: self.processes,
             threads: self.threads,

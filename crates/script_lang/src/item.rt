@@ -1,4 +1,5 @@
 use dk_base::list::{Bytes, TidList};
+use dk_base::number::Pid;
 use script_line::line::Line;
 
 /// A line of a script after the first, with numbers in place of names.
@@ -8,6 +9,8 @@ pub enum ScriptLine {
     Budget { events: u32 },
     /// `process NAME`, `process NAME limit N`
     Process { name: Bytes, limit: u32 },
+    /// `child NAME of PARENT`
+    Child { name: Bytes, parent: Pid },
     /// `spare NAME`
     Spare { name: Bytes },
     /// `thread NAME`

@@ -2,7 +2,7 @@
 
 ghost use Rattle.std.specs.Prelude.{◌≡◌, bytes_eq, MatchResult, IfOk};
 ghost use Rattle.line_reader.specs.Words.{ReadsOn};
-ghost use Rattle.script_lang.specs.Items.{budget_item as budget_read, process_item as process_read, spare_item as spare_read, thread_item as thread_read, procedure_item as procedure_read, schedule_item as schedule_read, item_in_schedule as item_in_schedule_read, item_in_processes as item_in_processes_read, item_at_start as item_at_start_read, item_in_members as item_in_members_read};
+ghost use Rattle.script_lang.specs.Items.{budget_item as budget_read, process_item as process_read, child_item as child_read, spare_item as spare_read, thread_item as thread_read, procedure_item as procedure_read, schedule_item as schedule_read, item_in_schedule as item_in_schedule_read, item_in_processes as item_in_processes_read, item_at_start as item_at_start_read, item_in_members as item_in_members_read};
 ghost use Rattle.script_lang.specs.Dispatch.{item_reader};
 
 use crate::item::ScriptLine;
@@ -34,6 +34,24 @@ fn process_item(alloc: Global, rest: LineRest<'_>) -> Result<(ScriptLine, LineRe
         (DESCRIPTORS_MAX, rest)
     };
     rest.value_at_end(ScriptLine::Process { name, limit })
+}
+
+/// `child NAME of PARENT`, where so many processes stand before.
+#[tactic(auto, unfolding(crate::specs::Items::child_item))]
+fn child_item<'a>(
+    alloc: Global,
+    tables: &Tables,
+    before: u32,
+    rest: LineRest<'a>,
+) -> Result<(ScriptLine, LineRest<'a>), Fault>
+    ensures { ReadsOn (child_read tables.now before) rest.entry result }
+{
+    let (name, mut rest) = rest.variable(alloc)?;
+    if !rest.optional_word(b"of") {
+        return Err(Fault::Bad(Reason::Form));
+    }
+    let (parent, rest) = rest.parent(tables, before)?;
+    rest.value_at_end(ScriptLine::Child { name, parent })
 }
 
 /// `spare NAME`
@@ -102,14 +120,18 @@ pub fn item_in_schedule<'a>(
 
 pub fn item_in_processes<'a>(
     alloc: Global,
+    version: u32,
     tables: &Tables,
+    process: u32,
     word: &[u8],
     rest: LineRest<'a>,
 ) -> Result<(ScriptLine, LineRest<'a>), Fault>
-    ensures { ReadsOn (item_reader (item_in_processes_read tables.now word.now)) rest.entry result }
+    ensures { ReadsOn (item_reader (item_in_processes_read version tables.now process word.now)) rest.entry result }
 {
     if is_keyword(word, "process") {
         process_item(alloc, rest)
+    } else if version >= 2 && is_keyword(word, "child") {
+        child_item(alloc, tables, process, rest)
     } else {
         item_in_schedule(alloc, tables, word, rest)
     }
@@ -117,26 +139,30 @@ pub fn item_in_processes<'a>(
 
 pub fn item_at_start<'a>(
     alloc: Global,
+    version: u32,
     tables: &Tables,
+    process: u32,
     word: &[u8],
     rest: LineRest<'a>,
 ) -> Result<(ScriptLine, LineRest<'a>), Fault>
-    ensures { ReadsOn (item_reader (item_at_start_read tables.now word.now)) rest.entry result }
+    ensures { ReadsOn (item_reader (item_at_start_read version tables.now process word.now)) rest.entry result }
 {
     if is_keyword(word, "budget") {
         budget_item(rest)
     } else {
-        item_in_processes(alloc, tables, word, rest)
+        item_in_processes(alloc, version, tables, process, word, rest)
     }
 }
 
 pub fn item_in_members<'a>(
     alloc: Global,
+    version: u32,
     tables: &Tables,
+    process: u32,
     word: &[u8],
     rest: LineRest<'a>,
 ) -> Result<(ScriptLine, LineRest<'a>), Fault>
-    ensures { ReadsOn (item_reader (item_in_members_read tables.now word.now)) rest.entry result }
+    ensures { ReadsOn (item_reader (item_in_members_read version tables.now process word.now)) rest.entry result }
 {
     if is_keyword(word, "spare") {
         spare_item(alloc, rest)
@@ -145,6 +171,6 @@ pub fn item_in_members<'a>(
     } else if is_keyword(word, "proc") {
         procedure_item(alloc, rest)
     } else {
-        item_in_processes(alloc, tables, word, rest)
+        item_in_processes(alloc, version, tables, process, word, rest)
     }
 }

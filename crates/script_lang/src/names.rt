@@ -2,11 +2,12 @@
 
 ghost use Rattle.std.specs.Prelude.{◌≡◌, ◌≤◌, ◌<◌, ◌+◌, ◌^◌, [], Some, IfOk, OnOk, option_copied, length};
 ghost use Rattle.script_text.specs.Words.{lines_of, words_of};
-ghost use Rattle.script_lang.specs.TextTables.{second_of as second_of_words, third_of as third_of_words, process_of_words, thread_of_words, procedure_of_words, path_of_words, tables_of_lines};
+ghost use Rattle.script_lang.specs.TextTables.{second_of as second_of_words, third_of as third_of_words, fourth_of as fourth_of_words, process_of_words, parent_of_words, thread_of_words, procedure_of_words, path_of_words, tables_of_lines};
 ghost use Rattle.script_lang.specs.NamesThen.{names_with_process, names_with_thread, names_with_procedure, names_of_line};
 
 use dk_base::error::NoMemory;
 use dk_base::limits::{ALL_PROCEDURES_MAX, PROCESSES_MAX, THREADS_MAX};
+use dk_base::number::Pid;
 use script_line::tables::Tables;
 use script_text::lines::next_line;
 use script_text::words::next_word;
@@ -39,10 +40,36 @@ fn third_of<'a>(keyword: &str, line: &'a [u8]) -> Option<&'a [u8]>
     }
 }
 
+/// The fourth.
+fn fourth_of<'a>(keyword: &str, line: &'a [u8]) -> Option<&'a [u8]>
+    ensures { option_copied result ≡ fourth_of_words keyword.now (words_of line.now) }
+{
+    let (first, rest) = next_word(line)?;
+    let (_, rest) = next_word(rest)?;
+    let (_, rest) = next_word(rest)?;
+    let (fourth, _) = next_word(rest)?;
+    if first == keyword.as_bytes() {
+        Some(fourth)
+    } else {
+        None
+    }
+}
+
 fn process_of_line(line: &[u8]) -> Option<&[u8]>
     ensures { option_copied result ≡ process_of_words (words_of line.now) }
 {
-    second_of("process", line)
+    match second_of("process", line) {
+        Some(name) => Some(name),
+        None => second_of("child", line),
+    }
+}
+
+/// The process that the one of a line is a child of, where those of these tables stand before.
+fn parent_of_line(tables: &Tables, line: &[u8]) -> Option<Pid>
+    ensures { result ≡ parent_of_words tables.now.processes (words_of line.now) }
+{
+    let name = fourth_of("child", line)?;
+    Some(Pid(tables.process_number(name).unwrap_or(0)))
 }
 
 fn thread_of_line(line: &[u8]) -> Option<&[u8]>
@@ -75,7 +102,7 @@ fn path_of_line(line: &[u8]) -> Option<&[u8]>
     }
 }
 
-/// The names so far, and how many lines `process` have been.
+/// The names so far, and how many lines `process` and `child` have been.
 #[derive(Drop)]
 pub struct Names {
     pub tables: Tables,
@@ -83,15 +110,21 @@ pub struct Names {
 }
 
 impl Names {
-    fn add_process(&mut self, alloc: Global, name: &[u8]) -> Result<(), NoMemory>
-        requires { self.old.process + 1 < 2 ^ 32 }
-        ensures { OnOk result (self.new ≡ names_with_process self.old (Some name.now)) }
+    fn add_process(
+        &mut self,
+        alloc: Global,
+        name: &[u8],
+        parent: Option<Pid>,
+    ) -> Result<(), NoMemory>
+        requires count { self.old.process + 1 < 2 ^ 32 }
+        requires each { length self.old.tables.parents ≡ length self.old.tables.processes }
+        ensures { OnOk result (self.new ≡ names_with_process self.old parent (Some name.now)) }
     {
         self.process += 1;
         if self.tables.process_count() >= PROCESSES_MAX {
             return Ok(());
         }
-        self.tables.add_process(alloc, name)
+        self.tables.add_process(alloc, name, parent)
     }
 
     fn add_thread(&mut self, alloc: Global, name: &[u8]) -> Result<(), NoMemory>
@@ -117,6 +150,7 @@ impl Names {
     fn add(&mut self, alloc: Global, line: &[u8]) -> Result<(), NoMemory>
         requires process { self.old.process + 1 < 2 ^ 32 }
         requires paths { length self.old.tables.paths < 4294967294 }
+        requires each { length self.old.tables.parents ≡ length self.old.tables.processes }
         ensures { OnOk result (self.new ≡ names_of_line self.old (words_of line.now)) }
     {
         if let Some(name) = procedure_of_line(line) {
@@ -126,7 +160,8 @@ impl Names {
             self.add_thread(alloc, name)?;
         }
         if let Some(name) = process_of_line(line) {
-            self.add_process(alloc, name)?;
+            let parent = parent_of_line(&self.tables, line);
+            self.add_process(alloc, name, parent)?;
         }
         if let Some(path) = path_of_line(line) {
             self.tables.add_path(alloc, path)?;
@@ -136,7 +171,7 @@ impl Names {
 }
 
 /// The names of the lines of a text.
-#[tactic(auto, using(crate::proofs::NamesSteps::names_process, crate::proofs::NamesSteps::names_paths))]
+#[tactic(auto, using(crate::proofs::NamesSteps::names_process, crate::proofs::NamesSteps::names_paths, crate::proofs::NamesSteps::names_each))]
 pub fn tables_of_text(alloc: Global, text: &[u8]) -> Result<Tables, NoMemory>
     requires { length text.now < 4000000000 }
     ensures { IfOk result (λ tables. tables ≡ tables_of_lines (lines_of text.now)) }

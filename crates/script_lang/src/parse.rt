@@ -19,6 +19,8 @@ fn version_of(line: &[u8]) -> Option<u32>
 {
     if line == b"doors script 1".as_slice() {
         Some(1)
+    } else if line == b"doors script 2".as_slice() {
+        Some(2)
     } else {
         None
     }

@@ -3,12 +3,12 @@
 ghost use Rattle.std.specs.Prelude.{◌≡◌, ◌∷◌, [], ◌++◌, map, codes, Ok, IfOk, OnOk, MatchOption};
 ghost use Rattle.script_text.specs.Words.{joined_words, spaced_words};
 ghost use Rattle.script_line.specs.Words.{thread_word};
-ghost use Rattle.script_lang.specs.declared.item.ScriptLine.TheVariants.{Budget, Process, Do, Schedule};
+ghost use Rattle.script_lang.specs.declared.item.ScriptLine.TheVariants.{Budget, Do, Schedule};
 ghost use Rattle.script_lang.specs.Canonical.{canonical_text};
 ghost use Rattle.script_lang.specs.Printed.{items_text, PutsScriptLines, declared_items};
 ghost use Rattle.script_lang.specs.Parsing.{parse_result};
 ghost use Rattle.script_lang.specs.Spelled.{spells};
-ghost use Rattle.script_lang.specs.Scripts.{body_items, thread_items, procedure_items, schedule_items, tables_of, items_of};
+ghost use Rattle.script_lang.specs.Scripts.{body_items, process_item, thread_items, procedure_items, schedule_items, tables_of, items_of};
 
 use crate::script::{Part, Procedure, Script, ScriptProcess, ScriptThread};
 use dk_base::error::NoMemory;
@@ -44,15 +44,22 @@ fn put_named(text: &mut Writer, keyword: &[u8], name: &Bytes) -> Result<(), NoMe
     text.end_line()
 }
 
-/// `process NAME limit N`
+/// `process NAME limit N`, or `child NAME of PARENT`
 fn put_process(
     alloc: Global,
     tables: &Tables,
     text: &mut Writer,
     process: &ScriptProcess,
 ) -> Result<(), NoMemory>
-    ensures { PutsScriptLines tables.now (Process process.now.name process.now.limit ∷ []) text.old result text.new }
+    ensures { PutsScriptLines tables.now (process_item process.now ∷ []) text.old result text.new }
 {
+    if let Some(parent) = process.parent {
+        text.first(b"child")?;
+        text.word(process.name.slice())?;
+        text.word(b"of")?;
+        text.word(tables.process_name(parent))?;
+        return text.end_line();
+    }
     text.first(b"process")?;
     text.word(process.name.slice())?;
     text.word(b"limit")?;
@@ -254,7 +261,8 @@ fn text_of(alloc: Global, script: &Script) -> Result<Bytes, NoMemory>
     ensures { IfOk result (λ text. text ≡ canonical_text script.now) }
 {
     let mut text = Writer::new(alloc)?;
-    text.first(b"doors script 1")?;
+    text.first(b"doors script")?;
+    text.number(alloc, u64::from(script.version))?;
     text.end_line()?;
     put_script(alloc, &mut text, script)?;
     Ok(text.into_bytes())

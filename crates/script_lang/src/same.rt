@@ -23,12 +23,13 @@ impl Exact for Procedure {
 }
 
 impl Script {
-    /// Whether two scripts have the same budget, processes, threads, procedures, paths and schedule, declared in the same
+    /// Whether two scripts are of the same version, and have the same budget, processes, threads, procedures, paths and schedule, declared in the same
     /// order.
     pub fn same(&self, other: &Script) -> bool
         ensures { IsTrue result ↔ (self.now ≡ other.now) }
     {
-        self.budget == other.budget
+        self.version == other.version
+            && self.budget == other.budget
             && self.processes.same(&other.processes)
             && self.threads.same(&other.threads)
             && self.procedures.same(&other.procedures)

@@ -5,12 +5,14 @@ use script_line::line::Body;
 use script_line::tables::Tables;
 use std::marker::Model;
 
-/// A process of a script. Processes are numbered from 1 in order.
+/// A process of a script. Processes are numbered from 1 in order, children with them.
 #[derive(Drop, PartialEq)]
 pub struct ScriptProcess {
     pub name: Bytes,
-    /// How many descriptors it may have, at most 256.
+    /// How many descriptors it may have, at most 256; a child as many as its parent.
     pub limit: u32,
+    /// The process that it is a child of, if it is one.
+    pub parent: Option<Pid>,
 }
 
 /// A thread of a script, or a spare, whose body is empty. They are numbered together from 1 in order.
@@ -33,6 +35,7 @@ pub struct Procedure {
 /// What a line declares.
 #[derive(Clone, Copy, PartialEq, Eq)]
 pub enum Part {
+    /// A process or a child.
     Process,
     /// A thread or a spare.
     Thread,
@@ -41,6 +44,8 @@ pub enum Part {
 
 /// A script.
 pub struct Script {
+    /// The version of the language that its text is in.
+    pub(crate) version: u32,
     pub(crate) budget: u32,
     pub(crate) processes: Sequence<ScriptProcess>,
     pub(crate) threads: Sequence<ScriptThread>,
@@ -55,6 +60,7 @@ pub struct Script {
 impl Drop for Script {
     fn drop(self) {
         let Script {
+            version: _,
             budget: _,
             processes: _,
             threads: _,
@@ -73,9 +79,9 @@ impl Model for Script {
 
     ghost use Rattle.script_lang.specs.IsScript.{IsScript};
 
-    ghost view = { λ s. record { budget = s.budget; processes = s.processes; threads = s.threads; procedures = s.procedures; order = s.order; paths = s.tables.paths; schedule = s.schedule } };
+    ghost view = { λ s. record { version = s.version; budget = s.budget; processes = s.processes; threads = s.threads; procedures = s.procedures; order = s.order; paths = s.tables.paths; schedule = s.schedule } };
 
-    ghost invariant = { λ s. IsScript s.tables (record { budget = s.budget; processes = s.processes; threads = s.threads; procedures = s.procedures; order = s.order; paths = s.tables.paths; schedule = s.schedule }) };
+    ghost invariant = { λ s. IsScript s.tables (record { version = s.version; budget = s.budget; processes = s.processes; threads = s.threads; procedures = s.procedures; order = s.order; paths = s.tables.paths; schedule = s.schedule }) };
 }
 
 impl Script {
@@ -92,6 +98,13 @@ impl Script {
     {
         let _tables = &self.tables;
         laws::read_is_spelled();
+    }
+
+    /// The version of the language that its text is in, 1 or 2.
+    pub fn version(&self) -> u32
+        ensures { result ≡ self.now.version }
+    {
+        self.version
     }
 
     /// At most this many events are made.
@@ -129,6 +142,15 @@ impl Script {
         ensures { option_map (λ of. of.limit) (at_number self.now.processes process.0) ≡ Some result }
     {
         self.processes.slice()[process.0 as usize - 1].limit
+    }
+
+    /// The process that a process is a child of, if it is one.
+    pub fn parent(&self, process: Pid) -> Option<Pid>
+        requires first { 1 ≤ process.0 }
+        requires declared { process.0 ≤ length self.now.processes }
+        ensures { option_map (λ of. of.parent) (at_number self.now.processes process.0) ≡ Some result }
+    {
+        self.processes.slice()[process.0 as usize - 1].parent
     }
 
     /// The process of a thread or a spare.

@@ -71,9 +71,30 @@ impl LineReader {
         ensures { ReadsOn (item_reader (item_in_context self.now.version self.now.tables context.now word.now)) rest.entry result }
     {
         match context.place() {
-            ScriptPlace::Start => item_at_start(self.alloc, &self.tables, word, rest),
-            ScriptPlace::Processes => item_in_processes(self.alloc, &self.tables, word, rest),
-            ScriptPlace::Members => item_in_members(self.alloc, &self.tables, word, rest),
+            ScriptPlace::Start => item_at_start(
+                self.alloc,
+                self.version,
+                &self.tables,
+                context.process(),
+                word,
+                rest,
+            ),
+            ScriptPlace::Processes => item_in_processes(
+                self.alloc,
+                self.version,
+                &self.tables,
+                context.process(),
+                word,
+                rest,
+            ),
+            ScriptPlace::Members => item_in_members(
+                self.alloc,
+                self.version,
+                &self.tables,
+                context.process(),
+                word,
+                rest,
+            ),
             ScriptPlace::Body => self.item_in_body(context.process(), word, rest),
             ScriptPlace::Schedule => item_in_schedule(self.alloc, &self.tables, word, rest),
         }

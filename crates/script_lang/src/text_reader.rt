@@ -124,7 +124,11 @@ impl TextReader {
             return Err(ParseFault::at(line, Fault::Bad(Reason::Unknown)));
         }
         let TextReader { lines, draft, .. } = self;
-        let LineReader { tables, .. } = lines;
-        Ok(draft.into_script(tables))
+        let LineReader {
+            version,
+            tables,
+            ..
+        } = lines;
+        Ok(draft.into_script(version, tables))
     }
 }

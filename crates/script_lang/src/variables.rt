@@ -138,6 +138,7 @@ pub fn add_variables(
         | Line::Await { .. }
         | Line::Interrupt { .. }
         | Line::Kill { .. }
+        | Line::Fork { .. }
         | Line::Repeat { .. }
         | Line::If { .. }
         | Line::End => Ok(()),

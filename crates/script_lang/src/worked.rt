@@ -2,7 +2,7 @@
 
 ghost use Rattle.std.specs.Prelude.{◌≡◌, [], ◌∷◌, Some, codes};
 ghost use Rattle.script_text.specs.Words.{text_of_lines};
-ghost use Rattle.script_line.specs.declared.reason.Reason.TheVariants.{Header, Range, Twice, Body, Open, Unknown};
+ghost use Rattle.script_line.specs.declared.reason.Reason.TheVariants.{Header, Word, Form, Range, Twice, Body, Open, Unknown};
 ghost use Rattle.script_lang.specs.Parsing.{first_bad_line, bad_line, canonical_of_text};
 
 /// Texts that spell no script, with the first bad line and its reason.
@@ -18,4 +18,23 @@ pub fn bad_texts()
 /// A text, and the canonical text of the script that it spells.
 pub fn shown_text()
     ensures { canonical_of_text (text_of_lines (codes "doors script 1" ∷ [] ∷ codes "process  a" ∷ codes "thread t" ∷ codes " send 3 1 2" ∷ codes " return \"\\x41\\x0a\" + $v desc $d.0!" ∷ codes "end" ∷ [])) ≡ Some (text_of_lines (codes "doors script 1" ∷ codes "budget 100000" ∷ codes "process a limit 256" ∷ codes "thread t" ∷ codes "send 3 1 2" ∷ codes "return \"A\\x0a\" + $v desc $d!" ∷ codes "end" ∷ [])) }
+{}
+
+/// Texts of version 1 and 2 that spell no script since they have `child` or `fork`, with the first bad line and its reason.
+pub fn bad_children()
+    ensures child_in_version_1 { first_bad_line (text_of_lines (codes "doors script 1" ∷ codes "process a" ∷ codes "child k of a" ∷ [])) ≡ Some (bad_line 3 Word) }
+    ensures fork_in_version_1 { first_bad_line (text_of_lines (codes "doors script 1" ∷ codes "process a" ∷ codes "thread t" ∷ codes "fork k" ∷ codes "end" ∷ [])) ≡ Some (bad_line 4 Word) }
+    ensures version_3 { first_bad_line (text_of_lines (codes "doors script 3" ∷ [])) ≡ Some (bad_line 1 Header) }
+    ensures child_of_none { first_bad_line (text_of_lines (codes "doors script 2" ∷ codes "process a" ∷ codes "child k" ∷ [])) ≡ Some (bad_line 3 Form) }
+    ensures limited_child { first_bad_line (text_of_lines (codes "doors script 2" ∷ codes "process a" ∷ codes "child k of a limit 3" ∷ [])) ≡ Some (bad_line 3 Form) }
+    ensures declared_before { first_bad_line (text_of_lines (codes "doors script 2" ∷ codes "process a" ∷ codes "child a of a" ∷ [])) ≡ Some (bad_line 3 Twice) }
+    ensures child_of_itself { first_bad_line (text_of_lines (codes "doors script 2" ∷ codes "process a" ∷ codes "child k of k" ∷ [])) ≡ Some (bad_line 3 Unknown) }
+    ensures child_of_a_later_one { first_bad_line (text_of_lines (codes "doors script 2" ∷ codes "child k of a" ∷ codes "process a" ∷ [])) ≡ Some (bad_line 2 Unknown) }
+    ensures fork_of_no_child { first_bad_line (text_of_lines (codes "doors script 2" ∷ codes "process a" ∷ codes "thread t" ∷ codes "fork a" ∷ codes "end" ∷ [])) ≡ Some (bad_line 4 Unknown) }
+    ensures fork_of_anothers_child { first_bad_line (text_of_lines (codes "doors script 2" ∷ codes "process a" ∷ codes "process b" ∷ codes "thread t" ∷ codes "fork k" ∷ codes "end" ∷ codes "child k of a" ∷ [])) ≡ Some (bad_line 5 Unknown) }
+{}
+
+/// A text of version 2 with a child and a grandchild, and its canonical text.
+pub fn shown_children()
+    ensures { canonical_of_text (text_of_lines (codes "doors script 2" ∷ codes "process a limit 9" ∷ codes "thread t" ∷ codes "  fork   k" ∷ codes "end" ∷ codes "child k  of a" ∷ codes "child g of k" ∷ codes "spare s" ∷ [])) ≡ Some (text_of_lines (codes "doors script 2" ∷ codes "budget 100000" ∷ codes "process a limit 9" ∷ codes "thread t" ∷ codes "fork k" ∷ codes "end" ∷ codes "child k of a" ∷ codes "child g of k" ∷ codes "spare s" ∷ [])) }
 {}

@@ -1,5 +1,5 @@
 -- Names and their numbers.
-use Rattle.std.proofs.Common.{◌≡◌, ℕ, zero, suc, ◌+◌, ◌-◌, ◌<◌, Bool, true, false, cond, ◌==◌, ◌&&◌, not, List, [], ◌∷◌, length, Option, Some, None, refl, ap, sym, ◌∙◌, subst, arith}
+use Rattle.std.proofs.Common.{◌≡◌, ℕ, zero, suc, ◌+◌, ◌-◌, ◌<◌, ◌≤◌, Bool, true, false, cond, ◌==◌, ◌&&◌, not, List, [], ◌∷◌, length, take, Option, Some, None, refl, ap, sym, ◌∙◌, subst, arith}
 use Rattle.std.specs.Prelude.{slice_get, position, nat_lt, bytes_eq}
 use Rattle.std.specs.List.{position_or_len, list_any}
 use Rattle.std.proofs.lemmas.Bool.{false≢true, and_parts, or_parts}
@@ -7,7 +7,7 @@ use Rattle.std.proofs.lemmas.Bool.Decides.{nat_tests}
 use Rattle.std.proofs.lemmas.Slice.Eq.{bytes_eq-Decides}
 use Rattle.script_text.specs.Words.{are_distinct}
 use Rattle.dk_base.specs.ByNumber.{at_number}
-use Rattle.script_line.specs.Tables.{Tables, ProcedureName, is_same, is_procedure, from_one, entry_number, path_number}
+use Rattle.script_line.specs.Tables.{Tables, ProcedureName, child_number, earlier_number, entry_number, from_one, is_child, is_procedure, is_same, only_child, path_number, process_number}
 use Rattle.script_line.specs.DistinctTables.{is_same_procedure}
 use Rattle.script_line.specs.Spelled.{qualified_name}
 
@@ -153,3 +153,64 @@ number_of_procedure tables process n name distinct at =
 
 pub number_of_path : (tables : Tables) (n : ℕ) (name : List ℕ) → are_distinct bytes_eq tables.paths ≡ true → slice_get tables.paths n ≡ Some name → path_number tables name ≡ n
 number_of_path tables n name distinct at = first_at bytes_eq tables.paths n name (own_name name) distinct at
+
+-- children and parents
+
+child_at : (tables : Tables) (process : ℕ) (number : Option ℕ) (n : ℕ) → only_child tables process number ≡ Some n → (number ≡ Some n) × (is_child tables process n ≡ true)
+child_at tables process None n e = absurd (no_value e)
+child_at tables process (Some m) n e = let found = place_if (is_child tables process m) m n e in (ap Some found.1, ap (is_child tables process) (sym found.1) ∙ found.0)
+
+pub child_of_number : (tables : Tables) (process : ℕ) (name : List ℕ) (n : ℕ) → child_number tables process name ≡ Some n → (process_number tables name ≡ Some n) × (is_child tables process n ≡ true)
+child_of_number tables process name n e = child_at tables process (process_number tables name) n e
+
+pub number_of_child : (tables : Tables) (process : ℕ) (name : List ℕ) (n : ℕ) → process_number tables name ≡ Some n → is_child tables process n ≡ true → child_number tables process name ≡ Some n
+number_of_child tables process name n numbered is = ap (only_child tables process) numbered ∙ ap (λ test. cond test (Some n) None) is
+
+taken_at : {A : Type 0} (k : ℕ) (xs : List A) (i : ℕ) → i < k → slice_get (take k xs) i ≡ slice_get xs i
+taken_at zero xs i h = absurd (omega arith)
+taken_at (suc k) [] i h = refl
+taken_at (suc k) (x ∷ xs) zero h = refl
+taken_at (suc k) (x ∷ xs) (suc i) h = taken_at k xs i (omega arith)
+
+taken_within : {A : Type 0} (k : ℕ) (xs : List A) (i : ℕ) (y : A) → slice_get (take k xs) i ≡ Some y → i < k
+taken_within zero xs i y e = absurd (no_value e)
+taken_within (suc k) [] i y e = absurd (no_value e)
+taken_within (suc k) (x ∷ xs) zero y e = omega arith
+taken_within (suc k) (x ∷ xs) (suc i) y e = let later = taken_within k xs i y e in omega arith
+
+any_taken : {A : Type 0} (test : A → Bool) (k : ℕ) (xs : List A) → list_any test xs ≡ false → list_any test (take k xs) ≡ false
+any_taken test zero xs none = refl
+any_taken test (suc k) [] none = refl
+any_taken test (suc k) (x ∷ xs) none = let parts = or_parts (test x) (list_any test xs) none in rw (parts.0, any_taken test k xs parts.1) refl
+
+distinct_taken : {A : Type 0} (same : A → A → Bool) (k : ℕ) (xs : List A) → are_distinct same xs ≡ true → are_distinct same (take k xs) ≡ true
+distinct_taken same zero xs distinct = refl
+distinct_taken same (suc k) [] distinct = refl
+distinct_taken same (suc k) (x ∷ xs) distinct =
+    let parts = and_parts (not (list_any (same x) xs)) (are_distinct same xs) distinct in
+    rw (any_taken (same x) k xs (not_true (list_any (same x) xs) parts.0), distinct_taken same k xs parts.1) refl
+
+above_zero : (n : ℕ) → (n == 0) ≡ false → 0 < n
+above_zero n h = grind (arith, nat_tests)
+
+taken_number_if : (none : Bool) (k : ℕ) (names : List (List ℕ)) (n : ℕ) → (n == 0) ≡ none → n ≤ k → cond none None (slice_get (take k names) (n - 1)) ≡ cond none None (slice_get names (n - 1))
+taken_number_if true k names n is least = refl
+taken_number_if false k names n is least = let positive : 0 < n = above_zero n is in taken_at k names (n - 1) (omega arith)
+
+taken_number : (k : ℕ) (names : List (List ℕ)) (n : ℕ) → n ≤ k → at_number (take k names) n ≡ at_number names n
+taken_number k names n least = taken_number_if (n == 0) k names n refl least
+
+number_within_if : (none : Bool) (k : ℕ) (names : List (List ℕ)) (n : ℕ) (name : List ℕ) → (n == 0) ≡ none → cond none None (slice_get (take k names) (n - 1)) ≡ Some name → n ≤ k
+number_within_if true k names n name is at = absurd (no_value at)
+number_within_if false k names n name is at = let within = taken_within k names (n - 1) name at in omega arith
+
+-- a name that has this number among the first so many
+pub name_of_earlier : (names : List (List ℕ)) (before : ℕ) (name : List ℕ) (n : ℕ) → earlier_number (take before names) name ≡ Some n → (at_number names n ≡ Some name) × (n ≤ before)
+name_of_earlier names before name n e =
+    let at : at_number (take before names) n ≡ Some name = name_of_number (take before names) name n e in
+    let within : n ≤ before = number_within_if (n == 0) before names n name refl at in
+    (sym (taken_number before names n within) ∙ at, within)
+
+pub number_of_earlier : (names : List (List ℕ)) (before n : ℕ) (name : List ℕ) → are_distinct bytes_eq names ≡ true → at_number names n ≡ Some name → n ≤ before → earlier_number (take before names) name ≡ Some n
+number_of_earlier names before n name distinct at within =
+    number_of_name (take before names) n name (distinct_taken bytes_eq before names distinct) (taken_number before names n within ∙ at)

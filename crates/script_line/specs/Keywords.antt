@@ -1,8 +1,8 @@
 -- The first words of a body's lines.
-use Rattle.std.specs.Prelude.{ℕ, List, [], ◌∷◌, Option, codes}
+use Rattle.std.specs.Prelude.{ℕ, List, [], ◌∷◌, Option, None, codes, if◌then◌else◌, nat_le}
 use Rattle.std.specs.Option.{option_or}
 use Rattle.script_line.specs.declared.keyword.Keyword.{Keyword}
-use Rattle.script_line.specs.declared.keyword.Keyword.TheVariants.{Create, Call, Return, Serve, Revoke, Bind, Unbind, Info, GetParam, SetParam, Cred, TestCancel, Exit, Close, Dup, Attach, Detach, Open, Await, Pipe, Write, Read, PortCreate, Associate, Dissociate, Get, GetN, Send, SendN, Alert, Interrupt, Kill, Work, Repeat, If, End}
+use Rattle.script_line.specs.declared.keyword.Keyword.TheVariants.{Create, Call, Return, Serve, Revoke, Bind, Unbind, Info, GetParam, SetParam, Cred, TestCancel, Exit, Close, Dup, Attach, Detach, Open, Await, Pipe, Write, Read, PortCreate, Associate, Dissociate, Get, GetN, Send, SendN, Alert, Interrupt, Kill, Fork, Work, Repeat, If, End}
 use Rattle.script_line.specs.Enumerated.{value_of_word}
 
 abbrev pub keyword_word : Keyword → List ℕ
@@ -38,6 +38,7 @@ keyword_word SendN = codes "sendn"
 keyword_word Alert = codes "alert"
 keyword_word Interrupt = codes "interrupt"
 keyword_word Kill = codes "kill"
+keyword_word Fork = codes "fork"
 keyword_word Work = codes "work"
 keyword_word Repeat = codes "repeat"
 keyword_word If = codes "if"
@@ -55,6 +56,10 @@ keywords_open_to_get = Open ∷ Await ∷ Pipe ∷ Write ∷ Read ∷ PortCreate
 abbrev pub keywords_getn_to_end : List Keyword
 keywords_getn_to_end = GetN ∷ Send ∷ SendN ∷ Alert ∷ Interrupt ∷ Kill ∷ Work ∷ Repeat ∷ If ∷ End ∷ []
 
+-- those that version 2 adds
+abbrev pub keywords_since_2 : List Keyword
+keywords_since_2 = Fork ∷ []
+
 unfoldable pub keyword_create_to_info : List ℕ → Option Keyword
 keyword_create_to_info word = value_of_word keyword_word keywords_create_to_info word
 
@@ -67,6 +72,18 @@ keyword_open_to_get word = value_of_word keyword_word keywords_open_to_get word
 unfoldable pub keyword_getn_to_end : List ℕ → Option Keyword
 keyword_getn_to_end word = value_of_word keyword_word keywords_getn_to_end word
 
--- the keyword that a word is. Which words are keywords may depend on the text's version: version 1 has these.
+unfoldable pub keyword_since_2 : ℕ → List ℕ → Option Keyword
+keyword_since_2 version word = if nat_le 2 version then value_of_word keyword_word keywords_since_2 word else None
+
+-- the keyword that a word is, in a text of this version
 abbrev pub keyword_of : ℕ → List ℕ → Option Keyword
-keyword_of version word = option_or (keyword_create_to_info word) (option_or (keyword_getparam_to_detach word) (option_or (keyword_open_to_get word) (keyword_getn_to_end word)))
+keyword_of version word =
+    option_or (keyword_create_to_info word) (
+    option_or (keyword_getparam_to_detach word) (
+    option_or (keyword_open_to_get word) (
+    option_or (keyword_getn_to_end word) (keyword_since_2 version word))))
+
+-- the least version in whose texts a keyword is one
+abbrev pub keyword_version : Keyword → ℕ
+keyword_version Fork = 2
+keyword_version keyword = 1

@@ -106,12 +106,15 @@ line_exact = enum_exact enum _ (
                                                                 (
                                                                   last_exact process_exact,
                                                                   (
-                                                                    field_exact bytes_exact (field_exact op_exact (last_exact pieces_exact)),
+                                                                    last_exact process_exact,
                                                                     (
-                                                                      last_exact number_exact,
+                                                                      field_exact bytes_exact (field_exact op_exact (last_exact pieces_exact)),
                                                                       (
-                                                                        last_exact cond_exact,
-                                                                        (none_exact, tt),
+                                                                        last_exact number_exact,
+                                                                        (
+                                                                          last_exact cond_exact,
+                                                                          (none_exact, tt),
+                                                                        ),
                                                                       ),
                                                                     ),
                                                                   ),

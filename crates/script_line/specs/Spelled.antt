@@ -10,9 +10,9 @@ use Rattle.script_line.specs.declared.line.PassArg.{PassArg}
 use Rattle.script_line.specs.declared.line.Piece.{Piece}
 use Rattle.script_line.specs.declared.line.Piece.TheVariants.{Text, Of, Fill}
 use Rattle.script_line.specs.declared.line.Line.{Line}
-use Rattle.script_line.specs.declared.line.Line.TheVariants.{Create, Call, Return, Serve, Revoke, Bind, Unbind, Info, InfoQuery, GetParam, SetParam, Cred, TestCancel, Exit, Close, Dup, Attach, Detach, Open, Await, Pipe, Write, Read, PortCreate, Associate, Dissociate, Get, GetN, Send, SendN, Alert, Interrupt, Kill, Work, Repeat, If, End}
+use Rattle.script_line.specs.declared.line.Line.TheVariants.{Create, Call, Return, Serve, Revoke, Bind, Unbind, Info, InfoQuery, GetParam, SetParam, Cred, TestCancel, Exit, Close, Dup, Attach, Detach, Open, Await, Pipe, Write, Read, PortCreate, Associate, Dissociate, Get, GetN, Send, SendN, Alert, Interrupt, Kill, Fork, Work, Repeat, If, End}
 use Rattle.dk_base.specs.ByNumber.{at_number}
-use Rattle.script_line.specs.Tables.{Tables, ProcedureName}
+use Rattle.script_line.specs.Tables.{Tables, ProcedureName, is_child}
 use Rattle.script_line.specs.Sets.{attributes_of, bits_of_word, poll_flags}
 use Rattle.script_line.specs.Enumerated.{param_word, mode_word, op_word, cond_word}
 use Rattle.script_line.specs.GreatestNumbers.{greatest_32, greatest_64}
@@ -46,6 +46,14 @@ Each Spells (x ∷ xs) Next = First (Spells x) (Each Spells xs Next)
 
 abbrev pub SpellsProcess : Tables → Pid → List ℕ → Type 0
 SpellsProcess tables process word = (is_name word ≡ true) × (at_number tables.processes process.0 ≡ Some word)
+
+-- a process that stands before, where so many do
+abbrev pub SpellsParent : Tables → ℕ → Pid → List ℕ → Type 0
+SpellsParent tables before parent word = SpellsProcess tables parent word × (parent.0 ≤ before)
+
+-- a child of this process
+abbrev pub SpellsChild : Tables → ℕ → Pid → List ℕ → Type 0
+SpellsChild tables process child word = SpellsProcess tables child word × (is_child tables process child.0 ≡ true)
 
 abbrev pub SpellsThread : Tables → Tid → List ℕ → Type 0
 SpellsThread tables thread word = (is_name word ≡ true) × (at_number tables.threads thread.0 ≡ Some word)
@@ -177,6 +185,7 @@ SpellsLine tables process (SendN events user ports) = Then (codes "sendn") (Firs
 SpellsLine tables process (Alert port mode events user) = Then (codes "alert") (First (SpellsFd port) (First (SpellsMode mode) (First (SpellsNumber 0 greatest_32 events) (First (SpellsNumber 0 greatest_64 user) Ends))))
 SpellsLine tables process (Interrupt thread) = Then (codes "interrupt") (First (SpellsThread tables thread) Ends)
 SpellsLine tables process (Kill whom) = Then (codes "kill") (First (SpellsProcess tables whom) Ends)
+SpellsLine tables process (Fork child) = Then (codes "fork") (First (SpellsChild tables process child) Ends)
 SpellsLine tables process (Work var op bytes) = Then (codes "work") (First (SpellsName var) (First (SpellsOp op) (SpellsPieces bytes Ends)))
 SpellsLine tables process (Repeat times) = Then (codes "repeat") (First (SpellsNumber 1 1000000 times) Ends)
 SpellsLine tables process (If cond) = Then (codes "if") (First (SpellsCond cond) Ends)

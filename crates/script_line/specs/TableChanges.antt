@@ -1,20 +1,23 @@
 -- Tables as they are made.
-use Rattle.std.specs.Prelude.{ℕ, List, [], ◌∷◌, ◌++◌}
+use Rattle.std.specs.Prelude.{ℕ, List, [], ◌∷◌, ◌++◌, Option}
+use Rattle.script_text.specs.Types.{Pid}
 use Rattle.script_text.specs.Words.{with_distinct_name}
 use Rattle.script_line.specs.Tables.{Tables}
 
 abbrev pub no_names : Tables
-no_names = record { processes = []; threads = []; procedures = []; paths = [] }
+no_names = record { processes = []; parents = []; threads = []; procedures = []; paths = [] }
 
-abbrev pub tables_with_process : Tables → List ℕ → Tables
-tables_with_process tables name = record { processes = tables.processes ++ name ∷ []; threads = tables.threads; procedures = tables.procedures; paths = tables.paths }
+-- with a process, which may be a child
+abbrev pub tables_with_process : Tables → List ℕ → Option Pid → Tables
+tables_with_process tables name parent =
+    record { processes = tables.processes ++ name ∷ []; parents = tables.parents ++ parent ∷ []; threads = tables.threads; procedures = tables.procedures; paths = tables.paths }
 
 abbrev pub tables_with_thread : Tables → List ℕ → Tables
-tables_with_thread tables name = record { processes = tables.processes; threads = tables.threads ++ name ∷ []; procedures = tables.procedures; paths = tables.paths }
+tables_with_thread tables name = record { processes = tables.processes; parents = tables.parents; threads = tables.threads ++ name ∷ []; procedures = tables.procedures; paths = tables.paths }
 
 abbrev pub tables_with_procedure : Tables → ℕ → List ℕ → Tables
 tables_with_procedure tables process name =
-    record { processes = tables.processes; threads = tables.threads; procedures = tables.procedures ++ record { process = process; name = name } ∷ []; paths = tables.paths }
+    record { processes = tables.processes; parents = tables.parents; threads = tables.threads; procedures = tables.procedures ++ record { process = process; name = name } ∷ []; paths = tables.paths }
 
 abbrev pub tables_with_path : Tables → List ℕ → Tables
-tables_with_path tables name = record { processes = tables.processes; threads = tables.threads; procedures = tables.procedures; paths = with_distinct_name tables.paths name }
+tables_with_path tables name = record { processes = tables.processes; parents = tables.parents; threads = tables.threads; procedures = tables.procedures; paths = with_distinct_name tables.paths name }

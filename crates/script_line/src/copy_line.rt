@@ -181,6 +181,7 @@ impl Duplicate for Line {
             }),
             Line::Interrupt { thread } => Ok(Line::Interrupt { thread: *thread }),
             Line::Kill { process } => Ok(Line::Kill { process: *process }),
+            Line::Fork { child } => Ok(Line::Fork { child: *child }),
             Line::Work { var, op, bytes } => Ok(Line::Work {
                 var: var.copy(alloc)?,
                 op: *op,

@@ -33,6 +33,7 @@ pub enum Keyword {
     Alert,
     Interrupt,
     Kill,
+    Fork,
     Work,
     Repeat,
     If,

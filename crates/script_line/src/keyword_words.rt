@@ -1,5 +1,5 @@
 ghost use Rattle.std.specs.Prelude.{◌≡◌};
-ghost use Rattle.script_line.specs.Keywords.{keyword_word, keyword_create_to_info as create_to_info_spelled, keyword_getparam_to_detach as getparam_to_detach_spelled, keyword_open_to_get as open_to_get_spelled, keyword_getn_to_end as getn_to_end_spelled, keyword_of as keyword_spelled};
+ghost use Rattle.script_line.specs.Keywords.{keyword_word, keyword_create_to_info as create_to_info_spelled, keyword_getparam_to_detach as getparam_to_detach_spelled, keyword_open_to_get as open_to_get_spelled, keyword_getn_to_end as getn_to_end_spelled, keyword_since_2 as since_2_spelled, keyword_of as keyword_spelled};
 
 use crate::keyword::Keyword;
 
@@ -40,6 +40,7 @@ pub fn word_of(keyword: Keyword) -> &'static str
         Keyword::Alert => "alert",
         Keyword::Interrupt => "interrupt",
         Keyword::Kill => "kill",
+        Keyword::Fork => "fork",
         Keyword::Work => "work",
         Keyword::Repeat => "repeat",
         Keyword::If => "if",
@@ -135,6 +136,22 @@ fn keyword_getn_to_end(word: &[u8]) -> Option<Keyword>
         .find(|keyword| word == word_of(*keyword).as_bytes())
 }
 
+const KEYWORDS_SINCE_2: [Keyword; 1] = [Keyword::Fork];
+
+/// The keyword that a word is, of those that version 2 adds.
+#[tactic(auto, unfolding(crate::specs::Keywords::keyword_since_2))]
+fn keyword_since_2(version: u32, word: &[u8]) -> Option<Keyword>
+    ensures { result ≡ since_2_spelled version word.now }
+{
+    if version < 2 {
+        return None;
+    }
+    KEYWORDS_SINCE_2
+        .iter()
+        .copied()
+        .find(|keyword| word == word_of(*keyword).as_bytes())
+}
+
 /// The keyword that a word is, in a text of this version.
 pub fn keyword_of(version: u32, word: &[u8]) -> Option<Keyword>
     ensures { result ≡ keyword_spelled version word.now }
@@ -143,4 +160,5 @@ pub fn keyword_of(version: u32, word: &[u8]) -> Option<Keyword>
         .or(keyword_getparam_to_detach(word))
         .or(keyword_open_to_get(word))
         .or(keyword_getn_to_end(word))
+        .or(keyword_since_2(version, word))
 }

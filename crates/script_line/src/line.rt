@@ -204,6 +204,10 @@ pub enum Line {
     Kill {
         process: Pid,
     },
+    /// `fork CHILD` (fork(2))
+    Fork {
+        child: Pid,
+    },
     /// `work VAR OP DATA`
     Work {
         var: Bytes,

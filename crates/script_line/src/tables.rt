@@ -1,3 +1,5 @@
+ghost use Rattle.std.specs.Prelude.{◌≡◌, IfOk};
+
 use crate::paths::PathTable;
 use crate::search::{ProcedureName, name_at, place_of, place_of_procedure, procedure_at};
 use dk_base::duplicate::Duplicate;
@@ -13,6 +15,8 @@ use std::marker::Model;
 #[derive(Drop)]
 pub struct Tables {
     processes: Sequence<Bytes>,
+    /// Of each process that which it is a child of, if it is one.
+    parents: Vec<Option<Pid>>,
     threads: Sequence<Bytes>,
     procedures: Sequence<ProcedureName>,
     paths: PathTable,
@@ -25,15 +29,24 @@ impl Model for Tables {
 
     ghost use Rattle.script_line.specs.TableLimits.{HasNumbers};
 
-    ghost view = { λ tables. record { processes = tables.processes; threads = tables.threads; procedures = tables.procedures; paths = tables.paths } };
+    ghost view = { λ tables. record { processes = tables.processes; parents = tables.parents.items; threads = tables.threads; procedures = tables.procedures; paths = tables.paths } };
 
     ghost invariant = { λ tables. HasNumbers tables.processes tables.threads tables.procedures };
 }
 
+fn copy_of(alloc: Global, parents: &[Option<Pid>]) -> Result<Vec<Option<Pid>>, NoMemory>
+    ensures { IfOk result (λ copy. copy.items ≡ parents.now) }
+{
+    match Vec::from_slice(alloc, parents) {
+        Ok(parents) => Ok(parents),
+        Err(_) => Err(NoMemory),
+    }
+}
+
 impl Tables {
-    ghost use Rattle.std.specs.Prelude.{◌≡◌, ◌<◌, ◌↔◌, ◌∷◌, ◌++◌, [], length, IfOk, IsTrue, OnOk, OnErr};
+    ghost use Rattle.std.specs.Prelude.{◌≡◌, ◌<◌, ◌↔◌, ◌∷◌, ◌++◌, [], length, take, IfOk, IsTrue, OnOk, OnErr};
     ghost use Rattle.script_text.specs.Words.{with_distinct_name};
-    ghost use Rattle.script_line.specs.Tables.{process_number as process_numbered, thread_number as thread_numbered, entry_number as entry_numbered, path_number as path_numbered};
+    ghost use Rattle.script_line.specs.Tables.{child_number as child_numbered, earlier_number as earlier_numbered, is_child as is_child_of, process_number as process_numbered, thread_number as thread_numbered, entry_number as entry_numbered, path_number as path_numbered};
     ghost use Rattle.script_line.specs.CanonicalWords.{process_word, thread_word, procedure_word, path_word};
     ghost use Rattle.script_line.specs.TableChanges.{no_names, tables_with_process, tables_with_thread, tables_with_procedure, tables_with_path};
 
@@ -43,19 +56,31 @@ impl Tables {
     {
         Tables {
             processes: Sequence::new(alloc),
+            parents: Vec::new(alloc),
             threads: Sequence::new(alloc),
             procedures: Sequence::new(alloc),
             paths: PathTable::new(alloc),
         }
     }
 
-    /// Gives a process the next number. Want of memory leaves all as it was.
-    pub fn add_process(&mut self, alloc: Global, name: &[u8]) -> Result<(), NoMemory>
+    /// Gives a process, which may be a child of another, the next number. Want of memory leaves all as it was.
+    pub fn add_process(
+        &mut self,
+        alloc: Global,
+        name: &[u8],
+        parent: Option<Pid>,
+    ) -> Result<(), NoMemory>
         requires { length self.old.processes < 4294967294 }
-        ensures ok { OnOk result (self.new ≡ tables_with_process self.old name.now) }
+        ensures ok { OnOk result (self.new ≡ tables_with_process self.old name.now parent) }
         ensures err { OnErr result (self.new ≡ self.old) }
     {
-        self.processes.push(Sequence::from_slice(alloc, name)?)
+        let name = Sequence::from_slice(alloc, name)?;
+        if self.parents.reserve(1).is_err() {
+            return Err(NoMemory);
+        }
+        self.processes.push(name)?;
+        self.parents.push_reserved(parent);
+        Ok(())
     }
 
     /// Gives a thread or a spare the next number. Want of memory leaves all as it was.
@@ -117,6 +142,40 @@ impl Tables {
         Some(place as u32 + 1)
     }
 
+    /// The same, of the first processes, which are so many.
+    pub fn earlier_number(&self, before: u32, name: &[u8]) -> Option<u32>
+        ensures { result ≡ earlier_numbered (take before self.now.processes) name.now }
+    {
+        let names = self.processes.slice();
+        let place = place_of(&names[..names.len().min(before as usize)], name)?;
+        Some(place as u32 + 1)
+    }
+
+    /// Whether a process is a child of this one.
+    fn is_child(&self, process: u32, number: u32) -> bool
+        ensures { result ≡ is_child_of self.now process number }
+    {
+        if number == 0 {
+            return false;
+        }
+        match self.parents.get(number as usize - 1) {
+            Some(Some(parent)) => parent.0 == process,
+            _ => false,
+        }
+    }
+
+    /// The number of this process's child of this name.
+    pub fn child_number(&self, process: u32, name: &[u8]) -> Option<u32>
+        ensures { result ≡ child_numbered self.now process name.now }
+    {
+        let number = self.process_number(name)?;
+        if self.is_child(process, number) {
+            Some(number)
+        } else {
+            None
+        }
+    }
+
     /// The number of the thread or spare of this name.
     pub fn thread_number(&self, name: &[u8]) -> Option<u32>
         ensures { result ≡ thread_numbered self.now name.now }
@@ -173,6 +232,7 @@ impl Tables {
     {
         Ok(Tables {
             processes: self.processes.duplicate(alloc)?,
+            parents: copy_of(alloc, &self.parents)?,
             threads: self.threads.duplicate(alloc)?,
             procedures: self.procedures.duplicate(alloc)?,
             paths: self.paths.copy()?,

@@ -12,7 +12,7 @@ pub returns : goal.returns
 returns c =
     let i = c.script.inside in
     let tables = i.tables in
-    let view : ScriptValue = record { budget = i.budget; processes = i.processes; threads = i.threads; procedures = i.procedures; order = i.order; paths = i.tables.paths; schedule = i.schedule } in
+    let view : ScriptValue = record { version = i.version; budget = i.budget; processes = i.processes; threads = i.threads; procedures = i.procedures; order = i.order; paths = i.tables.paths; schedule = i.schedule } in
     let parts : List ScriptLine = part_items i.order i.processes i.threads i.procedures in
     let same : part_items c.slice.result.now c.slice-2.result.now c.slice-3.result.now c.slice-4.result.now ≡ parts = rw (c.slice.ensures, c.slice-2.ensures, c.slice-3.ensures, c.slice-4.ensures) refl in
     let front : c.put_parts.new.text ≡ (c.args.text.now ++ items_text tables (Budget i.budget ∷ [])) ++ items_text tables parts =

@@ -1,4 +1,4 @@
-use Rattle.script_line.specs.declared.keyword.Keyword.TheVariants.{Create, Call, Return, Serve, Revoke, Bind, Unbind, Info, GetParam, SetParam, Cred, TestCancel, Exit, Close, Dup, Attach, Detach, Open, Await, Pipe, Write, Read, PortCreate, Associate, Dissociate, Get, GetN, Send, SendN, Alert, Interrupt, Kill, Work, Repeat, If, End}
+use Rattle.script_line.specs.declared.keyword.Keyword.TheVariants.{Create, Call, Return, Serve, Revoke, Bind, Unbind, Info, GetParam, SetParam, Cred, TestCancel, Exit, Close, Dup, Attach, Detach, Open, Await, Pipe, Write, Read, PortCreate, Associate, Dissociate, Get, GetN, Send, SendN, Alert, Interrupt, Kill, Fork, Work, Repeat, If, End}
 use Rattle.line_reader.proofs.ByKeyword.{at_keyword}
 use Rattle.line_reader.proofs.operands.Operands.line.Goals as goal
 
@@ -97,6 +97,9 @@ returns-in-Interrupt c = at_keyword c.args.tables.now c.args.process c.args.self
 
 pub returns-in-Kill : goal.returns-in-Kill
 returns-in-Kill c = at_keyword c.args.tables.now c.args.process c.args.self.now c.kill_line.result c.kill_line.new.self _ Kill c.in-Kill.is c.kill_line.ensures
+
+pub returns-in-Fork : goal.returns-in-Fork
+returns-in-Fork c = at_keyword c.args.tables.now c.args.process c.args.self.now c.fork_line.result c.fork_line.new.self _ Fork c.in-Fork.is c.fork_line.ensures
 
 pub returns-in-Work : goal.returns-in-Work
 returns-in-Work c = at_keyword c.args.tables.now c.args.process c.args.self.now c.work_line.result c.work_line.new.self _ Work c.in-Work.is c.work_line.ensures
