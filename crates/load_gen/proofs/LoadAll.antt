@@ -1,5 +1,6 @@
 -- The text of every load is read as its script.
 use Rattle.std.proofs.Common.{◌≡◌, ◌≤◌, ◌==◌, ℕ, zero, suc, true, false, List, [], ◌∷◌, ◌++◌, filter, Ok, codes, refl, sym, ap, ◌∙◌, subst, inl, inr, arith}
+use Rattle.std.specs.Fmt.{digits}
 use Rattle.std.specs.List.{list_all}
 use Rattle.std.proofs.lemmas.Bool.{and_from}
 use Rattle.script_text.specs.Words.{is_one_line, text_of_lines}
@@ -27,11 +28,11 @@ printable_lines tables context (line ∷ lines) (item ∷ items) h =
     ]
 
 text_spelled : (clients : List Client) → SpellsScript (lines_after_header ++ lines_of_clients clients) (script_with_clients clients) → spells (text_of_lines (first_lines ++ lines_of_clients clients)) (script_with_clients clients)
-unfolding spells
+unfolding spells digits
 text_spelled clients h =
     let script = script_with_clients clients in
     let one_line : list_all is_one_line (first_lines ++ lines_of_clients clients) ≡ true = and_from _ _ refl (printable_lines (tables_of script) first_context (lines_after_header ++ lines_of_clients clients) h.items h.spells) in
-    subst (λ lines. SpellsLines lines script) (sym (lines_of-text_of_lines (first_lines ++ lines_of_clients clients) one_line)) (refl, h)
+    subst (λ lines. SpellsLines lines script) (sym (lines_of-text_of_lines (first_lines ++ lines_of_clients clients) one_line)) (refl, refl, h)
 
 abbrev IsSpelled : List Client → Type 0
 IsSpelled clients = SpellsScript (lines_after_header ++ lines_of_clients clients) (script_with_clients clients)

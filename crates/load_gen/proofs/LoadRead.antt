@@ -54,6 +54,7 @@ one_client m1 s1 f1 =
       items = first_items ++ flat_map items_of_client (client (codes "k1") m1 ∷ []);
       spells = first_spelled (tables_of script) (lines_of_clients (client (codes "k1") m1 ∷ [])) (flat_map items_of_client (client (codes "k1") m1 ∷ [])) refl refl
           (client_spelled (tables_of script) (codes "k1") m1 (codes "s" ∷ []) (codes "arg" ∷ []) (lines_of_clients ([])) (flat_map items_of_client ([])) thread_line_1 refl refl refl s1 f1 refl);
+      of_version = refl;
       different_paths = refl;
       numbered_paths = refl;
       is_script = refl;
@@ -66,6 +67,7 @@ two_clients m1 m2 s1 f1 s2 f2 =
       items = first_items ++ flat_map items_of_client (client (codes "k1") m1 ∷ client (codes "k2") m2 ∷ []);
       spells = first_spelled (tables_of script) (lines_of_clients (client (codes "k1") m1 ∷ client (codes "k2") m2 ∷ [])) (flat_map items_of_client (client (codes "k1") m1 ∷ client (codes "k2") m2 ∷ [])) refl refl
           (client_spelled (tables_of script) (codes "k1") m1 (codes "s" ∷ []) (codes "arg" ∷ []) (lines_of_clients (client (codes "k2") m2 ∷ [])) (flat_map items_of_client (client (codes "k2") m2 ∷ [])) thread_line_1 refl refl refl s1 f1 (client_spelled (tables_of script) (codes "k2") m2 (codes "s" ∷ codes "k1" ∷ []) client_variables (lines_of_clients ([])) (flat_map items_of_client ([])) thread_line_2 refl refl refl s2 f2 refl));
+      of_version = refl;
       different_paths = refl;
       numbered_paths = refl;
       is_script = refl;
@@ -78,6 +80,7 @@ three_clients m1 m2 m3 s1 f1 s2 f2 s3 f3 =
       items = first_items ++ flat_map items_of_client (client (codes "k1") m1 ∷ client (codes "k2") m2 ∷ client (codes "k3") m3 ∷ []);
       spells = first_spelled (tables_of script) (lines_of_clients (client (codes "k1") m1 ∷ client (codes "k2") m2 ∷ client (codes "k3") m3 ∷ [])) (flat_map items_of_client (client (codes "k1") m1 ∷ client (codes "k2") m2 ∷ client (codes "k3") m3 ∷ [])) refl refl
           (client_spelled (tables_of script) (codes "k1") m1 (codes "s" ∷ []) (codes "arg" ∷ []) (lines_of_clients (client (codes "k2") m2 ∷ client (codes "k3") m3 ∷ [])) (flat_map items_of_client (client (codes "k2") m2 ∷ client (codes "k3") m3 ∷ [])) thread_line_1 refl refl refl s1 f1 (client_spelled (tables_of script) (codes "k2") m2 (codes "s" ∷ codes "k1" ∷ []) client_variables (lines_of_clients (client (codes "k3") m3 ∷ [])) (flat_map items_of_client (client (codes "k3") m3 ∷ [])) thread_line_2 refl refl refl s2 f2 (client_spelled (tables_of script) (codes "k3") m3 (codes "s" ∷ codes "k1" ∷ codes "k2" ∷ []) client_variables (lines_of_clients ([])) (flat_map items_of_client ([])) thread_line_3 refl refl refl s3 f3 refl)));
+      of_version = refl;
       different_paths = refl;
       numbered_paths = refl;
       is_script = refl;
@@ -90,6 +93,7 @@ four_clients_spelled m1 m2 m3 m4 s1 f1 s2 f2 s3 f3 s4 f4 =
       items = first_items ++ flat_map items_of_client (client (codes "k1") m1 ∷ client (codes "k2") m2 ∷ client (codes "k3") m3 ∷ client (codes "k4") m4 ∷ []);
       spells = first_spelled (tables_of script) (lines_of_clients (client (codes "k1") m1 ∷ client (codes "k2") m2 ∷ client (codes "k3") m3 ∷ client (codes "k4") m4 ∷ [])) (flat_map items_of_client (client (codes "k1") m1 ∷ client (codes "k2") m2 ∷ client (codes "k3") m3 ∷ client (codes "k4") m4 ∷ [])) refl refl
           (client_spelled (tables_of script) (codes "k1") m1 (codes "s" ∷ []) (codes "arg" ∷ []) (lines_of_clients (client (codes "k2") m2 ∷ client (codes "k3") m3 ∷ client (codes "k4") m4 ∷ [])) (flat_map items_of_client (client (codes "k2") m2 ∷ client (codes "k3") m3 ∷ client (codes "k4") m4 ∷ [])) thread_line_1 refl refl refl s1 f1 (client_spelled (tables_of script) (codes "k2") m2 (codes "s" ∷ codes "k1" ∷ []) client_variables (lines_of_clients (client (codes "k3") m3 ∷ client (codes "k4") m4 ∷ [])) (flat_map items_of_client (client (codes "k3") m3 ∷ client (codes "k4") m4 ∷ [])) thread_line_2 refl refl refl s2 f2 (client_spelled (tables_of script) (codes "k3") m3 (codes "s" ∷ codes "k1" ∷ codes "k2" ∷ []) client_variables (lines_of_clients (client (codes "k4") m4 ∷ [])) (flat_map items_of_client (client (codes "k4") m4 ∷ [])) thread_line_3 refl refl refl s3 f3 (client_spelled (tables_of script) (codes "k4") m4 (codes "s" ∷ codes "k1" ∷ codes "k2" ∷ codes "k3" ∷ []) client_variables (lines_of_clients ([])) (flat_map items_of_client ([])) thread_line_4 refl refl refl s4 f4 refl))));
+      of_version = refl;
       different_paths = refl;
       numbered_paths = refl;
       is_script = refl;

@@ -1,6 +1,6 @@
 -- The script of a load: a server whose procedure closes the descriptor that it was given and returns the bytes, and one to
 -- four clients that make the calls.
-use Rattle.std.specs.Prelude.{ℕ, ◌+◌, ◌-◌, ◌/◌, ◌==◌, not, Bool, true, false, List, [], ◌∷◌, map, filter, codes}
+use Rattle.std.specs.Prelude.{ℕ, ◌+◌, ◌-◌, ◌/◌, ◌==◌, not, Bool, true, false, List, [], ◌∷◌, None, map, filter, codes}
 use Rattle.script_text.specs.Types.{Attrs, PathId}
 use Rattle.script_lang.specs.Types.{FdArg, Line, PassArg}
 use Rattle.script_line.specs.declared.line.FdArg.TheVariants.{Of as OfVariable}
@@ -86,7 +86,7 @@ client_body calls =
 -- the script
 
 abbrev pub load_process : List ℕ → ScriptProcess
-load_process name = record { name = name; limit = DESCRIPTORS_MAX }
+load_process name = record { name = name; limit = DESCRIPTORS_MAX; parent = None }
 
 abbrev pub load_thread : ℕ → List ℕ → List Line → ScriptThread
 load_thread process name body = record { name = name; process = record { 0 = process }; spare = false; body = body }
@@ -104,6 +104,7 @@ client_part c = ThreadPart
 abbrev pub script_with_clients : List Client → ScriptValue
 script_with_clients clients =
     record {
+      version = 1;
       budget = BUDGET_MAX;
       processes = load_process (codes "srv") ∷ load_process (codes "cli") ∷ [];
       threads = load_thread 1 (codes "s") server_body ∷ map client_thread clients;

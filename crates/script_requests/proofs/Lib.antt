@@ -1,4 +1,5 @@
 pub mod WrittenOut
 pub mod Elements
+pub mod Children
 pub mod SoundFrames
 pub mod SoundScripts

@@ -9,11 +9,10 @@ use Rattle.script_lang.specs.Types.{Cond, Kind, Line}
 use Rattle.script_line.specs.declared.line.Kind.TheVariants.{Act, Loop, Test, Closing}
 use Rattle.script_line.specs.Words.{kind_of}
 use Rattle.script_lang.specs.Words.{ScriptValue}
-use Rattle.script_requests.specs.Requests.{Frame, is_met, new_frame, first_frame_or_empty, first_frame, body_or_empty, procedure_body, procedure_frame, steps_after, frame_after_command, frame_after_answer, frame_after, frame_from, frame_of}
+use Rattle.script_requests.specs.Requests.{Frame, is_met, new_frame, first_frame_or_empty, first_frame, body_or_empty, procedure_body, procedure_frame, steps_after, frame_after_command, frame_after_answer, frame_after}
 use Rattle.script_requests.specs.Steps.{BodyStep, copies, innermost_block, outer_blocks, before_innermost, tested_steps, line_before, blocks_of, steps_of_body, next_steps, times_of, tested_condition}
 use Rattle.script_requests.specs.Steps.BodyStep.{Do, When}
 use Rattle.script_requests.specs.Variables.{Variables}
-use Rattle.script_requests.proofs.Elements.{All-slice_get, All-at_number}
 
 -- a step that is a command of which P holds, or a test
 abbrev pub IsStep : (Line → Type 0) → BodyStep → Type 0
@@ -101,59 +100,57 @@ steps_after-steps : (P : Line → Type 0) (steps : List BodyStep) → AreSteps P
 steps_after-steps P [] h = h
 steps_after-steps P (step ∷ steps) h = All-tail (IsStep P) step steps h
 
--- P holds of each line of the threads' bodies, and of the procedures'
-pub record AreLines (P : Bool → Line → Type 0) (script : ScriptValue) : Type 0 where
-  pub threads : All (λ (x : ScriptThread). All (P false) x.body) script.threads
-  pub procedures : All (λ (x : Procedure). All (P true) x.body) script.procedures
-
 -- P holds of each command that is ahead in a frame
-pub record IsFrame (P : Bool → Line → Type 0) (f : Frame) : Type 0 where
-  pub steps : AreSteps (P f.procedure) f.steps
+pub record IsFrame (P : Line → Type 0) (f : Frame) : Type 0 where
+  pub steps : AreSteps P f.steps
 
 new_frame-frame :
-    (P : Bool → Line → Type 0) (procedure notice : Bool) (variables : Variables) (body : List Line) →
-    All (P procedure) body → IsFrame P (new_frame procedure notice variables body)
+    (P : Line → Type 0) (procedure notice : Bool) (variables : Variables) (body : List Line) → All P body →
+    IsFrame P (new_frame procedure notice variables body)
 new_frame-frame P procedure notice variables body h =
-    record {
-      steps =
-          next_steps-steps
-          (P procedure)
-          (is_met answer.Done notice)
-          0
-          (steps_of_body body)
-          (steps_of_body-steps (P procedure) body h);
-    }
+    record { steps = next_steps-steps P (is_met answer.Done notice) 0 (steps_of_body body) (steps_of_body-steps P body h) }
 
-first_frame-frame : (P : Bool → Line → Type 0) (script : ScriptValue) (u : ℕ) → AreLines P script → IsFrame P (first_frame script u)
+-- P holds of each line of the body in which a thread begins
+abbrev pub BeginsWith : (Line → Type 0) → ScriptValue → ℕ → Type 0
+BeginsWith P script u = (x : ScriptThread) → at_number script.threads u ≡ Some x → All P x.body
+
+pub first_frame-frame : (P : Line → Type 0) (script : ScriptValue) (u : ℕ) → BeginsWith P script u → IsFrame P (first_frame script u)
 first_frame-frame P script u h = by_thread (at_number script.threads u) refl
   where
-    by_spare : (x : ScriptThread) (spare : Bool) (variables : Variables) → All (P false) x.body → IsFrame P (new_frame spare false variables (if spare then [] else x.body))
-    by_spare x true variables all = new_frame-frame P true false variables [] (All-nil (P true))
+    by_spare : (x : ScriptThread) (spare : Bool) (variables : Variables) → All P x.body → IsFrame P (new_frame spare false variables (if spare then [] else x.body))
+    by_spare x true variables all = new_frame-frame P true false variables [] (All-nil P)
     by_spare x false variables all = new_frame-frame P false false variables x.body all
 
     by_thread : (o : Option ScriptThread) → at_number script.threads u ≡ o → IsFrame P (first_frame_or_empty o)
-    by_thread None e = new_frame-frame P false false _ [] (All-nil (P false))
-    by_thread (Some x) e =
-        by_spare x x.spare _ (All-at_number (λ (x : ScriptThread). All (P false) x.body) script.threads u x h.threads e)
+    by_thread None e = new_frame-frame P false false _ [] (All-nil P)
+    by_thread (Some x) e = by_spare x x.spare _ (h x e)
+
+-- and of each line of a procedure
+abbrev pub EntersLines : (Line → Type 0) → ScriptValue → ℕ → Type 0
+EntersLines P script entry = (x : Procedure) → slice_get script.procedures entry ≡ Some x → All P x.body
+
+-- of the one that an answer says to be entered, if it says so
+abbrev pub AnswerEntersLines : (Line → Type 0) → ScriptValue → Answer → Type 0
+AnswerEntersLines P script (answer.Entered call entry cookie bytes fds) = EntersLines P script entry
+AnswerEntersLines P script (answer.EnteredNotice notice entry cookie) = EntersLines P script entry
+AnswerEntersLines P script a = Unit {0}
 
 procedure_frame-frame :
-    (P : Bool → Line → Type 0) (script : ScriptValue) (entry : ℕ) (notice : Bool) (variables : Variables) →
-    AreLines P script → IsFrame P (procedure_frame script entry notice variables)
+    (P : Line → Type 0) (script : ScriptValue) (entry : ℕ) (notice : Bool) (variables : Variables) → EntersLines P script entry →
+    IsFrame P (procedure_frame script entry notice variables)
 procedure_frame-frame P script entry notice variables h =
     new_frame-frame P true notice variables (procedure_body script entry) (by_procedure (slice_get script.procedures entry) refl)
   where
-    by_procedure : (o : Option Procedure) → slice_get script.procedures entry ≡ o → All (P true) (body_or_empty o)
-    by_procedure None e = All-nil (P true)
-    by_procedure (Some x) e = All-slice_get (λ (x : Procedure). All (P true) x.body) script.procedures entry x h.procedures e
+    by_procedure : (o : Option Procedure) → slice_get script.procedures entry ≡ o → All P (body_or_empty o)
+    by_procedure None e = All-nil P
+    by_procedure (Some x) e = h x e
 
-frame_after_command-frame : (P : Bool → Line → Type 0) (f : Frame) (a : Answer) → IsFrame P f → IsFrame P (frame_after_command f a)
+frame_after_command-frame : (P : Line → Type 0) (f : Frame) (a : Answer) → IsFrame P f → IsFrame P (frame_after_command f a)
 frame_after_command-frame P f a h =
-    record {
-      steps = next_steps-steps (P f.procedure) (is_met a f.notice) 0 (steps_after f.steps) (steps_after-steps (P f.procedure) f.steps h.steps);
-    }
+    record { steps = next_steps-steps P (is_met a f.notice) 0 (steps_after f.steps) (steps_after-steps P f.steps h.steps) }
 
 frame_after_answer-frame :
-    (P : Bool → Line → Type 0) (script : ScriptValue) (f : Frame) (a : Answer) → AreLines P script → IsFrame P f →
+    (P : Line → Type 0) (script : ScriptValue) (f : Frame) (a : Answer) → AnswerEntersLines P script a → IsFrame P f →
     IsFrame P (frame_after_answer script f a)
 frame_after_answer-frame P script f (answer.Entered call entry cookie bytes fds) s h = procedure_frame-frame P script entry false _ s
 frame_after_answer-frame P script f (answer.EnteredNotice notice entry cookie) s h = procedure_frame-frame P script entry true _ s
@@ -162,27 +159,15 @@ frame_after_answer-frame P script f (answer.WaitCall call) s h = h
 frame_after_answer-frame P script f (answer.EnterFailed call) s h = h
 frame_after_answer-frame P script f a s h = frame_after_command-frame P f a h
 
-frame_after-frame :
-    (P : Bool → Line → Type 0) (script : ScriptValue) (u : ℕ) (f : Frame) (e : Event) → AreLines P script → IsFrame P f →
-    IsFrame P (frame_after script u f e)
-frame_after-frame P script u f e s h = by_test (e.thread.0 == u)
+-- by an answer of its thread, or another's
+pub frame_after-frame :
+    (P : Line → Type 0) (script : ScriptValue) (u : ℕ) (f : Frame) (e : Event) →
+    ((e.thread.0 == u) ≡ true → AnswerEntersLines P script e.answer) → IsFrame P f → IsFrame P (frame_after script u f e)
+frame_after-frame P script u f e s h = by_test (e.thread.0 == u) refl
   where
-    by_test : (b : Bool) → IsFrame P (if b then frame_after_answer script f e.answer else f)
-    by_test true = frame_after_answer-frame P script f e.answer s h
-    by_test false = h
-
-frame_from-frame :
-    (P : Bool → Line → Type 0) (script : ScriptValue) (u : ℕ) (f : Frame) (es : List Event) → AreLines P script →
-    IsFrame P f → IsFrame P (frame_from script u f es)
-frame_from-frame P script u f [] s h = h
-frame_from-frame P script u f (e ∷ es) s h =
-    frame_from-frame P script u (frame_after script u f e) es s (frame_after-frame P script u f e s h)
-
--- whatever answers came
-pub frame_of-frame :
-    (P : Bool → Line → Type 0) (script : ScriptValue) (u : ℕ) (es : List Event) → AreLines P script →
-    IsFrame P (frame_of script u es)
-frame_of-frame P script u es s = frame_from-frame P script u (first_frame script u) es s (first_frame-frame P script u s)
+    by_test : (b : Bool) → (e.thread.0 == u) ≡ b → IsFrame P (if b then frame_after_answer script f e.answer else f)
+    by_test true same = frame_after_answer-frame P script f e.answer (s same) h
+    by_test false same = h
 
 -- where a frame stays or becomes a procedure's
 

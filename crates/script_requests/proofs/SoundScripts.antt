@@ -12,17 +12,20 @@ use Rattle.script_lang.specs.Types.{FdArg, Kind, Line}
 use Rattle.script_line.specs.declared.line.Kind.TheVariants as kind
 use Rattle.script_line.specs.declared.line.Line.TheVariants as line
 use Rattle.script_line.specs.Words.{Each, Ends, ProcedureName, SpellsLine, SpellsThread, Tables, depth_after, kind_of, qualified_name}
-use Rattle.script_lang.specs.declared.item.ScriptLine.TheVariants.{Budget, Process, Spare, Thread, Procedure, Do, Schedule}
+use Rattle.script_lang.specs.declared.item.ScriptLine.TheVariants.{Budget, Process, Child, Spare, Thread, Procedure, Do, Schedule}
 use Rattle.script_lang.specs.declared.item.ScriptPlace.TheVariants.{Members, Body}
 use Rattle.script_lang.specs.declared.script.Procedure.{Procedure as ScriptProcedure}
-use Rattle.script_lang.specs.Words.{ContextValue, ScriptValue, SpellsLines, SpellsScript, SpellsScriptLine, SpellsScriptLines, before_line, body_from, budget_from, context_after, context_at_depth, context_with_variables, first_context, is_closed, is_closed_place, is_of_place, name_of_procedure, procedures_from, process_of_item, script_of_items, spells, tables_of, threads_from, turns_of_item}
+use Rattle.script_lang.specs.Words.{ContextValue, ScriptValue, SpellsLines, SpellsScript, SpellsScriptLine, SpellsScriptLines, before_line, body_from, budget_from, context_after, context_at_depth, context_with_variables, first_context, is_closed, is_closed_place, is_of_place, name_of_procedure, procedures_from, process_of_item, script_of_items, spells, tables_of, threads_from, turns_of_item, with_limits}
+use Rattle.script_lang.specs.Scripts.{script_child, script_process}
 use Rattle.script_lang.specs.Spelled.{SpellsLimit}
+use Rattle.script_lang.proofs.ChildLimits.{length-with_limits}
 use Rattle.script_lang.proofs.SpelledItems.{along}
 use Rattle.script_lang.proofs.TablesOfItems.{FewFollow, few_follow, few_before}
 use Rattle.script_requests.specs.DeclaredNames.{IsNumberOf, IsDeclaredThread}
-use Rattle.script_requests.specs.Sound.{IsEntryOf, IsFitLine, IsNarrow, IsSoundThread, IsSoundProcedure, IsSound}
+use Rattle.script_requests.specs.Sound.{IsChildOf, IsEntryOf, IsFitLine, IsNarrow, IsSoundThread, IsSoundProcedure, IsSound}
 use Rattle.script_requests.specs.Trees.{depth_after_lines, IsClosed}
 use Rattle.script_requests.proofs.Elements.{at_number-within}
+use Rattle.script_requests.proofs.Children.{StandAfterParents, child-of, next-after-parents, none-after-parents, sound-children, with_limits-narrow}
 
 -- words that spell a line in a process
 pub record HasWords (tables : Tables) (of : ℕ) (x : Line) : Type 0 where
@@ -93,12 +96,20 @@ kill-fit script of process [] s = absurd s
 kill-fit script of process (keyword ∷ []) s = absurd s.1
 kill-fit script of process (keyword ∷ name ∷ words) s = named-within (λ x. x.name) script.processes process.0 name s.1.0.1
 
+fork-fit :
+    (script : ScriptValue) (of : ℕ) (child : Pid) (words : List (List ℕ)) →
+    SpellsLine (tables_of script) of (line.Fork child) words → IsChildOf script of child.0
+fork-fit script of child [] s = absurd s
+fork-fit script of child (keyword ∷ []) s = absurd s.1
+fork-fit script of child (keyword ∷ name ∷ words) s = child-of script of child.0 s.1.0.1
+
 line-fit : (script : ScriptValue) (of : ℕ) (x : Line) (words : List (List ℕ)) → SpellsLine (tables_of script) of x words → IsFitLine script of x
 line-fit script of (line.Create var entry cookie attrs) words s = create-fit script of var entry cookie attrs words s
 line-fit script of (line.Read var fd most) words s = read-fit script of var fd most words s
 line-fit script of (line.GetN port most least wait) words s = getn-fit script of port most least wait words s
 line-fit script of (line.Interrupt thread) words s = interrupt-fit script of thread words s
 line-fit script of (line.Kill process) words s = kill-fit script of process words s
+line-fit script of (line.Fork child) words s = fork-fit script of child words s
 line-fit script of x words s = tt
 
 fit-body : (script : ScriptValue) (of : ℕ) (body : List Line) → All (HasWords (tables_of script) of) body → All (IsFitLine script of) body
@@ -142,6 +153,7 @@ record AreSpelled (tables : Tables) (before : ContextValue) (items : List Script
       All (IsSpelledProcedure tables (processes_with before items)) (procedures_from (length before.processes) items)
   schedule : All (HasName tables) (flat_map turns_of_item items)
   narrow : All IsNarrow (filter_map process_of_item items)
+  parents : StandAfterParents (length before.processes) (filter_map process_of_item items)
   budget : (events : ℕ) → events ≤ 100000 → budget_from events items ≤ 100000
   closed : before.place ≡ Body → depth_after_lines before.depth (body_from before.depth items) ≡ Some 0
 
@@ -153,6 +165,7 @@ none-spelled tables before end =
       procedures = λ has. All-nil (IsSpelledProcedure tables (processes_with before []));
       schedule = All-nil (HasName tables);
       narrow = All-nil IsNarrow;
+      parents = none-after-parents (length before.processes);
       budget = λ events small. small;
       closed = λ inside. absurd (false≢true (subst (λ (place : ScriptPlace). is_closed_place place ≡ true) inside end));
     }
@@ -191,6 +204,7 @@ record AreAfterLine (tables : Tables) (before : ContextValue) (after : Option �
       All (IsSpelledProcedure tables (processes_with before items)) (procedures_from (length before.processes) items)
   schedule : All (HasName tables) (flat_map turns_of_item items)
   narrow : All IsNarrow (filter_map process_of_item items)
+  parents : StandAfterParents (length before.processes) (filter_map process_of_item items)
   budget : (events : ℕ) → events ≤ 100000 → budget_from events items ≤ 100000
   closed : AreClosed after items
 
@@ -204,6 +218,7 @@ after-line tables before items None at others =
       procedures = others.procedures;
       schedule = others.schedule;
       narrow = others.narrow;
+      parents = others.parents;
       budget = others.budget;
       closed = tt;
     }
@@ -214,6 +229,7 @@ after-line tables before items (Some depth) at others =
       procedures = λ some. others.procedures (subst (λ place. HasProcess place (length before.processes)) (sym at) some);
       schedule = others.schedule;
       narrow = others.narrow;
+      parents = others.parents;
       budget = others.budget;
       closed = others.closed at;
     }
@@ -231,6 +247,7 @@ do-spelled tables before x items at here others =
       procedures = λ has. after.procedures (subst (λ place. HasProcess place (length before.processes)) at has);
       schedule = after.schedule;
       narrow = after.narrow;
+      parents = after.parents;
       budget = after.budget;
       closed = λ inside. line-closed x items before.depth (kind_of x) refl after.closed;
     }
@@ -267,6 +284,19 @@ small-limit tables of name limit (keyword ∷ word ∷ words) s = go words s.1.1
     go [] (inr h) = absurd h
     go (keyword ∷ []) (inr h) = absurd h.1
     go (keyword ∷ number ∷ words) (inr h) = h.1.0.1
+
+parent-before :
+    (tables : Tables) (of : ℕ) (name : List ℕ) (parent : Pid) (words : List (List ℕ)) →
+    SpellsScriptLine tables of (Child name parent) words → (1 ≤ parent.0) × (parent.0 ≤ of)
+parent-before tables of name parent [] s = absurd s
+parent-before tables of name parent (keyword ∷ []) s = absurd s.1
+parent-before tables of name parent (keyword ∷ child ∷ []) s = absurd s.1.1
+parent-before tables of name parent (keyword ∷ child ∷ mark ∷ []) s = absurd s.1.1.1
+parent-before tables of name parent (keyword ∷ child ∷ mark ∷ named ∷ words) s =
+    ((at_number-within tables.processes parent.0 named s.1.1.1.0.0.1).0, s.1.1.1.0.1)
+
+child-after : (n : ℕ) (parent of : Pid) → Some parent ≡ Some of → (1 ≤ parent.0) × (parent.0 ≤ n) → (1 ≤ of.0) × (of.0 ≤ n)
+child-after n parent of e h = let same : parent ≡ of = cc in subst (λ (p : Pid). (1 ≤ p.0) × (p.0 ≤ n)) same h
 
 -- what stands among the members of a process
 abbrev IsMember : ScriptLine → Type 0
@@ -305,6 +335,7 @@ item-spelled tables before words (Budget events) items s at others =
       procedures = λ has. others.procedures tt;
       schedule = others.schedule;
       narrow = others.narrow;
+      parents = others.parents;
       budget = λ given small. others.budget events (small-budget tables (length before.processes) events words s);
       closed = λ inside. absurd (outside before.place (Budget events) refl at inside);
     }
@@ -318,8 +349,23 @@ item-spelled tables before words (Process name limit) items s at others =
       procedures = λ has. rw one at (rw more at (others.procedures some));
       schedule = others.schedule;
       narrow = All-cons IsNarrow _ (filter_map process_of_item items) (small-limit tables (length before.processes) name limit words s) others.narrow;
+      parents = next-after-parents (length before.processes) (script_process name limit) (filter_map process_of_item items) (λ parent e. absurd (cc e)) (rw one at others.parents);
       budget = others.budget;
       closed = λ inside. absurd (outside before.place (Process name limit) refl at inside);
+    }
+item-spelled tables before words (Child name parent) items s at others =
+    let one : length (before.processes ++ name ∷ []) ≡ length before.processes + 1 = simp length-append refl
+    in let some : 1 ≤ length (before.processes ++ name ∷ []) = omega arith
+    in let more : length (before.processes ++ name ∷ []) + length (filter_map process_of_item items) ≡ length before.processes + length (filter_map process_of_item (Child name parent ∷ items)) = omega arith
+    in record {
+      body = λ depth. All-nil (HasWords tables (length before.processes));
+      threads = λ has. rw one at (rw more at (others.threads some));
+      procedures = λ has. rw one at (rw more at (others.procedures some));
+      schedule = others.schedule;
+      narrow = All-cons IsNarrow _ (filter_map process_of_item items) (omega arith) others.narrow;
+      parents = next-after-parents (length before.processes) (script_child name parent) (filter_map process_of_item items) (λ of e. child-after (length before.processes) parent of e (parent-before tables (length before.processes) name parent words s)) (rw one at others.parents);
+      budget = others.budget;
+      closed = λ inside. absurd (outside before.place (Child name parent) refl at inside);
     }
 item-spelled tables before words (Spare name) items s at others =
     record {
@@ -338,6 +384,7 @@ item-spelled tables before words (Spare name) items s at others =
       procedures = others.procedures;
       schedule = others.schedule;
       narrow = others.narrow;
+      parents = others.parents;
       budget = others.budget;
       closed = λ inside. absurd (outside before.place (Spare name) refl at inside);
     }
@@ -359,6 +406,7 @@ item-spelled tables before words (Thread name) items s at others =
       procedures = λ has. others.procedures (in_process before.place (length before.processes) members has);
       schedule = others.schedule;
       narrow = others.narrow;
+      parents = others.parents;
       budget = others.budget;
       closed = λ inside. absurd (outside before.place (Thread name) refl at inside);
     }
@@ -380,6 +428,7 @@ item-spelled tables before words (Procedure name) items s at others =
           (others.procedures (in_process before.place (length before.processes) members has));
       schedule = others.schedule;
       narrow = others.narrow;
+      parents = others.parents;
       budget = others.budget;
       closed = λ inside. absurd (outside before.place (Procedure name) refl at inside);
     }
@@ -398,6 +447,7 @@ item-spelled tables before words (Schedule threads) items s at others =
           (schedule-named tables (length before.processes) threads words s)
           others.schedule;
       narrow = others.narrow;
+      parents = others.parents;
       budget = others.budget;
       closed = λ inside. absurd (outside before.place (Schedule threads) refl at inside);
     }
@@ -414,21 +464,23 @@ items-spelled tables =
 
 -- the facts of a script's lines that are told by its parts
 sound-parts :
-    (script : ScriptValue) (items : List ScriptLine) → script_of_items script.paths items ≡ script →
+    (script : ScriptValue) (items : List ScriptLine) → script_of_items script.version script.paths items ≡ script →
     AreSpelled (tables_of script) first_context items → FewFollow first_context items → IsSound script
 sound-parts script items same spelled few =
-    let processes : filter_map process_of_item items ≡ script.processes = ap (λ (s : ScriptValue). s.processes) same
+    let processes : with_limits [] (filter_map process_of_item items) ≡ script.processes = ap (λ (s : ScriptValue). s.processes) same
+    in let count : length (filter_map process_of_item items) ≡ length script.processes = sym (length-with_limits (filter_map process_of_item items)) ∙ ap length processes
     in let threads : threads_from 0 items ≡ script.threads = ap (λ (s : ScriptValue). s.threads) same
     in let procedures : procedures_from 0 items ≡ script.procedures = ap (λ (s : ScriptValue). s.procedures) same
     in let schedule : flat_map turns_of_item items ≡ script.schedule = ap (λ (s : ScriptValue). s.schedule) same
     in let budget : budget_from 100000 items ≡ script.budget = ap (λ (s : ScriptValue). s.budget) same
-    in let all_threads : All (IsSpelledThread (tables_of script) (length script.processes)) script.threads = rw (threads, processes, zero-add (length script.processes)) at (spelled.threads tt)
-    in let all_procedures : All (IsSpelledProcedure (tables_of script) (length script.processes)) script.procedures = rw (procedures, processes, zero-add (length script.processes)) at (spelled.procedures tt)
+    in let all_threads : All (IsSpelledThread (tables_of script) (length script.processes)) script.threads = rw (threads, count, zero-add (length script.processes)) at (spelled.threads tt)
+    in let all_procedures : All (IsSpelledProcedure (tables_of script) (length script.processes)) script.procedures = rw (procedures, count, zero-add (length script.processes)) at (spelled.procedures tt)
     in let all_turns : All (HasName (tables_of script)) script.schedule = rw schedule at spelled.schedule
-    in let narrow : All IsNarrow script.processes = rw processes at spelled.narrow
+    in let narrow : All IsNarrow script.processes = rw processes at (with_limits-narrow (filter_map process_of_item items) spelled.narrow)
     in record {
       narrow = narrow;
-      few_processes = rw (processes, zero-add (length script.processes)) at few.processes;
+      children = sound-children script (filter_map process_of_item items) processes spelled.parents;
+      few_processes = rw (count, zero-add (length script.processes)) at few.processes;
       few_threads = rw (threads, zero-add (length script.threads)) at (few.threads 0);
       small_budget = rw budget at (spelled.budget 100000 (omega arith));
       threads =
@@ -465,7 +517,7 @@ sound-script lines script s =
 
 sound-lines : (lines : List (List ℕ)) (script : ScriptValue) → SpellsLines lines script → IsSound script
 sound-lines [] script s = absurd s
-sound-lines (line ∷ lines) script s = sound-script lines script s.1
+sound-lines (line ∷ lines) script s = sound-script lines script s.2
 
 -- every script that a text spells
 pub sound-spelled : (text : List ℕ) (script : ScriptValue) → spells text script → IsSound script

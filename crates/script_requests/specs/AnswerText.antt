@@ -4,7 +4,7 @@ use Rattle.std.specs.List.{join_with_byte}
 use Rattle.dk_base.specs.Words.{errno_name}
 use Rattle.script_requests.specs.Types.{Answer, Attrs, DoorInfo, Errno, EventRec, Fd, Pid, Src}
 use Rattle.dk_base.specs.declared.object.Src.TheVariants.{Fd as FromFd, User, Alert}
-use Rattle.dk_base.specs.declared.answer.Answer.TheVariants.{Wait, WaitCall, Done, NewFd, TwoFds, Count, Available, Param, Info, Client, Cancel, Data, Entered, EnteredNotice, EnterFailed, Results, OneEvent, Events, Errors, Failure}
+use Rattle.dk_base.specs.declared.answer.Answer.TheVariants.{Wait, WaitCall, Done, NewFd, TwoFds, Count, Available, Param, Info, Client, Child, Cancel, Data, Entered, EnteredNotice, EnterFailed, Results, OneEvent, Events, Errors, Failure}
 use Rattle.script_line.specs.Words.{attribute_words, poll_word, value_word}
 use Rattle.script_lang.specs.Words.{ScriptValue}
 use Rattle.script_requests.specs.DataText.{data_text}
@@ -97,6 +97,7 @@ answer_text script (Available n) = codes "ok " ++ decimal n
 answer_text script (Param value) = codes "ok " ++ value_word value
 answer_text script (Info info) = info_text script info
 answer_text script (Client process) = codes "ok process " ++ decimal process.0
+answer_text script (Child process) = codes "ok process " ++ decimal process.0
 answer_text script (Cancel cancelled) = codes "ok " ++ yes_text cancelled
 answer_text script (Data bytes) = codes "ok " ++ data_text bytes
 answer_text script (Entered call entry cookie bytes fds) = entered_text script call entry cookie bytes fds

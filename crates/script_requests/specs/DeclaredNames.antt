@@ -1,7 +1,7 @@
 -- Which threads, processes and entries a script declares, and which events name only such.
 use Rattle.std.specs.Prelude.{ℕ, ◌≤◌, ◌<◌, length, Option, Some, None}
 use Rattle.script_requests.specs.Types.{Answer, Event, Pid, Tid}
-use Rattle.dk_base.specs.declared.answer.Answer.TheVariants.{Info, Client, Entered, EnteredNotice}
+use Rattle.dk_base.specs.declared.answer.Answer.TheVariants.{Info, Client, Child, Entered, EnteredNotice}
 use Rattle.script_lang.specs.Words.{ScriptValue}
 
 -- a number of one of so many, which are counted from 1
@@ -25,6 +25,7 @@ IsTarget script (Some process) = IsProcess script process.0
 abbrev pub IsDeclaredAnswer : ScriptValue → Answer → Type 0
 IsDeclaredAnswer script (Info info) = IsTarget script info.target × IsEntry script info.entry
 IsDeclaredAnswer script (Client process) = IsProcess script process.0
+IsDeclaredAnswer script (Child process) = IsProcess script process.0
 IsDeclaredAnswer script (Entered call entry cookie bytes fds) = IsEntry script entry
 IsDeclaredAnswer script (EnteredNotice notice entry cookie) = IsEntry script entry
 IsDeclaredAnswer script answer = Unit {0}

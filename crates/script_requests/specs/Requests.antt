@@ -85,6 +85,7 @@ request_at variables (line.Alert port mode events user) = request.Alert (fd_of v
 request_at variables (line.Interrupt thread) = request.Interrupt thread
 request_at variables (line.Kill process) = request.Kill process
 request_at variables line.Exit = request.Exit
+request_at variables (line.Fork child) = request.Fork child
 request_at variables (line.Work var op bytes) = request.Work op (data_of variables bytes)
 request_at variables (line.Repeat times) = request.Exit
 request_at variables (line.If cond) = request.Exit

@@ -3,7 +3,7 @@ pub use Rattle.script_requests.specs.AnswerText.{answer_text, attributes_text, e
 pub use Rattle.script_requests.specs.DataText.{data_text, digest_text}
 pub use Rattle.script_requests.specs.DeclaredNames.{IsDeclaredAnswer, IsDeclaredEvent, IsDeclaredThread, IsEntry, IsNumberOf, IsProcess, IsThread}
 pub use Rattle.script_requests.specs.Requests.{Frame, arguments, body_or_empty, first_body, first_frame, frame_after, frame_after_answer, frame_after_command, frame_from, frame_of, is_met, procedure_body, request_after, request_ahead, request_at, request_at_end, request_of, steps_after, vars_ahead}
-pub use Rattle.script_requests.specs.Sound.{IsFitLine, IsNarrow, IsSound, IsSoundProcedure, IsSoundThread}
+pub use Rattle.script_requests.specs.Sound.{IsChildOf, IsEntryOf, IsFitLine, IsNarrow, IsSound, IsSoundChild, IsSoundProcedure, IsSoundThread}
 pub use Rattle.script_requests.specs.Steps.{BodyStep, blocks_of, copies, innermost_block, line_before, next_steps, outer_blocks, steps_of_body, tested_condition, tested_steps, times_of}
 pub use Rattle.script_requests.specs.TraceNames.{NamesThread, is_some_word, second_word, thread_in_line, thread_named}
 pub use Rattle.script_requests.specs.TraceText.{ending_word, lines_text, spaced_name, tail_text, waiting_text}

@@ -1,22 +1,26 @@
 -- Opening a kernel process by process and thread by thread.
-use Rattle.std.proofs.Common.{◌≡◌, ℕ, ◌+◌, List, [], ◌∷◌, ◌++◌, take, drop, Option, None, Some, Bool, false, length, arith, refl, ap, sym, ◌∙◌, zero, suc, map, option_map}
+use Rattle.std.proofs.Common.{◌≡◌, ℕ, ◌+◌, List, [], ◌∷◌, ◌++◌, take, drop, Option, None, Some, Bool, false, IsSome, length, arith, refl, ap, sym, ◌∙◌, subst, zero, suc, map, option_map, unwrap_or, append-nil, append_assoc}
 use Rattle.std.proofs.Common.{Result, Ok, Err}
-use Rattle.std.specs.Prelude.{◌≤◌, All, slice_get, OnOk}
-use Rattle.std.specs.List.{AllByRecursion}
+use Rattle.std.specs.Prelude.{◌≤◌, ◌<◌, All, slice_get, OnOk}
+use Rattle.std.specs.List.{AllByRecursion, list_any}
+use Rattle.std.proofs.lemmas.Bool.{false≢true}
 use Rattle.std.proofs.lemmas.List.Elements.{All-head, All-tail}
 use Rattle.dk_base.specs.declared.limits.TheConstants.{DESCRIPTORS_MAX}
 use Rattle.std.specs.Result.{is_err}
 use Rattle.written_kernel.specs.Types.{Pid}
-use Rattle.std.proofs.lemmas.List.{length-map}
-use Rattle.written_kernel.specs.Words.{State, opening, with_new_thread}
-use Rattle.written_kernel.proofs.Opening.{IsDeclaredIn, opening_events, opening_processes}
-use Rattle.kernel_records.proofs.Lists.{at_number-suc}
+use Rattle.std.proofs.lemmas.List.{length-map, length-replicate}
+use Rattle.kernel_records.specs.Words.{empty_table, table_in}
+use Rattle.written_kernel.specs.Opening.{is_thread_of, no_process, with_new_process, with_processes}
+use Rattle.written_kernel.specs.Words.{State, opening, table_of, with_child, with_new_thread}
+use Rattle.written_kernel.proofs.Opening.{IsDeclaredIn, length-with_child, opening_events, opening_processes, opening_threads, threads-make_child}
+use Rattle.kernel_records.proofs.Lists.{at_number-map, at_number-suc, numbered_there}
 use Rattle.dk_base.specs.ByNumber.{at_number}
+use Rattle.script_lang.specs.Scripts.{limit_of_process}
 use Rattle.script_lang.specs.Words.{ScriptValue}
 use Rattle.script_requests.specs.Types.{ScriptProcess, ScriptThread}
-use Rattle.script_requests.specs.Words.{IsNarrow, IsProcess, IsSound, IsSoundThread}
-use Rattle.script_requests.proofs.Elements.{All-at_number}
-use Rattle.written_script.specs.Words.{limit_of, with_script_threads}
+use Rattle.script_requests.specs.Words.{IsNarrow, IsProcess, IsSound, IsSoundChild, IsSoundThread}
+use Rattle.script_requests.proofs.Elements.{All-at_number, at_number-within}
+use Rattle.written_script.specs.Words.{limit_of, with_children, with_parent, with_script_threads}
 
 at_number-at : {X Y : Type 0} (f : X → Y) (xs : List X) (k : ℕ) (y : Y) → option_map f (at_number xs (k + 1)) ≡ Some y → option_map f (slice_get xs k) ≡ Some y
 at_number-at f xs k y e =
@@ -96,3 +100,118 @@ not_err (Err x) P h e = cc
 pub narrow_limits : (ps : List ScriptProcess) → All IsNarrow ps → AllByRecursion (λ n. n ≤ DESCRIPTORS_MAX) (map limit_of ps)
 narrow_limits [] h = tt
 narrow_limits (p ∷ ps) h = (All-head IsNarrow p ps h, narrow_limits ps (All-tail IsNarrow p ps h))
+
+-- the tables of an opening, whose rows are as many as its limits say
+
+tables-with_processes : (limits : List ℕ) (m : State) → (with_processes m limits).tables ≡ m.tables ++ map empty_table limits
+tables-with_processes [] m = sym (append-nil m.tables)
+tables-with_processes (limit ∷ limits) m =
+    tables-with_processes limits (with_new_process m limit) ∙ append_assoc m.tables (empty_table limit ∷ []) (map empty_table limits)
+
+table-limit :
+    (processes : List ScriptProcess) (p : ℕ) (x : ScriptProcess) → at_number processes p ≡ Some x →
+    length (table_in (map empty_table (map limit_of processes)) p) ≡ x.limit
+table-limit processes p x there =
+    ap (λ found. length (unwrap_or found []))
+    (at_number-map empty_table (map limit_of processes) p
+    ∙ ap (option_map empty_table) (at_number-map limit_of processes p ∙ ap (option_map limit_of) there))
+    ∙ length-replicate x.limit None
+
+-- what a kernel keeps while the children of a script are made
+pub record OpensChildren (script : ScriptValue) (m : State) : Type 0 where
+  pub events : m.events ≡ 0
+  pub processes : length m.process_table.processes ≡ length script.processes
+  pub tables : m.tables ≡ map empty_table (map limit_of script.processes)
+  pub threads : m.process_table.threads ≡ []
+
+pub children-begin : (script : ScriptValue) (k : State) → k ≡ opening (map limit_of script.processes) → OpensChildren script k
+children-begin script k fresh =
+    let limits = map limit_of script.processes
+    in rw fresh (record {
+      events = opening_events limits;
+      processes = opening_processes limits ∙ length-map script.processes limit_of;
+      tables = tables-with_processes limits no_process;
+      threads = opening_threads limits;
+    })
+
+pub child-made : (script : ScriptValue) (k new : State) (child parent : ℕ) → OpensChildren script k → new ≡ with_child k child parent → OpensChildren script new
+child-made script k new child parent h made =
+    rw made (record {
+      events = h.events;
+      processes = length-with_child k child parent ∙ h.processes;
+      tables = h.tables;
+      threads = threads-make_child k.process_table child parent ∙ h.threads;
+    })
+
+-- a parent of a sound script is declared before its child, and may have as many descriptors
+pub record CanBeChild (m : State) (child parent : ℕ) : Type 0 where
+  pub order : (1 ≤ parent) × (parent < child) × (child ≤ length m.process_table.processes)
+  pub limits : length (table_of m child) ≡ length (table_of m parent)
+  pub no_thread : list_any (is_thread_of child) m.process_table.threads ≡ false
+
+pub can-be-child :
+    (script : ScriptValue) (m : State) (child : ℕ) (parent : Pid) → IsSound script → OpensChildren script m →
+    option_map (λ (of : ScriptProcess). of.parent) (at_number script.processes child) ≡ Some (Some parent) → CanBeChild m child parent.0
+can-be-child script m child parent sound h own = by_child (at_number script.processes child) refl own
+  where
+    by_parent :
+        (x : ScriptProcess) → at_number script.processes child ≡ Some x → IsSoundChild script child x parent → (o : Option ScriptProcess) →
+        at_number script.processes parent.0 ≡ o → CanBeChild m child parent.0
+    by_parent x there is None e =
+        let within = at_number-within script.processes child x there
+        in let low : 1 ≤ parent.0 = is.first
+        in let after : parent.0 < child = is.after
+        in let last : child ≤ length script.processes = within.1
+        in let some = numbered_there script.processes parent.0 low (omega arith)
+        in absurd (false≢true (subst (λ (o : Option ScriptProcess). IsSome o) e some))
+    by_parent x there is (Some y) e =
+        let within = at_number-within script.processes child x there
+        in let last : child ≤ length m.process_table.processes = rw h.processes within.1
+        in let same : y.limit ≡ x.limit = sym (ap (λ o. unwrap_or (option_map limit_of_process o) DESCRIPTORS_MAX) e) ∙ is.limit
+        in record {
+          order = (is.first, is.after, last);
+          limits = rw h.tables (table-limit script.processes child x there ∙ sym same ∙ sym (table-limit script.processes parent.0 y e));
+          no_thread = rw h.threads refl;
+        }
+
+    by_child :
+        (o : Option ScriptProcess) → at_number script.processes child ≡ o → option_map (λ (of : ScriptProcess). of.parent) o ≡ Some (Some parent) →
+        CanBeChild m child parent.0
+    by_child None e f = cc
+    by_child (Some x) e f = let its : x.parent ≡ Some parent = cc in by_parent x e (sound.children child x parent e its) (at_number script.processes parent.0) refl
+
+at_child :
+    (xs : List ScriptProcess) (m : State) (before k : ℕ) (parent : Option Pid) → option_map (λ (x : ScriptProcess). x.parent) (slice_get xs k) ≡ Some parent →
+    with_children m before (drop k xs) ≡ with_children (with_parent m (before + 1) parent) (before + 1) (drop (suc k) xs)
+at_child [] m before k parent e = cc
+at_child (x ∷ []) m before zero parent e = let same : x.parent ≡ parent = cc in rw same refl
+at_child (x ∷ y ∷ ys) m before zero parent e = let same : x.parent ≡ parent = cc in rw same refl
+at_child (x ∷ xs) m before (suc k) parent e = at_child xs m before k parent e
+
+-- one process more
+pub children_more :
+    (xs : List ScriptProcess) (opening old new : State) (k : ℕ) (parent : Option Pid) → with_children opening 0 xs ≡ with_children old k (drop k xs) →
+    option_map (λ (x : ScriptProcess). x.parent) (at_number xs (k + 1)) ≡ Some parent → new ≡ with_parent old (k + 1) parent →
+    with_children opening 0 xs ≡ with_children new (k + 1) (drop (k + 1) xs)
+children_more xs opening old new k parent h p e =
+    let more : k + 1 ≡ suc k = omega arith
+    in let of : option_map (λ (x : ScriptProcess). x.parent) (slice_get xs k) ≡ Some parent = at_number-at (λ (x : ScriptProcess). x.parent) xs k parent p
+    in h ∙ at_child xs old k k parent of ∙ sym (ap (λ n. with_children (with_parent old (k + 1) parent) (k + 1) (drop n xs)) more) ∙ ap (λ m. with_children m (k + 1) (drop (k + 1) xs)) (sym e)
+
+-- what a kernel has once all children of a script were made
+pub events-with_children : (xs : List ScriptProcess) (m : State) (before : ℕ) → (with_children m before xs).events ≡ m.events
+events-with_children [] m before = refl
+events-with_children (x ∷ xs) m before = events-with_children xs (with_parent m (before + 1) x.parent) (before + 1) ∙ one x.parent
+  where
+    one : (parent : Option Pid) → (with_parent m (before + 1) parent).events ≡ m.events
+    one None = refl
+    one (Some parent) = refl
+
+pub processes-with_children :
+    (xs : List ScriptProcess) (m : State) (before : ℕ) → length (with_children m before xs).process_table.processes ≡ length m.process_table.processes
+processes-with_children [] m before = refl
+processes-with_children (x ∷ xs) m before = processes-with_children xs (with_parent m (before + 1) x.parent) (before + 1) ∙ one x.parent
+  where
+    one : (parent : Option Pid) → length (with_parent m (before + 1) parent).process_table.processes ≡ length m.process_table.processes
+    one None = refl
+    one (Some parent) = length-with_child m (before + 1) parent.0

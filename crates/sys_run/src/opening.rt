@@ -2,7 +2,8 @@
 ghost use Rattle.std.specs.Prelude.{◌≡◌, ◌≤◌, [], length, map, IfOk, OnOk};
 ghost use Rattle.dk_base.specs.declared.limits.TheConstants.{PROCESSES_MAX, THREADS_MAX};
 ghost use Rattle.script_requests.specs.Words.{IsSound};
-ghost use Rattle.written_script.specs.Words.{limit_of, opening_of, with_script_threads};
+ghost use Rattle.written_kernel.specs.Words.{opening};
+ghost use Rattle.written_script.specs.Words.{limit_of, opening_of, with_children, with_script_threads};
 ghost use Rattle.sys_run.specs.Sys.{AllStandFrom};
 
 use dk_base::error::NoMemory;
@@ -41,6 +42,21 @@ pub(crate) fn first_machines(alloc: Global, script: &Script) -> Result<Vec<Machi
     Ok(machines)
 }
 
+/// Which processes are children of which.
+fn make_children(kernel: &mut Kernel, script: &Script)
+    requires opening { kernel.old.events ≡ 0 }
+    requires sound { IsSound script.now }
+    requires fresh { kernel.old ≡ opening (map limit_of script.now.processes) }
+    ensures { kernel.new ≡ with_children kernel.old 0 script.now.processes }
+{
+    for below in 0..script.processes() {
+        let process = Pid(below + 1);
+        if let Some(parent) = script.parent(process) {
+            kernel.make_child(process, parent);
+        }
+    }
+}
+
 fn add_threads(kernel: &mut Kernel, script: &Script) -> Result<(), NoMemory>
     requires opening { kernel.old.events ≡ 0 }
     requires sound { IsSound script.now }
@@ -66,6 +82,7 @@ pub(crate) fn open(alloc: Global, script: &Script) -> Result<Kernel, NoMemory>
 {
     let limits = limits_of(alloc, script)?;
     let mut kernel = Kernel::new(alloc, &limits)?;
+    make_children(&mut kernel, script);
     add_threads(&mut kernel, script)?;
     Ok(kernel)
 }

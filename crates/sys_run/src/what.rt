@@ -41,6 +41,7 @@ pub(crate) fn of_entry(request: &Request) -> What
         Request::Interrupt { .. } => What::Interrupt,
         Request::Kill { .. } => What::Kill,
         Request::Exit => What::Exit,
+        Request::Fork { .. } => What::Fork,
         Request::Work { .. } => What::Work,
     }
 }

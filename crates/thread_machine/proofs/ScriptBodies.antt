@@ -164,6 +164,7 @@ item-threads :
     SpellsScriptLines tables (context_after before x) lines items → ((p : ℕ) → AreThreads (threads_from p items)) →
     AreThreads (threads_from process (x ∷ items))
 item-threads tables lines items before process (item.Process name limit) s rest = rest (process + 1)
+item-threads tables lines items before process (item.Child name parent) s rest = rest (process + 1)
 item-threads tables lines items before process (item.Spare name) s rest = (no-lines, rest process)
 item-threads tables lines items before process (item.Thread name) s rest =
     (whole (body_from 0 items) false (rest-of-body tables lines items (context_after before (item.Thread name)) refl s), rest process)
@@ -195,6 +196,7 @@ item-procedures :
     SpellsScriptLines tables (context_after before x) lines items → ((p : ℕ) → AreProcedures (procedures_from p items)) →
     AreProcedures (procedures_from process (x ∷ items))
 item-procedures tables lines items before process (item.Process name limit) s rest = rest (process + 1)
+item-procedures tables lines items before process (item.Child name parent) s rest = rest (process + 1)
 item-procedures tables lines items before process (item.Procedure name) s rest =
     (whole (body_from 0 items) false (rest-of-body tables lines items (context_after before (item.Procedure name)) refl s), rest process)
 item-procedures tables lines items before process x s rest = rest process
@@ -242,7 +244,7 @@ record AreBodies (script : ScriptValue) : Type 0 where
 lines-bodies : (lines : List (List ℕ)) (script : ScriptValue) → SpellsLines lines script → AreBodies script
 lines-bodies [] script h = absurd h
 lines-bodies (line ∷ lines) script h =
-    let s : SpellsScript lines script = h.1
+    let s : SpellsScript lines script = h.2
     in subst
     AreBodies
     s.is_script

@@ -137,6 +137,7 @@ impl Variables {
             },
             Line::Interrupt { thread } => Request::Interrupt { thread: *thread },
             Line::Kill { process } => Request::Kill { process: *process },
+            Line::Fork { child } => Request::Fork { child: *child },
             Line::Work { op, bytes, .. } => Request::Work {
                 op: *op,
                 bytes: self.data(alloc, bytes.slice())?,

@@ -223,6 +223,7 @@ pub fn push_answer(
         }
         Answer::Info(info) => push_info(text, script, info),
         Answer::Client { process } => push_counted(text, "ok process ", u64::from(process.0)),
+        Answer::Child { process } => push_counted(text, "ok process ", u64::from(process.0)),
         Answer::Cancel { yes } => push_word(text, if *yes { "ok yes" } else { "ok no" }),
         Answer::Data { bytes } => {
             push_word(text, "ok ")?;

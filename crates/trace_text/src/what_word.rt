@@ -39,6 +39,7 @@ pub fn word_of(what: What) -> &'static str
         What::Interrupt => "interrupt",
         What::Kill => "kill",
         What::Exit => "exit",
+        What::Fork => "fork",
         What::Work => "work",
         What::Accept => "accept",
         What::Collect => "collect",

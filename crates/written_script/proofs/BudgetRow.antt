@@ -15,7 +15,7 @@ abbrev budget_value : ScriptValue
 budget_value = echo_with 4 (codes "echo") 4096 []
 
 budget_reading : parse_result budget_script ≡ Ok budget_value
-unfolding parse_result line_read line_spelling tables_of_lines process_item thread_item procedure_item budget_item keyword_create_to_info keyword_getparam_to_detach keyword_open_to_get keyword_getn_to_end create_line attach_line serve_line return_line await_line open_line call_line end_line
+unfolding parse_result line_read line_spelling tables_of_lines process_item thread_item procedure_item budget_item keyword_create_to_info keyword_getparam_to_detach keyword_open_to_get keyword_getn_to_end create_line attach_line serve_line return_line await_line open_line call_line end_line digits
 budget_reading = refl
 
 budget_play : text_of_play budget_value ≡ budget_trace

@@ -9,6 +9,7 @@ use Rattle.dk_base.specs.declared.object.Obj.TheVariants as obj
 use Rattle.kernel_records.specs.declared.record.CallStage.TheVariants as stage
 use Rattle.kernel_records.specs.declared.record.NoticeStage.TheVariants as notice
 use Rattle.dk_base.specs.ByNumber.{at_number, with_at_number}
+use Rattle.kernel_records.specs.declared.pool.TheConstants.{LOST_DOOR}
 use Rattle.kernel_records.specs.Words.{Leaving, bound_at, bound_in, change_first, close_table, free_place, free_row, insert_row, insert_rows, left_notice, left_notice_at, notice_at, object_in, object_named, objects_passed, release_rows, table_in, with_row, with_table}
 use Rattle.kernel_records.proofs.Passing.{All-objects_passed, object_named-before}
 use Rattle.kernel_records.proofs.Lists.{at_number-with_at_number, slice_get-slice_set}
@@ -40,8 +41,12 @@ IsKnownName made n = IsNumberOf made n.door
 abbrev pub AreKnownNames : ℕ → List Name → Type 0
 AreKnownNames made names = All (IsKnownName made) names
 
+-- the door that a thread is bound to, unless it is the lost one
+abbrev pub IsKnownBinding : ℕ → ℕ → Type 0
+IsKnownBinding made d = (d == LOST_DOOR) ≡ false → IsNumberOf made d
+
 abbrev pub AreKnownBindings : ℕ → List (Option ℕ) → Type 0
-AreKnownBindings made bindings = (t d : ℕ) → bound_at bindings t ≡ Some d → IsNumberOf made d
+AreKnownBindings made bindings = (t d : ℕ) → bound_at bindings t ≡ Some d → IsKnownBinding made d
 
 abbrev pub IsKnownNotice : ℕ → Notice → Type 0
 IsKnownNotice made x = IsNumberOf made x.door
@@ -171,14 +176,14 @@ closed-known made tables p h =
 
 -- a thread is bound to another door, or to none
 pub binding-known :
-    (made : ℕ) (bindings : List (Option ℕ)) (u : ℕ) (o : Option ℕ) → ((d : ℕ) → o ≡ Some d → IsNumberOf made d) →
+    (made : ℕ) (bindings : List (Option ℕ)) (u : ℕ) (o : Option ℕ) → ((d : ℕ) → o ≡ Some d → IsKnownBinding made d) →
     AreKnownBindings made bindings → AreKnownBindings made (with_at_number bindings u o)
 binding-known made bindings u o here h t d e =
     by_test ((t == u) && is_some (at_number bindings u)) (ap bound_in (at_number-with_at_number bindings u t o))
   where
     by_test :
         (b : Bool) → bound_at (with_at_number bindings u o) t ≡ bound_in (if b then Some o else at_number bindings t) →
-        IsNumberOf made d
+        IsKnownBinding made d
     by_test true f = here d (sym f ∙ e)
     by_test false f = h t d (sym f ∙ e)
 

@@ -19,37 +19,38 @@ use Rattle.written_kernel.proofs.Moves.IsRow.{closes, copies, opens}
 use Rattle.written_kernel.proofs.Moves.IsNaming.{attaches, detaches}
 use Rattle.written_kernel.proofs.Moves.IsBinding.{binds, unbinds}
 use Rattle.written_kernel.proofs.Moves.IsTurn.{awaits}
+use Rattle.kernel_invariant.specs.Invariant.{IsConsistent}
 use Rattle.script_lang.specs.Words.{ScriptValue}
-use Rattle.script_requests.specs.Words.{IsDeclaredAnswer, IsDeclaredThread, IsNumberOf, IsThread}
+use Rattle.script_requests.specs.Words.{IsDeclaredThread, IsNumberOf, IsThread}
 use Rattle.script_requests.proofs.Elements.{All-find}
 use Rattle.written_script.proofs.DeclaredObjects.{IsKnownInTransit, IsKnownName, IsKnownNotice, binding-known, changed_notices-known, none-known, passed-known}
-use Rattle.written_script.proofs.KnownStates.{HasOwners, IsKnown, IsKnownAct, IsKnownCall, bindings-known, changed-known, emptied, installs-known, leave-known, leave_process-known, names-known, notices-known, opened-known, passes-known, set_param-known, staged, unbound-known, with_row-known}
-use Rattle.written_script.proofs.KnownActs.{MakesDeclared, attached-known, bound_door, client-known, collect-known, create-known, entry-known, holds_unless, info-known, named_door, names_door_then, returned-known, revoke-known, valid_door}
+use Rattle.written_script.proofs.KnownStates.{HasOwners, IsKnown, IsKnownAct, IsKnownAnswer, IsKnownCall, bindings-known, changed-known, emptied, fork-known, installs-known, leave-known, leave_process-known, names-known, notices-known, opened-known, passes-known, set_param-known, staged, unbound-known, with_row-known}
+use Rattle.written_script.proofs.KnownActs.{MakesDeclared, attached-known, bound_door, call-known, client-known, collect-known, create-known, holds_unless, info-known, named_door, names_door_then, notice-known, returned-known, revoke-known, valid_door}
 
 -- what a turn asks makes only what is declared
-abbrev pub AsksDeclared : ScriptValue → Option Request → Type 0
-AsksDeclared script None = Unit {0}
-AsksDeclared script (Some r) = MakesDeclared script r
+abbrev pub AsksDeclared : ScriptValue → ℕ → Option Request → Type 0
+AsksDeclared script p None = Unit {0}
+AsksDeclared script p (Some r) = MakesDeclared script p r
 
 -- what is found at a port names nothing that is declared
-found-known : (script : ScriptValue) (m : State) (q max : ℕ) (one : Bool) → IsDeclaredAnswer script (found_answer m q max one)
-found-known script m q max false = tt
-found-known script m q max true = event (first_found (port m q))
+found-known : (script : ScriptValue) (p : ℕ) (m : State) (q max : ℕ) (one : Bool) → IsKnownAnswer script p (found_answer m q max one)
+found-known script p m q max false = tt
+found-known script p m q max true = event (first_found (port m q))
   where
-    event : (o : Option Queued) → IsDeclaredAnswer script (event_answer o)
+    event : (o : Option Queued) → IsKnownAnswer script p (event_answer o)
     event None = tt
     event (Some x) = tt
 
 passing-known :
-    (script : ScriptValue) (m : State) (t : ℕ) (r : Request) (c : Channels) (a : Answer) → IsPassing m t r c a → IsDeclaredAnswer script a
-passing-known script m t r c a (IsPassing.gets fd wait f g) = found-known script m (port_at m (process_of m t) fd) 1 true
-passing-known script m t r c a (IsPassing.gets_many fd max nget wait f z g) = found-known script m (port_at m (process_of m t) fd) max false
+    (script : ScriptValue) (m : State) (t : ℕ) (r : Request) (c : Channels) (a : Answer) → IsPassing m t r c a → IsKnownAnswer script (process_of m t) a
+passing-known script m t r c a (IsPassing.gets fd wait f g) = found-known script (process_of m t) m (port_at m (process_of m t) fd) 1 true
+passing-known script m t r c a (IsPassing.gets_many fd max nget wait f z g) = found-known script (process_of m t) m (port_at m (process_of m t) fd) max false
 passing-known script m t r c a _ = tt
 
 -- a pipe or a port that is made is no door
 making-known :
     (script : ScriptValue) (m : State) (t : ℕ) (r : Request) (c : Channels) (objects : List Obj) (a : Answer) → IsKnown script m →
-    IsMaking m t r c objects a → IsKnownAct script (act_result (record m { tables = tables_with m (process_of m t) objects; channels = c }) a)
+    IsMaking m t r c objects a → IsKnownAct script (process_of m t) (act_result (record m { tables = tables_with m (process_of m t) objects; channels = c }) a)
 making-known script m t r c objects a h (IsMaking.makes_pipe f) =
     record {
       state =
@@ -72,25 +73,25 @@ making-known script m t r c objects a h (IsMaking.makes_port f) =
     }
 
 move-known :
-    (script : ScriptValue) (m : State) (t : ℕ) (q : Option Request) (a : ActResult) → IsKnown script m → IsThread script t → HasOwners script m →
-    AsksDeclared script q → Moves m t q a → IsKnownAct script a
-move-known script m t q a h thread owners made (Moves.nothing x (informs fd e)) =
+    (script : ScriptValue) (m : State) (t : ℕ) (q : Option Request) (a : ActResult) → IsKnown script m → IsConsistent m → IsThread script t →
+    HasOwners script m → AsksDeclared script (process_of m t) q → Moves m t q a → IsKnownAct script (process_of m t) a
+move-known script m t q a h consistent thread owners made (Moves.nothing x (informs fd e)) =
     record {
       state = h;
       answer =
           info-known script m (process_of m t) _ (door_at m (process_of m t) fd) h
           (named_door script m (process_of m t) fd h (holds_unless (is_door (object_at m (process_of m t) fd)) _ e));
     }
-move-known script m t q a h thread owners made (Moves.nothing x (informs_bound e)) =
+move-known script m t q a h consistent thread owners made (Moves.nothing x (informs_bound e)) =
     record { state = h; answer = info-known script m (process_of m t) _ (unwrap_or (bound_of m t) 0) h (bound_door script m t _ h e) }
-move-known script m t q a h thread owners made (Moves.nothing x (names_client e)) = record { state = h; answer = client-known script m t _ h owners e }
-move-known script m t q a h thread owners made (Moves.rows r place o x (closes fd e)) =
+move-known script m t q a h consistent thread owners made (Moves.nothing x (names_client e)) = record { state = h; answer = client-known script m t _ h owners e }
+move-known script m t q a h consistent thread owners made (Moves.rows r place o x (closes fd e)) =
     record { state = with_row-known script m (process_of m t) fd.0 None h (none-known (length m.doors)); answer = tt }
-move-known script m t q a h thread owners made (Moves.rows r place o x (copies fd e)) =
+move-known script m t q a h consistent thread owners made (Moves.rows r place o x (copies fd e)) =
     record { state = with_row-known script m (process_of m t) _ o h (h.rows (process_of m t) fd); answer = tt }
-move-known script m t q a h thread owners made (Moves.rows r place o x (opens path e)) =
+move-known script m t q a h consistent thread owners made (Moves.rows r place o x (opens path e)) =
     record { state = with_row-known script m (process_of m t) _ o h (attached-known script m path _ h e); answer = tt }
-move-known script m t q a h thread owners made (Moves.names r names (attaches fd path e)) =
+move-known script m t q a h consistent thread owners made (Moves.names r names (attaches fd path e)) =
     let p = process_of m t in
     record {
       state =
@@ -99,25 +100,25 @@ move-known script m t q a h thread owners made (Moves.names r names (attaches fd
           (named_door script m p fd h (names_door_then (is_none (object_at m p fd)) (is_door (object_at m p fd)) _ e)));
       answer = tt;
     }
-move-known script m t q a h thread owners made (Moves.names r names (detaches path e)) =
+move-known script m t q a h consistent thread owners made (Moves.names r names (detaches path e)) =
     record { state = names-known script m names h (All-filter (has_other_path path) (IsKnownName (length m.doors)) m.names h.names); answer = tt }
-move-known script m t q a h thread owners made (Moves.bound r o (binds fd e)) =
+move-known script m t q a h consistent thread owners made (Moves.bound r o (binds fd e)) =
     let d = door_at m (process_of m t) fd in
     record {
       state =
           bindings-known script m (bind_thread m.bindings t d) h
           (binding-known (length m.doors) m.bindings t (Some d)
-          (λ k f. subst (IsNumberOf (length m.doors)) (cc f) (valid_door m d (holds_unless (is_valid m d) _ e)))
+          (λ k f some. subst (IsNumberOf (length m.doors)) (cc f) (valid_door m d (holds_unless (is_valid m d) _ e)))
           h.bindings);
       answer = tt;
     }
-move-known script m t q a h thread owners made (Moves.bound r o (unbinds e)) = record { state = unbound-known script m t h; answer = tt }
-move-known script m t q a h thread owners made (Moves.parameter fd x value e) =
+move-known script m t q a h consistent thread owners made (Moves.bound r o (unbinds e)) = record { state = unbound-known script m t h; answer = tt }
+move-known script m t q a h consistent thread owners made (Moves.parameter fd x value e) =
     record { state = set_param-known script m (door_at m (process_of m t) fd) x value h; answer = tt }
-move-known script m t q a h thread owners made (Moves.makes entry cookie attrs e) =
+move-known script m t q a h consistent thread owners made (Moves.makes entry cookie attrs e) =
     create-known script m (process_of m t) entry cookie attrs h (owners t thread) made
-move-known script m t q a h thread owners made (Moves.turns s x _ (awaits path e)) = record { state = h; answer = tt }
-move-known script m t q a h thread owners made (Moves.calls fd bytes pass rsize e) =
+move-known script m t q a h consistent thread owners made (Moves.turns s x _ (awaits path e)) = record { state = h; answer = tt }
+move-known script m t q a h consistent thread owners made (Moves.calls fd bytes pass rsize e) =
     let p = process_of m t in
     record {
       state =
@@ -135,38 +136,38 @@ move-known script m t q a h thread owners made (Moves.calls fd bytes pass rsize 
           }));
       answer = tt;
     }
-move-known script m t q a h thread owners made (Moves.returns bytes pass e v) =
+move-known script m t q a h consistent thread owners made (Moves.returns bytes pass e v) =
     record { state = returned-known script m t (process_of m t) bytes pass h; answer = tt }
-move-known script m t q a h thread owners made (Moves.returns_unbound bytes pass e v) =
+move-known script m t q a h consistent thread owners made (Moves.returns_unbound bytes pass e v) =
     let n = (return_parked m t (process_of m t) bytes pass).state in
     record { state = unbound-known script n t (returned-known script m t (process_of m t) bytes pass h); answer = tt }
-move-known script m t q a h thread owners made (Moves.enters r e room) =
+move-known script m t q a h consistent thread owners made (Moves.enters r e room) =
     let known : IsKnownCall script (length m.doors) r = All-find (IsKnownCall script (length m.doors)) (is_given_as r.number t) m.call_tree.calls r h.calls e.found in
     record {
       state =
           installs-known script m (process_of m t) r.objects known.objects
           (changed-known script m (is_given_as r.number t) _ (emptied script (length m.doors) (stage.Entered (tid t)) tt) h);
-      answer = entry-known script m r.door h known.door;
+      answer = call-known script m t r h consistent e;
     }
-move-known script m t q a h thread owners made (Moves.fails r e full) =
+move-known script m t q a h consistent thread owners made (Moves.fails r e full) =
     record { state = changed-known script m (is_given_as r.number t) _ (emptied script (length m.doors) (stage.Ended EMFILE) tt) h; answer = tt }
-move-known script m t q a h thread owners made (Moves.enters_notice n e) =
+move-known script m t q a h consistent thread owners made (Moves.enters_notice n e) =
     record {
       state =
           notices-known script m (enter_notice m.notice_list n.number t).notices h
           (changed_notices-known (length m.doors) (is_given_notice_as n.number t) (notice.Entered (tid t)) m.notice_list.notices h.notices);
-      answer =
-          entry-known script m n.door h
-          (All-find (IsKnownNotice (length m.doors)) (is_given_notice_as n.number t) m.notice_list.notices n h.notices e.found);
+      answer = notice-known script m t n h consistent e;
     }
-move-known script m t q a h thread owners made (Moves.collects c e) = collect-known script m t (process_of m t) c h
-move-known script m t q a h thread owners made (Moves.passes r c x e) = record { state = h; answer = passing-known script m t r c x e }
-move-known script m t q a h thread owners made (Moves.makes_channel r c objects x e) = making-known script m t r c objects x h e
-move-known script m t q a h thread owners made (Moves.retrieves port max nget one e) = record { state = h; answer = found-known script m port max one }
-move-known script m t q a h thread owners made (Moves.leaves r who _) = record { state = leave-known script m who h; answer = tt }
-move-known script m t q a h thread owners made (Moves.revokes fd e) = revoke-known script m (process_of m t) fd h
-move-known script m t q a h thread owners made (Moves.ends r p _) = record { state = leave_process-known script m p h; answer = tt }
-move-known script m t q a h thread owners made _ = record { state = h; answer = tt }
+move-known script m t q a h consistent thread owners made (Moves.collects c e) = collect-known script m t (process_of m t) c h
+move-known script m t q a h consistent thread owners made (Moves.passes r c x e) = record { state = h; answer = passing-known script m t r c x e }
+move-known script m t q a h consistent thread owners made (Moves.makes_channel r c objects x e) = making-known script m t r c objects x h e
+move-known script m t q a h consistent thread owners made (Moves.retrieves port max nget one e) = record { state = h; answer = found-known script (process_of m t) m port max one }
+move-known script m t q a h consistent thread owners made (Moves.leaves r who _) = record { state = leave-known script m who h; answer = tt }
+move-known script m t q a h consistent thread owners made (Moves.revokes fd e) = revoke-known script m (process_of m t) fd h
+move-known script m t q a h consistent thread owners made (Moves.ends r p _) = record { state = leave_process-known script m p h; answer = tt }
+move-known script m t q a h consistent thread owners made (Moves.forks child f) =
+    record { state = fork-known script m t (process_of m t) child.0 h; answer = made }
+move-known script m t q a h consistent thread owners made _ = record { state = h; answer = tt }
 
 -- settling
 
@@ -212,19 +213,20 @@ settle-known script before m h =
 -- what a step leaves and answers
 pub record IsKnownStep (script : ScriptValue) (m : State) (t : ℕ) (r : Option Request) : Type 0 where
   pub state : IsKnown script (step m t r).state
-  pub answer : IsDeclaredAnswer script (step m t r).answer
+  pub answer : IsKnownAnswer script (process_of m t) (step m t r).answer
 
 act-known :
-    (script : ScriptValue) (m : State) (t : ℕ) (r : Option Request) → IsKnown script m → IsThread script t → HasOwners script m →
-    AsksDeclared script r → IsKnownAct script (act m t r)
-act-known script m t r h thread owners made = move-known script m t r (act m t r) h thread owners made (act_moves m t r)
+    (script : ScriptValue) (m : State) (t : ℕ) (r : Option Request) → IsKnown script m → IsConsistent m → IsThread script t →
+    HasOwners script m → AsksDeclared script (process_of m t) r → IsKnownAct script (process_of m t) (act m t r)
+act-known script m t r h consistent thread owners made =
+    move-known script m t r (act m t r) h consistent thread owners made (act_moves m t r)
 
 pub step-known :
-    (script : ScriptValue) (m : State) (t : ℕ) (r : Option Request) → IsKnown script m → IsThread script t → HasOwners script m →
-    AsksDeclared script r → IsKnownStep script m t r
+    (script : ScriptValue) (m : State) (t : ℕ) (r : Option Request) → IsKnown script m → IsConsistent m → IsThread script t →
+    HasOwners script m → AsksDeclared script (process_of m t) r → IsKnownStep script m t r
 unfolding step
-step-known script m t r h thread owners made =
-    let acted : IsKnownAct script (act m t r) = act-known script m t r h thread owners made
+step-known script m t r h consistent thread owners made =
+    let acted : IsKnownAct script (process_of m t) (act m t r) = act-known script m t r h consistent thread owners made
     in record { state = settle-known script m (act m t r).state acted.state; answer = acted.answer }
 
 -- the end of a walk from a declared thread is declared

@@ -15,7 +15,7 @@ abbrev echo_value : ScriptValue
 echo_value = echo_with 100000 (codes "path") 4096 []
 
 echo_reading : parse_result echo_script ≡ Ok echo_value
-unfolding parse_result line_read line_spelling tables_of_lines process_item thread_item procedure_item keyword_create_to_info keyword_getparam_to_detach keyword_open_to_get keyword_getn_to_end create_line attach_line serve_line return_line await_line open_line call_line end_line
+unfolding parse_result line_read line_spelling tables_of_lines process_item thread_item procedure_item keyword_create_to_info keyword_getparam_to_detach keyword_open_to_get keyword_getn_to_end create_line attach_line serve_line return_line await_line open_line call_line end_line digits
 echo_reading = refl
 
 echo_play : text_of_play echo_value ≡ echo_trace

@@ -1,5 +1,5 @@
 -- The scripts of an echo door and a client as values.
-use Rattle.std.proofs.Common.{ℕ, List, [], ◌∷◌, false}
+use Rattle.std.proofs.Common.{ℕ, List, [], ◌∷◌, None, false}
 use Rattle.std.specs.Prelude.{codes}
 use Rattle.written_kernel.specs.Types.{Tid}
 use Rattle.script_line.specs.declared.line.FdArg.TheVariants.{Of as OfFd}
@@ -27,8 +27,9 @@ client_body room =
 abbrev pub echo_with : ℕ → List ℕ → ℕ → List Tid → ScriptValue
 echo_with budget path room schedule =
     record {
+      version = 1;
       budget = budget;
-      processes = record { name = codes "srv"; limit = 256 } ∷ record { name = codes "cli"; limit = 256 } ∷ [];
+      processes = record { name = codes "srv"; limit = 256; parent = None } ∷ record { name = codes "cli"; limit = 256; parent = None } ∷ [];
       threads =
           record { name = codes "s"; process = record { 0 = 1 }; spare = false; body = server_body }
           ∷ record { name = codes "c"; process = record { 0 = 2 }; spare = false; body = client_body room } ∷ [];

@@ -15,7 +15,7 @@ abbrev grown_value : ScriptValue
 grown_value = echo_with 100000 (codes "echo") 1 []
 
 grown_reading : parse_result grown_script ≡ Ok grown_value
-unfolding parse_result line_read line_spelling tables_of_lines process_item thread_item procedure_item keyword_create_to_info keyword_getparam_to_detach keyword_open_to_get keyword_getn_to_end create_line attach_line serve_line return_line await_line open_line call_line end_line
+unfolding parse_result line_read line_spelling tables_of_lines process_item thread_item procedure_item keyword_create_to_info keyword_getparam_to_detach keyword_open_to_get keyword_getn_to_end create_line attach_line serve_line return_line await_line open_line call_line end_line digits
 grown_reading = refl
 
 grown_play : text_of_play grown_value ≡ grown_trace

@@ -1,17 +1,17 @@
 -- Runs of a script, one turn more at the end.
 use Rattle.std.proofs.Common.{◌≡◌, ◌<◌, ◌≤◌, ℕ, ◌+◌, List, [], ◌∷◌, ◌++◌, length, true, arith, refl, sym, ap, ◌∙◌, suc, append-nil, append_assoc}
 use Rattle.std.specs.Prelude.{All, map}
-use Rattle.std.proofs.lemmas.List.{length-map}
 use Rattle.std.proofs.lemmas.List.Elements.{All-head, All-tail}
 use Rattle.dk_base.specs.declared.limits.TheConstants.{THREADS_MAX}
 use Rattle.written_kernel.specs.Types.{Event}
 use Rattle.written_kernel.specs.Words.{IsOpening, State, Turn, event_of, events_of, is_runnable, opening, state_after, with_new_thread}
-use Rattle.written_kernel.specs.Opening.IsOpening.{processes, thread}
+use Rattle.written_kernel.specs.Opening.IsOpening.{thread}
 use Rattle.written_kernel.proofs.Steps.{events-step}
-use Rattle.written_kernel.proofs.Opening.{length-with_new_thread, opening_events, opening_processes, opening_threads}
+use Rattle.written_kernel.proofs.Opening.{length-with_new_thread, opening_events}
 use Rattle.script_requests.specs.Types.{ScriptThread}
 use Rattle.script_lang.specs.Words.{ScriptValue as Script}
 use Rattle.script_requests.specs.Words.{Frame, IsProcess, IsSound, IsSoundThread, first_frame, frame_after, frame_from, frame_of}
+use Rattle.written_script.proofs.Children.{IsFresh, IsFresh-state_with_children, events-with_children, state_with_children}
 use Rattle.written_script.specs.ScriptRuns.{History, first_history, request_at_turn, history_after, run, run_from, AreRunnableFrom, turns_from, turns_of, threads_of_events, opening_of, with_script_threads, limit_of, thread_of_event}
 
 pub run_from-append :
@@ -92,17 +92,17 @@ IsOpening-with_script_threads script (x ∷ xs) m same few sound h =
 -- a sound script begins in an opening state
 pub IsOpening-opening_of : (script : Script) → IsSound script → IsOpening (opening_of script)
 IsOpening-opening_of script sound =
-    let limits = map limit_of script.processes
-    in let none : length (opening limits).process_table.threads ≡ 0 = ap length (opening_threads limits)
+    let fresh : IsFresh script (state_with_children script) = IsFresh-state_with_children script sound
+    in let none : length (state_with_children script).process_table.threads ≡ 0 = ap length fresh.threads
     in let few : length script.threads ≤ THREADS_MAX = sound.few_threads
     in IsOpening-with_script_threads
     script
     script.threads
-    (opening limits)
-    (opening_processes limits ∙ length-map script.processes limit_of)
+    (state_with_children script)
+    fresh.count
     (omega arith)
     sound.threads
-    (processes limits)
+    fresh.opens
 
 events-with_script_threads : (xs : List ScriptThread) (m : State) → (with_script_threads m xs).events ≡ m.events
 events-with_script_threads [] m = refl
@@ -111,7 +111,10 @@ events-with_script_threads (x ∷ xs) m = events-with_script_threads xs (with_ne
 -- every script begins with no event
 pub events-opening_of : (script : Script) → (opening_of script).events ≡ 0
 events-opening_of script =
-    let limits = map limit_of script.processes in events-with_script_threads script.threads (opening limits) ∙ opening_events limits
+    let limits = map limit_of script.processes
+    in events-with_script_threads script.threads (state_with_children script)
+    ∙ events-with_children script.processes 0 (opening limits)
+    ∙ opening_events limits
 
 pub threads_of_events-append : (es fs : List Event) → threads_of_events (es ++ fs) ≡ threads_of_events es ++ threads_of_events fs
 threads_of_events-append [] fs = refl

@@ -1,5 +1,5 @@
 -- An interrupt of the client of a server that waits in a nested call.
-use Rattle.std.proofs.Common.{◌≡◌, List, [], ◌∷◌, Ok, false, map, refl}
+use Rattle.std.proofs.Common.{◌≡◌, List, [], ◌∷◌, None, Ok, false, map, refl}
 use Rattle.std.specs.Prelude.{ℕ, codes}
 use Rattle.std.specs.Fmt.{digits}
 use Rattle.script_line.specs.declared.line.FdArg.TheVariants.{Of as OfFd}
@@ -48,12 +48,13 @@ thread t = record { 0 = t }
 abbrev interrupted_value : ScriptValue
 interrupted_value =
     record {
+      version = 1;
       budget = 100000;
       processes =
-          record { name = codes "back"; limit = 256 }
-          ∷ record { name = codes "front"; limit = 256 }
-          ∷ record { name = codes "cli"; limit = 256 }
-          ∷ record { name = codes "other"; limit = 256 } ∷ [];
+          record { name = codes "back"; limit = 256; parent = None }
+          ∷ record { name = codes "front"; limit = 256; parent = None }
+          ∷ record { name = codes "cli"; limit = 256; parent = None }
+          ∷ record { name = codes "other"; limit = 256; parent = None } ∷ [];
       threads =
           record { name = codes "g"; process = record { 0 = 1 }; spare = false; body = server_with 0 3 0 }
           ∷ record { name = codes "f"; process = record { 0 = 2 }; spare = false; body = server_with 1 4 1 }
@@ -70,7 +71,7 @@ interrupted_value =
     }
 
 interrupted_reading : parse_result interrupted_script ≡ Ok interrupted_value
-unfolding parse_result line_read line_spelling tables_of_lines process_item thread_item procedure_item schedule_item keyword_create_to_info keyword_getparam_to_detach keyword_open_to_get keyword_getn_to_end create_line attach_line serve_line return_line await_line open_line call_line testcancel_line interrupt_line end_line
+unfolding parse_result line_read line_spelling tables_of_lines process_item thread_item procedure_item schedule_item keyword_create_to_info keyword_getparam_to_detach keyword_open_to_get keyword_getn_to_end create_line attach_line serve_line return_line await_line open_line call_line testcancel_line interrupt_line end_line digits
 interrupted_reading = refl
 
 interrupted_play : text_of_play interrupted_value ≡ interrupted_trace

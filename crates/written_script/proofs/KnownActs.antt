@@ -1,26 +1,33 @@
 -- What an act leaves and answers names what is declared, or was made.
-use Rattle.std.proofs.Common.{◌≡◌, ℕ, ◌+◌, ◌≤◌, not, List, [], ◌∷◌, ◌++◌, Option, Some, None, Bool, true, false, if◌then◌else◌, IsSome, is_none, length, nat_lt, arith, refl, ap, subst, length-append, unwrap_or}
+use Rattle.std.proofs.Common.{◌≡◌, ℕ, ◌+◌, ◌≤◌, ◌==◌, not, List, [], ◌∷◌, ◌++◌, Option, Some, None, Bool, true, false, if◌then◌else◌, IsSome, is_none, length, nat_lt, arith, refl, sym, ap, ◌∙◌, subst, length-append, unwrap_or}
 use Rattle.std.proofs.lemmas.Bool.{false≢true}
 use Rattle.std.proofs.lemmas.List.Elements.{All-nil}
-use Rattle.written_kernel.specs.Types.{Attrs, Call, CallStage, Door, Errno, Fd, Name, Obj, Pass, PathId, Request}
+use Rattle.written_kernel.specs.Types.{Attrs, Call, CallStage, Door, Errno, Fd, Name, Notice, Obj, Pass, PathId, Request}
 use Rattle.dk_base.specs.declared.answer.Answer.TheVariants as answer
 use Rattle.dk_base.specs.declared.error.Errno.TheVariants.{EBADF, EINVAL, EMFILE, ENOENT}
 use Rattle.dk_base.specs.declared.object.Obj.TheVariants as obj
 use Rattle.dk_base.specs.declared.request.Request.TheVariants as request
 use Rattle.kernel_records.specs.declared.record.CallStage.TheVariants as stage
 use Rattle.kernel_records.specs.declared.record.NoticeStage.TheVariants as notice
-use Rattle.kernel_records.specs.Words.{close_row, collect_call, door_attached, end_notice, entry_of, has_path, info_in, is_client_call_of, is_notice_entered_by, is_to_collect_as, is_valid_in, new_descriptors, new_door, objects_passed, revocation, revoked_door}
-use Rattle.written_kernel.specs.Words.{State, create, bound_of, client_call, client_process, collect, collect_answer, collect_answer_in, door_at, door_named, door_of, find_call, has_room, is_door, is_valid, leave, name_of, now, object_at, objects_collected, objects_collected_in, results_answer, return_parked, revoke, table_of, tables_with, with_table_of}
+use Rattle.kernel_records.specs.declared.pool.TheConstants.{LOST_DOOR}
+use Rattle.kernel_records.specs.Words.{close_row, collect_call, door_attached, end_notice, entry_of, has_path, info_in, is_bound_to_some, is_client_call_of, is_given_as, is_given_notice_as, is_notice_entered_by, is_to_collect_as, is_valid_in, new_descriptors, new_door, objects_passed, revocation, revoked_door, tid}
+use Rattle.written_kernel.specs.Words.{State, create, bound_of, client_call, client_process, collect, collect_answer, collect_answer_in, door_at, door_named, door_of, find_call, has_room, is_door, is_valid, leave, name_of, now, object_at, objects_collected, objects_collected_in, process_of, results_answer, return_parked, revoke, table_of, tables_with, with_table_of}
 use Rattle.kernel_records.proofs.Lists.{numbered_within, numbered_there}
+use Rattle.written_kernel.proofs.Moves.{Accepts, AcceptsNotice}
+use Rattle.kernel_invariant.specs.Core.{door_in, notice_in, noticed_door_in}
+use Rattle.kernel_invariant.specs.Records.{notice_of, owner_in, record_of, stage_in}
+use Rattle.kernel_invariant.specs.Invariant.{IsConsistent}
+use Rattle.kernel_invariant.proofs.CallActs.{record_found}
+use Rattle.kernel_invariant.proofs.Consistent.{notice_found}
 use Rattle.script_lang.specs.Words.{ScriptValue}
 use Rattle.script_requests.specs.DeclaredNames.{IsTarget}
-use Rattle.script_requests.specs.Words.{IsDeclaredAnswer, IsEntry, IsNumberOf, IsProcess}
+use Rattle.script_requests.specs.Words.{IsEntryOf, IsNumberOf, IsProcess}
 use Rattle.script_requests.proofs.Elements.{All-at_number, All-find}
 use Rattle.written_script.specs.DeclaredRuns.{IsDeclaredDoor}
 use Rattle.written_script.proofs.DeclaredObjects.{AreKnownInTransit, AreKnownResults, IsKnownInTransit, IsKnownName, IsKnownObject, changed_notices-known, none-known, passed-known}
-use Rattle.written_script.proofs.KnownStates.{AreKnown, HasOwners, IsKnown, IsKnownAct, IsKnownCall, change_door-known, changed-known, emptied, installs-known, leave-known, notices-known, passes-known, with_door-known, with_row-known}
+use Rattle.written_script.proofs.KnownStates.{AreKnown, HasOwners, IsKnown, IsKnownAct, IsKnownAnswer, IsKnownCall, change_door-known, changed-known, emptied, entry-declared, installs-known, leave-known, notices-known, passes-known, with_door-known, with_row-known}
 
-pub revoke-known : (script : ScriptValue) (m : State) (p : ℕ) (fd : Fd) → IsKnown script m → IsKnownAct script (revoke m p fd)
+pub revoke-known : (script : ScriptValue) (m : State) (p : ℕ) (fd : Fd) → IsKnown script m → IsKnownAct script p (revoke m p fd)
 revoke-known script m p fd h =
     record {
       state =
@@ -95,30 +102,36 @@ names_door_then false false other h = absurd (cc h)
 -- what door_info(3C) tells names what is declared
 pub info-known :
     (script : ScriptValue) (m : State) (p refs d : ℕ) → IsKnown script m → IsNumberOf (length m.doors) d →
-    IsDeclaredAnswer script (answer.Info (info_in p refs (door_of m d)))
+    IsKnownAnswer script p (answer.Info (info_in p refs (door_of m d)))
 info-known script m p refs d h here = by_door (door_of m d) refl
   where
     by_target : (y : Door) → IsDeclaredDoor script y → (b : Bool) → IsTarget script (if b then None else Some y.owner)
     by_target y declared true = tt
     by_target y declared false = declared.owner
 
-    by_door : (o : Option Door) → door_of m d ≡ o → IsDeclaredAnswer script (answer.Info (info_in p refs o))
+    by_door : (o : Option Door) → door_of m d ≡ o → IsKnownAnswer script p (answer.Info (info_in p refs o))
     by_door None e = absurd (not_missing (numbered_there m.doors d here.0 here.1) e)
     by_door (Some y) e =
         let declared : IsDeclaredDoor script y = All-at_number (IsDeclaredDoor script) m.doors d y h.doors e
-        in (by_target y declared y.owner_ended, declared.entry)
+        in (by_target y declared y.owner_ended, entry-declared script y.owner.0 y.entry declared.entry)
 
--- the door that a thread is bound to, where it is bound to one
+-- the door that a thread is bound to, where it is bound to one that is not the lost one
 pub bound_door :
     (script : ScriptValue) (m : State) (t : ℕ) (other : Option Errno) → IsKnown script m →
-    (if is_none (bound_of m t) then Some EBADF else other) ≡ None → IsNumberOf (length m.doors) (unwrap_or (bound_of m t) 0)
+    (if not (is_bound_to_some (bound_of m t)) then Some EBADF else other) ≡ None → IsNumberOf (length m.doors) (unwrap_or (bound_of m t) 0)
 bound_door script m t other h e = by_bound (bound_of m t) refl e
   where
+    by_lost :
+        (d : ℕ) (b : Bool) → bound_of m t ≡ Some d → (d == LOST_DOOR) ≡ b → (if not (not b) then Some EBADF else other) ≡ None →
+        IsNumberOf (length m.doors) d
+    by_lost d true f lost k = absurd (cc k)
+    by_lost d false f some k = h.bindings t d f some
+
     by_bound :
-        (o : Option ℕ) → bound_of m t ≡ o → (if is_none o then Some EBADF else other) ≡ None →
+        (o : Option ℕ) → bound_of m t ≡ o → (if not (is_bound_to_some o) then Some EBADF else other) ≡ None →
         IsNumberOf (length m.doors) (unwrap_or o 0)
     by_bound None f k = absurd (cc k)
-    by_bound (Some d) f k = h.bindings t d f
+    by_bound (Some d) f k = by_lost d (d == LOST_DOOR) f refl k
 
 -- the process of a client, where there is one
 pub client-known :
@@ -133,14 +146,15 @@ client-known script m t other h owners e = by_call (client_call m t) refl e
     by_call (Some r) g k =
         owners r.caller.0 (All-find (IsKnownCall script (length m.doors)) (is_client_call_of t) m.call_tree.calls r h.calls g).caller
 
--- the door that a request makes is one of its process and of a declared entry
-abbrev pub MakesDeclared : ScriptValue → Request → Type 0
-MakesDeclared script (request.Create entry cookie attrs) = IsEntry script entry
-MakesDeclared script r = Unit {0}
+-- the door that a request of a thread of this process makes is of a procedure of it, and a child that it forks is declared
+abbrev pub MakesDeclared : ScriptValue → ℕ → Request → Type 0
+MakesDeclared script p (request.Create entry cookie attrs) = IsEntryOf script p entry
+MakesDeclared script p (request.Fork child) = IsProcess script child.0
+MakesDeclared script p r = Unit {0}
 
 pub create-known :
-    (script : ScriptValue) (m : State) (p entry cookie : ℕ) (attrs : Attrs) → IsKnown script m → IsProcess script p → IsEntry script entry →
-    IsKnownAct script (create m p entry cookie attrs)
+    (script : ScriptValue) (m : State) (p entry cookie : ℕ) (attrs : Attrs) → IsKnown script m → IsProcess script p → IsEntryOf script p entry →
+    IsKnownAct script p (create m p entry cookie attrs)
 create-known script m p entry cookie attrs h process made =
     record {
       state = with_row-known script n p _ (Some (obj.Door (length m.doors + 1))) (with_door-known script m x h (record { owner = process; entry = made })) new;
@@ -161,16 +175,39 @@ create-known script m p entry cookie attrs h process made =
         in let high : d ≤ length (m.doors ++ x ∷ []) = omega arith
         in (low, high)
 
--- a door that was made is there
+-- the procedure of a door that a process made is one of that process
 pub entry-known :
-    (script : ScriptValue) (m : State) (d : ℕ) → IsKnown script m → IsNumberOf (length m.doors) d → IsEntry script (entry_of (door_of m d))
-entry-known script m d h here = by_door (door_of m d) refl
+    (script : ScriptValue) (m : State) (p d : ℕ) → IsKnown script m → owner_in (door_of m d) ≡ Some p →
+    IsEntryOf script p (entry_of (door_of m d))
+entry-known script m p d h owner = by_door (door_of m d) refl owner
   where
-    by_door : (o : Option Door) → door_of m d ≡ o → IsEntry script (entry_of o)
-    by_door None e = absurd (not_missing (numbered_there m.doors d here.0 here.1) e)
-    by_door (Some x) e = (All-at_number (IsDeclaredDoor script) m.doors d x h.doors e).entry
+    by_door : (o : Option Door) → door_of m d ≡ o → owner_in o ≡ Some p → IsEntryOf script p (entry_of o)
+    by_door None e own = cc
+    by_door (Some x) e own =
+        let same : x.owner.0 ≡ p = cc
+        in subst (λ q. IsEntryOf script q x.entry) same (All-at_number (IsDeclaredDoor script) m.doors d x h.doors e).entry
 
-pub collect-known : (script : ScriptValue) (m : State) (t p c : ℕ) → IsKnown script m → IsKnownAct script (collect m t p c)
+-- what is given to a thread is of a door that its process made
+
+pub call-known :
+    (script : ScriptValue) (m : State) (t : ℕ) (r : Call) → IsKnown script m → IsConsistent m → Accepts m t r →
+    IsEntryOf script (process_of m t) (entry_of (door_of m r.door))
+call-known script m t r h consistent given =
+    let there : record_of m r.number ≡ Some r = record_found m (is_given_as r.number t) r consistent given.found
+    in let here : stage_in (record_of m r.number) ≡ Some (stage.Given (tid t)) = ap stage_in there ∙ ap Some given.stage
+    in let owner : owner_in (door_of m (door_in (record_of m r.number))) ≡ Some (process_of m t) = consistent.coherent.at_doors.given_owner r.number t here
+    in entry-known script m (process_of m t) r.door h (ap (λ o. owner_in (door_of m (door_in o))) (sym there) ∙ owner)
+
+pub notice-known :
+    (script : ScriptValue) (m : State) (t : ℕ) (n : Notice) → IsKnown script m → IsConsistent m → AcceptsNotice m t n →
+    IsEntryOf script (process_of m t) (entry_of (door_of m n.door))
+notice-known script m t n h consistent given =
+    let there : notice_of m n.number ≡ Some n = notice_found m (is_given_notice_as n.number t) n consistent given.found
+    in let here : notice_in (notice_of m n.number) ≡ Some (notice.Given (tid t)) = ap notice_in there ∙ ap Some given.stage
+    in let owner : owner_in (door_of m (noticed_door_in (notice_of m n.number))) ≡ Some (process_of m t) = consistent.coherent.notices_at_doors.notice_given_owner n.number t here
+    in entry-known script m (process_of m t) n.door h (ap (λ o. owner_in (door_of m (noticed_door_in o))) (sym there) ∙ owner)
+
+pub collect-known : (script : ScriptValue) (m : State) (t p c : ℕ) → IsKnown script m → IsKnownAct script p (collect m t p c)
 collect-known script m t p c h =
     record {
       state =
@@ -202,21 +239,21 @@ collect-known script m t p c h =
     found (Some r) e =
         brought r.stage (All-find (IsKnownCall script (length m.doors)) (is_to_collect_as c) m.call_tree.calls r h.calls e).results
 
-    results : (r : Call) (bytes : List ℕ) (objects : List Obj) → IsDeclaredAnswer script (results_answer m p r bytes objects)
+    results : (r : Call) (bytes : List ℕ) (objects : List Obj) → IsKnownAnswer script p (results_answer m p r bytes objects)
     results r bytes objects = go (has_room m p objects)
       where
         go :
             (b : Bool) →
-            IsDeclaredAnswer script
+            IsKnownAnswer script p
             (if b then answer.Results bytes (new_descriptors (table_of m p) objects) (nat_lt r.rsize (length bytes)) else answer.Failure EMFILE)
         go true = tt
         go false = tt
 
-    at : (r : Call) (s : CallStage) → IsDeclaredAnswer script (collect_answer m p r s)
+    at : (r : Call) (s : CallStage) → IsKnownAnswer script p (collect_answer m p r s)
     at r (stage.Returned bytes objects) = results r bytes objects
     at r (stage.Ended e) = tt
     at r _ = tt
 
-    by_call : (o : Option Call) → IsDeclaredAnswer script (collect_answer_in m p o)
+    by_call : (o : Option Call) → IsKnownAnswer script p (collect_answer_in m p o)
     by_call None = tt
     by_call (Some r) = at r r.stage

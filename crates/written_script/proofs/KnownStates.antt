@@ -1,21 +1,27 @@
 -- What the doors, calls, tables, names, bindings and notices of a state name is declared, or was made; what each change of them keeps.
-use Rattle.std.proofs.Common.{◌≡◌, ℕ, ◌+◌, ◌≤◌, ◌==◌, List, [], ◌∷◌, ◌++◌, Option, Some, None, Bool, true, false, if◌then◌else◌, inl, inr, length, arith, refl, sym, subst, length-append}
+use Rattle.std.proofs.Common.{◌≡◌, ℕ, ◌+◌, ◌≤◌, ◌==◌, List, [], ◌∷◌, ◌++◌, Option, Some, None, Bool, true, false, if◌then◌else◌, inl, inr, is_some, length, arith, refl, sym, subst, length-append}
 use Rattle.std.specs.Prelude.{All}
+use Rattle.std.proofs.lemmas.Bool.{false≢true}
 use Rattle.std.proofs.lemmas.List.{length-map}
+use Rattle.std.proofs.lemmas.Option.{slice_get_within}
 use Rattle.std.proofs.lemmas.List.Elements.{All-nil, All-cons, All-head, All-tail, All-push, All-weaker, All-map}
-use Rattle.written_kernel.specs.Types.{Call, CallStage, Door, Name, Notice, Obj, Param, Pass}
+use Rattle.written_kernel.specs.Types.{Answer, Call, CallStage, Door, Name, Notice, Obj, Param, Pass}
+use Rattle.dk_base.specs.declared.answer.Answer.TheVariants as answer
 use Rattle.dk_base.specs.declared.request.Param.TheVariants as param
 use Rattle.kernel_records.specs.declared.record.CallStage.TheVariants as stage
 use Rattle.dk_base.specs.ByNumber.{with_at_number}
-use Rattle.kernel_records.specs.Words.{Leaving, abandoned_at, at_stage, change_door, change_door_in, change_first, close_table, end_owner, left_call, process_end, set_param, unbind_thread, with_owner_ended, with_param, with_row, with_table, without_arguments_at}
-use Rattle.written_kernel.specs.Words.{ActResult, State, door_of, leave, leave_process, process_of, table_of, tables_after_pass, tables_with, with_table_of}
+use Rattle.kernel_records.specs.declared.pool.TheConstants.{LOST_DOOR}
+use Rattle.kernel_records.specs.Words.{Leaving, abandoned_at, at_stage, change_door, change_door_in, change_first, close_table, end_owner, first_place, forking, left_call, process_end, set_param, unbind_thread, with_owner_ended, with_param, with_row, with_table, without_arguments_at}
+use Rattle.written_kernel.specs.Words.{ActResult, State, bound_of, door_of, fork, leave, leave_process, process_of, table_of, tables_after_pass, tables_with, with_table_of}
+use Rattle.written_kernel.specs.Leaving.{bind_first}
 use Rattle.written_kernel.proofs.CallLists.{IsOver, left_call-over}
 use Rattle.kernel_records.proofs.Lists.{length-with_at_number}
 use Rattle.script_lang.specs.Words.{ScriptValue}
-use Rattle.script_requests.specs.Words.{IsDeclaredAnswer, IsNumberOf, IsProcess, IsThread}
+use Rattle.script_requests.specs.DeclaredNames.{IsTarget}
+use Rattle.script_requests.specs.Words.{IsDeclaredAnswer, IsEntry, IsEntryOf, IsNumberOf, IsProcess, IsThread}
 use Rattle.script_requests.proofs.Elements.{All-at_number}
 use Rattle.written_script.specs.DeclaredRuns.{IsDeclaredDoor}
-use Rattle.written_script.proofs.DeclaredObjects.{All-with_at_number, AreKnownBindings, AreKnownInTransit, AreKnownNames, AreKnownNotices, AreKnownResults, AreKnownRows, IsKnownInTransit, IsKnownName, IsKnownNotice, IsKnownObject, binding-known, closed-known, inserted-known, left_notices-known, released-known, row-known}
+use Rattle.written_script.proofs.DeclaredObjects.{All-with_at_number, AreKnownBindings, AreKnownInTransit, AreKnownNames, AreKnownNotices, AreKnownResults, AreKnownRows, IsKnownInTransit, IsKnownName, IsKnownNotice, IsKnownBinding, IsKnownObject, binding-known, closed-known, inserted-known, left_notices-known, released-known, row-known, table-known}
 
 -- a call's caller is declared, and its door and the doors that it takes along or brings back were made
 pub record IsKnownCall (script : ScriptValue) (made : ℕ) (r : Call) : Type 0 where
@@ -44,10 +50,30 @@ IsKnown script m = AreKnown script m.doors m.call_tree.calls m.tables m.names m.
 abbrev pub HasOwners : ScriptValue → State → Type 0
 HasOwners script m = (u : ℕ) → IsThread script u → IsProcess script (process_of m u)
 
--- what an act leaves and answers
-pub record IsKnownAct (script : ScriptValue) (a : ActResult) : Type 0 where
+-- what an answer to a thread of this process names is declared; a procedure that is entered is one of the process
+abbrev pub IsKnownAnswer : ScriptValue → ℕ → Answer → Type 0
+IsKnownAnswer script p (answer.Info info) = IsTarget script info.target × IsEntry script info.entry
+IsKnownAnswer script p (answer.Client process) = IsProcess script process.0
+IsKnownAnswer script p (answer.Child process) = IsProcess script process.0
+IsKnownAnswer script p (answer.Entered call entry cookie bytes fds) = IsEntryOf script p entry
+IsKnownAnswer script p (answer.EnteredNotice notice entry cookie) = IsEntryOf script p entry
+IsKnownAnswer script p a = Unit {0}
+
+pub entry-declared : (script : ScriptValue) (p entry : ℕ) → IsEntryOf script p entry → IsEntry script entry
+entry-declared script p entry h = slice_get_within script.procedures entry h.procedure h.there
+
+pub answer-declared : (script : ScriptValue) (p : ℕ) (a : Answer) → IsKnownAnswer script p a → IsDeclaredAnswer script a
+answer-declared script p (answer.Info info) h = h
+answer-declared script p (answer.Client process) h = h
+answer-declared script p (answer.Child process) h = h
+answer-declared script p (answer.Entered call entry cookie bytes fds) h = entry-declared script p entry h
+answer-declared script p (answer.EnteredNotice notice entry cookie) h = entry-declared script p entry h
+answer-declared script p a h = tt
+
+-- what an act of a thread of this process leaves and answers
+pub record IsKnownAct (script : ScriptValue) (p : ℕ) (a : ActResult) : Type 0 where
   pub state : IsKnown script a.state
-  pub answer : IsDeclaredAnswer script a.answer
+  pub answer : IsKnownAnswer script p a.answer
 
 -- changes of the calls
 
@@ -132,7 +158,7 @@ with_door-known script m d h here =
           (λ n known. more n.door known one)
           m.names
           h.names;
-      bindings = λ t n e. more n (h.bindings t n e) one;
+      bindings = λ t n e some. more n (h.bindings t n e some) one;
       notices =
           All-weaker
           (IsKnownNotice (length m.doors))
@@ -332,4 +358,30 @@ pub unbound-known :
     AreKnown script m.doors m.call_tree.calls m.tables m.names (unbind_thread m.bindings t) m.notice_list.notices
 unbound-known script m t h =
     bindings-known script m (unbind_thread m.bindings t) h
-    (binding-known (length m.doors) m.bindings t None (λ d e. absurd (cc e)) h.bindings)
+    (binding-known (length m.doors) m.bindings t None (λ d e some. absurd (cc e)) h.bindings)
+
+-- a child begins with the table of a process, and its first thread may be bound to the lost door
+
+lost-known : (made d : ℕ) → Some LOST_DOOR ≡ Some d → IsKnownBinding made d
+lost-known made d e some = let same : LOST_DOOR ≡ d = cc in absurd (false≢true (sym (subst (λ k. (k == LOST_DOOR) ≡ false) (sym same) some)))
+
+bind_first-known : (made : ℕ) (bindings : List (Option ℕ)) (place : Option ℕ) → AreKnownBindings made bindings → AreKnownBindings made (bind_first bindings place)
+bind_first-known made bindings None h = h
+bind_first-known made bindings (Some place) h = binding-known made bindings (place + 1) (Some LOST_DOOR) (lost-known made) h
+
+pub fork-known : (script : ScriptValue) (m : State) (t p child : ℕ) → IsKnown script m → IsKnown script (fork m t p child).state
+fork-known script m t p child h =
+    let left : IsKnown script (leave m (forking m.process_table t)) = leave-known script m (forking m.process_table t) h
+    in record {
+      doors = left.doors;
+      calls = left.calls;
+      rows = table-known (length m.doors) m.tables child (table_of m p) (h.rows p) h.rows;
+      names = left.names;
+      bindings = by_bound (is_some (bound_of m t));
+      notices = left.notices;
+    }
+  where
+    by_bound :
+        (b : Bool) → AreKnownBindings (length m.doors) (if b then bind_first m.bindings (first_place m.process_table child) else m.bindings)
+    by_bound true = bind_first-known (length m.doors) m.bindings (first_place m.process_table child) h.bindings
+    by_bound false = h.bindings

@@ -1,3 +1,4 @@
+pub mod Children
 pub mod Histories
 pub mod Plays
 pub mod EchoScripts

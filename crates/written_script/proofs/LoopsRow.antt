@@ -1,5 +1,5 @@
 -- A loop in a loop, and tests in tests.
-use Rattle.std.proofs.Common.{◌≡◌, List, [], ◌∷◌, Ok, false, refl}
+use Rattle.std.proofs.Common.{◌≡◌, List, [], ◌∷◌, None, Ok, false, refl}
 use Rattle.std.specs.Prelude.{codes}
 use Rattle.std.specs.Fmt.{digits}
 use Rattle.dk_base.specs.declared.error.Errno.TheVariants.{ENOENT, EBUSY}
@@ -44,8 +44,9 @@ loops_body =
 abbrev loops_value : ScriptValue
 loops_value =
     record {
+      version = 1;
       budget = 100000;
-      processes = record { name = codes "p"; limit = 256 } ∷ [];
+      processes = record { name = codes "p"; limit = 256; parent = None } ∷ [];
       threads = record { name = codes "t"; process = record { 0 = 1 }; spare = false; body = loops_body } ∷ [];
       procedures = record { name = codes "e"; process = record { 0 = 1 }; body = [] } ∷ [];
       order = part.Process ∷ part.Thread ∷ part.Procedure ∷ [];
@@ -54,7 +55,7 @@ loops_value =
     }
 
 loops_reading : parse_result loops_script ≡ Ok loops_value
-unfolding parse_result line_read line_spelling tables_of_lines process_item thread_item procedure_item keyword_create_to_info keyword_getparam_to_detach keyword_open_to_get keyword_getn_to_end create_line attach_line open_line repeat_line if_line end_line
+unfolding parse_result line_read line_spelling tables_of_lines process_item thread_item procedure_item keyword_create_to_info keyword_getparam_to_detach keyword_open_to_get keyword_getn_to_end create_line attach_line open_line repeat_line if_line end_line digits
 loops_reading = refl
 
 loops_play : text_of_play loops_value ≡ loops_trace

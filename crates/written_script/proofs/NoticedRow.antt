@@ -1,5 +1,5 @@
 -- Notices of a door that has one and of a door that has many.
-use Rattle.std.proofs.Common.{◌≡◌, List, [], ◌∷◌, Ok, false, refl}
+use Rattle.std.proofs.Common.{◌≡◌, List, [], ◌∷◌, None, Ok, false, refl}
 use Rattle.std.specs.Prelude.{codes}
 use Rattle.std.specs.Fmt.{digits}
 use Rattle.script_line.specs.declared.line.Cond.TheVariants.{Unref}
@@ -39,8 +39,9 @@ procedure_body =
 abbrev noticed_value : ScriptValue
 noticed_value =
     record {
+      version = 1;
       budget = 100000;
-      processes = record { name = codes "srv"; limit = 256 } ∷ [];
+      processes = record { name = codes "srv"; limit = 256; parent = None } ∷ [];
       threads = record { name = codes "s"; process = record { 0 = 1 }; spare = false; body = noticed_body } ∷ [];
       procedures = record { name = codes "p"; process = record { 0 = 1 }; body = procedure_body } ∷ [];
       order = part.Process ∷ part.Thread ∷ part.Procedure ∷ [];
@@ -49,7 +50,7 @@ noticed_value =
     }
 
 noticed_reading : parse_result noticed_script ≡ Ok noticed_value
-unfolding parse_result line_read line_spelling tables_of_lines process_item thread_item procedure_item keyword_create_to_info keyword_getparam_to_detach keyword_open_to_get keyword_getn_to_end create_line dup_line close_line serve_line repeat_line if_line end_line
+unfolding parse_result line_read line_spelling tables_of_lines process_item thread_item procedure_item keyword_create_to_info keyword_getparam_to_detach keyword_open_to_get keyword_getn_to_end create_line dup_line close_line serve_line repeat_line if_line end_line digits
 noticed_reading = refl
 
 noticed_play : text_of_play noticed_value ≡ noticed_trace

@@ -15,7 +15,7 @@ abbrev refused_value : ScriptValue
 refused_value = echo_with 100000 (codes "echo") 4096 (record { 0 = 1 } ∷ record { 0 = 2 } ∷ record { 0 = 2 } ∷ [])
 
 refused_reading : parse_result refused_script ≡ Ok refused_value
-unfolding parse_result line_read line_spelling tables_of_lines process_item thread_item procedure_item schedule_item keyword_create_to_info keyword_getparam_to_detach keyword_open_to_get keyword_getn_to_end create_line attach_line serve_line return_line await_line open_line call_line end_line
+unfolding parse_result line_read line_spelling tables_of_lines process_item thread_item procedure_item schedule_item keyword_create_to_info keyword_getparam_to_detach keyword_open_to_get keyword_getn_to_end create_line attach_line serve_line return_line await_line open_line call_line end_line digits
 refused_reading = refl
 
 refused_play : text_of_play refused_value ≡ refused_trace

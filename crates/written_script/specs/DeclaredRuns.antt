@@ -3,13 +3,13 @@ use Rattle.std.specs.Prelude.{All}
 use Rattle.script_lang.specs.Words.{ScriptValue}
 use Rattle.written_kernel.specs.Words.{waiting_threads}
 use Rattle.written_kernel.specs.Types.{Door}
-use Rattle.script_requests.specs.Words.{IsDeclaredEvent, IsDeclaredThread, IsEntry, IsProcess}
+use Rattle.script_requests.specs.Words.{IsDeclaredEvent, IsDeclaredThread, IsEntryOf, IsProcess}
 use Rattle.written_script.specs.ScriptRuns.{History}
 
--- the process and the entry that a door names
+-- the process and the entry that a door names: a procedure of that process
 pub record IsDeclaredDoor (script : ScriptValue) (d : Door) : Type 0 where
   pub owner : IsProcess script d.owner.0
-  pub entry : IsEntry script d.entry
+  pub entry : IsEntryOf script d.owner.0 d.entry
 
 -- whatever a history names is declared
 pub record IsDeclared (script : ScriptValue) (h : History) : Type 0 where

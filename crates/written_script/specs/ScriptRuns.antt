@@ -1,8 +1,8 @@
 -- The runs of a script: a list of threads, each runnable at its turn, determines the whole run.
 use Rattle.std.specs.Prelude.{ℕ, ◌≡◌, ◌≤◌, ◌||◌, List, [], ◌∷◌, ◌++◌, Option, Some, None, Bool, true, is_none, zero, suc, ◌+◌, ◌-◌, length, map, take, nat_le, if◌then◌else◌}
 use Rattle.std.specs.Option.{option_map_or}
-use Rattle.written_kernel.specs.Types.{Event, Request, Tid}
-use Rattle.written_kernel.specs.Words.{State, Turn, event_of, is_runnable, is_running, least_runnable, opening, step, with_new_thread}
+use Rattle.written_kernel.specs.Types.{Event, Pid, Request, Tid}
+use Rattle.written_kernel.specs.Words.{State, Turn, event_of, is_runnable, is_running, least_runnable, opening, step, with_child, with_new_thread}
 use Rattle.script_requests.specs.Types.{ScriptProcess, ScriptThread}
 use Rattle.script_lang.specs.Words.{ScriptValue}
 use Rattle.script_requests.specs.Words.{request_after}
@@ -14,9 +14,20 @@ abbrev pub with_script_threads : State → List ScriptThread → State
 with_script_threads m [] = m
 with_script_threads m (x ∷ xs) = with_script_threads (with_new_thread m x.process.0 x.spare) xs
 
--- a script's processes, its threads as Running and its spares as Dormant
+-- process n is a child, where it has a parent
+abbrev pub with_parent : State → ℕ → Option Pid → State
+with_parent m n None = m
+with_parent m n (Some parent) = with_child m n parent.0
+
+-- of these processes, where so many stand before them
+abbrev pub with_children : State → ℕ → List ScriptProcess → State
+with_children m before [] = m
+with_children m before (x ∷ xs) = with_children (with_parent m (before + 1) x.parent) (before + 1) xs
+
+-- a script's processes, its children as Unborn; the threads of its processes as Running, and its spares and the threads of children as
+-- Dormant
 abbrev pub opening_of : ScriptValue → State
-opening_of script = with_script_threads (opening (map limit_of script.processes)) script.threads
+opening_of script = with_script_threads (with_children (opening (map limit_of script.processes)) 0 script.processes) script.threads
 
 -- a state with the events that led to it
 pub record History : Type 0 where

@@ -7,7 +7,7 @@ use Rattle.std.proofs.lemmas.Bool.Decides.{nat_tests}
 use Rattle.script_text.specs.Words.{hex_digit, is_digit, is_letter, is_name, is_name_byte, is_one_line, is_printable, quoted_text}
 use Rattle.script_text.specs.Strings.{is_marked, quoted_byte}
 use Rattle.dk_base.specs.Words.{errno_name}
-use Rattle.dk_base.specs.declared.answer.Answer.TheVariants.{Wait, WaitCall, Done, NewFd, TwoFds, Count, Available, Param, Info, Client, Cancel, Data, Entered, EnteredNotice, EnterFailed, Results, OneEvent, Events, Errors, Failure}
+use Rattle.dk_base.specs.declared.answer.Answer.TheVariants.{Wait, WaitCall, Done, NewFd, TwoFds, Count, Available, Param, Info, Client, Child, Cancel, Data, Entered, EnteredNotice, EnterFailed, Results, OneEvent, Events, Errors, Failure}
 use Rattle.dk_base.specs.declared.error.Errno.TheVariants.{E2BIG}
 use Rattle.dk_base.specs.declared.event.What.TheVariants.{Create}
 use Rattle.dk_base.specs.declared.object.Src.TheVariants as source
@@ -352,6 +352,7 @@ answer_no_feed script shown (Available n) = decimal_no_feed n
 answer_no_feed script shown (Param value) = value_no_feed value
 answer_no_feed script shown (Info info) = info_no_feed script shown info
 answer_no_feed script shown (Client process) = decimal_no_feed process.0
+answer_no_feed script shown (Child process) = decimal_no_feed process.0
 answer_no_feed script shown (Cancel cancelled) = yes_no_feed cancelled
 answer_no_feed script shown (Data bytes) = data_no_feed bytes
 answer_no_feed script shown (Entered call entry cookie bytes fds) = entered_no_feed script shown call entry cookie bytes fds

@@ -1,9 +1,9 @@
 -- A script whose schedule is the turns of an allowed run is spelled by its canonical text: a text that spells the script, with
 -- other lines `schedule` at its end, spells it, too.
-use Rattle.std.proofs.Common.{◌≡◌, ℕ, ◌+◌, true, List, [], ◌∷◌, ◌++◌, length, map, Option, Some, None, unwrap_or, inr, refl, sym, ap, ◌∙◌, subst}
+use Rattle.std.proofs.Common.{◌≡◌, ℕ, ◌+◌, ◌≤◌, true, List, [], ◌∷◌, ◌++◌, length, map, Option, Some, None, unwrap_or, inr, refl, sym, ap, ◌∙◌, subst}
 use Rattle.std.specs.Prelude.{All, codes, filter_map}
 use Rattle.std.specs.List.{flat_map, list_all}
-use Rattle.std.proofs.lemmas.Bool.{and_from, and_parts, false≢true}
+use Rattle.std.proofs.lemmas.Bool.{and_from, and_parts, false≢true, le-leb}
 use Rattle.std.proofs.lemmas.List.Elements.{All-nil, All-cons, All-head, All-tail}
 use Rattle.script_text.specs.Types.{Tid}
 use Rattle.script_text.specs.Words.{is_one_line, joined_words, lines_of, text_of_lines, words_of}
@@ -14,7 +14,7 @@ use Rattle.script_text.proofs.TextLines.{lines_of-text_of_lines}
 use Rattle.script_line.specs.Words.{SpellsThread, Tables, depth_after, kind_of, paths_of, thread_word}
 use Rattle.script_lang.specs.Types.{Line}
 use Rattle.script_lang.specs.declared.item.ScriptLine.{ScriptLine}
-use Rattle.script_lang.specs.declared.item.ScriptLine.TheVariants.{Budget, Process, Spare, Thread, Procedure, Do, Schedule}
+use Rattle.script_lang.specs.declared.item.ScriptLine.TheVariants.{Budget, Process, Child, Spare, Thread, Procedure, Do, Schedule}
 use Rattle.script_lang.specs.declared.item.ScriptPlace.{ScriptPlace}
 use Rattle.script_lang.specs.declared.item.ScriptPlace.TheVariants.{Start, Processes, Members, Body, Schedule as Scheduled}
 use Rattle.script_lang.specs.declared.script.Part.{Part}
@@ -23,36 +23,37 @@ use Rattle.script_lang.specs.declared.script.ScriptProcess.{ScriptProcess}
 use Rattle.script_lang.specs.Canonical.{header}
 use Rattle.script_lang.specs.Context.{context_at_place}
 use Rattle.script_lang.specs.IsScript.{IsScript}
-use Rattle.script_lang.specs.Scripts.{part_of_item, script_process, script_thread}
+use Rattle.script_lang.specs.Scripts.{part_of_item, script_child, script_process, script_thread}
 use Rattle.script_lang.specs.Spelled.{SpellsScriptLine, path_count_after, path_uses}
 use Rattle.script_lang.specs.TextTables.{tables_of_lines}
-use Rattle.script_lang.specs.Words.{ContextValue, ScriptValue, SpellsLines, SpellsScript, SpellsScriptLines, before_line, body_from, budget_from, canonical_text, context_after, first_context, is_closed, is_closed_place, is_of_place, procedures_from, process_of_item, script_of_items, spells, tables_of, threads_from, turns_of_item}
+use Rattle.script_lang.specs.Words.{ContextValue, ScriptValue, SpellsLines, SpellsScript, SpellsScriptLines, before_line, body_from, budget_from, canonical_text, context_after, first_context, is_closed, is_closed_place, is_of_place, is_of_version, is_version, procedures_from, process_of_item, script_of_items, spells, tables_of, threads_from, turns_of_item}
 use Rattle.script_lang.proofs.ScriptRead.{script_is_script}
 use Rattle.script_lang.proofs.SpelledItems.{IsItem, along}
 use Rattle.script_lang.proofs.TextFound.{text_found}
 use Rattle.script_lang.proofs.TextOnly.{text_only}
+use Rattle.script_lang.proofs.Versions.{header_printable, is_version_some}
 use Rattle.script_requests.specs.DeclaredNames.{IsThread}
 use Rattle.script_requests.specs.Sound.{IsSound}
 use Rattle.script_requests.proofs.SoundScripts.{sound-spelled}
 use Rattle.written_script.specs.ScriptRuns.{AreRunnableFrom}
 use Rattle.written_script.specs.Words.{History, IsAllowed, first_history, history_after}
-use Rattle.written_script.proofs.RunTurns.{IsKnownHistory, IsKnownHistory-first_history, IsKnownHistory-history_after, history_after-thread}
+use Rattle.written_script.proofs.FitRequests.{HasThreads}
+use Rattle.written_script.proofs.RunTurns.{HasThreads-history_after, has-thread, opening-has}
 use Rattle.written_trace.specs.Replays.{numbered_thread, scheduled}
 use Rattle.written_trace.proofs.ScriptNames.{HasThreadName, named_thread}
 
 -- the threads of a run
 
-threads_declared : (script : ScriptValue) (ts : List ℕ) (h : History) → IsSound script → IsKnownHistory script h → AreRunnableFrom script h ts →
-    All (IsThread script) ts
-threads_declared script [] h sound kept can = All-nil (IsThread script)
-threads_declared script (t ∷ ts) h sound kept can =
-    All-cons (IsThread script) t ts (history_after-thread script h t kept can.0)
-    (threads_declared script ts (history_after script h t) sound (IsKnownHistory-history_after script h t sound kept can.0) can.1)
+threads_declared : (script : ScriptValue) (ts : List ℕ) (h : History) → HasThreads script h.state → AreRunnableFrom script h ts → All (IsThread script) ts
+threads_declared script [] h has can = All-nil (IsThread script)
+threads_declared script (t ∷ ts) h has can =
+    All-cons (IsThread script) t ts (has-thread script h.state t has can.0)
+    (threads_declared script ts (history_after script h t) (HasThreads-history_after script h t has) can.1)
 
 -- each turn of an allowed run is a declared thread's
 turns_declared : (script : ScriptValue) (ts : List ℕ) → IsSound script → IsAllowed script ts → All (IsThread script) ts
 turns_declared script ts sound allowed =
-    threads_declared script ts (first_history script) sound (IsKnownHistory-first_history script sound) allowed.runnable
+    threads_declared script ts (first_history script) (opening-has script sound) allowed.runnable
 
 abbrev turn_word : Tables → ℕ → List ℕ
 turn_word tables t = thread_word tables (numbered_thread t)
@@ -191,6 +192,16 @@ one_more (Process name limit) items others same =
       uses = same.uses;
       body = λ depth. refl;
     }
+one_more (Child name parent) items others same =
+    record {
+      budget = same.budget;
+      processes = ap (λ (xs : List ScriptProcess). script_child name parent ∷ xs) same.processes;
+      threads = λ process. same.threads (process + 1);
+      procedures = λ process. same.procedures (process + 1);
+      order = ap (λ (xs : List Part). ProcessPart ∷ xs) same.order;
+      uses = same.uses;
+      body = λ depth. refl;
+    }
 one_more (Spare name) items others same =
     record {
       budget = same.budget;
@@ -259,19 +270,35 @@ schedule_is [] turns = schedule_of_turns turns
 schedule_is (Schedule threads ∷ items) turns = schedule_of_turns turns
 schedule_is (Budget events ∷ items) turns = schedule_is items turns
 schedule_is (Process name limit ∷ items) turns = schedule_is items turns
+schedule_is (Child name parent ∷ items) turns = schedule_is items turns
 schedule_is (Spare name ∷ items) turns = schedule_is items turns
 schedule_is (Thread name ∷ items) turns = schedule_is items turns
 schedule_is (Procedure name ∷ items) turns = schedule_is items turns
 schedule_is (Do line ∷ items) turns = schedule_is items turns
 
 -- the script of these items has the turns as its schedule
-script_is : (paths : List (List ℕ)) (items : List ScriptLine) (turns : List ℕ) → EndInSchedules items →
-    script_of_items paths (with_turns items turns) ≡ scheduled (script_of_items paths items) turns
-script_is paths items turns h =
+script_is : (version : ℕ) (paths : List (List ℕ)) (items : List ScriptLine) (turns : List ℕ) → EndInSchedules items →
+    script_of_items version paths (with_turns items turns) ≡ scheduled (script_of_items version paths items) turns
+script_is version paths items turns h =
     let same : AddTheSame (with_turns items turns) items = add_the_same items turns h in
     rw (same.budget 100000, same.processes, same.threads 0, same.procedures 0, same.order, schedule_is items turns) refl
 
 -- lines
+
+-- they are lines of the version of which the items are
+
+turns_of_version : (version : ℕ) → 1 ≤ version → (turns : List ℕ) → list_all (is_of_version version) (turn_items turns) ≡ true
+turns_of_version version some [] = refl
+turns_of_version version some (t ∷ ts) = and_from _ _ (le-leb 1 version some) (turns_of_version version some ts)
+
+with_turns_of_version :
+    (version : ℕ) (items : List ScriptLine) (turns : List ℕ) → 1 ≤ version → list_all (is_of_version version) items ≡ true →
+    list_all (is_of_version version) (with_turns items turns) ≡ true
+with_turns_of_version version [] turns some all = turns_of_version version some turns
+with_turns_of_version version (Schedule threads ∷ items) turns some all = turns_of_version version some turns
+with_turns_of_version version (item ∷ items) turns some all =
+    let parts = and_parts (is_of_version version item) (list_all (is_of_version version) items) all in
+    and_from _ _ parts.0 (with_turns_of_version version items turns some parts.1)
 
 -- where the items of a text stand
 record AreInOrder (context : ContextValue) (items : List ScriptLine) : Type 0 where
@@ -394,9 +421,9 @@ record HasScriptLines (script : ScriptValue) (turns : List ℕ) : Type 0 where
   spelled : SpellsScript lines (scheduled script turns)
   printable : list_all are_printable lines ≡ true
 
-script_lines : (lines : List (List ℕ)) (script : ScriptValue) (turns : List ℕ) → AreSpelled (tables_of script) turns → SpellsScript lines script →
-    HasScriptLines script turns
-script_lines lines script turns named s =
+script_lines : (lines : List (List ℕ)) (script : ScriptValue) (turns : List ℕ) → AreSpelled (tables_of script) turns →
+    is_version script.version ≡ true → SpellsScript lines script → HasScriptLines script turns
+script_lines lines script turns named versioned s =
     let order : AreInOrder first_context s.items = in_order (tables_of script) first_context lines s.items s.spells in
     let others : HasLines (tables_of script) first_context (with_turns s.items turns) =
     lines_with_turns (tables_of script) turns named first_context lines s.items s.spells in
@@ -405,9 +432,10 @@ script_lines lines script turns named s =
       spelled = record {
         items = with_turns s.items turns;
         spells = others.spelled;
+        of_version = with_turns_of_version script.version s.items turns (is_version_some script.version versioned) s.of_version;
         different_paths = s.different_paths;
         numbered_paths = ap (path_count_after 0) (add_the_same s.items turns order.ends).uses ∙ s.numbered_paths;
-        is_script = script_is script.paths s.items turns order.ends ∙ ap (λ (at : ScriptValue). scheduled at turns) s.is_script;
+        is_script = script_is script.version script.paths s.items turns order.ends ∙ ap (λ (at : ScriptValue). scheduled at turns) s.is_script;
       };
       printable = others.printable;
     }
@@ -415,7 +443,12 @@ script_lines lines script turns named s =
 all_lines : (lines : List (List ℕ)) (script : ScriptValue) (turns : List ℕ) → AreSpelled (tables_of script) turns → SpellsLines lines script →
     HasScriptLines script turns
 all_lines [] script turns named s = absurd s
-all_lines (line ∷ lines) script turns named s = script_lines lines script turns named s.1
+all_lines (line ∷ lines) script turns named s = script_lines lines script turns named s.0 s.2
+
+-- the version of a text that spells a script
+version_of_lines : (lines : List (List ℕ)) (script : ScriptValue) → SpellsLines lines script → is_version script.version ≡ true
+version_of_lines [] script s = absurd s
+version_of_lines (line ∷ lines) script s = s.0
 
 are_lines : (lines : List (List ℕ)) → list_all are_printable lines ≡ true → list_all is_one_line lines ≡ true
 are_lines [] h = refl
@@ -433,11 +466,14 @@ text_with_turns : (source : List ℕ) (script : ScriptValue) (turns : List ℕ) 
 unfolding spells
 text_with_turns source script turns named s =
     let others : HasScriptLines script turns = all_lines (lines_of source) script turns named s in
-    let lines : lines_of (text_of_lines (header ∷ others.lines)) ≡ header ∷ others.lines =
-    lines_of-text_of_lines (header ∷ others.lines) (are_lines (header ∷ others.lines) (and_from _ _ refl others.printable)) in
+    let versioned : is_version script.version ≡ true = version_of_lines (lines_of source) script s in
+    let first : List ℕ = header script.version in
+    let printable : are_printable first ≡ true = header_printable script.version versioned in
+    let lines : lines_of (text_of_lines (first ∷ others.lines)) ≡ first ∷ others.lines =
+    lines_of-text_of_lines (first ∷ others.lines) (are_lines (first ∷ others.lines) (and_from _ _ printable others.printable)) in
     record {
-      text = text_of_lines (header ∷ others.lines);
-      spelled = subst (λ (ls : List (List ℕ)). SpellsLines ls (scheduled script turns)) (sym lines) (refl, others.spelled);
+      text = text_of_lines (first ∷ others.lines);
+      spelled = subst (λ (ls : List (List ℕ)). SpellsLines ls (scheduled script turns)) (sym lines) (versioned, refl, others.spelled);
     }
 
 -- a text that spells a script has a first line

@@ -9,7 +9,7 @@ use Rattle.script_text.specs.Words.{are_distinct, is_name, lines_of, words_of}
 use Rattle.dk_base.specs.ByNumber.{at_number}
 use Rattle.script_line.specs.Words.{Tables}
 use Rattle.script_lang.specs.declared.item.ScriptLine.{ScriptLine}
-use Rattle.script_lang.specs.declared.item.ScriptLine.TheVariants.{Process, Spare, Thread, Procedure}
+use Rattle.script_lang.specs.declared.item.ScriptLine.TheVariants.{Process, Child, Spare, Thread, Procedure}
 use Rattle.script_lang.specs.declared.script.Procedure.{Procedure as ScriptProcedure}
 use Rattle.script_lang.specs.declared.script.ScriptThread.{ScriptThread}
 use Rattle.script_lang.specs.Words.{ContextValue, ScriptValue, SpellsLines, SpellsScript, SpellsScriptLine, SpellsScriptLines, first_context, name_of_procedure, procedures_from, spells, tables_of, threads_from}
@@ -61,6 +61,8 @@ one_more : (tables : Tables) (of : ℕ) (item : ScriptLine) (items : List Script
     SpellsScriptLine tables of item words → AreNamed items → AreNamed (item ∷ items)
 one_more tables of (Process name limit) items words s others =
     record { threads = λ process. others.threads (process + 1); procedures = λ process. others.procedures (process + 1) }
+one_more tables of (Child name parent) items words s others =
+    record { threads = λ process. others.threads (process + 1); procedures = λ process. others.procedures (process + 1) }
 one_more tables of (Spare name) items words s others =
     record {
       threads = λ process. All-cons IsNamedThread _ (threads_from process items) (spare_name tables of name words s) (others.threads process);
@@ -108,7 +110,7 @@ script_names lines script s =
 
 lines_names : (lines : List (List ℕ)) (script : ScriptValue) → SpellsLines lines script → HasNames script
 lines_names [] script s = absurd s
-lines_names (line ∷ lines) script s = script_names lines script s.1
+lines_names (line ∷ lines) script s = script_names lines script s.2
 
 text_names : (text : List ℕ) (script : ScriptValue) → spells text script → HasNames script
 unfolding spells
