@@ -1,4 +1,6 @@
-use crate::turns::{ALERT, CLIENT, EVENT, Entry, Gives, Row, SERVER, Turn, right_turns_of_new};
+use crate::turns::{
+    ALERT, CLIENT, EVENT, Entry, Gives, Row, SERVER, Turn, right_turns_of_fork, right_turns_of_new,
+};
 use dk_base::error::Errno;
 use dk_base::list::IdList;
 use dk_base::number::{Fd, Pid};
@@ -419,6 +421,47 @@ const WAITING: [Row; 11] = [
     ),
     (SERVER, Turn::GoesOn, Gives::Failure(Errno::EBADF), &[]),
 ];
+
+/// A child has begun: its thread runs, with a table of its own, and serves a client in the parent.
+const FORKED: [Row; 9] = [
+    (CLIENT, Turn::Enters(Entry::Create), Gives::NewFd(0), &[]),
+    (CLIENT, Turn::Enters(Entry::Attach), Gives::Done, &[]),
+    (
+        CLIENT,
+        Turn::Enters(Entry::Return(b"", &[])),
+        Gives::Wait,
+        &[],
+    ),
+    (
+        SERVER,
+        Turn::Enters(Entry::Info(0)),
+        Gives::Failure(Errno::EBADF),
+        &[],
+    ),
+    (SERVER, Turn::Enters(Entry::Open), Gives::NewFd(0), &[]),
+    (
+        SERVER,
+        Turn::Enters(Entry::Call(b"hi", &[])),
+        Gives::WaitCall(1),
+        &[CLIENT],
+    ),
+    (CLIENT, Turn::GoesOn, Gives::Entered(1, b"hi", &[]), &[]),
+    (
+        CLIENT,
+        Turn::Enters(Entry::Return(b"hi", &[])),
+        Gives::Wait,
+        &[SERVER],
+    ),
+    (SERVER, Turn::GoesOn, Gives::Grown(b"hi", &[]), &[]),
+];
+
+#[test]
+fn a_child_begins(rt: HostRuntime) -> Result<(), Fail> {
+    let alloc = rt.alloc();
+    let right = right_turns_of_fork(alloc, &FORKED);
+    assert!(rt; right == FORKED.len(), "turn {right}");
+    Ok(())
+}
 
 #[test]
 fn echo(rt: HostRuntime) -> Result<(), Fail> {

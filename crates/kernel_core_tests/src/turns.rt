@@ -1,8 +1,9 @@
 //! A kernel of two processes, and the turns of two threads, of one process each or of the same.
-ghost use Rattle.std.specs.Prelude.{ℕ, ◌≡◌, ◌≤◌, Option, IfOk, length};
+ghost use Rattle.std.specs.Prelude.{ℕ, ◌≡◌, ◌≤◌, [], Option, Some, IfOk, length};
+ghost use Rattle.kernel_records.specs.Words.{pid};
 ghost use Rattle.std.specs.List.{AllByRecursion};
 ghost use Rattle.dk_base.specs.declared.limits.TheConstants.{DESCRIPTORS_MAX};
-ghost use Rattle.written_kernel.specs.Words.{IsFit, State};
+ghost use Rattle.written_kernel.specs.Words.{IsFit, State, parent_of, process_of, table_of};
 
 use dk_base::answer::Answer;
 use dk_base::error::{Errno, NoMemory};
@@ -91,6 +92,7 @@ pub enum Gives {
     OneEvent(EventRec),
     Events(&'static [EventRec]),
     Errors(&'static [Option<Errno>]),
+    Child(u32),
     Failure(Errno),
 }
 
@@ -134,6 +136,9 @@ fn is_answer(answer: &Answer, gives: Gives) -> bool {
         }
         Gives::Errors(errors) => {
             matches!(answer, Answer::Errors(told) if told.slice() == errors)
+        }
+        Gives::Child(number) => {
+            matches!(answer, Answer::Child { process } if process.0 == number)
         }
         Gives::Failure(errno) => matches!(answer, Answer::Failure(error) if *error == errno),
     }
@@ -296,6 +301,50 @@ fn right_turns_of_two(alloc: Global, kernel: &mut Kernel, second: Pid, rows: &[R
         return 0;
     }
     right_turns(alloc, kernel, rows)
+}
+
+/// A child of the thread's process begins.
+fn forks(kernel: &mut Kernel, t: Tid, child: Pid) -> Result<Stepped, NoMemory>
+    requires { parent_of kernel.old child.0 ≡ Some (pid (process_of kernel.old t.0)) }
+{
+    if !kernel.is_running(t) || kernel.events() >= 1_000_000 {
+        return Err(NoMemory);
+    }
+    kernel.enter(t, Request::Fork { child })
+}
+
+/// How many turns go as they are written, after the thread of process 1 has forked process 2, its child.
+fn right_turns_of_child(alloc: Global, kernel: &mut Kernel, rows: &[Row]) -> usize
+    requires two { length kernel.old.process_table.processes ≡ 2 }
+    requires alike { length (table_of kernel.old 2) ≡ length (table_of kernel.old 1) }
+    requires none { kernel.old.process_table.threads ≡ [] }
+    requires opening { kernel.old.events ≡ 0 }
+{
+    kernel.make_child(Pid(2), Pid(1));
+    if !matches!(kernel.add_thread(Pid(1), false), Ok(SERVER)) {
+        return 0;
+    }
+    if !matches!(kernel.add_thread(Pid(2), false), Ok(CLIENT)) {
+        return 0;
+    }
+    if kernel.runnable(CLIENT) {
+        return 0;
+    }
+    if !is_step(&forks(kernel, SERVER, Pid(2)), Gives::Child(2), &[CLIENT]) {
+        return 0;
+    }
+    right_turns(alloc, kernel, rows)
+}
+
+/// The same of a kernel whose processes have this limit of descriptors.
+pub fn right_turns_of_fork(alloc: Global, rows: &[Row]) -> usize {
+    let Ok(limits) = IdList::from_slice(alloc, &[16, 16]) else {
+        return 0;
+    };
+    match Kernel::new(alloc, &limits) {
+        Ok(mut kernel) => right_turns_of_child(alloc, &mut kernel, rows),
+        Err(_) => 0,
+    }
 }
 
 /// The same of a kernel whose processes have these limits of descriptors.

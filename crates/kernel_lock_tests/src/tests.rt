@@ -14,6 +14,10 @@ use std::thread::Threads;
 const CALLS: &str =
     "doors script 1\nprocess srv\nthread s\n create d shout 1\n attach $d shout\n serve\nend\nthread u\n serve\nend\nproc shout\n return $arg\nend\nprocess cli\nthread k1\n await shout\n open d shout\n call r $d \"one\"\nend\nthread k2\n await shout\n open d shout\n call r $d \"two\"\nend\n";
 
+/// The third thread forks the process of the fourth.
+const CHILD: &str =
+    "doors script 2\nprocess o\nthread x\n pipe r w\nend\nthread y\n pipe r w\nend\nprocess par\nthread a\n fork kid\nend\nchild kid of par\nthread k\n pipe r w\nend\n";
+
 const FIRST_CLIENT: Tid = Tid(3);
 
 const SECOND_CLIENT: Tid = Tid(4);
@@ -164,6 +168,19 @@ fn clients_run_at_once(rt: HostRuntime) -> Result<(), Fail> {
         assert!(rt; ends, "the run is whole");
         assert!(rt; gate.failed.load(Ordering::SeqCst) == 0, "the clients met");
     }
+    Ok(())
+}
+
+/// A process is held before it forks until the driver of its child's thread has arrived, which waits until that thread runs.
+#[test]
+fn a_child_is_driven_once_it_runs(rt: HostRuntime) -> Result<(), Fail> {
+    let gate = Meeting::new(false);
+    let ends = run_ends(&rt, rt.alloc(), CHILD, &gate, Ending::Complete, 4);
+    assert!(rt; ends, "the run is whole");
+    assert!(rt;
+        gate.failed.load(Ordering::SeqCst) == 0,
+        "the child's driver came"
+    );
     Ok(())
 }
 

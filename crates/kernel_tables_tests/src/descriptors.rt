@@ -139,3 +139,29 @@ fn all_objects_get_numbers_or_none(rt: HostRuntime) -> Result<(), Fail> {
     assert!(rt; gives_all_or_none(&mut table, &many, &few, &mut given, &[Fd(1), Fd(2)]));
     Ok(())
 }
+
+/// Whether an object gets a descriptor that names nothing.
+fn puts(table: &mut FdTable, fd: Fd, object: Obj) -> bool {
+    if fd.0 >= table.len() || table.get(fd).is_some() {
+        return false;
+    }
+    table.put(fd, object);
+    table.get(fd) == Some(object)
+}
+
+/// Above the lowest free descriptor, at it, and at the last one.
+fn puts_three(table: &mut FdTable) -> bool {
+    puts(table, Fd(1), Obj::Port(1))
+        && table.lowest_free() == Some(0)
+        && puts(table, Fd(0), Obj::Door(1))
+        && table.lowest_free() == Some(2)
+        && puts(table, Fd(2), Obj::Door(2))
+        && !puts(table, Fd(1), Obj::Door(3))
+}
+
+#[test]
+fn a_descriptor_is_given_by_number(rt: HostRuntime) -> Result<(), Fail> {
+    let mut table = FdTable::new(rt.alloc(), 3)?;
+    assert!(rt; puts_three(&mut table) && is_full(&mut table));
+    Ok(())
+}

@@ -5,7 +5,7 @@ ghost use Rattle.exit_paths.specs.Words.{CanExit, in_transit};
 use call_tree::calls::Calls;
 use dk_base::number::Tid;
 use door_object::doors::Doors;
-use exit_paths::exits::{interrupt, revoke_all, thread_exit};
+use exit_paths::exits::{fork_exit, interrupt, revoke_all, thread_exit};
 use exit_paths::left::Left;
 use proc_table::procs::Procs;
 use server_pool::pools::Pools;
@@ -47,6 +47,23 @@ fn is_no_end(
     requires carried { in_transit calls.old.tree.calls ≤ 0 }
 {
     match thread_exit(alloc, procs, calls, pools, doors, Tid(1), 0, 0) {
+        Ok(left) => is_silent(&left),
+        Err(_) => false,
+    }
+}
+
+/// The same of a fork by one.
+fn is_no_fork(
+    alloc: Global,
+    procs: &mut Procs,
+    calls: &mut Calls,
+    pools: &mut Pools,
+    doors: &Doors,
+) -> bool
+    requires can { CanExit 0 doors.now.items (record { procs = procs.old; calls = calls.old; pools = pools.old }) }
+    requires carried { in_transit calls.old.tree.calls ≤ 0 }
+{
+    match fork_exit(alloc, procs, calls, pools, doors, Tid(1), 0, 0) {
         Ok(left) => is_silent(&left),
         Err(_) => false,
     }
@@ -99,5 +116,16 @@ fn nobody_ends(rt: HostRuntime) -> Result<(), Fail> {
     let mut calls = Calls::new(alloc);
     let doors = Doors::new(alloc);
     assert!(rt; is_no_end(alloc, &mut procs, &mut calls, &mut pools, &doors));
+    Ok(())
+}
+
+#[test]
+fn nobody_forks(rt: HostRuntime) -> Result<(), Fail> {
+    let alloc = rt.alloc();
+    let mut pools = Pools::new(alloc)?;
+    let mut procs = Procs::new(alloc);
+    let mut calls = Calls::new(alloc);
+    let doors = Doors::new(alloc);
+    assert!(rt; is_no_fork(alloc, &mut procs, &mut calls, &mut pools, &doors));
     Ok(())
 }

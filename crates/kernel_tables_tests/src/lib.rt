@@ -1,5 +1,5 @@
 //! Tests of the tables of the kernel: descriptors, and those that are passed, names, processes and threads, doors, server pools,
-//! calls, exit paths, notices, and the references that are counted.
+//! calls, exit paths, the parts of a fork, notices, and the references that are counted.
 #![tactic(auto)]
 
 #[cfg(test)]
@@ -12,6 +12,8 @@ mod descriptors;
 mod doors;
 #[cfg(test)]
 mod exits;
+#[cfg(test)]
+mod forking;
 #[cfg(test)]
 mod names;
 #[cfg(test)]

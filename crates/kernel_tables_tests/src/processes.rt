@@ -104,3 +104,48 @@ fn a_process_ends_with_all_its_threads(rt: HostRuntime) {
     let mut procs = Procs::new(rt.alloc());
     assert!(rt; are_two_processes_added(&mut procs) && is_process_ended(&mut procs));
 }
+
+/// Whether a thread is added to a process that has not begun, under this number, and is Dormant.
+fn is_added_unborn(procs: &mut Procs, p: Pid, spare: bool, number: u32) -> bool {
+    procs.is_unborn(p)
+        && matches!(procs.add_unborn_thread(p, spare), Ok(t) if t.0 == number)
+        && is_dormant(procs, Tid(number))
+}
+
+fn is_dormant(procs: &Procs, t: Tid) -> bool {
+    matches!(procs.state(t), ThreadState::Dormant)
+}
+
+/// Process 2 is a child of process 1, with a spare, which is thread 2, and another thread.
+fn is_child_added(procs: &mut Procs) -> bool {
+    if !is_process_added(procs, 1) || !is_process_added(procs, 2) {
+        return false;
+    }
+    procs.make_child(Pid(2), Pid(1));
+    !procs.is_live(Pid(2))
+        && procs.parent_of(Pid(2)) == Some(Pid(1))
+        && procs.parent_of(Pid(1)).is_none()
+        && is_thread_added(procs, Pid(1), false, 1)
+        && is_added_unborn(procs, Pid(2), true, 2)
+        && is_added_unborn(procs, Pid(2), false, 3)
+}
+
+/// The child begins, and its thread runs that is no spare.
+fn is_begun(procs: &mut Procs) -> bool {
+    if procs.first_thread(Pid(2)) != Some(Tid(3)) || procs.going().has(Tid(3)) {
+        return false;
+    }
+    procs.begin(Pid(2));
+    procs.is_live(Pid(2))
+        && !procs.is_unborn(Pid(2))
+        && procs.is_spare(Tid(2))
+        && is_dormant(procs, Tid(2))
+        && procs.going().has(Tid(3))
+        && procs.active_threads(Pid(2)) == 1
+}
+
+#[test]
+fn a_child_begins(rt: HostRuntime) {
+    let mut procs = Procs::new(rt.alloc());
+    assert!(rt; is_child_added(&mut procs) && is_begun(&mut procs));
+}

@@ -7,7 +7,7 @@ use std::alloc::Global;
 
 /// One text for each reason, with the first bad line. `tests/show/` has many more.
 const BAD_TEXTS: [(&str, u32, Reason); 10] = [
-    ("doors script 2\n", 1, Reason::Header),
+    ("doors script 3\n", 1, Reason::Header),
     ("doors script 1\r\n", 1, Reason::Byte),
     ("doors script 1\nbudget 1\nbudget 2\n", 3, Reason::Word),
     ("doors script 1\nbudget 007\n", 2, Reason::Form),

@@ -45,7 +45,7 @@ fn shows(alloc: Global, script: &Script, what: What, answer: Answer, expected: &
 }
 
 /// The word of each kind of event, where it fails.
-const WORDS: [(What, &str); 38] = [
+const WORDS: [(What, &str); 39] = [
     (What::Create, "7 s c create EINTR"),
     (What::Call, "7 s c call EINTR"),
     (What::Return, "7 s c return EINTR"),
@@ -77,6 +77,7 @@ const WORDS: [(What, &str); 38] = [
     (What::Interrupt, "7 s c interrupt EINTR"),
     (What::Kill, "7 s c kill EINTR"),
     (What::Exit, "7 s c exit EINTR"),
+    (What::Fork, "7 s c fork EINTR"),
     (What::Work, "7 s c work EINTR"),
     (What::Accept, "7 s c accept EINTR"),
     (What::Collect, "7 s c collect EINTR"),
@@ -103,6 +104,7 @@ enum Plain {
     Count,
     Available,
     Client,
+    Child,
     Cancelled,
     NotCancelled,
     EnterFailed,
@@ -113,7 +115,7 @@ enum Plain {
     Failure,
 }
 
-const PLAIN: [(What, Plain, &str); 16] = [
+const PLAIN: [(What, Plain, &str); 17] = [
     (What::Return, Plain::Wait, "7 s c return wait"),
     (What::Call, Plain::WaitCall, "7 s c call wait c12"),
     (What::Attach, Plain::Done, "7 s c attach ok"),
@@ -122,6 +124,7 @@ const PLAIN: [(What, Plain, &str); 16] = [
     (What::Write, Plain::Count, "7 s c write ok 4096"),
     (What::GetN, Plain::Available, "7 s c getn ok 64"),
     (What::Cred, Plain::Client, "7 s c cred ok process 2"),
+    (What::Fork, Plain::Child, "7 s c fork ok process 2"),
     (
         What::TestCancel,
         Plain::Cancelled,
@@ -161,6 +164,7 @@ fn answer_of(form: Plain) -> Answer {
         Plain::Count => Answer::Count { n: 4096 },
         Plain::Available => Answer::Available { n: 64 },
         Plain::Client => Answer::Client { process: Pid(2) },
+        Plain::Child => Answer::Child { process: Pid(2) },
         Plain::Cancelled => Answer::Cancel { yes: true },
         Plain::NotCancelled => Answer::Cancel { yes: false },
         Plain::EnterFailed => Answer::EnterFailed { call: 3 },

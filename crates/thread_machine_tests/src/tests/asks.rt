@@ -42,6 +42,7 @@ pub(crate) enum Asks {
     Interrupt(u32),
     Kill(u32),
     Exit,
+    Fork(u32),
     Work(Op, &'static [u8]),
 }
 
@@ -95,6 +96,7 @@ pub(crate) fn is_asked(request: &Request, asks: Asks) -> bool {
         Request::Await { path } => matches!(asks, Asks::Await(at) if path.0 == at),
         Request::Interrupt { thread } => matches!(asks, Asks::Interrupt(t) if thread.0 == t),
         Request::Kill { process } => matches!(asks, Asks::Kill(p) if process.0 == p),
+        Request::Fork { child } => matches!(asks, Asks::Fork(p) if child.0 == p),
         _ => is_transfer(request, asks),
     }
 }

@@ -25,6 +25,7 @@ pub(crate) enum Given {
     Param(u64),
     Info,
     Client,
+    Child,
     Cancel(bool),
     Data(&'static [u8]),
     Entered(&'static [u8], &'static [Fd]),
@@ -67,6 +68,7 @@ fn plain(given: Given) -> Answer {
         Given::Param(value) => Answer::Param { value },
         Given::Info => Answer::Info(INFO),
         Given::Client => Answer::Client { process: Pid(1) },
+        Given::Child => Answer::Child { process: Pid(2) },
         Given::Cancel(yes) => Answer::Cancel { yes },
         Given::Notice => Answer::EnteredNotice {
             notice: 1,

@@ -16,7 +16,7 @@ pub(crate) struct Row {
     pub(crate) steps: &'static [(Asks, Given)],
 }
 
-pub(crate) const ROWS: [Row; 9] = [
+pub(crate) const ROWS: [Row; 10] = [
     Row {
         name: "commands of doors",
         text: "doors script 1\nprocess a\nthread t\ncreate d e 7 unref\ncreate d e 8\nattach $d p\nopen v p\ndup w $v\nrevoke $w\nbind $v.1\nunbind\ninfo $d\ninfo query\ngetparam $d data-max\nsetparam $d desc-max max\ncred\ntestcancel\nclose 9\ndetach p\nawait p\nexit\nend\nproc e\nend\n",
@@ -52,6 +52,12 @@ pub(crate) const ROWS: [Row; 9] = [
         text: SERVER,
         thread: 1,
         steps: &A_SPARE,
+    },
+    Row {
+        name: "forks",
+        text: "doors script 2\nprocess a\nthread t\nfork b\nfork b\nend\nchild b of a\nthread u\nclose 0\nend\n",
+        thread: 1,
+        steps: &FORKS,
     },
     Row {
         name: "a loop is entered again",
@@ -141,6 +147,12 @@ const COMMANDS_OF_PIPES_AND_PORTS: [(Asks, Given); 24] = [
     (Asks::Work(Op::Upper, b"xab"), Given::Wait),
     (Asks::Work(Op::Upper, b"xab"), Given::Data(b"XAB")),
     (Asks::Write(1, b"XAB"), Given::Errno(Errno::EBADF)),
+    (Asks::Exit, Given::Done),
+];
+
+const FORKS: [(Asks, Given); 3] = [
+    (Asks::Fork(2), Given::Child),
+    (Asks::Fork(2), Given::Errno(Errno::EAGAIN)),
     (Asks::Exit, Given::Done),
 ];
 

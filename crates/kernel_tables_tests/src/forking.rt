@@ -1,0 +1,130 @@
+//! What a child gets as it begins, and what its parent's callers lose.
+ghost use Rattle.std.specs.Prelude.{◌≡◌, ◌≤◌, [], true, flat_map, length};
+ghost use Rattle.kernel_records.specs.declared.pool.Pool.{Pool};
+ghost use Rattle.kernel_records.specs.Words.{objects_of};
+ghost use Rattle.call_tree.specs.Words.{transit_in};
+ghost use Rattle.server_pool.specs.Words.{stack_in};
+
+use call_tree::calls::Calls;
+use call_tree::parts::{Args, Outcome};
+use dk_base::error::Errno;
+use dk_base::list::{Bytes, ObjList, Room, TidList};
+use dk_base::number::{Fd, Tid};
+use dk_base::object::Obj;
+use fd_table::table::FdTable;
+use fork_step::forking::{fork_binding, fork_calls, fork_rows};
+use server_pool::pools::Pools;
+use std::alloc::Global;
+use std::test::Fail;
+
+/// Whether descriptors 0 and 2 are given, and 1 is free.
+fn gives_two(table: &mut FdTable) -> bool {
+    table.insert(Obj::Door(1)) == Ok(Fd(0))
+        && table.insert(Obj::Port(1)) == Ok(Fd(1))
+        && table.insert(Obj::Door(2)) == Ok(Fd(2))
+        && table.remove(Fd(1)) == Ok(Obj::Port(1))
+}
+
+/// Whether the child has the two rows of its parent, and they are told.
+fn are_copied(parent: &FdTable, child: &mut FdTable, added: &mut Room<Obj>) -> bool
+    requires none { objects_of child.old ≡ [] }
+    requires room { 3 ≤ added.old.spare }
+{
+    if parent.len() != 3 || child.len() != 3 {
+        return false;
+    }
+    fork_rows(parent, child, added);
+    child.get(Fd(0)) == Some(Obj::Door(1))
+        && child.get(Fd(2)) == Some(Obj::Door(2))
+        && child.lowest_free() == Some(1)
+        && child.free() == 1
+        && added.slice() == [Obj::Door(1), Obj::Door(2)].as_slice()
+}
+
+#[test]
+fn rows_are_copied_under_their_numbers(rt: HostRuntime) -> Result<(), Fail> {
+    let alloc = rt.alloc();
+    let mut parent = FdTable::new(alloc, 3)?;
+    let mut child = FdTable::new(alloc, 3)?;
+    let mut added = Room::with_room(alloc, 3)?;
+    assert!(rt; gives_two(&mut parent) && are_copied(&parent, &mut child, &mut added));
+    Ok(())
+}
+
+/// The first call, of thread 1, with two objects.
+fn opens_first(alloc: Global, calls: &mut Calls) -> bool
+    requires { calls.old.tree ≡ record { made = 0; calls = [] } }
+    ensures { result ≡ true → length (flat_map transit_in calls.new.tree.calls) ≤ 2 }
+{
+    if calls.reserve().is_err() {
+        return false;
+    }
+    let Ok(objects) = ObjList::from_slice(alloc, &[Obj::Door(1), Obj::Port(2)]) else {
+        return false;
+    };
+    let bytes = Bytes::new(alloc);
+    calls.open_call(Tid(1), 3, Args { bytes, objects }, 0, false, 1);
+    true
+}
+
+/// Whether thread 1 is interrupted, and thread 2, which waits in no call, is as it was.
+fn are_interrupted(
+    calls: &mut Calls,
+    callers: &TidList,
+    dropped: &mut Room<Obj>,
+    given: &mut Room<Tid>,
+    cancelled: &mut Room<Tid>,
+) -> bool
+    requires dropped { length (flat_map transit_in calls.old.tree.calls) ≤ dropped.old.spare }
+    requires given { length callers.now ≤ given.old.spare }
+    requires cancelled { length callers.now ≤ cancelled.old.spare }
+{
+    fork_calls(calls, callers, dropped, given, cancelled);
+    dropped.slice() == [Obj::Door(1), Obj::Port(2)].as_slice()
+        && given.len() == 0
+        && cancelled.len() == 0
+        && calls.ready(Tid(1))
+        && matches!(calls.collect(Tid(1)), Outcome::Ended(Errno::EINTR))
+        && calls.len() == 0
+}
+
+#[test]
+fn callers_are_interrupted(rt: HostRuntime) -> Result<(), Fail> {
+    let alloc = rt.alloc();
+    let mut dropped = Room::with_room(alloc, 2)?;
+    let mut given = Room::with_room(alloc, 2)?;
+    let mut cancelled = Room::with_room(alloc, 2)?;
+    let callers = TidList::from_slice(alloc, &[Tid(1), Tid(2)])?;
+    let mut calls = Calls::new(alloc);
+    assert!(rt;
+        opens_first(alloc, &mut calls)
+            && are_interrupted(
+                &mut calls,
+                &callers,
+                &mut dropped,
+                &mut given,
+                &mut cancelled
+            )
+    );
+    Ok(())
+}
+
+/// Whether the first thread of a child is bound to the door that is lost, where its parent's thread is bound to one.
+fn is_bound_to_lost(pools: &mut Pools) -> bool
+    requires { (pool : Pool) → stack_in pools.old pool ≡ [] }
+{
+    fork_binding(pools, Tid(1), Some(Tid(2)));
+    if pools.bound(Tid(2)).is_some() {
+        return false;
+    }
+    pools.bind(Tid(1), 7);
+    fork_binding(pools, Tid(1), Some(Tid(2)));
+    pools.unbind(Tid(2)) == Ok(0) && pools.bound(Tid(1)) == Some(7)
+}
+
+#[test]
+fn a_child_is_bound_to_the_lost_door(rt: HostRuntime) -> Result<(), Fail> {
+    let mut pools = Pools::new(rt.alloc())?;
+    assert!(rt; is_bound_to_lost(&mut pools));
+    Ok(())
+}
