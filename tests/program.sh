@@ -12,7 +12,7 @@
 # other commands and of the pages is run so too.
 
 # Each page has at least one script.
-pages="README.md docs/TUTORIAL.md"
+pages="README.md docs/TUTORIAL.md docs/VERSION_2.md"
 
 LC_ALL=C
 export LC_ALL
@@ -111,7 +111,7 @@ examples() {
         judge "$input" $? 0 "${input%.doors}.trace"
         run show <"$input"
         cp "$work/out" "$work/shown"
-        if [ "$(head -n 1 "$work/shown")" = "doors script 1" ]; then pass; else fail "$input, shown" "no script"; fi
+        if [ "$(head -n 1 "$work/shown")" = "$(head -n 1 "$input")" ]; then pass; else fail "$input, shown" "no script"; fi
         run show <"$work/shown"
         judge "$input, shown again" $? 0 "$work/shown"
     done
