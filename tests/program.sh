@@ -12,7 +12,7 @@
 # other commands and of the pages is run so too.
 
 # Each page has at least one script.
-pages="README.md docs/TUTORIAL.md docs/VERSION_2.md"
+pages="README.md docs/TUTORIAL.md docs/VERSION_2.md docs/FROM_C.md"
 
 LC_ALL=C
 export LC_ALL
