@@ -5,7 +5,7 @@
 # tests/COMMAND/NAME.in is an input of `doors COMMAND`. NAME.out is the output, or NAME.end what the output ends with, and
 # NAME.status the status, 0 where there is none. examples/NAME.doors is played to NAME.trace, which `check` finds legal, and
 # illegal with a change. In the pages a block that begins with ```doors is a script, and the next that begins with ```trace
-# is what `play` writes for it.
+# is what `play` writes for it. In the tutorial a row of a table that begins with a script has the last line of that.
 #
 # Threads make many traces of one script: what `run` writes for tests/run/NAME.in without NAME.out is to be one that `check`
 # finds legal and that `play` makes again from its turns, and NAME.status has each status that may come. Every script of the
@@ -490,6 +490,33 @@ page() {
     done
 }
 
+# Rows of a page that begin with | `SCRIPT` | `LAST` |: the last line that `play` writes for the script, which has no header there and
+# " / " for a line feed.
+rows() {
+    mkdir -p "$work/rows"
+    awk -F'`' -v to="$work/rows" '
+        /^\| `[^`]*` \| `[^`]*` \|/ {
+            n++
+            gsub(" / ", "\n", $2)
+            print "doors script 1\n" $2 >(to "/" n ".in")
+            print $4 >(to "/" n ".last")
+            close(to "/" n ".in")
+            close(to "/" n ".last")
+        }
+        END { print n + 0 }' "$1" >"$work/count"
+    count=$(cat "$work/count")
+    [ "$count" -gt 0 ] || fail "$1" "no rows of a script and its last line"
+    i=0
+    while [ $i -lt "$count" ]; do
+        i=$((i + 1))
+        run play <"$work/rows/$i.in"
+        found=$?
+        tail -n 1 "$work/out" >"$work/last"
+        mv "$work/last" "$work/out"
+        judge "$1, row $i" $found "$(status_of "$work/rows/$i.last")" "$work/rows/$i.last"
+    done
+}
+
 # usage WORD..: such words are no command, and nothing is read.
 usage() {
     echo "usage: doors play|run|show|check|load N" >"$work/usage"
@@ -697,6 +724,7 @@ for program in "$@"; do
     examples
     changed_traces
     for page in $pages; do page "$page"; done
+    rows docs/TUTORIAL.md
     runs
     many_runs
     leaving_runs
