@@ -517,6 +517,15 @@ rows() {
     done
 }
 
+# The manual pages, where the system has mandoc: its lint has nothing to say of them.
+manuals() {
+    if ! command -v mandoc >"$work/mandoc"; then return; fi
+    for manual in docs/*.[15]; do
+        mandoc -T lint "$manual" >"$work/lint" 2>&1
+        if [ -s "$work/lint" ]; then fail "$manual" "$(head -n 1 "$work/lint")"; else pass; fi
+    done
+}
+
 # usage WORD..: such words are no command, and nothing is read.
 usage() {
     echo "usage: doors play|run|show|check|load N" >"$work/usage"
@@ -741,6 +750,7 @@ for program in "$@"; do
     sizes
     byte_by_byte
     every_status
+    manuals
 done
 echo "$passed passed, $failed failed"
 [ "$failed" -eq 0 ]
