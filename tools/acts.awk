@@ -20,7 +20,7 @@ function follow_done(i, t, what, n,    k) {
     else if (what == "detach") delete at_path[operand(t, 2)]
     else if (what == "send" || what == "alert") point_to(i, "port", object_of(t, operand(t, 2)))
     else if (what == "sendn") for (k = 4; k <= operands(t); k++) point_to(i, "port", object_of(t, operand(t, k)))
-    else if (what == "kill") follow_kill(i, process_id[operand(t, 2)])
+    else if (what == "kill") follow_kill(i, t, process_id[operand(t, 2)])
     else if (what == "fork") follow_fork(i, t, process_id[operand(t, 2)])
     else if (what == "exit") follow_exit(i, t)
 }
@@ -46,13 +46,16 @@ function follow_attach(i, t, path) {
     point_to(i, "path", path)
 }
 
-function follow_kill(i, p,    t) {
-    for (t = 1; t <= threads; t++)
-        if (is_there[t] && thread_process[t] == p) {
-            is_there[t] = 0
-            others[i] = others[i] " " t
+function follow_kill(i, t, p,    other) {
+    for (other = 1; other <= threads; other++) {
+        if (!is_there[other] || thread_process[other] != p) continue
+        is_there[other] = 0
+        if (other == t) label[i] = label[i] ", its own"
+        else {
+            partners[i] = partners[i] " " other
+            arrow[i] = "end"
         }
-    others_text[i] = "killed"
+    }
     has_ended[p] = 1
 }
 
@@ -60,9 +63,9 @@ function follow_fork(i, t, child,    other, fd) {
     for (other = 1; other <= threads; other++)
         if (thread_process[other] == child && !is_spare[other]) {
             is_there[other] = 1
-            others[i] = others[i] " " other
+            partners[i] = partners[i] " " other
+            arrow[i] = "to"
         }
-    others_text[i] = "begins"
     for (fd = 0; fd < 256; fd++)
         if ((thread_process[t], fd) in object) object[child, fd] = object[thread_process[t], fd]
 }

@@ -11,6 +11,7 @@ END {
     final = ENVIRON["CHART_TO"] == "" ? events : ENVIRON["CHART_TO"] + 0
     if (first < 1) first = 1
     if (final > events) final = events
+    if (events && first > final) fail(trace_file ": it has " events " events, and none from " first " to " final)
     tell_all()
     draw()
 }

@@ -11,7 +11,7 @@ function draw(    r, i, before) {
         if (r % 50 == 1) put_heads()
         i = row_event[r]
         if (i) {
-            draw_event(i, before)
+            draw_event(i)
             before = i
         } else put_line("", over(lifelines(before), 1, "(" row_text[r] ")"))
     }
@@ -34,10 +34,13 @@ function over(text, from, other) {
 
 # Columns are as wide as most texts in them, up to a width that goes by how many there are; between two threads an arrow has
 # room behind its text.
-function place_columns(    t, r, i, need, columns, most) {
+function place_columns(    t, r, i, need, columns, most, p, headed) {
     for (t = 1; t <= threads; t++)
         if (t in shown) {
             wide[t] = length(thread_name[t]) + 2
+            p = thread_process[t]
+            if (!(p in headed) && length(process_name[p]) + 2 > wide[t]) wide[t] = length(process_name[p]) + 2
+            headed[p] = 1
             columns++
         }
     most = columns > 8 ? 14 : columns > 4 ? 20 : 27
@@ -75,7 +78,7 @@ function widen_for(i,    list, n, k, t, need, before) {
 function put_heads(    t, processes_line, names_line, p) {
     for (t = 1; t <= threads; t++) {
         if (!(t in shown)) continue
-        if (thread_process[t] != p && length(processes_line) < place[t]) {
+        if (thread_process[t] != p) {
             p = thread_process[t]
             processes_line = over(processes_line, place[t], process_name[p])
         }
@@ -91,26 +94,20 @@ function lifelines(i,    t, text) {
     return text
 }
 
-function draw_event(i, before,    t, text, line, list, n, k) {
+function draw_event(i,    t, text, line, list, n, k) {
     t = event_thread[i]
     text = text_of(i)
-    line = over(lifelines(before), place[t], text " ")
+    line = over(lifelines(i - 1), place[t], text " ")
     n = split(partners[i], list, " ")
     # the farthest first, so that the heads of others stand in its dashes
-    for (k = 1; k <= n && list[k] < t; k++)
-        line = with_arrow(line, arrow[i] == "from", place[t], length(text), list[k], before)
-    for (k = n; k > 0 && list[k] > t; k--)
-        line = with_arrow(line, arrow[i] == "from", place[t], length(text), list[k], before)
+    for (k = 1; k <= n && list[k] < t; k++) line = with_arrow(line, i, place[t], length(text), list[k])
+    for (k = n; k > 0 && list[k] > t; k--) line = with_arrow(line, i, place[t], length(text), list[k])
     put_line(i "", line)
-    n = split(others[i], list, " ")
-    if (n == 0) return
-    line = lifelines(i)
-    for (k = 1; k <= n; k++) line = over(line, place[list[k]], others_text[i])
-    put_line("", line)
 }
 
 # An arrow between the text at a place and the column of a thread, to the text or from it; in words where there is no room.
-function with_arrow(line, inward, from, size, t, before,    dashes, gap, life) {
+function with_arrow(line, i, from, size, t,    inward, dashes, gap, life) {
+    inward = arrow[i] == "from"
     gap = place[t] < from ? from - place[t] - 1 : place[t] - from - size - 1
     if (gap < 2) {
         sub(/ +$/, "", line)
@@ -118,7 +115,9 @@ function with_arrow(line, inward, from, size, t, before,    dashes, gap, life) {
     }
     dashes = spaces(gap - 1)
     gsub(/ /, "-", dashes)
-    life = substr(state[before], t, 1)
+    life = substr(state[i - 1], t, 1)
+    if (arrow[i] == "end") life = "X"
+    if (life == " ") life = substr(state[i], t, 1)
     if (place[t] < from) return over(line, place[t], life (inward ? dashes ">" : "<" dashes))
     return over(line, from + size, " " (inward ? "<" dashes : dashes ">") life)
 }

@@ -10,7 +10,6 @@ function draw(    r, i, t) {
         if (!i) put_wide_note(row_text[r])
         else if (partners[i] == "") put_note(event_thread[i], i " " text_of(i))
         else draw_arrows(i)
-        if (i && others[i] != "") draw_others(i)
     }
     put_note(0, "")
     if (final == events) draw_end()
@@ -44,13 +43,14 @@ function draw_arrows(i,    list, n, k, t, text) {
     n = split(partners[i], list, " ")
     for (k = 1; k <= n; k++) {
         if (arrow[i] == "from") print "    t" list[k] "->>t" t ": " text
-        else print "    t" t (arrow[i] == "back" ? "-->>" : event_what[i] == "call" ? "->>" : "-)") "t" list[k] ": " text
+        else print "    t" t head_of(i) "t" list[k] ": " text
     }
 }
 
-function draw_others(i,    list, n, k) {
-    n = split(others[i], list, " ")
-    for (k = 1; k <= n; k++) put_note(list[k], others_text[i])
+function head_of(i) {
+    if (arrow[i] == "back") return "-->>"
+    if (arrow[i] == "end") return "-x"
+    return event_what[i] == "call" ? "->>" : "-)"
 }
 
 function draw_end(    t) {

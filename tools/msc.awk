@@ -1,4 +1,4 @@
-# The input of mscgen. What several events of one thread do alone stands in one box.
+# The input of mscgen. What several events of one thread do alone stands in one box, which is grey where the thread ends.
 
 function draw(    r, i) {
     make_rows(ENVIRON["CHART_TO"] == "" ? 300 : 0)
@@ -6,13 +6,22 @@ function draw(    r, i) {
     for (r = 1; r <= rows; r++) {
         i = row_event[r]
         if (!i) put_line(row_text[r])
-        else if (partners[i] == "") put_box(event_thread[i], i " " text_of(i))
+        else if (partners[i] == "") put_box(event_thread[i], i " " text_of(i), substr(state[i], event_thread[i], 1) == " ")
         else draw_arrows(i)
-        if (i && others[i] != "") draw_others(i)
     }
-    put_box(0, "")
+    put_box(0, "", 0)
     if (final == events) draw_end()
     print "}"
+}
+
+# Wide enough for the longest word of a label, which mscgen would part.
+function column_width(    r, i, list, n, k, most) {
+    most = 30
+    for (r = 1; r <= rows; r++) {
+        n = split(row_event[r] ? text_of(row_event[r]) : "", list, " ")
+        for (k = 1; k <= n; k++) if (length(list[k]) > most) most = length(list[k])
+    }
+    return 8 * most
 }
 
 function put_threads(    t, columns, list) {
@@ -24,44 +33,41 @@ function put_threads(    t, columns, list) {
     # mscgen wants one at least
     if (!columns) list = "  t1 [label=\"no events\"]"
     print "msc {"
-    print "  width=\"" (columns < 2 ? 300 : 240 * columns) "\", wordwraparcs=\"1\";"
+    print "  width=\"" (columns < 2 ? 60 : 0) + columns * column_width() "\", wordwraparcs=\"1\";"
     print list ";"
 }
 
-# Boxes of one thread are gathered until another row comes.
-function put_box(t, text) {
+# Boxes of one thread are gathered until another row comes; whether it ends there.
+function put_box(t, text, ends) {
     if (t != boxed && boxed) {
-        print "  t" boxed " box t" boxed " [label=\"" boxes "\"];"
+        print "  t" boxed " box t" boxed " [label=\"" boxes "\"" (grey ? ", textbgcolour=\"#d0d0d0\"" : "") "];"
         boxes = ""
     }
     if (t) boxes = boxes (boxes == "" ? "" : "\\n") escape(text)
     boxed = t
+    grey = ends
 }
 
 function put_line(text) {
-    put_box(0, "")
+    put_box(0, "", 0)
     print "  --- [label=\"" escape(text) "\"];"
 }
 
 function draw_arrows(i,    list, n, k, t) {
-    put_box(0, "")
+    put_box(0, "", 0)
     t = event_thread[i]
     n = split(partners[i], list, " ")
     for (k = 1; k <= n; k++) {
         if (arrow[i] == "from") put_arrow("t" list[k] " => t" t, i)
         else put_arrow("t" t (arrow[i] == "back" ? " >> " : event_what[i] == "call" ? " => " : " -> ") "t" list[k], i)
     }
+    for (k = 1; k <= n; k++) if (arrow[i] == "end") put_box(list[k], "killed", 1)
 }
 
 function put_arrow(arrow_text, i) { print "  " arrow_text " [label=\"" escape(i " " text_of(i)) "\"];" }
 
-function draw_others(i,    list, n, k) {
-    n = split(others[i], list, " ")
-    for (k = 1; k <= n; k++) put_box(list[k], others_text[i])
-}
-
 function draw_end(    t) {
-    for (t = 1; t <= threads; t++) if ((t in shown) && is_there[t] && wait_text(t) != "") put_box(t, wait_text(t))
+    for (t = 1; t <= threads; t++) if ((t in shown) && is_there[t] && wait_text(t) != "") put_box(t, wait_text(t), 0)
     put_line(end_line)
 }
 

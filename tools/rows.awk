@@ -24,7 +24,7 @@ function add_row(i, text,    t, list, n) {
     row_text[rows] = text
     if (!i) return
     shown[event_thread[i]] = 1
-    n = split(partners[i] " " others[i], list, " ")
+    n = split(partners[i], list, " ")
     for (t = 1; t <= n; t++) shown[list[t]] = 1
 }
 
@@ -35,7 +35,7 @@ function sign_events(    i, made, kind, n) {
         kind = substr(number[i], 1, 1)
         n = substr(number[i], 2) + 0
         if (n > made[kind]) made[kind] = n
-        sign[i] = event_thread[i] " " event_root[i] " " kind made[kind] - n " " label[i] " " arrow[i] partners[i] others[i]
+        sign[i] = event_thread[i] " " event_root[i] " " kind made[kind] - n " " label[i] " " arrow[i] partners[i]
     }
 }
 

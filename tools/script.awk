@@ -2,7 +2,9 @@
 #
 # process_name[p]; thread_id[name], thread_name[t], thread_process[t], is_spare[t]; body_of[p, name] of a procedure, body of a
 # thread t is t itself. A body b has lines 1 to length_of[b], whose words are op[b, line, 1] to op[b, line, op_count[b, line]];
-# block_end[b, line] is the `end` of a block.
+# block_end[b, line] is the `end` of a block. raw[1] .. are the lines as they stand, script_lines of them.
+#
+# Where a function of these files is given an element that may not be set, "" stands behind it: gawk 5.2 loses such a value.
 
 # One line on the error stream, and status 2.
 function fail(text) {
@@ -36,12 +38,12 @@ function read_script(    line, status, names, i, n) {
     for (i = 1; i <= n; i++) is_command[names[i]] = 1
     script_line = 0
     while ((status = (getline line < script_file)) > 0) {
-        script_line++
+        raw[++script_line] = line
         take_line(line)
     }
     if (status < 0) fail(script_file ": it cannot be read")
     if (script_line == 0) fail(script_file ": no script, it is empty")
-    script_line++
+    script_lines = script_line++
     if (body != "") bad_script("the block that begins in line " body_line " has no `end`")
     check_names()
 }

@@ -1,8 +1,7 @@
 # Tells each event in a label, with what the script says of it, and follows what it does.
 #
 # label[i], where \001 stands for number[i], a call or a notice as `c1`; partners[i]: the threads at the
-# other end of an arrow; arrow[i]: `to` them, `from` them, `back` to a caller; others[i]: the threads that it begins or ends, and
-# others_text[i] how.
+# other end of an arrow; arrow[i]: `to` them, `from` them, `back` to a caller, or `end` where it ends them.
 # state[i]: after event i, for each thread a byte: `|` it goes on, `:` it waits, `.` it waits for calls, or a space: it is not there.
 
 function tell_all(    i) {
@@ -63,13 +62,13 @@ function result_text(n,    k, text) {
     return word[1] == "wait" ? ": waits" : ": " word[1]
 }
 
-# At most 32 bytes of data, and no escape cut through.
+# At most 24 bytes of data, and no escape cut through.
 function short(data,    text) {
     if (data ~ /^sha256:/) return substr(data, 1, match(data, /:[0-9a-f]*$/) + 8) ".."
-    if (data !~ /^"/ || length(data) <= 34) return data
+    if (data !~ /^"/ || length(data) <= 26) return data
     text = "\""
     data = substr(data, 2)
-    while (length(text) < 30 && match(data, /^(\\x..|\\.|[^\\])/)) {
+    while (length(text) < 21 && match(data, /^(\\x..|\\.|[^\\])/)) {
         text = text substr(data, 1, RLENGTH)
         data = substr(data, RLENGTH + 1)
     }
