@@ -18,7 +18,7 @@ function follow_done(i, t, what, n,    k) {
     else if (what == "close" || what == "revoke") close_fd(t, descriptor(t, operand(t, 2)))
     else if (what == "attach") follow_attach(i, t, operand(t, 3))
     else if (what == "detach") delete at_path[operand(t, 2)]
-    else if (what == "send" || what == "alert") point_to(i, "port", object_of(t, operand(t, 2)))
+    else if (what == "send" || (what == "alert" && operand(t, 4) != "0")) point_to(i, "port", object_of(t, operand(t, 2)))
     else if (what == "sendn") for (k = 4; k <= operands(t); k++) point_to(i, "port", object_of(t, operand(t, k)))
     else if (what == "kill") follow_kill(i, t, process_id[operand(t, 2)])
     else if (what == "fork") follow_fork(i, t, process_id[operand(t, 2)])

@@ -125,7 +125,7 @@ function with_arrow(line, i, from, size, t,    inward, dashes, gap, life) {
 function draw_end(    t, line, text, waiting) {
     line = lifelines(events)
     for (t = 1; t <= threads; t++) {
-        if (!(t in shown) || !is_there[t]) continue
+        if (!(t in shown)) continue
         text = wait_text(t)
         if (text == "") continue
         line = over(line, place[t], text)

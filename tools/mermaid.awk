@@ -15,10 +15,16 @@ function draw(    r, i, t) {
     if (final == events) draw_end()
 }
 
+# A line in which a colon comes after such a word loses a semicolon.
+function put(who, text) {
+    if (text ~ /style|classDef/) gsub(/:/, "#58;", text)
+    print "    " who ": " text
+}
+
 # Notes of one thread are gathered until another row comes.
 function put_note(t, text) {
     if (t != noted && noted) {
-        print "    Note over t" noted ": " notes
+        put("Note over t" noted, notes)
         notes = ""
     }
     if (t) notes = notes (notes == "" ? "" : "<br/>") escape(text)
@@ -33,7 +39,7 @@ function put_wide_note(text,    t, least, greatest) {
         least = t
         if (!greatest) greatest = t
     }
-    if (least) print "    Note over t" least (least < greatest ? ",t" greatest : "") ": " escape(text)
+    if (least) put("Note over t" least (least < greatest ? ",t" greatest : ""), escape(text))
 }
 
 function draw_arrows(i,    list, n, k, t, text) {
@@ -42,8 +48,8 @@ function draw_arrows(i,    list, n, k, t, text) {
     text = escape(i " " text_of(i))
     n = split(partners[i], list, " ")
     for (k = 1; k <= n; k++) {
-        if (arrow[i] == "from") print "    t" list[k] "->>t" t ": " text
-        else print "    t" t head_of(i) "t" list[k] ": " text
+        if (arrow[i] == "from") put("t" list[k] "->>t" t, text)
+        else put("t" t head_of(i) "t" list[k], text)
     }
 }
 
@@ -54,7 +60,7 @@ function head_of(i) {
 }
 
 function draw_end(    t) {
-    for (t = 1; t <= threads; t++) if ((t in shown) && is_there[t] && wait_text(t) != "") put_note(t, wait_text(t))
+    for (t = 1; t <= threads; t++) if ((t in shown) && wait_text(t) != "") put_note(t, wait_text(t))
     put_wide_note(end_line)
 }
 
@@ -70,8 +76,6 @@ function escape(text) {
     gsub(/\$/, "#36\003", text)
     gsub(/\\/, "#92\003", text)
     gsub(/`/, "#96\003", text)
-    # a line with such a word and a colon loses a semicolon
-    if (text ~ /style|classDef/) gsub(/:/, "#58\003", text)
     gsub(/\003/, ";", text)
     return text
 }

@@ -67,7 +67,7 @@ function draw_arrows(i,    list, n, k, t) {
 function put_arrow(arrow_text, i) { print "  " arrow_text " [label=\"" escape(i " " text_of(i)) "\"];" }
 
 function draw_end(    t) {
-    for (t = 1; t <= threads; t++) if ((t in shown) && is_there[t] && wait_text(t) != "") put_box(t, wait_text(t), 0)
+    for (t = 1; t <= threads; t++) if ((t in shown) && wait_text(t) != "") put_box(t, wait_text(t), 0)
     put_line(end_line)
 }
 

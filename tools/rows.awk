@@ -14,7 +14,7 @@ function make_rows(most,    i, period, times) {
         if (!period) continue
         for (times = 1; times < period; times++) add_row(++i, "")
         times = repeats(i - period + 1, period)
-        add_row(0, "events " i - period + 1 " to " i " again, " times " times, up to event " i + times * period)
+        add_row(0, (period == 1 ? "event " i : "events " i - period + 1 " to " i) " again, " times " times, up to event " i + times * period)
         i += times * period
     }
 }
@@ -60,10 +60,14 @@ function text_of(i,    parts, n, k, text) {
     return text
 }
 
-# The threads for whom the last line tells a wait, and what for.
-function wait_text(t) {
+# What the last line of a trace leaves a thread waiting for: one that it names.
+function wait_text(t,    part, n, k) {
+    n = split(end_line, part, " ")
+    for (k = 4; k <= n && part[k] != thread_name[t]; k++);
+    if (k > n) return ""
+    if (!is_there[t]) return has_begun[t] ? "has ended" : "has not begun"
     if (waits[t] == "call") return "waits in c" in_call[t]
     if (waits[t] == "path") return "waits for " waits_for[t]
     if (waits[t] == "port") return "waits at a port"
-    return ""
+    return waits[t] == "pool" ? "waits for calls" : ""
 }

@@ -1,0 +1,357 @@
+#!/bin/sh
+# Tests of the tools beside the program, chart, again and hunt, with each awk that the system has: tests/program.sh calls it. The
+# first word is the program. The last line is `N passed, N failed`.
+#
+# tests/tools/NAME.doors is a script, NAME.trace what `play` writes of it, and NAME.columns, NAME.mermaid and NAME.msc are its
+# charts, which were looked at: those of mscgen as pictures.
+
+LC_ALL=C
+export LC_ALL
+top=$(cd "$(dirname "$0")/.." && pwd) || exit 1
+cd "$top" || exit 1
+DOORS=${1-crates/doors/out/doors}
+case $DOORS in
+/*) ;;
+*) DOORS=$top/$DOORS ;;
+esac
+export DOORS
+work=$(mktemp -d) || exit 1
+trap 'rm -rf "$work"' EXIT
+trap 'exit 1' HUP INT TERM
+passed=0
+failed=0
+
+pass() { passed=$((passed + 1)); }
+
+# fail NAME WHY
+fail() {
+    failed=$((failed + 1))
+    echo "$1: $2"
+}
+
+# tool NAME WORD..: its output, error stream and status are kept.
+tool() {
+    tools/"$@" >"$work/out" 2>"$work/err"
+    status=$?
+}
+
+# same NAME TEXT: the last output is this text, with status 0 and nothing on the error stream.
+same() {
+    if [ $status -ne 0 ] || [ -s "$work/err" ]; then
+        fail "$1" "status $status: $(head -n 1 "$work/err")"
+    elif ! cmp -s "$work/out" "$2"; then
+        fail "$1" "another output than $2:"
+        diff "$2" "$work/out" | head -n 6
+    else
+        pass
+    fi
+}
+
+# refused NAME STATUS TEXT: the last one has no output, this status, and one line on the error stream, with this text in it.
+refused() {
+    if [ $status -ne "$2" ]; then
+        fail "$1" "status $status, and $2 is wanted"
+    elif [ -s "$work/out" ] || [ "$(wc -l <"$work/err")" -ne 1 ]; then
+        fail "$1" "output, or not one line on the error stream"
+    elif ! grep -q -F -e "$3" "$work/err"; then
+        fail "$1" "$(head -n 1 "$work/err"), and '$3' is wanted"
+    else
+        pass
+    fi
+}
+
+# An awk of each kind that is there, as a file that AWK may name.
+awks() {
+    for kind in awk mawk gawk original-awk "busybox awk"; do
+        echo x | $kind '{ print }' >"$work/found" 2>&1 || continue
+        file=$work/$(echo "$kind" | tr ' ' _)
+        printf '#!/bin/sh\nexec %s "$@"\n' "$kind" >"$file"
+        chmod +x "$file"
+        echo "$file"
+    done
+}
+
+# Each chart of tests/tools, with each awk; and the trace is what `play` writes, and again after `again`.
+charts() {
+    for script in tests/tools/*.doors; do
+        name=${script%.doors}
+        "$DOORS" play <"$script" >"$work/out" 2>"$work/err"
+        status=0
+        same "$script, played" "$name.trace"
+        for AWK in $(awks); do
+            export AWK
+            for form in columns mermaid msc; do
+                tool chart --$form "$script" "$name.trace"
+                same "$name.$form with $(basename "$AWK")" "$name.$form"
+            done
+            replay "$script with $(basename "$AWK")" "$script" "$name.trace"
+        done
+    done
+    unset AWK
+}
+
+# replay NAME SCRIPT TRACE: `play` makes the trace of what `again` makes.
+replay() {
+    tool again "$2" "$3"
+    cp "$work/out" "$work/again"
+    [ $status -eq 0 ] || fail "$1, again" "status $status: $(head -n 1 "$work/err")"
+    "$DOORS" play <"$work/again" >"$work/out" 2>"$work/err"
+    status=0
+    : >"$work/err"
+    sed '/^tail /d' "$3" >"$work/trace"
+    same "$1, again" "$work/trace"
+}
+
+# The form without an option, the standard input as the trace, and a part of a chart.
+options() {
+    script=tests/tools/leaves.doors
+    trace=tests/tools/leaves.trace
+    tool chart $script $trace
+    same "chart without a form" tests/tools/leaves.columns
+    tool chart $script - <$trace
+    same "chart of the standard input" tests/tools/leaves.columns
+    tool again $script - <$trace
+    cp "$work/out" "$work/again"
+    tool again $script $trace
+    same "again of the standard input" "$work/again"
+    { cat $trace && echo "tail 3"; } >"$work/tailed"
+    tool chart $script "$work/tailed"
+    same "chart of a trace with a tail" tests/tools/leaves.columns
+    tool again $script "$work/tailed"
+    same "again of a trace with a tail" "$work/again"
+    tool chart --from 13 --to 15 $script $trace
+    same "chart of a part" tests/tools/leaves.part
+    for name in chart again hunt; do
+        tool $name -h
+        if [ $status -eq 0 ] && [ ! -s "$work/err" ] && grep -q "^$name " "$work/out"; then pass; else fail "$name -h" "status $status"; fi
+    done
+}
+
+# What is no script or no trace, and bad use.
+refusals() {
+    script=tests/tools/loops.doors
+    trace=tests/tools/loops.trace
+    for name in chart again; do
+        for words in "" "x" "x y z" "--walk x y" "-n x y"; do
+            tool $name $words
+            refused "$name $words" 3 "usage: $name "
+        done
+        tool $name $trace $trace
+        refused "$name of no script" 2 "$name: $trace: line 1: no script"
+        tool $name $script $script
+        refused "$name of no trace" 2 "$name: $script: line 1: no trace"
+        tool $name $work/none $trace
+        refused "$name of a script that is not there" 2 "$work/none"
+        tool $name $script tests
+        refused "$name of a folder" 2 "tests"
+        : >"$work/empty"
+        tool $name "$work/empty" $trace
+        refused "$name of an empty script" 2 "no script"
+        tool $name $script "$work/empty"
+        refused "$name of an empty trace" 2 "no trace"
+        head -c 3000 "$DOORS" >"$work/bytes"
+        tool $name "$work/bytes" $trace
+        refused "$name of a program as script" 2 "no script"
+        tool $name $script "$work/bytes"
+        refused "$name of a program as trace" 2 "no trace"
+        traces_changed $name
+        scripts_changed $name
+    done
+    for words in "--from" "--from x" "--to -1" "--to 1x" "--from 1 --msc"; do
+        tool chart $words
+        refused "chart $words" 3 "usage: chart "
+    done
+    tool chart --from 35 $script $trace
+    refused "chart from an event that is not there" 2 "none from 35"
+    # another script's trace
+    tool chart tests/tools/waits.doors $trace
+    refused "chart of another script's trace" 2 "no trace of tests/tools/waits.doors"
+    # a thread that does something else than its lines say
+    sed '5s/open ok fd 0/dup ok fd 0/' $trace >"$work/other"
+    tool chart $script "$work/other"
+    refused "chart of another command" 2 "line 5: no trace of $script, \`c\` stands at line 16 of the script"
+}
+
+# Lines that are cut, doubled, or end in a carriage return.
+traces_changed() {
+    for line in 1 2 17 34 35; do
+        for change in d p 's/$/x\r/' 's/^/ /'; do
+            sed "$line$change" $trace >"$work/other"
+            tool "$1" $script "$work/other"
+            # the last line but one that is doubled: an event after the last of the budget
+            refused "$1 of a trace with line $line $change" 2 "no trace"
+        done
+    done
+}
+
+# Mistakes of a script.
+scripts_changed() {
+    for change in '2s/^/\t/' '4s/^/x/' '6s/create/creat/' '8s/serve/serve "/' '24s/end//' '13s/cli/srv/' '14s/c$/s/' '24s/.*/proc e/' '6s/ e / f /'; do
+        sed "$change" $script >"$work/other"
+        tool "$1" "$work/other" $trace
+        refused "$1 of a script with $change" 2 "no script"
+    done
+}
+
+# `again` of each example, and of each refused turn and used up budget; `chart` of everything that `play` writes.
+every_trace() {
+    for script in examples/*.doors; do
+        replay "$script" "$script" "${script%.doors}.trace"
+    done
+    for script in tests/play/*.in; do
+        [ -f "${script%.in}.out" ] || continue
+        case $(tail -n 1 "${script%.in}.out") in
+        "refused turn "* | "end budget "*) replay "$script" "$script" "${script%.in}.out" ;;
+        "end "*) ;;
+        *) continue ;;
+        esac
+        tool chart "$script" "${script%.in}.out"
+        if [ $status -eq 0 ] && [ ! -s "$work/err" ]; then pass; else fail "chart of $script" "$(head -n 1 "$work/err")"; fi
+    done
+}
+
+# A schedule of so many turns that comments have no room, and one that has none.
+long_schedules() {
+    {
+        printf 'doors script 1\nprocess p\nthread a_thread_of_name\n  repeat 50000\n    testcancel\n  end\nend\n'
+        awk 'BEGIN { for (i = 0; i < 6000; i++) print "# a comment of 40 bytes and some more of it" }'
+    } >"$work/long.doors"
+    "$DOORS" play <"$work/long.doors" >"$work/long.trace"
+    replay "a long schedule" "$work/long.doors" "$work/long.trace"
+    sed 's/50000/90000/' "$work/long.doors" >"$work/longer.doors"
+    "$DOORS" play <"$work/longer.doors" >"$work/long.trace"
+    tool again "$work/longer.doors" "$work/long.trace"
+    refused "a schedule without room" 2 "90001 turns have no room"
+}
+
+# A program whose runs have the order a b, and b a each third time, so that what is found does not hang on the system.
+unlikely() {
+    cat >"$work/unlikely" <<'END'
+#!/bin/sh
+if [ "$1" = run ]; then
+    echo x >>"$COUNT"
+    order="a b"
+    [ $(($(wc -l <"$COUNT") % 3)) -ne 0 ] || order="b a"
+    { awk '{ print }' && echo "schedule $order"; } | "$REAL" play && echo "tail 0"
+else
+    exec "$REAL" "$@"
+fi
+END
+    chmod +x "$work/unlikely"
+    printf 'doors script 1\nprocess p\nthread a\nend\nthread b\nend' >"$work/two.doors"
+}
+
+# hunted WORD..: `hunt` in a folder of its own.
+hunted() {
+    : >"$COUNT"
+    (cd "$work/kept" && "$top/tools/hunt" "$@") >"$work/out" 2>"$work/err"
+    status=$?
+}
+
+# says NAME STATUS LINE..: the last output has these lines, with this status, and nothing on the error stream.
+says() {
+    what=$1
+    wanted=$2
+    shift 2
+    if [ $status -ne "$wanted" ] || [ -s "$work/err" ]; then
+        fail "$what" "status $status: $(head -n 1 "$work/err")"
+        return
+    fi
+    for line in "$@"; do
+        if ! grep -q -x -F -e "$line" "$work/out"; then
+            fail "$what" "no line '$line'"
+            return
+        fi
+    done
+    pass
+}
+
+hunts() {
+    unlikely
+    mkdir "$work/kept"
+    REAL=$DOORS
+    COUNT=$work/count
+    export REAL COUNT
+    DOORS=$work/unlikely
+    hunted '^1 b' "$work/two.doors"
+    says "hunt" 0 "run 3: legal 2, and play of two-1.doors makes the same trace" "1 b b exit ok" "2 different orders in 3 runs" \
+        "kept: two-1.trace, two-1.doors, two-1.chart" "1  |             exit" "end complete 2"
+    printf '1 b b exit ok\n2 a a exit ok\nend complete 2\ntail 0\n' | cmp -s - "$work/kept/two-1.trace" || fail "hunt" "another trace is kept"
+    "$REAL" play <"$work/kept/two-1.doors" >"$work/out"
+    sed '/^tail /d' "$work/kept/two-1.trace" >"$work/trace"
+    same "what hunt kept, played" "$work/trace"
+    tool chart "$work/two.doors" "$work/kept/two-1.trace"
+    same "what hunt kept, drawn" "$work/kept/two-1.chart"
+    hunted -v '^1 a' "$work/two.doors"
+    says "hunt -v" 0 "run 3: legal 2, and play of two-2.doors makes the same trace" "2 different orders in 3 runs"
+    hunted -n 2 '^1 b' "$work/two.doors"
+    says "hunt -n 2" 1 "no line matches in 2 runs" "1 different orders in 2 runs"
+    hunted -v -n 7 'exit ok$' "$work/two.doors"
+    says "hunt -v -n 7" 1 "a line matches in each of 7 runs" "2 different orders in 7 runs"
+    [ "$(ls "$work/kept" | wc -l)" -eq 6 ] || fail "hunt" "other files than six are kept"
+    hunts_refused
+    DOORS=$REAL
+    hunts_real
+}
+
+hunts_refused() {
+    for words in "" "x" "x y z" "-n 0 x y" "-n 1x x y" "-n" "-w x y"; do
+        hunted $words
+        refused "hunt $words" 3 "usage: hunt "
+    done
+    hunted '(' "$work/two.doors"
+    refused "hunt of a bad expression" 3 "no regular expression"
+    hunted x "$work/none"
+    refused "hunt of a script that is not there" 2 "none: it cannot be read"
+    echo "doors script 1" >"$work/bad.doors"
+    echo "proces p" >>"$work/bad.doors"
+    DOORS=$REAL
+    hunted x "$work/bad.doors"
+    grep '^hunt: ' "$work/err" >"$work/last"
+    cp "$work/last" "$work/err"
+    refused "hunt of a bad script" 2 "hunt: bad line 2 word"
+    DOORS=$work/none
+    hunted x "$work/two.doors"
+    refused "hunt without a program" 3 "there is no such program"
+    # a run that is illegal, and one that is played to something else
+    sed 's/&& echo "tail 0"/| sed "s,exit,open,"/' "$work/unlikely" >"$work/illegal"
+    sed 's/    exec /    [ $1 != play ] || set check \&\& exec /' "$work/unlikely" >"$work/strange"
+    chmod +x "$work/illegal" "$work/strange"
+    DOORS=$work/illegal
+    hunted x "$work/two.doors"
+    hunted open "$work/two.doors"
+    refused "hunt of an illegal run" 9 "the trace is not legal: illegal line 1"
+    DOORS=$work/strange
+    hunted '^1 a' "$work/two.doors"
+    refused "hunt of a run that play does not make" 9 "another trace"
+    DOORS=$work/unlikely
+}
+
+# With the program itself, which is found in each of three places.
+hunts_real() {
+    hunted -n 5 'accept enter c1 e 0' "$top/tests/tools/loops.doors"
+    says "hunt with the program" 0 "kept: loops-1.trace, loops-1.doors, loops-1.chart"
+    unset DOORS
+    mkdir "$work/tools"
+    cp tools/* "$work/tools"
+    cp "$REAL" "$work/tools/doors"
+    (cd "$work/kept" && "$work/tools/hunt" -n 1 exit "$work/two.doors") >"$work/out" 2>"$work/err"
+    status=$?
+    says "hunt with a program beside it" 0 "kept: two-3.trace, two-3.doors, two-3.chart"
+    mkdir "$work/path"
+    mv "$work/tools/doors" "$work/path/doors"
+    (cd "$work/kept" && PATH=$work/path:$PATH && export PATH && "$work/tools/hunt" -n 1 exit "$work/two.doors") >"$work/out" 2>"$work/err"
+    status=$?
+    says "hunt with a program on the path" 0 "kept: two-4.trace, two-4.doors, two-4.chart"
+    DOORS=$REAL
+    export DOORS
+}
+
+charts
+options
+refusals
+every_trace
+long_schedules
+hunts
+echo "$passed passed, $failed failed"
+[ "$failed" -eq 0 ]
