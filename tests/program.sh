@@ -10,6 +10,8 @@
 # Threads make many traces of one script: what `run` writes for tests/run/NAME.in without NAME.out is to be one that `check`
 # finds legal and that `play` makes again from its turns, and NAME.status has each status that may come. Every script of the
 # other commands and of the pages is run so too.
+#
+# tests/tools.sh, which this calls, tests the tools beside the program, and tests/tools has its charts.
 
 # Each page has at least one script.
 pages="README.md docs/TUTORIAL.md docs/VERSION_2.md docs/FROM_C.md"
@@ -717,6 +719,21 @@ every_status() {
     done
 }
 
+# The tools beside the program, whose own test counts for itself; with the first of the programs.
+tools() {
+    sh tests/tools.sh "$1" >"$work/tools"
+    sed '$d' "$work/tools"
+    counts=$(tail -n 1 "$work/tools")
+    case $counts in
+    *[0-9]" passed, "[0-9]*" failed")
+        passed=$((passed + ${counts%% passed*}))
+        counts=${counts#* passed, }
+        failed=$((failed + ${counts% failed}))
+        ;;
+    *) fail "tests/tools.sh" "its last line is '$counts'" ;;
+    esac
+}
+
 echo_script=examples/echo.doors
 checked=tests/check/thread_that_exits.in
 : >"$work/nothing"
@@ -752,5 +769,6 @@ for program in "$@"; do
     every_status
     manuals
 done
+if [ -x "$1" ]; then tools "$1"; fi
 echo "$passed passed, $failed failed"
 [ "$failed" -eq 0 ]
