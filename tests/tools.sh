@@ -3,7 +3,8 @@
 # first word is the program. The last line is `N passed, N failed`.
 #
 # tests/tools/NAME.doors is a script, NAME.trace what `play` writes of it, and NAME.columns, NAME.mermaid and NAME.msc are its
-# charts, which were looked at: those of mscgen as pictures.
+# charts, which were looked at: those of mscgen as pictures. In the pages a block that begins with ```chart or ```mermaid is what
+# `chart` draws of the script and the trace before it; words after `chart` or `mermaid` are options.
 
 LC_ALL=C
 export LC_ALL
@@ -347,7 +348,40 @@ hunts_real() {
     export DOORS
 }
 
+# Writes the page's scripts, traces and charts into TO/N.doors, TO/N.trace and TO/N.K.chart, and a line `N.K OPTION ..` for each
+# chart, which is of the last script and the last trace before it.
+drawn_in() {
+    awk -v to="$2" '
+        /^```/ && file != "" { close(file); file = ""; next }
+        /^```doors/ { file = to "/" ++pair ".doors"; chart = 0 }
+        /^```trace/ { file = to "/" pair ".trace" }
+        /^```(chart|mermaid)/ {
+            file = to "/" pair "." ++chart ".chart"
+            line = $0
+            sub(/^```[a-z]*/, "", line)
+            print pair "." chart (/^```mermaid/ ? " --mermaid" : "") line
+        }
+        /^```[a-z]/ { if (file == "") file = to "/other"; printf "" >file; next }
+        file != "" { print >file }' "$1"
+}
+
+# The charts in the pages; the first page has one.
+pictures() {
+    for page in README.md docs/*.md; do
+        to=$work/drawn/$(basename "$page")
+        mkdir -p "$to"
+        drawn_in "$page" "$to" >"$to/list"
+        if [ "$page" = README.md ] && [ ! -s "$to/list" ]; then fail "$page" "no chart there"; fi
+        while read -r number options; do
+            pair=$to/${number%.*}
+            tool chart $options "$pair.doors" "$pair.trace"
+            same "$page, chart $number" "$to/$number.chart"
+        done <"$to/list"
+    done
+}
+
 charts
+pictures
 options
 refusals
 every_trace
