@@ -275,7 +275,7 @@ hunts() {
     export REAL COUNT
     DOORS=$work/unlikely
     hunted '^1 b' "$work/two.doors"
-    says "hunt" 0 "run 3: legal 2, and play of two-1.doors makes the same trace" "1 b b exit ok" "2 different orders in 3 runs" \
+    says "hunt" 0 "run 3: legal 2, and play of two-1.doors makes the same trace" "1 b b exit ok" "different orders of turns: 2, runs: 3" \
         "kept: two-1.trace, two-1.doors, two-1.chart" "1  |             exit" "end complete 2"
     printf '1 b b exit ok\n2 a a exit ok\nend complete 2\ntail 0\n' | cmp -s - "$work/kept/two-1.trace" || fail "hunt" "another trace is kept"
     "$REAL" play <"$work/kept/two-1.doors" >"$work/out"
@@ -284,11 +284,11 @@ hunts() {
     tool chart "$work/two.doors" "$work/kept/two-1.trace"
     same "what hunt kept, drawn" "$work/kept/two-1.chart"
     hunted -v '^1 a' "$work/two.doors"
-    says "hunt -v" 0 "run 3: legal 2, and play of two-2.doors makes the same trace" "2 different orders in 3 runs"
+    says "hunt -v" 0 "run 3: legal 2, and play of two-2.doors makes the same trace" "different orders of turns: 2, runs: 3"
     hunted -n 2 '^1 b' "$work/two.doors"
-    says "hunt -n 2" 1 "no line matches in 2 runs" "1 different orders in 2 runs"
+    says "hunt -n 2" 1 "no line matches in 2 runs" "different orders of turns: 1, runs: 2"
     hunted -v -n 7 'exit ok$' "$work/two.doors"
-    says "hunt -v -n 7" 1 "a line matches in each of 7 runs" "2 different orders in 7 runs"
+    says "hunt -v -n 7" 1 "a line matches in each of 7 runs" "different orders of turns: 2, runs: 7"
     [ "$(ls "$work/kept" | wc -l)" -eq 6 ] || fail "hunt" "other files than six are kept"
     hunts_refused
     DOORS=$REAL
