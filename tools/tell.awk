@@ -80,7 +80,7 @@ function operands_text(t, what) {
     if (what ~ /^(await|found|detach|interrupt|kill|fork)$/) return " " operand(t, 2)
     if (what ~ /^(create|attach|open|work|done)$/) return " " operand(t, 3)
     if (what ~ /^(close|read|write|dup)$/) return " " fd_text(t, operand(t, what ~ /^(close|write)$/ ? 2 : 3))
-    if (what == "getparam" || what == "setparam") return " " door_text(t, operand(t, 2)) " " words_from(t, 3)
+    if (what == "getparam" || what == "setparam") return " " door_text(t, operand(t, 2)) words_from(t, 3)
     if (what == "info" && operand(t, 2) == "query") return " query"
     if (what ~ /^(revoke|bind|info)$/) return " " door_text(t, operand(t, 2))
     if (what == "associate" || what == "dissociate") return " " fd_text(t, operand(t, 3)) words_from(t, 4)
@@ -119,7 +119,7 @@ function tell_call(i, t, error,    call, door) {
     cargo[call] = pass_objects(t)
     number[i] = word[2]
     label[i] = "call \001 " door
-    if (!(call in accept_at)) label[i] = label[i] ", never accepted"
+    if (!(call in accept_at)) label[i] = label[i] ", not accepted"
     else if (idle_since[call] > i) label[i] = label[i] ", queued"
     else {
         arrow[i] = "to"
