@@ -14,7 +14,7 @@
 # tests/tools.sh, which this calls, tests the tools beside the program, and tests/tools has its charts.
 
 # Each page has at least one script.
-pages="README.md docs/TUTORIAL.md docs/VERSION_2.md docs/FROM_C.md"
+pages="README.md docs/TUTORIAL.md docs/VERSION_2.md docs/FROM_C.md docs/RECIPES.md"
 
 LC_ALL=C
 export LC_ALL
