@@ -76,8 +76,10 @@ awks() {
 charts() {
     for script in tests/tools/*.doors; do
         name=${script%.doors}
-        "$DOORS" play <"$script" >"$work/out" 2>"$work/err"
+        # what is wrong, in words, may stand on the error stream
+        "$DOORS" play <"$script" >"$work/out" 2>"$work/words"
         status=0
+        : >"$work/err"
         same "$script, played" "$name.trace"
         for AWK in $(awks); do
             export AWK
@@ -96,7 +98,7 @@ replay() {
     tool again "$2" "$3"
     cp "$work/out" "$work/again"
     [ $status -eq 0 ] || fail "$1, again" "status $status: $(head -n 1 "$work/err")"
-    "$DOORS" play <"$work/again" >"$work/out" 2>"$work/err"
+    "$DOORS" play <"$work/again" >"$work/out" 2>"$work/words"
     status=0
     : >"$work/err"
     sed '/^tail /d' "$3" >"$work/trace"
