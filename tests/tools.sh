@@ -135,7 +135,7 @@ refusals() {
     script=tests/tools/loops.doors
     trace=tests/tools/loops.trace
     for name in chart again; do
-        for words in "" "x" "x y z" "--walk x y" "-n x y"; do
+        for words in "" "x" "x y z" "--walk x y" "-n x y" "- x"; do
             tool $name $words
             refused "$name $words" 3 "usage: $name "
         done
