@@ -175,6 +175,30 @@ refusals() {
     refused "chart of another command" 2 "line 5: no trace of $script, \`c\` stands at line 16 of the script"
 }
 
+# changed NAME SED TEXT: the script of tests/tools/fits.doors so changed does not fit its trace any more.
+changed() {
+    sed "$2" tests/tools/fits.doors >"$work/fits.doors"
+    cmp -s tests/tools/fits.doors "$work/fits.doors" && fail "chart, $1" "nothing is changed"
+    for AWK in $(awks); do
+        export AWK
+        tool chart "$work/fits.doors" tests/tools/fits.trace
+        refused "chart, $1, with $(basename "$AWK")" 2 "$3"
+    done
+    unset AWK
+}
+
+# A script that was changed after its trace was made.
+changed_scripts() {
+    changed "another thread interrupted" 's/interrupt ann/interrupt bob/' "nothing in the script interrupts c1"
+    changed "another thread interrupted at a port" 's/interrupt loop/interrupt ann/' "nothing in the script interrupts \`loop\`"
+    changed "another procedure" 's/create door fetch 7/create door other 7/' "c1 is a call of \`other\`"
+    changed "another cookie" 's/create door fetch 7/create door fetch 8/' "the cookie 8"
+    changed "other data" 's/"bin"/"sbin"/' 'passes "sbin"'
+    changed "other results" 's/return "done"/return "gone"/' 'the results of c2 are "gone"'
+    tool chart --from 26 tests/tools/fits.doors tests/tools/fits.trace
+    same "chart of the last events" tests/tools/fits.part
+}
+
 # Lines that are cut, doubled, or end in a carriage return.
 traces_changed() {
     for line in 1 2 17 34 35; do
@@ -303,6 +327,19 @@ hunts_refused() {
     done
     hunted '(' "$work/two.doors"
     refused "hunt of a bad expression" 3 "no regular expression"
+    loops=$top/tests/tools/loops.doors
+    for pattern in 'c c collect EINTR' '^[0-9]+ c (c|karl) colect' '^end (stalled|budget) [0-9]+ c$' 'accept enter c1 e 0 "karl"'; do
+        hunted -n 1 "$pattern" "$loops"
+        [ "$status" -ne 3 ] || fail "hunt of $pattern" "$(head -n 1 "$work/err")"
+    done
+    hunted 'karl karl collect EINTR' "$loops"
+    refused "hunt of no thread" 3 "karl: neither the script nor a trace has this word"
+    hunted '^end stalled.* karl$' "$loops"
+    refused "hunt of no thread at the end" 3 "karl: neither the script nor a trace has this word"
+    hunted '^[0-9]+ c c collect EINTTR$' "$loops"
+    refused "hunt of no error" 3 "EINTTR: neither the script nor a trace has this word"
+    hunted 'cl cl collect' "$loops"
+    refused "hunt of a part of a thread" 3 "cl: there is no such thread"
     hunted x "$work/none"
     refused "hunt of a script that is not there" 2 "none: it cannot be read"
     echo "doors script 1" >"$work/bad.doors"
@@ -385,6 +422,7 @@ charts
 pictures
 options
 refusals
+changed_scripts
 every_trace
 long_schedules
 hunts

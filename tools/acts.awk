@@ -4,6 +4,8 @@ function follow_done(i, t, what, n,    k) {
     if (what == "create") {
         open_fd(t, word[3], "d" ++doors)
         door_procedure["d" doors] = operand(t, 3)
+        door_process["d" doors] = thread_process[t]
+        door_cookie["d" doors] = operand(t, 4)
         set_variable(t, operand(t, 2), word[3])
     } else if (what == "open") give(t, at_path[operand(t, 3)] "")
     else if (what == "dup") give(t, object_of(t, operand(t, 3)))
@@ -57,9 +59,11 @@ function follow_kill(i, t, p,    other) {
         }
     }
     has_ended[p] = 1
+    ended_at[p] = i
 }
 
 function follow_fork(i, t, child,    other, fd) {
+    forked_at[thread_process[t]] = i
     for (other = 1; other <= threads; other++)
         if (thread_process[other] == child && !is_spare[other]) {
             is_there[other] = 1
@@ -73,6 +77,7 @@ function follow_fork(i, t, child,    other, fd) {
 function follow_exit(i, t,    p) {
     p = thread_process[t]
     is_there[t] = 0
+    ended_at[p] = i
     if (serves[t] != "") {
         number[i] = serves[t]
         label[i] = "exit in \001"

@@ -32,8 +32,8 @@ function over(text, from, other) {
     return substr(text, 1, from - 1) other substr(text, from + length(other))
 }
 
-# Columns are as wide as most texts in them, up to a width that goes by how many there are; between two threads an arrow has
-# room behind its text.
+# Columns are as wide as most texts in them, up to a width that goes by how many there are, and as what the last row says of
+# their threads; between two threads an arrow has room behind its text.
 function place_columns(    t, r, i, need, columns, most, p, headed) {
     for (t = 1; t <= threads; t++)
         if (t in shown) {
@@ -50,6 +50,10 @@ function place_columns(    t, r, i, need, columns, most, p, headed) {
         need = length(text_of(i)) + 2
         if (need > most) need = most
         if (need > wide[event_thread[i]]) wide[event_thread[i]] = need
+    }
+    for (t = 1; t <= threads; t++) {
+        need = final == events && (t in shown) ? length(wait_text(t)) + 2 : 0
+        if (need > wide[t]) wide[t] = need
     }
     set_places()
     for (r = 1; r <= rows; r++) if (row_event[r]) widen_for(row_event[r])

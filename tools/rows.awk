@@ -1,9 +1,11 @@
 # Which rows a chart has: events from `first` to `final`, of which what is repeated is drawn once.
 #
-# row_event[r] is an event, or 0 where row_text[r] stands for several. shown[t]: thread t has something in these rows.
+# row_event[r] is an event, or 0 where row_text[r] stands for several. shown[t]: thread t has something in these rows, or the end
+# line names it and is drawn too.
 
 function make_rows(most,    i, period, times) {
     sign_events()
+    for (i = 1; final == events && i <= threads; i++) if (wait_text(i) != "") shown[i] = 1
     for (i = first; i <= final; i++) {
         if (most && rows >= most) {
             add_row(0, "events " i " to " final " are not drawn: ask for them with --from and --to")

@@ -33,6 +33,7 @@ function tell(i, t, what,    n, error, serves_before) {
     else if (word[1] == "wait") tell_wait(i, t, what)
     else {
         if (what == "collect") tell_collect(i, t, n, error)
+        else if (what == "got") check_got(t)
         else if (what == "interrupt") tell_interrupt(i, t, thread_id[operand(t, 2)])
         else if (!error) follow_done(i, t, what, n)
         waits[t] = ""
@@ -117,6 +118,8 @@ function tell_call(i, t, error,    call, door) {
     waits[t] = "call"
     in_call[t] = call
     cargo[call] = pass_objects(t)
+    call_door[call] = object_of(t, operand(t, 3))
+    call_text[call] = plain_text(t, 4)
     number[i] = word[2]
     label[i] = "call \001 " door
     if (!(call in accept_at)) label[i] = label[i] ", not accepted"
@@ -137,6 +140,7 @@ function tell_accept(i, t, n, error,    call) {
     }
     if (error) return
     if (!((thread_process[t], word[3]) in body_of)) bad_trace("there is no procedure `" word[3] "`")
+    if (word[2] ~ /^c/) check_accept(t, call)
     label[i] = label[i] " " word[3] " " word[4] " " short(word[5])
     waits[t] = ""
     serves[t] = word[2]
@@ -157,6 +161,7 @@ function tell_return(i, t, error,    call, goes_out, objects) {
         if (serves[t] ~ /^c/ && event_root[i] != t) {
             results[call] = objects
             has_results[call] = 1
+            result_text_of[call] = plain_text(t, 2)
             arrow[i] = "back"
             partners[i] = " " caller[call]
         } else if (serves[t] ~ /^c/) label[i] = label[i] ", to nobody"
@@ -170,12 +175,14 @@ function tell_collect(i, t, n, error,    call) {
     call = in_call[t]
     number[i] = "c" call
     label[i] = "collect \001" result_text(n)
+    check_collect(t, call, error)
     if (!error) set_variable(t, operand(t, 2), receive(t, 3, n, results[call] ""))
 }
 
 function tell_wait(i, t, what) {
     waits[t] = what == "await" ? "path" : what == "work" ? "task" : "port"
     waits_for[t] = waits[t] == "path" ? operand(t, 2) : object_of(t, operand(t, 2))
+    delete is_hit[t]
 }
 
 # An interrupt touches a thread that waits in a call without its results, or at a port.
@@ -186,6 +193,8 @@ function tell_interrupt(i, t, other) {
     } else if (waits[other] == "port") label[i] = label[i] " at a port"
     else label[i] = label[i] ", in no wait"
     if (waits[other] != "port" && (waits[other] != "call" || in_call[other] in has_results)) return
+    if (waits[other] == "call") is_broken[in_call[other]] = 1
+    else is_hit[other] = 1
     arrow[i] = "to"
     partners[i] = " " other
 }
