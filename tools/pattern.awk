@@ -15,8 +15,8 @@ BEGIN {
         " pipe write read pcreate associate dissociate get getn send sendn alert interrupt kill fork work accept collect woken got" \
         " found done", is_event)
     gather("enter wait ok yes no fd process grown unref user alert in out err hup none max query local revoked private end complete" \
-        " stalled budget refused turn tail target proc cookie attr unique E2BIG EAGAIN EBADF EBADFD EBUSY EINTR EINVAL EMFILE ENFILE ENOBUFS ENOENT ENOTSUP EPERM" \
-        " EPIPE ETIME", is_other)
+        " stalled budget refused turn tail target proc cookie attr unique E2BIG EAGAIN EBADF EBADFD EBUSY EINTR EINVAL EMFILE" \
+        " ENFILE ENOBUFS ENOENT ENOTSUP EPERM EPIPE ETIME", is_other)
 }
 
 {
@@ -46,7 +46,8 @@ END {
             exit
         }
         # `x y collect`: y is a whole name there
-        if (i > 2 && (part[i] in is_event) && is_whole_name(part[i - 1]) && is_whole_name(part[i - 2]) && !(part[i - 1] in is_thread)) {
+        if (i < 3 || !(part[i] in is_event) || (part[i - 1] in is_thread)) continue
+        if (is_whole_name(part[i - 1]) && is_whole_name(part[i - 2])) {
             print part[i - 1] ": there is no such thread"
             exit
         }
