@@ -44,3 +44,18 @@ pub const VARIABLES_MAX: usize = 32;
 
 /// How deep the blocks of a body may nest.
 pub const DEPTH_MAX: u32 = 8;
+
+/// The most timers of a process.
+pub const TIMERS_MAX: u32 = 32;
+
+/// The most that lies between the arming of a timer and its first moment, and between two moments.
+pub const DELAY_MAX: u64 = 1_000_000_000;
+
+/// The most by which the clock moves at once.
+pub const ADVANCE_MAX: u64 = 10_000;
+
+/// The latest clock from which it moves.
+pub const CLOCK_MAX: u64 = 1_000_000_000;
+
+/// The latest clock that there is.
+pub const CLOCK_LAST: u64 = 1_000_010_000;

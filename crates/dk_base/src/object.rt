@@ -38,6 +38,8 @@ pub enum Src {
     Fd,
     User,
     Alert,
+    /// Its `object` is the timer's id, its `events` how often the timer fired.
+    Timer,
 }
 
 /// A port's event as it is retrieved.

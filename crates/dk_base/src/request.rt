@@ -136,6 +136,25 @@ pub enum Request {
         events: u32,
         user: u64,
     },
+    /// A timer that tells a port (timer_create(3C)).
+    TimerCreate {
+        port: Fd,
+        user: u64,
+    },
+    /// A timer of the process is armed, or with a `first` of 0 is left not armed (timer_settime(3C)).
+    TimerSet {
+        timer: u32,
+        first: u64,
+        interval: u64,
+    },
+    /// A timer of the process ends (timer_delete(3C)).
+    TimerDelete {
+        timer: u32,
+    },
+    /// The clock moves on.
+    Advance {
+        by: u64,
+    },
     Interrupt {
         thread: Tid,
     },
@@ -150,6 +169,10 @@ pub enum Request {
     Work {
         op: Op,
         bytes: Bytes,
+    },
+    /// A line for the process's name service cache.
+    Ncd {
+        line: Bytes,
     },
 }
 
@@ -269,6 +292,21 @@ impl Request {
                 events: *events,
                 user: *user,
             },
+            Request::TimerCreate { port, user } => Request::TimerCreate {
+                port: *port,
+                user: *user,
+            },
+            Request::TimerSet {
+                timer,
+                first,
+                interval,
+            } => Request::TimerSet {
+                timer: *timer,
+                first: *first,
+                interval: *interval,
+            },
+            Request::TimerDelete { timer } => Request::TimerDelete { timer: *timer },
+            Request::Advance { by } => Request::Advance { by: *by },
             Request::Interrupt { thread } => Request::Interrupt { thread: *thread },
             Request::Kill { process } => Request::Kill { process: *process },
             Request::Exit => Request::Exit,
@@ -276,6 +314,9 @@ impl Request {
             Request::Work { op, bytes } => Request::Work {
                 op: *op,
                 bytes: bytes.copy(alloc)?,
+            },
+            Request::Ncd { line } => Request::Ncd {
+                line: line.copy(alloc)?,
             },
         })
     }

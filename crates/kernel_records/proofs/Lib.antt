@@ -5,3 +5,4 @@ pub mod DoorNumbers
 pub mod Places
 pub mod ChangedNumbers
 pub mod Passing
+pub mod Moments

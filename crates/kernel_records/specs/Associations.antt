@@ -179,7 +179,7 @@ abbrev pub event_of : PollSet → Association → EventRec
 event_of ready a = record { source = src.Fd; object = a.key.fd.0; events = told_events ready a.events; user = a.user }
 
 abbrev pub queued_of : PollSet → Association → Queued
-queued_of ready a = record { rec = event_of ready a; assoc = Some a.number }
+queued_of ready a = record { rec = event_of ready a; assoc = Some a.number; timer = None }
 
 abbrev pub fired_of : PollSet → Association → Fired
 fired_of ready a = record { port = a.key.port; queued = queued_of ready a }

@@ -13,5 +13,7 @@ pub mod Pools
 pub mod Pipes
 pub mod Ports
 pub mod Associations
+pub mod Moments
+pub mod Timers
 pub mod Leaving
 pub mod Words

@@ -13,7 +13,7 @@ use Rattle.dk_base.specs.declared.request.AlertMode.TheVariants as mode
 use Rattle.dk_base.specs.ByNumber.{at_number}
 use Rattle.kernel_records.specs.declared.port.Alert.{Alert}
 use Rattle.kernel_records.specs.declared.port.Queued.{Queued}
-use Rattle.kernel_records.specs.Lists.{change_at_number}
+use Rattle.kernel_records.specs.Lists.{change_at_number, change_first}
 use Rattle.kernel_records.specs.Refusals.{Test, first_refusal, refused_where}
 
 -- a port's number, its alert while it is in alert mode, and the events that are queued and not taken, the oldest first
@@ -41,7 +41,7 @@ port_of ports p = port_in (at_number ports p)
 
 -- an event that port_send(3C) queues
 abbrev pub user_event : ℕ → ℕ → Queued
-user_event events user = record { rec = record { source = src.User; object = 0; events = events; user = user }; assoc = None }
+user_event events user = record { rec = record { source = src.User; object = 0; events = events; user = user }; assoc = None; timer = None }
 
 abbrev pub is_of_user : Src → Bool
 is_of_user src.User = true
@@ -108,6 +108,40 @@ without_event assoc x = record x { queue = filter (is_other_event assoc) x.queue
 abbrev pub withdraw_event : List Port → ℕ → ℕ → List Port
 withdraw_event ports p assoc = change_at_number ports p (without_event assoc)
 
+-- what a timer queued: its source, its id, how many moments it counts, and its user value
+
+abbrev pub timer_event : ℕ → ℕ → ℕ → ℕ → Queued
+timer_event timer id count user =
+    record { rec = record { source = src.Timer; object = id; events = count; user = user }; assoc = None; timer = Some timer }
+
+abbrev pub is_timer_event : ℕ → Queued → Bool
+is_timer_event timer q = is_number timer q.timer
+
+abbrev pub is_other_timer_event : ℕ → Queued → Bool
+is_other_timer_event timer q = not (is_timer_event timer q)
+
+abbrev pub has_timer_event : ℕ → Port → Bool
+has_timer_event timer x = list_any (is_timer_event timer) x.queue
+
+-- it leaves
+
+abbrev pub without_timer_event : ℕ → Port → Port
+without_timer_event timer x = record x { queue = filter (is_other_timer_event timer) x.queue }
+
+abbrev pub withdraw_timer : List Port → ℕ → ℕ → List Port
+withdraw_timer ports p timer = change_at_number ports p (without_timer_event timer)
+
+-- it counts so many more, and keeps its place
+
+abbrev pub grown_event : ℕ → Queued → Queued
+grown_event by q = record q { rec = record q.rec { events = q.rec.events + by } }
+
+abbrev pub with_grown_event : ℕ → ℕ → Port → Port
+with_grown_event timer by x = record x { queue = change_first (is_timer_event timer) (grown_event by) x.queue }
+
+abbrev pub grow_timer : List Port → ℕ → ℕ → ℕ → List Port
+grow_timer ports p timer by = change_at_number ports p (with_grown_event timer by)
+
 -- alert mode
 
 abbrev pub is_of_nothing : AlertMode → Bool
@@ -141,7 +175,7 @@ is_ready_for nget x = is_some x.alert || nat_le nget (length x.queue)
 
 -- an alert as it is retrieved
 abbrev pub alert_event : Alert → Queued
-alert_event a = record { rec = record { source = src.Alert; object = 0; events = a.events; user = a.user }; assoc = None }
+alert_event a = record { rec = record { source = src.Alert; object = 0; events = a.events; user = a.user }; assoc = None; timer = None }
 
 -- what a get of at most so many finds: the alert alone, or the first events
 abbrev pub found_at : ℕ → Option Alert → List Queued → List Queued

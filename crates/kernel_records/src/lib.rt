@@ -1,5 +1,5 @@
 //! The records of the written kernel's state, as the kernel's code has them too: processes, threads, doors, names, calls and
-//! notices, what server pools hold, what is queued at ports and associated with them, and who leaves.
+//! notices, what server pools hold, what is queued at ports and associated with them, timers, and who leaves.
 #![tactic(auto)]
 
 pub mod association;
@@ -8,3 +8,4 @@ pub mod numbered;
 pub mod pool;
 pub mod port;
 pub mod record;
+pub mod timer;

@@ -7,9 +7,11 @@ pub struct Alert {
     pub user: u64,
 }
 
-/// An event that is queued at a port: as it is retrieved, and the number of the association that queued it, if one did.
+/// An event that is queued at a port: as it is retrieved, and the number of the association or of the timer that queued it, if one
+/// did.
 #[derive(Clone, Copy)]
 pub struct Queued {
     pub rec: EventRec,
     pub assoc: Option<u32>,
+    pub timer: Option<u32>,
 }
