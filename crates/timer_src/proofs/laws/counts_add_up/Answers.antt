@@ -1,0 +1,5 @@
+use Rattle.kernel_records.proofs.Moments.{counts_add_up}
+use Rattle.timer_src.proofs.laws.counts_add_up.Goals as goal
+
+pub returns : goal.returns
+returns c = counts_add_up

@@ -1,0 +1,5 @@
+//! Tests of timers.
+#![tactic(auto)]
+
+#[cfg(test)]
+mod timers;
