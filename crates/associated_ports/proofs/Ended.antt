@@ -5,11 +5,15 @@ use Rattle.dk_base.specs.declared.object.Obj.{Obj}
 use Rattle.dk_base.specs.declared.set.PollSet.{PollSet}
 use Rattle.kernel_records.specs.declared.association.Association.{Association}
 use Rattle.kernel_records.specs.declared.association.Fired.{Fired}
-use Rattle.kernel_records.specs.Words.{AssociationList, Port, all_fired, armed_at, disarmed, disarmed_where, fire_all, is_armed_at, is_to_fire, numbers_of, ports_of, post_event, post_fired, with_event, withdraw_event, withdraw_events, without_event}
+use Rattle.kernel_records.specs.declared.timer.Tag.{Tag}
+use Rattle.kernel_records.specs.Words.{AssociationList, Port, TimerList, all_fired, armed_at, disarmed, disarmed_where, fire_all, is_armed_at, is_to_fire, numbers_of, port_of, ports_of, post_event, post_fired, with_event, withdraw_event, withdraw_events, withdraw_timer, without_event, without_timer_event}
 use Rattle.event_port.specs.Words.{HasRoomAt, PortsValue}
-use Rattle.associated_ports.specs.Ended.{withdraw_each}
-use Rattle.associated_ports.specs.Words.{HasRoomToFire}
-use Rattle.associated_ports.proofs.Rooms.{count-cons, length-change}
+use Rattle.port_telling.specs.Words.{KeepsRoomBeside}
+use Rattle.associated_ports.specs.Ended.{withdraw_each, withdraw_tags}
+use Rattle.associated_ports.specs.Words.{HasRoomToFire, idle_at}
+use Rattle.associated_ports.proofs.Idle.{idle-same}
+use Rattle.associated_ports.proofs.Queues.{AreAlike, fired_alike}
+use Rattle.associated_ports.proofs.Rooms.{count-cons, length-change, room_for_fewer}
 
 pub length-withdraw_events : (ports : List Port) (xs : List Association) → length (withdraw_events ports xs) ≡ length ports
 length-withdraw_events ports [] = refl
@@ -24,6 +28,10 @@ length-withdraw_each ports (q ∷ qs) (n ∷ ns) = length-withdraw_each (withdra
 pub each_withdrawn : (ports : List Port) (xs : List Association) → withdraw_each ports (ports_of xs) (numbers_of xs) ≡ withdraw_events ports xs
 each_withdrawn ports [] = refl
 each_withdrawn ports (a ∷ xs) = each_withdrawn (withdraw_event ports a.key.port a.number) xs
+
+pub length-withdraw_tags : (ports : List Port) (gs : List Tag) → length (withdraw_tags ports gs) ≡ length ports
+length-withdraw_tags ports [] = refl
+length-withdraw_tags ports (g ∷ gs) = length-withdraw_tags (withdraw_timer ports g.port g.number) gs ∙ length-change ports g.port (without_timer_event g.number)
 
 -- those that fire
 
@@ -41,14 +49,27 @@ fewer_fired ready (a ∷ xs) q =
     go false = omega arith
 
 pub all_told :
-    (old new : PortsValue) (list left : AssociationList) (ready : Obj → PollSet) → left ≡ fire_all list ready → new.ports ≡ post_fired old.ports (all_fired ready list.associations) →
-    ((q : ℕ) → HasRoomAt new.rooms q (armed_at left.associations q)) → HasRoomToFire old list → HasRoomToFire new left
-all_told old new list left ready fired posted room h =
+    (old new : PortsValue) (list left : AssociationList) (timers : TimerList) (ready : Obj → PollSet) → left ≡ fire_all list ready →
+    new.ports ≡ post_fired old.ports (all_fired ready list.associations) → KeepsRoomBeside list.associations left.associations old.rooms new.rooms →
+    HasRoomToFire old list timers → HasRoomToFire new left timers
+all_told old new list left timers ready fired posted room h =
     record {
-      rooms = room;
+      rooms = λ q.
+          let idle = idle_at old.ports timers.timers q in
+          let before = room_for_fewer old.rooms q (armed_at list.associations q + idle) (idle + armed_at list.associations q) (omega arith) (h.rooms q) in
+          room_for_fewer new.rooms q (idle + armed_at left.associations q) (armed_at left.associations q + idle_at new.ports timers.timers q)
+          (omega (arith, same q)) (room q idle before);
       made = λ q l.
           let long = ap length posted ∙ length-post_fired old.ports (all_fired ready list.associations) in
           let fewer = fewer_fired ready list.associations q in
           let armed : armed_at left.associations q ≡ armed_at (map (disarmed_where ready) list.associations) q = ap (λ (k : AssociationList). armed_at k.associations q) fired in
           omega (arith, armed, fewer, h.made q (omega (arith, l, long)));
+      numbers = h.numbers;
+      timely = λ q. (alike q).timely timers.clock (h.timely q);
     }
+  where
+    alike : AreAlike old.ports new.ports
+    alike = subst (AreAlike old.ports) (sym posted) (fired_alike old.ports ready list.associations)
+
+    same : (q : ℕ) → idle_at new.ports timers.timers q ≡ idle_at old.ports timers.timers q
+    same q = idle-same (port_of old.ports q).queue (port_of new.ports q).queue timers.timers q (alike q).queued

@@ -1,3 +1,4 @@
 pub mod Ended
 pub mod Value
+pub mod Told
 pub mod Words

@@ -9,7 +9,7 @@ use Rattle.kernel_records.specs.declared.port.Queued.{Queued}
 use Rattle.kernel_records.specs.Words.{Port, change_at_number, events_found, left_at, new_port, port_in, port_of, take_events, without_found}
 use Rattle.kernel_records.proofs.Lists.{at_number-set, numbered_push}
 use Rattle.kernel_records.proofs.ChangedNumbers.{at_number-map, change_at_number-none, change_at_number-same, got_map, numbered_at, set_same}
-use Rattle.event_port.specs.Words.{HasRoomAt, KeepsRoom, KeepsRoomAtOthers, KeepsRoomButOne, PortValue, port_with, room_with}
+use Rattle.event_port.specs.Words.{HasPlacesAt, HasRoomAt, KeepsPlaces, KeepsRoom, KeepsRoomAtOthers, KeepsRoomButOne, PortValue, PortsValue, port_with, room_with}
 
 -- a number that no port has
 pub change_none : (xs : List PortValue) (n : ℕ) (change : Port → Port) → at_number xs n ≡ None → map port_with xs ≡ change_at_number (map port_with xs) n change
@@ -108,6 +108,42 @@ pub room_of_made :
     (xs ys : List PortValue) (p : ℕ) (z : PortValue) → p ≡ length xs + 1 → ys ≡ xs ++ z ∷ [] →
     KeepsRoomAtOthers p (map room_with xs) (map room_with ys)
 room_of_made xs ys p z e is = others_same xs ys p (λ q other. ap (λ zs. at_number zs q) is ∙ numbered_push xs z q ∙ grind (arith, nat_tests))
+
+-- the places of each, after one is changed
+
+abbrev ports_and_room : List PortValue → ℕ → PortsValue
+ports_and_room xs spare = record { ports = map port_with xs; rooms = map room_with xs; spare = spare }
+
+abbrev IsEnough : ℕ → Option PortValue → Type 0
+IsEnough n o = IfSome (option_map room_with o) (λ room. n ≤ room + length (port_in (option_map port_with o)).queue)
+
+places_read : (xs : List PortValue) (spare p n : ℕ) → HasPlacesAt (ports_and_room xs spare) p n → IsEnough n (at_number xs p)
+places_read xs spare p n h =
+    subst (λ o. IfSome o (λ room. n ≤ room + length (port_in (option_map port_with (at_number xs p))).queue)) (at_number-map room_with xs p)
+    (subst (λ o. IfSome (at_number (map room_with xs) p) (λ room. n ≤ room + length (port_in o).queue)) (at_number-map port_with xs p) h)
+
+places_written : (xs : List PortValue) (spare p n : ℕ) → IsEnough n (at_number xs p) → HasPlacesAt (ports_and_room xs spare) p n
+places_written xs spare p n h =
+    subst (λ o. IfSome (at_number (map room_with xs) p) (λ room. n ≤ room + length (port_in o).queue)) (sym (at_number-map port_with xs p))
+    (subst (λ o. IfSome o (λ room. n ≤ room + length (port_in (option_map port_with (at_number xs p))).queue)) (sym (at_number-map room_with xs p)) h)
+
+pub places_kept :
+    (xs : List PortValue) (i k l : ℕ) (x y : PortValue) → i < length xs → x ≡ get_or xs i x →
+    x.room + length x.port.queue ≤ y.room + length y.port.queue →
+    KeepsPlaces (record { ports = map port_with xs; rooms = map room_with xs; spare = k }) (record { ports = map port_with (set xs i y); rooms = map room_with (set xs i y); spare = l })
+places_kept xs i k l x y below is more = λ p n h.
+    places_written (set xs i y) l p n
+    (subst (IsEnough n) (sym (at_number-set xs i p y below)) (go p n (p == suc i) refl (places_read xs k p n h)))
+  where
+    go : (p n : ℕ) (b : Bool) → (p == suc i) ≡ b → IsEnough n (at_number xs p) → IsEnough n (if b then Some y else at_number xs p)
+    go p n true e h =
+        let here : i + 1 ≡ p = grind (arith, nat_tests) in
+        let enough = subst (IsEnough n) (numbered_at xs p i x here below is) h in
+        omega (arith, enough, more)
+    go p n false e h = h
+
+pub same_places : (x : PortsValue) → KeepsPlaces x x
+same_places x = λ p n h. h
 
 -- less is asked for
 

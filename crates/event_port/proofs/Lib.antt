@@ -1,3 +1,4 @@
 mod Changed
 mod Named
 mod Taken
+mod Timers

@@ -1,7 +1,7 @@
 -- Ports with the room that each has: how many more events it takes without memory.
-use Rattle.std.specs.Prelude.{◌≡◌, ℕ, ◌+◌, ◌≤◌, ◌==◌, List, IfSome, count_by, drop}
+use Rattle.std.specs.Prelude.{◌≡◌, ℕ, ◌+◌, ◌≤◌, ◌==◌, List, IfSome, count_by, drop, length}
 use Rattle.dk_base.specs.ByNumber.{at_number}
-use Rattle.kernel_records.specs.Words.{Port}
+use Rattle.kernel_records.specs.Words.{Port, port_of}
 
 -- one port, and its room
 pub record PortValue : Type 0 where
@@ -47,3 +47,11 @@ times_named q ps = count_by (λ p. p == q) ps
 -- each port has the room that it had but for one event at most each time that it is named
 abbrev pub KeepsRoomButNamed : List ℕ → List ℕ → List ℕ → Type 0
 KeepsRoomButNamed ps old new = (q n : ℕ) → HasRoomAt old q (n + times_named q ps) → HasRoomAt new q n
+
+-- so many events in all take no memory at a port: those that are queued there, and more by its room
+abbrev pub HasPlacesAt : PortsValue → ℕ → ℕ → Type 0
+HasPlacesAt x p n = IfSome (at_number x.rooms p) (λ room. n ≤ room + length (port_of x.ports p).queue)
+
+-- each port has the places that it had: what leaves its queue gives its place back
+abbrev pub KeepsPlaces : PortsValue → PortsValue → Type 0
+KeepsPlaces old new = (p n : ℕ) → HasPlacesAt old p n → HasPlacesAt new p n

@@ -1,8 +1,8 @@
 //! The ports of a kernel.
-ghost use Rattle.std.specs.Prelude.{◌≡◌, ◌+◌, ◌<◌, ◌≤◌, ◌++◌, [], All, IfErr, IfOk, IsOk, None, OnErr, OnOk, Some, false, is_some, length, map, true};
+ghost use Rattle.std.specs.Prelude.{◌≡◌, ◌+◌, ◌<◌, ◌≤◌, ◌++◌, ◌^◌, [], All, IfErr, IfOk, IsOk, None, OnErr, OnOk, Some, false, is_some, length, map, true};
 ghost use Rattle.dk_base.specs.declared.limits.TheConstants.{EVENTS_MAX, USER_EVENTS_MAX};
-ghost use Rattle.kernel_records.specs.Words.{alert_port, alert_tests, associations_of, events_found, events_given, first_found, first_refusal, get_tests, getn_count, getn_tests, has_event_of, is_full_port, is_ready_for, is_user_event, make_port, must_wait, port_of, post_event, records_of, send_each, send_error, send_errors, send_event, send_if_allowed, take_events, unless_refused_with, user_events, withdraw_event};
-ghost use Rattle.event_port.specs.Words.{AnswersOrWants, HasRoomAt, KeepsRoom, KeepsRoomAtOthers, KeepsRoomButNamed, KeepsRoomButOne, answer_of};
+ghost use Rattle.kernel_records.specs.Words.{alert_port, alert_tests, associations_of, events_found, events_given, first_found, first_refusal, get_tests, getn_count, getn_tests, grow_timer, has_event_of, has_timer_event, is_full_port, is_ready_for, is_user_event, make_port, must_wait, port_of, post_event, records_of, send_each, send_error, send_errors, send_event, send_if_allowed, take_events, unless_refused_with, user_events, withdraw_event, withdraw_timer};
+ghost use Rattle.event_port.specs.Words.{AnswersOrWants, HasRoomAt, KeepsPlaces, KeepsRoom, KeepsRoomAtOthers, KeepsRoomButNamed, KeepsRoomButOne, answer_of, timer_count};
 
 use crate::queue::PortQueue;
 use dk_base::error::{Errno, NoMemory, Refusal};
@@ -189,13 +189,14 @@ impl Ports {
     }
 
     /// An event that is no user event is queued at a port, last. It takes no memory.
-    #[tactic(auto, using(kernel_records::proofs::ChangedNumbers::changed_through, crate::proofs::Changed::room_less, crate::proofs::Changed::room_left, crate::proofs::Changed::room_of_others, crate::proofs::Changed::change_none))]
+    #[tactic(auto, using(kernel_records::proofs::ChangedNumbers::changed_through, crate::proofs::Changed::room_less, crate::proofs::Changed::places_kept, crate::proofs::Changed::same_places, crate::proofs::Changed::room_left, crate::proofs::Changed::room_of_others, crate::proofs::Changed::change_none))]
     pub fn post_fitting(&mut self, p: u32, q: Queued)
         requires room { HasRoomAt self.old.rooms p 1 }
         requires other { is_user_event q ≡ false }
         ensures ports { self.new.ports ≡ post_event self.old.ports p q }
         ensures rooms { KeepsRoomButOne self.old.rooms self.new.rooms }
         ensures others { KeepsRoomAtOthers p self.old.rooms self.new.rooms }
+        ensures places { KeepsPlaces self.old self.new }
         ensures spare { self.new.spare ≡ self.old.spare }
     {
         if let Some(place) = place_of(&self.queues, p) {
@@ -219,17 +220,57 @@ impl Ports {
     }
 
     /// What an association queued at a port leaves, and the others keep their order. Says whether there was such an event.
-    #[tactic(auto, using(kernel_records::proofs::ChangedNumbers::changed_through, crate::proofs::Changed::room_kept, crate::proofs::Changed::change_none, crate::proofs::Changed::no_port_read))]
+    #[tactic(auto, using(kernel_records::proofs::ChangedNumbers::changed_through, crate::proofs::Changed::room_kept, crate::proofs::Changed::places_kept, crate::proofs::Changed::same_places, crate::proofs::Changed::change_none, crate::proofs::Changed::no_port_read))]
     pub fn withdraw(&mut self, p: u32, assoc: u32) -> bool
         ensures result { result ≡ has_event_of assoc (port_of self.old.ports p) }
         ensures ports { self.new.ports ≡ withdraw_event self.old.ports p assoc }
         ensures rooms { KeepsRoom self.old.rooms self.new.rooms }
+        ensures places { KeepsPlaces self.old self.new }
         ensures spare { self.new.spare ≡ self.old.spare }
     {
         match place_of(&self.queues, p) {
             Some(place) => {
                 let port = &mut self.queues[place];
                 port.withdraw(assoc)
+            }
+            None => false,
+        }
+    }
+
+    /// The event that a timer queued at a port counts so many more, and keeps its place. Says whether there was such an event; where there
+    /// was none, nothing changes. It takes no memory.
+    #[tactic(auto, using(kernel_records::proofs::ChangedNumbers::changed_through, crate::proofs::Changed::room_kept, crate::proofs::Changed::same_ports, crate::proofs::Changed::change_none, crate::proofs::Changed::no_port_read))]
+    pub fn grow(&mut self, p: u32, timer: u32, by: u32) -> bool
+        requires { timer_count timer (port_of self.old.ports p) + by < 2 ^ 32 }
+        ensures result { result ≡ has_timer_event timer (port_of self.old.ports p) }
+        ensures ports { self.new.ports ≡ grow_timer self.old.ports p timer by }
+        ensures none { result ≡ false → self.new.ports ≡ self.old.ports }
+        ensures rooms { KeepsRoom self.old.rooms self.new.rooms }
+        ensures spare { self.new.spare ≡ self.old.spare }
+    {
+        match place_of(&self.queues, p) {
+            Some(place) => {
+                let port = &mut self.queues[place];
+                port.grow(timer, by)
+            }
+            None => false,
+        }
+    }
+
+    /// What a timer queued at a port leaves, and the others keep their order. Says whether there was such an event. Its place is free for
+    /// another event.
+    #[tactic(auto, using(kernel_records::proofs::ChangedNumbers::changed_through, crate::proofs::Changed::room_kept, crate::proofs::Changed::places_kept, crate::proofs::Changed::same_places, crate::proofs::Changed::change_none, crate::proofs::Changed::no_port_read))]
+    pub fn withdraw_timer(&mut self, p: u32, timer: u32) -> bool
+        ensures result { result ≡ has_timer_event timer (port_of self.old.ports p) }
+        ensures ports { self.new.ports ≡ withdraw_timer self.old.ports p timer }
+        ensures rooms { KeepsRoom self.old.rooms self.new.rooms }
+        ensures places { KeepsPlaces self.old self.new }
+        ensures spare { self.new.spare ≡ self.old.spare }
+    {
+        match place_of(&self.queues, p) {
+            Some(place) => {
+                let port = &mut self.queues[place];
+                port.withdraw_timer(timer)
             }
             None => false,
         }
@@ -343,11 +384,12 @@ impl Ports {
         Ok(())
     }
 
-    #[tactic(auto, using(kernel_records::proofs::ChangedNumbers::changed_through, crate::proofs::Changed::room_kept, crate::proofs::Changed::change_none, crate::proofs::Changed::no_port_read))]
+    #[tactic(auto, using(kernel_records::proofs::ChangedNumbers::changed_through, crate::proofs::Changed::room_kept, crate::proofs::Changed::places_kept, crate::proofs::Changed::same_places, crate::proofs::Changed::change_none, crate::proofs::Changed::no_port_read))]
     fn take_first_at(&mut self, p: u32) -> Option<Queued>
         ensures first { result ≡ first_found (port_of self.old.ports p) }
         ensures ports { self.new.ports ≡ take_events self.old.ports p 1 }
         ensures rooms { KeepsRoom self.old.rooms self.new.rooms }
+        ensures places { KeepsPlaces self.old self.new }
         ensures spare { self.new.spare ≡ self.old.spare }
     {
         match place_of(&self.queues, p) {
@@ -365,6 +407,7 @@ impl Ports {
         ensures first { first_found (port_of self.old.ports p) ≡ Some result }
         ensures ports { self.new.ports ≡ take_events self.old.ports p 1 }
         ensures rooms { KeepsRoom self.old.rooms self.new.rooms }
+        ensures places { KeepsPlaces self.old self.new }
         ensures spare { self.new.spare ≡ self.old.spare }
     {
         let Some(q) = self.take_first_at(p) else {
@@ -392,6 +435,7 @@ impl Ports {
         ensures first { IfOk result (λ q. first_found (port_of self.old.ports p) ≡ Some q) }
         ensures ports { OnOk result (self.new.ports ≡ take_events self.old.ports p 1) }
         ensures rooms { KeepsRoom self.old.rooms self.new.rooms }
+        ensures places { KeepsPlaces self.old self.new }
         ensures kept { OnErr result (self.new ≡ self.old) }
     {
         match self.get_refusal(p, false) {
@@ -402,7 +446,7 @@ impl Ports {
 
     /// What a get of at most `max` finds at a port is taken, but for an alert, which stays. As it is retrieved it follows what is in
     /// `into`, and the numbers of the associations that queued it what is in `ids`. It takes no memory.
-    #[tactic(auto, using(kernel_records::proofs::ChangedNumbers::changed_through, crate::proofs::Changed::room_kept, crate::proofs::Changed::change_none, crate::proofs::Changed::no_port_read))]
+    #[tactic(auto, using(kernel_records::proofs::ChangedNumbers::changed_through, crate::proofs::Changed::room_kept, crate::proofs::Changed::places_kept, crate::proofs::Changed::same_places, crate::proofs::Changed::change_none, crate::proofs::Changed::no_port_read))]
     pub fn take_found(&mut self, p: u32, max: u32, into: &mut Room<EventRec>, ids: &mut Room<u32>)
         requires record_room { length (events_found max (port_of self.old.ports p)) ≤ into.old.spare }
         requires number_room { length (events_found max (port_of self.old.ports p)) ≤ ids.old.spare }
@@ -410,6 +454,7 @@ impl Ports {
         ensures records { into.new.items ≡ into.old.items ++ records_of (events_found max (port_of self.old.ports p)) }
         ensures numbers { ids.new.items ≡ ids.old.items ++ associations_of (events_found max (port_of self.old.ports p)) }
         ensures rooms { KeepsRoom self.old.rooms self.new.rooms }
+        ensures places { KeepsPlaces self.old self.new }
         ensures spare { self.new.spare ≡ self.old.spare }
         ensures record_spare { into.old.spare ≤ into.new.spare + length (events_found max (port_of self.old.ports p)) }
         ensures number_spare { ids.old.spare ≤ ids.new.spare + length (events_found max (port_of self.old.ports p)) }
@@ -462,6 +507,7 @@ impl Ports {
         ensures records { OnOk result (into.new.items ≡ into.old.items ++ records_of (events_given max (port_of self.old.ports p))) }
         ensures numbers { OnOk result (ids.new.items ≡ ids.old.items ++ associations_of (events_given max (port_of self.old.ports p))) }
         ensures rooms { KeepsRoom self.old.rooms self.new.rooms }
+        ensures places { KeepsPlaces self.old self.new }
         ensures kept { OnErr result (self.new ≡ self.old) }
         ensures same_records { OnErr result (into.new ≡ into.old) }
         ensures same_numbers { OnErr result (ids.new ≡ ids.old) }

@@ -1,10 +1,10 @@
 //! One port.
-ghost use Rattle.std.specs.Prelude.{◌≡◌, ◌+◌, ◌<◌, ◌≤◌, ◌++◌, ◌∷◌, [], OnErr, OnOk, false, filter, if◌then◌else◌, is_some, length, slice_get, take, true};
+ghost use Rattle.std.specs.Prelude.{◌≡◌, ◌+◌, ◌<◌, ◌≤◌, ◌++◌, ◌∷◌, ◌^◌, [], OnErr, OnOk, false, filter, if◌then◌else◌, is_some, length, position, slice_get, take, true};
 ghost use Rattle.std.specs.List.{list_any};
 ghost use Rattle.std.specs.VecDeque.{deque_capacity, deque_len};
 ghost use Rattle.dk_base.specs.declared.limits.TheConstants.{USER_EVENTS_MAX};
-ghost use Rattle.event_port.specs.Words.{without_oldest};
-ghost use Rattle.kernel_records.specs.Words.{alert_event, associations_of, events_found, first_found, has_event_of, is_event_of, is_full_port, is_other_event, is_user_event, new_port, records_of, user_event, user_events, with_alert, with_event, without_event, without_found};
+ghost use Rattle.event_port.specs.Words.{timer_count, without_oldest};
+ghost use Rattle.kernel_records.specs.Words.{alert_event, associations_of, change_first, events_found, first_found, grown_event, has_event_of, has_timer_event, is_event_of, is_full_port, is_other_event, is_other_timer_event, is_timer_event, is_user_event, new_port, records_of, user_event, user_events, with_alert, with_event, with_grown_event, without_event, without_found, without_timer_event};
 
 use dk_base::error::NoMemory;
 use dk_base::limits::USER_EVENTS_MAX;
@@ -57,6 +57,7 @@ fn user_event(events: u32, user: u64) -> Queued
             user,
         },
         assoc: None,
+        timer: None,
     }
 }
 
@@ -71,6 +72,7 @@ fn alert_event(alert: Alert) -> Queued
             user: alert.user,
         },
         assoc: None,
+        timer: None,
     }
 }
 
@@ -101,6 +103,43 @@ fn remove_event(queue: &mut VecDeque<Queued>, assoc: u32)
     ensures capacity { deque_capacity queue.new ≡ deque_capacity queue.old }
 {
     queue.retain(|q| !is_event_of(q, assoc));
+}
+
+fn is_timer_event(q: &Queued, timer: u32) -> bool
+    ensures { result ≡ is_timer_event timer q.now }
+{
+    match q.timer {
+        Some(number) => number == timer,
+        None => false,
+    }
+}
+
+fn has_timer_event(queue: &VecDeque<Queued>, timer: u32) -> bool
+    ensures { result ≡ list_any (is_timer_event timer) queue.now.items }
+{
+    queue.iter().any(|q| is_timer_event(q, timer))
+}
+
+/// The place of the event of a timer.
+fn place_of_timer(queue: &VecDeque<Queued>, timer: u32) -> Option<usize>
+    ensures { result ≡ position (is_timer_event timer) queue.now.items }
+{
+    queue.iter().position(|q| is_timer_event(q, timer))
+}
+
+fn grow_event(q: &mut Queued, by: u32)
+    requires { q.old.rec.events + by < 2 ^ 32 }
+    ensures { q.new ≡ grown_event by q.old }
+{
+    q.rec.events += by;
+}
+
+fn remove_timer(queue: &mut VecDeque<Queued>, timer: u32)
+    ensures items { queue.new.items ≡ filter (is_other_timer_event timer) queue.old.items }
+    ensures len { deque_len queue.new ≤ deque_len queue.old }
+    ensures capacity { deque_capacity queue.new ≡ deque_capacity queue.old }
+{
+    queue.retain(|q| !is_timer_event(q, timer));
 }
 
 /// How many user events are left without this one.
@@ -185,6 +224,7 @@ impl PortQueue {
         requires other { is_user_event q ≡ false }
         ensures port { self.new.port ≡ with_event q self.old.port }
         ensures room { self.old.room ≡ self.new.room + 1 }
+        ensures places { self.old.room + length self.old.port.queue ≤ self.new.room + length self.new.port.queue }
     {
         self.queue.push_back_reserved(q);
     }
@@ -194,9 +234,40 @@ impl PortQueue {
         ensures result { result ≡ has_event_of assoc self.old.port }
         ensures port { self.new.port ≡ without_event assoc self.old.port }
         ensures room { self.old.room ≤ self.new.room }
+        ensures places { self.old.room + length self.old.port.queue ≤ self.new.room + length self.new.port.queue }
     {
         let there = has_event_of(&self.queue, assoc);
         remove_event(&mut self.queue, assoc);
+        self.users = count_users(&self.queue);
+        there
+    }
+
+    /// The event that a timer queued counts so many more, and keeps its place. Says whether there was such an event.
+    pub fn grow(&mut self, timer: u32, by: u32) -> bool
+        requires { timer_count timer self.old.port + by < 2 ^ 32 }
+        ensures result { result ≡ has_timer_event timer self.old.port }
+        ensures port { self.new.port ≡ with_grown_event timer by self.old.port }
+        ensures none { result ≡ false → self.new.port ≡ self.old.port }
+        ensures room { self.new.room ≡ self.old.room }
+    {
+        match place_of_timer(&self.queue, timer) {
+            Some(place) => {
+                grow_event(&mut self.queue[place], by);
+                true
+            }
+            None => false,
+        }
+    }
+
+    /// What a timer queued leaves, and the others keep their order. Says whether there was such an event.
+    pub fn withdraw_timer(&mut self, timer: u32) -> bool
+        ensures result { result ≡ has_timer_event timer self.old.port }
+        ensures port { self.new.port ≡ without_timer_event timer self.old.port }
+        ensures room { self.old.room ≤ self.new.room }
+        ensures places { self.old.room + length self.old.port.queue ≤ self.new.room + length self.new.port.queue }
+    {
+        let there = has_timer_event(&self.queue, timer);
+        remove_timer(&mut self.queue, timer);
         self.users = count_users(&self.queue);
         there
     }
@@ -224,6 +295,7 @@ impl PortQueue {
         ensures first { result ≡ slice_get self.old.port.queue 0 }
         ensures port { self.new.port ≡ without_oldest 1 self.old.port }
         ensures room { self.old.room ≤ self.new.room }
+        ensures places { self.old.room + length self.old.port.queue ≤ self.new.room + length self.new.port.queue }
     {
         let q = self.queue.pop_front()?;
         self.users = users_without(self.users, &q);
@@ -235,6 +307,7 @@ impl PortQueue {
         ensures first { result ≡ first_found self.old.port }
         ensures port { self.new.port ≡ without_found 1 self.old.port }
         ensures room { self.old.room ≤ self.new.room }
+        ensures places { self.old.room + length self.old.port.queue ≤ self.new.room + length self.new.port.queue }
     {
         match self.alert {
             Some(alert) => Some(alert_event(alert)),
@@ -251,6 +324,7 @@ impl PortQueue {
         ensures records { into.new.items ≡ into.old.items ++ records_of (take 1 self.old.port.queue) }
         ensures numbers { ids.new.items ≡ ids.old.items ++ associations_of (take 1 self.old.port.queue) }
         ensures room { self.old.room ≤ self.new.room }
+        ensures places { self.old.room + length self.old.port.queue ≤ self.new.room + length self.new.port.queue }
         ensures record_spare { into.old.spare ≤ into.new.spare + 1 }
         ensures number_spare { ids.old.spare ≤ ids.new.spare + 1 }
     {
@@ -267,6 +341,7 @@ impl PortQueue {
         ensures records { into.new.items ≡ into.old.items ++ records_of (take count self.old.port.queue) }
         ensures numbers { ids.new.items ≡ ids.old.items ++ associations_of (take count self.old.port.queue) }
         ensures room { self.old.room ≤ self.new.room }
+        ensures places { self.old.room + length self.old.port.queue ≤ self.new.room + length self.new.port.queue }
         ensures record_spare { into.old.spare ≤ into.new.spare + count }
         ensures number_spare { ids.old.spare ≤ ids.new.spare + count }
     {
@@ -283,6 +358,7 @@ impl PortQueue {
         ensures records { into.new.items ≡ into.old.items ++ records_of (events_found max self.old.port) }
         ensures numbers { ids.new.items ≡ ids.old.items ++ associations_of (events_found max self.old.port) }
         ensures room { self.old.room ≤ self.new.room }
+        ensures places { self.old.room + length self.old.port.queue ≤ self.new.room + length self.new.port.queue }
         ensures record_spare { into.old.spare ≤ into.new.spare + length (events_found max self.old.port) }
         ensures number_spare { ids.old.spare ≤ ids.new.spare + length (events_found max self.old.port) }
     {

@@ -219,6 +219,23 @@ const fn fired(number: u32) -> Queued
             user: 5,
         },
         assoc: Some(number),
+        timer: None,
+    }
+}
+
+/// An event that a timer queued.
+const fn due(number: u32, count: u32) -> Queued
+    ensures { is_user_event result ≡ false }
+{
+    Queued {
+        rec: EventRec {
+            source: Src::Timer,
+            object: 4,
+            events: count,
+            user: 6,
+        },
+        assoc: None,
+        timer: Some(number),
     }
 }
 
@@ -257,4 +274,42 @@ fn an_association_withdraws_its_event(rt: HostRuntime) {
         )
     );
     assert!(rt; !ports.withdraw(1, 8) && ports.queued(1) == 0);
+}
+
+/// Whether the events of two timers are queued, the second after a user event.
+fn are_due(ports: &mut Ports) -> bool {
+    ports.post(1, due(7, 3)).is_ok()
+        && ports.send(1, 1, 1) == Ok(())
+        && ports.post(1, due(8, 2)).is_ok()
+}
+
+#[test]
+fn a_timer_withdraws_its_event(rt: HostRuntime) {
+    let alloc = rt.alloc();
+    let mut ports = Ports::new(alloc);
+    assert!(rt; is_made(alloc, &mut ports, 1));
+    assert!(rt; are_due(&mut ports));
+    assert!(rt; !ports.withdraw(1, 7) && ports.queued(1) == 3);
+    assert!(rt;
+        ports.withdraw_timer(1, 7) && !ports.withdraw_timer(1, 7) && !ports.withdraw_timer(2, 8)
+    );
+    assert!(rt; are_taken(alloc, &mut ports, &[user(1, 1), due(8, 2).rec], &[]));
+    assert!(rt; !ports.withdraw_timer(1, 8) && ports.queued(1) == 0);
+}
+
+/// Whether a full port still takes the event of a timer, which does not count.
+fn is_due_at_a_full_port(ports: &mut Ports) -> bool {
+    sends(ports, 1, 1023)
+        && ports.post(1, due(7, 1)).is_ok()
+        && ports.send(1, 2, 2) == Ok(())
+        && ports.post(1, due(8, 1)).is_ok()
+        && ports.send(1, 3, 3) == Err(Refusal::No(Errno::EAGAIN))
+}
+
+#[test]
+fn events_of_timers_do_not_fill_a_port(rt: HostRuntime) {
+    let alloc = rt.alloc();
+    let mut ports = Ports::new(alloc);
+    assert!(rt; is_made(alloc, &mut ports, 1));
+    assert!(rt; is_due_at_a_full_port(&mut ports) && ports.queued(1) == 1026);
 }

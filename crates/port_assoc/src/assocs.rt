@@ -58,6 +58,7 @@ fn fired(a: &Association, ready: PollSet) -> Fired
                 user: a.user,
             },
             assoc: Some(a.number),
+            timer: None,
         },
     }
 }
@@ -250,6 +251,8 @@ impl Assocs {
         ensures list { self.new.list ≡ end_process_associations self.old.list process.0 }
         ensures ports { ports.new.items ≡ ports.old.items ++ ports_of (associations_of_process self.old.list.associations process.0) }
         ensures ids { ids.new.items ≡ ids.old.items ++ numbers_of (associations_of_process self.old.list.associations process.0) }
+        ensures port_places { length ports.old.items + ports.old.spare ≤ length ports.new.items + ports.new.spare }
+        ensures id_places { length ids.old.items + ids.old.spare ≤ length ids.new.items + ids.new.spare }
         ensures room { KeepsRoom self.old self.new }
     {
         end_watches(&self.table, &mut self.watchers, process, ports, ids);

@@ -25,6 +25,8 @@ pub fn end_watches(
     ensures watched { IsWatched (filter (is_of_other_process process.0) table.now.items) watchers.new }
     ensures ports { ports.new.items ≡ ports.old.items ++ ports_of (associations_of_process table.now.items process.0) }
     ensures ids { ids.new.items ≡ ids.old.items ++ numbers_of (associations_of_process table.now.items process.0) }
+    ensures port_places { length ports.old.items + ports.old.spare ≤ length ports.new.items + ports.new.spare }
+    ensures id_places { length ids.old.items + ids.old.spare ≤ length ids.new.items + ids.new.spare }
     ensures room { (o : Obj) → room_at watchers.old o ≤ room_at watchers.new o }
 {
     for place in 0..table.len() {

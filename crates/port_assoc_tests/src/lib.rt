@@ -1,7 +1,9 @@
-//! Tests of associations.
+//! Tests of associations, and of timers that tell ports.
 #![tactic(auto)]
 
 #[cfg(test)]
 mod associations;
 #[cfg(test)]
 mod telling;
+#[cfg(test)]
+mod timers;

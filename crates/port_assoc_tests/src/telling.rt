@@ -1,5 +1,6 @@
 //! Objects that changed, whose associations fire in order of number.
 ghost use Rattle.std.specs.Prelude.{◌≡◌, ℕ};
+ghost use Rattle.kernel_records.specs.Words.{no_associations};
 ghost use Rattle.port_telling.specs.Words.{HasRoomForArmed};
 
 use dk_base::list::Room;
@@ -92,30 +93,37 @@ fn are_queued(alloc: Global, ports: &mut Ports, p: u32, numbers: &[u32]) -> bool
 }
 
 /// Whether an event changed the first pipe, and the reading end of the second went in it: all of both are told, and none of the third.
-fn fire_in_order(alloc: Global) -> bool {
-    let mut assocs = Assocs::new(alloc);
-    let mut ports = Ports::new(alloc);
-    if !are_made(alloc, &mut ports) || !are_associated(alloc, &mut assocs, &mut ports) {
+fn fire_in_order(alloc: Global, assocs: &mut Assocs, ports: &mut Ports, pipes: &Pipes) -> bool
+    requires { assocs.old.list ≡ no_associations }
+{
+    if !are_made(alloc, ports) || !are_associated(alloc, assocs, ports) {
         return false;
     }
     let Ok(mut changed) = Room::with_room(alloc, 3) else {
         return false;
     };
     let told = tell_ports(
-        &mut assocs,
-        &mut ports,
-        &Pipes::new(alloc),
+        assocs,
+        ports,
+        pipes,
         Some(HUNG_UP),
         &[Obj::PipeIn(2)],
         &mut changed,
     );
     told && assocs.armed(1) == 1
         && assocs.armed(2) == 0
-        && are_queued(alloc, &mut ports, 1, &[1, 3, 4, 6])
-        && are_queued(alloc, &mut ports, 2, &[2, 7])
+        && are_queued(alloc, ports, 1, &[1, 3, 4, 6])
+        && are_queued(alloc, ports, 2, &[2, 7])
+}
+
+fn are_told(alloc: Global) -> bool {
+    let mut assocs = Assocs::new(alloc);
+    let mut ports = Ports::new(alloc);
+    let pipes = Pipes::new(alloc);
+    fire_in_order(alloc, &mut assocs, &mut ports, &pipes)
 }
 
 #[test]
 fn changed_objects_fire_in_order(rt: HostRuntime) {
-    assert!(rt; fire_in_order(rt.alloc()));
+    assert!(rt; are_told(rt.alloc()));
 }

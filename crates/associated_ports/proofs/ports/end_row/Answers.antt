@@ -22,6 +22,7 @@ loop-a-preserved c =
           ∙ sym (ap (withdraw_events c.loop-a.ports.ports) (first-of test xs c.in-Some.a found))
           ∙ c.loop-a.invariant.ports;
       rooms = λ q n h. c.withdraw.ensures.rooms q n (c.loop-a.invariant.rooms q n h);
+      places = λ q n h. c.withdraw.ensures.places q n (c.loop-a.invariant.places q n h);
     }
 
 pub returns-clause-list : goal.returns-clause-list

@@ -1,5 +1,5 @@
 use Rattle.std.proofs.Common.{◌≡◌, drop}
-use Rattle.event_port.specs.Words.{KeepsRoom}
+use Rattle.event_port.specs.Words.{KeepsPlaces, KeepsRoom}
 use Rattle.associated_ports.specs.Ended.{withdraw_each}
 use Rattle.associated_ports.proofs.ports.withdraw_each.Given as goal
 
@@ -8,4 +8,5 @@ invariant-loop-i l =
     record {
       ports : withdraw_each l.ports.ports (drop l.i l.at) (drop l.i l.ids) ≡ withdraw_each l.fn.ports.ports l.at l.ids;
       rooms : KeepsRoom l.fn.ports.rooms l.ports.rooms;
+      places : KeepsPlaces l.fn.ports l.ports;
     }

@@ -1,9 +1,16 @@
-use Rattle.std.proofs.Common.{◌<◌, ◌≤◌, ◌∙◌, arith, length, subst, sym}
+use Rattle.std.proofs.Common.{◌≡◌, ℕ, ◌+◌, ◌<◌, ◌≤◌, ◌++◌, ◌∷◌, List, [], ◌∙◌, ap, arith, length, length-append, subst, sym}
 use Rattle.kernel_records.specs.Words.{association_number, association_port, is_of_process}
 use Rattle.port_assoc.specs.Value.{IsWatched}
 use Rattle.port_assoc.proofs.EndedProcess.{all_left, fewer_after, is_there, of_another, of_process, told_next, told_still, watched_next, watched_still}
 use Rattle.port_assoc.proofs.process_end.end_watches.Goals.{in-Some+then-a-process, in-Some+else-a-process, in_default}
 use Rattle.port_assoc.proofs.process_end.end_watches.Goals as goal
+
+places_after :
+    (xs ys : List ℕ) (x spare less most : ℕ) → ys ≡ xs ++ x ∷ [] → spare ≤ less + 1 → most ≤ length xs + spare →
+    most ≤ length ys + less
+places_after xs ys x spare less most pushed one before =
+    let long = ap length pushed ∙ length-append xs (x ∷ []) in
+    omega (arith, long, one, before)
 
 pub loop-place-preserved : goal.loop-place-preserved
 loop-place-preserved c =
@@ -24,6 +31,8 @@ loop-place-preserved c =
             ids = rw w.push-then-a-process.ensures.items (told_next (is_of_process p) association_number c.loop-place.ids.items xs i a there own ∙ before.ids);
             port_room = omega (arith, fewer, before.port_room, w.push.ensures.spare);
             id_room = omega (arith, fewer, before.id_room, w.push-then-a-process.ensures.spare);
+            port_places = places_after c.loop-place.ports.items w.push.new.self.items a.key.port _ _ _ w.push.ensures.items w.push.ensures.spare before.port_places;
+            id_places = places_after c.loop-place.ids.items w.push-then-a-process.new.self.items a.number _ _ _ w.push-then-a-process.ensures.items w.push-then-a-process.ensures.spare before.id_places;
             room = λ o. let earlier = before.room o in let now = w.end.ensures.room o in omega (arith, earlier, now);
           }
       | in-Some+else-a-process w ↦
@@ -36,6 +45,8 @@ loop-place-preserved c =
             ids = told_still (is_of_process p) association_number c.loop-place.ids.items xs i a there other ∙ before.ids;
             port_room = omega (arith, fewer, before.port_room);
             id_room = omega (arith, fewer, before.id_room);
+            port_places = before.port_places;
+            id_places = before.id_places;
             room = before.room;
           }
       | in_default w ↦ absurd (is_there xs i within w.in_default.ensures)

@@ -1,4 +1,4 @@
-use Rattle.std.proofs.Common.{◌≡◌, ◌≤◌, ◌++◌, drop, length}
+use Rattle.std.proofs.Common.{◌≡◌, ◌+◌, ◌≤◌, ◌++◌, drop, length}
 use Rattle.dk_base.specs.declared.object.Obj.{Obj}
 use Rattle.kernel_records.specs.Words.{associations_of_process, is_of_process, numbers_of, ports_of}
 use Rattle.port_assoc.specs.Value.{IsWatched}
@@ -13,5 +13,7 @@ invariant-loop-place l = record {
   ids : l.ids.items ++ numbers_of (associations_of_process (drop l.place l.table.items) l.process.0) ≡ l.initial.ids.items ++ numbers_of (associations_of_process l.table.items l.process.0);
   port_room : length (drop l.place l.table.items) ≤ l.ports.spare;
   id_room : length (drop l.place l.table.items) ≤ l.ids.spare;
+  port_places : length l.initial.ports.items + l.initial.ports.spare ≤ length l.ports.items + l.ports.spare;
+  id_places : length l.initial.ids.items + l.initial.ids.spare ≤ length l.ids.items + l.ids.spare;
   room : (o : Obj) → room_at l.initial.watchers o ≤ room_at l.watchers o;
 }

@@ -2,14 +2,17 @@ use Rattle.std.proofs.Common.{ap, length, subst, sym, ◌∙◌}
 use Rattle.kernel_records.specs.Words.{associations_of_row, end_row, is_of_other_row}
 use Rattle.associated_ports.specs.Words.{HasRoomToFire}
 use Rattle.associated_ports.proofs.Ended.{length-withdraw_events}
-use Rattle.associated_ports.proofs.Rooms.{fewer_armed, list_fewer, ports_kept}
+use Rattle.associated_ports.proofs.Queues.{AreThinner, events_thinner}
+use Rattle.associated_ports.proofs.Rooms.{fewer_armed, list_fewer, thinned}
 use Rattle.associated_ports.proofs.ports.AssociatedPorts.end_row.Goals as goal
 
 pub invariant_of-self : goal.invariant_of-self
 invariant_of-self c =
     let ports = c.self.inside.ports in
     let list = c.self.inside.assocs.list in
-    subst (HasRoomToFire c.end_row.new.ports) (sym c.end_row.ensures.list)
-    (list_fewer c.end_row.new.ports list (end_row list c.args.process.0 c.args.fd) (fewer_armed (is_of_other_row c.args.process.0 c.args.fd) list.associations)
-    (ports_kept ports c.end_row.new.ports list c.end_row.ensures.rooms
-    (ap length c.end_row.ensures.ports ∙ length-withdraw_events ports.ports (associations_of_row list.associations c.args.process.0 c.args.fd)) c.self.invariant))
+    let timers = c.self.inside.timers.list in
+    let ended = associations_of_row list.associations c.args.process.0 c.args.fd in
+    subst (λ left. HasRoomToFire c.end_row.new.ports left timers) (sym c.end_row.ensures.list)
+    (list_fewer c.end_row.new.ports list (end_row list c.args.process.0 c.args.fd) timers (fewer_armed (is_of_other_row c.args.process.0 c.args.fd) list.associations)
+    (thinned ports c.end_row.new.ports list timers (ap length c.end_row.ensures.ports ∙ length-withdraw_events ports.ports ended) c.end_row.ensures.places
+    (subst (AreThinner ports.ports) (sym c.end_row.ensures.ports) (events_thinner ports.ports ended)) c.self.invariant))

@@ -15,6 +15,7 @@ loop-preserved c =
       c.move_oldest.ensures.records ∙ ap₂ (λ rs (x : Port). rs ++ records_of (take 1 x.queue)) kept.1 kept.0 ∙ records_more c.args.into.now.items port.queue i,
       c.move_oldest.ensures.numbers ∙ ap₂ (λ ns (x : Port). ns ++ associations_of (take 1 x.queue)) kept.2 kept.0 ∙ associations_more c.args.ids.now.items port.queue i,
       omega (arith, kept, c.move_oldest.ensures.room),
+      omega (arith, kept, c.move_oldest.ensures.places),
       omega (arith, kept, c.move_oldest.ensures.record_spare),
       omega (arith, kept, c.move_oldest.ensures.number_spare),
     )
