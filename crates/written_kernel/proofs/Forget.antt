@@ -14,7 +14,7 @@ use Rattle.kernel_records.specs.declared.record.ThreadState.TheVariants as is
 use Rattle.kernel_records.specs.Words.{CallTree, Leaving, NoticeList, ProcessTable, begin_process, collect_call, end_process, first_refusal, forking, give_call, give_notice, has_many, has_notice, has_unref_multi, info_in, interruption, is_client_call_of, is_given_as, is_given_notice_as, is_kept_notice, is_last, is_live_call, is_object, is_queued_call, is_queued_in, is_ready_for, is_served_by, is_to_collect_as, is_valid_door, is_waiting_notice, kept_notices, left_calls, left_notices, left_thread, left_thread_of, left_threads, live_calls, objects_of, objects_passed, pid, process_end, read_tests, refused_where, revocation, set_thread_state, takes_notices, thread_end, waiting_call, waiting_notice, with_notices, write_tests}
 use Rattle.written_kernel.specs.Step.{step}
 use Rattle.kernel_records.specs.Words.{all_fired, fire_all, post_fired, ready_object}
-use Rattle.written_kernel.specs.Words.{ActResult, IsStep, StandsFor, State, Step, accept, accept_call, accept_notice, act, associations_in, await, await_name, begin_call, begin_notice, bound_of, call, caller_in, caller_of, calls_waiting, can_go_on, client_call, client_process, collect, collect_answer_in, create, credentials, door_at, door_named, door_of, effect, end_getting, end_lost, enter, exit, fail_begin, fail_each, fail_one, fail_return, fail_returns, falls_to_one, find_call, find_notice, fire, forget, fork, get_from, give, give_and_start, give_each, give_one, give_to, go_on, has_invalid_door, has_lost_door, has_port_references, has_room, held_in, holdings, information_of, interrupt, is_due, is_live_process, is_reading_end, is_runnable, is_writing_end, kill, leave, leave_process, leave_thread, make_each, make_notices, make_one, may_have_notice, name_of, named_object, needs_spare, new_call, no_act, now, object_at, objects_collected_in, pick, pipe_at, pool_of, port, port_at, process_of, reference_count, references_of, refs, refusal_of, retrieve, return, return_parked, return_unbound, revoke, root, served_by, set_parameter, settle, settle_pools, start_each, start_one, start_spares, state_of, step_after, table_of, tables_after_collect, tell, tell_queued, tests_of, unless_refused, wait_for, waiting_items, walk, with_channels, with_event_counted, with_state, woken_among, woken_threads}
+use Rattle.written_kernel.specs.Words.{ActResult, IsStep, StandsFor, State, Step, accept, accept_call, accept_notice, act, associations_in, await, await_name, begin_call, begin_notice, bound_of, call, caller_in, caller_of, calls_waiting, can_go_on, client_call, client_process, collect, collect_answer_in, create, credentials, door_at, door_named, door_of, effect, end_getting, end_lost, end_timers, enter, exit, fail_begin, fail_each, fail_one, fail_return, fail_returns, falls_to_one, find_call, find_notice, fire, forget, fork, get_from, give, give_and_start, give_each, give_one, give_to, go_on, has_invalid_door, has_lost_door, has_port_references, has_room, held_in, holdings, information_of, interrupt, is_due, is_live_process, is_reading_end, is_runnable, is_writing_end, kill, leave, leave_process, leave_thread, make_each, make_notices, make_one, may_have_notice, name_of, named_object, needs_spare, new_call, no_act, now, object_at, objects_collected_in, pick, pipe_at, pool_of, port, port_at, process_of, reference_count, references_of, refs, refusal_of, retrieve, return, return_parked, return_unbound, revoke, root, served_by, set_parameter, settle, settle_pools, start_each, start_one, start_spares, state_of, step_after, table_of, tables_after_collect, tell, tell_queued, tests_of, unless_refused, wait_for, waiting_items, walk, with_channels, with_event_counted, with_state, woken_among, woken_threads}
 use Rattle.written_kernel.proofs.CallLists.{HaveSameLive, IsOfLiveCalls, client_is_live, collect_call-live, enter_call-live, fail_call-live, give_call-live, given_as_is_live, left_calls-live, live_calls-live, objects-live, open_call-live, queued_call_is_live, queued_in_is_live, ready_as_is_live, return_call-live, served_is_live}
 use Rattle.kernel_records.proofs.Lists.{Extends, map-same}
 use Rattle.written_kernel.proofs.NoticeLists.{HaveSameKept, IsOfPresentNotices, KeepsMany, end_notice-kept, enter_notice-kept, give_notice-kept, given_notice_is_present, has_notice-kept, keeps_many_same, kept_notices-kept, kept_notices-later, left_notices-kept, make_notice-kept, present_is_kept, waiting_is_present}
@@ -611,7 +611,7 @@ fire-forget m = forget-forget (fired (holdings (forget m))) ∙ ap (λ os. forge
         })
 
 tell-forget : Absorbs tell
-tell-forget m = fire-forget (end_lost m)
+tell-forget m = fire-forget (end_timers (end_lost m))
 
 settle_pools-forget : (before a b : State) → AreAlike a b → AreAlike (settle_pools (forget before) a) (settle_pools before b)
 settle_pools-forget before a b e =

@@ -11,7 +11,7 @@ use Rattle.kernel_records.specs.declared.record.ThreadState.TheVariants as is
 use Rattle.std.proofs.lemmas.Bool.Decides.{nat_tests}
 use Rattle.kernel_records.specs.declared.record.CallStage.TheVariants as stage
 use Rattle.kernel_records.specs.declared.record.NoticeStage.TheVariants as notice
-use Rattle.kernel_records.specs.Words.{descriptor, alert_port, fitting, free_place, is_given_stage, is_ready_for, make_pipe, make_port, oldest, read_pipe, send_event, write_pipe, is_given_to, tid, Leaving, door_attached, interruption, is_given_as, is_given_notice_as, is_last, thread_end, with_name, with_row, without_name}
+use Rattle.kernel_records.specs.Words.{descriptor, alert_port, fitting, free_id, free_place, is_given_stage, is_ready_for, make_pipe, make_port, oldest, read_pipe, send_event, write_pipe, is_given_to, tid, Leaving, door_attached, interruption, is_given_as, is_given_notice_as, is_last, thread_end, with_name, with_row, without_name}
 use Rattle.kernel_records.proofs.NumberedLists.{find-passes}
 use Rattle.dk_base.specs.ByNumber.{with_at_number}
 use Rattle.written_kernel.specs.Acts.{ActResult, unless_refused}
@@ -23,8 +23,9 @@ use Rattle.written_kernel.specs.Leaving.{test_cancel, exit, fork, kill, leave, l
 use Rattle.written_kernel.specs.Pipes.{held_in, pipe_at, table_with_reader}
 use Rattle.dk_base.specs.declared.set.PollSet.{PollSet}
 use Rattle.written_kernel.specs.Associations.{associated, dissociated, key_at, watched}
+use Rattle.written_kernel.specs.Timers.{clock_advanced, timer_created, timer_deleted, timer_set}
 use Rattle.written_kernel.specs.Ports.{after_sending_each, end_getting, errors_of_sending, found_answer, get, get_from, get_many, has_port_references, port, port_at, retrieve, take_found, tell_queued, wait_for}
-use Rattle.written_kernel.specs.State.{Channels, State, find_call, find_notice, has_invalid_door, is_live_process, name_of, object_at, process_of, state_of, table_of, with_state, with_table_of}
+use Rattle.written_kernel.specs.State.{Channels, State, find_call, find_notice, has_invalid_door, is_live_process, name_of, object_at, process_of, state_of, table_of, timers_in, with_state, with_table_of}
 use Rattle.written_kernel.specs.Step.{act, effect, enter, go_on, refusal_of}
 
 -- an act that leaves this state and answers this
@@ -48,6 +49,7 @@ pub data IsSaid (m : State) (t : ℕ) : Option Request → Answer → Type 0 whe
   tells_queued :
       (fd : Fd) (max nget : ℕ) (wait : Bool) → IsFree m t (request.GetN fd max nget wait) → (max == 0) ≡ true →
       IsSaid m t (Some (request.GetN fd max nget wait)) (tell_queued m (port_at m (process_of m t) fd)).answer
+  replies : (line : List ℕ) → IsSaid m t (Some (request.Ncd line)) (answer.Data [])
   is_done : {q : Option Request} → IsSaid m t q answer.Done
 
 -- what comes into which row of the table of the thread's process, and what the thread is told
@@ -100,7 +102,7 @@ pub data IsTurn (m : State) (t : ℕ) : Option Request → ThreadState → Answe
       (q max nget : ℕ) (one : Bool) → state_of m t ≡ is.Getting q max nget one false → has_port_references m q ≡ false →
       IsTurn m t None is.Running (answer.Failure EBADF)
 
--- how the bytes of a pipe, the events of ports or the associations change by an entry, and what the thread is told
+-- how the bytes of a pipe, the events of ports, the associations or the timers change by an entry, and what the thread is told
 pub data IsPassing (m : State) (t : ℕ) : Request → Channels → Answer → Type 0 where
   writes :
       (fd : Fd) (bytes : List ℕ) → IsFree m t (request.Write fd bytes) →
@@ -141,6 +143,18 @@ pub data IsPassing (m : State) (t : ℕ) : Request → Channels → Answer → T
   dissociates :
       (port object : Fd) → IsFree m t (request.Dissociate port object) →
       IsPassing m t (request.Dissociate port object) (dissociated m.channels (key_at m (process_of m t) port object)) answer.Done
+  creates_timer :
+      (port : Fd) (user : ℕ) → IsFree m t (request.TimerCreate port user) →
+      IsPassing m t (request.TimerCreate port user)
+      (timer_created m.channels (process_of m t) (port_at m (process_of m t) port) user)
+      (answer.Count (free_id (timers_in m) (process_of m t)))
+  sets_timer :
+      (timer first interval : ℕ) → IsFree m t (request.TimerSet timer first interval) →
+      IsPassing m t (request.TimerSet timer first interval) (timer_set m.channels (process_of m t) timer first interval) answer.Done
+  deletes_timer :
+      (timer : ℕ) → IsFree m t (request.TimerDelete timer) →
+      IsPassing m t (request.TimerDelete timer) (timer_deleted m.channels (process_of m t) timer) answer.Done
+  advances : (by : ℕ) → IsPassing m t (request.Advance by) (clock_advanced m.channels by) answer.Done
 
 -- which pipe or port is made, which objects get descriptors, and what the thread is told
 pub data IsMaking (m : State) (t : ℕ) : Request → Channels → List Obj → Answer → Type 0 where
@@ -349,6 +363,11 @@ module _ (m : State) (t : ℕ) where
   effect_moves (request.Alert fd mode events user) f = passes _ _ _ (alerts fd mode events user f)
   effect_moves (request.Associate port object events user) f = passes _ _ _ (associates port object events user f)
   effect_moves (request.Dissociate port object) f = passes _ _ _ (dissociates port object f)
+  effect_moves (request.TimerCreate port user) f = passes _ _ _ (creates_timer port user f)
+  effect_moves (request.TimerSet timer first interval) f = passes _ _ _ (sets_timer timer first interval f)
+  effect_moves (request.TimerDelete timer) f = passes _ _ _ (deletes_timer timer f)
+  effect_moves (request.Advance by) f = passes _ _ _ (advances by)
+  effect_moves (request.Ncd line) f = nothing _ (replies line)
   effect_moves (request.Work op bytes) f = turns _ _ refl (starts_work op bytes)
 
   enter_moves : (r : Request) → Moves m t (Some r) (enter m t (process_of m t) r)

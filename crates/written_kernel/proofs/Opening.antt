@@ -8,7 +8,7 @@ use Rattle.dk_base.specs.declared.limits.TheConstants.{THREADS_MAX}
 use Rattle.written_kernel.specs.Types.{Fd, Obj, Pid, Process, Thread}
 use Rattle.kernel_records.specs.declared.record.ProcessStage.TheVariants.{Live, Unborn}
 use Rattle.kernel_records.specs.declared.record.ThreadState.TheVariants as is
-use Rattle.kernel_records.specs.Words.{CallTree, NoticeList, ProcessTable, bound_at, bound_in, change_process_in, child_of, empty_table, invocation_in, is_unborn_in, items_in_order, kept_notices, live_calls, make_child, new_process, new_thread_where, no_associations, object_in, object_named, opening_state, parent_in, pid, process_in, state_in, table_in}
+use Rattle.kernel_records.specs.Words.{CallTree, NoticeList, ProcessTable, bound_at, bound_in, change_process_in, child_of, empty_table, invocation_in, is_unborn_in, items_in_order, kept_notices, live_calls, make_child, new_process, new_thread_where, no_associations, no_timers, object_in, object_named, opening_state, parent_in, pid, process_in, state_in, table_in}
 use Rattle.written_kernel.specs.State.{State, bound_of, invocation_of, is_unborn_process, object_at, parent_of, process_of, state_of, table_of, thread_of, waiting_items}
 use Rattle.written_kernel.specs.Kept.{forget}
 use Rattle.written_kernel.specs.Opening.{IsOpening, is_thread_of, no_process, opening, with_child, with_new_process, with_new_thread, with_processes}
@@ -45,7 +45,7 @@ pub record IsOpened (m : State) : Type 0 where
   pub doors : m.doors ≡ []
   pub call_tree : m.call_tree ≡ record { made = 0; calls = [] }
   pub notice_list : m.notice_list ≡ record { made = 0; notices = [] }
-  pub channels : m.channels ≡ record { pipes = []; ports = []; associations = no_associations }
+  pub channels : m.channels ≡ record { pipes = []; ports = []; associations = no_associations; timers = no_timers }
   pub events : m.events ≡ 0
 
 -- how many there are

@@ -13,7 +13,7 @@ use Rattle.written_kernel.specs.State.{State, door_of, now, pick, pool_of, proce
 use Rattle.written_kernel.specs.Settle.{fail_each, fail_one, fail_return, fail_returns, give, give_and_start, give_each, give_one, give_to, has_lost_door, needs_spare, settle, settle_pools, start_each, start_one, start_spares}
 use Rattle.written_kernel.specs.Telling.{tell}
 use Rattle.kernel_records.proofs.Lists.{at_number-suc, same_length}
-use Rattle.written_kernel.proofs.Threads.{map-change_thread, thread_at-change_thread}
+use Rattle.written_kernel.proofs.Threads.{map-change_thread, processes-change_thread, thread_at-change_thread}
 
 -- the spare that starts is Dormant
 
@@ -231,6 +231,24 @@ settle_pools-alone before m =
 
     starts : KeptByStarting (λ n. n ≡ with_settled m n)
     starts n t d e = changed n (with_state n t is.Running) e refl
+
+-- nor does it change processes
+pub processes-settle_pools : (before m : State) → (settle_pools before m).process_table.processes ≡ m.process_table.processes
+processes-settle_pools before m =
+    settle_pools-all (λ n. n.process_table.processes ≡ m.process_table.processes) before (record { makes = λ n d due e. e; fails = fails; gives = gives; starts = starts }) m refl
+  where
+    fails : KeptByFailing (λ n. n.process_table.processes ≡ m.process_table.processes)
+    fails n t l e = processes-change_thread n.process_table t (thread_at_state is.FailedReturn) ∙ e
+
+    given : (n : State) (i : Item) (u : ℕ) → (give_one n i u).process_table.processes ≡ n.process_table.processes
+    given n (item.Call c) u = processes-change_thread n.process_table u (thread_at_state (is.Given (item.Call c)))
+    given n (item.Notice k) u = processes-change_thread n.process_table u (thread_at_state (is.Given (item.Notice k)))
+
+    gives : KeptByGiving (λ n. n.process_table.processes ≡ m.process_table.processes)
+    gives n w x p e = given n w.item x.thread.0 ∙ e
+
+    starts : KeptByStarting (λ n. n.process_table.processes ≡ m.process_table.processes)
+    starts n t d e = processes-change_thread n.process_table t (thread_at_state is.Running) ∙ e
 
 pub doors-settle : (before m : State) → (settle before m).doors ≡ m.doors
 doors-settle before m = ap (λ (n : State). n.doors) (settle_pools-alone before m)

@@ -2,7 +2,7 @@
 use Rattle.std.specs.Prelude.{ℕ, ◌≡◌, ◌≤◌, ◌<◌, Option, Some, None, true, false, length}
 use Rattle.written_kernel.specs.Types.{Request}
 use Rattle.dk_base.specs.declared.request.Request.TheVariants as request
-use Rattle.dk_base.specs.declared.limits.TheConstants.{DATA_MAX, ANSWER_ITEMS_MAX, EVENTS_MAX}
+use Rattle.dk_base.specs.declared.limits.TheConstants.{ADVANCE_MAX, ANSWER_ITEMS_MAX, CLOCK_MAX, DATA_MAX, DELAY_MAX, EVENTS_MAX}
 use Rattle.kernel_records.specs.Words.{pid}
 use Rattle.written_kernel.specs.State.{State, parent_of, process_of}
 use Rattle.written_kernel.specs.Turns.{is_runnable, is_running}
@@ -15,6 +15,9 @@ IsFit m t (request.Kill process) = (1 ≤ process.0) × (process.0 ≤ length m.
 IsFit m t (request.Fork child) = parent_of m child.0 ≡ Some (pid (process_of m t))
 IsFit m t (request.Read fd max) = (1 ≤ max) × (max ≤ DATA_MAX)
 IsFit m t (request.GetN port max nget wait) = max ≤ ANSWER_ITEMS_MAX
+IsFit m t (request.TimerSet timer first interval) = (first ≤ DELAY_MAX) × (interval ≤ DELAY_MAX)
+-- by a step that is not too long, from a clock that is not too late
+IsFit m t (request.Advance by) = (1 ≤ by) × (by ≤ ADVANCE_MAX) × (m.channels.timers.clock ≤ CLOCK_MAX)
 IsFit m t _ = Unit {0}
 
 pub record MayEnter (m : State) (t : ℕ) (r : Request) : Type 0 where

@@ -12,6 +12,7 @@ pub mod Leaving
 pub mod Pipes
 pub mod Ports
 pub mod Associations
+pub mod Timers
 pub mod Turns
 pub mod Notices
 pub mod Tasks
@@ -22,4 +23,5 @@ pub mod Kept
 pub mod Opening
 pub mod Legal
 pub mod Runs
+pub mod CacheReplies
 pub mod Words

@@ -2,7 +2,7 @@
 use Rattle.std.specs.Prelude.{ℕ, ◌≡◌, ◌+◌, ◌<◌, ◌≤◌, ◌++◌, ◌==◌, List, [], ◌∷◌, Bool, false, None, length, replicate}
 use Rattle.std.specs.List.{list_any}
 use Rattle.dk_base.specs.declared.limits.TheConstants.{THREADS_MAX}
-use Rattle.kernel_records.specs.Words.{no_associations}
+use Rattle.kernel_records.specs.Words.{no_associations, no_timers}
 use Rattle.kernel_records.specs.Words.{empty_table, make_child, new_process, new_thread_where}
 use Rattle.written_kernel.specs.Types.{Thread}
 use Rattle.written_kernel.specs.State.{State, is_unborn_process, table_of}
@@ -17,7 +17,7 @@ no_process =
       doors = [];
       call_tree = record { made = 0; calls = [] };
       notice_list = record { made = 0; notices = [] };
-      channels = record { pipes = []; ports = []; associations = no_associations };
+      channels = record { pipes = []; ports = []; associations = no_associations; timers = no_timers };
       events = 0;
     }
 

@@ -1,6 +1,6 @@
 -- What follows each act, from the states before and after it. There are five rules, in this order: unreferenced notices are
 -- made; idle threads whose door is not valid wake with EINVAL, and then what waits is given to the others; spare threads start;
--- associations whose row is closed end; and those whose pipe got ready fire.
+-- associations whose row is closed end, and timers whose process has ended; and associations whose pipe got ready fire.
 use Rattle.std.specs.Prelude.{ℕ, ◌&&◌, ◌||◌, List, [], ◌∷◌, Option, Bool, false, true, if◌then◌else◌, not, Some, None, is_none, is_some, length, suc, zero}
 use Rattle.written_kernel.specs.Types.{Item, Parked, Waiting}
 use Rattle.dk_base.specs.declared.object.Item.TheVariants as item

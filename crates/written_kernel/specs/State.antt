@@ -3,15 +3,17 @@
 use Rattle.std.specs.Prelude.{ℕ, ◌+◌, List, Option, Bool, false, not, Some, None, find}
 use Rattle.dk_base.specs.ByNumber.{at_number}
 use Rattle.written_kernel.specs.Types.{Call, Door, Fd, Inv, Name, Notice, Obj, Parked, PathId, Pid, Pool, Thread, ThreadState, Waiting}
-use Rattle.kernel_records.specs.Words.{AssociationList}
+use Rattle.kernel_records.specs.declared.timer.Timer.{Timer}
+use Rattle.kernel_records.specs.Words.{AssociationList, TimerList}
 use Rattle.kernel_records.specs.Words.{CallTree, NoticeList, Pipe, Port, ProcessTable, bound_at, invocation_in, is_client_call_of, is_live_in, is_unborn_in, name_in, object_named, parent_in, pick_parked, pool_in, process_in, queue_length, state_in, table_in, thread_at, set_thread_state, is_valid_in, items_in_order, with_table}
 
--- What carries bytes or events from one thread to another and is no door, numbered from 1 by its place; and which ports are told of
--- which objects.
+-- What carries bytes or events from one thread to another and is no door, numbered from 1 by its place; which ports are told of which
+-- objects; and the clock, with the timers that tell ports of it.
 pub record Channels : Type 0 where
   pub pipes : List Pipe
   pub ports : List Port
   pub associations : AssociationList
+  pub timers : TimerList
 
 -- Processes, threads and doors are numbered from 1 by their places; a process's table and a thread's binding stand at the same
 -- places as they do; there is a place for the binding of each thread that there can be.
@@ -132,7 +134,7 @@ waiting_items m = items_in_order m.call_tree.calls m.notice_list.notices
 abbrev pub calls_waiting : State → Pool → ℕ
 calls_waiting m pool = queue_length m.doors m.call_tree.calls pool
 
--- pipes, ports and associations
+-- pipes, ports, associations and timers
 
 abbrev pub with_channels : State → Channels → State
 with_channels m channels = record m { channels = channels }
@@ -142,3 +144,7 @@ with_pipes m pipes = record m { channels = record m.channels { pipes = pipes } }
 
 abbrev pub with_ports : State → List Port → State
 with_ports m ports = record m { channels = record m.channels { ports = ports } }
+
+-- those that have not ended, in order of number
+abbrev pub timers_in : State → List Timer
+timers_in m = m.channels.timers.timers

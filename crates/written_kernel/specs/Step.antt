@@ -18,6 +18,7 @@ use Rattle.written_kernel.specs.Leaving.{effect_of_leaving, tests_of_leaving, wa
 use Rattle.written_kernel.specs.Pipes.{effect_of_pipes, tests_of_pipes}
 use Rattle.written_kernel.specs.Ports.{effect_of_ports, end_getting, tests_of_ports}
 use Rattle.written_kernel.specs.Associations.{effect_of_associations, tests_of_associations}
+use Rattle.written_kernel.specs.Timers.{effect_of_timers, tests_of_timers}
 use Rattle.written_kernel.specs.Tasks.{effect_of_tasks, end_work, tests_of_tasks}
 use Rattle.written_kernel.specs.Settle.{settle}
 use Rattle.written_kernel.specs.Turns.{woken_threads}
@@ -34,6 +35,7 @@ tests_about Subject.leaving m t p r = tests_of_leaving m t p r
 tests_about Subject.pipes m t p r = tests_of_pipes m t p r
 tests_about Subject.ports m t p r = tests_of_ports m t p r
 tests_about Subject.associations m t p r = tests_of_associations m t p r
+tests_about Subject.timers m t p r = tests_of_timers m t p r
 tests_about Subject.tasks m t p r = tests_of_tasks m t p r
 
 abbrev pub tests_of : State → ℕ → ℕ → Request → List Test
@@ -54,6 +56,7 @@ effect_about Subject.leaving m t p r = effect_of_leaving m t p r
 effect_about Subject.pipes m t p r = effect_of_pipes m t p r
 effect_about Subject.ports m t p r = effect_of_ports m t p r
 effect_about Subject.associations m t p r = effect_of_associations m t p r
+effect_about Subject.timers m t p r = effect_of_timers m t p r
 effect_about Subject.tasks m t p r = effect_of_tasks m t p r
 
 abbrev pub effect : State → ℕ → ℕ → Request → ActResult
@@ -128,11 +131,16 @@ what_of_entry (request.GetN port max nget wait) = what.GetN
 what_of_entry (request.Send port events user) = what.Send
 what_of_entry (request.SendN ports events user) = what.SendN
 what_of_entry (request.Alert port mode events user) = what.Alert
+what_of_entry (request.TimerCreate port user) = what.TimerCreate
+what_of_entry (request.TimerSet timer first interval) = what.TimerSet
+what_of_entry (request.TimerDelete timer) = what.TimerDelete
+what_of_entry (request.Advance by) = what.Advance
 what_of_entry (request.Interrupt thread) = what.Interrupt
 what_of_entry (request.Kill process) = what.Kill
 what_of_entry request.Exit = what.Exit
 what_of_entry (request.Fork child) = what.Fork
 what_of_entry (request.Work op bytes) = what.Work
+what_of_entry (request.Ncd line) = what.Ncd
 
 abbrev pub what_of_wait : ThreadState → What
 what_of_wait (is.Given item) = what.Accept

@@ -11,6 +11,7 @@ pub data Subject : Type 0 where
   pipes : Subject
   ports : Subject
   associations : Subject
+  timers : Subject
   tasks : Subject
 
 abbrev pub subject_of : Request → Subject
@@ -47,4 +48,9 @@ subject_of (request.SendN fds events user) = Subject.ports
 subject_of (request.Alert port mode events user) = Subject.ports
 subject_of (request.Associate port object events user) = Subject.associations
 subject_of (request.Dissociate port object) = Subject.associations
+subject_of (request.TimerCreate port user) = Subject.timers
+subject_of (request.TimerSet timer first interval) = Subject.timers
+subject_of (request.TimerDelete timer) = Subject.timers
+subject_of (request.Advance by) = Subject.timers
 subject_of (request.Work op bytes) = Subject.tasks
+subject_of (request.Ncd line) = Subject.tasks

@@ -1,12 +1,13 @@
 -- What ports are told after an act: first associations end whose descriptor names their object no more, in whatever way its row was
--- closed; then those that are armed fire, in order, where their object is ready for what they ask, or for err or hup. All of them
--- are looked at after each event.
+-- closed, and timers whose process lives no more, in whatever way it ended; then associations that are armed fire, in order, where their
+-- object is ready for what they ask, or for err or hup. All of them are looked at after each event.
 use Rattle.std.specs.Prelude.{List}
 use Rattle.dk_base.specs.declared.set.PollSet.{PollSet}
 use Rattle.written_kernel.specs.Types.{Obj}
 use Rattle.kernel_records.specs.declared.association.Association.{Association}
-use Rattle.kernel_records.specs.Words.{all_fired, associations_that_lost, end_closed, fire_all, post_fired, ready_object, withdraw_events}
-use Rattle.written_kernel.specs.State.{State, with_channels}
+use Rattle.kernel_records.specs.declared.timer.Timer.{Timer}
+use Rattle.kernel_records.specs.Words.{all_fired, associations_that_lost, end_closed, end_timers_of_ended, fire_all, post_fired, ready_object, timers_of_ended, withdraw_events, withdraw_timers}
+use Rattle.written_kernel.specs.State.{State, is_live_process, timers_in, with_channels}
 use Rattle.written_kernel.specs.References.{references_of}
 
 -- those that have not ended, in order of number
@@ -28,6 +29,17 @@ end_lost m =
       associations = end_closed m.tables m.channels.associations;
     })
 
+abbrev pub lost_timers : State → List Timer
+lost_timers m = timers_of_ended (is_live_process m) (timers_in m)
+
+abbrev pub end_timers : State → State
+end_timers m =
+    with_channels m
+    (record m.channels {
+      ports = withdraw_timers m.channels.ports (lost_timers m);
+      timers = end_timers_of_ended (is_live_process m) m.channels.timers;
+    })
+
 abbrev pub fire : State → State
 fire m =
     with_channels m
@@ -37,4 +49,4 @@ fire m =
     })
 
 abbrev pub tell : State → State
-tell m = fire (end_lost m)
+tell m = fire (end_timers (end_lost m))
