@@ -12,7 +12,7 @@ use Rattle.kernel_records.specs.Words.{AssociationList, associations_of, bytes_o
 use Rattle.written_kernel.specs.Words.{ActResult, Channels, State, act, associations_in, held_in, key_at, object_at, pipe_at, port_at, port_tests, process_of, settle_pools, watched}
 use Rattle.written_kernel.proofs.Moves.{IsMaking, IsPassing, Moves, act_moves}
 use Rattle.written_kernel.proofs.Refusals.{not_held}
-use Rattle.written_kernel.proofs.Settling.{channels-settle_pools, settle_pools-alone}
+use Rattle.written_kernel.proofs.Settling.{channels-settle_pools, processes-settle_pools, settle_pools-alone}
 use Rattle.act_changes.proofs.Rows.{IsRowAfter}
 use Rattle.act_changes.specs.Closed.{closes}
 use Rattle.act_changes.specs.Changed.{Changes, IsAfterAct, IsMade, Stands, UnbornHaveNoRows, readied, touched_pipe}
@@ -115,11 +115,12 @@ changes m t q n u h =
     }
 
 pub act_is_after : (m : State) (t : ℕ) (q : Option Request) → IsAfterAct m t q (act m t q).state
-act_is_after m t q = record { tables = refl; channels = refl }
+act_is_after m t q = record { processes = refl; tables = refl; channels = refl }
 
 pub pools_are_after : (m : State) (t : ℕ) (q : Option Request) → IsAfterAct m t q (settle_pools m (act m t q).state)
 pools_are_after m t q =
     record {
+      processes = processes-settle_pools m (act m t q).state;
       tables = ap (λ (n : State). n.tables) (settle_pools-alone m (act m t q).state);
       channels = channels-settle_pools m (act m t q).state;
     }

@@ -8,22 +8,23 @@ use Rattle.kernel_records.specs.declared.association.Association.{Association}
 use Rattle.kernel_records.specs.Words.{is_live_in, is_object, is_to_fire, is_unborn_in}
 use Rattle.written_kernel.specs.Words.{State, associations_in, forget, ready_at, references_of, settle_pools}
 use Rattle.written_kernel.proofs.Forget.{references_of-forget}
-use Rattle.written_kernel.proofs.Settling.{channels-settle_pools, settle_pools-alone}
+use Rattle.written_kernel.proofs.Settling.{channels-settle_pools, processes-settle_pools, settle_pools-alone}
 use Rattle.dk_base.specs.ByNumber.{at_number}
 use Rattle.kernel_invariant.specs.Invariant.{IsConsistent}
 use Rattle.kernel_invariant.specs.Told.{AreTold}
 use Rattle.kernel_invariant.proofs.NoticeSteps.{holdings-settle}
-use Rattle.act_changes.specs.Changed.{IsAfterAct, UnbornHaveNoRows, is_gone}
+use Rattle.act_changes.specs.Changed.{IsAfterAct, OnlyLiveHaveRows, UnbornHaveNoRows, is_gone}
 use Rattle.act_changes.specs.Ends.{other_end}
 use Rattle.act_changes.proofs.Ready.{fires_alike}
 
 pub forgotten_is_after : (m : State) (t : ℕ) (q : Option Request) (n : State) → IsAfterAct m t q n → IsAfterAct m t q (forget n)
-forgotten_is_after m t q n h = record { tables = h.tables; channels = h.channels }
+forgotten_is_after m t q n h = record { processes = h.processes; tables = h.tables; channels = h.channels }
 
 pub settled_is_after :
     (m : State) (t : ℕ) (q : Option Request) (before n : State) → IsAfterAct m t q n → IsAfterAct m t q (settle_pools before n)
 settled_is_after m t q before n h =
     record {
+      processes = processes-settle_pools before n ∙ h.processes;
       tables = ap (λ (k : State). k.tables) (settle_pools-alone before n) ∙ h.tables;
       channels = channels-settle_pools before n ∙ h.channels;
     }
@@ -49,6 +50,7 @@ told-forget m h =
       wait =
           All-weaker (λ a. is_to_fire (ready_at m) a ≡ false) (λ a. is_to_fire (ready_at (forget m)) a ≡ false) (λ a e. fires-forget m a ∙ e)
           (associations_in m) h.wait;
+      timers = h.timers;
     }
 
 pub told-kept : (m : State) → AreTold (forget m) → AreTold m
@@ -58,9 +60,14 @@ told-kept m h =
       wait =
           All-weaker (λ a. is_to_fire (ready_at (forget m)) a ≡ false) (λ a. is_to_fire (ready_at m) a ≡ false)
           (λ a e. sym (fires-forget m a) ∙ e) (associations_in m) h.wait;
+      timers = h.timers;
     }
 
--- in every state of a run no process that has not begun has a row
+-- in every state of a run only a process that lives has rows
+pub only_live_have_rows : (m : State) → IsConsistent m → OnlyLiveHaveRows m
+only_live_have_rows m h = h.no_rows
+
+-- so no process that has not begun has one
 pub unborn_have_none : (m : State) → IsConsistent m → UnbornHaveNoRows m
 unborn_have_none m h p fd e = h.no_rows p fd (not_live (at_number m.process_table.processes p) e)
   where

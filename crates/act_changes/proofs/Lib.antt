@@ -5,6 +5,7 @@ pub mod Withdrawn
 pub mod Closed
 pub mod Changed
 pub mod Ended
+pub mod Timers
 pub mod Told
 pub mod Kept
 pub mod Listed

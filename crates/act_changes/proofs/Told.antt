@@ -24,6 +24,7 @@ use Rattle.act_changes.specs.Told.{LeavesToTell}
 use Rattle.act_changes.proofs.Changed.{act_all, changes, row_after, stand}
 use Rattle.act_changes.proofs.Ended.{always, closes_is, closing_ends, is_ending, never}
 use Rattle.act_changes.proofs.Ready.{fires_since}
+use Rattle.act_changes.proofs.Timers.{timers_end}
 use Rattle.act_changes.proofs.Withdrawn.{filter-same}
 
 is_itself : (o : Obj) → is_object o o ≡ true
@@ -270,6 +271,7 @@ module _ (m : State) (t : ℕ) (q : Option Request) (n : State) (u : UnbornHaveN
         lost = lost;
         ended = ended;
         ended_empty = ended_empty;
+        timers = timers_end m t q n k told;
         fires = fires;
         watch = watch;
       }

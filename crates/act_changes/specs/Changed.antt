@@ -9,7 +9,7 @@ use Rattle.dk_base.specs.declared.request.Request.TheVariants as request
 use Rattle.dk_base.specs.declared.set.PollSet.{PollSet}
 use Rattle.kernel_records.specs.declared.association.Association.{Association}
 use Rattle.kernel_records.specs.Words.{is_number, is_object, is_this_object, new_association}
-use Rattle.written_kernel.specs.Words.{State, act, associations_in, held_in, is_unborn_process, key_at, object_at, pipe_at, process_of, references_of, refusal_of}
+use Rattle.written_kernel.specs.Words.{State, act, associations_in, held_in, is_live_process, is_unborn_process, key_at, object_at, pipe_at, process_of, references_of, refusal_of}
 use Rattle.act_changes.specs.Closed.{closes}
 use Rattle.act_changes.specs.Ends.{HasNoMore, is_end, other_end}
 
@@ -55,8 +55,13 @@ ListsGone before after gone = (o : Obj) → is_end o ≡ true → is_gone before
 abbrev pub UnbornHaveNoRows : State → Type 0
 UnbornHaveNoRows m = (p : ℕ) (fd : Fd) → is_unborn_process m p ≡ true → object_at m p fd ≡ None
 
--- a state with the tables and the channels that an act leaves, as it is until ports are told
+-- only a process that lives has rows
+abbrev pub OnlyLiveHaveRows : State → Type 0
+OnlyLiveHaveRows m = (p : ℕ) (fd : Fd) → is_live_process m p ≡ false → object_at m p fd ≡ None
+
+-- a state with the processes, the tables and the channels that an act leaves, as it is until ports are told
 pub record IsAfterAct (m : State) (t : ℕ) (q : Option Request) (n : State) : Type 0 where
+  pub processes : n.process_table.processes ≡ (act m t q).state.process_table.processes
   pub tables : n.tables ≡ (act m t q).state.tables
   pub channels : n.channels ≡ (act m t q).state.channels
 

@@ -1,7 +1,7 @@
--- Associations end by the rows that a turn closes, row by row: what they queued is withdrawn.
+-- Associations end by the rows that a turn closes, row by row, and timers with their process: what they queued is withdrawn.
 use Rattle.std.specs.Prelude.{ℕ, List, [], ◌∷◌, Option, Bool, if◌then◌else◌, filter, is_none}
 use Rattle.written_kernel.specs.Types.{Fd, Request}
-use Rattle.kernel_records.specs.Words.{associations_of_process, associations_of_row, end_process_associations, end_row, withdraw_events}
+use Rattle.kernel_records.specs.Words.{associations_of_process, associations_of_row, end_process_associations, end_process_timers, end_row, timers_of, withdraw_events, withdraw_timers}
 use Rattle.written_kernel.specs.Words.{Channels, State, object_at}
 use Rattle.act_changes.specs.Closed.{Closing, closed_rows, is_acting}
 
@@ -43,3 +43,14 @@ abbrev pub ended_by : Channels → Closing → Channels
 ended_by c Closing.nothing = c
 ended_by c (Closing.rows p fds) = rows_ended c p fds
 ended_by c (Closing.process p) = process_ended c p
+
+-- the timers of a process end with it
+
+abbrev pub timers_of_process_ended : Channels → ℕ → Channels
+timers_of_process_ended c p =
+    record c { ports = withdraw_timers c.ports (timers_of c.timers.timers p); timers = end_process_timers c.timers p }
+
+abbrev pub timers_ended : Channels → Closing → Channels
+timers_ended c Closing.nothing = c
+timers_ended c (Closing.rows p fds) = c
+timers_ended c (Closing.process p) = timers_of_process_ended c p

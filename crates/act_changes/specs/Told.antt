@@ -3,10 +3,10 @@ use Rattle.std.specs.Prelude.{ℕ, ◌≡◌, List, Option, true, All}
 use Rattle.std.specs.List.{list_any}
 use Rattle.written_kernel.specs.Types.{Obj, Request}
 use Rattle.kernel_records.specs.Words.{has_lost_its_row, is_to_fire, watches}
-use Rattle.written_kernel.specs.Words.{State, associations_in, end_lost, ready_at, with_channels}
+use Rattle.written_kernel.specs.Words.{State, associations_in, end_lost, end_timers, ready_at, with_channels}
 use Rattle.act_changes.specs.Closed.{closed_rows, closes}
-use Rattle.act_changes.specs.Changed.{ListsGone, Stands, changed_objects, is_changed}
-use Rattle.act_changes.specs.Ended.{closing, empty_rows, ended_by}
+use Rattle.act_changes.specs.Changed.{ListsGone, OnlyLiveHaveRows, Stands, changed_objects, is_changed}
+use Rattle.act_changes.specs.Ended.{closing, empty_rows, ended_by, timers_ended}
 
 pub record LeavesToTell (m : State) (t : ℕ) (q : Option Request) (n : State) : Type 0 where
   -- an association stood before the act, or is made by it
@@ -16,6 +16,8 @@ pub record LeavesToTell (m : State) (t : ℕ) (q : Option Request) (n : State) :
   -- so those of the closed rows end, and no other; the closed rows are told by the refusal, or by what rows name after the act
   pub ended : end_lost n ≡ with_channels n (ended_by n.channels (closing m t q))
   pub ended_empty : end_lost n ≡ with_channels n (ended_by n.channels (empty_rows n (closed_rows m t q)))
+  -- the timers end whose process ended, and no other, where only processes that live had rows
+  pub timers : OnlyLiveHaveRows m → end_timers (end_lost n) ≡ with_channels n (timers_ended (end_lost n).channels (closed_rows m t q))
   -- one that is to fire watches what has changed
   pub fires : All (λ a. is_to_fire (ready_at n) a ≡ true → is_changed m t q n a.object ≡ true) (associations_in n)
   -- so, of those that have not ended, it watches one of these objects

@@ -21,7 +21,7 @@ pub fn every_act()
 {}
 
 /// Where ports were told before an act, and no process that has not begun has a row, the associations of the rows that it closes end, and
-/// no other; and what fires watches an object that has changed.
+/// no other; so do the timers of the process that ends; and what fires watches an object that has changed.
 pub fn every_telling()
     ensures { (m : State) (t : ℕ) (q : Option Request) (n : State) → UnbornHaveNoRows m → IsAfterAct m t q n → AreTold m → LeavesToTell m t q n }
 {}

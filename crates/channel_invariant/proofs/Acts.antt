@@ -3,16 +3,16 @@ use Rattle.std.proofs.Common.{◌∙◌, ◌≡◌, ℕ, ◌+◌, ◌≤◌, Lis
 use Rattle.std.specs.Prelude.{All}
 use Rattle.std.proofs.lemmas.List.{length-append, length-map}
 use Rattle.std.proofs.lemmas.List.Elements.{All-cons, All-filter, All-nil, All-push}
-use Rattle.dk_base.specs.declared.error.Errno.TheVariants.{EBADF, EBADFD, EBUSY, EINVAL, EMFILE, ENOENT}
+use Rattle.dk_base.specs.declared.error.Errno.TheVariants.{EAGAIN, EBADF, EBADFD, EBUSY, EINVAL, EMFILE, ENOENT}
 use Rattle.dk_base.specs.declared.object.Item.TheVariants as item
 use Rattle.dk_base.specs.declared.object.Obj.TheVariants as obj
 use Rattle.kernel_records.specs.declared.association.Association.{Association}
 use Rattle.kernel_records.specs.declared.record.CallStage.TheVariants as stage
 use Rattle.kernel_records.specs.declared.record.ThreadState.TheVariants as is
-use Rattle.kernel_records.specs.Words.{Leaving, Pipe, Test, all_fired, associate_tests, associations_of, at_stage, change_first, door_attached, end_owner, events_found, first_refusal, forking, free_place, get_tests, getn_tests, has_key, has_lost_its_row, has_other_path, has_path, idle_thread, is_client_call_of, is_given_as, is_queued_as, is_to_collect_as, is_to_fire, lowest_free, names_its_object, new_door, new_pipe, new_port, objects_passed, port_of, process_end, refused_where, release_rows, return_call, revocation, thread_at_state, thread_in_invocation, thread_outside, tid, user_event, with_alert, with_door, with_event, with_row, with_table, without_arguments_at, without_found, without_oldest, written}
+use Rattle.kernel_records.specs.Words.{Leaving, Pipe, Port, Test, all_fired, associate_tests, at_stage, change_first, create_timer_tests, door_attached, end_owner, first_refusal, forking, free_place, get_tests, getn_tests, has_all_timers, has_key, has_lost_its_row, has_other_path, has_path, idle_thread, is_client_call_of, is_given_as, is_queued_as, is_to_collect_as, is_to_fire, lowest_free, names_its_object, new_door, new_pipe, new_port, objects_passed, process_end, refused_where, release_rows, return_call, revocation, thread_at_state, thread_in_invocation, thread_outside, tid, with_door, with_row, with_table, without_arguments_at}
 use Rattle.kernel_records.proofs.Lists.{Extends}
 use Rattle.written_kernel.specs.Types.{Answer, Attrs, Call, Door, Fd, Item, Name, Obj, Pass, PathId, Request, Thread, ThreadState}
-use Rattle.written_kernel.specs.Words.{ActResult, Channels, MayTurn, State, act, associations_in, create, door_at, door_named, end_lost, fail_return, find_call, fire, fork, give_one, has_room, is_door, is_port, key_at, leave, leave_process, lost_associations, name_of, now, object_at, objects_collected_in, pipe_at, port, port_at, port_named, port_tests, process_of, ready_at, revoke, settle, settle_pools, step, table_of, tables_after_collect, take_found, tables_with, tell, watched, with_state}
+use Rattle.written_kernel.specs.Words.{ActResult, Channels, MayTurn, State, act, associations_in, create, door_at, door_named, end_lost, end_timers, fail_return, find_call, fire, fork, give_one, has_room, is_door, is_live_process, is_port, key_at, leave, leave_process, lost_associations, lost_timers, name_of, now, object_at, objects_collected_in, port, port_at, port_named, port_tests, process_of, ready_at, revoke, settle, settle_pools, step, table_of, tables_after_collect, tables_with, tell, timer_of, timers_in, watched, with_state}
 use Rattle.written_kernel.proofs.Moves.{IsMaking, IsNaming, IsPassing, IsRow, IsTurn, Moves, act_moves}
 use Rattle.written_kernel.proofs.Refusals.{not_held}
 use Rattle.written_kernel.proofs.Settling.{channels-settle_pools, events-settle, pipes-settle, settle_pools-all}
@@ -21,9 +21,13 @@ use Rattle.written_kernel.proofs.Threads.{threads-begin_process, threads-end_pro
 use Rattle.channel_invariant.specs.Channels.{AreChannels, AreMadeIn, ArePipes, ArePorts, IsAmong, IsMadeObject, Made, ReferToMade, WaitsAtMade, made_in}
 use Rattle.channel_invariant.proofs.Bounds.{alert-ports, all_long, all_sent, fired-ports, length-change_at_number, make-pipes, make-ports, read-pipes, send-ports, take-ports, withdrawn-ports, write-pipes}
 use Rattle.channel_invariant.specs.Associations.{AreAssociations}
-use Rattle.channel_invariant.proofs.Associations.{alert_same, all_sent_same, associate_one, dissociate_one, end_some, fire_some, made_left, port_more, send_same, take_some}
+use Rattle.channel_invariant.specs.Timers.{AreTimers}
+use Rattle.channel_invariant.proofs.Associations.{alert_same, all_sent_same, associate_one, dissociate_one, end_some, fire_some, port_more, send_same, take_some}
 use Rattle.channel_invariant.proofs.Queues.{length-post_fired, length-withdraw_events}
 use Rattle.channel_invariant.proofs.Elements.{All-change_first, All-find}
+use Rattle.channel_invariant.proofs.Few.{MakesFew, move_few}
+use Rattle.channel_invariant.proofs.Timed.{TimedPorts, same_timers, timed-alert, timed-all_sent, timed-fired, timed-made, timed-send, timed-take, timed-withdraw_events}
+use Rattle.channel_invariant.proofs.Timers.{HoldChannels, advance_holds, advance_long, create_holds, delete_holds, end_holds, length-withdraw_timers, length-without_queued, set_holds}
 use Rattle.channel_invariant.proofs.References.{HoldsOfAll, IsMore, another_row, another_table, begun_waits, emptied_call, left_calls-made, left_waits, none_in, none_left, one_in, one_thread, passed, refer_to_more, released, several_rows, staged_call}
 
 -- what holds between an act and what follows it too
@@ -31,6 +35,7 @@ pub record Fits (m : State) : Type 0 where
   pub pipes : ArePipes m.channels.pipes
   pub ports : ArePorts m.channels.ports
   pub associations : AreAssociations m.channels.ports m.channels.associations
+  pub timers : AreTimers m.channels.ports m.channels.timers
   pub refers : ReferToMade (made_in m) m.tables m.names m.call_tree.calls m.process_table.threads
 
 -- what is there stays, and more doors may come
@@ -84,6 +89,7 @@ module _ (m : State) (h : Fits m) where
         pipes = h.pipes;
         ports = h.ports;
         associations = h.associations;
+        timers = h.timers;
         refers =
             record {
               rows = h.refers.rows;
@@ -153,6 +159,7 @@ module _ (m : State) (h : Fits m) where
         pipes = h.pipes;
         ports = h.ports;
         associations = h.associations;
+        timers = h.timers;
         refers =
             record {
               rows = h.refers.rows;
@@ -169,26 +176,44 @@ redoored m doors e h =
       pipes = h.pipes;
       ports = h.ports;
       associations = h.associations;
+      timers = h.timers;
       refers = refer_to_more (made_in m) (made_in (record m { doors = doors })) (more_doors m doors e) h.refers;
     }
 
 -- and so do channels
 rechanneled :
     (m : State) (c : Channels) → length c.ports ≡ length m.channels.ports → length c.pipes ≡ length m.channels.pipes → ArePipes c.pipes → ArePorts c.ports →
-    AreAssociations c.ports c.associations → Fits m → Fits (record m { channels = c })
-rechanneled m c long wide pipes ports associations h =
+    AreAssociations c.ports c.associations → AreTimers c.ports c.timers → Fits m → Fits (record m { channels = c })
+rechanneled m c long wide pipes ports associations timers h =
     record {
       pipes = pipes;
       ports = ports;
       associations = associations;
+      timers = timers;
       refers =
           refer_to_more (made_in m) (made_in (record m { channels = c }))
           (more_channels m c (omega (arith, long)) (omega (arith, wide))) h.refers;
     }
 
+-- where timers are not what changes
+other_ports :
+    (m : State) (others : List Port) → length others ≡ length m.channels.ports →
+    (TimedPorts m.channels.timers.timers m.channels.ports → TimedPorts m.channels.timers.timers others) → Fits m → AreTimers others m.channels.timers
+other_ports m others long timed h = same_timers m.channels.ports others m.channels.timers (omega (arith, long)) timed h.timers
+
+-- ports, associations and timers together
+
+ticks : (m : State) → Fits m → HoldChannels m.channels
+ticks m h = record { ports = h.ports; associations = h.associations; timers = h.timers }
+
+ticking :
+    (m : State) (c : Channels) → length c.ports ≡ length m.channels.ports → length c.pipes ≡ length m.channels.pipes → ArePipes c.pipes →
+    HoldChannels c → Fits m → Fits (record m { channels = c })
+ticking m c long wide pipes k h = rechanneled m c long wide pipes k.ports k.associations k.timers h
+
 -- another table of a process
 retabled : (m : State) (tables : List (List (Option Obj))) → HoldsOfAll (IsMadeObject (made_in m)) tables → Fits m → Fits (record m { tables = tables })
-retabled m tables k h = record { pipes = h.pipes; ports = h.ports; associations = h.associations; refers = with_tables m h tables k }
+retabled m tables k h = record { pipes = h.pipes; ports = h.ports; associations = h.associations; timers = h.timers; refers = with_tables m h tables k }
 
 create_fits :
     (m : State) (p entry cookie : ℕ) (attrs : Attrs) → Fits m → Fits (create m p entry cookie attrs).state
@@ -210,6 +235,7 @@ leave_process_fits m p h =
       pipes = h.pipes;
       ports = h.ports;
       associations = h.associations;
+      timers = h.timers;
       refers =
           refer_to_more (made_in m) (made_in (leave_process m p)) (more_doors m (end_owner m.doors p) (leave_process-keeps m p).doors)
           (record {
@@ -231,6 +257,7 @@ revoke_fits m p fd h =
       pipes = h.pipes;
       ports = h.ports;
       associations = h.associations;
+      timers = h.timers;
       refers =
           refer_to_more (made_in m) (made_in (revoke m p fd).state) (more_doors m (revoke m p fd).state.doors (revoke-keeps m p fd).doors)
           (record {
@@ -251,6 +278,7 @@ fork_fits m t p child h =
       pipes = h.pipes;
       ports = h.ports;
       associations = h.associations;
+      timers = h.timers;
       refers =
           record {
             rows = another_table (IsMadeObject (made_in m)) m.tables child (table_of m p) (h.refers.rows p) h.refers.rows;
@@ -296,41 +324,67 @@ module _ (m : State) (t : ℕ) (h : Fits m) where
   turn_fits q s a may (IsTurn.awaits path f) = tt
   turn_fits q s a may _ = tt
 
-  passing_fits : (r : Request) (c : Channels) (a : Answer) → IsPassing m t r c a → Fits (record m { channels = c })
-  passing_fits r c a (IsPassing.writes fd bytes f) =
-      rechanneled m c refl (length-change_at_number m.channels.pipes _ _) (write-pipes m.channels.pipes _ h.pipes bytes) h.ports h.associations h
-  passing_fits r c a (IsPassing.reads fd max f) =
-      rechanneled m c refl (length-change_at_number m.channels.pipes _ _) (read-pipes m.channels.pipes _ h.pipes max) h.ports h.associations h
-  passing_fits r c a (IsPassing.sends fd events user f) =
+  passing_fits : (r : Request) (c : Channels) (a : Answer) → MayTurn m t (Some r) → IsPassing m t r c a → Fits (record m { channels = c })
+  passing_fits r c a may (IsPassing.writes fd bytes f) =
+      rechanneled m c refl (length-change_at_number m.channels.pipes _ _) (write-pipes m.channels.pipes _ h.pipes bytes) h.ports h.associations h.timers h
+  passing_fits r c a may (IsPassing.reads fd max f) =
+      rechanneled m c refl (length-change_at_number m.channels.pipes _ _) (read-pipes m.channels.pipes _ h.pipes max) h.ports h.associations h.timers h
+  passing_fits r c a may (IsPassing.sends fd events user f) =
       rechanneled m c (length-change_at_number m.channels.ports _ _) refl h.pipes
       (send-ports m.channels.ports (port_at m process fd) h.ports events user (not_held (port_tests (object_at m process fd)) _ [] f))
-      (send_same m.channels.ports m.channels.associations h.associations (port_at m process fd) events user) h
-  passing_fits r c a (IsPassing.sends_each fds events user) =
+      (send_same m.channels.ports m.channels.associations h.associations (port_at m process fd) events user)
+      (other_ports m c.ports (length-change_at_number m.channels.ports _ _) (timed-send m.channels.timers.timers m.channels.ports _ events user) h) h
+  passing_fits r c a may (IsPassing.sends_each fds events user) =
       rechanneled m c (all_long m.channels.ports (map (object_at m process) fds) events user) refl h.pipes
       (all_sent m.channels.ports (map (object_at m process) fds) events user h.ports)
-      (all_sent_same m.channels.ports m.channels.associations (map (object_at m process) fds) events user h.associations) h
-  passing_fits r c a (IsPassing.alerts fd mode events user f) =
+      (all_sent_same m.channels.ports m.channels.associations (map (object_at m process) fds) events user h.associations)
+      (other_ports m c.ports (all_long m.channels.ports (map (object_at m process) fds) events user)
+      (timed-all_sent m.channels.timers.timers m.channels.ports (map (object_at m process) fds) events user) h) h
+  passing_fits r c a may (IsPassing.alerts fd mode events user f) =
       rechanneled m c (length-change_at_number m.channels.ports _ _) refl h.pipes (alert-ports m.channels.ports _ h.ports events user)
-      (alert_same m.channels.ports m.channels.associations h.associations (port_at m process fd) events user) h
-  passing_fits r c a (IsPassing.gets fd wait f g) =
+      (alert_same m.channels.ports m.channels.associations h.associations (port_at m process fd) events user)
+      (other_ports m c.ports (length-change_at_number m.channels.ports _ _) (timed-alert m.channels.timers.timers m.channels.ports _ events user) h) h
+  passing_fits r c a may (IsPassing.gets fd wait f g) =
       rechanneled m c (length-change_at_number m.channels.ports _ _) refl h.pipes (take-ports m.channels.ports _ h.ports 1)
-      (take_some m.channels.ports m.channels.associations h.associations (port_at m process fd) 1) h
-  passing_fits r c a (IsPassing.gets_many fd max nget wait f z g) =
+      (take_some m.channels.ports m.channels.associations h.associations (port_at m process fd) 1)
+      (other_ports m c.ports (length-change_at_number m.channels.ports _ _) (timed-take m.channels.timers.timers m.channels.ports _ 1) h) h
+  passing_fits r c a may (IsPassing.gets_many fd max nget wait f z g) =
       rechanneled m c (length-change_at_number m.channels.ports _ _) refl h.pipes (take-ports m.channels.ports _ h.ports max)
-      (take_some m.channels.ports m.channels.associations h.associations (port_at m process fd) max) h
-  passing_fits r c a (IsPassing.associates port object events user f) =
+      (take_some m.channels.ports m.channels.associations h.associations (port_at m process fd) max)
+      (other_ports m c.ports (length-change_at_number m.channels.ports _ _) (timed-take m.channels.timers.timers m.channels.ports _ max) h) h
+  passing_fits r c a may (IsPassing.associates port object events user f) =
       rechanneled m c (length-withdraw_events m.channels.ports (ended port object)) refl h.pipes (withdrawn-ports m.channels.ports (ended port object) h.ports)
       (associate_one m.channels h.associations (key_at m process port object) (watched (object_at m process object)) events user
-      (port_asked m h process port (associate_tests (object_at m process object)) f)) h
+      (port_asked m h process port (associate_tests (object_at m process object)) f))
+      (other_ports m c.ports (length-withdraw_events m.channels.ports (ended port object))
+      (timed-withdraw_events m.channels.timers.timers m.channels.ports (ended port object)) h) h
     where
       ended : Fd → Fd → List Association
       ended q o = filter (has_key (key_at m process q o)) (associations_in m)
-  passing_fits r c a (IsPassing.dissociates port object f) =
+  passing_fits r c a may (IsPassing.dissociates port object f) =
       rechanneled m c (length-withdraw_events m.channels.ports (ended port object)) refl h.pipes (withdrawn-ports m.channels.ports (ended port object) h.ports)
-      (dissociate_one m.channels h.associations (key_at m process port object)) h
+      (dissociate_one m.channels h.associations (key_at m process port object))
+      (other_ports m c.ports (length-withdraw_events m.channels.ports (ended port object))
+      (timed-withdraw_events m.channels.timers.timers m.channels.ports (ended port object)) h) h
     where
       ended : Fd → Fd → List Association
       ended q o = filter (has_key (key_at m process q o)) (associations_in m)
+  passing_fits r c a may (IsPassing.creates_timer port user f) = ticking m c refl refl h.pipes k h
+    where
+      k : HoldChannels c
+      k =
+          create_holds m.channels (ticks m h) process (port_at m process port) user
+          (not_held (port_tests (object_at m process port)) (refused_where (has_all_timers (timers_in m) process) EAGAIN) [] f)
+          (port_asked m h process port (create_timer_tests (timers_in m) process) f)
+  passing_fits r c a may (IsPassing.sets_timer id first interval f) =
+      ticking m c (length-without_queued m.channels.ports (timer_of m.channels process id)) refl h.pipes
+      (set_holds m.channels (ticks m h) process id first interval
+      (not_held [] (refused_where (is_none (timer_of m.channels process id)) EINVAL) [] f)) h
+  passing_fits r c a may (IsPassing.deletes_timer id f) =
+      ticking m c (length-without_queued m.channels.ports (timer_of m.channels process id)) refl h.pipes
+      (delete_holds m.channels (ticks m h) process id (not_held [] (refused_where (is_none (timer_of m.channels process id)) EINVAL) [] f)) h
+  passing_fits r c a may (IsPassing.advances by) =
+      ticking m c (advance_long m.channels (ticks m h) by) refl h.pipes (advance_holds m.channels (ticks m h) by may.fit.1 may.fit.2) h
 
   -- a pipe or a port that is made is among those that were
   made_fits : (r : Request) (c : Channels) (objects : List Obj) (a : Answer) → IsMaking m t r c objects a → Fits (record m { tables = tables_with m process objects; channels = c })
@@ -348,6 +402,7 @@ module _ (m : State) (t : ℕ) (h : Fits m) where
             pipes = make-pipes m.channels.pipes h.pipes;
             ports = h.ports;
             associations = h.associations;
+            timers = h.timers;
             refers = refer_to_more (made_in m) (made_in n) (more_channels m c (omega arith) (omega (arith, long))) h.refers;
           }
 
@@ -369,6 +424,8 @@ module _ (m : State) (t : ℕ) (h : Fits m) where
             pipes = h.pipes;
             ports = make-ports m.channels.ports h.ports;
             associations = port_more m.channels.ports m.channels.associations h.associations;
+            timers =
+                same_timers m.channels.ports c.ports m.channels.timers (omega (arith, long)) (timed-made m.channels.timers.timers m.channels.ports) h.timers;
             refers = refer_to_more (made_in m) (made_in n) (more_channels m c (omega (arith, long)) (omega arith)) h.refers;
           }
 
@@ -389,6 +446,7 @@ module _ (m : State) (t : ℕ) (h : Fits m) where
         pipes = h.pipes;
         ports = h.ports;
         associations = h.associations;
+        timers = h.timers;
         refers = record { rows = h.refers.rows; names = naming_fits r names e; calls = h.refers.calls; waits = h.refers.waits };
       }
   move_fits q a may (Moves.parameter fd x value f) = redoored m _ (set_param-keeps m _ x value).doors h
@@ -399,6 +457,7 @@ module _ (m : State) (t : ℕ) (h : Fits m) where
         pipes = h.pipes;
         ports = h.ports;
         associations = h.associations;
+        timers = h.timers;
         refers =
             record {
               rows = releases m h process pass;
@@ -414,6 +473,7 @@ module _ (m : State) (t : ℕ) (h : Fits m) where
         pipes = h.pipes;
         ports = h.ports;
         associations = h.associations;
+        timers = h.timers;
         refers =
             record {
               rows = releases m h process pass;
@@ -427,6 +487,7 @@ module _ (m : State) (t : ℕ) (h : Fits m) where
         pipes = h.pipes;
         ports = h.ports;
         associations = h.associations;
+        timers = h.timers;
         refers =
             record {
               rows = releases m h process pass;
@@ -440,6 +501,7 @@ module _ (m : State) (t : ℕ) (h : Fits m) where
         pipes = h.pipes;
         ports = h.ports;
         associations = h.associations;
+        timers = h.timers;
         refers =
             record {
               rows = rows m h process r.objects (All-find (AreMadeIn (made_in m)) (is_given_as r.number t) m.call_tree.calls r h.refers.calls e.found).objects;
@@ -455,6 +517,7 @@ module _ (m : State) (t : ℕ) (h : Fits m) where
         pipes = h.pipes;
         ports = h.ports;
         associations = h.associations;
+        timers = h.timers;
         refers =
             record {
               rows = h.refers.rows;
@@ -470,6 +533,7 @@ module _ (m : State) (t : ℕ) (h : Fits m) where
         pipes = h.pipes;
         ports = h.ports;
         associations = h.associations;
+        timers = h.timers;
         refers =
             record {
               rows = h.refers.rows;
@@ -483,6 +547,7 @@ module _ (m : State) (t : ℕ) (h : Fits m) where
         pipes = h.pipes;
         ports = h.ports;
         associations = h.associations;
+        timers = h.timers;
         refers =
             record {
               rows = collected m h process c;
@@ -497,13 +562,14 @@ module _ (m : State) (t : ℕ) (h : Fits m) where
   move_fits q a may (Moves.revokes fd f) = revoke_fits m process fd h
   move_fits q a may (Moves.ends r p e) = leave_process_fits m p h
   move_fits q a may (Moves.forks child f) = fork_fits m t process child.0 h
-  move_fits q a may (Moves.passes r c x e) = passing_fits r c x e
+  move_fits q a may (Moves.passes r c x e) = passing_fits r c x may e
   move_fits q a may (Moves.makes_channel r c objects x e) = made_fits r c objects x e
   move_fits q a may (Moves.retrieves port max nget one e) =
       rechanneled (with_state m t is.Running) _ (length-change_at_number m.channels.ports port _) refl h.pipes (take-ports m.channels.ports port h.ports max)
       (take_some m.channels.ports m.channels.associations h.associations port max)
+      (other_ports m _ (length-change_at_number m.channels.ports port _) (timed-take m.channels.timers.timers m.channels.ports port max) h)
       (turned m h t is.Running tt)
-  move_fits q a may (Moves.bound r o e) = record { pipes = h.pipes; ports = h.ports; associations = h.associations; refers = h.refers }
+  move_fits q a may (Moves.bound r o e) = record { pipes = h.pipes; ports = h.ports; associations = h.associations; timers = h.timers; refers = h.refers }
   move_fits q a may (Moves.nothing x e) = h
 
 pub act_fits : (m : State) (t : ℕ) (q : Option Request) → Fits m → MayTurn m t q → Fits (act m t q).state
@@ -517,6 +583,7 @@ give_fits m (item.Call c) u h =
       pipes = h.pipes;
       ports = h.ports;
       associations = h.associations;
+      timers = h.timers;
       refers =
           record {
             rows = h.refers.rows;
@@ -532,6 +599,7 @@ give_fits m (item.Notice n) u h =
       pipes = h.pipes;
       ports = h.ports;
       associations = h.associations;
+      timers = h.timers;
       refers =
           record {
             rows = h.refers.rows;
@@ -544,7 +612,7 @@ give_fits m (item.Notice n) u h =
 fail_fits : (m : State) (t : ℕ) → Fits m → Fits (fail_return m t)
 fail_fits m t h =
     let k : Fits (with_state m t is.FailedReturn) = turned m h t is.FailedReturn tt in
-    record { pipes = k.pipes; ports = k.ports; associations = k.associations; refers = k.refers }
+    record { pipes = k.pipes; ports = k.ports; associations = k.associations; timers = k.timers; refers = k.refers }
 
 -- ports are told
 end_lost_fits : (m : State) → Fits m → Fits (end_lost m)
@@ -552,108 +620,55 @@ end_lost_fits m h =
     rechanneled m (end_lost m).channels (length-withdraw_events m.channels.ports (lost_associations m)) refl h.pipes
     (withdrawn-ports m.channels.ports (lost_associations m) h.ports)
     (end_some m.channels.ports m.channels.associations h.associations (names_its_object m.tables) (has_lost_its_row m.tables) (λ a. refl))
+    (other_ports m (end_lost m).channels.ports (length-withdraw_events m.channels.ports (lost_associations m))
+    (timed-withdraw_events m.channels.timers.timers m.channels.ports (lost_associations m)) h)
     h
+
+end_timers_fits : (m : State) → Fits m → Fits (end_timers m)
+end_timers_fits m h =
+    ticking m (end_timers m).channels (length-withdraw_timers m.channels.ports (lost_timers m)) refl h.pipes
+    (end_holds m.channels (ticks m h) (is_live_process m)) h
 
 fire_fits : (m : State) → Fits m → Fits (fire m)
 fire_fits m h =
     rechanneled m (fire m).channels (length-post_fired m.channels.ports (all_fired (ready_at m) (associations_in m))) refl h.pipes
     (fired-ports m.channels.ports (ready_at m) (filter (is_to_fire (ready_at m)) (associations_in m)) h.ports)
     (fire_some m.channels.ports m.channels.associations h.associations (ready_at m))
+    (other_ports m (fire m).channels.ports (length-post_fired m.channels.ports (all_fired (ready_at m) (associations_in m)))
+    (timed-fired m.channels.timers.timers (ready_at m) m.channels.ports (filter (is_to_fire (ready_at m)) (associations_in m))) h)
     h
 
 tell_fits : (m : State) → Fits m → Fits (tell m)
-tell_fits m h = fire_fits (end_lost m) (end_lost_fits m h)
+tell_fits m h = fire_fits (end_timers (end_lost m)) (end_timers_fits (end_lost m) (end_lost_fits m h))
 
 pools_fit : (before m : State) → Fits m → Fits (settle_pools before m)
 pools_fit before m h =
     settle_pools-all Fits before
     (record {
-      makes = λ n d due k. record { pipes = k.pipes; ports = k.ports; associations = k.associations; refers = k.refers };
+      makes = λ n d due k. record { pipes = k.pipes; ports = k.ports; associations = k.associations; timers = k.timers; refers = k.refers };
       fails = λ n t lost k. fail_fits n t k;
       gives = λ n w x p k. give_fits n w.item x.thread.0 k;
       starts = λ n t d k. turned n k t is.Running tt;
     })
     m h
 
--- before associations fire
+-- before timers end and associations fire
 pub unfired_fits : (before m : State) → Fits m → Fits (end_lost (settle_pools before m))
 unfired_fits before m h = end_lost_fits (settle_pools before m) (pools_fit before m h)
+
+-- before associations fire
+pub ended_fits : (before m : State) → Fits m → Fits (end_timers (end_lost (settle_pools before m)))
+ended_fits before m h = end_timers_fits (end_lost (settle_pools before m)) (unfired_fits before m h)
 
 settle_fits : (before m : State) → Fits m → Fits (settle before m)
 settle_fits before m h = tell_fits (settle_pools before m) (pools_fit before m h)
 
--- one act makes at most one pipe, one port and one association
-
-record MakesFew (m : State) (c : Channels) : Type 0 where
-  pipes : length c.pipes ≤ length m.channels.pipes + 1
-  ports : length c.ports ≤ length m.channels.ports + 1
-  associations : c.associations.made ≤ m.channels.associations.made + 1
-
-pub taken_made : (c : Channels) (q max : ℕ) → (take_found c q max).associations.made ≡ c.associations.made
-taken_made c q max = made_left (associations_of (events_found max (port_of c.ports q))) c.associations
-
-passing_few : (m : State) (t : ℕ) (r : Request) (c : Channels) (a : Answer) → IsPassing m t r c a → MakesFew m c
-passing_few m t r c a (IsPassing.writes fd bytes f) =
-    record { pipes = omega (arith, length-change_at_number m.channels.pipes (pipe_at m (process_of m t) fd) (written bytes)); ports = omega arith; associations = omega arith }
-passing_few m t r c a (IsPassing.reads fd max f) =
-    record { pipes = omega (arith, length-change_at_number m.channels.pipes (pipe_at m (process_of m t) fd) (without_oldest max)); ports = omega arith; associations = omega arith }
-passing_few m t r c a (IsPassing.sends fd events user f) =
-    record {
-      pipes = omega arith;
-      ports = omega (arith, length-change_at_number m.channels.ports (port_at m (process_of m t) fd) (with_event (user_event events user)));
-      associations = omega arith;
-    }
-passing_few m t r c a (IsPassing.sends_each fds events user) =
-    record { pipes = omega arith; ports = omega (arith, all_long m.channels.ports (map (object_at m (process_of m t)) fds) events user); associations = omega arith }
-passing_few m t r c a (IsPassing.alerts fd mode events user f) =
-    record {
-      pipes = omega arith;
-      ports = omega (arith, length-change_at_number m.channels.ports (port_at m (process_of m t) fd) (with_alert events user));
-      associations = omega arith;
-    }
-passing_few m t r c a (IsPassing.gets fd wait f g) =
-    record {
-      pipes = omega arith;
-      ports = omega (arith, length-change_at_number m.channels.ports (port_at m (process_of m t) fd) (without_found 1));
-      associations = omega (arith, taken_made m.channels (port_at m (process_of m t) fd) 1);
-    }
-passing_few m t r c a (IsPassing.gets_many fd max nget wait f z g) =
-    record {
-      pipes = omega arith;
-      ports = omega (arith, length-change_at_number m.channels.ports (port_at m (process_of m t) fd) (without_found max));
-      associations = omega (arith, taken_made m.channels (port_at m (process_of m t) fd) max);
-    }
-passing_few m t r c a (IsPassing.associates port object events user f) =
-    record {
-      pipes = omega arith;
-      ports = omega (arith, length-withdraw_events m.channels.ports (filter (has_key (key_at m (process_of m t) port object)) (associations_in m)));
-      associations = omega arith;
-    }
-passing_few m t r c a (IsPassing.dissociates port object f) =
-    record {
-      pipes = omega arith;
-      ports = omega (arith, length-withdraw_events m.channels.ports (filter (has_key (key_at m (process_of m t) port object)) (associations_in m)));
-      associations = omega arith;
-    }
-
-move_few : (m : State) (t : ℕ) (q : Option Request) (a : ActResult) → Moves m t q a → MakesFew m a.state.channels
-move_few m t q a (Moves.passes r c x e) = passing_few m t r c x e
-move_few m t q a (Moves.makes_channel r c objects x (IsMaking.makes_pipe f)) =
-    record { pipes = omega (arith, length-append m.channels.pipes (new_pipe (length m.channels.pipes + 1) ∷ [])); ports = omega arith; associations = omega arith }
-move_few m t q a (Moves.makes_channel r c objects x (IsMaking.makes_port f)) =
-    record { pipes = omega arith; ports = omega (arith, length-append m.channels.ports (new_port (length m.channels.ports + 1) ∷ [])); associations = omega arith }
-move_few m t q a (Moves.retrieves port max nget one e) =
-    record {
-      pipes = omega arith;
-      ports = omega (arith, length-change_at_number m.channels.ports port (without_found max));
-      associations = omega (arith, taken_made m.channels port max);
-    }
-move_few m t q a _ = record { pipes = omega arith; ports = omega arith; associations = omega arith }
-
--- and what follows it none
+-- what follows an act makes no port
 pub settled_long : (before m : State) → length (settle before m).channels.ports ≡ length m.channels.ports
 settled_long before m =
-    length-post_fired (end_lost (settle_pools before m)).channels.ports (all_fired (ready_at (end_lost (settle_pools before m))) (associations_in (end_lost (settle_pools before m))))
+    length-post_fired (end_timers (end_lost (settle_pools before m))).channels.ports
+    (all_fired (ready_at (end_lost (settle_pools before m))) (associations_in (end_lost (settle_pools before m))))
+    ∙ length-withdraw_timers (end_lost (settle_pools before m)).channels.ports (lost_timers (end_lost (settle_pools before m)))
     ∙ length-withdraw_events (settle_pools before m).channels.ports (lost_associations (settle_pools before m))
     ∙ ap (λ (c : Channels). length c.ports) (channels-settle_pools before m)
 
@@ -664,6 +679,7 @@ step_fits m t q h may =
       pipes = k.pipes;
       ports = k.ports;
       associations = k.associations;
+      timers = k.timers;
       refers = k.refers;
       few_pipes = omega (arith, ap (λ (ps : List Pipe). length ps) (pipes-settle m (act m t q).state), few.pipes, h.few_pipes, counted);
       few_ports = omega (arith, settled_long m (act m t q).state, few.ports, h.few_ports, counted);
@@ -675,13 +691,29 @@ step_fits m t q h may =
             h.few_associations,
             counted,
           );
+      few_timers =
+          omega (
+            arith,
+            ap (λ (c : Channels). c.timers.made) (channels-settle_pools m (act m t q).state),
+            few.timers,
+            h.few_timers,
+            counted,
+          );
+      early =
+          omega (
+            arith,
+            ap (λ (c : Channels). c.timers.clock) (channels-settle_pools m (act m t q).state),
+            few.clock,
+            h.early,
+            counted,
+          );
     }
   where
     k : Fits (settle m (act m t q).state)
-    k = settle_fits m (act m t q).state (act_fits m t q (record { pipes = h.pipes; ports = h.ports; associations = h.associations; refers = h.refers }) may)
+    k = settle_fits m (act m t q).state (act_fits m t q (record { pipes = h.pipes; ports = h.ports; associations = h.associations; timers = h.timers; refers = h.refers }) may)
 
     few : MakesFew m (act m t q).state.channels
-    few = move_few m t q (act m t q) (act_moves m t q)
+    few = move_few m t q (act m t q) may (act_moves m t q)
 
     counted : (settle m (act m t q).state).events ≡ m.events
     counted = events-settle m (act m t q).state ∙ (act-keeps m t q).events

@@ -1,5 +1,5 @@
 -- Pipes and ports are numbered and bounded, and so are they after each change of one.
-use Rattle.std.proofs.Common.{◌≡◌, ℕ, zero, suc, ◌+◌, ◌-◌, ◌≤◌, ◌<◌, List, [], ◌∷◌, ◌++◌, Option, Some, None, Bool, true, false, if◌then◌else◌, is_none, not, cond, drop, length, map, take, refl, sym, ap, ◌∙◌, arith, lit≤, All}
+use Rattle.std.proofs.Common.{◌≡◌, ℕ, zero, suc, ◌+◌, ◌-◌, ◌≤◌, ◌<◌, ◌&&◌, List, [], ◌∷◌, ◌++◌, Option, Some, None, Bool, true, false, if◌then◌else◌, is_none, not, cond, drop, length, map, take, refl, sym, ap, ◌∙◌, arith, lit≤, All}
 use Rattle.std.proofs.lemmas.Bool.Decides.{nat_tests}
 use Rattle.std.proofs.lemmas.List.{length-append}
 use Rattle.std.proofs.lemmas.List.Sums.{sum_by-cons}
@@ -9,15 +9,15 @@ use Rattle.dk_base.specs.declared.set.PollSet.{PollSet}
 use Rattle.dk_base.specs.ByNumber.{at_number}
 use Rattle.kernel_records.specs.declared.association.Association.{Association}
 use Rattle.kernel_records.specs.declared.port.Alert.{Alert}
-use Rattle.kernel_records.specs.Words.{Pipe, Port, alert_port, change_at_number, change_found, fired_where, fitting, is_full_port, is_other_event, is_user_event, left_at, make_pipe, make_port, new_pipe, new_port, port_in, port_of, post_event, post_fired, read_pipe, send_event, take_events, user_event, user_events, with_alert, with_event, withdraw_event, withdraw_events, without_event, without_found, without_oldest, write_pipe, written}
+use Rattle.kernel_records.specs.Words.{Pipe, Port, alert_port, change_at_number, change_found, fired_where, fitting, grow_timer, grown_event, is_full_port, is_other_event, is_other_timer_event, is_timer_event, is_user_event, left_at, make_pipe, make_port, new_pipe, new_port, port_in, port_of, post_event, post_fired, read_pipe, send_event, take_events, user_event, user_events, with_alert, with_event, with_grown_event, withdraw_event, withdraw_events, withdraw_timer, without_event, without_found, without_oldest, without_timer_event, write_pipe, written}
 use Rattle.kernel_records.proofs.Lists.{length-with_at_number, map-with_at_number}
 use Rattle.kernel_records.proofs.NumberedLists.{counted-push, counted-same}
 use Rattle.written_kernel.specs.Types.{Errno, Obj, Queued}
 use Rattle.written_kernel.specs.Words.{after_sending, after_sending_each, port_named, port_tests, sending_error}
 use Rattle.written_kernel.proofs.Refusals.{not_held}
 use Rattle.channel_invariant.specs.Channels.{ArePipes, ArePorts, IsBounded, pipe_number, port_number}
-use Rattle.channel_invariant.proofs.Elements.{All-change_at_number}
-use Rattle.channel_invariant.proofs.Tally.{count-append, count-cons, count-parted}
+use Rattle.channel_invariant.proofs.Elements.{All-change_at_number, All-change_first}
+use Rattle.channel_invariant.proofs.Tally.{count-append, count-changed, count-cons, count-parted}
 
 -- a change of one record keeps how many there are, and their numbers
 
@@ -94,13 +94,13 @@ user_events-drop (suc k) [] = omega arith
 user_events-drop (suc k) (q ∷ qs) = omega (arith, user_events-drop k qs, user_events-cons q qs)
 
 module _ {X : Type 0} (P : X → Type 0) where
-  All-drop : (k : ℕ) (xs : List X) → All P xs → All P (drop k xs)
+  pub All-drop : (k : ℕ) (xs : List X) → All P xs → All P (drop k xs)
   All-drop zero xs all = all
   All-drop (suc k) [] all = all
   All-drop (suc k) (x ∷ xs) all = All-drop k xs (All-tail P x xs all)
 
 abbrev IsSent : Queued → Type 0
-IsSent q = is_user_event q ≡ is_none q.assoc
+IsSent q = is_user_event q ≡ (is_none q.assoc && is_none q.timer)
 
 module _ (ports : List Port) (n : ℕ) (h : ArePorts ports) where
   changed_port :
@@ -145,8 +145,27 @@ module _ (ports : List Port) (n : ℕ) (h : ArePorts ports) where
         sent = All-filter (is_other_event assoc) IsSent x.queue l.sent;
       })
 
-  -- and what an association queues is no user event
-  post-ports : (q : Queued) → is_user_event q ≡ false → is_none q.assoc ≡ false → ArePorts (post_event ports n q)
+  -- what a timer has queued is withdrawn, or counts more
+  pub withdraw_timer-ports : (timer : ℕ) → ArePorts (withdraw_timer ports n timer)
+  withdraw_timer-ports timer =
+      changed_port (without_timer_event timer) (λ x. refl)
+      (λ x e l.
+      record {
+        few = omega (arith, count-parted is_user_event (is_other_timer_event timer) (λ q. not (is_other_timer_event timer q)) (λ q. refl) x.queue, l.few);
+        sent = All-filter (is_other_timer_event timer) IsSent x.queue l.sent;
+      })
+
+  pub grow_timer-ports : (timer by : ℕ) → ArePorts (grow_timer ports n timer by)
+  grow_timer-ports timer by =
+      changed_port (with_grown_event timer by) (λ x. refl)
+      (λ x e l.
+      record {
+        few = omega (arith, count-changed is_user_event (is_timer_event timer) (grown_event by) (λ q. refl) x.queue, l.few);
+        sent = All-change_first IsSent (is_timer_event timer) (grown_event by) (λ q k. k) x.queue l.sent;
+      })
+
+  -- and what an association or a timer queues is no user event
+  pub post-ports : (q : Queued) → is_user_event q ≡ false → (is_none q.assoc && is_none q.timer) ≡ false → ArePorts (post_event ports n q)
   post-ports q no_user one =
       changed_port (with_event q) (λ x. refl)
       (λ x e l.

@@ -1,7 +1,7 @@
 -- What holds of each record of a list, where one changes.
 use Rattle.std.proofs.Common.{◌≡◌, ℕ, zero, suc, List, [], ◌∷◌, Option, Some, None, Bool, true, false, if◌then◌else◌, find, map, slice_get, slice_set, refl, sym, subst, ◌∙◌}
 use Rattle.std.specs.Prelude.{All}
-use Rattle.std.proofs.lemmas.List.Elements.{All-cons, All-head, All-tail, All-map, All-weaker}
+use Rattle.std.proofs.lemmas.List.Elements.{All-cons, All-head, All-nil, All-tail, All-map, All-weaker}
 use Rattle.std.proofs.lemmas.Option.{slice_get_within, get_or_from_slice_get}
 use Rattle.dk_base.specs.ByNumber.{at_number, with_at_number}
 use Rattle.kernel_records.specs.Words.{change_at_number, change_first, change_found}
@@ -55,3 +55,9 @@ module _ {X : Type 0} (P : X → Type 0) where
   -- each of them
   pub All-changed : (change : X → X) → ((x : X) → P x → P (change x)) → (xs : List X) → All P xs → All P (map change xs)
   All-changed change keeps xs all = All-map P change xs (All-weaker P (λ x. P (change x)) keeps xs all)
+
+-- two facts of each
+pub All-both : {X : Type 0} (P Q R : X → Type 0) → ((x : X) → P x → Q x → R x) → (xs : List X) → All P xs → All Q xs → All R xs
+All-both P Q R both [] a b = All-nil R
+All-both P Q R both (x ∷ xs) a b =
+    All-cons R x xs (both x (All-head P x xs a) (All-head Q x xs b)) (All-both P Q R both xs (All-tail P x xs a) (All-tail Q x xs b))

@@ -4,5 +4,10 @@ pub mod Bounds
 pub mod Queues
 pub mod Associations
 pub mod References
+pub mod Timed
+pub mod TimerLists
+pub mod Ticking
+pub mod Timers
+pub mod Few
 pub mod Acts
 pub mod Runs

@@ -47,9 +47,11 @@ module _ (ports : List Port) (p q : ℕ) (f : Port → Port) where
           ap (λ o. (port_in o).queue) (at_number-with_at_number ports p q (f x))
           ∙ ap₂ (λ c (o : Option Port). (port_in (if c && is_some o then Some (f x) else at_number ports q)).queue) g e
 
-  -- a change that neither queues nor takes an event of the association
-  pub tally-same : (n : ℕ) → ((x : Port) → count_by (is_event_of n) (f x).queue ≡ count_by (is_event_of n) x.queue) → tally n (change_at_number ports p f) q ≡ tally n ports q
-  tally-same n same = go (at_number ports p) refl (q == p) refl
+  -- a change that neither queues nor takes an event of the association, at the port that is there
+  pub tally-same_there :
+      (n : ℕ) → ((x : Port) → at_number ports p ≡ Some x → count_by (is_event_of n) (f x).queue ≡ count_by (is_event_of n) x.queue) →
+      tally n (change_at_number ports p f) q ≡ tally n ports q
+  tally-same_there n same = go (at_number ports p) refl (q == p) refl
     where
       go : (o : Option Port) → at_number ports p ≡ o → (b : Bool) → (q == p) ≡ b → tally n (change_found ports p f o) q ≡ tally n ports q
       go None e b g = refl
@@ -58,11 +60,15 @@ module _ (ports : List Port) (p q : ℕ) (f : Port → Port) where
           let here : at_number ports q ≡ Some x = ap (at_number ports) alike ∙ e in
           ap (λ o. count_by (is_event_of n) (port_in o).queue) (at_number-with_at_number ports p q (f x))
           ∙ ap₂ (λ c (o : Option Port). count_by (is_event_of n) (port_in (if c && is_some o then Some (f x) else at_number ports q)).queue) g e
-          ∙ same x
+          ∙ same x e
           ∙ ap (λ o. count_by (is_event_of n) (port_in o).queue) (sym here)
       go (Some x) e false g =
           ap (λ o. count_by (is_event_of n) (port_in o).queue) (at_number-with_at_number ports p q (f x))
           ∙ ap₂ (λ c (o : Option Port). count_by (is_event_of n) (port_in (if c && is_some o then Some (f x) else at_number ports q)).queue) g e
+
+  -- and at any port
+  pub tally-same : (n : ℕ) → ((x : Port) → count_by (is_event_of n) (f x).queue ≡ count_by (is_event_of n) x.queue) → tally n (change_at_number ports p f) q ≡ tally n ports q
+  tally-same n same = tally-same_there n (λ x e. same x)
 
 -- a port more, with nothing queued
 pub tally-made : (ports : List Port) (n q : ℕ) → tally n (make_port ports) q ≡ tally n ports q

@@ -9,8 +9,10 @@ use Rattle.written_kernel.specs.Words.{Channels, IsOpening, IsRun, State, Turn, 
 use Rattle.written_kernel.proofs.Opening.{next_thread, object_at-opening, opened, opening_threads, threads-make_child}
 use Rattle.channel_invariant.specs.Channels.{AreChannels, AreMadeIn, ArePipes, ArePorts, IsAmong, IsBounded, Made, WaitsAtMade, made_in}
 use Rattle.channel_invariant.specs.Associations.{AreAssociations}
+use Rattle.channel_invariant.specs.Timers.{AreTimers}
 use Rattle.channel_invariant.proofs.Associations.{no_association}
 use Rattle.channel_invariant.proofs.Acts.{step_fits}
+use Rattle.channel_invariant.proofs.Timers.{no_timer}
 
 -- a thread of the opening waits at no port
 starts : (made : Made) (spare : Bool) → WaitsAtMade made (opening_state spare)
@@ -38,6 +40,7 @@ opening_fits m o =
           subst (λ (c : Channels). ArePorts c.ports) (sym (opened o).channels)
           (record { in_order = tt; bounded = All-nil IsBounded });
       associations = subst (λ (c : Channels). AreAssociations c.ports c.associations) (sym (opened o).channels) no_association;
+      timers = subst (λ (c : Channels). AreTimers c.ports c.timers) (sym (opened o).channels) no_timer;
       refers =
           record {
             rows = λ p fd x e. absurd (cc (sym (object_at-opening o p fd) ∙ e));
@@ -49,6 +52,8 @@ opening_fits m o =
       few_pipes = omega (arith, ap (λ (c : Channels). length c.pipes) (opened o).channels);
       few_ports = omega (arith, ap (λ (c : Channels). length c.ports) (opened o).channels);
       few_associations = omega (arith, ap (λ (c : Channels). c.associations.made) (opened o).channels);
+      few_timers = omega (arith, ap (λ (c : Channels). c.timers.made) (opened o).channels);
+      early = omega (arith, ap (λ (c : Channels). c.timers.clock) (opened o).channels);
     }
 
 pub run_fits : (m : State) (xs : List Turn) → AreChannels m → IsRun m xs → AreChannels (state_after m xs)

@@ -1,8 +1,11 @@
 -- How many of a list meet a test, where the list is cut, put together or filtered.
-use Rattle.std.proofs.Common.{◌≡◌, ℕ, zero, suc, ◌+◌, ◌≤◌, ◌<◌, ◌==◌, List, [], ◌∷◌, ◌++◌, Bool, true, false, if◌then◌else◌, not, cond, drop, filter, map, take, refl, sym, subst, ap, ◌∙◌, arith, count_by}
+use Rattle.std.proofs.Common.{◌≡◌, ℕ, zero, suc, ◌+◌, ◌≤◌, ◌<◌, ◌==◌, ◌||◌, List, [], ◌∷◌, ◌++◌, Bool, true, false, if◌then◌else◌, not, cond, drop, filter, map, take, refl, sym, subst, ap, ◌∙◌, arith, count_by}
+use Rattle.std.specs.Prelude.{All}
+use Rattle.std.specs.List.{list_any}
 use Rattle.std.proofs.lemmas.Bool.Decides.{nat_tests}
+use Rattle.std.proofs.lemmas.List.Elements.{All-head, All-tail}
 use Rattle.std.proofs.lemmas.List.Sums.{sum_by-cons}
-use Rattle.kernel_records.specs.Words.{IsAscending}
+use Rattle.kernel_records.specs.Words.{IsAscending, change_first}
 
 module _ {X : Type 0} (p : X → Bool) where
   abbrev pub one_if : Bool → ℕ
@@ -36,6 +39,37 @@ module _ {X : Type 0} (p : X → Bool) where
       go false true e rest = omega (arith, rest, count-cons x xs, count-cons x (filter leave xs))
       go true true e rest = cc
       go false false e rest = cc
+
+  -- the first that meets a test is changed, and the change does not show
+  pub count-changed : (test : X → Bool) (change : X → X) → ((x : X) → p (change x) ≡ p x) → (xs : List X) → count_by p (change_first test change xs) ≡ count_by p xs
+  count-changed test change same [] = refl
+  count-changed test change same (x ∷ xs) = go (test x) (count-changed test change same xs)
+    where
+      go :
+          (b : Bool) → count_by p (change_first test change xs) ≡ count_by p xs →
+          count_by p (if b then change x ∷ xs else x ∷ change_first test change xs) ≡ count_by p (x ∷ xs)
+      go true rest = count-cons (change x) xs ∙ ap (λ b. cond b 1 0 + count_by p xs) (same x) ∙ sym (count-cons x xs)
+      go false rest = omega (arith, rest, count-cons x xs, count-cons x (change_first test change xs))
+
+  -- those that leave do not meet the test
+  pub count-left : (keep : X → Bool) (xs : List X) → All (λ x. keep x ≡ false → p x ≡ false) xs → count_by p (filter keep xs) ≡ count_by p xs
+  count-left keep [] all = refl
+  count-left keep (x ∷ xs) all =
+      go (keep x) (All-head (λ y. keep y ≡ false → p y ≡ false) x xs all) (count-left keep xs (All-tail (λ y. keep y ≡ false → p y ≡ false) x xs all))
+    where
+      go :
+          (b : Bool) → (b ≡ false → p x ≡ false) → count_by p (filter keep xs) ≡ count_by p xs →
+          count_by p (if b then x ∷ filter keep xs else filter keep xs) ≡ count_by p (x ∷ xs)
+      go true h rest = omega (arith, rest, count-cons x xs, count-cons x (filter keep xs))
+      go false h rest = omega (arith, rest, count-cons x xs ∙ ap (λ b. cond b 1 0 + count_by p xs) (h refl))
+
+  pub count-none : (xs : List X) → list_any p xs ≡ false → count_by p xs ≡ 0
+  count-none [] e = refl
+  count-none (x ∷ xs) e = go (p x) refl e (count-none xs)
+    where
+      go : (b : Bool) → p x ≡ b → b || list_any p xs ≡ false → (list_any p xs ≡ false → count_by p xs ≡ 0) → count_by p (x ∷ xs) ≡ 0
+      go true f g rest = cc
+      go false f g rest = omega (arith, rest g, count-cons x xs ∙ ap (λ b. cond b 1 0 + count_by p xs) f)
 
 module _ {X : Type 0} (p r : X → Bool) where
   one_weaker : (b c : Bool) → (b ≡ true → c ≡ true) → cond b 1 0 ≤ cond c 1 0

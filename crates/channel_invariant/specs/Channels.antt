@@ -1,12 +1,14 @@
--- What holds of pipes, of ports and of associations between two events, and that whatever refers to an object refers to one that was made.
-use Rattle.std.specs.Prelude.{ℕ, ◌≡◌, ◌≤◌, List, Option, Some, is_none, length, All}
-use Rattle.dk_base.specs.declared.limits.TheConstants.{ANSWER_ITEMS_MAX, PIPE_MAX, USER_EVENTS_MAX}
+-- What holds of pipes, of ports, of associations and of timers between two events, and that whatever refers to an object refers to one that
+-- was made.
+use Rattle.std.specs.Prelude.{ℕ, ◌≡◌, ◌≤◌, ◌&&◌, ◌*◌, List, Option, Some, is_none, length, All}
+use Rattle.dk_base.specs.declared.limits.TheConstants.{ADVANCE_MAX, ANSWER_ITEMS_MAX, PIPE_MAX, USER_EVENTS_MAX}
 use Rattle.dk_base.specs.declared.object.Obj.TheVariants as obj
 use Rattle.kernel_records.specs.declared.record.ThreadState.TheVariants as is
 use Rattle.kernel_records.specs.Words.{IsCounted, Pipe, Port, is_user_event, object_named, table_in, user_events}
 use Rattle.written_kernel.specs.Types.{Call, Fd, Name, Obj, Thread, ThreadState}
 use Rattle.written_kernel.specs.Words.{State, objects_collected}
 use Rattle.channel_invariant.specs.Associations.{AreAssociations}
+use Rattle.channel_invariant.specs.Timers.{AreTimers}
 
 abbrev pub pipe_number : Pipe → ℕ
 pipe_number x = x.number
@@ -19,10 +21,10 @@ pub record ArePipes (pipes : List Pipe) : Type 0 where
 abbrev pub port_number : Port → ℕ
 port_number x = x.number
 
--- at a port are no more user events queued than it takes, and all else that is queued is of associations
+-- at a port are no more user events queued than it takes, and all else that is queued is of associations and of timers
 pub record IsBounded (x : Port) : Type 0 where
   pub few : user_events x.queue ≤ USER_EVENTS_MAX
-  pub sent : All (λ q. is_user_event q ≡ is_none q.assoc) x.queue
+  pub sent : All (λ q. is_user_event q ≡ (is_none q.assoc && is_none q.timer)) x.queue
 
 -- ports have the numbers from 1 on, and are bounded
 pub record ArePorts (ports : List Port) : Type 0 where
@@ -70,8 +72,12 @@ pub record AreChannels (m : State) : Type 0 where
   pub pipes : ArePipes m.channels.pipes
   pub ports : ArePorts m.channels.ports
   pub associations : AreAssociations m.channels.ports m.channels.associations
+  pub timers : AreTimers m.channels.ports m.channels.timers
   pub refers : ReferToMade (made_in m) m.tables m.names m.call_tree.calls m.process_table.threads
   -- one event makes at most one of each
   pub few_pipes : length m.channels.pipes ≤ m.events
   pub few_ports : length m.channels.ports ≤ m.events
   pub few_associations : m.channels.associations.made ≤ m.events
+  pub few_timers : m.channels.timers.made ≤ m.events
+  -- and moves the clock by so much at most
+  pub early : m.channels.timers.clock ≤ ADVANCE_MAX * m.events

@@ -13,7 +13,7 @@ use Rattle.dk_base.specs.declared.error.Errno.TheVariants.{EMFILE}
 use Rattle.kernel_records.specs.Words.{call_number, is_to_collect_as, objects_passed}
 use Rattle.written_kernel.specs.Words.{ActResult, Channels, State, act, call, collect, collect_answer, collect_answer_in, door_named, event_answer, find_call, found_answer, has_room, new_call, object_at, port_at, process_of, state_of, table_of}
 use Rattle.written_kernel.proofs.Moves.{IsPassing, Moves, act_moves}
-use Rattle.written_kernel.proofs.Moves.IsPassing.{associates, dissociates, alerts, gets, gets_many, reads, sends, sends_each, writes}
+use Rattle.written_kernel.proofs.Moves.IsPassing.{advances, alerts, associates, creates_timer, deletes_timer, dissociates, gets, gets_many, reads, sends, sends_each, sets_timer, writes}
 use Rattle.written_kernel.proofs.Moves.IsSaid.{refused}
 use Rattle.written_kernel.proofs.Moves.IsRow.{closes}
 use Rattle.written_kernel.proofs.Moves.IsMaking.{makes_port}
@@ -93,6 +93,10 @@ passing_tells m t r c a (gets fd wait f e) = found_tells m t (record m { channel
 passing_tells m t r c a (gets_many fd max nget wait f z e) = record { told = tt; there = tt }
 passing_tells m t r c a (associates port object events user f) = record { told = tt; there = tt }
 passing_tells m t r c a (dissociates port object f) = record { told = tt; there = tt }
+passing_tells m t r c a (creates_timer port user f) = record { told = tt; there = tt }
+passing_tells m t r c a (sets_timer timer first interval f) = record { told = tt; there = tt }
+passing_tells m t r c a (deletes_timer timer f) = record { told = tt; there = tt }
+passing_tells m t r c a (advances by) = record { told = tt; there = tt }
 
 move_tells : (m : State) (t : ℕ) (q : Option Request) (a : ActResult) → IsConsistent m → Moves m t q a → Tells m t q a
 move_tells m t q a h (Moves.nothing x (refused r e f)) = record { told = tt; there = tt }

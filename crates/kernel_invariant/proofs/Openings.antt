@@ -11,7 +11,7 @@ use Rattle.kernel_records.specs.declared.record.ThreadState.TheVariants as is
 use Rattle.dk_base.specs.ByNumber.{at_number}
 use Rattle.kernel_records.specs.declared.pool.TheConstants.{LOST_DOOR}
 use Rattle.kernel_records.specs.Words.{CallTree, IsCounted, NoticeList, call_number, is_to_fire, is_unborn_in, names_its_object, notice_number}
-use Rattle.written_kernel.specs.Words.{Channels, IsOpening, State, associations_in, pick, pool_of, process_of, ready_at, state_of, thread_of}
+use Rattle.written_kernel.specs.Words.{Channels, IsOpening, State, associations_in, is_live_process, pick, pool_of, process_of, ready_at, state_of, thread_of, timers_in}
 use Rattle.kernel_records.proofs.Lists.{numbered_there}
 use Rattle.written_kernel.proofs.Opening.{bound_of-opening, children-opening, invocation_of-opening, length-tables_opening, object_at-opening, opened, state_of-opening, unborn-opening, waiting_items-opening}
 use Rattle.kernel_invariant.specs.Core.{Core, core, number_in, ended_in, is_ended_stage}
@@ -150,8 +150,12 @@ module _ (m : State) (o : IsOpening m) where
             record {
               rows = subst (All (λ a. names_its_object m.tables a ≡ true)) (sym none) (All-nil (λ a. names_its_object m.tables a ≡ true));
               wait = subst (All (λ a. is_to_fire (ready_at m) a ≡ false)) (sym none) (All-nil (λ a. is_to_fire (ready_at m) a ≡ false));
+              timers = subst (All (λ t. is_live_process m t.process.0 ≡ true)) (sym no_timer) (All-nil (λ t. is_live_process m t.process.0 ≡ true));
             };
       }
     where
       none : associations_in m ≡ []
       none = ap (λ (c : Channels). c.associations.associations) (opened o).channels
+
+      no_timer : timers_in m ≡ []
+      no_timer = ap (λ (c : Channels). c.timers.timers) (opened o).channels

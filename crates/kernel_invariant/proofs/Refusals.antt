@@ -5,7 +5,7 @@ use Rattle.std.proofs.Common.{refl, sym, ap, subst, ◌∙◌}
 use native.Mathlib.Omega.{arith}
 use Rattle.std.proofs.lemmas.List.Elements.{All-head, All-tail}
 use Rattle.written_kernel.specs.Types.{Errno, Request, Waiting}
-use Rattle.written_kernel.specs.Words.{State, effect, give_each, give_to, has_lost_door, needs_spare, pick, pool_of, process_of, refusal_of, settle, start_each, start_one, start_spares, step, tell, unless_refused, waiting_items, with_event_counted}
+use Rattle.written_kernel.specs.Words.{State, act, effect, give_each, give_to, has_lost_door, needs_spare, pick, pool_of, process_of, refusal_of, settle, start_each, start_one, start_spares, step, tell, unless_refused, waiting_items, with_event_counted}
 use Rattle.written_kernel.proofs.Notices.{make_notices-same}
 use Rattle.written_kernel.proofs.Settling.{settle-none}
 use Rattle.kernel_invariant.specs.Told.{AreTold}
@@ -45,6 +45,14 @@ unfolding step
 refused_gives m t r e lost h told g =
     ap (λ o. with_event_counted (settle m (unless_refused m o (effect m t (process_of m t) r)).state)) g
     ∙ ap with_event_counted (settles_nothing m lost h told)
+
+-- and so an act that changes nothing
+pub unchanged_gives :
+    (m : State) (t : ℕ) (q : Option Request) → ((u : ℕ) → has_lost_door m u ≡ false) → All (λ w. pick m (pool_of m w.door) ≡ None) (waiting_items m) →
+    AreTold m → (act m t q).state ≡ m → (step m t q).state ≡ with_event_counted m
+unfolding step
+unchanged_gives m t q lost h told e =
+    ap (λ n. with_event_counted (settle m n)) e ∙ ap with_event_counted (settles_nothing m lost h told)
 
 pub step_refused :
     (m : State) (t : ℕ) (q : Option Request) (r : Request) (e : Errno) → Invariant m → q ≡ Some r →

@@ -144,7 +144,7 @@ step_invariant m t q h may =
       children = child_kept m t q h may;
       idle_valid = idle_valid_of (settle m (act m t q).state) d.settled.none_lost;
       given_out = d.settled.given_out;
-      told = record { rows = d.settled.told.rows; wait = d.settled.told.wait };
+      told = record { rows = d.settled.told.rows; wait = d.settled.told.wait; timers = d.settled.told.timers };
     }
   where
     d : StepDoes m t q

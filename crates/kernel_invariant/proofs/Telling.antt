@@ -1,12 +1,14 @@
--- Once ports are told, every association that is left names its object and none is to fire; and where that holds, nothing is told.
-use Rattle.std.specs.Prelude.{◌≡◌, List, [], ◌∷◌, Option, Bool, true, false, if◌then◌else◌, not, All, filter, map}
+-- Once ports are told, every association that is left names its object and none is to fire, and the process of every timer that is left
+-- lives; and where that holds, nothing is told.
+use Rattle.std.specs.Prelude.{ℕ, ◌≡◌, List, [], ◌∷◌, Option, Bool, true, false, if◌then◌else◌, not, All, filter, map}
 use Rattle.std.proofs.Common.{refl, ap, ap₂, ◌∙◌}
 use Rattle.std.proofs.lemmas.List.Elements.{All-cons, All-head, All-nil, All-tail}
 use Rattle.written_kernel.specs.Types.{Obj}
 use Rattle.dk_base.specs.declared.set.PollSet.{PollSet}
 use Rattle.kernel_records.specs.declared.association.Association.{Association}
-use Rattle.kernel_records.specs.Words.{disarmed, disarmed_where, fired_where, has_lost_its_row, is_to_fire, names_its_object, post_fired, withdraw_events}
-use Rattle.written_kernel.specs.Words.{State, associations_in, end_lost, fire, ready_at, tell, with_channels}
+use Rattle.kernel_records.specs.declared.timer.Timer.{Timer}
+use Rattle.kernel_records.specs.Words.{disarmed, disarmed_where, fired_where, has_lost_its_row, is_timer_of_ended, is_timer_of_live, is_to_fire, names_its_object, post_fired, withdraw_events, withdraw_timers}
+use Rattle.written_kernel.specs.Words.{State, associations_in, end_lost, end_timers, fire, is_live_process, ready_at, tell, timers_in, with_channels}
 use Rattle.kernel_invariant.specs.Told.{AreTold}
 
 module _ (tables : List (List (Option Obj))) (ready : Obj → PollSet) where
@@ -67,11 +69,37 @@ module _ (tables : List (List (Option Obj))) (ready : Obj → PollSet) where
   all_stay (a ∷ xs) h =
       ap₂ (λ (b : Bool) (ys : List Association). (if b then disarmed a else a) ∷ ys) (All-head Waits a xs h) (all_stay xs (All-tail Waits a xs h))
 
+-- timers, where these processes live
+module _ (lives : ℕ → Bool) where
+  abbrev Lives : Timer → Type 0
+  Lives t = lives t.process.0 ≡ true
+
+  left_live : (ts : List Timer) → All Lives (filter (is_timer_of_live lives) ts)
+  left_live [] = All-nil Lives
+  left_live (t ∷ ts) = go (lives t.process.0) refl (left_live ts)
+    where
+      go :
+          (b : Bool) → lives t.process.0 ≡ b → All Lives (filter (is_timer_of_live lives) ts) →
+          All Lives (if b then t ∷ filter (is_timer_of_live lives) ts else filter (is_timer_of_live lives) ts)
+      go true e rest = All-cons Lives t (filter (is_timer_of_live lives) ts) e rest
+      go false e rest = rest
+
+  none_ended : (ts : List Timer) → All Lives ts → filter (is_timer_of_ended lives) ts ≡ []
+  none_ended [] h = refl
+  none_ended (t ∷ ts) h =
+      ap₂ (λ (b : Bool) (us : List Timer). if not b then t ∷ us else us) (All-head Lives t ts h) (none_ended ts (All-tail Lives t ts h))
+
+  all_live : (ts : List Timer) → All Lives ts → filter (is_timer_of_live lives) ts ≡ ts
+  all_live [] h = refl
+  all_live (t ∷ ts) h =
+      ap₂ (λ (b : Bool) (us : List Timer). if b then t ∷ us else us) (All-head Lives t ts h) (all_live ts (All-tail Lives t ts h))
+
 pub tells : (m : State) → AreTold (tell m)
 tells m =
     record {
       rows = left_name m.tables (ready_at (end_lost m)) (associations_in m);
       wait = all_wait m.tables (ready_at (end_lost m)) (associations_in (end_lost m));
+      timers = left_live (is_live_process m) (timers_in m);
     }
 
 ends_none : (m : State) → AreTold m → end_lost m ≡ m
@@ -86,6 +114,18 @@ ends_none m h =
     (none_lost m.tables (ready_at m) (associations_in m) h.rows)
     (all_left m.tables (ready_at m) (associations_in m) h.rows)
 
+ends_no_timer : (m : State) → AreTold m → end_timers m ≡ m
+ends_no_timer m h =
+    ap₂ {A = List Timer} {B = List Timer} {C = State}
+    (λ lost left.
+    with_channels m
+    (record m.channels {
+      ports = withdraw_timers m.channels.ports lost;
+      timers = record m.channels.timers { timers = left };
+    }))
+    (none_ended (is_live_process m) (timers_in m) h.timers)
+    (all_live (is_live_process m) (timers_in m) h.timers)
+
 fires_none : (m : State) → AreTold m → fire m ≡ m
 fires_none m h =
     ap₂ {A = List Association} {B = List Association} {C = State}
@@ -99,4 +139,4 @@ fires_none m h =
     (all_stay m.tables (ready_at m) (associations_in m) h.wait)
 
 pub tells_nothing : (m : State) → AreTold m → tell m ≡ m
-tells_nothing m h = ap fire (ends_none m h) ∙ fires_none m h
+tells_nothing m h = ap (λ n. fire (end_timers n)) (ends_none m h) ∙ ap fire (ends_no_timer m h) ∙ fires_none m h

@@ -37,5 +37,5 @@ pub record Invariant (m : State) : Type 0 where
       (t d since : ℕ) → (core m).role t ≡ is.Idle since → (core m).bound t ≡ Some d → is_valid_in ((core m).door d) ≡ true
   -- no pool has both a waiting item and an Idle thread
   pub given_out : All (λ w. pick m (pool_of m w.door) ≡ None) (waiting_items m)
-  -- the associations have been seen to
+  -- the associations and the timers have been seen to
   pub told : AreTold m
