@@ -6,11 +6,12 @@ use native.Mathlib.Omega.{arith}
 use Rattle.written_kernel.specs.Types.{Answer, Call, Errno, Fd, Name, Obj, Queued, Request, ThreadState}
 use Rattle.dk_base.specs.declared.object.Item.TheVariants as item
 use Rattle.kernel_records.specs.declared.record.ThreadState.TheVariants as is
-use Rattle.kernel_records.specs.Words.{Port, alert_event, events_found, first_found, found_at, has_bad_count, is_given_as, is_given_notice_as, is_ready_for, must_wait, port_in, record_of, records_of, refused_where}
+use Rattle.kernel_records.specs.Words.{Port, alert_event, events_found, first_found, found_at, has_all_timers, has_bad_count, is_given_as, is_given_notice_as, is_ready_for, must_wait, port_in, record_of, records_of, refused_where}
 use Rattle.kernel_records.proofs.NumberedLists.{find-passes}
 use Rattle.dk_base.specs.declared.request.Request.TheVariants as request
-use Rattle.written_kernel.specs.Words.{State, Turn, accept_call, accept_notice, after_sending, await_name, begin_call, effect, errors_of_sending, event_answer, fail_begin, found_answer, get, get_from, get_many, go_on, has_invalid_door, has_port_references, has_room, held_in, name_of, object_at, pipe_at, port, port_at, port_tests, process_of, refusal_of, retrieve, return_parked, return_unbound, state_at, state_of, step, tell_queued, unless_refused, wait_for, with_state}
+use Rattle.written_kernel.specs.Words.{State, Turn, accept_call, accept_notice, after_sending, await_name, begin_call, effect, errors_of_sending, event_answer, fail_begin, found_answer, get, get_from, get_many, go_on, has_invalid_door, has_port_references, has_room, held_in, name_of, object_at, pipe_at, port, port_at, port_tests, process_of, refusal_of, retrieve, return_parked, return_unbound, state_at, state_of, step, tell_queued, timers_in, unless_refused, wait_for, with_state}
 use Rattle.written_kernel.proofs.Refusals.{last_not_held, not_held}
+use Rattle.channel_invariant.proofs.TimerLists.{free_is}
 use Rattle.kernel_laws.specs.Channels.{AreEnough, alert_in, port_under}
 use Rattle.kernel_laws.specs.Answers.{Answers, AnswersEndsOfWaits, AnswersRequests, EndAnswers}
 use Rattle.written_kernel.proofs.Moves.{act_result, given_is, given_notice_is}
@@ -25,7 +26,7 @@ use Rattle.kernel_records.specs.declared.port.Alert.{Alert}
 use Rattle.std.proofs.lemmas.Bool.Decides.{nat_tests}
 use Rattle.dk_base.specs.declared.answer.Answer.TheVariants as answer
 use Rattle.dk_base.specs.declared.limits.TheConstants.{PIPE_MAX}
-use Rattle.dk_base.specs.declared.error.Errno.TheVariants.{EBADF, EINVAL, ETIME}
+use Rattle.dk_base.specs.declared.error.Errno.TheVariants.{EAGAIN, EBADF, EINVAL, ETIME}
 use Rattle.kernel_invariant.specs.Coherent.{is_fit_wait}
 
 -- at most so many, and no more than there are
@@ -185,7 +186,17 @@ effect_answers m t p (request.SendN fds events user) none =
 effect_answers m t p (request.Alert fd mode events user) none = Answers.alerts fd mode events user
 effect_answers m t p (request.Associate port object events user) none = Answers.associates port object events user
 effect_answers m t p (request.Dissociate port object) none = Answers.dissociates port object
+effect_answers m t p (request.TimerCreate port user) none =
+    Answers.makes_timer port user _
+    (omega (
+      arith,
+      (free_is p (timers_in m) (not_held (port_tests (object_at m p port)) (refused_where (has_all_timers (timers_in m) p) EAGAIN) [] none)).0,
+    ))
+effect_answers m t p (request.TimerSet timer first interval) none = Answers.sets_timer timer first interval
+effect_answers m t p (request.TimerDelete timer) none = Answers.deletes_timer timer
+effect_answers m t p (request.Advance by) none = Answers.advances by
 effect_answers m t p (request.Work op bytes) none = Answers.works op bytes
+effect_answers m t p (request.Ncd line) none = Answers.replies line
 
 step_answers : (m : State) (t : ℕ) (r : Request) → Answers r (step m t (Some r)).answer
 unfolding step

@@ -7,7 +7,7 @@ use Rattle.std.proofs.lemmas.Bool.Decides.{nat_tests}
 use Rattle.written_kernel.specs.Types.{Answer, Errno, Request, ThreadState}
 use Rattle.dk_base.specs.ByNumber.{at_number}
 use Rattle.kernel_records.specs.declared.record.ThreadState.TheVariants as is
-use Rattle.kernel_records.specs.Words.{change_at_number, change_found, no_associations}
+use Rattle.kernel_records.specs.Words.{change_at_number, change_found, no_associations, no_timers}
 use Rattle.dk_base.specs.declared.answer.Answer.TheVariants as answer
 use Rattle.kernel_records.proofs.Lists.{at_number-renumbered_there, numbered_there}
 use Rattle.written_kernel.specs.Words.{IsOpening, IsRun, State, Turn, act, effect, state_at, state_of, unless_refused}
@@ -27,7 +27,7 @@ use Rattle.kernel_laws.proofs.Tables.{not_refused}
 -- besides what is known of each run
 pub record KnownChannels (m : State) (xs : List Turn) : Type 0 where
   pub known : Known m xs
-  pub empty : m.channels ≡ record { pipes = []; ports = []; associations = no_associations }
+  pub empty : m.channels ≡ record { pipes = []; ports = []; associations = no_associations; timers = no_timers }
   pub none_waits : (t : ℕ) → is_at_port (state_of m t) ≡ false
   pub none_works : (t : ℕ) → is_at_task (state_of m t) ≡ false
   pub fits : (i : ℕ) → i ≤ length xs → AreChannels (state_at m xs i)

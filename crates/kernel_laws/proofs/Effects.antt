@@ -20,7 +20,7 @@ use Rattle.written_kernel.specs.Words.{ActResult, Channels, State, Turn, act, as
 use Rattle.written_kernel.proofs.Moves.{IsFree, IsMaking, IsPassing, Moves, act_moves}
 use Rattle.written_kernel.proofs.Refusals.{not_held}
 use Rattle.written_kernel.proofs.Settling.{channels-settle_pools}
-use Rattle.channel_invariant.proofs.Acts.{taken_made}
+use Rattle.channel_invariant.proofs.Few.{taken_made}
 use Rattle.channel_invariant.proofs.Associations.{counted_taken, occurs}
 use Rattle.run_places.specs.Places.{answer_at, process_at}
 use Rattle.run_places.proofs.Known.{next}
@@ -314,6 +314,10 @@ passing_made m t r c a (IsPassing.gets fd wait f ready) other = taken_made m.cha
 passing_made m t r c a (IsPassing.gets_many fd max nget wait f z ready) other = taken_made m.channels (port_at m (process_of m t) fd) max
 passing_made m t r c a (IsPassing.associates port object events user f) other = absurd (true≢false other)
 passing_made m t r c a (IsPassing.dissociates port object f) other = refl
+passing_made m t r c a (IsPassing.creates_timer port user f) other = refl
+passing_made m t r c a (IsPassing.sets_timer timer first interval f) other = refl
+passing_made m t r c a (IsPassing.deletes_timer timer f) other = refl
+passing_made m t r c a (IsPassing.advances by) other = refl
 
 move_made :
     (m : State) (t : ℕ) (q : Option Request) (a : ActResult) → Moves m t q a → associates q ≡ false → associations_made a.state ≡ associations_made m

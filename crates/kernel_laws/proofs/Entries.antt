@@ -11,10 +11,13 @@ use Rattle.dk_base.specs.declared.request.Param.TheVariants as param
 use Rattle.dk_base.specs.declared.request.Request.TheVariants as request
 use Rattle.kernel_records.specs.declared.association.Association.{Association}
 use Rattle.kernel_records.specs.declared.record.CallStage.TheVariants as stage
-use Rattle.kernel_records.specs.Words.{Pipe, Port, Test, alert_tests, bytes_in, first_refusal, free_rows, get_tests, getn_tests, is_bound_to_some, is_client_call_of, is_entered_by, is_full_of, is_full_port, is_of_descriptors, is_of_nothing, is_of_user, is_owned_by, is_private_in, is_ready_for, is_update, is_user_event, is_valid_in, lowest_free, port_in, read_tests, refused_where, refuses_descriptors_in, send_tests, set_param_tests, user_events, would_have_no_size, write_tests, associate_tests, association_at, dissociate_tests, pid}
-use Rattle.written_kernel.specs.Words.{State, bound_of, door_at, door_named, door_of, held_in, is_door, is_reading_end, is_writing_end, name_of, object_at, pipe_named, port, port_named, port_tests, readers_of, refusal_of, table_of, writers_of, association_of_key}
+use Rattle.kernel_records.specs.Words.{Pipe, Port, Test, alert_tests, bytes_in, first_refusal, free_rows, get_tests, getn_tests, is_bound_to_some, is_client_call_of, is_entered_by, is_full_of, is_full_port, is_of_descriptors, is_of_nothing, is_of_user, is_owned_by, is_private_in, is_ready_for, is_update, is_user_event, is_valid_in, lowest_free, port_in, read_tests, refused_where, refuses_descriptors_in, send_tests, set_param_tests, user_events, would_have_no_size, write_tests, associate_tests, association_at, dissociate_tests, pid, create_timer_tests, has_all_timers, timer_at}
+use Rattle.written_kernel.specs.Words.{State, bound_of, door_at, door_named, door_of, held_in, is_door, is_reading_end, is_writing_end, name_of, object_at, pipe_named, port, port_named, port_tests, readers_of, refusal_of, table_of, writers_of, association_of_key, timers_in}
 use Rattle.run_places.specs.Counts.{free_places, has_own_pool}
+use Rattle.kernel_records.specs.declared.timer.Timer.{Timer}
+use Rattle.kernel_laws.specs.Clock.{count_timers, timer_with, timers_left}
 use Rattle.kernel_laws.specs.Entries.{Reason, count_sent, door_behind, first_reason, has_client_among, has_fewer, has_no_door, has_no_reader, has_no_writer, holds_all, holds_none, is_alerted, is_in, is_invalid, is_message, is_no_door, is_no_mode, is_no_port, is_no_reading_end, is_no_writing_end, is_of_another, is_of_update, is_sent, leaves_no_size, pipe_behind, port_behind, reasons, sets_descriptors, takes_no_more, where_so, is_among, is_associated}
+use Rattle.kernel_laws.proofs.TimerLists.{counted_timers, identified_is}
 use Rattle.run_places.proofs.Counts.{free_is}
 use Rattle.kernel_laws.proofs.Installed.{first_free-within}
 use Rattle.dk_base.specs.declared.object.Src.TheVariants as src
@@ -204,6 +207,12 @@ none_associated :
 none_associated q p fd [] = refl
 none_associated q p fd (a ∷ xs) = grind (arith, nat_tests, none_associated q p fd xs)
 
+all_timers_are : (ts : List Timer) (p : ℕ) → has_all_timers ts p ≡ not (nat_lt (count_timers p ts) 32)
+all_timers_are ts p = let n = counted_timers ts p in grind (arith, nat_tests, n)
+
+no_timer_is : (m : State) (p id : ℕ) → is_none (timer_at (timers_in m) p id) ≡ is_none (timer_with m p id)
+no_timer_is m p id = ap (λ (o : Option Timer). is_none o) (sym (identified_is (timers_in m) p id))
+
 -- to no door that is there
 unbound_is : (o : Option ℕ) → not (is_bound_to_some o) ≡ has_no_door o
 unbound_is None = refl
@@ -285,4 +294,12 @@ refusal_is m t p (request.Dissociate fd object) h =
     (λ o. where_so EBADFD (is_none (object_at m p object)) ∷ where_so ENOENT (not (is_associated m p object o)) ∷ [])
     (λ q. two EBADFD ENOENT _ _ _ _ refl (none_associated q p object m.channels.associations.associations))
     (object_at m p fd)
+refusal_is m t p (request.TimerCreate fd user) h =
+    of_port_is m
+    (λ o. create_timer_tests (timers_in m) p)
+    (λ o. where_so EAGAIN (not (nat_lt (timers_left m p) 32)) ∷ [])
+    (λ q. one EAGAIN _ _ (all_timers_are (timers_in m) p))
+    (object_at m p fd)
+refusal_is m t p (request.TimerSet id first interval) h = one EINVAL _ _ (no_timer_is m p id)
+refusal_is m t p (request.TimerDelete id) h = one EINVAL _ _ (no_timer_is m p id)
 refusal_is m t p _ h = refl

@@ -1,16 +1,14 @@
 -- The laws hold of every run.
-use Rattle.std.specs.Prelude.{ℕ, ◌≡◌, ◌+◌, ◌↔◌, List, Option, Some, length, slice_get, None, false}
-use Rattle.std.proofs.Common.{sym, ap, subst, ◌∙◌, refl}
+use Rattle.std.specs.Prelude.{ℕ, ◌≡◌, ◌+◌, ◌↔◌, List, Some, length, slice_get, None, false}
+use Rattle.std.proofs.Common.{sym, ap, subst, ◌∙◌}
 use native.Mathlib.Omega.{arith}
-use Rattle.written_kernel.specs.Types.{Answer, Errno, Request, Pass, ThreadState}
-use Rattle.kernel_records.specs.declared.record.ThreadState.TheVariants as is
+use Rattle.written_kernel.specs.Types.{Errno, Request, Pass}
 use Rattle.dk_base.specs.declared.request.Request.TheVariants as request
 use Rattle.dk_base.specs.declared.answer.Answer.TheVariants as answer
-use Rattle.written_kernel.specs.Words.{IsOpening, IsRun, State, Turn, bound_of, output_at, refusal_of, state_after, state_at, state_of, what_of, with_event_counted, with_output}
-use Rattle.written_kernel.proofs.Runs.{length-events_of, number-event_of, slice_get-events_of, state_at_all}
+use Rattle.written_kernel.specs.Words.{IsOpening, IsRun, State, Turn, bound_of, refusal_of, state_after, state_at, with_event_counted}
+use Rattle.written_kernel.proofs.Runs.{state_at_all}
 use Rattle.kernel_invariant.specs.Invariant.{Invariant}
 use Rattle.kernel_laws.specs.Laws.{Laws}
-use Rattle.kernel_laws.specs.EventsShown.{EventsShown, answer_shown, what_done}
 use Rattle.kernel_laws.specs.Pools.{HasNoneIdle}
 use Rattle.run_places.specs.Places.{IsBoundToInvalid, IsReturnRefusedBy, answer_at, process_at, IsReturn}
 use Rattle.kernel_laws.specs.Once.{ReturnUnbinds}
@@ -21,6 +19,7 @@ use Rattle.run_places.proofs.Refusals.{FailsIn, entry_tells}
 use Rattle.run_places.proofs.Refusals.FailsIn.{by_test, returned_unbound}
 use Rattle.run_places.proofs.ReturnRefusals.{no_return_refusal, refusal_return, return_refusal}
 use Rattle.kernel_laws.proofs.Returns.{return_unbinds}
+use Rattle.kernel_laws.proofs.Shown.{events_shown}
 use Rattle.run_places.proofs.Runs.{invariant_at, known}
 use Rattle.kernel_laws.proofs.Once.{once_holds}
 use Rattle.kernel_laws.proofs.Match.{match_holds}
@@ -47,6 +46,9 @@ use Rattle.kernel_laws.proofs.PortWaits.{port_waits_hold}
 use Rattle.kernel_laws.proofs.Tasks.{tasks_hold}
 use Rattle.kernel_laws.proofs.OneShot.{one_shot_holds}
 use Rattle.kernel_laws.proofs.Effects.{lives_hold}
+use Rattle.kernel_laws.proofs.TimerLives.{timer_lives_hold}
+use Rattle.kernel_laws.proofs.TimerPlaces.{known_timers}
+use Rattle.kernel_laws.proofs.Ticks.{ticks_hold}
 use Rattle.kernel_laws.proofs.Channels.{KnownChannels, known_channels}
 use Rattle.kernel_laws.specs.Entries.{first_reason, reasons, is_message}
 use Rattle.kernel_laws.proofs.Entries.{refusal_is}
@@ -121,34 +123,6 @@ module _ (m : State) (xs : List Turn) (k : Known m xs) (i : ℕ) (x : Turn) (f :
           let lost : IsBoundToInvalid (state_at m xs i) x.thread = (invalid_decides (state_at m xs i) x.thread).0 v in
           absurd (still_bound lost same (return_unbinds m xs k i x b p f (is_return (request.Return bytes pass) b p q g n) lost))
 
-what_is : (m : State) (t : ℕ) (q : Option Request) → what_of m t q ≡ what_done q (state_of m t)
-what_is m t (Some r) = refl
-what_is m t None = refl
-
-answer_is : (s : ThreadState) (a : Answer) → with_output (output_at s) a ≡ answer_shown s a
-answer_is is.Dormant a = refl
-answer_is is.Running a = refl
-answer_is (is.Idle since) a = refl
-answer_is (is.Given item) a = refl
-answer_is (is.Calling c) a = refl
-answer_is (is.Getting port max nget one interrupted) a = refl
-answer_is (is.Awaiting path) a = refl
-answer_is (is.Working op input) a = refl
-answer_is is.FailedReturn a = refl
-answer_is is.Done a = refl
-
-events_shown : (m : State) (xs : List Turn) → Known m xs → EventsShown m xs
-events_shown m xs k =
-    record {
-      one_each = length-events_of m xs;
-      event = λ i x e. slice_get-events_of m xs i x e;
-      thread = λ i x. refl;
-      root = λ i x. refl;
-      what = λ i x. what_is (state_at m xs i) x.thread x.request;
-      answer = λ i x. answer_is (state_of (state_at m xs i) x.thread) (answer_at m xs i x);
-      number = λ i x e. number-event_of m xs i x e ∙ omega (arith, k.no_event);
-    }
-
 all_hold : (m : State) (xs : List Turn) → Known m xs → KnownChannels m xs → Laws m xs
 unfolding Laws
 all_hold m xs k h =
@@ -179,13 +153,15 @@ all_hold m xs k h =
       invalid_doors = invalid_doors_hold m xs k;
       cancels = cancels_holds m xs k;
       notices = notices_hold m xs k;
-      events_shown = events_shown m xs k;
+      events_shown = events_shown m xs k.no_event;
       bytes = bytes_hold m xs h;
       port_events = port_events_hold m xs h;
       port_waits = port_waits_hold m xs h;
       tasks = tasks_hold m xs h;
       one_shot = one_shot_holds m xs h;
       lives = lives_hold m xs h;
+      timer_lives = timer_lives_hold m xs h;
+      ticks = ticks_hold m xs (known_timers m xs h) (timer_lives_hold m xs h) (port_events_hold m xs h);
       begins = begins_hold m xs k;
     }
 

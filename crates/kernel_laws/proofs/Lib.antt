@@ -39,6 +39,15 @@ mod Fired
 mod Lives
 mod Effects
 mod Told
+mod Moments
+mod TimerLists
+mod TimerQueues
+mod TimerLives
+mod TimerPorts
+mod TimerPlaces
+mod Dues
+mod Ticks
 mod Spares
 mod Begins
+mod Shown
 mod EveryRun

@@ -9,7 +9,7 @@ use Rattle.kernel_records.proofs.NumberedLists.{ascending-filter}
 use Rattle.written_kernel.specs.Types.{Answer, EventRec, Fd, Obj, Queued, Request}
 use Rattle.kernel_records.specs.declared.port.Alert.{Alert}
 use Rattle.kernel_laws.specs.PortEvents.{AsksPort, Tells}
-use Rattle.written_kernel.specs.Words.{ActResult, Channels, State, Turn, act, associated, association_of_key, associations_in, dissociated, end_lost, key_at, object_at, port, port_at, port_tests, ready_at, settle_pools, state_at, step, take_found, watched}
+use Rattle.written_kernel.specs.Words.{ActResult, Channels, State, Turn, act, associated, association_of_key, associations_in, dissociated, end_lost, end_timers, key_at, object_at, port, port_at, port_tests, ready_at, settle_pools, state_at, step, take_found, watched}
 use Rattle.written_kernel.proofs.Settling.{channels-settle_pools}
 use Rattle.std.proofs.lemmas.Option.{slice_get_within}
 use Rattle.dk_base.specs.declared.error.Errno.TheVariants.{EBADFD}
@@ -23,7 +23,7 @@ use Rattle.written_kernel.proofs.Moves.{IsFree, IsMaking, IsPassing, Moves, act_
 use Rattle.written_kernel.proofs.Refusals.{not_held}
 use Rattle.channel_invariant.proofs.Associations.{counted_taken, occurs, parted}
 use Rattle.channel_invariant.specs.Channels.{AreChannels}
-use Rattle.channel_invariant.proofs.Acts.{Fits, act_fits, unfired_fits}
+use Rattle.channel_invariant.proofs.Acts.{Fits, act_fits, ended_fits}
 use Rattle.kernel_laws.proofs.Fired.{fired-event, queued_event}
 use Rattle.channel_invariant.proofs.Tally.{count-cons}
 use Rattle.kernel_invariant.specs.Coherent.{is_fit_wait}
@@ -427,6 +427,10 @@ module _ (m : State) (xs : List Turn) (k : KnownChannels m xs) (i : ℕ) (x : Tu
   passing_acts r c a (IsPassing.sends fd events user f) g h = Acted.same
   passing_acts r c a (IsPassing.sends_each fds events user) g h = Acted.same
   passing_acts r c a (IsPassing.alerts fd mode events user f) g h = Acted.same
+  passing_acts r c a (IsPassing.creates_timer port user f) g h = Acted.same
+  passing_acts r c a (IsPassing.sets_timer timer first interval f) g h = Acted.same
+  passing_acts r c a (IsPassing.deletes_timer timer f) g h = Acted.same
+  passing_acts r c a (IsPassing.advances by) g h = Acted.same
   passing_acts r c a (IsPassing.gets fd wait f ready) g h =
       take_acts (record before { channels = c }) (port_at before owner fd) 1 1 (records_of (events_found 1 (port before (port_at before owner fd))))
       (AsksPort.by_get fd wait g (names_port m xs k i x e fd (get_tests wait (port before (port_at before owner fd))) f))
@@ -502,7 +506,7 @@ module _ (m : State) (xs : List Turn) (k : KnownChannels m xs) (i : ℕ) (x : Tu
   acted_fits =
       let h : AreChannels (state_at m xs i) = k.fits i (omega (arith, slice_get_within xs i x e)) in
       act_fits (state_at m xs i) x.thread x.request
-      (record { pipes = h.pipes; ports = h.ports; associations = h.associations; refers = h.refers }) (k.known.may i x e)
+      (record { pipes = h.pipes; ports = h.ports; associations = h.associations; timers = h.timers; refers = h.refers }) (k.known.may i x e)
 
   pub told : association_under later n ≡ told_one later (under n (associations_in (act (state_at m xs i) x.thread x.request).state))
   told =
@@ -531,16 +535,16 @@ fired_step :
     queued_event n (step m t q).state.channels.ports b.key.port ≡ Some (fired_where (ready_at (step m t q).state) b).queued
 unfolding step
 fired_step m t q n b fits e names fires =
-    fired-event n (ready_at (end_lost (settle_pools m (act m t q).state))) (end_lost (settle_pools m (act m t q).state)).channels.ports
-    (associations_in (end_lost (settle_pools m (act m t q).state))) 0 _ b h.associations.in_order h.associations.of_ports there fires
-    (h.associations.queued n b.key.port ∙ counted_under n b.key.port 0 _ (associations_in (end_lost (settle_pools m (act m t q).state))) h.associations.in_order
+    fired-event n (ready_at (end_timers (end_lost (settle_pools m (act m t q).state)))) (end_timers (end_lost (settle_pools m (act m t q).state))).channels.ports
+    (associations_in (end_timers (end_lost (settle_pools m (act m t q).state)))) 0 _ b h.associations.in_order h.associations.of_ports there fires
+    (h.associations.queued n b.key.port ∙ counted_under n b.key.port 0 _ (associations_in (end_timers (end_lost (settle_pools m (act m t q).state)))) h.associations.in_order
     ∙ ap (λ o. if has_queued_at b.key.port o then 1 else 0) there
     ∙ none (b.key.port == b.key.port))
   where
-    h : Fits (end_lost (settle_pools m (act m t q).state))
-    h = unfired_fits m (act m t q).state fits
+    h : Fits (end_timers (end_lost (settle_pools m (act m t q).state)))
+    h = ended_fits m (act m t q).state fits
 
-    there : under n (associations_in (end_lost (settle_pools m (act m t q).state))) ≡ Some b
+    there : under n (associations_in (end_timers (end_lost (settle_pools m (act m t q).state)))) ≡ Some b
     there =
         ap (λ zs. under n (filter (names_its_object (settle_pools m (act m t q).state).tables) zs)) (ap (λ (c : Channels). c.associations.associations) (channels-settle_pools m (act m t q).state))
         ∙ under-filter n (names_its_object (settle_pools m (act m t q).state).tables) 0 _ (associations_in (act m t q).state) fits.associations.in_order
@@ -550,7 +554,7 @@ fired_step m t q n b fits e names fires =
     armed : b.armed ≡ true
     armed = go b.armed fires
       where
-        go : (c : Bool) → c && not (told_events (ready_at (end_lost (settle_pools m (act m t q).state)) b.object) b.events == 0) ≡ true → c ≡ true
+        go : (c : Bool) → c && not (told_events (ready_at (end_timers (end_lost (settle_pools m (act m t q).state))) b.object) b.events == 0) ≡ true → c ≡ true
         go true g = refl
         go false g = g
 
@@ -565,7 +569,7 @@ module _ (m : State) (xs : List Turn) (k : KnownChannels m xs) (i : ℕ) (x : Tu
   pub same_due : (z : State) (b : Association) → (fired_where (ready_at z) b).queued ≡ due_event z (disarmed b)
   same_due z b =
       ap
-      (λ w. record { rec = record { source = source.Fd; object = b.key.fd.0; events = bit_and w (bit_or b.events.0 24); user = b.user }; assoc = Some b.number })
+      (λ w. record { rec = record { source = source.Fd; object = b.key.fd.0; events = bit_and w (bit_or b.events.0 24); user = b.user }; assoc = Some b.number; timer = None })
       (ready_is z b.object)
 
   fired_later :

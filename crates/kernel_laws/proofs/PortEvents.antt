@@ -11,7 +11,7 @@ use Rattle.dk_base.specs.declared.request.Request.TheVariants as request
 use Rattle.dk_base.specs.declared.answer.Answer.TheVariants as answer
 use Rattle.dk_base.specs.ByNumber.{at_number}
 use Rattle.kernel_records.specs.declared.port.Alert.{Alert}
-use Rattle.kernel_records.specs.Words.{Port, alert_of, alert_tests, change_at_number, events_found, found_at, get_tests, getn_tests, is_ready_for, left_at, make_port, new_port, port_in, records_of, send_tests, take_events, user_event, with_alert, with_event, without_found, has_key}
+use Rattle.kernel_records.specs.Words.{Port, alert_of, alert_tests, change_at_number, events_found, found_at, get_tests, getn_tests, is_ready_for, left_at, make_port, new_port, port_in, records_of, send_tests, take_events, user_event, with_alert, with_event, without_found, without_timer_event, has_key}
 use Rattle.kernel_records.proofs.Lists.{numbered_past, numbered_push}
 use Rattle.written_kernel.specs.Words.{ActResult, Channels, State, Turn, act, effect, errors_of_sending, get_from, object_at, port, port_at, retrieve, state_at, tell_queued, wait_for, key_at, ports_without}
 use Rattle.written_kernel.proofs.Moves.{IsFree, IsMaking, IsPassing, Moves, act_moves}
@@ -20,21 +20,27 @@ use Rattle.run_places.specs.Places.{answer_at, process_at}
 use Rattle.kernel_laws.specs.Channels.{Names}
 use Rattle.kernel_laws.specs.PortEvents.{AsksPort, Becomes, Counts, Found, IsAnsweredAt, IsFound, PortChange, PortEvents, Tells, sent_event, sent_to, set_alert}
 use Rattle.kernel_laws.proofs.Answers.{take_enough}
-use Rattle.kernel_laws.proofs.Channels.{IsThere, KnownChannels, answer_of, changed_elsewhere, changed_here, entry_acted, entry_answer, is_free}
+use Rattle.kernel_laws.proofs.Channels.{IsThere, KnownChannels, answer_of, at_number-change_at_number, changed_elsewhere, changed_here, entry_acted, entry_answer, is_free}
 use Rattle.std.specs.Option.{option_map}
 use Rattle.std.specs.Prelude.{All}
 use Rattle.kernel_records.specs.declared.association.AssocKey.{AssocKey}
 use Rattle.kernel_records.specs.declared.association.Association.{Association}
-use Rattle.written_kernel.specs.Words.{associations_in, holdings}
+use Rattle.written_kernel.specs.Words.{associations_in, holdings, is_live_process, timers_in}
 use Rattle.channel_invariant.specs.Associations.{IsOfPort}
 use Rattle.run_places.proofs.Known.{next}
 use Rattle.kernel_laws.specs.OneShot.{association_under, under}
-use Rattle.kernel_laws.specs.PortEvents.{told_port}
+use Rattle.kernel_laws.specs.PortEvents.{ticked, told_port, without_timer}
+use Rattle.kernel_laws.specs.Clock.{timer_under, timer_with}
+use Rattle.kernel_laws.specs.TimerLives.{Ends}
+use Rattle.kernel_records.specs.declared.timer.Timer.{Timer}
 use Rattle.kernel_laws.proofs.Quiet.{IsQuiet, quiet-step, quiet_ports}
-use Rattle.kernel_laws.proofs.PortTurns.{WasTaken, fit_count, names_port, port_there, taken, taken_quiet, tells_found, tells_one, told_before, wait_fits, waits_there}
+use Rattle.kernel_laws.proofs.PortTurns.{WasTaken, fit_count, names_port, port_there, taken, taken_quiet, tells_found, tells_one, told_before, wait_fits, waits_there, running_lives}
 use Rattle.kernel_laws.proofs.Lives.{dissociated_by, replaced_by}
 use Rattle.kernel_laws.proofs.Effects.{ends_here}
-use Rattle.kernel_laws.proofs.Told.{key_told, made_here, told_here, withdrawn_port}
+use Rattle.kernel_laws.proofs.Told.{key_told, made_here, timer_told, told_here, withdrawn_port}
+use Rattle.kernel_laws.proofs.TimerLists.{identified_is}
+use Rattle.kernel_laws.proofs.TimerLives.{Finds, ended_here, found_deleted, found_set}
+use Rattle.kernel_laws.proofs.TimerPorts.{advanced_after, none_after, port_of_timer, set_after, withdrawn_ports}
 use Rattle.kernel_laws.proofs.Sending.{answered_at, none_sent, port_sent}
 
 none_of_none : (n : ℕ) → at_number {X = Port} [] n ≡ None
@@ -118,9 +124,12 @@ module _ (m : State) (xs : List Turn) (k : KnownChannels m xs) (i : ℕ) (x : Tu
 
   -- as where only ports change
   only_ports : (n : State) → acted ≡ n → n.tables ≡ before.tables → holdings n ≡ holdings before → n.channels.pipes ≡ before.channels.pipes →
-      associations_in n ≡ associations_in before → ports_after ≡ n.channels.ports
-  only_ports n same tables held pipes associations =
-      quiet n same (quiet_ports before n (told_before m xs k i x e) tables held pipes associations)
+      associations_in n ≡ associations_in before → ((p : ℕ) → is_live_process n p ≡ is_live_process before p) → timers_in n ≡ timers_in before →
+      ports_after ≡ n.channels.ports
+  only_ports n same tables held pipes associations lives timers =
+      quiet n same
+      (quiet_ports before n (told_before m xs k i x e) tables held pipes associations lives
+      (subst (All (λ (t : Timer). is_live_process (state_at m xs i) t.process.0 ≡ true)) (sym timers) (told_before m xs k i x e).timers))
 
   abbrev Change : ℕ → Option Port → Option Port → Type 0
   Change q o p = PortChange m xs i x q o p
@@ -219,7 +228,7 @@ module _ (m : State) (xs : List Turn) (k : KnownChannels m xs) (i : ℕ) (x : Tu
       s =
           becomes fd (with_event (user_event events user))
           (names_port m xs k i x e fd (send_tests (port (state_at m xs i) (port_at (state_at m xs i) own fd))) f)
-          (only_ports (record (state_at m xs i) { channels = c }) l refl refl refl refl)
+          (only_ports (record (state_at m xs i) { channels = c }) l refl refl refl refl (λ p. refl) refl)
   passes q r c a (IsPassing.alerts fd mode events user f) g h l =
       one_changes s.number q (with_alert events user) (ap (λ (z : State). z.channels.ports) l)
       (change_as s.number _ _ _ _ s.there
@@ -230,7 +239,7 @@ module _ (m : State) (xs : List Turn) (k : KnownChannels m xs) (i : ℕ) (x : Tu
       s =
           becomes fd (with_alert events user)
           (names_port m xs k i x e fd (alert_tests mode events (port (state_at m xs i) (port_at (state_at m xs i) own fd))) f)
-          (only_ports (record (state_at m xs i) { channels = c }) l refl refl refl refl)
+          (only_ports (record (state_at m xs i) { channels = c }) l refl refl refl refl (λ p. refl) refl)
   passes q r c a (IsPassing.sends_each fds events user) g h l = go (at_number ports q) refl
     where
       go : (o : Option Port) → at_number ports q ≡ o → Change q (at_number ports q) (at_number ports_after q)
@@ -240,7 +249,7 @@ module _ (m : State) (xs : List Turn) (k : KnownChannels m xs) (i : ℕ) (x : Tu
           ∙ ap (telling q) (none_sent events user (state_at m xs i) own q fds f ∙ sym f))
       go (Some p) f =
           change_as q _ _ _ _ f
-          (ap (λ ps. at_number ps q) (only_ports (record (state_at m xs i) { channels = c }) l refl refl refl refl)
+          (ap (λ ps. at_number ps q) (only_ports (record (state_at m xs i) { channels = c }) l refl refl refl refl (λ p. refl) refl)
           ∙ port_sent events user (state_at m xs i) own q fds p f)
           (PortChange.sent_each p fds events user _ g h)
   passes q r c a (IsPassing.gets fd wait f ready) g h l =
@@ -248,7 +257,7 @@ module _ (m : State) (xs : List Turn) (k : KnownChannels m xs) (i : ℕ) (x : Tu
       (subst (λ z. Tells z (records_of (events_found 1 (port (state_at m xs i) n)))) (sym h) (tells_one (port (state_at m xs i) n) ready))
       (ap (λ (z : State). z.channels.ports) l)
       (found_done n 1 1 (port_there m xs k i x e fd n names) (omega arith) ready
-      (quiet (record (state_at m xs i) { channels = c }) l (taken_quiet m xs k i x e (record (state_at m xs i) { channels = c }) n 1 refl refl refl)))
+      (quiet (record (state_at m xs i) { channels = c }) l (taken_quiet m xs k i x e (record (state_at m xs i) { channels = c }) n 1 refl refl refl (λ p. refl))))
     where
       n : ℕ
       n = port_at (state_at m xs i) own fd
@@ -260,7 +269,7 @@ module _ (m : State) (xs : List Turn) (k : KnownChannels m xs) (i : ℕ) (x : Tu
       (subst (λ z. Tells z (records_of (events_found max (port (state_at m xs i) n)))) (sym h) (Tells.several _))
       (ap (λ (z : State). z.channels.ports) l)
       (found_done n max nget (port_there m xs k i x e fd n names) (fit_count m xs k i x e fd max nget wait f z) ready
-      (quiet (record (state_at m xs i) { channels = c }) l (taken_quiet m xs k i x e (record (state_at m xs i) { channels = c }) n max refl refl refl)))
+      (quiet (record (state_at m xs i) { channels = c }) l (taken_quiet m xs k i x e (record (state_at m xs i) { channels = c }) n max refl refl refl (λ p. refl))))
     where
       n : ℕ
       n = port_at (state_at m xs i) own fd
@@ -275,6 +284,44 @@ module _ (m : State) (xs : List Turn) (k : KnownChannels m xs) (i : ℕ) (x : Tu
       withdrawn q (key_at (state_at m xs i) own port object)
       (λ b n u v. ends_here m xs k i x e n b u (dissociated_by m xs k i x e n port object f g h b v))
       (ap (λ (z : State). z.channels.ports) l)
+  passes q r c a (IsPassing.creates_timer port user f) g h l = same_ports q (ap (λ (z : State). z.channels.ports) l)
+  passes q r c a (IsPassing.sets_timer id first interval f) g h l = go (found_set m xs k i x e id first interval f)
+    where
+      go : Finds m xs k i x e id → Change q (at_number ports q) (at_number ports_after q)
+      go w =
+          one_changes w.timer.port q (without_timer_event w.timer.number)
+          (ap (λ (z : State). z.channels.ports) l ∙ withdrawn_ports m xs k i x e id w.timer w.at)
+          (by_port (port_of_timer m xs k i x e w.timer.number w.timer w.under))
+        where
+          by_port : IsThere (at_number ports w.timer.port) → Change w.timer.port (at_number ports w.timer.port) (at_number ports_after w.timer.port)
+          by_port y =
+              change_as w.timer.port _ _ _ _ y.there (set_after m xs k i x e id w.timer w.at first interval y.it l y.there)
+              (PortChange.timer_set y.it id first interval w.timer g h (identified_is (timers_in (state_at m xs i)) own id ∙ w.at) refl)
+  passes q r c a (IsPassing.deletes_timer id f) g h l = go (found_deleted m xs k i x e id f)
+    where
+      go : Finds m xs k i x e id → Change q (at_number ports q) (at_number ports_after q)
+      go w = told_change q (ap (λ (z : State). telling q (at_number z.channels.ports q)) l ∙ ap (λ ps. telling q (at_number ps q)) (withdrawn_ports m xs k i x e id w.timer w.at) ∙ by (q == w.timer.port) refl)
+        where
+          gone : timer_under (state_at m xs (i + 1)) w.timer.number ≡ None
+          gone =
+              ended_here m xs k i x e w.timer.number w.timer w.under
+              (Ends.deleted (g ∙ ap (λ z. Some (request.TimerDelete z)) w.same_id) h w.by_own)
+
+          by :
+              (b : Bool) → (q == w.timer.port) ≡ b →
+              telling q (at_number (change_at_number ports w.timer.port (without_timer_event w.timer.number)) q) ≡ telling q (at_number ports q)
+          by false n = ap (telling q) (changed_elsewhere ports w.timer.port q (without_timer_event w.timer.number) n)
+          by true n =
+              let same : w.timer.port ≡ q = grind (arith, nat_tests, n) in
+              ap (telling q) (at_number-change_at_number ports w.timer.port q (without_timer_event w.timer.number)
+              ∙ ap (λ (b : Bool). if b then option_map (without_timer_event w.timer.number) (at_number ports w.timer.port) else at_number ports q) n
+              ∙ ap (λ j. option_map (without_timer_event w.timer.number) (at_number ports j)) same)
+              ∙ timer_told m xs k i x e q w.timer.number gone (at_number ports q)
+  passes q r c a (IsPassing.advances by) g h l = go (at_number ports q) refl
+    where
+      go : (o : Option Port) → at_number ports q ≡ o → Change q (at_number ports q) (at_number ports_after q)
+      go None f = change_as q _ None _ None f (none_after m xs k i x e by l q f) PortChange.none
+      go (Some p) f = change_as q _ _ _ _ f (advanced_after m xs k i x e by l q p f) (PortChange.advanced p by g h)
   passes q r c a (IsPassing.writes fd bytes f) g h l = same_ports q (ap (λ (z : State). z.channels.ports) l)
   passes q r c a (IsPassing.reads fd max f) g h l = same_ports q (ap (λ (z : State). z.channels.ports) l)
 
@@ -296,7 +343,7 @@ module _ (m : State) (xs : List Turn) (k : KnownChannels m xs) (i : ℕ) (x : Tu
       (subst (λ z. Tells z (records_of (events_found max (port (state_at m xs i) n)))) (sym h) (tells_found (state_at m xs i) n max nget one fit.1 fit.0))
       (ap (λ (z : State). z.channels.ports) l)
       (found_done n max nget (waits_there m xs k i x e n max nget one false p.waits) (grind (arith, nat_tests, fit.1)) fit.0
-      (quiet a.state l (taken_quiet m xs k i x e a.state n max refl refl refl)))
+      (quiet a.state l (taken_quiet m xs k i x e a.state n max refl refl refl (running_lives m xs k i x e))))
     where
       fit : (is_ready_for nget (port (state_at m xs i) n) ≡ true) × (is_fit_wait max nget one ≡ true)
       fit = wait_fits m xs k i x e n max nget one g p.waits p.referred
@@ -366,7 +413,7 @@ module _ (m : State) (xs : List Turn) (k : KnownChannels m xs) (i : ℕ) (x : Tu
       becomes fd (with_event (user_event events user))
       (names_port m xs k i x e fd (send_tests (port (state_at m xs i) (port_at (state_at m xs i) own fd))) free)
       (only_ports (effect (state_at m xs i) x.thread own (request.Send fd events user)).state
-      (entry_acted m xs k.known i x e (request.Send fd events user) f free) refl refl refl refl)
+      (entry_acted m xs k.known i x e (request.Send fd events user) f free) refl refl refl refl (λ p. refl) refl)
     where
       free : IsFree (state_at m xs i) x.thread (request.Send fd events user)
       free = is_free m xs k.known i x e (request.Send fd events user) answer.Done f g (λ y h. cc)
@@ -379,7 +426,7 @@ module _ (m : State) (xs : List Turn) (k : KnownChannels m xs) (i : ℕ) (x : Tu
       (becomes fd (with_alert events user)
       (names_port m xs k i x e fd (alert_tests mode events (port (state_at m xs i) (port_at (state_at m xs i) own fd))) free)
       (only_ports (effect (state_at m xs i) x.thread own (request.Alert fd mode events user)).state
-      (entry_acted m xs k.known i x e (request.Alert fd mode events user) f free) refl refl refl refl))
+      (entry_acted m xs k.known i x e (request.Alert fd mode events user) f free) refl refl refl refl (λ p. refl) refl))
     where
       free : IsFree (state_at m xs i) x.thread (request.Alert fd mode events user)
       free = is_free m xs k.known i x e (request.Alert fd mode events user) answer.Done f g (λ y h. cc)
@@ -401,7 +448,7 @@ module _ (m : State) (xs : List Turn) (k : KnownChannels m xs) (i : ℕ) (x : Tu
     each_sent q p h =
         ap (λ ps. at_number ps q)
         (only_ports (effect (state_at m xs i) x.thread own (request.SendN fds events user)).state
-        (entry_acted m xs k.known i x e (request.SendN fds events user) f refl) refl refl refl refl)
+        (entry_acted m xs k.known i x e (request.SendN fds events user) f refl) refl refl refl refl (λ p. refl) refl)
         ∙ port_sent events user (state_at m xs i) own q fds p h
         ∙ ap (λ es. Some (record p { queue = p.queue ++ replicate (sent_to (state_at m xs i) own q fds es) (sent_event events user) })) same_errors
 
@@ -409,6 +456,21 @@ module _ (m : State) (xs : List Turn) (k : KnownChannels m xs) (i : ℕ) (x : Tu
     each_answered n fd h =
         subst (λ es. IsAnsweredAt (state_at m xs i) own fds es n fd) same_errors
         (answered_at events user (state_at m xs i) own (port_there m xs k i x e) fds n fd h)
+
+  -- timers
+
+  set_timer :
+      (id first interval : ℕ) (t : Timer) (p : Port) → x.request ≡ Some (request.TimerSet id first interval) → answer_at m xs i x ≡ answer.Done →
+      timer_with (state_at m xs i) own id ≡ Some t → at_number ports t.port ≡ Some p → at_number ports_after t.port ≡ Some (without_timer t.number p)
+  set_timer id first interval t p f g h there =
+      set_after m xs k i x e id t (sym (identified_is (timers_in (state_at m xs i)) own id) ∙ h) first interval p
+      (entry_acted m xs k.known i x e (request.TimerSet id first interval) f
+      (is_free m xs k.known i x e (request.TimerSet id first interval) answer.Done f g (λ y z. cc)))
+      there
+
+  advances : (q by : ℕ) (p : Port) → x.request ≡ Some (request.Advance by) → at_number ports q ≡ Some p → at_number ports_after q ≡ Some (ticked before later q p)
+  advances q by p f there =
+      advanced_after m xs k i x e by (entry_acted m xs k.known i x e (request.Advance by) f refl) q p there
 
   is_made :
       (fd : Fd) → x.request ≡ Some request.PortCreate → answer_at m xs i x ≡ answer.NewFd fd →
@@ -431,4 +493,6 @@ port_events_hold m xs k =
       alerted = λ i x fd mode events user e. alerts m xs k i x e fd mode events user;
       sent_each = λ i q x fds events user errors p e f g. each_sent m xs k i x e fds events user errors f g q p;
       each_answered = λ i n x fds fd events user errors e f g. each_answered m xs k i x e fds events user errors f g n fd;
+      timer_set = λ i id first interval x t p e f g h. set_timer m xs k i x e id first interval t p f g h;
+      advanced = λ i q by x p e f. advances m xs k i x e q by p f;
     }

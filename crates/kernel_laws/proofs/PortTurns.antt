@@ -12,10 +12,11 @@ use Rattle.dk_base.specs.declared.answer.Answer.TheVariants as answer
 use Rattle.dk_base.specs.ByNumber.{at_number}
 use Rattle.kernel_records.specs.declared.port.Alert.{Alert}
 use Rattle.kernel_records.specs.declared.record.ThreadState.TheVariants as is
-use Rattle.kernel_records.specs.Words.{Port, Test, associations_of, events_found, first_found, first_refusal, found_at, has_bad_count, is_ready_for, must_wait, records_of, refused_where, state_in}
-use Rattle.written_kernel.specs.Words.{Channels, State, Turn, act, effect, event_answer, found_answer, end_getting, get_from, go_on, has_port_references, holdings, is_port, object_at, port, port_at, port_named, port_tests, retrieve, state_at, state_of, take_found, tell_queued, wait_for, with_state}
+use Rattle.kernel_records.specs.Words.{Port, Test, associations_of, events_found, first_found, first_refusal, found_at, has_bad_count, is_live_in, is_ready_for, must_wait, records_of, refused_where, state_in, thread_at_state}
+use Rattle.written_kernel.specs.Words.{Channels, State, Turn, act, effect, event_answer, found_answer, end_getting, get_from, go_on, has_port_references, holdings, is_live_process, is_port, object_at, port, port_at, port_named, port_tests, retrieve, state_at, state_of, take_found, tell_queued, wait_for, with_state}
 use Rattle.written_kernel.proofs.Moves.{IsFree, act_result}
 use Rattle.written_kernel.proofs.Refusals.{not_held}
+use Rattle.written_kernel.proofs.Threads.{processes-change_thread}
 use Rattle.channel_invariant.specs.Channels.{WaitsAtMade, made_in}
 use Rattle.channel_invariant.proofs.Elements.{All-at_number}
 use Rattle.kernel_invariant.specs.Coherent.{is_fit_wait}
@@ -146,13 +147,19 @@ module _ (m : State) (xs : List Turn) (k : KnownChannels m xs) (i : ℕ) (x : Tu
   pub told_before : AreTold (state_at m xs i)
   told_before = (k.known.invariant i (omega (arith, slice_get_within xs i x e))).told
 
+  -- a thread that runs again changes no process
+  pub running_lives : (p : ℕ) → is_live_process (with_state (state_at m xs i) x.thread is.Running) p ≡ is_live_process (state_at m xs i) p
+  running_lives p =
+      ap (λ ps. is_live_in (at_number ps p)) (processes-change_thread (state_at m xs i).process_table x.thread (thread_at_state is.Running))
+
   -- what is taken
   pub taken_quiet :
       (n : State) (q max : ℕ) → n.tables ≡ (state_at m xs i).tables → holdings n ≡ holdings (state_at m xs i) →
-      n.channels ≡ take_found (state_at m xs i).channels q max → IsQuiet (state_at m xs i) n
-  taken_quiet n q max tables held same =
+      n.channels ≡ take_found (state_at m xs i).channels q max → ((p : ℕ) → is_live_process n p ≡ is_live_process (state_at m xs i) p) →
+      IsQuiet (state_at m xs i) n
+  taken_quiet n q max tables held same lives =
       quiet_taken (state_at m xs i) n (associations_of (events_found max (port (state_at m xs i) q))) told_before tables held
-      (ap (λ (c : Channels). c.pipes) same) (ap (λ (c : Channels). c.associations) same)
+      (ap (λ (c : Channels). c.pipes) same) (ap (λ (c : Channels). c.associations) same) lives (ap (λ (c : Channels). c.timers.timers) same)
 
   -- a get that may begin a wait
   from_get :
@@ -176,7 +183,7 @@ module _ (m : State) (xs : List Turn) (k : KnownChannels m xs) (i : ℕ) (x : Tu
             ready = r;
             told = told_at _ _ rs f (tells_found (state_at m xs i) n max nget one fit r) tells;
             acted = ap (λ (z : State). z.channels) g;
-            quiet = subst (IsQuiet (state_at m xs i)) (sym g) (taken_quiet (retrieve (state_at m xs i) n max one).state n max refl refl refl);
+            quiet = subst (IsQuiet (state_at m xs i)) (sym g) (taken_quiet (retrieve (state_at m xs i) n max one).state n max refl refl refl (λ p. refl));
           }
       go false r f g = absurd (not_told _ rs tells f)
 
@@ -251,7 +258,7 @@ module _ (m : State) (xs : List Turn) (k : KnownChannels m xs) (i : ℕ) (x : Tu
             acted = ap (λ (z : State). z.channels) c;
             quiet =
                 subst (IsQuiet (state_at m xs i)) (sym c)
-                (taken_quiet (retrieve (with_state (state_at m xs i) x.thread is.Running) q max one).state q max refl refl refl);
+                (taken_quiet (retrieve (with_state (state_at m xs i) x.thread is.Running) q max one).state q max refl refl refl running_lives);
           }
       by_references false r z a c = absurd (tells_no_error _ rs tells EBADF a)
 

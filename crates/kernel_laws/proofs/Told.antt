@@ -1,5 +1,5 @@
 -- What ports have after an event: what the act leaves in their queues, without the events of associations that ended, and then what
--- those have queued that fired.
+-- those have queued that fired. Events of timers leave as those of associations do, where their timers end.
 use Rattle.std.specs.Prelude.{ℕ, ◌≡◌, ◌+◌, ◌++◌, ◌≤◌, ◌<◌, ◌==◌, ◌&&◌, ◌||◌, List, [], ◌∷◌, Option, Bool, true, false, if◌then◌else◌, not, Some, None, count_by, filter, is_some, map, slice_get, All}
 use Rattle.std.specs.Option.{option_map}
 use Rattle.std.proofs.Common.{append-nil, ap₂, cond, refl, sym, ap, subst, ◌∙◌}
@@ -13,22 +13,26 @@ use Rattle.dk_base.specs.ByNumber.{at_number}
 use Rattle.kernel_records.specs.declared.association.AssocKey.{AssocKey}
 use Rattle.kernel_records.specs.declared.association.Association.{Association}
 use Rattle.kernel_records.specs.declared.association.Fired.{Fired}
-use Rattle.kernel_records.specs.Words.{AssociationList, IsAscending, Port, all_fired, association_number, associations_that_lost, disarmed, disarmed_where, fired_where, has_key, has_lost_its_row, is_event_of, is_number, is_other_event, is_to_fire, names_its_object, port_in, post_event, post_fired, told_events, with_event, withdraw_event, withdraw_events, without_event}
+use Rattle.kernel_records.specs.declared.timer.Timer.{Timer}
+use Rattle.kernel_records.specs.Words.{AssociationList, IsAscending, Port, TimerList, is_other_timer_event, is_timer_event, is_timer_of_ended, is_timer_of_live, timer_number, timers_of_ended, withdraw_timer, withdraw_timers, without_timer_event, all_fired, association_number, associations_that_lost, disarmed, disarmed_where, fired_where, has_key, has_lost_its_row, is_event_of, is_number, is_other_event, is_to_fire, names_its_object, port_in, post_event, post_fired, told_events, with_event, withdraw_event, withdraw_events, without_event}
 use Rattle.kernel_records.proofs.NumberedLists.{ascending-filter}
 use Rattle.written_kernel.specs.Types.{Obj, Queued, Request}
-use Rattle.written_kernel.specs.Words.{Channels, State, Turn, act, associations_in, end_lost, ready_at, settle_pools, state_at, step}
+use Rattle.written_kernel.specs.Words.{Channels, State, Turn, act, associations_in, end_lost, is_live_process, ready_at, settle_pools, state_at, step, timers_in}
 use Rattle.written_kernel.proofs.Settling.{channels-settle_pools}
 use Rattle.channel_invariant.specs.Associations.{AreAssociations, IsOfPort}
+use Rattle.channel_invariant.specs.Timers.{AreTimed, IsOfTimer}
 use Rattle.channel_invariant.proofs.Acts.{Fits}
 use Rattle.channel_invariant.proofs.Tally.{count-cons}
 use Rattle.run_places.proofs.Known.{next}
 use Rattle.kernel_laws.specs.Channels.{port_under}
+use Rattle.kernel_laws.specs.Clock.{numbered, timer_under}
 use Rattle.kernel_laws.specs.OneShot.{association_under, due_event, has_queued_at, is_unfired, under}
-use Rattle.kernel_laws.specs.PortEvents.{fired_at, has_fired, is_left, stands, told_port}
+use Rattle.kernel_laws.specs.PortEvents.{fired_at, has_fired, is_left, stands, timer_stands, told_port}
 use Rattle.kernel_laws.proofs.Channels.{KnownChannels, at_number-change_at_number}
 use Rattle.kernel_laws.proofs.OneShot.{counted_under}
 use Rattle.kernel_laws.proofs.Lives.{Acted, acted_fits, acts, kept, same_due, told, told_one, under-above, under-filter}
 use Rattle.kernel_laws.proofs.Effects.{under-bounded}
+use Rattle.kernel_laws.proofs.TimerLists.{eq_sym, kept as kept_timer, numbered-above, numbered-filter, numbered_is}
 
 -- lists that are filtered
 
@@ -47,7 +51,7 @@ module _ {X : Type 0} where
       go true false e rest = ap (λ (b : Bool). if b then x ∷ filter f (filter g xs) else filter f (filter g xs)) e ∙ rest
       go false b e rest = rest
 
-  filter-alike : (f g : X → Bool) → ((x : X) → f x ≡ g x) → (xs : List X) → filter f xs ≡ filter g xs
+  pub filter-alike : (f g : X → Bool) → ((x : X) → f x ≡ g x) → (xs : List X) → filter f xs ≡ filter g xs
   filter-alike f g same [] = refl
   filter-alike f g same (x ∷ xs) =
       ap₂ (λ (b : Bool) (ys : List X). if b then x ∷ ys else ys) (same x) (filter-alike f g same xs)
@@ -171,45 +175,108 @@ module _ (q : ℕ) where
           ∙ one (grind (arith, nat_tests)) (at_number ports q)
       go false h = other (grind (arith, nat_tests)) (at_number ports q)
 
+  -- an event that one of these timers has queued at port q
+  abbrev pub is_of_timers : List Timer → Queued → Bool
+  is_of_timers [] e = false
+  is_of_timers (t ∷ ts) e = (t.port == q) && is_timer_event t.number e || is_of_timers ts e
+
+  abbrev pub without_timers : List Timer → Port → Port
+  without_timers ts p = record p { queue = filter (λ (e : Queued). not (is_of_timers ts e)) p.queue }
+
+  pub withdrawn_timers : (ports : List Port) (ts : List Timer) → at_number (withdraw_timers ports ts) q ≡ option_map (without_timers ts) (at_number ports q)
+  withdrawn_timers ports [] = go (at_number ports q)
+    where
+      go : (o : Option Port) → o ≡ option_map (without_timers []) o
+      go None = refl
+      go (Some p) = ap (λ qs. Some (record p { queue = qs })) (sym (filter-all (λ (e : Queued). not (is_of_timers [] e)) (λ e. refl) p.queue))
+  withdrawn_timers ports (t ∷ ts) =
+      withdrawn_timers (withdraw_timer ports t.port t.number) ts
+      ∙ ap (option_map (without_timers ts)) (at_number-change_at_number ports t.port q (without_timer_event t.number))
+      ∙ go (q == t.port) refl
+    where
+      keeps : (c d : Bool) → not c && not d ≡ not (c || d)
+      keeps true d = refl
+      keeps false d = refl
+
+      one : (t.port == q) ≡ true → (o : Option Port) → option_map (without_timers ts) (option_map (without_timer_event t.number) o) ≡ option_map (without_timers (t ∷ ts)) o
+      one f None = refl
+      one f (Some p) =
+          ap (λ qs. Some (record p { queue = qs }))
+          (filter-both (λ (e : Queued). not (is_of_timers ts e)) (is_other_timer_event t.number) (λ (e : Queued). not (is_of_timers (t ∷ ts) e))
+          (λ e.
+          keeps (is_timer_event t.number e) (is_of_timers ts e)
+          ∙ ap (λ b. not (b && is_timer_event t.number e || is_of_timers ts e)) (sym f))
+          p.queue)
+
+      other : (t.port == q) ≡ false → (o : Option Port) → option_map (without_timers ts) o ≡ option_map (without_timers (t ∷ ts)) o
+      other f None = refl
+      other f (Some p) =
+          ap (λ qs. Some (record p { queue = qs }))
+          (filter-alike (λ (e : Queued). not (is_of_timers ts e)) (λ (e : Queued). not (is_of_timers (t ∷ ts) e))
+          (λ e. ap (λ b. not (b && is_timer_event t.number e || is_of_timers ts e)) (sym f))
+          p.queue)
+
+      go :
+          (b : Bool) → (q == t.port) ≡ b →
+          option_map (without_timers ts) (if b then option_map (without_timer_event t.number) (at_number ports t.port) else at_number ports q)
+          ≡ option_map (without_timers (t ∷ ts)) (at_number ports q)
+      go true f =
+          let same : t.port ≡ q = grind (arith, nat_tests) in
+          ap (λ n. option_map (without_timers ts) (option_map (without_timer_event t.number) (at_number ports n))) same
+          ∙ one (grind (arith, nat_tests)) (at_number ports q)
+      go false f = other (grind (arith, nat_tests)) (at_number ports q)
+
   -- and where ports are told
 
-  abbrev pub settled : List (List (Option Obj)) → (Obj → PollSet) → List Association → Port → Port
-  settled tables ready xs p =
+  abbrev pub settled : List (List (Option Obj)) → (Obj → PollSet) → List Association → (ℕ → Bool) → List Timer → Port → Port
+  settled tables ready xs lives ts p =
       record p {
         queue =
-            filter (λ (e : Queued). not (is_of_any (associations_that_lost tables xs) e)) p.queue
+            filter (λ (e : Queued). not (is_of_timers (timers_of_ended lives ts) e))
+            (filter (λ (e : Queued). not (is_of_any (associations_that_lost tables xs) e)) p.queue)
             ++ events_at (all_fired ready (filter (names_its_object tables) xs));
       }
 
   told_there :
-      (ports : List Port) (tables : List (List (Option Obj))) (ready : Obj → PollSet) (xs : List Association) →
-      at_number (post_fired (withdraw_events ports (associations_that_lost tables xs)) (all_fired ready (filter (names_its_object tables) xs))) q
-      ≡ option_map (settled tables ready xs) (at_number ports q)
-  told_there ports tables ready xs =
-      posted_port (withdraw_events ports (associations_that_lost tables xs)) (all_fired ready (filter (names_its_object tables) xs))
-      ∙ ap (option_map (with_all (all_fired ready (filter (names_its_object tables) xs)))) (withdrawn_port ports (associations_that_lost tables xs))
+      (ports : List Port) (tables : List (List (Option Obj))) (ready : Obj → PollSet) (xs : List Association) (lives : ℕ → Bool) (ts : List Timer) →
+      at_number
+      (post_fired (withdraw_timers (withdraw_events ports (associations_that_lost tables xs)) (timers_of_ended lives ts))
+      (all_fired ready (filter (names_its_object tables) xs)))
+      q
+      ≡ option_map (settled tables ready xs lives ts) (at_number ports q)
+  told_there ports tables ready xs lives ts =
+      posted_port (withdraw_timers (withdraw_events ports (associations_that_lost tables xs)) (timers_of_ended lives ts))
+      (all_fired ready (filter (names_its_object tables) xs))
+      ∙ ap (option_map (with_all (all_fired ready (filter (names_its_object tables) xs))))
+      (withdrawn_timers (withdraw_events ports (associations_that_lost tables xs)) (timers_of_ended lives ts)
+      ∙ ap (option_map (without_timers (timers_of_ended lives ts))) (withdrawn_port ports (associations_that_lost tables xs)))
       ∙ both (at_number ports q)
     where
       both :
           (o : Option Port) →
-          option_map (with_all (all_fired ready (filter (names_its_object tables) xs))) (option_map (without_all (associations_that_lost tables xs)) o)
-          ≡ option_map (settled tables ready xs) o
+          option_map (with_all (all_fired ready (filter (names_its_object tables) xs)))
+          (option_map (without_timers (timers_of_ended lives ts)) (option_map (without_all (associations_that_lost tables xs)) o))
+          ≡ option_map (settled tables ready xs lives ts) o
       both None = refl
       both (Some p) = refl
 
   pub step_port :
       (m : State) (t : ℕ) (r : Option Request) →
       at_number (step m t r).state.channels.ports q
-      ≡ option_map (settled (step m t r).state.tables (ready_at (step m t r).state) (associations_in (act m t r).state))
+      ≡ option_map
+      (settled (step m t r).state.tables (ready_at (step m t r).state) (associations_in (act m t r).state) (is_live_process (step m t r).state)
+      (timers_in (act m t r).state))
       (at_number (act m t r).state.channels.ports q)
   unfolding step
   step_port m t r =
       told_there (settle_pools m (act m t r).state).channels.ports (settle_pools m (act m t r).state).tables
       (ready_at (end_lost (settle_pools m (act m t r).state))) (associations_in (settle_pools m (act m t r).state))
+      (is_live_process (settle_pools m (act m t r).state)) (timers_in (settle_pools m (act m t r).state))
       ∙ ap
       (λ (c : Channels).
       option_map
-      (settled (settle_pools m (act m t r).state).tables (ready_at (end_lost (settle_pools m (act m t r).state))) c.associations.associations)
+      (settled (settle_pools m (act m t r).state).tables (ready_at (end_lost (settle_pools m (act m t r).state))) c.associations.associations
+      (is_live_process (settle_pools m (act m t r).state)) c.timers.timers)
       (at_number c.ports q))
       (channels-settle_pools m (act m t r).state)
 
@@ -297,15 +364,106 @@ module _ (q : ℕ) where
         has false l = absurd (omega (arith, l))
 
     pub left_there :
-        (p : Port) → at_number ports q ≡ Some p → filter (λ (e : Queued). not (is_of_any lost e)) p.queue ≡ filter (is_left later) p.queue
+        (p : Port) → at_number ports q ≡ Some p →
+        filter (λ (e : Queued). not (is_of_any lost e)) p.queue ≡ filter (λ (e : Queued). stands later e.assoc) p.queue
     left_there p there =
-        filter-queued (λ (e : Queued). not (is_of_any lost e)) (is_left later) p.queue (λ e some. go e some e.assoc refl) p.queue (λ n. omega arith)
+        filter-queued (λ (e : Queued). not (is_of_any lost e)) (λ (e : Queued). stands later e.assoc) p.queue (λ e some. go e some e.assoc refl) p.queue
+        (λ n. omega arith)
       where
         go :
             (e : Queued) → ((n : ℕ) → e.assoc ≡ Some n → 1 ≤ count_by (is_event_of n) p.queue) → (o : Option ℕ) → e.assoc ≡ o →
             not (is_of_any lost e) ≡ stands later e.assoc
         go e some None r = ap not (none_any lost e r) ∙ ap (stands later) (sym r)
         go e some (Some n) r = of_number p there e n r (some n r) ∙ ap (stands later) (sym r)
+
+  -- and of timers
+
+  -- an event of a timer of one of these numbers
+
+  abbrev is_at_timer : Option Timer → Bool
+  is_at_timer None = false
+  is_at_timer (Some t) = t.port == q
+
+  no_timer : (ts : List Timer) (e : Queued) → e.timer ≡ None → is_of_timers ts e ≡ false
+  no_timer [] e r = refl
+  no_timer (t ∷ ts) e r =
+      ap₂ (λ (o : Option ℕ) (b : Bool). (t.port == q) && is_number t.number o || b) r (no_timer ts e r) ∙ by (t.port == q)
+    where
+      by : (c : Bool) → c && false || false ≡ false
+      by true = refl
+      by false = refl
+
+  timer_is :
+      (n low made : ℕ) (ts : List Timer) (e : Queued) → e.timer ≡ Some n → IsAscending timer_number low made ts →
+      is_of_timers ts e ≡ is_at_timer (numbered n ts)
+  timer_is n low made [] e r h = refl
+  timer_is n low made (t ∷ ts) e r h =
+      ap₂ (λ (o : Option ℕ) (b : Bool). (t.port == q) && is_number t.number o || b) r (timer_is n t.number made ts e r h.2)
+      ∙ go (t.number == n) refl
+    where
+      here : (c : Bool) → c && true || false ≡ c
+      here true = refl
+      here false = refl
+
+      there : (c d : Bool) → c && false || d ≡ d
+      there true d = refl
+      there false d = refl
+
+      go : (b : Bool) → (t.number == n) ≡ b → ((t.port == q) && (n == t.number) || is_at_timer (numbered n ts)) ≡ is_at_timer (if b then Some t else numbered n ts)
+      go true f =
+          let same : (n == t.number) ≡ true = grind (arith, nat_tests) in
+          let past : numbered n ts ≡ None = numbered-above n t.number made ts (grind (arith, nat_tests)) h.2 in
+          ap₂ (λ (b : Bool) (o : Option Timer). (t.port == q) && b || is_at_timer o) same past ∙ here (t.port == q)
+      go false f =
+          let differs : (n == t.number) ≡ false = grind (arith, nat_tests) in
+          ap (λ (b : Bool). (t.port == q) && b || is_at_timer (numbered n ts)) differs ∙ there (t.port == q) (is_at_timer (numbered n ts))
+
+  module _ (list : TimerList) (h : IsAscending timer_number 0 list.made list.timers) (lives : ℕ → Bool) (later : State)
+      (left : (n : ℕ) → timer_under later n ≡ kept_timer n (is_timer_of_live lives) (numbered n list.timers)) where
+    abbrev ended : List Timer
+    ended = timers_of_ended lives list.timers
+
+    abbrev Agrees : Queued → Type 0
+    Agrees e = not (is_of_timers ended e) ≡ timer_stands later e.timer
+
+    of_timer : (n : ℕ) (e : Queued) → e.timer ≡ Some n → IsOfTimer list.timers q e n → not (is_of_timers ended e) ≡ timer_stands later e.timer
+    of_timer n e r w =
+        ap not
+        (timer_is n 0 list.made ended e r (ascending-filter timer_number (is_timer_of_ended lives) list.timers 0 list.made h)
+        ∙ ap is_at_timer (numbered-filter n (is_timer_of_ended lives) 0 list.made list.timers h ∙ ap (kept_timer n (is_timer_of_ended lives)) found))
+        ∙ go (lives w.timer.process.0)
+        ∙ ap (λ (o : Option Timer). is_some o) (sym (left n ∙ ap (kept_timer n (is_timer_of_live lives)) found))
+        ∙ ap (timer_stands later) (sym r)
+      where
+        found : numbered n list.timers ≡ Some w.timer
+        found = numbered_is n list.timers ∙ w.there
+
+        at : (w.timer.port == q) ≡ true
+        at = let same : w.timer.port ≡ q = w.port in grind (arith, nat_tests, same)
+
+        go : (b : Bool) → not (is_at_timer (if not b then Some w.timer else None)) ≡ is_some (if b then Some w.timer else None)
+        go true = refl
+        go false = ap not at
+
+    agrees : (e : Queued) → ((n : ℕ) → e.timer ≡ Some n → IsOfTimer list.timers q e n) → Agrees e
+    agrees e own = go e.timer refl
+      where
+        go : (o : Option ℕ) → e.timer ≡ o → not (is_of_timers ended e) ≡ timer_stands later e.timer
+        go None r = ap not (no_timer ended e r) ∙ ap (timer_stands later) (sym r)
+        go (Some n) r = of_timer n e r (own n r)
+
+    filter-agreed : (es : List Queued) → All Agrees es → filter (λ (e : Queued). not (is_of_timers ended e)) es ≡ filter (λ (e : Queued). timer_stands later e.timer) es
+    filter-agreed [] w = refl
+    filter-agreed (e ∷ es) w =
+        ap₂ (λ (b : Bool) (fs : List Queued). if b then e ∷ fs else fs) (All-head Agrees e es w) (filter-agreed es (All-tail Agrees e es w))
+
+    pub timers_left_there :
+        (es : List Queued) → AreTimed list.timers q es →
+        filter (λ (e : Queued). not (is_of_timers ended e)) (filter (λ (e : Queued). stands later e.assoc) es) ≡ filter (is_left later) es
+    timers_left_there es w =
+        filter-agreed (filter (λ (e : Queued). stands later e.assoc) es)
+        (All-filter (λ (e : Queued). stands later e.assoc) Agrees es (All-weaker (λ e. (n : ℕ) → e.timer ≡ Some n → IsOfTimer list.timers q e n) Agrees agrees es w.of_timers))
+        ∙ filter-both (λ (e : Queued). timer_stands later e.timer) (λ (e : Queued). stands later e.assoc) (is_left later) (λ e. refl) es
 
   -- and what is queued
 
@@ -390,6 +548,11 @@ associations-step m t r =
     (filter (names_its_object (settle_pools m (act m t r).state).tables) c.associations.associations))
     (channels-settle_pools m (act m t r).state)
 
+timers-step : (m : State) (t : ℕ) (r : Option Request) → timers_in (step m t r).state ≡ filter (is_timer_of_live (is_live_process (step m t r).state)) (timers_in (act m t r).state)
+unfolding step
+timers-step m t r =
+    ap (λ (c : Channels). filter (is_timer_of_live (is_live_process (settle_pools m (act m t r).state))) c.timers.timers) (channels-settle_pools m (act m t r).state)
+
 module _ (m : State) (xs : List Turn) (k : KnownChannels m xs) (i : ℕ) (x : Turn) (e : slice_get xs i ≡ Some x) where
   abbrev before : State
   before = state_at m xs i
@@ -428,11 +591,23 @@ module _ (m : State) (xs : List Turn) (k : KnownChannels m xs) (i : ℕ) (x : Tu
       (All-weaker (λ (a : Association). under a.number (associations_in acted) ≡ Some a) (λ (a : Association). is_unfired (association_under before a.number) ≡ a.armed)
       unfired (associations_in acted) (all_under 0 acted.channels.associations.made (associations_in acted) fits.associations.in_order))
 
+  -- a timer that the act left stands still exactly where its process lives
+  pub timers_told : (n : ℕ) → timer_under later n ≡ kept_timer n (is_timer_of_live (is_live_process later)) (numbered n (timers_in acted))
+  timers_told n =
+      ap (numbered n)
+      (subst (λ (z : State). timers_in z ≡ filter (is_timer_of_live (is_live_process z)) (timers_in acted)) (sym stepped) (timers-step before x.thread x.request))
+      ∙ numbered-filter n (is_timer_of_live (is_live_process later)) 0 acted.channels.timers.made (timers_in acted) fits.timers.in_order
+
   module _ (q : ℕ) where
     -- the port as the act left it
-    pub settled_here : port_under later q ≡ option_map (settled q later.tables (ready_at later) (associations_in acted)) (at_number acted.channels.ports q)
+    pub settled_here :
+        port_under later q
+        ≡ option_map (settled q later.tables (ready_at later) (associations_in acted) (is_live_process later) (timers_in acted)) (at_number acted.channels.ports q)
     settled_here =
-        subst (λ (z : State). at_number z.channels.ports q ≡ option_map (settled q z.tables (ready_at z) (associations_in acted)) (at_number acted.channels.ports q))
+        subst
+        (λ (z : State).
+        at_number z.channels.ports q
+        ≡ option_map (settled q z.tables (ready_at z) (associations_in acted) (is_live_process z) (timers_in acted)) (at_number acted.channels.ports q))
         (sym stepped) (step_port q before x.thread x.request)
 
     stands_now : associations_in later ≡ map (disarmed_where (ready_at later)) (filter (names_its_object later.tables) (associations_in acted))
@@ -448,13 +623,19 @@ module _ (m : State) (xs : List Turn) (k : KnownChannels m xs) (i : ℕ) (x : Tu
     pub told_here : port_under later q ≡ option_map (told_port before later q) (at_number acted.channels.ports q)
     told_here = settled_here ∙ go (at_number acted.channels.ports q) refl
       where
+        timed : (p : Port) → at_number acted.channels.ports q ≡ Some p → AreTimed (timers_in acted) q p.queue
+        timed p f = subst (λ (o : Option Port). AreTimed (timers_in acted) q (port_in o).queue) f (fits.timers.queued q)
+
         go :
             (o : Option Port) → at_number acted.channels.ports q ≡ o →
-            option_map (settled q later.tables (ready_at later) (associations_in acted)) o ≡ option_map (told_port before later q) o
+            option_map (settled q later.tables (ready_at later) (associations_in acted) (is_live_process later) (timers_in acted)) o
+            ≡ option_map (told_port before later q) o
         go None f = refl
         go (Some p) f =
             ap₂ (λ (es fs : List Queued). Some (record p { queue = es ++ fs }))
+            (ap (filter (λ (e : Queued). not (is_of_timers q (timers_of_ended (is_live_process later) (timers_in acted)) e)))
             (left_there q acted.channels.ports acted.channels.associations fits.associations later.tables later left_is p f)
+            ∙ timers_left_there q acted.channels.timers fits.timers.in_order (is_live_process later) later timers_told p.queue (timed p f))
             fired_here
 
     -- a port that is made has nothing queued
@@ -463,10 +644,16 @@ module _ (m : State) (xs : List Turn) (k : KnownChannels m xs) (i : ℕ) (x : Tu
         port_under later q ≡ Some p
     made_here p f empty made l all =
         settled_here
-        ∙ ap (option_map (settled q later.tables (ready_at later) (associations_in acted))) f
+        ∙ ap (option_map (settled q later.tables (ready_at later) (associations_in acted) (is_live_process later) (timers_in acted))) f
         ∙ ap₂
         (λ (es fs : List Queued).
-        Some (record p { queue = filter (λ (z : Queued). not (is_of_any q (associations_that_lost later.tables (associations_in acted)) z)) es ++ fs }))
+        Some
+        (record p {
+          queue =
+              filter (λ (z : Queued). not (is_of_timers q (timers_of_ended (is_live_process later) (timers_in acted)) z))
+              (filter (λ (z : Queued). not (is_of_any q (associations_that_lost later.tables (associations_in acted)) z)) es)
+              ++ fs;
+        }))
         empty
         (none_there q made (ready_at later)
         (filter (is_to_fire (ready_at later)) (filter (names_its_object later.tables) (associations_in acted)))
@@ -490,6 +677,11 @@ module _ (m : State) (xs : List Turn) (k : KnownChannels m xs) (i : ℕ) (x : Tu
         in_order : IsAscending association_number 0 before.channels.associations.made (associations_in before)
         in_order = (k.fits i (omega (arith, slice_get_within xs i x e))).associations.in_order
 
+        and_more : (c d w : Bool) → not c && d ≡ d → not c && (d && w) ≡ d && w
+        and_more true true w f = absurd (cc (sym f))
+        and_more true false w f = refl
+        and_more false d w f = refl
+
         none_left : (c d : Bool) → d ≡ false → c && d ≡ d
         none_left true d f = refl
         none_left false d f = sym f
@@ -511,10 +703,43 @@ module _ (m : State) (xs : List Turn) (k : KnownChannels m xs) (i : ℕ) (x : Tu
             not (is_of_any q (filter (has_key key) (associations_in before)) z) && is_left later z ≡ is_left later z
         by z None f = ap (λ (b : Bool). not b && is_left later z) (none_any q (filter (has_key key) (associations_in before)) z f)
         by z (Some n) f =
-            ap₂ (λ (b : Bool) (o : Option ℕ). not b && stands later o)
+            and_more (is_of_any q (filter (has_key key) (associations_in before)) z) (stands later z.assoc) (timer_stands later z.timer)
+            (ap₂ (λ (b : Bool) (o : Option ℕ). not b && stands later o)
             (any_is q n 0 before.channels.associations.made (filter (has_key key) (associations_in before)) z f
             (ascending-filter association_number (has_key key) (associations_in before) 0 before.channels.associations.made in_order)
             ∙ ap (is_at q) (under-filter n (has_key key) 0 before.channels.associations.made (associations_in before) in_order))
             f
             ∙ of_one n (under n (associations_in before)) refl
-            ∙ ap (stands later) (sym f)
+            ∙ ap (stands later) (sym f))
+
+    -- where a timer ends, its event is withdrawn
+    pub timer_told :
+        (n : ℕ) → timer_under later n ≡ None → (o : Option Port) →
+        option_map (told_port before later q) (option_map (without_timer_event n) o) ≡ option_map (told_port before later q) o
+    timer_told n gone None = refl
+    timer_told n gone (Some p) =
+        ap (λ qs. Some (record p { queue = qs ++ fired_at before later q (associations_in later) }))
+        (filter-both (is_left later) (is_other_timer_event n) (is_left later) (λ z. by z z.timer refl) p.queue)
+      where
+        none_left : (c d : Bool) → d ≡ false → c && d ≡ d
+        none_left true d f = refl
+        none_left false d f = sym f
+
+        past : (c : Bool) → c && false ≡ false
+        past true = refl
+        past false = refl
+
+        of_number : (k : ℕ) (b : Bool) → (n == k) ≡ b → (c : Bool) → not b && (c && is_some (timer_under later k)) ≡ c && is_some (timer_under later k)
+        of_number k false f c = refl
+        of_number k true f c =
+            let same : n ≡ k = grind (arith, nat_tests) in
+            none_left false (c && is_some (timer_under later k))
+            (ap (λ (o : Option Timer). c && is_some o) (ap (timer_under later) (sym same) ∙ gone) ∙ past c)
+
+        by : (z : Queued) (o : Option ℕ) → z.timer ≡ o → is_other_timer_event n z && is_left later z ≡ is_left later z
+        by z None f = ap (λ (u : Option ℕ). not (is_number n u) && (stands later z.assoc && timer_stands later u)) f ∙ ap (λ (u : Option ℕ). stands later z.assoc && timer_stands later u) (sym f)
+        by z (Some k) f =
+            ap (λ (u : Option ℕ). not (is_number n u) && (stands later z.assoc && timer_stands later u)) f
+            ∙ ap (λ (b : Bool). not b && (stands later z.assoc && is_some (timer_under later k))) (eq_sym k n)
+            ∙ of_number k (n == k) refl (stands later z.assoc)
+            ∙ ap (λ (u : Option ℕ). stands later z.assoc && timer_stands later u) (sym f)

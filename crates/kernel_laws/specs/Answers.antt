@@ -1,6 +1,6 @@
 -- Answers: an entry that answers no error gives the kind of answer that its request has, and the end of a wait gives one that belongs
 -- to what the thread waited in.
-use Rattle.std.specs.Prelude.{ℕ, ◌≡◌, ◌≤◌, ◌⊎◌, List, Option, Bool, [], false, true, None, Some, length, slice_get}
+use Rattle.std.specs.Prelude.{ℕ, ◌≡◌, ◌<◌, ◌≤◌, ◌⊎◌, List, Option, Bool, [], false, true, None, Some, length, slice_get}
 use Rattle.written_kernel.specs.Types.{AlertMode, Answer, Attrs, Errno, EventRec, Fd, Param, Pass, PathId, Pid, Request, ThreadState, Tid}
 use Rattle.dk_base.specs.declared.request.Op.{Op}
 use Rattle.dk_base.specs.declared.set.PollSet.{PollSet}
@@ -58,7 +58,14 @@ pub data Answers : Request → Answer → Type 0 where
   alerts : (fd : Fd) (mode : AlertMode) (events user : ℕ) → Answers (request.Alert fd mode events user) answer.Done
   associates : (port object : Fd) (events : PollSet) (user : ℕ) → Answers (request.Associate port object events user) answer.Done
   dissociates : (port object : Fd) → Answers (request.Dissociate port object) answer.Done
+  -- the id of the timer that is made
+  makes_timer : (port : Fd) (user id : ℕ) → id < 32 → Answers (request.TimerCreate port user) (answer.Count id)
+  sets_timer : (timer first interval : ℕ) → Answers (request.TimerSet timer first interval) answer.Done
+  deletes_timer : (timer : ℕ) → Answers (request.TimerDelete timer) answer.Done
+  advances : (by : ℕ) → Answers (request.Advance by) answer.Done
   works : (op : Op) (input : List ℕ) → Answers (request.Work op input) answer.Wait
+  -- what a name table replies is not computed by the kernel
+  replies : (line : List ℕ) → Answers (request.Ncd line) (answer.Data [])
 
 abbrev pub AnswersRequests : State → List Turn → Type 0
 AnswersRequests m xs = (i : ℕ) (x : Turn) (r : Request) → slice_get xs i ≡ Some x → x.request ≡ Some r → Answers r (answer_at m xs i x)

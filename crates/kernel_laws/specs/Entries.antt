@@ -15,6 +15,7 @@ use Rattle.kernel_records.specs.Words.{Pipe, Port}
 use Rattle.written_kernel.specs.Words.{State, bound_of, door_of, is_unborn_process, name_of, object_at}
 use Rattle.run_places.specs.Counts.{free_descriptors, has_attribute, has_own_pool}
 use Rattle.run_places.specs.References.{readers_left, writers_left}
+use Rattle.kernel_laws.specs.Clock.{timer_with, timers_left}
 
 -- what a descriptor names is no door, and the door that it is
 
@@ -171,6 +172,10 @@ on_no_port m p fd others = where_so EBADF (is_none (object_at m p fd)) ∷ where
 abbrev pub on_unbound : State → ℕ → List Reason
 on_unbound m t = where_so EBADF (is_none (bound_of m t)) ∷ []
 
+-- and of those that want a timer of the process
+abbrev pub on_no_timer : State → ℕ → ℕ → List Reason
+on_no_timer m p id = where_so EINVAL (is_none (timer_with m p id)) ∷ []
+
 -- a thread is bound to none, or to a number that no door has
 
 abbrev pub has_no_door : Option ℕ → Bool
@@ -240,6 +245,9 @@ reasons m t p (request.Associate fd object events user) = on_no_port m p fd (whe
 reasons m t p (request.Dissociate fd object) =
     on_no_port m p fd
     (where_so EBADFD (is_none (object_at m p object)) ∷ where_so ENOENT (not (is_associated m p object (object_at m p fd))) ∷ [])
+reasons m t p (request.TimerCreate fd user) = on_no_port m p fd (where_so EAGAIN (not (nat_lt (timers_left m p) 32)) ∷ [])
+reasons m t p (request.TimerSet id first interval) = on_no_timer m p id
+reasons m t p (request.TimerDelete id) = on_no_timer m p id
 reasons m t p r = []
 
 -- the requests with a table of their own

@@ -27,6 +27,8 @@ use Rattle.kernel_laws.specs.PortWaits.{PortWaits}
 use Rattle.kernel_laws.specs.Tasks.{Tasks}
 use Rattle.kernel_laws.specs.OneShot.{OneShot}
 use Rattle.kernel_laws.specs.Lives.{Lives}
+use Rattle.kernel_laws.specs.TimerLives.{TimerLives}
+use Rattle.kernel_laws.specs.Ticks.{Ticks}
 use Rattle.kernel_laws.specs.Forks.{Begins}
 
 pub record AllLaws (m : State) (xs : List Turn) : Type 0 where
@@ -58,6 +60,8 @@ pub record AllLaws (m : State) (xs : List Turn) : Type 0 where
   pub tasks : Tasks m xs
   pub one_shot : OneShot m xs
   pub lives : Lives m xs
+  pub timer_lives : TimerLives m xs
+  pub ticks : Ticks m xs
   pub begins : Begins m xs
 
 unfoldable pub Laws : State → List Turn → Type 0

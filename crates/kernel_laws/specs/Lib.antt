@@ -2,6 +2,7 @@ pub mod Once
 pub mod Match
 pub mod Cause
 pub mod MadeByCreator
+pub mod Clock
 pub mod Entries
 pub mod Refused
 pub mod Pools
@@ -22,6 +23,8 @@ pub mod PortWaits
 pub mod Tasks
 pub mod OneShot
 pub mod Lives
+pub mod TimerLives
+pub mod Ticks
 pub mod Answers
 pub mod Names
 pub mod Bindings

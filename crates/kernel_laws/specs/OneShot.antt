@@ -43,7 +43,7 @@ is_due m a = not (due_events m a == 0)
 -- what an association queues by a state in which its object is ready
 abbrev pub due_event : State → Association → Queued
 due_event m a =
-    record { rec = record { source = source.Fd; object = a.key.fd.0; events = due_events m a; user = a.user }; assoc = Some a.number }
+    record { rec = record { source = source.Fd; object = a.key.fd.0; events = due_events m a; user = a.user }; assoc = Some a.number; timer = None }
 
 -- one that has not fired, or does not stand
 abbrev pub is_unfired : Option Association → Bool

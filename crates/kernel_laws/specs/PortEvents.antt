@@ -1,8 +1,10 @@
 -- Events: a port is made without an event and without an alert, under the next number. What is sent stands last in its queue. A get, or
 -- the end of a wait, tells the alert where there is one, which stays, and else the first events, which the queue holds no more. An
--- alert is set or ended by port_alert(3C). What an association has queued is withdrawn where it ends, and those that fire queue their
--- events, in the order of their numbers. Nothing else changes a port.
-use Rattle.std.specs.Prelude.{ℕ, ◌≡◌, ◌+◌, ◌++◌, ◌<◌, ◌≤◌, ◌==◌, ◌&&◌, List, [], ◌∷◌, Option, Bool, false, true, if◌then◌else◌, not, Some, None, filter, is_none, is_some, length, map, min, replicate, slice_get, suc, take, zero}
+-- alert is set or ended by port_alert(3C). What an association or a timer has queued is withdrawn where it ends, or where the timer is set
+-- again, and those associations that fire queue their events, in the order of their numbers. As the clock moves on, the event of a timer
+-- that is queued counts the moments that came too; where none is queued and some came, one is, also in the order of the numbers. Nothing
+-- else changes a port.
+use Rattle.std.specs.Prelude.{ℕ, ◌≡◌, ◌+◌, ◌++◌, ◌<◌, ◌≤◌, ◌==◌, ◌&&◌, ◌||◌, List, [], ◌∷◌, Option, Bool, false, true, if◌then◌else◌, not, Some, None, filter, is_none, is_some, length, map, min, replicate, slice_get, suc, take, zero}
 use Rattle.written_kernel.specs.Types.{AlertMode, Answer, Errno, EventRec, Fd, Obj, Queued}
 use Rattle.dk_base.specs.declared.error.Errno.TheVariants.{EAGAIN, EBADF, EBADFD}
 use Rattle.dk_base.specs.declared.object.Obj.TheVariants as obj
@@ -12,17 +14,20 @@ use Rattle.dk_base.specs.declared.answer.Answer.TheVariants as answer
 use Rattle.kernel_records.specs.declared.association.Association.{Association}
 use Rattle.kernel_records.specs.declared.port.Alert.{Alert}
 use Rattle.kernel_records.specs.declared.record.ThreadState.TheVariants as is
+use Rattle.kernel_records.specs.declared.timer.Timer.{Timer}
 use Rattle.kernel_records.specs.Words.{Port}
-use Rattle.written_kernel.specs.Words.{State, Turn, object_at, state_at, state_of}
+use Rattle.written_kernel.specs.Words.{State, Turn, object_at, state_at, state_of, timers_in}
 use Rattle.run_places.specs.Places.{answer_at, process_at}
 use Rattle.run_places.specs.References.{is_of_port}
 use Rattle.kernel_laws.specs.Channels.{Names, port_under, told_alert}
+use Rattle.kernel_laws.specs.Clock.{came, timer_under, timer_with}
 use Rattle.kernel_laws.specs.Entries.{count_sent}
-use Rattle.kernel_laws.specs.OneShot.{association_under, due_event, is_unfired}
+use Rattle.kernel_laws.specs.OneShot.{association_under, due_event, is_from, is_unfired}
 
 -- an event of port_send(3C), as it stands in a queue
 abbrev pub sent_event : ℕ → ℕ → Queued
-sent_event events user = record { rec = record { source = src.User; object = 0; events = events; user = user }; assoc = None }
+sent_event events user =
+    record { rec = record { source = src.User; object = 0; events = events; user = user }; assoc = None; timer = None }
 
 -- what port_alert(3C) sets: no alert where it has no events
 abbrev pub set_alert : ℕ → ℕ → Option Alert
@@ -96,14 +101,18 @@ pub record IsAnsweredAt (m : State) (p : ℕ) (fds : List Fd) (errors : List (Op
   pub there : slice_get errors k ≡ Some error
   pub why : SendError m p (λ q. sent_to m p q (take k fds) (take k errors)) fd error
 
--- what was sent, and the event of an association that stands
+-- what was sent, and the event of an association or of a timer that stands
 
 abbrev pub stands : State → Option ℕ → Bool
 stands m None = true
 stands m (Some n) = is_some (association_under m n)
 
+abbrev pub timer_stands : State → Option ℕ → Bool
+timer_stands m None = true
+timer_stands m (Some n) = is_some (timer_under m n)
+
 abbrev pub is_left : State → Queued → Bool
-is_left m e = stands m e.assoc
+is_left m e = stands m e.assoc && timer_stands m e.timer
 
 -- an association that stands after an event, and has fired at it
 abbrev pub has_fired : State → Association → Bool
@@ -119,6 +128,50 @@ fired_at before after q (a ∷ xs) =
 abbrev pub told_port : State → State → ℕ → Port → Port
 told_port before after q p =
     record p { queue = filter (is_left after) p.queue ++ fired_at before after q after.channels.associations.associations }
+
+-- what a timer queues that counts so many moments
+abbrev pub tick_event : Timer → ℕ → Queued
+tick_event t n =
+    record { rec = record { source = src.Timer; object = t.id; events = n; user = t.user }; assoc = None; timer = Some t.number }
+
+-- what was queued by another than timer n
+
+abbrev pub is_of_other : ℕ → Queued → Bool
+is_of_other n e = not (is_from n e.timer)
+
+abbrev pub without_timer : ℕ → Port → Port
+without_timer n p = record p { queue = filter (is_of_other n) p.queue }
+
+-- what an event counts more when the clock has moved on: the moments of its timer that came
+
+abbrev pub came_in : State → State → Option Timer → ℕ
+came_in before after None = 0
+came_in before after (Some t) = came before after t
+
+abbrev pub came_for : State → State → Option ℕ → ℕ
+came_for before after None = 0
+came_for before after (Some n) = came_in before after (timer_under before n)
+
+abbrev pub grown : State → State → Queued → Queued
+grown before after e = record e { rec = record e.rec { events = e.rec.events + came_for before after e.timer } }
+
+-- timer n has queued one of these
+abbrev pub has_queued : ℕ → List Queued → Bool
+has_queued n [] = false
+has_queued n (e ∷ es) = is_from n e.timer || has_queued n es
+
+-- and what those of these timers queue at port q that have none queued there, and of which moments came
+abbrev pub ticks_at : State → State → ℕ → List Queued → List Timer → List Queued
+ticks_at before after q es [] = []
+ticks_at before after q es (t ∷ ts) =
+    if (t.port == q) && (not (has_queued t.number es) && not (came before after t == 0))
+    then tick_event t (came before after t) ∷ ticks_at before after q es ts
+    else ticks_at before after q es ts
+
+-- a port when the clock has moved on
+abbrev pub ticked : State → State → ℕ → Port → Port
+ticked before after q p =
+    record p { queue = map (grown before after) p.queue ++ ticks_at before after q p.queue (timers_in before) }
 
 -- the port of a number, before and after the turn of place i
 pub data PortChange (m : State) (xs : List Turn) (i : ℕ) (x : Turn) (q : ℕ) : Option Port → Option Port → Type 0 where
@@ -143,6 +196,14 @@ pub data PortChange (m : State) (xs : List Turn) (i : ℕ) (x : Turn) (q : ℕ) 
   retrieved :
       (p after : Port) (max nget : ℕ) (rs : List EventRec) → AsksPort m xs i x q max nget → Tells (answer_at m xs i x) rs →
       Found max nget p rs after → PortChange m xs i x q (Some p) (Some after)
+  -- the timer that is set had it queued here, if anywhere
+  timer_set :
+      (p : Port) (id first interval : ℕ) (t : Timer) → x.request ≡ Some (request.TimerSet id first interval) → answer_at m xs i x ≡ answer.Done →
+      timer_with (state_at m xs i) (process_at m xs i x.thread) id ≡ Some t → t.port ≡ q →
+      PortChange m xs i x q (Some p) (Some (without_timer t.number p))
+  advanced :
+      (p : Port) (by : ℕ) → x.request ≡ Some (request.Advance by) → answer_at m xs i x ≡ answer.Done →
+      PortChange m xs i x q (Some p) (Some (ticked (state_at m xs i) (state_at m xs (i + 1)) q p))
 
 -- the port that a descriptor names, before the turn of place i, and what it is after it
 pub record Becomes (m : State) (xs : List Turn) (i : ℕ) (x : Turn) (fd : Fd) (change : Port → Port) : Type 0 where
@@ -192,3 +253,12 @@ pub record PortEvents (m : State) (xs : List Turn) : Type 0 where
       (i k : ℕ) (x : Turn) (fds : List Fd) (fd : Fd) (events user : ℕ) (errors : List (Option Errno)) → slice_get xs i ≡ Some x →
       x.request ≡ Some (request.SendN fds events user) → answer_at m xs i x ≡ answer.Errors errors → slice_get fds k ≡ Some fd →
       IsAnsweredAt (state_at m xs i) (process_at m xs i x.thread) fds errors k fd
+  pub timer_set :
+      (i id first interval : ℕ) (x : Turn) (t : Timer) (p : Port) → slice_get xs i ≡ Some x →
+      x.request ≡ Some (request.TimerSet id first interval) → answer_at m xs i x ≡ answer.Done →
+      timer_with (state_at m xs i) (process_at m xs i x.thread) id ≡ Some t → port_under (state_at m xs i) t.port ≡ Some p →
+      port_under (state_at m xs (i + 1)) t.port ≡ Some (without_timer t.number p)
+  pub advanced :
+      (i q by : ℕ) (x : Turn) (p : Port) → slice_get xs i ≡ Some x → x.request ≡ Some (request.Advance by) →
+      port_under (state_at m xs i) q ≡ Some p →
+      port_under (state_at m xs (i + 1)) q ≡ Some (ticked (state_at m xs i) (state_at m xs (i + 1)) q p)

@@ -8,7 +8,7 @@ ghost use Rattle.kernel_laws.specs.Laws.{Laws};
 ghost use Rattle.kernel_laws.specs.Pools.{HasNoneIdle};
 
 /// The laws hold of every run: `Laws` has a field for each, of calls, messages and notices, of what is named, held and bound, of answers
-/// and ends, of pipes and ports, of waits at ports, of tasks, and of associations.
+/// and ends, of pipes and ports, of waits at ports, of tasks, of associations, and of timers.
 #[tactic(auto, using(crate::proofs::EveryRun::laws_hold))]
 pub fn every_run()
     ensures { (m : State) (xs : List Turn) → IsOpening m → IsRun m xs → Laws m xs }

@@ -30,7 +30,7 @@ queued_of o = map (λ (e : Queued). e.assoc) (queue_in o)
 
 -- the port with the event of an association with descriptor 0, which may be read, and this user value
 abbrev pub with_event_of : ℕ → ℕ → Port
-with_event_of n user = record { number = 1; alert = None; queue = record { rec = of_descriptor 0 1 user; assoc = Some n } ∷ [] }
+with_event_of n user = record { number = 1; alert = None; queue = record { rec = of_descriptor 0 1 user; assoc = Some n; timer = None } ∷ [] }
 
 -- One that is ready at once, and is told once; one that another replaces while its event is queued; and one whose descriptor is closed
 -- while its event is queued.

@@ -4,3 +4,6 @@ pub mod PortLaws
 pub mod AssociationRuns
 pub mod TaskRuns
 pub mod ForkRuns
+pub mod TimerRuns
+pub mod TimerLaws
+pub mod CacheRuns

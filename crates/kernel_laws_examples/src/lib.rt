@@ -2,8 +2,11 @@
 #![tactic(auto)]
 
 pub mod association_runs;
+pub mod cache_runs;
 pub mod fork_runs;
 pub mod port_laws;
 pub mod port_runs;
 pub mod task_runs;
+pub mod timer_laws;
+pub mod timer_runs;
 pub mod worked_run;

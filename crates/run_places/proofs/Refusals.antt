@@ -315,6 +315,10 @@ passing_no_failure m t r c a e (IsPassing.sends_each fds events user) h = cc
 passing_no_failure m t r c a e (IsPassing.alerts fd mode events user f) h = cc
 passing_no_failure m t r c a e (IsPassing.associates port object events user f) h = cc
 passing_no_failure m t r c a e (IsPassing.dissociates port object f) h = cc
+passing_no_failure m t r c a e (IsPassing.creates_timer port user f) h = cc
+passing_no_failure m t r c a e (IsPassing.sets_timer timer first interval f) h = cc
+passing_no_failure m t r c a e (IsPassing.deletes_timer timer f) h = cc
+passing_no_failure m t r c a e (IsPassing.advances by) h = cc
 passing_no_failure m t r c a e (IsPassing.gets fd wait f g) h = found_no_failure m (port_at m (process_of m t) fd) 1 true e h
 passing_no_failure m t r c a e (IsPassing.gets_many fd max nget wait f z g) h = found_no_failure m (port_at m (process_of m t) fd) max false e h
 
