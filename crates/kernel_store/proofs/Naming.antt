@@ -7,7 +7,7 @@ use Rattle.std.proofs.lemmas.List.Elements.{All-weaker}
 use Rattle.std.proofs.lemmas.Nat.{and_le_l}
 use Rattle.act_changes.specs.Changed.{changed_objects, is_gone, readied}
 use Rattle.act_changes.specs.Closed.{Closing}
-use Rattle.act_changes.specs.Ended.{empty_rows, ended_by}
+use Rattle.act_changes.specs.Ended.{empty_rows, ended_by, timers_ended}
 use Rattle.act_changes.specs.Ends.{is_end}
 use Rattle.act_changes.specs.Ends.{other_end as other}
 use Rattle.act_changes.specs.Told.{LeavesToTell}
@@ -22,7 +22,7 @@ use Rattle.port_telling.proofs.Others.{is_other_of, others_among}
 use Rattle.port_telling.specs.Words.{other_end}
 use Rattle.unref_notice.specs.Words.{ObjectCounts, count_of, is_pipe_end}
 use Rattle.written_kernel.specs.Types.{Obj, Request}
-use Rattle.written_kernel.specs.Words.{State, associations_in, end_lost, ready_at, references_of, with_channels}
+use Rattle.written_kernel.specs.Words.{State, associations_in, end_lost, end_timers, ready_at, references_of, with_channels}
 
 same_other : (o : Obj) → other o ≡ other_end o
 same_other (obj.Door n) = refl
@@ -106,10 +106,10 @@ none_left m n o e =
     let b = both (not (references_of m o == 0)) (references_of n o == 0) (both (is_end o) (is_gone m n o) e) in
     grind (arith, nat_tests)
 
--- what an act leaves to tell, once associations have ended
+-- what an act leaves to tell, once associations and timers have ended
 
 pub left_named :
-    (m : State) (t : ℕ) (q : Option Request) (n k : State) (pipe : Option ℕ) (gone : List Obj) → LeavesToTell m t q n → k ≡ end_lost n →
+    (m : State) (t : ℕ) (q : Option Request) (n k : State) (pipe : Option ℕ) (gone : List Obj) → LeavesToTell m t q n → k ≡ end_timers (end_lost n) →
     ReadiesAtMost m t q pipe → AreGone m n gone → AreNamed k pipe gone
 left_named m t q n k pipe gone leaves ended fit listed =
     subst (λ (x : State). AreNamed x pipe gone) (sym ended)
@@ -128,3 +128,10 @@ pub ended_lost :
     with_channels n (ended_by n.channels (empty_rows n (closing_of closed))) ≡ end_lost n
 ended_lost {m} {t} {q} {closed} {pipe} {gone} {n} h =
     ap (λ (x : Closing). with_channels n (ended_by n.channels (empty_rows n x))) h.rows ∙ sym (leaves_to_tell m t q n h.unborn h.after h.told).ended_empty
+
+-- and the timers of a process that ends
+pub ended_timers :
+    {m : State} {t : ℕ} {q : Option Request} {closed : ClosedRows} {pipe : Option ℕ} {gone : List Obj} {n : State} → IsLeftToTell m t q closed pipe gone n →
+    with_channels (end_lost n) (timers_ended (end_lost n).channels (closing_of closed)) ≡ end_timers (end_lost n)
+ended_timers {m} {t} {q} {closed} {pipe} {gone} {n} h =
+    ap (λ (x : Closing). with_channels n (timers_ended (end_lost n).channels x)) h.rows ∙ sym ((leaves_to_tell m t q n h.unborn h.after h.told).timers h.live)

@@ -7,7 +7,9 @@ use Rattle.dk_base.specs.declared.object.Obj.TheVariants as obj
 use Rattle.kernel_records.specs.declared.record.ThreadState.TheVariants as is
 use Rattle.kernel_records.specs.declared.association.AssocKey.{AssocKey}
 use Rattle.kernel_records.specs.declared.association.Association.{Association}
-use Rattle.kernel_records.specs.Words.{Port, ProcessTable, change_at_number, change_found, count_object, has_key, is_ready_for, make_port, new_port, port_in, port_of, send_error, send_event, send_if_allowed, state_in, thread_at, user_event, with_event, withdraw_event, withdraw_events, without_event}
+use Rattle.kernel_records.specs.declared.timer.Timer.{Timer}
+use Rattle.associated_ports.specs.Words.{port_told}
+use Rattle.kernel_records.specs.Words.{Port, ProcessTable, change_at_number, change_found, count_object, has_key, is_ready_for, make_port, new_port, port_in, port_of, send_error, send_event, send_if_allowed, state_in, thread_at, user_event, with_event, withdraw_event, withdraw_events, without_event, without_queued, without_timer_event}
 use Rattle.kernel_records.proofs.Lists.{at_number-push, at_number-renumbered_there}
 use Rattle.written_kernel.specs.Types.{ThreadState}
 use Rattle.proc_table.specs.Words.{is_getting}
@@ -114,6 +116,17 @@ withdrawn_elsewhere key (a ∷ xs) ports p other = go (has_key key a) refl (λ l
         port_of (withdraw_events ports (if b then a ∷ filter (has_key key) xs else filter (has_key key) xs)) p ≡ port_of ports p
     go true e rest = rest (withdraw_event ports a.key.port a.number) ∙ port_elsewhere ports a.key.port (without_event a.number) p (apart e)
     go false e rest = rest ports
+
+-- what a timer queued is withdrawn from its port alone
+pub unqueued_elsewhere : (ports : List Port) (o : Option Timer) (q p : ℕ) → port_told o ≡ Some q → p ≢ q → port_of (without_queued ports o) p ≡ port_of ports p
+unqueued_elsewhere ports None q p e other = cc
+unqueued_elsewhere ports (Some t) q p e other =
+    let same : t.port ≡ q = cc in
+    port_elsewhere ports t.port (without_timer_event t.number) p (λ (f : p ≡ t.port). other (f ∙ same))
+
+pub none_unqueued : (ports : List Port) (o : Option Timer) → port_told o ≡ None → without_queued ports o ≡ ports
+none_unqueued ports None e = refl
+none_unqueued ports (Some t) e = cc
 
 -- another port is made
 pub made_elsewhere : (ports : List Port) (p : ℕ) → p ≢ length ports + 1 → port_of (make_port ports) p ≡ port_of ports p

@@ -1,17 +1,19 @@
 -- What ports are told, over the parts of a store.
-use Rattle.std.proofs.Common.{◌≡◌, ℕ, ◌||◌, Bool, true, false, if◌then◌else◌, List, [], ◌∷◌, Option, None, Some, All, filter, refl, sym, ap, ap₂, ◌∙◌}
+use Rattle.std.proofs.Common.{◌≡◌, ℕ, ◌||◌, Bool, true, false, if◌then◌else◌, List, [], ◌∷◌, Option, None, Some, All, filter, length, refl, sym, ap, ap₂, ◌∙◌}
 use Rattle.std.specs.List.{list_any}
 use Rattle.std.proofs.lemmas.List.Elements.{All-weaker}
-use Rattle.act_changes.specs.Ended.{empty_rows, ended_by, row_ended, rows_ended}
+use Rattle.act_changes.specs.Ended.{empty_rows, ended_by, row_ended, rows_ended, timers_ended}
 use Rattle.associated_ports.specs.Words.{AssociatedPortsValue}
 use Rattle.kernel_records.specs.declared.association.Association.{Association}
-use Rattle.kernel_records.specs.Words.{AssociationList, Port, all_fired, fire_all, is_object, is_to_fire, post_fired, ready_object}
+use Rattle.kernel_records.specs.declared.timer.Due.{Due}
+use Rattle.kernel_records.specs.Words.{AssociationList, Port, all_fired, fire_all, is_object, is_to_fire, post_fired, ready_object, tell_dues}
 use Rattle.kernel_store.specs.declared.told.ClosedRows.{ClosedRows}
 use Rattle.kernel_store.specs.declared.told.ClosedRows.TheVariants as closed
 use Rattle.kernel_store.specs.Stored.{StoreValue, stored_state}
 use Rattle.kernel_store.specs.Telling.{AreNamed, IsOfPipe, channels_in, closing_of, ended_in, is_empty_in, is_named, is_nothing}
 use Rattle.port_telling.specs.declared.changed.Ends.{Ends}
 use Rattle.port_telling.specs.Words.{AreAllNamed, is_changed, other_end}
+use Rattle.timer_src.specs.Words.{TimersValue}
 use Rattle.written_kernel.specs.Types.{Fd, Obj}
 use Rattle.written_kernel.specs.Words.{Channels, State, associations_in, fire, ready_at, references_of, with_channels}
 
@@ -33,6 +35,18 @@ pub store_ended :
     (v : StoreValue) (ports : AssociatedPortsValue) (x : ClosedRows) → channels_in v.pipes.items ports ≡ ended_in v.tables (stored_state v).channels x →
     with_channels (stored_state v) (channels_in v.pipes.items ports) ≡ with_channels (stored_state v) (ended_by (stored_state v).channels (empty_rows (stored_state v) (closing_of x)))
 store_ended v ports x e = ap (with_channels (stored_state v)) (e ∙ ended_is (stored_state v) (stored_state v).channels x)
+
+-- nothing is due
+pub none_due : (ports : List Port) (ds : List Due) → length ds ≡ 0 → tell_dues ports ds ≡ ports
+none_due ports [] e = refl
+none_due ports (d ∷ ds) e = cc
+
+-- timers of a process that ends
+
+pub store_timers_ended :
+    (v : StoreValue) (ports : AssociatedPortsValue) (x : ClosedRows) → channels_in v.pipes.items ports ≡ timers_ended (stored_state v).channels (closing_of x) →
+    with_channels (stored_state v) (channels_in v.pipes.items ports) ≡ with_channels (stored_state v) (timers_ended (stored_state v).channels (closing_of x))
+store_timers_ended v ports x e = ap (with_channels (stored_state v)) e
 
 -- one row after the other
 
@@ -85,8 +99,9 @@ pub store_fired :
     ((refs : Obj → ℕ) → AreAllNamed v.pipes.items refs ends gone v.assocs.list.associations → ports.assocs.list ≡ fire_all v.assocs.list (ready_object v.pipes.items refs)) →
     ((refs : Obj → ℕ) → AreAllNamed v.pipes.items refs ends gone v.assocs.list.associations →
     ports.ports.ports ≡ post_fired v.ports.ports (all_fired (ready_object v.pipes.items refs) v.assocs.list.associations)) →
-    with_channels (stored_state v) (channels_in v.pipes.items ports) ≡ fire (stored_state v)
-store_fired v ports pipe ends gone of named fired posted =
+    ports.timers ≡ v.timers → with_channels (stored_state v) (channels_in v.pipes.items ports) ≡ fire (stored_state v)
+store_fired v ports pipe ends gone of named fired posted still =
     let n = stored_state v in
     let all = all_named n pipe ends gone of named in
-    fired_is n ports.ports.ports ports.assocs.list (posted (references_of n) all) (fired (references_of n) all)
+    ap (λ (timers : TimersValue). with_channels n (record n.channels { ports = ports.ports.ports; associations = ports.assocs.list; timers = timers.list })) still
+    ∙ fired_is n ports.ports.ports ports.assocs.list (posted (references_of n) all) (fired (references_of n) all)

@@ -1,7 +1,8 @@
 -- Rows that close, by which no association ends: as many are left as there were, so all is as it was.
 use Rattle.std.proofs.Common.{◌≡◌, ℕ, ◌≤◌, Bool, true, false, if◌then◌else◌, List, [], ◌∷◌, Option, filter, length, not, refl, sym, ap, ap₂, ◌∙◌, arith}
 use Rattle.std.proofs.lemmas.List.Filters.{length-filter_both}
-use Rattle.act_changes.specs.Ended.{process_ended, row_ended, rows_ended}
+use Rattle.act_changes.specs.Closed.{Closing}
+use Rattle.act_changes.specs.Ended.{ended_by, process_ended, row_ended, rows_ended}
 use Rattle.kernel_records.specs.declared.association.Association.{Association}
 use Rattle.kernel_records.specs.Words.{is_of_process, is_of_row, withdraw_events}
 use Rattle.kernel_store.specs.declared.told.ClosedRows.{ClosedRows}
@@ -59,3 +60,14 @@ none_ended tables c closed.Nothing e = refl
 none_ended tables c (closed.Row p fd) e = rows_kept c p.0 (filter (is_empty_in tables p.0) (fd ∷ [])) e
 none_ended tables c (closed.Rows p fds) e = rows_kept c p.0 (filter (is_empty_in tables p.0) fds.items) e
 none_ended tables c (closed.Process p) e = process_kept c p.0 e
+
+-- nor does a timer end by closed rows
+
+rows_untimed : (c : Channels) (p : ℕ) (fds : List Fd) → (rows_ended c p fds).timers ≡ c.timers
+rows_untimed c p [] = refl
+rows_untimed c p (fd ∷ fds) = rows_untimed (row_ended c p fd) p fds
+
+pub untimed : (c : Channels) (x : Closing) → (ended_by c x).timers ≡ c.timers
+untimed c Closing.nothing = refl
+untimed c (Closing.rows p fds) = rows_untimed c p fds
+untimed c (Closing.process p) = refl

@@ -1,7 +1,7 @@
--- The memory that pipes, event ports and associations need, which is taken before an act.
+-- The memory that pipes, event ports, associations and timers need, which is taken before an act.
 use Rattle.std.specs.Prelude.{ℕ, ◌+◌, ◌<◌}
 use Rattle.dk_base.specs.declared.object.Obj.{Obj}
-use Rattle.associated_ports.specs.Words.{HasRoomForEvents as HasRoomAtPort, HasRoomToAssociate as HasRoomToAssociateIn}
+use Rattle.associated_ports.specs.Words.{HasRoomForEvents as HasRoomAtPort, HasRoomForTimer as HasRoomForTimerIn, HasRoomToAssociate as HasRoomToAssociateIn}
 use Rattle.kernel_store.specs.Stored.{StoreValue}
 
 -- another pipe
@@ -12,9 +12,9 @@ HasRoomForPipe store = 0 < store.pipes.spare
 abbrev pub HasRoomForPort : StoreValue → Type 0
 HasRoomForPort store = 0 < store.ports.spare
 
--- so many more events at a port, beside one of each association; a number that no port has takes none ever
+-- so many more events at a port, beside one of each association and of each timer; a number that no port has takes none ever
 abbrev pub HasRoomForEvents : StoreValue → ℕ → ℕ → Type 0
-HasRoomForEvents store q n = HasRoomAtPort store.ports store.assocs.list q n
+HasRoomForEvents store q n = HasRoomAtPort store.ports store.assocs.list store.timers.list q n
 
 -- each port has the room that it had
 abbrev pub KeepsRoomForEvents : StoreValue → StoreValue → Type 0
@@ -26,4 +26,8 @@ KeepsRoomForEventsButOne old new = (q n : ℕ) → HasRoomForEvents old q (n + 1
 
 -- another association of this object with a port
 abbrev pub HasRoomToAssociate : StoreValue → ℕ → Obj → Type 0
-HasRoomToAssociate store q o = HasRoomToAssociateIn store.ports store.assocs q o
+HasRoomToAssociate store q o = HasRoomToAssociateIn store.ports store.assocs store.timers.list q o
+
+-- another timer that tells this port
+abbrev pub HasRoomForTimer : StoreValue → ℕ → Type 0
+HasRoomForTimer store q = HasRoomForTimerIn store.ports store.assocs.list store.timers q

@@ -11,6 +11,7 @@ use Rattle.server_pool.specs.Words.{PoolsValue, item_room_in, pool_at, thread_ro
 use Rattle.call_tree.specs.Words.{CallsValue, HasRoomForCall}
 use Rattle.event_port.specs.Words.{PortsValue}
 use Rattle.port_assoc.specs.Words.{AssocsValue}
+use Rattle.timer_src.specs.Words.{TimersValue}
 use Rattle.unref_notice.specs.Words.{NoticesValue, ObjectCounts, count_of, was_shared}
 use Rattle.dk_base.specs.declared.limits.TheConstants.{PASS_MAX}
 use Rattle.dk_base.specs.declared.object.Obj.TheVariants as obj
@@ -38,10 +39,11 @@ pub record StoreValue : Type 0 where
   pub left : ℕ
   -- how many more pools take no memory in the list of those that may be short of room for notices
   pub short_room : ℕ
-  -- with room for further pipes, ports, events and associations
+  -- with room for further pipes, ports, events, associations and timers
   pub pipes : RoomValue Pipe
   pub ports : PortsValue
   pub assocs : AssocsValue
+  pub timers : TimersValue
 
 abbrev pub stored_state : StoreValue → State
 stored_state store =
@@ -53,7 +55,7 @@ stored_state store =
       doors = store.doors.items;
       call_tree = store.calls.tree;
       notice_list = store.notices.list;
-      channels = record { pipes = store.pipes.items; ports = store.ports.ports; associations = store.assocs.list };
+      channels = record { pipes = store.pipes.items; ports = store.ports.ports; associations = store.assocs.list; timers = store.timers.list };
       events = store.events;
     }
 

@@ -1,7 +1,7 @@
 -- What ports are told once all else that follows an act is done.
 use Rattle.std.specs.Prelude.{◌≡◌, ℕ, ◌+◌, ◌≤◌, ◌==◌, ◌&&◌, ◌||◌, Bool, List, [], ◌∷◌, length, Option, None, Some, All, true, false, filter, is_none}
 use Rattle.std.specs.List.{list_any}
-use Rattle.act_changes.specs.Changed.{IsAfterAct, UnbornHaveNoRows, is_gone, readied}
+use Rattle.act_changes.specs.Changed.{IsAfterAct, OnlyLiveHaveRows, UnbornHaveNoRows, is_gone, readied}
 use Rattle.act_changes.specs.Closed.{Closing, closed_rows}
 use Rattle.act_changes.specs.Ended.{process_ended, rows_ended}
 use Rattle.act_changes.specs.Ends.{is_end}
@@ -36,7 +36,7 @@ is_empty_in tables p fd = is_none (object_named (table_in tables p) fd)
 -- associations that end by them, where pipes are these
 
 abbrev pub channels_in : List Pipe → AssociatedPortsValue → Channels
-channels_in pipes v = record { pipes = pipes; ports = v.ports.ports; associations = v.assocs.list }
+channels_in pipes v = record { pipes = pipes; ports = v.ports.ports; associations = v.assocs.list; timers = v.timers.list }
 
 abbrev pub ended_in : List (List (Option Obj)) → Channels → ClosedRows → Channels
 ended_in tables c closed.Nothing = c
@@ -71,11 +71,11 @@ pub record AreNamed (m : State) (pipe : Option ℕ) (gone : List Obj) : Type 0 w
   pub none_left : (o : Obj) → list_any (is_object o) gone ≡ true → references_of m o ≡ 0
   pub fires : All (λ a. is_to_fire (ready_at m) a ≡ true → is_named pipe gone a.object ≡ true) (associations_in m)
 
--- memory for what any event can change, where there are so many associations
-pub record HasRoomToTell (rooms : TellingRooms) (n : ℕ) : Type 0 where
+-- memory for what any event can change, where there are so many associations and timers
+pub record HasRoomToTell (rooms : TellingRooms) (n k : ℕ) : Type 0 where
   pub gone : STEP_MAX ≤ length rooms.gone.items + rooms.gone.spare
   pub changed : STEP_MAX + 2 ≤ rooms.changed.spare
-  pub ending : HasRoomToEnd rooms.ending n
+  pub ending : HasRoomToEnd rooms.ending n k
 
 -- nothing is listed in that memory
 pub record TellsNothing (rooms : TellingRooms) : Type 0 where
@@ -83,17 +83,19 @@ pub record TellsNothing (rooms : TellingRooms) : Type 0 where
   pub changed : rooms.changed.items ≡ []
   pub ports : rooms.ending.ports.items ≡ []
   pub ids : rooms.ending.ids.items ≡ []
+  pub tags : rooms.ending.tags.items ≡ []
 
 -- an object that a turn readies, if it is the end of a pipe, is one of this pipe
 abbrev pub ReadiesAtMost : State → ℕ → Option Request → Option ℕ → Type 0
 ReadiesAtMost m t q pipe = (o : Obj) → readied m t q ≡ Some o → is_end o ≡ true → is_of_pipe pipe o ≡ true
 
--- Ports were told in the state m, in which no process that has not begun has a row. Of a turn in it all is done but that they are told
+-- Ports were told in the state m, in which only processes that live have rows. Of a turn in it all is done but that they are told
 -- again, which has led to the state n. These are the rows that its request closes, the pipe of what it readies, and the ends of pipes
 -- that have gone.
 pub record IsLeftToTell (m : State) (t : ℕ) (q : Option Request) (closed : ClosedRows) (pipe : Option ℕ) (lost : List Obj) (n : State) : Type 0 where
   pub told : AreTold m
   pub unborn : UnbornHaveNoRows m
+  pub live : OnlyLiveHaveRows m
   pub after : IsAfterAct m t q n
   pub rows : closing_of closed ≡ closed_rows m t q
   pub readied : ReadiesAtMost m t q pipe

@@ -1,5 +1,5 @@
 -- The words of this crate's specs, from one place, for the crates above.
-pub use Rattle.kernel_store.specs.Channels.{HasRoomForEvents, HasRoomForPipe, HasRoomForPort, HasRoomToAssociate, KeepsRoomForEvents, KeepsRoomForEventsButOne}
+pub use Rattle.kernel_store.specs.Channels.{HasRoomForEvents, HasRoomForPipe, HasRoomForPort, HasRoomForTimer, HasRoomToAssociate, KeepsRoomForEvents, KeepsRoomForEventsButOne}
 pub use Rattle.kernel_store.specs.Frames.{AllIsGivenOut, AreIn, CanAct, CanLeave, CanSettle, FillsNoPool, FillsNoQueue, FillsOnePool, IsActive, IsAtRest, IsDeclared, IsGivenOutToOthers, IsInEvent, IsRoomFor, KeepsForNotices, KeepsPools, LoseDoorsIn, NothingAfter, ParksAgain, serves_any}
 pub use Rattle.kernel_store.specs.Forking.{AreDormant, MayBegin}
 pub use Rattle.kernel_store.specs.Held.{AreHeld, AreHeldIn, held_as, held_at}

@@ -18,6 +18,7 @@ mod settling;
 mod steps;
 mod telling;
 mod threads;
+mod timers;
 
 use associated_ports::ports::AssociatedPorts;
 use call_tree::calls::Calls;
@@ -73,7 +74,7 @@ impl Model for Store {
 
     ghost Value = { StoreValue };
 
-    ghost view = { λ s. record { processes = s.processes; pools = s.pools; tables = s.held.tables; names = s.held.names; doors = s.doors; calls = s.held.calls; notices = s.notices; events = s.events; latest = s.latest; opening = s.held.opening; left = s.held.left; short_room = s.short.spare; pipes = s.pipes; ports = s.ports.ports; assocs = s.ports.assocs } };
+    ghost view = { λ s. record { processes = s.processes; pools = s.pools; tables = s.held.tables; names = s.held.names; doors = s.doors; calls = s.held.calls; notices = s.notices; events = s.events; latest = s.latest; opening = s.held.opening; left = s.held.left; short_room = s.short.spare; pipes = s.pipes; ports = s.ports.ports; assocs = s.ports.assocs; timers = s.ports.timers } };
 
     ghost invariant = { λ s. Agrees s.latest s.processes s.doors.items s.held.calls.tree s.notices.list s.pools × ReferToDoors s.doors.items s.held × AreBacked s.processes s.held.calls.tree.calls × KnowsPaths s.processes s.held.names.names s.named × HaveItemRoomBut s.short.items s.pools × KnowsPorts s.processes s.held s.ports.ports.ports s.ended };
 }

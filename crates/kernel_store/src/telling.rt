@@ -1,9 +1,9 @@
-//! Associations that end by the rows that an act closed, and what is known of a pipe that it changed.
-ghost use Rattle.std.specs.Prelude.{◌≡◌, List, filter, if◌then◌else◌, length};
-ghost use Rattle.act_changes.specs.Ended.{row_ended, rows_ended};
+//! Associations and timers that end by the rows that an act closed, and what is known of a pipe that it changed.
+ghost use Rattle.std.specs.Prelude.{◌≡◌, ℕ, List, false, filter, if◌then◌else◌, length};
+ghost use Rattle.act_changes.specs.Ended.{row_ended, rows_ended, timers_ended};
 ghost use Rattle.associated_ports.specs.Words.{HasRoomToEnd};
 ghost use Rattle.kernel_records.specs.Words.{Pipe};
-ghost use Rattle.kernel_store.specs.Telling.{channels_in, ended_in, is_empty_in};
+ghost use Rattle.kernel_store.specs.Telling.{channels_in, closing_of, ended_in, is_empty_in};
 
 use crate::told::ClosedRows;
 use associated_ports::ending::Ending;
@@ -38,13 +38,27 @@ pub fn end_closed(
     closed: &ClosedRows,
     ending: &mut Ending,
 )
-    requires { HasRoomToEnd ending.old (length ports.old.assocs.list.associations) }
-    ensures { (pipes : List Pipe) → channels_in pipes ports.new ≡ ended_in held.now.tables (channels_in pipes ports.old) closed.now }
+    requires { (k : ℕ) × HasRoomToEnd ending.old (length ports.old.assocs.list.associations) k }
+    ensures ended { (pipes : List Pipe) → channels_in pipes ports.new ≡ ended_in held.now.tables (channels_in pipes ports.old) closed.now }
+    ensures room { (n k : ℕ) → HasRoomToEnd ending.old n k → HasRoomToEnd ending.new n k }
 {
     match closed {
         ClosedRows::Nothing => {}
         ClosedRows::Row(process, fd) => end_if_empty(ports, held, *process, *fd),
         ClosedRows::Rows(process, fds) => end_empty(ports, held, *process, fds.slice()),
         ClosedRows::Process(process) => ports.end_process(*process, ending),
+    }
+}
+
+/// The timers end of a process whose rows all close, and what they queued is withdrawn. `ending` is for what the call lists. Says whether
+/// any ended.
+pub fn end_timers(ports: &mut AssociatedPorts, closed: &ClosedRows, ending: &mut Ending) -> bool
+    requires { (n : ℕ) × HasRoomToEnd ending.old n (length ports.old.timers.list.timers) }
+    ensures ended { (pipes : List Pipe) → channels_in pipes ports.new ≡ timers_ended (channels_in pipes ports.old) (closing_of closed.now) }
+    ensures none { result ≡ false → ports.new.ports.ports ≡ ports.old.ports.ports }
+{
+    match closed {
+        ClosedRows::Process(process) => ports.end_timers(*process, ending),
+        _ => false,
     }
 }

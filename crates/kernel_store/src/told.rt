@@ -29,8 +29,8 @@ impl ClosedRows {
     }
 }
 
-/// Room for the ends of pipes that lose their references by an event, for the objects that it changes, and for the associations that
-/// end by it.
+/// Room for the ends of pipes that lose their references by an event, for the objects that it changes, and for the associations and
+/// timers that end by it.
 #[derive(Drop)]
 pub struct TellingRooms {
     pub gone: Room<Obj>,
@@ -51,10 +51,10 @@ impl TellingRooms {
         }
     }
 
-    /// Room for what any event can change, where there are so many associations; what was listed goes. Want of memory leaves the
-    /// lists empty.
-    pub fn reserve(&mut self, n: usize) -> Result<(), NoMemory>
-        ensures room { OnOk result (HasRoomToTell self.new n) }
+    /// Room for what any event can change, where there are so many associations and timers; what was listed goes. Want of memory leaves
+    /// the lists empty.
+    pub fn reserve(&mut self, associations: usize, timers: usize) -> Result<(), NoMemory>
+        ensures room { OnOk result (HasRoomToTell self.new associations timers) }
         ensures empty { OnErr result (TellsNothing self.new) }
     {
         self.gone.clear();
@@ -62,6 +62,6 @@ impl TellingRooms {
         self.ending.clear();
         self.gone.reserve(STEP_MAX)?;
         self.changed.reserve(STEP_MAX + 2)?;
-        self.ending.reserve(n)
+        self.ending.reserve(associations, timers)
     }
 }

@@ -215,6 +215,7 @@ impl Store {
     }
 
     /// A user event is queued at a port that is not full. It takes no memory.
+    #[tactic(auto, using(crate::proofs::EventRoom::room_but_one))]
     pub fn send_fitting(&mut self, q: u32, events: u32, user: u64)
         requires room { HasRoomForEvents self.old q 1 }
         requires allowed { first_refusal (send_tests (port (stored_state self.old) q)) ≡ None }
@@ -228,6 +229,7 @@ impl Store {
     }
 
     /// A user event is queued at a port that is not full, or else the error is told (port_sendn(3C)). It takes no memory.
+    #[tactic(auto, using(crate::proofs::EventRoom::room_but_one))]
     pub fn send_if_allowed(&mut self, q: u32, events: u32, user: u64) -> Option<Errno>
         requires room { HasRoomForEvents self.old q 1 }
         ensures error { result ≡ send_error (stored_state self.old).channels.ports q }

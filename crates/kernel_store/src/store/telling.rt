@@ -1,18 +1,18 @@
-//! What ports are told once all else that follows an act is done: associations end by the rows that it closed, and those fire that watch
-//! what it changed.
+//! What ports are told once all else that follows an act is done: associations end by the rows that it closed, the timers of a process that
+//! ended with it, and those associations fire that watch what it changed.
 ghost use Rattle.std.specs.Prelude.{◌≡◌, ◌+◌, ◌<◌, ◌≤◌, ◌^◌, [], ℕ, Option, length};
-ghost use Rattle.act_changes.specs.Ended.{empty_rows, ended_by};
+ghost use Rattle.act_changes.specs.Ended.{empty_rows, ended_by, timers_ended};
 ghost use Rattle.associated_ports.specs.Words.{HasRoomToEnd};
 ghost use Rattle.kernel_store.specs.Frames.{KeepsPools};
 ghost use Rattle.kernel_store.specs.Stored.{stored_state};
 ghost use Rattle.kernel_store.specs.Telling.{AreGone, AreNamed, HasOpened, IsLeftToTell, IsOfPipe, closing_of};
 ghost use Rattle.unref_notice.specs.declared.counts.TheConstants.{STEP_MAX};
 ghost use Rattle.written_kernel.specs.Types.{Request};
-ghost use Rattle.written_kernel.specs.Words.{State, associations_in, fire, tell, with_channels};
+ghost use Rattle.written_kernel.specs.Words.{State, associations_in, fire, tell, timers_in, with_channels};
 
 use crate::ports::note_told;
 use crate::store::Store;
-use crate::telling::end_closed;
+use crate::telling::{end_closed, end_timers};
 use crate::told::{ClosedRows, TellingRooms};
 use associated_ports::ending::Ending;
 use dk_base::list::Room;
@@ -42,8 +42,9 @@ impl Store {
     /// names, those that name nothing now. `ending` is for what the call lists. It takes no memory.
     #[tactic(auto, using(crate::proofs::PortsTold::nothing_ended))]
     fn end_closed(&mut self, closed: &ClosedRows, ending: &mut Ending)
-        requires { HasRoomToEnd ending.old (length (associations_in (stored_state self.old))) }
+        requires { (k : ℕ) × HasRoomToEnd ending.old (length (associations_in (stored_state self.old))) k }
         ensures state { stored_state self.new ≡ with_channels (stored_state self.old) (ended_by (stored_state self.old).channels (empty_rows (stored_state self.old) (closing_of closed.now))) }
+        ensures room { (n k : ℕ) → HasRoomToEnd ending.old n k → HasRoomToEnd ending.new n k }
         ensures left { self.new.left ≡ self.old.left }
         ensures keeps { KeepsPools self.old self.new }
     {
@@ -53,6 +54,24 @@ impl Store {
         let before = self.ports.assocs().len();
         end_closed(&mut self.ports, &self.held, closed, ending);
         let ended = self.ports.assocs().len() != before;
+        note_told(
+            &mut self.ended,
+            ended,
+            &self.processes,
+            &self.held,
+            &self.ports,
+        );
+    }
+
+    /// The timers end of a process whose rows an act all closed, and what they queued is withdrawn. `ending` is for what the call lists. It
+    /// takes no memory.
+    fn end_timers(&mut self, closed: &ClosedRows, ending: &mut Ending)
+        requires { (n : ℕ) × HasRoomToEnd ending.old n (length (timers_in (stored_state self.old))) }
+        ensures state { stored_state self.new ≡ with_channels (stored_state self.old) (timers_ended (stored_state self.old).channels (closing_of closed.now)) }
+        ensures left { self.new.left ≡ self.old.left }
+        ensures keeps { KeepsPools self.old self.new }
+    {
+        let ended = end_timers(&mut self.ports, closed, ending);
         note_told(
             &mut self.ended,
             ended,
@@ -98,13 +117,14 @@ impl Store {
     /// and an end of which pipe is readied or newly watched; `rooms` has the ends of pipes that have gone. It takes no memory.
     pub fn tell(&mut self, closed: &ClosedRows, pipe: Option<u32>, rooms: &mut TellingRooms)
         requires listed { length rooms.old.gone.items + 2 ≤ rooms.old.changed.spare }
-        requires room { HasRoomToEnd rooms.old.ending (length (associations_in (stored_state self.old))) }
+        requires room { HasRoomToEnd rooms.old.ending (length (associations_in (stored_state self.old))) (length (timers_in (stored_state self.old))) }
         requires told { (m : State) × (t : ℕ) × (q : Option Request) × IsLeftToTell m t q closed.now pipe rooms.old.gone.items (stored_state self.old) }
         ensures state { stored_state self.new ≡ tell (stored_state self.old) }
         ensures left { self.new.left ≡ self.old.left }
         ensures keeps { KeepsPools self.old self.new }
     {
         self.end_closed(closed, &mut rooms.ending);
+        self.end_timers(closed, &mut rooms.ending);
         self.fire(pipe, rooms.gone.slice(), &mut rooms.changed);
     }
 }

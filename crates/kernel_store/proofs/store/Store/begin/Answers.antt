@@ -52,7 +52,7 @@ returns-clause-state c =
       doors = s.doors.items;
       call_tree = s.held.calls.tree;
       notice_list = s.notices.list;
-      channels = record { pipes = s.pipes.items; ports = s.ports.ports.ports; associations = s.ports.assocs.list };
+      channels = record { pipes = s.pipes.items; ports = s.ports.ports.ports; associations = s.ports.assocs.list; timers = s.ports.timers.list };
       events = s.events;
     } in
     let bound : c.withdraw_firsts.new.pools.bindings ≡ bindings_after_fork m t child =

@@ -1,8 +1,9 @@
-use Rattle.std.proofs.Common.{◌≡◌, ℕ, [], ap, length, sym, ◌∙◌, arith}
+use Rattle.std.proofs.Common.{◌≡◌, ℕ, [], ap, length, subst, sym, ◌∙◌, arith}
 use Rattle.std.proofs.lemmas.Bool.Decides.{nat_tests}
 use Rattle.port_assoc.specs.Words.{AssocsValue}
 use Rattle.act_changes.specs.Ended.{empty_rows, ended_by}
 use Rattle.written_kernel.specs.Words.{Channels, with_channels}
+use Rattle.associated_ports.specs.Words.{HasRoomToEnd}
 use Rattle.kernel_store.specs.Stored.{StoreValue, stored_state}
 use Rattle.kernel_store.specs.Telling.{channels_in, closing_of}
 use Rattle.kernel_store.proofs.PortsTold.{store_ended}
@@ -25,8 +26,8 @@ invariant_of-self c = (
     unchanged : c.len.result ≡ c.len-before.result → channels_in [] c.end_closed.new.ports ≡ channels_in [] c.self.inside.ports
     unchanged same =
         let as_many = ap held (sym c.assocs-2.ensures) ∙ sym c.len.ensures.len ∙ same ∙ c.len-before.ensures.len ∙ ap held c.assocs.ensures in
-        c.end_closed.ensures []
-        ∙ none_ended c.self.inside.held.tables (channels_in [] c.self.inside.ports) c.args.closed.now (ap count (sym (c.end_closed.ensures [])) ∙ as_many)
+        c.end_closed.ensures.ended []
+        ∙ none_ended c.self.inside.held.tables (channels_in [] c.self.inside.ports) c.args.closed.now (ap count (sym (c.end_closed.ensures.ended [])) ∙ as_many)
 
 pub returns-clause-state : goal.returns-clause-state
 returns-clause-state c =
@@ -47,6 +48,10 @@ returns-clause-state c =
       pipes = s.pipes;
       ports = s.ports.ports;
       assocs = s.ports.assocs;
+      timers = s.ports.timers;
     } in
-    store_ended v c.end_closed.new.ports c.args.closed.now (c.end_closed.ensures s.pipes.items)
+    store_ended v c.end_closed.new.ports c.args.closed.now (c.end_closed.ensures.ended s.pipes.items)
     ∙ ap (λ (x : StoreValue). with_channels (stored_state x) (ended_by (stored_state x).channels (empty_rows (stored_state x) (closing_of c.args.closed.now)))) c.self.view_is
+
+pub end_closed-requires : goal.end_closed-requires
+end_closed-requires c = (c.requires.0, subst (λ (v : StoreValue). HasRoomToEnd c.args.ending.now (length v.assocs.list.associations) c.requires.0) (sym c.self.view_is) c.requires.1)

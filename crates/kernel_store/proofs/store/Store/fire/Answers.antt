@@ -45,9 +45,10 @@ returns-clause-state c =
       pipes = s.pipes;
       ports = s.ports.ports;
       assocs = s.ports.assocs;
+      timers = s.ports.timers;
     } in
     store_fired v c.tell-fired.new.self c.args.pipe c.ends_of-ends.result c.args.gone.now
     (subst (λ (x : StoreValue). IsOfPipe (stored_state x) c.args.pipe c.ends_of-ends.result) (sym c.self.view_is) c.ends_of-ends.ensures)
     (subst (λ (x : StoreValue). AreNamed (stored_state x) c.args.pipe c.args.gone.now) (sym c.self.view_is) c.requires.named)
-    c.tell-fired.ensures.list c.tell-fired.ensures.ports
+    c.tell-fired.ensures.list c.tell-fired.ensures.ports c.tell-fired.ensures.timers
     ∙ ap (λ (x : StoreValue). fire (stored_state x)) c.self.view_is

@@ -26,6 +26,7 @@ returns-clause-gone c = λ m.
       pipes = s.pipes;
       ports = s.ports.ports;
       assocs = s.ports.assocs;
+      timers = s.ports.timers;
     } in
     subst (λ (x : StoreValue). HasOpened x.opening m → AreGone m (stored_state x) c.gone.new.into.items) c.self.view_is
     (λ opened o.
