@@ -1,11 +1,12 @@
--- How many more associations there are after an act: one at most.
+-- How many more associations and timers there are after an act: one at most.
 use Rattle.std.proofs.Common.{◌≡◌, ℕ, ◌+◌, ◌≤◌, Bool, List, [], ◌∷◌, Option, filter, length, ap, arith}
 use Rattle.std.proofs.lemmas.List.{length-append}
 use Rattle.std.proofs.lemmas.List.Sums.{count_by-le-length, length-filter}
 use Rattle.kernel_records.specs.declared.association.Association.{Association}
-use Rattle.kernel_records.specs.Words.{AssociationList, associations_of, events_found, has_other_key, has_other_number, new_association, port_of, retrieve_association, retrieve_associations}
+use Rattle.kernel_records.specs.Words.{AssociationList, arming_at, associations_of, events_found, has_other_key, has_other_number, is_other_timer, is_timer, new_association, new_timer, port_of, retrieve_association, retrieve_associations, with_arming}
+use Rattle.kernel_records.proofs.Places.{length-change_first}
 use Rattle.written_kernel.specs.Types.{Answer, Request}
-use Rattle.written_kernel.specs.Words.{ActResult, Channels, State, act, associations_in, key_at, object_at, port_at, process_of, settle_pools, take_found, watched}
+use Rattle.written_kernel.specs.Words.{ActResult, Channels, State, act, associations_in, key_at, object_at, port_at, process_of, settle_pools, take_found, timers_in, watched}
 use Rattle.written_kernel.proofs.Moves.{IsMaking, IsPassing, Moves, act_moves}
 use Rattle.written_kernel.proofs.Settling.{channels-settle_pools}
 
@@ -41,6 +42,33 @@ moved_one m t q a _ = omega arith
 
 pub counted-act : (m : State) (t : ℕ) (q : Option Request) → count_associations (act m t q).state ≤ count_associations m + 1
 counted-act m t q = moved_one m t q (act m t q) (act_moves m t q)
+
+-- timers
+
+abbrev pub count_timers : State → ℕ
+count_timers m = length (timers_in m)
+
+passed_timer : (m : State) (t : ℕ) (r : Request) (c : Channels) (a : Answer) → IsPassing m t r c a → length c.timers.timers ≤ count_timers m + 1
+passed_timer m t r c a (IsPassing.creates_timer port user f) = omega (arith, length-append (timers_in m) (new_timer m.channels.timers (process_of m t) (port_at m (process_of m t) port) user ∷ []))
+passed_timer m t r c a (IsPassing.sets_timer timer first interval f) =
+    omega (arith, length-change_first (is_timer (process_of m t) timer) (with_arming (arming_at m.channels.timers.clock first interval)) (timers_in m))
+passed_timer m t r c a (IsPassing.deletes_timer timer f) =
+    omega (arith, length-filter (is_other_timer (process_of m t) timer) (timers_in m), count_by-le-length (is_other_timer (process_of m t) timer) (timers_in m))
+passed_timer m t r c a _ = omega arith
+
+moved_timer : (m : State) (t : ℕ) (q : Option Request) (a : ActResult) → Moves m t q a → count_timers a.state ≤ count_timers m + 1
+moved_timer m t q a (Moves.passes r c x p) = passed_timer m t r c x p
+moved_timer m t q a (Moves.makes_channel r c objects x (IsMaking.makes_pipe f)) = omega arith
+moved_timer m t q a (Moves.makes_channel r c objects x (IsMaking.makes_port f)) = omega arith
+moved_timer m t q a _ = omega arith
+
+pub timed-act : (m : State) (t : ℕ) (q : Option Request) → count_timers (act m t q).state ≤ count_timers m + 1
+timed-act m t q = moved_timer m t q (act m t q) (act_moves m t q)
+
+-- what follows an act makes neither
+
+pub timed_pools : (before m : State) → count_timers (settle_pools before m) ≡ count_timers m
+timed_pools before m = ap (λ (c : Channels). length c.timers.timers) (channels-settle_pools before m)
 
 pub counted_pools : (before m : State) → count_associations (settle_pools before m) ≡ count_associations m
 counted_pools before m = ap (λ (c : Channels). length c.associations.associations) (channels-settle_pools before m)

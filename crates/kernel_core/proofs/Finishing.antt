@@ -19,7 +19,7 @@ use Rattle.kernel_core.specs.Acted.{CanNoticeAfter, CanStep, HasActed}
 use Rattle.kernel_core.specs.Entries.{made_first, may_make_first}
 use Rattle.kernel_core.specs.Watched.{BeganIn, HadRoomForNotices, KeepsDoors, fallen}
 use Rattle.kernel_core.specs.Woken.{AreTurns, HasTurns, HasTurnsAfter, IsReady, IsReadyToSettle, turned_threads}
-use Rattle.kernel_core.proofs.Associated.{count_associations, counted-act, counted_pools}
+use Rattle.kernel_core.proofs.Associated.{count_associations, count_timers, counted-act, counted_pools, timed-act, timed_pools}
 use Rattle.kernel_core.proofs.Acted.{made, made-act, opened_kept}
 use Rattle.kernel_core.proofs.Numbering.{made_few}
 use Rattle.kernel_core.proofs.Live.{stands_live}
@@ -59,6 +59,7 @@ has_acted start before n t q taken a first can noticing turning same ready acted
       keeps = keeps;
       told = can.told;
       unborn = can.unborn;
+      live = can.live;
       rows = rows;
       readied = readied;
       fallen = refl;
@@ -116,6 +117,14 @@ pub rest_told : (a b : StoreValue) (k : ℕ) → KeepsPools a b → IsAtRest k a
 rest_told a b k keeps h =
     record { given_out = subst IsGivenOut (sym keeps.pools) h.given_out; latest = omega (arith, keeps.latest, h.latest) }
 
+-- nor does counting an event
+pub rest_counted : (a b : StoreValue) → stored_state b ≡ with_event_counted (stored_state a) → KeepsPools a b → IsAtRest a.events a → IsAtRest b.events b
+rest_counted a b counted keeps h =
+    record {
+      given_out = subst IsGivenOut (sym keeps.pools) h.given_out;
+      latest = omega (arith, ap (λ (k : State). k.events) counted, keeps.latest, h.latest);
+    }
+
 module _ {start before after : Parts} {t : ℕ} {q : Option Request} {taken : Taken} {first : Option ℕ} {a : Answer} (h : HasActed start t q before after taken first a) where
   abbrev m : State
   m = stored_state start.store
@@ -168,7 +177,7 @@ module _ {start before after : Parts} {t : ℕ} {q : Option Request} {taken : Ta
   -- what ports are told then
 
   after_acted : IsAfterAct m t q n
-  after_acted = subst (IsAfterAct m t q) (sym h.acted) (forgotten_is_after m t q (act m t q).state (record { tables = refl; channels = refl }))
+  after_acted = subst (IsAfterAct m t q) (sym h.acted) (forgotten_is_after m t q (act m t q).state (record { processes = refl; tables = refl; channels = refl }))
 
   pub left_to_tell :
       (s : StoreValue) (gone : List Obj) → SettlesTo after.store first s → ((k : State) → HasOpened after.store.opening k → AreGone k n gone) →
@@ -178,19 +187,25 @@ module _ {start before after : Parts} {t : ℕ} {q : Option Request} {taken : Ta
       (record {
         told = h.told;
         unborn = h.unborn;
+        live = h.live;
         after = settled_is_after m t q m n after_acted;
         rows = h.rows;
         readied = h.readied;
         gone = λ o. listed m began_in.opened.all o ∙ ap (λ b. is_end o && b) (sym (gone-settle_pools m m n o));
       })
 
-  pub ending_room : (s : StoreValue) → SettlesTo after.store first s → HasRoomToEnd after.rooms.ending (count_associations (stored_state s))
+  pub ending_room :
+      (s : StoreValue) → SettlesTo after.store first s → HasRoomToEnd after.rooms.ending (count_associations (stored_state s)) (count_timers (stored_state s))
   ending_room s settles =
-      let had = subst (λ (r : TellingRooms). HasRoomToEnd r.ending (count_associations (stored_state before.store) + 1)) (sym h.rooms) h.ready.rooms.ending in
+      let had =
+      subst (λ (r : TellingRooms). HasRoomToEnd r.ending (count_associations (stored_state before.store) + 1) (count_timers (stored_state before.store) + 1)) (sym h.rooms) h.ready.rooms.ending in
       let same = ap count_associations (pooled_acted s settles) ∙ counted_pools m n ∙ ap count_associations h.acted in
       let before_it = ap count_associations h.same in
       let few : count_associations (stored_state s) ≤ count_associations (stored_state before.store) + 1 = omega (arith, same, before_it, counted-act m t q) in
-      record { ports = omega (arith, had.ports, few); ids = omega (arith, had.ids, few) }
+      let same_timers = ap count_timers (pooled_acted s settles) ∙ timed_pools m n ∙ ap count_timers h.acted in
+      let timers_before = ap count_timers h.same in
+      let few_timers : count_timers (stored_state s) ≤ count_timers (stored_state before.store) + 1 = omega (arith, same_timers, timers_before, timed-act m t q) in
+      record { ports = omega (arith, had.ports, few); ids = omega (arith, had.ids, few); tags = omega (arith, had.tags, few_timers) }
 
   pub events_settled : (s : StoreValue) → stored_state s ≡ settle m n → s.events ≡ n.events
   events_settled s e = let g : IsSettled m (stored_state s) = settled_after m n (stored_state s) t q h.acted e in g.events ∙ sym events_acted

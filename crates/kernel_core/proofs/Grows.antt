@@ -5,8 +5,8 @@ use Rattle.std.proofs.lemmas.Bool.{ltb-false, or_parts}
 use Rattle.std.proofs.lemmas.List.{length-map, length-take}
 use Rattle.written_kernel.proofs.Moves.{IsPassing, Moves, act_moves, act_result}
 use Rattle.written_kernel.proofs.Moves.IsMaking.{makes_pipe, makes_port}
-use Rattle.written_kernel.proofs.Moves.IsPassing.{alerts, associates, dissociates, gets, gets_many, reads, sends, sends_each, writes}
-use Rattle.written_kernel.proofs.Moves.IsSaid.{refused}
+use Rattle.written_kernel.proofs.Moves.IsPassing.{advances, alerts, associates, creates_timer, deletes_timer, dissociates, gets, gets_many, reads, sends, sends_each, sets_timer, writes}
+use Rattle.written_kernel.proofs.Moves.IsSaid.{refused, replies}
 use Rattle.written_kernel.proofs.Moves.IsRow.{closes}
 use Rattle.written_kernel.proofs.Moves.IsTurn.{awaits, starts_work, works}
 use Rattle.written_kernel.specs.Types.{Answer, Attrs, Call, CallStage, Door, Errno, Fd, Item, Obj, Parked, Pass, Queued, Request, Thread, ThreadState, Waiting, Param}
@@ -473,6 +473,10 @@ passed-small m t r c a (sends_each fds events user) fit =
 passed-small m t r c a (alerts fd mode events user f) fit = tt
 passed-small m t r c a (associates port object events user f) fit = tt
 passed-small m t r c a (dissociates port object f) fit = tt
+passed-small m t r c a (creates_timer port user f) fit = tt
+passed-small m t r c a (sets_timer timer first interval f) fit = tt
+passed-small m t r c a (deletes_timer timer f) fit = tt
+passed-small m t r c a (advances by) fit = tt
 passed-small m t r c a (gets fd wait f e) fit = found-small m (Some r) (port_at m (process_of m t) fd) 1 true (λ more. cc)
 passed-small m t r c a (gets_many fd max nget wait f some e) fit = found-small m (Some r) (port_at m (process_of m t) fd) max false (λ more. fit)
 
@@ -482,6 +486,7 @@ waits_of made s q max nget one marked e h = subst (WaitsAtMade made) e h
 
 move-tidy : (m : State) (t : ℕ) (q : Option Request) (a : ActResult) → Moves m t q a → IsTidy m t q a
 move-tidy m t q a (Moves.nothing x (refused r e f)) = record { grows = grows_same 1 m; small = λ h fit. tt }
+move-tidy m t q a (Moves.nothing x (replies line)) = record { grows = grows_same 1 m; small = λ h fit. omega arith }
 move-tidy m t q a (Moves.rows r place o x (closes fd f)) = door-tidy m a.state t q a refl refl refl refl (omega arith) tt
 move-tidy m t q a (Moves.rows r place o x _) = door-tidy m a.state t q a refl refl refl refl (omega arith) tt
 move-tidy m t q a (Moves.names r names _) = door-tidy m a.state t q a refl refl refl refl (omega arith) tt

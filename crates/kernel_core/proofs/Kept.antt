@@ -1,10 +1,10 @@
 -- A kernel's events keep that what it keeps comes from a written state, and a refused entry changes nothing else.
-use Rattle.std.proofs.Common.{◌≡◌, ℕ, ◌+◌, ◌<◌, ◌≤◌, ◌||◌, ⊎_elim, true≢false, Bool, true, false, if◌then◌else◌, not, List, Option, Some, None, Result, Ok, Err, IfOk, OnOk, OnErr, slice_get, length, refl, subst, sym, ap, ◌∙◌, arith, All, is_some}
+use Rattle.std.proofs.Common.{◌≡◌, ℕ, ◌+◌, ◌*◌, ◌<◌, ◌≤◌, ◌||◌, ⊎_elim, true≢false, Bool, true, false, if◌then◌else◌, not, List, Option, Some, None, Result, Ok, Err, IfOk, OnOk, OnErr, slice_get, length, refl, subst, sym, ap, ◌∙◌, arith, All, is_some}
 use Rattle.std.specs.List.{list_any}
 use Rattle.kernel_records.proofs.NumberedLists.{find-slice_get}
 use Rattle.written_kernel.specs.Types.{Call, CallStage, Door, Errno, NoMemory, Notice, NoticeStage, Process, Request, Stepped, Thread, ThreadState, Tid}
 use Rattle.dk_base.specs.declared.answer.Answer.TheVariants.{Failure}
-use Rattle.dk_base.specs.declared.limits.TheConstants.{EVENTS_MAX, THREADS_MAX}
+use Rattle.dk_base.specs.declared.limits.TheConstants.{ADVANCE_MAX, EVENTS_MAX, THREADS_MAX}
 use Rattle.written_kernel.specs.Words.{IsOpening, IsStep, MayTurn, StandsFor, State, act, effect, forget, has_lost_door, opening, pick, pool_of, invocation_of, state_of, process_of, refusal_of, step, unless_refused, waiting_items, with_child, with_event_counted, with_new_thread, bound_of, is_live_process, is_thread_of, is_unborn_process, door_of, port, port_at, table_of, thread_of}
 use Rattle.written_kernel.specs.Opening.IsOpening.{child, processes, thread}
 use Rattle.written_kernel.proofs.Forget.{IsStep-stands_for, act-forget, is_runnable-forget, refusal_of-forget, waiting_items-forget}
@@ -27,18 +27,20 @@ use Rattle.kernel_invariant.specs.Core.{door_in, is_outside, notice_in, noticed_
 use Rattle.kernel_invariant.specs.Events.{Keeps, may_lose_door}
 use Rattle.kernel_invariant.specs.Invariant.{IsConsistent}
 use Rattle.kernel_invariant.specs.Told.{AreTold}
-use Rattle.act_changes.specs.Changed.{UnbornHaveNoRows}
+use Rattle.act_changes.specs.Changed.{OnlyLiveHaveRows, UnbornHaveNoRows}
 use Rattle.act_changes.proofs.Kept.{told-forget, told-kept, unborn_have_none}
 use Rattle.kernel_invariant.specs.Records.{item_in, notice_of, owner_in, record_of, stage_in}
 use Rattle.kernel_store.specs.Words.{AreHeld, ArePlaced, WaitAtValidDoors, held_as, stored_state}
 use Rattle.kernel_core.specs.declared.event.Parts.{Parts}
 use Rattle.kernel_core.specs.Acted.{CanStep, IsBetweenEvents}
-use Rattle.kernel_core.proofs.Live.{stands_live}
+use Rattle.kernel_core.proofs.CacheLines.{line_changes_nothing}
+use Rattle.kernel_core.proofs.Live.{live_state, stands_live}
 use Rattle.kernel_invariant.proofs.Events.{step_keeps}
 use Rattle.kernel_invariant.proofs.Openings.{opening_keeps}
-use Rattle.kernel_invariant.proofs.Refusals.{refused_gives}
+use Rattle.kernel_invariant.proofs.Refusals.{refused_gives, unchanged_gives}
 use Rattle.kernel_invariant.proofs.Settling.{no_lost_door}
 use Rattle.kernel_invariant.proofs.Steps.{act_does}
+use Rattle.kernel_core.specs.Entries.{is_cache_line}
 use Rattle.kernel_core.specs.Kept.{IsKept}
 use Rattle.kernel_core.specs.Numbers.{HasNumbersLeft}
 use Rattle.kernel_core.specs.Watched.{IsReadyForNotices}
@@ -158,6 +160,15 @@ refused_stands kept m t r e k h g =
     (none_idle-of_forget m (subst HasNoneIdle (sym k.stands ∙ h) (none_idle-forget k.written k.invariant.given_out)))
     (told-kept m (subst AreTold (sym k.stands ∙ h) (told-forget k.written k.invariant.told)))
     g
+
+-- a line for a cache, after which nothing is left to give or to tell
+pub line_counts : (kept : State) (t : ℕ) (r : Request) → IsKept kept → is_cache_line r ≡ true → (step kept t (Some r)).state ≡ with_event_counted kept
+line_counts kept t r k line =
+    let itself : StandsFor kept kept = sym (live_state kept (stands_live kept k.written k.stands)) in
+    unchanged_gives kept t (Some r) (λ u. lost_stands kept kept u k itself)
+    (subst HasNoneIdle (sym k.stands) (none_idle-forget k.written k.invariant.given_out))
+    (subst AreTold (sym k.stands) (told-forget k.written k.invariant.told))
+    (line_changes_nothing kept t r line)
 
 -- the same of a result
 
@@ -383,6 +394,7 @@ numbers_kept m k w few =
       ports = omega (arith, ap (λ (n : State). length n.channels.ports) k.stands, k.channels.few_ports, events, few);
       associations = omega (arith, ap (λ (n : State). n.channels.associations.made) k.stands, k.channels.few_associations, events, few);
       named = λ p fd. subst (λ (n : State). port_at n p fd ≤ length n.channels.ports) (sym k.stands) (named_port_made k.written k.channels p fd);
+      timers = omega (arith, ap (λ (n : State). n.channels.timers.made) k.stands, k.channels.few_timers, events, few);
       queued =
           λ q.
           omega (
@@ -391,10 +403,15 @@ numbers_kept m k w few =
             ap (λ (n : State). length (port n q).queue) k.stands,
             ap (λ (n : State). n.channels.associations.made) k.stands,
             k.channels.few_associations,
+            k.channels.few_timers,
             events,
             few,
           );
     }
+
+-- how far the clock of a kept state has moved on
+pub clock_kept : (m : State) → IsKept m → m.channels.timers.clock ≤ ADVANCE_MAX * m.events
+clock_kept m k = subst (λ (n : State). n.channels.timers.clock ≤ ADVANCE_MAX * n.events) (sym k.stands) k.channels.early
 
 pub wait_kept : (m : State) (t : ℕ) → IsKept m → IsFitTurn m t None
 wait_kept m t k = subst (λ n. IsFitTurn n t None) (sym k.stands) (waits_at_made k.written k.channels t)
@@ -410,6 +427,7 @@ can_step p m same k few =
       numbers = numbers_kept (stored_state p.store) k.0 w early;
       told = subst AreTold (sym k.0.stands) (told-forget k.0.written k.0.invariant.told);
       unborn = subst UnbornHaveNoRows (sym k.0.stands) (unborn_have_none k.0.written k.0.invariant.consistent);
+      live = subst OnlyLiveHaveRows (sym k.0.stands) k.0.invariant.consistent.no_rows;
       none_past = stands_live (stored_state p.store) k.0.written k.0.stands;
       placed = subst ArePlaced (sym k.0.stands) (placed-forget k.0.written (places k.0.written k.0.invariant.consistent));
       waiting = subst WaitAtValidDoors (sym k.0.stands) (waits-forget k.0.written (waits k.0.written k.0.invariant.consistent));

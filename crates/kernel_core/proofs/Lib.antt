@@ -7,6 +7,7 @@ pub mod Steps
 pub mod Readers
 pub mod Kept
 mod Forking
+mod CacheLines
 pub mod Tests
 pub mod Channels
 pub mod Collected

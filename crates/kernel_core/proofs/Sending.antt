@@ -1,11 +1,14 @@
 -- Sending to several ports, one after the other: the room that each has suffices for all that are sent.
-use Rattle.std.proofs.Common.{◌≡◌, ℕ, ◌+◌, ◌-◌, ◌<◌, ◌≤◌, ◌++◌, List, [], ◌∷◌, Option, None, Some, IfSome, drop, get_or, length, map, sym, ap, ◌∙◌, arith}
+use Rattle.std.proofs.Common.{◌≡◌, ℕ, ◌+◌, ◌-◌, ◌<◌, ◌≤◌, ◌++◌, List, [], ◌∷◌, Option, None, Some, IfSome, drop, get_or, length, map, refl, sym, ap, ◌∙◌, arith}
 use Rattle.std.proofs.lemmas.List.{append_assoc, drop_more}
 use Rattle.dk_base.specs.ByNumber.{at_number}
 use Rattle.kernel_records.specs.Words.{Port}
 use Rattle.written_kernel.specs.Types.{Errno, Fd, Obj}
 use Rattle.written_kernel.specs.Words.{after_sending, after_sending_each, errors_of_sending, sending_error}
 use Rattle.kernel_store.specs.Words.{HasRoomForEvents, KeepsPools, KeepsRoomForEventsButOne, StoreValue}
+
+pub keeps_same : (a : StoreValue) → KeepsPools a a
+keeps_same a = record { pools = refl; latest = refl; opening = refl; notice_room = omega arith; short_room = refl }
 
 pub keeps_then : (a b c : StoreValue) → KeepsPools a b → KeepsPools b c → KeepsPools a c
 keeps_then a b c g h =
@@ -21,10 +24,13 @@ keeps_then a b c g h =
 pub room_for_fewer : (store : StoreValue) (q n k : ℕ) → k ≤ n → HasRoomForEvents store q n → HasRoomForEvents store q k
 room_for_fewer store q n k l h = go (at_number store.ports.rooms q) h
   where
-    others : ℕ
-    others = length store.assocs.list.associations
+    associations : ℕ
+    associations = length store.assocs.list.associations
 
-    go : (o : Option ℕ) → IfSome o (λ room. n + others ≤ room) → IfSome o (λ room. k + others ≤ room)
+    timers : ℕ
+    timers = length store.timers.list.timers
+
+    go : (o : Option ℕ) → IfSome o (λ room. n + associations + timers ≤ room) → IfSome o (λ room. k + associations + timers ≤ room)
     go None f = tt
     go (Some room) f = omega (arith, l, f)
 

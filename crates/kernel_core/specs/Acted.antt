@@ -1,6 +1,6 @@
 -- What an event needs of the parts of a kernel, and what it has done once its act is done.
 use Rattle.std.specs.Prelude.{ℕ, ◌≡◌, ◌<◌, Option, false}
-use Rattle.act_changes.specs.Changed.{UnbornHaveNoRows}
+use Rattle.act_changes.specs.Changed.{OnlyLiveHaveRows, UnbornHaveNoRows}
 use Rattle.act_changes.specs.Closed.{closed_rows}
 use Rattle.dk_base.specs.declared.limits.TheConstants.{EVENTS_MAX}
 use Rattle.written_kernel.specs.Types.{Answer, Request}
@@ -25,6 +25,7 @@ pub record CanStep (parts : Parts) : Type 0 where
   pub numbers : HasNumbersLeft (stored_state parts.store)
   pub told : AreTold (stored_state parts.store)
   pub unborn : UnbornHaveNoRows (stored_state parts.store)
+  pub live : OnlyLiveHaveRows (stored_state parts.store)
   pub none_past : HasNothingPast (stored_state parts.store)
   pub placed : ArePlaced (stored_state parts.store)
   pub waiting : WaitAtValidDoors (stored_state parts.store)
@@ -54,6 +55,7 @@ pub record HasActed (start : Parts) (t : ℕ) (q : Option Request) (before after
   -- what is told of its request: the rows that it closes, and the pipe of what it readies
   pub told : AreTold (stored_state start.store)
   pub unborn : UnbornHaveNoRows (stored_state start.store)
+  pub live : OnlyLiveHaveRows (stored_state start.store)
   pub rows : closing_of taken.closed ≡ closed_rows (stored_state start.store) t q
   pub readied : ReadiesAtMost (stored_state start.store) t q taken.pipe
   pub fallen : after.fallen ≡ before.fallen

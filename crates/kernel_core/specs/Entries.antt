@@ -1,5 +1,5 @@
 -- An entry as the file of its subject does it, and what is known of it before it is done.
-use Rattle.std.specs.Prelude.{ℕ, ◌&&◌, if◌then◌else◌, not, Option, None, Some}
+use Rattle.std.specs.Prelude.{ℕ, ◌&&◌, Bool, true, false, if◌then◌else◌, not, Option, None, Some}
 use Rattle.written_kernel.specs.Types.{Answer, Pool, Request}
 use Rattle.dk_base.specs.declared.answer.Answer.TheVariants as answer
 use Rattle.dk_base.specs.declared.request.Request.TheVariants as request
@@ -16,6 +16,11 @@ entry_about s m t p r = unless_refused m (first_refusal (tests_about s m t p r))
 abbrev pub touched_by : State → ℕ → Request → Pool
 touched_by m t (request.Revoke fd) = Private (door_at m (process_of m t) fd)
 touched_by m t r = pool_of_request m t r
+
+-- a line for a name service cache
+abbrev pub is_cache_line : Request → Bool
+is_cache_line (request.Ncd line) = true
+is_cache_line _ = false
 
 -- the process of an entry that makes the first door that its common pool serves, if it is not refused
 abbrev pub may_make_first : State → ℕ → Request → Option ℕ

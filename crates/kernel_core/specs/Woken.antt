@@ -8,7 +8,7 @@ use Rattle.thread_set.specs.Words.{has}
 use Rattle.kernel_core.specs.declared.event.Parts.{Parts}
 use Rattle.kernel_core.specs.declared.event.Taken.{Taken}
 use Rattle.written_kernel.specs.Types.{Request}
-use Rattle.written_kernel.specs.Words.{State, associations_in, forget, is_runnable, step}
+use Rattle.written_kernel.specs.Words.{State, associations_in, forget, is_runnable, step, timers_in}
 use Rattle.kernel_store.specs.Words.{HasBegun, HasRoomForNotices, HasRoomToTell, IsAgreed, IsRoomFor, can_turn, stored_state}
 use Rattle.kernel_core.specs.Watched.{watched}
 
@@ -37,8 +37,8 @@ pub record IsReady (parts : Parts) (taken : Taken) : Type 0 where
   pub notices : HasRoomForNotices parts.store
   pub opened : HasBegun parts.store (stored_state parts.store)
   pub agreed : IsAgreed parts.store
-  -- an act makes one association at most
-  pub rooms : HasRoomToTell parts.rooms (length (associations_in (stored_state parts.store)) + 1)
+  -- an act makes one association or timer at most
+  pub rooms : HasRoomToTell parts.rooms (length (associations_in (stored_state parts.store)) + 1) (length (timers_in (stored_state parts.store)) + 1)
 
 -- the same once its act is done
 pub record IsReadyToSettle (parts : Parts) : Type 0 where

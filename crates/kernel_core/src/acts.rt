@@ -5,7 +5,7 @@ ghost use Rattle.kernel_records.specs.Words.{has_common_door, is_private};
 ghost use Rattle.kernel_invariant.specs.Coherent.{is_unfit};
 ghost use Rattle.kernel_invariant.specs.Events.{is_leaving};
 ghost use Rattle.kernel_core.specs.Entries.{made_first, may_make_first, touched_by};
-ghost use Rattle.written_kernel.specs.Words.{StandsFor, act, enter, is_runnable, is_running, process_of, state_of};
+ghost use Rattle.written_kernel.specs.Words.{IsFit, StandsFor, act, enter, is_runnable, is_running, process_of, state_of};
 ghost use Rattle.kernel_core.specs.Finding.{HasRoomToFind};
 ghost use Rattle.kernel_core.specs.Forking.{MayFork};
 ghost use Rattle.kernel_core.specs.Handed.{count_passed, ending_of, events_at_end, objects_at_end};
@@ -19,7 +19,7 @@ use crate::doors::{self, accept, collect};
 use crate::leaving::{self, wake};
 use crate::ports::{self, Found, end_getting};
 use crate::tasks::{self, end_work};
-use crate::{associations, binding, information, pipes};
+use crate::{associations, binding, information, pipes, timers};
 use bitflags::Flags;
 use dk_base::answer::Answer;
 use dk_base::error::NoMemory;
@@ -120,6 +120,7 @@ pub fn enter(
     requires running { is_running (stored_state store.old) t.0 ≡ true }
     requires held { AreHeld (stored_state store.old) }
     requires own { p.0 ≡ process_of (stored_state store.old) t.0 }
+    requires fit { IsFit (stored_state store.old) t.0 request }
     requires may_fork { MayFork (stored_state store.old) t.0 request }
     requires room { IsRoomFor (count_passed request) objects }
     ensures state { OnOk result (StandsFor (stored_state store.new) (enter (stored_state store.old) t.0 p.0 request).state) }
@@ -166,7 +167,13 @@ pub fn enter(
         Request::Associate { .. } | Request::Dissociate { .. } => {
             associations::enter(store, alloc, t, p, request)
         }
-        Request::Work { .. } => Ok(tasks::enter(store, t, p, request)),
+        Request::TimerCreate { .. }
+        | Request::TimerSet { .. }
+        | Request::TimerDelete { .. }
+        | Request::Advance { .. } => timers::enter(store, alloc, t, p, request),
+        Request::Work { .. } | Request::Ncd { .. } => {
+            Ok(tasks::enter(store, alloc, t, p, request))
+        }
     }
 }
 

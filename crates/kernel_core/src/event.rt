@@ -1,14 +1,16 @@
 //! One event: the memory that it can need is taken first, then the act, and what follows it.
-ghost use Rattle.std.specs.Prelude.{◌≡◌, ℕ, ◌+◌, ◌<◌, ◌≤◌, [], List, Option, false, length, true, Some, None, IfOk, OnOk, OnErr};
+ghost use Rattle.std.specs.Prelude.{◌≡◌, ℕ, ◌+◌, ◌<◌, ◌≤◌, [], List, Option, false, length, true, Some, None, IfOk, IsOk, OnOk, OnErr};
 ghost use Rattle.std.specs.Option.{option_map};
+ghost use Rattle.dk_base.specs.declared.answer.Answer.TheVariants.{Data};
 ghost use Rattle.dk_base.specs.declared.limits.TheConstants.{EVENTS_MAX, THREADS_MAX};
-ghost use Rattle.written_kernel.specs.Words.{IsStep, State, act, has_lost_door, is_runnable, is_running, step, with_event_counted};
+ghost use Rattle.written_kernel.specs.Words.{IsFit, IsStep, State, act, has_lost_door, is_runnable, is_running, step, with_event_counted};
 ghost use Rattle.kernel_invariant.specs.Events.{is_leaving};
 ghost use Rattle.kernel_store.specs.Words.{ArePlaced, CanSettle, HasRoom, HasWholeStep, IsAtRest, stored_state};
 ghost use Rattle.written_kernel.specs.Types.{Request};
 ghost use Rattle.unref_notice.specs.declared.counts.TheConstants.{STEP_MAX};
 ghost use Rattle.kernel_core.specs.Acted.{CanNoticeAfter, CanStep, HasActed, IsBetweenEvents};
 ghost use Rattle.kernel_core.specs.declared.event.Parts.{Parts};
+ghost use Rattle.kernel_core.specs.Entries.{is_cache_line};
 ghost use Rattle.kernel_core.specs.Forking.{MayFork};
 ghost use Rattle.kernel_core.specs.Numbers.{HasNumbersLeft};
 ghost use Rattle.kernel_core.specs.Woken.{AreTurns, HasTurnsAfter, IsReady, IsReadyToSettle, turned_threads};
@@ -17,6 +19,7 @@ use crate::acts::{ending_of, enter, go_on, made_first, needs_of};
 use crate::doors::count_at_end;
 use crate::notices::settle;
 use crate::ports::{count_found, room_to_find};
+use crate::tasks::{is_cache_line, reply_to_line};
 use crate::telling::{closed_by, pipe_readied, put_back};
 use dk_base::answer::Answer;
 use dk_base::error::NoMemory;
@@ -81,7 +84,10 @@ impl Parts {
         self.woken.clear();
         self.woken
             .reserve(self.store.processes().thread_count() as usize)?;
-        self.rooms.reserve(self.store.association_count() + 1)?;
+        self.rooms.reserve(
+            self.store.association_count() + 1,
+            self.store.timer_count() + 1,
+        )?;
         self.store.notices();
         Ok(Taken {
             were: self.store.runnable(),
@@ -136,10 +142,32 @@ impl Parts {
         self.end_event(alloc, were, answer)
     }
 
-    /// The event of a kernel entry.
-    pub fn enter(&mut self, alloc: Global, t: Tid, request: Request) -> Result<Stepped, NoMemory>
+    /// The event of a line for a name service cache. It is counted, and nothing else changes; it takes no memory.
+    fn count_line(&mut self, alloc: Global) -> Stepped
+        requires few { self.old.store.events < EVENTS_MAX }
+        ensures state { stored_state self.new.store ≡ with_event_counted (stored_state self.old.store) }
+        ensures answer { result.answer ≡ Data [] }
+        ensures woken { result.woken ≡ [] }
+        ensures made { self.new.store.notices.list.made ≡ self.old.store.notices.list.made }
+        ensures rest { IsBetweenEvents self.old → IsBetweenEvents self.new }
+    {
+        self.store.count();
+        Stepped {
+            answer: reply_to_line(alloc),
+            woken: TidList::new(alloc),
+        }
+    }
+
+    /// The event of a kernel entry, which takes the memory that it can need first. Want of memory leaves all as it was.
+    fn enter_with_memory(
+        &mut self,
+        alloc: Global,
+        t: Tid,
+        request: Request,
+    ) -> Result<Stepped, NoMemory>
         requires running { is_running (stored_state self.old.store) t.0 ≡ true }
         requires can_step { CanStep self.old }
+        requires fit { IsFit (stored_state self.old.store) t.0 request }
         requires may_fork { MayFork (stored_state self.old.store) t.0 request }
         requires noticing { CanNoticeAfter (stored_state self.old.store) t.0 (Some request) }
         requires turning { HasTurnsAfter (stored_state self.old.store) t.0 (Some request) }
@@ -159,6 +187,30 @@ impl Parts {
         let answer = enter(&mut self.store, alloc, t, p, request, objects, &mut parked)?;
         let first = made_first(&answer, needs.first);
         Ok(self.finish(alloc, taken, needs.touched, parked, first, answer))
+    }
+
+    /// The event of a kernel entry. Want of memory leaves all as it was; a line for a name service cache takes none.
+    pub fn enter(&mut self, alloc: Global, t: Tid, request: Request) -> Result<Stepped, NoMemory>
+        requires running { is_running (stored_state self.old.store) t.0 ≡ true }
+        requires can_step { CanStep self.old }
+        requires fit { IsFit (stored_state self.old.store) t.0 request }
+        requires may_fork { MayFork (stored_state self.old.store) t.0 request }
+        requires noticing { CanNoticeAfter (stored_state self.old.store) t.0 (Some request) }
+        requires turning { HasTurnsAfter (stored_state self.old.store) t.0 (Some request) }
+        requires none_lost { is_leaving request ≡ false → (u : ℕ) → has_lost_door (act (stored_state self.old.store) t.0 (Some request)).state u ≡ false }
+        requires counts { is_cache_line request ≡ true → (step (stored_state self.old.store) t.0 (Some request)).state ≡ with_event_counted (stored_state self.old.store) }
+        ensures step { IfOk result (λ s. IsStep (step (stored_state self.old.store) t.0 (Some request)) (stored_state self.new.store) s) }
+        ensures no_memory { is_cache_line request ≡ true → IsOk result }
+        ensures counted { is_cache_line request ≡ true → stored_state self.new.store ≡ with_event_counted (stored_state self.old.store) }
+        ensures made { OnOk result (self.new.store.notices.list.made ≤ self.old.store.notices.list.made + STEP_MAX) }
+        ensures err { OnErr result (stored_state self.new.store ≡ stored_state self.old.store) }
+        ensures between { IsBetweenEvents self.new }
+    {
+        if is_cache_line(&request) {
+            Ok(self.count_line(alloc))
+        } else {
+            self.enter_with_memory(alloc, t, request)
+        }
     }
 
     /// The event of the end of a wait. A thread that is bound to an invalid door wakes with EINVAL where it parks again.

@@ -1,11 +1,12 @@
-ghost use Rattle.std.specs.Prelude.{ℕ, ◌≡◌, ◌+◌, ◌<◌, ◌≤◌, ◌↔◌, Some, None, true, false, length, IfOk, OnOk, OnErr};
+ghost use Rattle.std.specs.Prelude.{ℕ, ◌≡◌, ◌+◌, ◌*◌, ◌<◌, ◌≤◌, ◌↔◌, [], Some, None, true, false, length, IfOk, IsOk, OnOk, OnErr};
 ghost use Rattle.std.specs.Option.{option_map};
 ghost use Rattle.std.specs.List.{AllByRecursion, list_any};
-ghost use Rattle.dk_base.specs.declared.answer.Answer.TheVariants.{Failure};
+ghost use Rattle.dk_base.specs.declared.answer.Answer.TheVariants.{Data, Failure};
 ghost use Rattle.dk_base.specs.declared.error.ProcFault.TheVariants.{Full};
 ghost use Rattle.written_kernel.specs.Types.{Errno};
-ghost use Rattle.dk_base.specs.declared.limits.TheConstants.{DESCRIPTORS_MAX, PROCESSES_MAX, THREADS_MAX, EVENTS_MAX};
-ghost use Rattle.written_kernel.specs.Words.{IsFit, IsStep, MayGoOn, StandsFor, State, is_runnable, is_running, is_thread_of, least_runnable, opening, process_of, refusal_of, root, state_of, step, table_of, with_child, with_event_counted, with_new_thread, with_processes};
+ghost use Rattle.dk_base.specs.declared.limits.TheConstants.{ADVANCE_MAX, DESCRIPTORS_MAX, PROCESSES_MAX, THREADS_MAX, EVENTS_MAX};
+ghost use Rattle.written_kernel.specs.Words.{IsFit, IsOpening, IsStep, MayGoOn, StandsFor, State, is_runnable, is_running, is_thread_of, least_runnable, opening, process_of, refusal_of, root, state_of, step, table_of, with_child, with_event_counted, with_new_thread, with_processes};
+ghost use Rattle.kernel_core.specs.Entries.{is_cache_line};
 ghost use Rattle.kernel_core.specs.Kept.{IsKept};
 ghost use Rattle.kernel_store.specs.Words.{IsAtRest, stored_state};
 ghost use Rattle.kernel_core.specs.Within.{IsWithin, IsSmall};
@@ -96,7 +97,8 @@ impl Kernel {
     }
 
     /// A kernel entry of a thread that runs. Where it is refused, it answers the refusal and nothing changes but the number
-    /// of events. Want of memory leaves the kernel as it was.
+    /// of events. Want of memory leaves the kernel as it was. A line for a name service cache takes no memory, is answered data without
+    /// bytes, and changes nothing but the number of events.
     pub fn enter(&mut self, t: Tid, request: Request) -> Result<Stepped, NoMemory>
         requires running { is_running self.old t.0 ≡ true }
         requires fit { IsFit self.old t.0 request }
@@ -105,6 +107,9 @@ impl Kernel {
         ensures refused { IfOk result (λ s. (e : Errno) → refusal_of self.old t.0 (process_of self.old t.0) request ≡ Some e → (s.answer ≡ Failure e) × (self.new ≡ with_event_counted self.old)) }
         ensures refused_step { (m : State) → StandsFor self.old m → (e : Errno) → refusal_of m t.0 (process_of m t.0) request ≡ Some e → (step m t.0 (Some request)).state ≡ with_event_counted m }
         ensures small { IfOk result (λ s. IsSmall (Some request) s.answer) }
+        ensures line { is_cache_line request ≡ true → IsOk result }
+        ensures counted { is_cache_line request ≡ true → self.new ≡ with_event_counted self.old }
+        ensures no_bytes { is_cache_line request ≡ true → IfOk result (λ s. s.answer ≡ Data []) }
         ensures err { OnErr result (self.new ≡ self.old) }
     {
         self.parts.enter(self.alloc, t, request)
@@ -171,6 +176,8 @@ impl Kernel {
     pub fn events(&self) -> u64
         ensures count { result ≡ self.now.events }
         ensures few { self.now.events ≤ EVENTS_MAX }
+        ensures clock { self.now.channels.timers.clock ≤ ADVANCE_MAX * result }
+        ensures opening { self.now.events ≡ 0 → IsOpening self.now }
         ensures stands { (m : State) → StandsFor self.now m → result ≡ m.events }
     {
         self.parts.store.events()

@@ -1,4 +1,4 @@
-//! The kernel: the acts of doors, calls, descriptors, names, pipes, ports, associations and tasks over what it holds, and what follows them. Each of its calls is proved
+//! The kernel: the acts of doors, calls, descriptors, names, pipes, ports, associations, timers and tasks over what it holds, and what follows them. Each of its calls is proved
 //! to be a step of the written kernel.
 #![tactic(auto)]
 
@@ -16,4 +16,5 @@ mod pipes;
 mod ports;
 mod tasks;
 mod telling;
+mod timers;
 mod turns;

@@ -1,7 +1,9 @@
-//! The acts of tasks. None takes memory: the input of a task is that of its request.
-ghost use Rattle.std.specs.Prelude.{◌≡◌, true};
+//! The acts of tasks, and of lines for a name service cache. None takes memory: the input of a task is that of its request, and who runs
+//! the kernel has the cache.
+ghost use Rattle.std.specs.Prelude.{◌≡◌, [], true};
+ghost use Rattle.dk_base.specs.declared.answer.Answer.TheVariants.{Data};
 ghost use Rattle.written_kernel.specs.Words.{Subject, end_work, is_running, state_of};
-ghost use Rattle.kernel_core.specs.Entries.{entry_about};
+ghost use Rattle.kernel_core.specs.Entries.{entry_about, is_cache_line};
 ghost use Rattle.kernel_store.specs.Words.{IsActive, KeepsPools, stored_state};
 
 use dk_base::answer::Answer;
@@ -25,9 +27,25 @@ pub fn end_work(store: &mut Store, alloc: Global, t: Tid) -> Answer
     }
 }
 
-/// An entry about tasks: the thread is at the task from then on.
+/// Whether an entry is a line for a name service cache.
+pub fn is_cache_line(request: &Request) -> bool
+    ensures { result ≡ is_cache_line request.now }
+{
+    matches!(request, Request::Ncd { .. })
+}
+
+/// What the kernel answers to such a line. Who has the cache puts in the bytes of the reply.
+pub fn reply_to_line(alloc: Global) -> Answer
+    ensures { result ≡ Data [] }
+{
+    Answer::Data {
+        bytes: Bytes::new(alloc),
+    }
+}
+
+/// An entry about tasks: the thread is at the task from then on. A line for a cache changes nothing.
 #[tactic(auto, using(crate::proofs::Idle::running_active))]
-pub fn enter(store: &mut Store, t: Tid, p: Pid, request: Request) -> Answer
+pub fn enter(store: &mut Store, alloc: Global, t: Tid, p: Pid, request: Request) -> Answer
     requires { is_running (stored_state store.old) t.0 ≡ true }
     ensures state { stored_state store.new ≡ (entry_about Subject.tasks (stored_state store.old) t.0 p.0 request).state }
     ensures answer { result ≡ (entry_about Subject.tasks (stored_state store.old) t.0 p.0 request).answer }
@@ -38,6 +56,7 @@ pub fn enter(store: &mut Store, t: Tid, p: Pid, request: Request) -> Answer
             store.turn(t, ThreadState::Working { op, input: bytes });
             Answer::Wait
         }
+        Request::Ncd { .. } => reply_to_line(alloc),
         _ => Answer::Done,
     }
 }

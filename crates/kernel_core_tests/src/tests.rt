@@ -1,8 +1,8 @@
 use crate::turns::{
-    ALERT, CLIENT, EVENT, Entry, Gives, Row, SERVER, Turn, right_turns_of_fork, right_turns_of_new,
+    ALERT, CLIENT, DUE_ONCE, DUE_SEVEN, DUE_THRICE, EVENT, Entry, Gives, Row, SERVER, Turn,
+    right_turns_of_fork, right_turns_of_new,
 };
 use dk_base::error::Errno;
-use dk_base::list::IdList;
 use dk_base::number::{Fd, Pid};
 use dk_base::object::Pass;
 use kernel_core::kernel::Kernel;
@@ -16,7 +16,7 @@ const SAME: Pid = Pid(1);
 
 /// A client waits for an echo server's path, opens it, calls it and exits: each thread's turn, what it is answered, and
 /// whom that wakes.
-const ECHO: [Row; 11] = [
+static ECHO: [Row; 11] = [
     (SERVER, Turn::Enters(Entry::Create), Gives::NewFd(0), &[]),
     (CLIENT, Turn::Enters(Entry::Await), Gives::Wait, &[]),
     (SERVER, Turn::Enters(Entry::Attach), Gives::Done, &[CLIENT]),
@@ -87,7 +87,7 @@ const THREE_RELEASED: Pass = Pass {
 
 /// Descriptors go with a return that has no client, with a call and with its results, some of them released: the objects keep
 /// their order and get the lowest numbers that are free. What cannot be passed is refused, and stays open.
-const PASSING: [Row; 22] = [
+static PASSING: [Row; 22] = [
     (SERVER, Turn::Enters(Entry::Create), Gives::NewFd(0), &[]),
     (SERVER, Turn::Enters(Entry::Create), Gives::NewFd(1), &[]),
     (SERVER, Turn::Enters(Entry::Attach), Gives::Done, &[]),
@@ -163,7 +163,7 @@ const PASSING: [Row; 22] = [
 ];
 
 /// A call whose server has no descriptor free for what it passes, and then one that passes nothing.
-const FULL_SERVER: [Row; 12] = [
+static FULL_SERVER: [Row; 12] = [
     (SERVER, Turn::Enters(Entry::Create), Gives::NewFd(0), &[]),
     (SERVER, Turn::Enters(Entry::Create), Gives::NewFd(1), &[]),
     (SERVER, Turn::Enters(Entry::Attach), Gives::Done, &[]),
@@ -194,7 +194,7 @@ const FULL_SERVER: [Row; 12] = [
 ];
 
 /// Results whose caller has no descriptor free for what they pass, and then some that pass nothing.
-const FULL_CLIENT: [Row; 15] = [
+static FULL_CLIENT: [Row; 15] = [
     (SERVER, Turn::Enters(Entry::Create), Gives::NewFd(0), &[]),
     (SERVER, Turn::Enters(Entry::Create), Gives::NewFd(1), &[]),
     (SERVER, Turn::Enters(Entry::Attach), Gives::Done, &[]),
@@ -239,7 +239,7 @@ const FULL_CLIENT: [Row; 15] = [
 
 /// The client closes the last descriptor but the server's own, whose path is taken away: the server is told, idle as it is. Then it
 /// copies its descriptor and closes the copy, and is told once it has returned.
-const NOTICED: [Row; 11] = [
+static NOTICED: [Row; 11] = [
     (
         SERVER,
         Turn::Enters(Entry::CreateNoticed),
@@ -274,7 +274,7 @@ const NOTICED: [Row; 11] = [
 ];
 
 /// A pipe is written and read, is empty, has no reader and no writer, and needs two descriptors.
-const PIPES: [Row; 14] = [
+static PIPES: [Row; 14] = [
     (SERVER, Turn::Enters(Entry::Pipe), Gives::TwoFds(0, 1), &[]),
     (
         SERVER,
@@ -332,7 +332,7 @@ const PIPES: [Row; 14] = [
 ];
 
 /// Events are sent to a port, are counted, and are retrieved; an alert stands in their place.
-const PORTS: [Row; 12] = [
+static PORTS: [Row; 12] = [
     (
         SERVER,
         Turn::Enters(Entry::PortCreate),
@@ -393,7 +393,7 @@ const PORTS: [Row; 12] = [
 ];
 
 /// A thread waits at a port for one event, then for two, and then until nothing refers to the port any more.
-const WAITING: [Row; 11] = [
+static WAITING: [Row; 11] = [
     (
         SERVER,
         Turn::Enters(Entry::PortCreate),
@@ -422,8 +422,152 @@ const WAITING: [Row; 11] = [
     (SERVER, Turn::GoesOn, Gives::Failure(Errno::EBADF), &[]),
 ];
 
+/// A timer is due several times at once, and is taken; it is armed for one moment, and ends.
+static TIMERS: [Row; 13] = [
+    (
+        SERVER,
+        Turn::Enters(Entry::PortCreate),
+        Gives::NewFd(0),
+        &[],
+    ),
+    (
+        SERVER,
+        Turn::Enters(Entry::CreateTimer(0)),
+        Gives::Count(0),
+        &[],
+    ),
+    (
+        SERVER,
+        Turn::Enters(Entry::SetTimer(0, 3, 2)),
+        Gives::Done,
+        &[],
+    ),
+    (SERVER, Turn::Advances(2), Gives::Done, &[]),
+    (
+        SERVER,
+        Turn::Enters(Entry::Get(0, false)),
+        Gives::Failure(Errno::ETIME),
+        &[],
+    ),
+    (SERVER, Turn::Advances(6), Gives::Done, &[]),
+    (
+        SERVER,
+        Turn::Enters(Entry::Get(0, true)),
+        Gives::OneEvent(DUE_THRICE),
+        &[],
+    ),
+    (
+        SERVER,
+        Turn::Enters(Entry::SetTimer(0, 5, 0)),
+        Gives::Done,
+        &[],
+    ),
+    (SERVER, Turn::Advances(4), Gives::Done, &[]),
+    (SERVER, Turn::Advances(10), Gives::Done, &[]),
+    (
+        SERVER,
+        Turn::Enters(Entry::GetMany(0, 1, true)),
+        Gives::Events(&[DUE_ONCE]),
+        &[],
+    ),
+    (
+        SERVER,
+        Turn::Enters(Entry::DeleteTimer(0)),
+        Gives::Done,
+        &[],
+    ),
+    (
+        SERVER,
+        Turn::Enters(Entry::SetTimer(0, 1, 1)),
+        Gives::Failure(Errno::EINVAL),
+        &[],
+    ),
+];
+
+/// What a timer queued grows in its place, and is withdrawn as the timer is armed anew.
+static GROWING: [Row; 11] = [
+    (
+        SERVER,
+        Turn::Enters(Entry::PortCreate),
+        Gives::NewFd(0),
+        &[],
+    ),
+    (
+        SERVER,
+        Turn::Enters(Entry::CreateTimer(0)),
+        Gives::Count(0),
+        &[],
+    ),
+    (
+        SERVER,
+        Turn::Enters(Entry::SetTimer(0, 1, 1)),
+        Gives::Done,
+        &[],
+    ),
+    (SERVER, Turn::Advances(4), Gives::Done, &[]),
+    (SERVER, Turn::Enters(Entry::Send(0)), Gives::Done, &[]),
+    (SERVER, Turn::Advances(3), Gives::Done, &[]),
+    (
+        SERVER,
+        Turn::Enters(Entry::GetMany(0, 2, false)),
+        Gives::Events(&[DUE_SEVEN, EVENT]),
+        &[],
+    ),
+    (SERVER, Turn::Advances(1), Gives::Done, &[]),
+    (
+        SERVER,
+        Turn::Enters(Entry::SetTimer(0, 9, 0)),
+        Gives::Done,
+        &[],
+    ),
+    (
+        SERVER,
+        Turn::Enters(Entry::Get(0, false)),
+        Gives::Failure(Errno::ETIME),
+        &[],
+    ),
+    (
+        SERVER,
+        Turn::Enters(Entry::Cache(b"set a b")),
+        Gives::Data(b""),
+        &[],
+    ),
+];
+
+/// A thread that waits at a port is woken as another process moves the clock on.
+static WOKEN: [Row; 8] = [
+    (
+        SERVER,
+        Turn::Enters(Entry::PortCreate),
+        Gives::NewFd(0),
+        &[],
+    ),
+    (
+        SERVER,
+        Turn::Enters(Entry::CreateTimer(0)),
+        Gives::Count(0),
+        &[],
+    ),
+    (
+        SERVER,
+        Turn::Enters(Entry::SetTimer(0, 2, 0)),
+        Gives::Done,
+        &[],
+    ),
+    (SERVER, Turn::Enters(Entry::Get(0, true)), Gives::Wait, &[]),
+    (CLIENT, Turn::Advances(1), Gives::Done, &[]),
+    (CLIENT, Turn::Advances(1), Gives::Done, &[SERVER]),
+    (
+        CLIENT,
+        Turn::Enters(Entry::DeleteTimer(0)),
+        Gives::Failure(Errno::EINVAL),
+        &[],
+    ),
+    (SERVER, Turn::GoesOn, Gives::OneEvent(DUE_ONCE), &[]),
+];
+
 /// A child has begun: its thread runs, with a table of its own, and serves a client in the parent.
-const FORKED: [Row; 9] = [
+static FORKED: [Row; 9] = [
     (CLIENT, Turn::Enters(Entry::Create), Gives::NewFd(0), &[]),
     (CLIENT, Turn::Enters(Entry::Attach), Gives::Done, &[]),
     (
@@ -466,8 +610,7 @@ fn a_child_begins(rt: HostRuntime) -> Result<(), Fail> {
 #[test]
 fn echo(rt: HostRuntime) -> Result<(), Fail> {
     let alloc = rt.alloc();
-    let limits = IdList::from_slice(alloc, &[16, 16])?;
-    let right = right_turns_of_new(alloc, &limits, OTHER, &ECHO);
+    let right = right_turns_of_new(alloc, 16, OTHER, &ECHO);
     assert!(rt; right == ECHO.len(), "turn {right}");
     Ok(())
 }
@@ -475,8 +618,7 @@ fn echo(rt: HostRuntime) -> Result<(), Fail> {
 #[test]
 fn descriptors_go_with_a_call_and_its_results(rt: HostRuntime) -> Result<(), Fail> {
     let alloc = rt.alloc();
-    let limits = IdList::from_slice(alloc, &[4, 4])?;
-    let right = right_turns_of_new(alloc, &limits, OTHER, &PASSING);
+    let right = right_turns_of_new(alloc, 4, OTHER, &PASSING);
     assert!(rt; right == PASSING.len(), "turn {right}");
     Ok(())
 }
@@ -484,10 +626,9 @@ fn descriptors_go_with_a_call_and_its_results(rt: HostRuntime) -> Result<(), Fai
 #[test]
 fn full_tables_take_no_descriptors(rt: HostRuntime) -> Result<(), Fail> {
     let alloc = rt.alloc();
-    let limits = IdList::from_slice(alloc, &[2, 2])?;
-    let right = right_turns_of_new(alloc, &limits, OTHER, &FULL_SERVER);
+    let right = right_turns_of_new(alloc, 2, OTHER, &FULL_SERVER);
     assert!(rt; right == FULL_SERVER.len(), "server, turn {right}");
-    let right = right_turns_of_new(alloc, &limits, OTHER, &FULL_CLIENT);
+    let right = right_turns_of_new(alloc, 2, OTHER, &FULL_CLIENT);
     assert!(rt; right == FULL_CLIENT.len(), "client, turn {right}");
     Ok(())
 }
@@ -495,8 +636,7 @@ fn full_tables_take_no_descriptors(rt: HostRuntime) -> Result<(), Fail> {
 #[test]
 fn a_server_is_told_of_a_last_reference(rt: HostRuntime) -> Result<(), Fail> {
     let alloc = rt.alloc();
-    let limits = IdList::from_slice(alloc, &[2, 2])?;
-    let right = right_turns_of_new(alloc, &limits, OTHER, &NOTICED);
+    let right = right_turns_of_new(alloc, 2, OTHER, &NOTICED);
     assert!(rt; right == NOTICED.len(), "turn {right}");
     Ok(())
 }
@@ -504,13 +644,24 @@ fn a_server_is_told_of_a_last_reference(rt: HostRuntime) -> Result<(), Fail> {
 #[test]
 fn bytes_go_through_a_pipe_and_events_through_a_port(rt: HostRuntime) -> Result<(), Fail> {
     let alloc = rt.alloc();
-    let limits = IdList::from_slice(alloc, &[2, 2])?;
-    let right = right_turns_of_new(alloc, &limits, OTHER, &PIPES);
+    let right = right_turns_of_new(alloc, 2, OTHER, &PIPES);
     assert!(rt; right == PIPES.len(), "pipe, turn {right}");
-    let right = right_turns_of_new(alloc, &limits, OTHER, &PORTS);
+    let right = right_turns_of_new(alloc, 2, OTHER, &PORTS);
     assert!(rt; right == PORTS.len(), "port, turn {right}");
-    let right = right_turns_of_new(alloc, &limits, SAME, &WAITING);
+    let right = right_turns_of_new(alloc, 2, SAME, &WAITING);
     assert!(rt; right == WAITING.len(), "waiting, turn {right}");
+    Ok(())
+}
+
+#[test]
+fn timers_tell_a_port_as_the_clock_moves_on(rt: HostRuntime) -> Result<(), Fail> {
+    let alloc = rt.alloc();
+    let right = right_turns_of_new(alloc, 2, OTHER, &TIMERS);
+    assert!(rt; right == TIMERS.len(), "timers, turn {right}");
+    let right = right_turns_of_new(alloc, 2, OTHER, &GROWING);
+    assert!(rt; right == GROWING.len(), "growing, turn {right}");
+    let right = right_turns_of_new(alloc, 2, OTHER, &WOKEN);
+    assert!(rt; right == WOKEN.len(), "woken, turn {right}");
     Ok(())
 }
 

@@ -1,7 +1,6 @@
 //! A kernel of two processes, and the turns of two threads, of one process each or of the same.
 ghost use Rattle.std.specs.Prelude.{ℕ, ◌≡◌, ◌≤◌, [], Option, Some, IfOk, length};
 ghost use Rattle.kernel_records.specs.Words.{pid};
-ghost use Rattle.std.specs.List.{AllByRecursion};
 ghost use Rattle.dk_base.specs.declared.limits.TheConstants.{DESCRIPTORS_MAX};
 ghost use Rattle.written_kernel.specs.Words.{IsFit, State, parent_of, process_of, table_of};
 
@@ -48,6 +47,12 @@ pub enum Entry {
     Alert(u32),
     /// The end of alert mode.
     EndAlert(u32),
+    CreateTimer(u32),
+    /// Its first moment, and what lies between two.
+    SetTimer(u32, u16, u16),
+    DeleteTimer(u32),
+    /// A line for a name service cache.
+    Cache(&'static [u8]),
 }
 
 /// What is sent.
@@ -66,10 +71,32 @@ pub const ALERT: EventRec = EventRec {
     user: 6,
 };
 
+/// What the timer with id 0 tells that was due once.
+pub const DUE_ONCE: EventRec = EventRec {
+    source: Src::Timer,
+    object: 0,
+    events: 1,
+    user: 7,
+};
+
+/// What it tells that was due three times.
+pub const DUE_THRICE: EventRec = EventRec {
+    events: 3,
+    ..DUE_ONCE
+};
+
+/// What it tells that was due seven times.
+pub const DUE_SEVEN: EventRec = EventRec {
+    events: 7,
+    ..DUE_ONCE
+};
+
 /// A turn of a thread.
 #[derive(Clone, Copy)]
 pub enum Turn {
     Enters(Entry),
+    /// The clock moves on.
+    Advances(u16),
     GoesOn,
 }
 
@@ -201,6 +228,28 @@ fn request_about_channels(alloc: Global, entry: Entry) -> Result<Request, NoMemo
     }
 }
 
+/// An entry about timers, or a line for a cache.
+fn request_about_timers(alloc: Global, entry: Entry) -> Result<Request, NoMemory>
+    ensures fit { IfOk result (λ r. (m : State) (t : ℕ) → IsFit m t r) }
+{
+    match entry {
+        Entry::CreateTimer(port) => Ok(Request::TimerCreate {
+            port: Fd(port),
+            user: 7,
+        }),
+        Entry::SetTimer(timer, first, interval) => Ok(Request::TimerSet {
+            timer,
+            first: first as u64,
+            interval: interval as u64,
+        }),
+        Entry::DeleteTimer(timer) => Ok(Request::TimerDelete { timer }),
+        Entry::Cache(line) => Ok(Request::Ncd {
+            line: Bytes::from_slice(alloc, line)?,
+        }),
+        _ => request_about_channels(alloc, entry),
+    }
+}
+
 fn request(alloc: Global, entry: Entry) -> Result<Request, NoMemory>
     ensures fit { IfOk result (λ r. (m : State) (t : ℕ) → IsFit m t r) }
 {
@@ -241,7 +290,7 @@ fn request(alloc: Global, entry: Entry) -> Result<Request, NoMemory>
             let bytes = Bytes::from_slice(alloc, text)?;
             Ok(Request::Return { bytes, pass })
         }
-        _ => request_about_channels(alloc, entry),
+        _ => request_about_timers(alloc, entry),
     }
 }
 
@@ -255,11 +304,27 @@ fn enters(alloc: Global, kernel: &mut Kernel, t: Tid, entry: Entry) -> Result<St
     }
 }
 
+/// The clock moves on by so much, 10,000 at most.
+fn advances(kernel: &mut Kernel, t: Tid, by: u16) -> Result<Stepped, NoMemory> {
+    if !kernel.is_running(t) || kernel.events() >= 100_000 || by == 0 || by > 10_000 {
+        return Err(NoMemory);
+    }
+    kernel.enter(t, Request::Advance { by: by as u64 })
+}
+
 fn goes_on(kernel: &mut Kernel, t: Tid) -> Result<Stepped, NoMemory> {
     if !kernel.runnable(t) || kernel.is_running(t) || kernel.events() >= 1_000_000 {
         return Err(NoMemory);
     }
     kernel.go_on(t)
+}
+
+fn takes_turn(alloc: Global, kernel: &mut Kernel, t: Tid, turn: Turn) -> Result<Stepped, NoMemory> {
+    match turn {
+        Turn::Enters(entry) => enters(alloc, kernel, t, entry),
+        Turn::Advances(by) => advances(kernel, t, by),
+        Turn::GoesOn => goes_on(kernel, t),
+    }
 }
 
 fn is_turn(
@@ -270,10 +335,7 @@ fn is_turn(
     gives: Gives,
     wakes: &[Tid],
 ) -> bool {
-    match turn {
-        Turn::Enters(entry) => is_step(&enters(alloc, kernel, t, entry), gives, wakes),
-        Turn::GoesOn => is_step(&goes_on(kernel, t), gives, wakes),
-    }
+    is_step(&takes_turn(alloc, kernel, t, turn), gives, wakes)
 }
 
 /// How many turns go as they are written.
@@ -313,6 +375,13 @@ fn forks(kernel: &mut Kernel, t: Tid, child: Pid) -> Result<Stepped, NoMemory>
     kernel.enter(t, Request::Fork { child })
 }
 
+/// The child begins, and its thread is woken.
+fn is_fork(kernel: &mut Kernel, t: Tid, child: Pid) -> bool
+    requires { parent_of kernel.old child.0 ≡ Some (pid (process_of kernel.old t.0)) }
+{
+    is_step(&forks(kernel, t, child), Gives::Child(2), &[CLIENT])
+}
+
 /// How many turns go as they are written, after the thread of process 1 has forked process 2, its child.
 fn right_turns_of_child(alloc: Global, kernel: &mut Kernel, rows: &[Row]) -> usize
     requires two { length kernel.old.process_table.processes ≡ 2 }
@@ -330,7 +399,7 @@ fn right_turns_of_child(alloc: Global, kernel: &mut Kernel, rows: &[Row]) -> usi
     if kernel.runnable(CLIENT) {
         return 0;
     }
-    if !is_step(&forks(kernel, SERVER, Pid(2)), Gives::Child(2), &[CLIENT]) {
+    if !is_fork(kernel, SERVER, Pid(2)) {
         return 0;
     }
     right_turns(alloc, kernel, rows)
@@ -347,14 +416,16 @@ pub fn right_turns_of_fork(alloc: Global, rows: &[Row]) -> usize {
     }
 }
 
-/// The same of a kernel whose processes have these limits of descriptors.
+/// The same of two threads, the second of this process, in a kernel whose processes have this limit of descriptors.
 #[tactic(auto, using(written_kernel::proofs::Opening::opening_processes))]
-pub fn right_turns_of_new(alloc: Global, limits: &IdList, second: Pid, rows: &[Row]) -> usize
+pub fn right_turns_of_new(alloc: Global, limit: u32, second: Pid, rows: &[Row]) -> usize
     requires declared { (1 ≤ second.0) × (second.0 ≤ 2) }
-    requires two { length limits.now ≡ 2 }
-    requires limits { AllByRecursion (λ n. n ≤ DESCRIPTORS_MAX) limits.now }
+    requires limit { limit ≤ DESCRIPTORS_MAX }
 {
-    match Kernel::new(alloc, limits) {
+    let Ok(limits) = IdList::from_slice(alloc, &[limit, limit]) else {
+        return 0;
+    };
+    match Kernel::new(alloc, &limits) {
         Ok(mut kernel) => right_turns_of_two(alloc, &mut kernel, second, rows),
         Err(_) => 0,
     }

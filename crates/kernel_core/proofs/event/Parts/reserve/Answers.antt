@@ -3,7 +3,7 @@ use Rattle.std.proofs.lemmas.List.Sums.{count_by-le-length, length-filter}
 use Rattle.kernel_records.specs.Words.{notice_doors}
 use Rattle.kernel_store.specs.Words.{HasRoomToTell, stored_state}
 use Rattle.kernel_core.specs.Watched.{is_watched, watched}
-use Rattle.written_kernel.specs.Words.{State}
+use Rattle.written_kernel.specs.Words.{State, timers_in}
 use Rattle.kernel_core.proofs.Finishing.{rest_reserved, rest_started}
 use Rattle.kernel_core.proofs.event.Parts.reserve.Goals as goal
 
@@ -53,7 +53,9 @@ returns-clause-ready c =
       notices = c.in_ok-reserve_notices.ensures.room;
       opened = search rules;
       agreed = search rules;
-      rooms = subst (λ k. HasRoomToTell c.reserve-4.new.self (k + 1)) c.association_count.ensures.len c.in_ok-reserve-4.ensures.room;
+      rooms =
+          subst (λ k. HasRoomToTell c.reserve-4.new.self (k + 1) (length (timers_in n) + 1)) c.association_count.ensures.len
+          (subst (λ k. HasRoomToTell c.reserve-4.new.self (c.association_count.result + 1) (k + 1)) c.timer_count.ensures.len c.in_ok-reserve-4.ensures.room);
     }
 
 pub reserve_notices-requires : goal.reserve_notices-requires
