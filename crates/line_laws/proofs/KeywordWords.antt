@@ -1,16 +1,19 @@
 -- Keywords and their words.
-use Rattle.std.proofs.Common.{◌≡◌, ℕ, ◌≤◌, Bool, true, false, cond, ◌==◌, List, Option, Some, None, refl, ap, sym, ◌∙◌, arith}
+use Rattle.std.proofs.Common.{◌≡◌, ℕ, ◌≤◌, Bool, true, cond, ◌==◌, ◌&&◌, List, Option, Some, None, refl, ap, sym, ◌∙◌, arith}
 use Rattle.std.specs.Prelude.{nat_le, bytes_eq}
 use Rattle.std.specs.Option.{option_or}
+use Rattle.std.proofs.lemmas.Bool.{and_parts, le-leb, leb-true}
 use Rattle.std.proofs.lemmas.Bool.Decides.{nat_tests}
+use Rattle.std.proofs.lemmas.Slice.Eq.{bytes_eq-Decides}
 use Rattle.line_reader.specs.Types.{Keyword}
-use Rattle.script_line.specs.declared.keyword.Keyword.TheVariants.{Create, Call, Return, Serve, Revoke, Bind, Unbind, Info, GetParam, SetParam, Cred, TestCancel, Exit, Close, Dup, Attach, Detach, Open, Await, Pipe, Write, Read, PortCreate, Associate, Dissociate, Get, GetN, Send, SendN, Alert, Interrupt, Kill, Fork, Work, Repeat, If, End}
-use Rattle.script_line.specs.Words.{keyword_create_to_info, keyword_getn_to_end, keyword_getparam_to_detach, keyword_of, keyword_open_to_get, keyword_since_2, keyword_version, keyword_word, keywords_create_to_info, keywords_getn_to_end, keywords_getparam_to_detach, keywords_open_to_get, keywords_since_2, value_of_word}
-use Rattle.script_line.proofs.Numbering.{no_value, same_some}
-use Rattle.line_laws.proofs.TableWords.{find_among, word_found}
+use Rattle.script_line.specs.declared.keyword.Keyword.TheVariants.{Create, Call, Return, Serve, Revoke, Bind, Unbind, Info, GetParam, SetParam, Cred, TestCancel, Exit, Close, Dup, Attach, Detach, Open, Await, Pipe, Write, Read, PortCreate, Associate, Dissociate, Get, GetN, Send, SendN, Alert, TimerCreate, TimerSet, TimerDelete, Advance, Interrupt, Kill, Fork, Work, Ncd, Repeat, If, End}
+use Rattle.script_line.specs.Words.{keyword_create_to_info, keyword_getn_to_end, keyword_getparam_to_detach, keyword_of, keyword_open_to_get, keyword_since_2, keyword_version, keyword_word, keywords_create_to_info, keywords_getn_to_end, keywords_getparam_to_detach, keywords_open_to_get, keywords_since_2}
+use Rattle.script_line.proofs.Numbering.{same_some}
+use Rattle.line_laws.proofs.TableWords.{find_among, find_passes, word_found}
 
-pub is_since_2 : (version : ℕ) → 2 ≤ version → nat_le 2 version ≡ true
-is_since_2 version least = grind (arith, nat_tests)
+-- a keyword of a version that is not above this one
+since : (least version : ℕ) (keyword : Keyword) → least ≤ version → cond (nat_le least version) (Some keyword) None ≡ Some keyword
+since least version keyword most = ap (λ test. cond test (Some keyword) None) (le-leb least version most)
 
 pub keyword-again : (version : ℕ) (keyword : Keyword) → keyword_version keyword ≤ version → keyword_of version (keyword_word keyword) ≡ Some keyword
 unfolding keyword_create_to_info keyword_getparam_to_detach keyword_open_to_get keyword_getn_to_end keyword_since_2
@@ -44,21 +47,31 @@ keyword-again version GetN least = refl
 keyword-again version Send least = refl
 keyword-again version SendN least = refl
 keyword-again version Alert least = refl
+keyword-again version TimerCreate least = since 3 version TimerCreate least
+keyword-again version TimerSet least = since 3 version TimerSet least
+keyword-again version TimerDelete least = since 3 version TimerDelete least
+keyword-again version Advance least = since 3 version Advance least
 keyword-again version Interrupt least = refl
 keyword-again version Kill least = refl
-keyword-again version Fork least = ap (λ test. cond test (Some Fork) None) (is_since_2 version least)
+keyword-again version Fork least = since 2 version Fork least
 keyword-again version Work least = refl
+keyword-again version Ncd least = since 4 version Ncd least
 keyword-again version Repeat least = refl
 keyword-again version If least = refl
 keyword-again version End least = refl
 
-version_at_most : (keyword : Keyword) → keyword_version keyword ≤ 2
+version_at_most : (keyword : Keyword) → keyword_version keyword ≤ 4
 version_at_most Fork = omega arith
+version_at_most TimerCreate = omega arith
+version_at_most TimerSet = omega arith
+version_at_most TimerDelete = omega arith
+version_at_most Advance = omega arith
+version_at_most Ncd = omega arith
 version_at_most keyword = omega arith
 
 -- a word is of one keyword alone
 pub keyword-same : (one other : Keyword) → keyword_word one ≡ keyword_word other → one ≡ other
-keyword-same one other same = same_some (sym (keyword-again 2 one (version_at_most one)) ∙ ap (keyword_of 2) same ∙ keyword-again 2 other (version_at_most other))
+keyword-same one other same = same_some (sym (keyword-again 4 one (version_at_most one)) ∙ ap (keyword_of 4) same ∙ keyword-again 4 other (version_at_most other))
 
 door_found : (word : List ℕ) (keyword : Keyword) → keyword_create_to_info word ≡ Some keyword → word ≡ keyword_word keyword
 unfolding keyword_create_to_info
@@ -76,13 +89,19 @@ other_found : (word : List ℕ) (keyword : Keyword) → keyword_getn_to_end word
 unfolding keyword_getn_to_end
 other_found word keyword e = word_found keyword_word keywords_getn_to_end word keyword e
 
-later_if : (test : Bool) (word : List ℕ) (keyword : Keyword) → cond test (value_of_word keyword_word keywords_since_2 word) None ≡ Some keyword → word ≡ keyword_word keyword
-later_if true word keyword e = word_found keyword_word keywords_since_2 word keyword e
-later_if false word keyword e = absurd (no_value e)
+-- of those that later versions add
+abbrev is_later : ℕ → List ℕ → Keyword → Bool
+is_later version word keyword = bytes_eq word (keyword_word keyword) && nat_le (keyword_version keyword) version
+
+later_is : (version : ℕ) (word : List ℕ) (keyword : Keyword) → keyword_since_2 version word ≡ Some keyword → is_later version word keyword ≡ true
+unfolding keyword_since_2
+later_is version word keyword e = find_passes (is_later version word) keywords_since_2 keyword e
+
+later_parts : (version : ℕ) (word : List ℕ) (keyword : Keyword) → keyword_since_2 version word ≡ Some keyword → (bytes_eq word (keyword_word keyword) ≡ true) × (nat_le (keyword_version keyword) version ≡ true)
+later_parts version word keyword e = and_parts (bytes_eq word (keyword_word keyword)) (nat_le (keyword_version keyword) version) (later_is version word keyword e)
 
 later_found : (version : ℕ) (word : List ℕ) (keyword : Keyword) → keyword_since_2 version word ≡ Some keyword → word ≡ keyword_word keyword
-unfolding keyword_since_2
-later_found version word keyword e = later_if (nat_le 2 version) word keyword e
+later_found version word keyword e = (bytes_eq-Decides word (keyword_word keyword)).0 (later_parts version word keyword e).0
 
 either : (P : Type 0) (first second : Option Keyword) (keyword : Keyword) → (first ≡ Some keyword → P) → (second ≡ Some keyword → P) → option_or first second ≡ Some keyword → P
 either P None second keyword one other e = other e
@@ -132,15 +151,8 @@ other_first word keyword e = find_among (is_word_of word) is_first keywords_getn
 first_since : (version : ℕ) (keyword : Keyword) → 1 ≤ version → IsFirst keyword → keyword_version keyword ≤ version
 first_since version keyword some is = grind (arith, nat_tests)
 
-since_if : (test : Bool) (version : ℕ) (word : List ℕ) (keyword : Keyword) → nat_le 2 version ≡ test → cond test (value_of_word keyword_word keywords_since_2 word) None ≡ Some keyword → keyword_version keyword ≤ version
-since_if true version word keyword is e =
-    let second : (keyword_version keyword == 2) ≡ true = find_among (is_word_of word) (λ k. keyword_version k == 2) keywords_since_2 keyword refl e in
-    grind (arith, nat_tests)
-since_if false version word keyword is e = absurd (no_value e)
-
 later_since : (version : ℕ) (word : List ℕ) (keyword : Keyword) → keyword_since_2 version word ≡ Some keyword → keyword_version keyword ≤ version
-unfolding keyword_since_2
-later_since version word keyword e = since_if (nat_le 2 version) version word keyword refl e
+later_since version word keyword e = leb-true (keyword_version keyword) version (later_parts version word keyword e).1
 
 pub keyword-since : (version : ℕ) (word : List ℕ) (keyword : Keyword) → 1 ≤ version → keyword_of version word ≡ Some keyword → keyword_version keyword ≤ version
 keyword-since version word keyword some e =

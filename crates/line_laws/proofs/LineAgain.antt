@@ -2,9 +2,9 @@
 use Rattle.std.proofs.Common.{◌≡◌, ℕ, Bool, true, false, cond, List, [], ◌∷◌, Ok, refl, ap, sym, ◌∙◌}
 use Rattle.std.specs.Prelude.{codes, bytes_eq}
 use Rattle.line_reader.specs.Types.{FdArg, Line}
-use Rattle.script_line.specs.declared.line.Line.TheVariants.{Create, Call, Return, Serve, Revoke, Bind, Unbind, Info, InfoQuery, GetParam, SetParam, Cred, TestCancel, Exit, Close, Dup, Attach, Detach, Open, Await, Pipe, Write, Read, PortCreate, Associate, Dissociate, Get, GetN, Send, SendN, Alert, Interrupt, Kill, Fork, Work, Repeat, If, End}
+use Rattle.script_line.specs.declared.line.Line.TheVariants.{Create, Call, Return, Serve, Revoke, Bind, Unbind, Info, InfoQuery, GetParam, SetParam, Cred, TestCancel, Exit, Close, Dup, Attach, Detach, Open, Await, Pipe, Write, Read, PortCreate, Associate, Dissociate, Get, GetN, Send, SendN, Alert, TimerCreate, TimerSet, TimerDelete, Advance, Interrupt, Kill, Fork, Work, Ncd, Repeat, If, End}
 use Rattle.script_line.specs.Words.{AreDistinct, Ends, SpellsFd, SpellsLine, Tables, greatest_32, greatest_64, keyword_of_line, keyword_word}
-use Rattle.line_reader.specs.Words.{alert_line, associate_line, attach_line, await_line, bind_line, call_line, close_line, create_line, cred_line, detach_line, dissociate_line, dup_line, end_line, exit_line, fd_from_word, fork_line, get_line, getn_line, getparam_line, if_line, info_after, info_line, interrupt_line, kill_line, line_with, open_line, pcreate_line, pipe_line, pure, read_line, repeat_line, rest_of, return_line, revoke_line, send_line, sendn_line, serve_line, setparam_line, testcancel_line, then_read, unbind_line, value_with_rest, work_line, write_line}
+use Rattle.line_reader.specs.Words.{advance_line, alert_line, associate_line, attach_line, await_line, bind_line, call_line, close_line, create_line, cred_line, detach_line, dissociate_line, dup_line, end_line, exit_line, fd_from_word, fork_line, get_line, getn_line, getparam_line, if_line, info_after, info_line, interrupt_line, kill_line, line_with, ncd_line, open_line, pcreate_line, pipe_line, pure, read_line, repeat_line, rest_of, return_line, revoke_line, send_line, sendn_line, serve_line, setparam_line, tcreate_line, tdelete_line, testcancel_line, then_read, tset_line, unbind_line, value_with_rest, work_line, write_line}
 use Rattle.line_laws.proofs.WordKinds.{AName, AProcedure, AThread, AProcess, AChild, APath, ANumber, AnFd, APoll, AParam, AMode, AnOp, ACond, AValue}
 use Rattle.line_laws.proofs.LastOperands.{NoMore, TheAttributes, TheWait, ThePorts, TheData, DataPasses, DataPassesRsize, end_again}
 use Rattle.line_laws.proofs.Given.{no_answer}
@@ -132,6 +132,22 @@ alert_line-again : (tables : Tables) (of : ℕ) (v : Values (AnFd ∷ AMode ∷ 
 unfolding alert_line
 alert_line-again tables of v words distinct spells = all_again tables of (AnFd ∷ AMode ∷ ANumber 0 greatest_32 ∷ ANumber 0 greatest_64 ∷ []) NoMore (λ v. Alert v.0 v.1.0 v.1.1.0 v.1.1.1.0) v words refl distinct spells
 
+tcreate_line-again : (tables : Tables) (of : ℕ) (v : Values (AnFd ∷ ANumber 0 greatest_64 ∷ []) NoMore) (words : List (List ℕ)) → AreDistinct tables → SpellsAll tables of (AnFd ∷ ANumber 0 greatest_64 ∷ []) NoMore v words → tcreate_line (rest_of words) ≡ Ok (TimerCreate v.0 v.1.0, rest_of [])
+unfolding tcreate_line
+tcreate_line-again tables of v words distinct spells = all_again tables of (AnFd ∷ ANumber 0 greatest_64 ∷ []) NoMore (λ v. TimerCreate v.0 v.1.0) v words refl distinct spells
+
+tset_line-again : (tables : Tables) (of : ℕ) (v : Values (ANumber 0 31 ∷ ANumber 0 1000000000 ∷ ANumber 0 1000000000 ∷ []) NoMore) (words : List (List ℕ)) → AreDistinct tables → SpellsAll tables of (ANumber 0 31 ∷ ANumber 0 1000000000 ∷ ANumber 0 1000000000 ∷ []) NoMore v words → tset_line (rest_of words) ≡ Ok (TimerSet v.0 v.1.0 v.1.1.0, rest_of [])
+unfolding tset_line
+tset_line-again tables of v words distinct spells = all_again tables of (ANumber 0 31 ∷ ANumber 0 1000000000 ∷ ANumber 0 1000000000 ∷ []) NoMore (λ v. TimerSet v.0 v.1.0 v.1.1.0) v words refl distinct spells
+
+tdelete_line-again : (tables : Tables) (of : ℕ) (v : Values (ANumber 0 31 ∷ []) NoMore) (words : List (List ℕ)) → AreDistinct tables → SpellsAll tables of (ANumber 0 31 ∷ []) NoMore v words → tdelete_line (rest_of words) ≡ Ok (TimerDelete v.0, rest_of [])
+unfolding tdelete_line
+tdelete_line-again tables of v words distinct spells = all_again tables of (ANumber 0 31 ∷ []) NoMore (λ v. TimerDelete v.0) v words refl distinct spells
+
+advance_line-again : (tables : Tables) (of : ℕ) (v : Values (ANumber 1 10000 ∷ []) NoMore) (words : List (List ℕ)) → AreDistinct tables → SpellsAll tables of (ANumber 1 10000 ∷ []) NoMore v words → advance_line (rest_of words) ≡ Ok (Advance v.0, rest_of [])
+unfolding advance_line
+advance_line-again tables of v words distinct spells = all_again tables of (ANumber 1 10000 ∷ []) NoMore (λ v. Advance v.0) v words refl distinct spells
+
 interrupt_line-again : (tables : Tables) (of : ℕ) (v : Values (AThread ∷ []) NoMore) (words : List (List ℕ)) → AreDistinct tables → SpellsAll tables of (AThread ∷ []) NoMore v words → interrupt_line tables (rest_of words) ≡ Ok (Interrupt v.0, rest_of [])
 unfolding interrupt_line
 interrupt_line-again tables of v words distinct spells = all_again tables of (AThread ∷ []) NoMore (λ v. Interrupt v.0) v words refl distinct spells
@@ -147,6 +163,10 @@ fork_line-again tables of v words distinct spells = all_again tables of (AChild 
 work_line-again : (tables : Tables) (of : ℕ) (v : Values (AName ∷ AnOp ∷ []) TheData) (words : List (List ℕ)) → AreDistinct tables → SpellsAll tables of (AName ∷ AnOp ∷ []) TheData v words → work_line (rest_of words) ≡ Ok (Work v.0 v.1.0 v.1.1, rest_of [])
 unfolding work_line
 work_line-again tables of v words distinct spells = all_again tables of (AName ∷ AnOp ∷ []) TheData (λ v. Work v.0 v.1.0 v.1.1) v words refl distinct spells
+
+ncd_line-again : (tables : Tables) (of : ℕ) (v : Values (AName ∷ []) TheData) (words : List (List ℕ)) → AreDistinct tables → SpellsAll tables of (AName ∷ []) TheData v words → ncd_line (rest_of words) ≡ Ok (Ncd v.0 v.1, rest_of [])
+unfolding ncd_line
+ncd_line-again tables of v words distinct spells = all_again tables of (AName ∷ []) TheData (λ v. Ncd v.0 v.1) v words refl distinct spells
 
 repeat_line-again : (tables : Tables) (of : ℕ) (v : Values (ANumber 1 1000000 ∷ []) NoMore) (words : List (List ℕ)) → AreDistinct tables → SpellsAll tables of (ANumber 1 1000000 ∷ []) NoMore v words → repeat_line (rest_of words) ≡ Ok (Repeat v.0, rest_of [])
 unfolding repeat_line
@@ -212,10 +232,15 @@ line-again tables of (GetN port most least wait) word words distinct spells = (s
 line-again tables of (Send port events user) word words distinct spells = (spells.0, send_line-again tables of (port, (events, (user, tt))) words distinct spells.1)
 line-again tables of (SendN events user to) word words distinct spells = (spells.0, sendn_line-again tables of (events, (user, to)) words distinct spells.1)
 line-again tables of (Alert port how events user) word words distinct spells = (spells.0, alert_line-again tables of (port, (how, (events, (user, tt)))) words distinct spells.1)
+line-again tables of (TimerCreate port user) word words distinct spells = (spells.0, tcreate_line-again tables of (port, (user, tt)) words distinct spells.1)
+line-again tables of (TimerSet timer first interval) word words distinct spells = (spells.0, tset_line-again tables of (timer, (first, (interval, tt))) words distinct spells.1)
+line-again tables of (TimerDelete timer) word words distinct spells = (spells.0, tdelete_line-again tables of (timer, tt) words distinct spells.1)
+line-again tables of (Advance by) word words distinct spells = (spells.0, advance_line-again tables of (by, tt) words distinct spells.1)
 line-again tables of (Interrupt whom) word words distinct spells = (spells.0, interrupt_line-again tables of (whom, tt) words distinct spells.1)
 line-again tables of (Kill whom) word words distinct spells = (spells.0, kill_line-again tables of (whom, tt) words distinct spells.1)
 line-again tables of (Fork begins) word words distinct spells = (spells.0, fork_line-again tables of (begins, tt) words distinct spells.1)
 line-again tables of (Work var what bytes) word words distinct spells = (spells.0, work_line-again tables of (var, (what, bytes)) words distinct spells.1)
+line-again tables of (Ncd var bytes) word words distinct spells = (spells.0, ncd_line-again tables of (var, bytes) words distinct spells.1)
 line-again tables of (Repeat times) word words distinct spells = (spells.0, repeat_line-again tables of (times, tt) words distinct spells.1)
 line-again tables of (If what) word words distinct spells = (spells.0, if_line-again tables of (what, tt) words distinct spells.1)
 line-again tables of End word words distinct spells = (spells.0, end_line-again tables of tt words distinct spells.1)

@@ -3,9 +3,9 @@ use Rattle.std.proofs.Common.{ℕ, Bool, true, false, List, [], ◌∷◌}
 use Rattle.std.specs.Prelude.{codes}
 use Rattle.line_reader.specs.Types.{Keyword, Line}
 use Rattle.script_line.specs.declared.keyword.Keyword.TheVariants as keyword
-use Rattle.script_line.specs.declared.line.Line.TheVariants.{Create, Call, Return, Serve, Revoke, Bind, Unbind, Info, InfoQuery, GetParam, SetParam, Cred, TestCancel, Exit, Close, Dup, Attach, Detach, Open, Await, Pipe, Write, Read, PortCreate, Associate, Dissociate, Get, GetN, Send, SendN, Alert, Interrupt, Kill, Fork, Work, Repeat, If, End}
+use Rattle.script_line.specs.declared.line.Line.TheVariants.{Create, Call, Return, Serve, Revoke, Bind, Unbind, Info, InfoQuery, GetParam, SetParam, Cred, TestCancel, Exit, Close, Dup, Attach, Detach, Open, Await, Pipe, Write, Read, PortCreate, Associate, Dissociate, Get, GetN, Send, SendN, Alert, TimerCreate, TimerSet, TimerDelete, Advance, Interrupt, Kill, Fork, Work, Ncd, Repeat, If, End}
 use Rattle.script_line.specs.Words.{Tables, greatest_32, greatest_64}
-use Rattle.line_reader.specs.Words.{alert_line, associate_line, attach_line, attributes, await_line, bind_line, call_line, close_line, create_line, cred_line, detach_line, dissociate_line, dup_line, end_line, exit_line, fd, fork_line, get_line, getn_line, getparam_line, if_line, info_after, info_line, interrupt_line, kill_line, line_with, open_line, optional_word, passes, pcreate_line, pieces, pipe_line, ports, read_line, repeat_line, return_line, revoke_line, rsize, send_line, sendn_line, serve_line, setparam_line, testcancel_line, unbind_line, wait_option, work_line, write_line}
+use Rattle.line_reader.specs.Words.{advance_line, alert_line, associate_line, attach_line, attributes, await_line, bind_line, call_line, close_line, create_line, cred_line, detach_line, dissociate_line, dup_line, end_line, exit_line, fd, fork_line, get_line, getn_line, getparam_line, if_line, info_after, info_line, interrupt_line, kill_line, line_with, ncd_line, open_line, optional_word, passes, pcreate_line, pieces, pipe_line, ports, read_line, repeat_line, return_line, revoke_line, rsize, send_line, sendn_line, serve_line, setparam_line, tcreate_line, tdelete_line, testcancel_line, tset_line, unbind_line, wait_option, work_line, write_line}
 use Rattle.line_laws.proofs.Formats.{Values, read_all}
 use Rattle.line_laws.proofs.LastOperands.{Last, LastValue, read_last, NoMore, TheAttributes, TheWait, ThePorts, TheData, DataPasses, DataPassesRsize}
 use Rattle.line_laws.proofs.WordKinds.{WordKind, read_word, AName, AProcedure, AThread, AProcess, AChild, APath, ANumber, AnFd, APoll, AParam, AMode, AnOp, ACond, AValue}
@@ -47,7 +47,7 @@ info_fails false = fails-then fd _ fails-fd (λ door. fails-value_at_end (Info d
 
 -- whatever follows the keyword
 pub line_fails : (tables : Tables) (process : ℕ) (keyword : Keyword) → ByOperands (line_with tables process keyword)
-unfolding create_line call_line return_line serve_line revoke_line bind_line unbind_line info_line getparam_line setparam_line cred_line testcancel_line exit_line close_line dup_line attach_line detach_line open_line await_line pipe_line write_line read_line pcreate_line associate_line dissociate_line get_line getn_line send_line sendn_line alert_line interrupt_line kill_line fork_line work_line repeat_line if_line end_line
+unfolding create_line call_line return_line serve_line revoke_line bind_line unbind_line info_line getparam_line setparam_line cred_line testcancel_line exit_line close_line dup_line attach_line detach_line open_line await_line pipe_line write_line read_line pcreate_line associate_line dissociate_line get_line getn_line send_line sendn_line alert_line tcreate_line tset_line tdelete_line advance_line interrupt_line kill_line fork_line work_line ncd_line repeat_line if_line end_line
 line_fails tables process keyword.Create = all_fail tables process (AName ∷ AProcedure ∷ ANumber 0 greatest_64 ∷ []) TheAttributes (λ v. Create v.0 v.1.0 v.1.1.0 v.1.1.1)
 line_fails tables process keyword.Call = all_fail tables process (AName ∷ AnFd ∷ []) DataPassesRsize (λ v. Call v.0 v.1.0 v.1.1.0 v.1.1.1 v.1.1.2)
 line_fails tables process keyword.Return = all_fail tables process [] DataPasses (λ v. Return v.0 v.1)
@@ -78,10 +78,15 @@ line_fails tables process keyword.GetN = all_fail tables process (AnFd ∷ ANumb
 line_fails tables process keyword.Send = all_fail tables process (AnFd ∷ ANumber 0 greatest_32 ∷ ANumber 0 greatest_64 ∷ []) NoMore (λ v. Send v.0 v.1.0 v.1.1.0)
 line_fails tables process keyword.SendN = all_fail tables process (ANumber 0 greatest_32 ∷ ANumber 0 greatest_64 ∷ []) ThePorts (λ v. SendN v.0 v.1.0 v.1.1)
 line_fails tables process keyword.Alert = all_fail tables process (AnFd ∷ AMode ∷ ANumber 0 greatest_32 ∷ ANumber 0 greatest_64 ∷ []) NoMore (λ v. Alert v.0 v.1.0 v.1.1.0 v.1.1.1.0)
+line_fails tables process keyword.TimerCreate = all_fail tables process (AnFd ∷ ANumber 0 greatest_64 ∷ []) NoMore (λ v. TimerCreate v.0 v.1.0)
+line_fails tables process keyword.TimerSet = all_fail tables process (ANumber 0 31 ∷ ANumber 0 1000000000 ∷ ANumber 0 1000000000 ∷ []) NoMore (λ v. TimerSet v.0 v.1.0 v.1.1.0)
+line_fails tables process keyword.TimerDelete = all_fail tables process (ANumber 0 31 ∷ []) NoMore (λ v. TimerDelete v.0)
+line_fails tables process keyword.Advance = all_fail tables process (ANumber 1 10000 ∷ []) NoMore (λ v. Advance v.0)
 line_fails tables process keyword.Interrupt = all_fail tables process (AThread ∷ []) NoMore (λ v. Interrupt v.0)
 line_fails tables process keyword.Kill = all_fail tables process (AProcess ∷ []) NoMore (λ v. Kill v.0)
 line_fails tables process keyword.Fork = all_fail tables process (AChild ∷ []) NoMore (λ v. Fork v.0)
 line_fails tables process keyword.Work = all_fail tables process (AName ∷ AnOp ∷ []) TheData (λ v. Work v.0 v.1.0 v.1.1)
+line_fails tables process keyword.Ncd = all_fail tables process (AName ∷ []) TheData (λ v. Ncd v.0 v.1)
 line_fails tables process keyword.Repeat = all_fail tables process (ANumber 1 1000000 ∷ []) NoMore (λ v. Repeat v.0)
 line_fails tables process keyword.If = all_fail tables process (ACond ∷ []) NoMore (λ v. If v.0)
 line_fails tables process keyword.End = all_fail tables process [] NoMore (λ v. End)

@@ -3,9 +3,9 @@ use Rattle.std.proofs.Common.{◌≡◌, ℕ, Bool, true, false, cond, List, [],
 use Rattle.std.specs.Prelude.{codes, bytes_eq}
 use Rattle.line_reader.specs.Types.{Keyword, Line}
 use Rattle.script_line.specs.declared.keyword.Keyword.TheVariants as keyword
-use Rattle.script_line.specs.declared.line.Line.TheVariants.{Create, Call, Return, Serve, Revoke, Bind, Unbind, Info, InfoQuery, GetParam, SetParam, Cred, TestCancel, Exit, Close, Dup, Attach, Detach, Open, Await, Pipe, Write, Read, PortCreate, Associate, Dissociate, Get, GetN, Send, SendN, Alert, Interrupt, Kill, Fork, Work, Repeat, If, End}
+use Rattle.script_line.specs.declared.line.Line.TheVariants.{Create, Call, Return, Serve, Revoke, Bind, Unbind, Info, InfoQuery, GetParam, SetParam, Cred, TestCancel, Exit, Close, Dup, Attach, Detach, Open, Await, Pipe, Write, Read, PortCreate, Associate, Dissociate, Get, GetN, Send, SendN, Alert, TimerCreate, TimerSet, TimerDelete, Advance, Interrupt, Kill, Fork, Work, Ncd, Repeat, If, End}
 use Rattle.script_line.specs.Words.{HasPaths, SpellsLine, Tables, greatest_32, greatest_64, keyword_word}
-use Rattle.line_reader.specs.Words.{Reader, Rest, alert_line, associate_line, attach_line, await_line, bind_line, call_line, close_line, create_line, cred_line, detach_line, dissociate_line, dup_line, end_line, exit_line, fork_line, get_line, getn_line, getparam_line, if_line, info_after, info_line, interrupt_line, kill_line, line_with, open_line, pcreate_line, pipe_line, pure, read_line, repeat_line, rest_of, return_line, revoke_line, send_line, sendn_line, serve_line, setparam_line, testcancel_line, then_read, unbind_line, value_at_end, value_with_rest, work_line, write_line}
+use Rattle.line_reader.specs.Words.{Reader, Rest, advance_line, alert_line, associate_line, attach_line, await_line, bind_line, call_line, close_line, create_line, cred_line, detach_line, dissociate_line, dup_line, end_line, exit_line, fork_line, get_line, getn_line, getparam_line, if_line, info_after, info_line, interrupt_line, kill_line, line_with, ncd_line, open_line, pcreate_line, pipe_line, pure, read_line, repeat_line, rest_of, return_line, revoke_line, send_line, sendn_line, serve_line, setparam_line, tcreate_line, tdelete_line, testcancel_line, then_read, tset_line, unbind_line, value_at_end, value_with_rest, work_line, write_line}
 use Rattle.line_laws.proofs.WordKinds.{AName, AProcedure, AThread, AProcess, AChild, APath, ANumber, AnFd, APoll, AParam, AMode, AnOp, ACond, AValue}
 use Rattle.line_laws.proofs.LastOperands.{NoMore, TheAttributes, TheWait, ThePorts, TheData, DataPasses, DataPassesRsize}
 use Rattle.std.proofs.lemmas.Slice.Eq.{bytes_eq-Decides}
@@ -161,6 +161,26 @@ unfolding alert_line
 alert_line-found tables of words line new e known has =
     line_by tables of (AnFd ∷ AMode ∷ ANumber 0 greatest_32 ∷ ANumber 0 greatest_64 ∷ []) NoMore (λ v. Alert v.0 v.1.0 v.1.1.0 v.1.1.1.0) (codes "alert") words line new (λ xs p. p) (λ xs s. (refl, s)) refl e known has
 
+tcreate_line-found : (tables : Tables) (of : ℕ) (words : List (List ℕ)) → IsSpelledLine tables of (codes "tcreate") words tcreate_line
+unfolding tcreate_line
+tcreate_line-found tables of words line new e known has =
+    line_by tables of (AnFd ∷ ANumber 0 greatest_64 ∷ []) NoMore (λ v. TimerCreate v.0 v.1.0) (codes "tcreate") words line new (λ xs p. p) (λ xs s. (refl, s)) refl e known has
+
+tset_line-found : (tables : Tables) (of : ℕ) (words : List (List ℕ)) → IsSpelledLine tables of (codes "tset") words tset_line
+unfolding tset_line
+tset_line-found tables of words line new e known has =
+    line_by tables of (ANumber 0 31 ∷ ANumber 0 1000000000 ∷ ANumber 0 1000000000 ∷ []) NoMore (λ v. TimerSet v.0 v.1.0 v.1.1.0) (codes "tset") words line new (λ xs p. p) (λ xs s. (refl, s)) refl e known has
+
+tdelete_line-found : (tables : Tables) (of : ℕ) (words : List (List ℕ)) → IsSpelledLine tables of (codes "tdelete") words tdelete_line
+unfolding tdelete_line
+tdelete_line-found tables of words line new e known has =
+    line_by tables of (ANumber 0 31 ∷ []) NoMore (λ v. TimerDelete v.0) (codes "tdelete") words line new (λ xs p. p) (λ xs s. (refl, s)) refl e known has
+
+advance_line-found : (tables : Tables) (of : ℕ) (words : List (List ℕ)) → IsSpelledLine tables of (codes "advance") words advance_line
+unfolding advance_line
+advance_line-found tables of words line new e known has =
+    line_by tables of (ANumber 1 10000 ∷ []) NoMore (λ v. Advance v.0) (codes "advance") words line new (λ xs p. p) (λ xs s. (refl, s)) refl e known has
+
 interrupt_line-found : (tables : Tables) (of : ℕ) (words : List (List ℕ)) → IsSpelledLine tables of (codes "interrupt") words (interrupt_line tables)
 unfolding interrupt_line
 interrupt_line-found tables of words line new e known has =
@@ -180,6 +200,11 @@ work_line-found : (tables : Tables) (of : ℕ) (words : List (List ℕ)) → IsS
 unfolding work_line
 work_line-found tables of words line new e known has =
     line_by tables of (AName ∷ AnOp ∷ []) TheData (λ v. Work v.0 v.1.0 v.1.1) (codes "work") words line new (λ xs p. p) (λ xs s. (refl, s)) refl e known has
+
+ncd_line-found : (tables : Tables) (of : ℕ) (words : List (List ℕ)) → IsSpelledLine tables of (codes "ncd") words ncd_line
+unfolding ncd_line
+ncd_line-found tables of words line new e known has =
+    line_by tables of (AName ∷ []) TheData (λ v. Ncd v.0 v.1) (codes "ncd") words line new (λ xs p. p) (λ xs s. (refl, s)) refl e known has
 
 repeat_line-found : (tables : Tables) (of : ℕ) (words : List (List ℕ)) → IsSpelledLine tables of (codes "repeat") words repeat_line
 unfolding repeat_line
@@ -246,10 +271,15 @@ line-found tables of keyword.GetN words = getn_line-found tables of words
 line-found tables of keyword.Send words = send_line-found tables of words
 line-found tables of keyword.SendN words = sendn_line-found tables of words
 line-found tables of keyword.Alert words = alert_line-found tables of words
+line-found tables of keyword.TimerCreate words = tcreate_line-found tables of words
+line-found tables of keyword.TimerSet words = tset_line-found tables of words
+line-found tables of keyword.TimerDelete words = tdelete_line-found tables of words
+line-found tables of keyword.Advance words = advance_line-found tables of words
 line-found tables of keyword.Interrupt words = interrupt_line-found tables of words
 line-found tables of keyword.Kill words = kill_line-found tables of words
 line-found tables of keyword.Fork words = fork_line-found tables of words
 line-found tables of keyword.Work words = work_line-found tables of words
+line-found tables of keyword.Ncd words = ncd_line-found tables of words
 line-found tables of keyword.Repeat words = repeat_line-found tables of words
 line-found tables of keyword.If words = if_line-found tables of words
 line-found tables of keyword.End words = end_line-found tables of words

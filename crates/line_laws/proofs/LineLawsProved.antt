@@ -1,7 +1,7 @@
 -- The laws on lines.
 use Rattle.std.proofs.Common.{ℕ, List, [], ◌∷◌, Some, ap}
 use Rattle.line_reader.specs.Types.{Keyword, Line}
-use Rattle.script_line.specs.declared.line.Line.TheVariants.{Create, Call, Return, Serve, Revoke, Bind, Unbind, Info, InfoQuery, GetParam, SetParam, Cred, TestCancel, Exit, Close, Dup, Attach, Detach, Open, Await, Pipe, Write, Read, PortCreate, Associate, Dissociate, Get, GetN, Send, SendN, Alert, Interrupt, Kill, Fork, Work, Repeat, If, End}
+use Rattle.script_line.specs.declared.line.Line.TheVariants.{Create, Call, Return, Serve, Revoke, Bind, Unbind, Info, InfoQuery, GetParam, SetParam, Cred, TestCancel, Exit, Close, Dup, Attach, Detach, Open, Await, Pipe, Write, Read, PortCreate, Associate, Dissociate, Get, GetN, Send, SendN, Alert, TimerCreate, TimerSet, TimerDelete, Advance, Interrupt, Kill, Fork, Work, Ncd, Repeat, If, End}
 use Rattle.script_line.specs.Words.{AreDistinct, SpellsLine, Tables, keyword_word, line_words}
 use Rattle.line_laws.specs.LineLaws.{IsReadBack, WasRead}
 use Rattle.line_laws.proofs.LineFound.{line-found}
@@ -43,10 +43,15 @@ not_empty tables process (GetN port most least wait) spells = spells
 not_empty tables process (Send port events user) spells = spells
 not_empty tables process (SendN events user to) spells = spells
 not_empty tables process (Alert port how events user) spells = spells
+not_empty tables process (TimerCreate port user) spells = spells
+not_empty tables process (TimerSet timer first interval) spells = spells
+not_empty tables process (TimerDelete timer) spells = spells
+not_empty tables process (Advance by) spells = spells
 not_empty tables process (Interrupt whom) spells = spells
 not_empty tables process (Kill whom) spells = spells
 not_empty tables process (Fork begins) spells = spells
 not_empty tables process (Work var what bytes) spells = spells
+not_empty tables process (Ncd var bytes) spells = spells
 not_empty tables process (Repeat times) spells = spells
 not_empty tables process (If what) spells = spells
 not_empty tables process End spells = spells

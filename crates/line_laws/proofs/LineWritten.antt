@@ -1,7 +1,7 @@
 -- The canonical words of a line spell it, one line for each command.
 use Rattle.std.proofs.Common.{◌≡◌, ℕ, true, List, [], ◌∷◌, refl}
 use Rattle.line_reader.specs.Types.{Line}
-use Rattle.script_line.specs.declared.line.Line.TheVariants.{Create, Call, Return, Serve, Revoke, Bind, Unbind, Info, InfoQuery, GetParam, SetParam, Cred, TestCancel, Exit, Close, Dup, Attach, Detach, Open, Await, Pipe, Write, Read, PortCreate, Associate, Dissociate, Get, GetN, Send, SendN, Alert, Interrupt, Kill, Fork, Work, Repeat, If, End}
+use Rattle.script_line.specs.declared.line.Line.TheVariants.{Create, Call, Return, Serve, Revoke, Bind, Unbind, Info, InfoQuery, GetParam, SetParam, Cred, TestCancel, Exit, Close, Dup, Attach, Detach, Open, Await, Pipe, Write, Read, PortCreate, Associate, Dissociate, Get, GetN, Send, SendN, Alert, TimerCreate, TimerSet, TimerDelete, Advance, Interrupt, Kill, Fork, Work, Ncd, Repeat, If, End}
 use Rattle.script_line.specs.Words.{SpellsLine, Tables, greatest_32, greatest_64, line_words}
 use Rattle.line_laws.proofs.WordKinds.{AName, AProcedure, AThread, AProcess, AChild, APath, ANumber, AnFd, APoll, AParam, AMode, AnOp, ACond, AValue}
 use Rattle.line_laws.proofs.LastOperands.{NoMore, TheAttributes, TheWait, ThePorts, TheData, DataPasses, DataPassesRsize}
@@ -71,6 +71,14 @@ line-written tables of (SendN events user to) [] spells = absurd spells
 line-written tables of (SendN events user to) (word ∷ words) spells = (refl, all_written tables of (ANumber 0 greatest_32 ∷ ANumber 0 greatest_64 ∷ []) ThePorts (events, (user, to)) words spells.1)
 line-written tables of (Alert port how events user) [] spells = absurd spells
 line-written tables of (Alert port how events user) (word ∷ words) spells = (refl, all_written tables of (AnFd ∷ AMode ∷ ANumber 0 greatest_32 ∷ ANumber 0 greatest_64 ∷ []) NoMore (port, (how, (events, (user, tt)))) words spells.1)
+line-written tables of (TimerCreate port user) [] spells = absurd spells
+line-written tables of (TimerCreate port user) (word ∷ words) spells = (refl, all_written tables of (AnFd ∷ ANumber 0 greatest_64 ∷ []) NoMore (port, (user, tt)) words spells.1)
+line-written tables of (TimerSet timer first interval) [] spells = absurd spells
+line-written tables of (TimerSet timer first interval) (word ∷ words) spells = (refl, all_written tables of (ANumber 0 31 ∷ ANumber 0 1000000000 ∷ ANumber 0 1000000000 ∷ []) NoMore (timer, (first, (interval, tt))) words spells.1)
+line-written tables of (TimerDelete timer) [] spells = absurd spells
+line-written tables of (TimerDelete timer) (word ∷ words) spells = (refl, all_written tables of (ANumber 0 31 ∷ []) NoMore (timer, tt) words spells.1)
+line-written tables of (Advance by) [] spells = absurd spells
+line-written tables of (Advance by) (word ∷ words) spells = (refl, all_written tables of (ANumber 1 10000 ∷ []) NoMore (by, tt) words spells.1)
 line-written tables of (Interrupt whom) [] spells = absurd spells
 line-written tables of (Interrupt whom) (word ∷ words) spells = (refl, all_written tables of (AThread ∷ []) NoMore (whom, tt) words spells.1)
 line-written tables of (Kill whom) [] spells = absurd spells
@@ -79,6 +87,8 @@ line-written tables of (Fork begins) [] spells = absurd spells
 line-written tables of (Fork begins) (word ∷ words) spells = (refl, all_written tables of (AChild ∷ []) NoMore (begins, tt) words spells.1)
 line-written tables of (Work var what bytes) [] spells = absurd spells
 line-written tables of (Work var what bytes) (word ∷ words) spells = (refl, all_written tables of (AName ∷ AnOp ∷ []) TheData (var, (what, bytes)) words spells.1)
+line-written tables of (Ncd var bytes) [] spells = absurd spells
+line-written tables of (Ncd var bytes) (word ∷ words) spells = (refl, all_written tables of (AName ∷ []) TheData (var, bytes) words spells.1)
 line-written tables of (Repeat times) [] spells = absurd spells
 line-written tables of (Repeat times) (word ∷ words) spells = (refl, all_written tables of (ANumber 1 1000000 ∷ []) NoMore (times, tt) words spells.1)
 line-written tables of (If what) [] spells = absurd spells
@@ -148,6 +158,14 @@ line-words tables of (SendN events user to) [] spells = absurd spells
 line-words tables of (SendN events user to) (word ∷ words) spells = all_are_words tables of (ANumber 0 greatest_32 ∷ ANumber 0 greatest_64 ∷ []) ThePorts (events, (user, to)) words refl spells.1
 line-words tables of (Alert port how events user) [] spells = absurd spells
 line-words tables of (Alert port how events user) (word ∷ words) spells = all_are_words tables of (AnFd ∷ AMode ∷ ANumber 0 greatest_32 ∷ ANumber 0 greatest_64 ∷ []) NoMore (port, (how, (events, (user, tt)))) words refl spells.1
+line-words tables of (TimerCreate port user) [] spells = absurd spells
+line-words tables of (TimerCreate port user) (word ∷ words) spells = all_are_words tables of (AnFd ∷ ANumber 0 greatest_64 ∷ []) NoMore (port, (user, tt)) words refl spells.1
+line-words tables of (TimerSet timer first interval) [] spells = absurd spells
+line-words tables of (TimerSet timer first interval) (word ∷ words) spells = all_are_words tables of (ANumber 0 31 ∷ ANumber 0 1000000000 ∷ ANumber 0 1000000000 ∷ []) NoMore (timer, (first, (interval, tt))) words refl spells.1
+line-words tables of (TimerDelete timer) [] spells = absurd spells
+line-words tables of (TimerDelete timer) (word ∷ words) spells = all_are_words tables of (ANumber 0 31 ∷ []) NoMore (timer, tt) words refl spells.1
+line-words tables of (Advance by) [] spells = absurd spells
+line-words tables of (Advance by) (word ∷ words) spells = all_are_words tables of (ANumber 1 10000 ∷ []) NoMore (by, tt) words refl spells.1
 line-words tables of (Interrupt whom) [] spells = absurd spells
 line-words tables of (Interrupt whom) (word ∷ words) spells = all_are_words tables of (AThread ∷ []) NoMore (whom, tt) words refl spells.1
 line-words tables of (Kill whom) [] spells = absurd spells
@@ -156,6 +174,8 @@ line-words tables of (Fork begins) [] spells = absurd spells
 line-words tables of (Fork begins) (word ∷ words) spells = all_are_words tables of (AChild ∷ []) NoMore (begins, tt) words refl spells.1
 line-words tables of (Work var what bytes) [] spells = absurd spells
 line-words tables of (Work var what bytes) (word ∷ words) spells = all_are_words tables of (AName ∷ AnOp ∷ []) TheData (var, (what, bytes)) words refl spells.1
+line-words tables of (Ncd var bytes) [] spells = absurd spells
+line-words tables of (Ncd var bytes) (word ∷ words) spells = all_are_words tables of (AName ∷ []) TheData (var, bytes) words refl spells.1
 line-words tables of (Repeat times) [] spells = absurd spells
 line-words tables of (Repeat times) (word ∷ words) spells = all_are_words tables of (ANumber 1 1000000 ∷ []) NoMore (times, tt) words refl spells.1
 line-words tables of (If what) [] spells = absurd spells

@@ -16,7 +16,7 @@ use Rattle.line_reader.specs.Types.{Cond, FdArg, Line, PassArg, Piece}
 use Rattle.script_line.specs.declared.line.Cond.TheVariants.{Good, Yes, Unref, Errno as ErrnoCond}
 use Rattle.script_line.specs.declared.line.FdArg.TheVariants.{Number, Of as OfFd}
 use Rattle.script_line.specs.declared.line.Piece.TheVariants.{Text, Of, Fill}
-use Rattle.script_line.specs.declared.line.Line.TheVariants.{Create, Call, Return, Serve, Revoke, Bind, Unbind, Info, InfoQuery, GetParam, SetParam, Cred, TestCancel, Exit, Close, Dup, Attach, Detach, Open, Await, Pipe, Write, Read, PortCreate, Associate, Dissociate, Get, GetN, Send, SendN, Alert, Interrupt, Kill, Fork, Work, Repeat, If, End}
+use Rattle.script_line.specs.declared.line.Line.TheVariants.{Create, Call, Return, Serve, Revoke, Bind, Unbind, Info, InfoQuery, GetParam, SetParam, Cred, TestCancel, Exit, Close, Dup, Attach, Detach, Open, Await, Pipe, Write, Read, PortCreate, Associate, Dissociate, Get, GetN, Send, SendN, Alert, TimerCreate, TimerSet, TimerDelete, Advance, Interrupt, Kill, Fork, Work, Ncd, Repeat, If, End}
 use Rattle.script_line.specs.Words.{Each, Ends, First, Flag, Spelling, SpellsFd, SpellsIndexed, SpellsLine, SpellsMorePieces, SpellsPass, SpellsPassList, SpellsPiece, SpellsPieces, SpellsRsize, SpellsVariable, SpellsWait, Tables, Then, attribute_flags, bits_of_word, cond_word, greatest_32, greatest_64, is_word_of, mode_word, op_word, param_word, poll_flags, release_mark, set_from, with_bits}
 use Rattle.script_line.proofs.Numbering.{no_value}
 use Rattle.line_laws.proofs.WordKinds.{WordKind, WordValue, SpellsWord, is_small, small_number, AName, AProcedure, AThread, AProcess, AChild, APath, ANumber, AnFd, APoll, AParam, AMode, AnOp, ACond, AValue}
@@ -234,10 +234,15 @@ line_printable tables of (GetN port most least wait) (word ∷ words) spells = b
 line_printable tables of (Send port events user) (word ∷ words) spells = by_format tables of (AnFd ∷ ANumber 0 greatest_32 ∷ ANumber 0 greatest_64 ∷ []) NoMore (port, (events, (user, tt))) (codes "send") refl refl (word ∷ words) spells
 line_printable tables of (SendN events user to) (word ∷ words) spells = by_format tables of (ANumber 0 greatest_32 ∷ ANumber 0 greatest_64 ∷ []) ThePorts (events, (user, to)) (codes "sendn") refl refl (word ∷ words) spells
 line_printable tables of (Alert port how events user) (word ∷ words) spells = by_format tables of (AnFd ∷ AMode ∷ ANumber 0 greatest_32 ∷ ANumber 0 greatest_64 ∷ []) NoMore (port, (how, (events, (user, tt)))) (codes "alert") refl refl (word ∷ words) spells
+line_printable tables of (TimerCreate port user) (word ∷ words) spells = by_format tables of (AnFd ∷ ANumber 0 greatest_64 ∷ []) NoMore (port, (user, tt)) (codes "tcreate") refl refl (word ∷ words) spells
+line_printable tables of (TimerSet timer first interval) (word ∷ words) spells = by_format tables of (ANumber 0 31 ∷ ANumber 0 1000000000 ∷ ANumber 0 1000000000 ∷ []) NoMore (timer, (first, (interval, tt))) (codes "tset") refl refl (word ∷ words) spells
+line_printable tables of (TimerDelete timer) (word ∷ words) spells = by_format tables of (ANumber 0 31 ∷ []) NoMore (timer, tt) (codes "tdelete") refl refl (word ∷ words) spells
+line_printable tables of (Advance by) (word ∷ words) spells = by_format tables of (ANumber 1 10000 ∷ []) NoMore (by, tt) (codes "advance") refl refl (word ∷ words) spells
 line_printable tables of (Interrupt whom) (word ∷ words) spells = by_format tables of (AThread ∷ []) NoMore (whom, tt) (codes "interrupt") refl refl (word ∷ words) spells
 line_printable tables of (Kill whom) (word ∷ words) spells = by_format tables of (AProcess ∷ []) NoMore (whom, tt) (codes "kill") refl refl (word ∷ words) spells
 line_printable tables of (Fork begins) (word ∷ words) spells = by_format tables of (AChild ∷ []) NoMore (begins, tt) (codes "fork") refl refl (word ∷ words) spells
 line_printable tables of (Work var what bytes) (word ∷ words) spells = by_format tables of (AName ∷ AnOp ∷ []) TheData (var, (what, bytes)) (codes "work") refl refl (word ∷ words) spells
+line_printable tables of (Ncd var bytes) (word ∷ words) spells = by_format tables of (AName ∷ []) TheData (var, bytes) (codes "ncd") refl refl (word ∷ words) spells
 line_printable tables of (Repeat times) (word ∷ words) spells = by_format tables of (ANumber 1 1000000 ∷ []) NoMore (times, tt) (codes "repeat") refl refl (word ∷ words) spells
 line_printable tables of (If what) (word ∷ words) spells = by_format tables of (ACond ∷ []) NoMore (what, tt) (codes "if") refl refl (word ∷ words) spells
 line_printable tables of End (word ∷ words) spells = by_format tables of [] NoMore tt (codes "end") refl refl (word ∷ words) spells

@@ -27,7 +27,7 @@ find_if : {A : Type 0} (test : A → Bool) (here : Bool) (x y : A) (later : Opti
 find_if test true x y later is others e = ap test (sym (same_some e)) ∙ is
 find_if test false x y later is others e = others e
 
-find_passes : {A : Type 0} (test : A → Bool) (xs : List A) (y : A) → find test xs ≡ Some y → test y ≡ true
+pub find_passes : {A : Type 0} (test : A → Bool) (xs : List A) (y : A) → find test xs ≡ Some y → test y ≡ true
 find_passes test [] y e = absurd (no_value e)
 find_passes test (x ∷ xs) y e = find_if test (test x) x y (find test xs) refl (find_passes test xs y) e
 

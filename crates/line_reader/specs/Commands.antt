@@ -2,7 +2,7 @@
 use Rattle.std.specs.Prelude.{ℕ, Bool, true, false, codes}
 use Rattle.line_reader.specs.Types.{Keyword, Line}
 use Rattle.script_line.specs.declared.keyword.Keyword.TheVariants as keyword
-use Rattle.script_line.specs.declared.line.Line.TheVariants.{Create, Call, Return, Serve, Revoke, Bind, Unbind, Info, InfoQuery, GetParam, SetParam, Cred, TestCancel, Exit, Close, Dup, Attach, Detach, Open, Await, Pipe, Write, Read, PortCreate, Associate, Dissociate, Get, GetN, Send, SendN, Alert, Interrupt, Kill, Fork, Work, Repeat, If, End}
+use Rattle.script_line.specs.declared.line.Line.TheVariants.{Create, Call, Return, Serve, Revoke, Bind, Unbind, Info, InfoQuery, GetParam, SetParam, Cred, TestCancel, Exit, Close, Dup, Attach, Detach, Open, Await, Pipe, Write, Read, PortCreate, Associate, Dissociate, Get, GetN, Send, SendN, Alert, TimerCreate, TimerSet, TimerDelete, Advance, Interrupt, Kill, Fork, Work, Ncd, Repeat, If, End}
 use Rattle.script_line.specs.Words.{Tables, greatest_32, greatest_64}
 use Rattle.line_reader.specs.Combinators.{Reader, optional_word, value_at_end, ◌>>=◌}
 use Rattle.line_reader.specs.Operands.{number, name, procedure, thread, process, child, path, fd, passes, rsize, ports, pieces, attributes, poll, param, mode, op, condition, value, wait_option}
@@ -216,6 +216,33 @@ alert_line = do
   user ← number 0 greatest_64
   value_at_end (Alert port how events user)
 
+-- tcreate FD USER
+unfoldable pub tcreate_line : Reader Line
+tcreate_line = do
+  port ← fd
+  user ← number 0 greatest_64
+  value_at_end (TimerCreate port user)
+
+-- tset ID FIRST INTERVAL (ID from 0 to 31, FIRST and INTERVAL from 0 to 1000000000)
+unfoldable pub tset_line : Reader Line
+tset_line = do
+  timer ← number 0 31
+  first ← number 0 1000000000
+  interval ← number 0 1000000000
+  value_at_end (TimerSet timer first interval)
+
+-- tdelete ID
+unfoldable pub tdelete_line : Reader Line
+tdelete_line = do
+  timer ← number 0 31
+  value_at_end (TimerDelete timer)
+
+-- advance N (N from 1 to 10000)
+unfoldable pub advance_line : Reader Line
+advance_line = do
+  by ← number 1 10000
+  value_at_end (Advance by)
+
 -- interrupt THREAD
 unfoldable pub interrupt_line : Tables → Reader Line
 interrupt_line tables = do
@@ -241,6 +268,13 @@ work_line = do
   of ← op
   bytes ← pieces
   value_at_end (Work var of bytes)
+
+-- ncd VAR DATA
+unfoldable pub ncd_line : Reader Line
+ncd_line = do
+  var ← name
+  bytes ← pieces
+  value_at_end (Ncd var bytes)
 
 -- repeat N (N from 1 to 1000000)
 unfoldable pub repeat_line : Reader Line
@@ -290,10 +324,15 @@ line_with tables process keyword.GetN = getn_line
 line_with tables process keyword.Send = send_line
 line_with tables process keyword.SendN = sendn_line
 line_with tables process keyword.Alert = alert_line
+line_with tables process keyword.TimerCreate = tcreate_line
+line_with tables process keyword.TimerSet = tset_line
+line_with tables process keyword.TimerDelete = tdelete_line
+line_with tables process keyword.Advance = advance_line
 line_with tables process keyword.Interrupt = interrupt_line tables
 line_with tables process keyword.Kill = kill_line tables
 line_with tables process keyword.Fork = fork_line tables process
 line_with tables process keyword.Work = work_line
+line_with tables process keyword.Ncd = ncd_line
 line_with tables process keyword.Repeat = repeat_line
 line_with tables process keyword.If = if_line
 line_with tables process keyword.End = end_line

@@ -1,10 +1,11 @@
-//! Commands on waiting events, threads, processes and work, and the lines of blocks.
+//! Commands on waiting events, timers, threads, processes, work and the cache, and the lines of blocks.
 
-ghost use Rattle.line_reader.specs.Commands.{getn_line as getn_line_read, send_line as send_line_read, sendn_line as sendn_line_read, alert_line as alert_line_read, interrupt_line as interrupt_line_read, kill_line as kill_line_read, fork_line as fork_line_read, work_line as work_line_read, repeat_line as repeat_line_read, if_line as if_line_read, end_line as end_line_read};
+ghost use Rattle.line_reader.specs.Commands.{getn_line as getn_line_read, send_line as send_line_read, sendn_line as sendn_line_read, alert_line as alert_line_read, tcreate_line as tcreate_line_read, tset_line as tset_line_read, tdelete_line as tdelete_line_read, advance_line as advance_line_read, interrupt_line as interrupt_line_read, kill_line as kill_line_read, fork_line as fork_line_read, work_line as work_line_read, ncd_line as ncd_line_read, repeat_line as repeat_line_read, if_line as if_line_read, end_line as end_line_read};
 ghost use Rattle.line_reader.specs.OperandContracts.{Reads};
 
 use crate::fault::Fault;
 use crate::operands::Operands;
+use dk_base::limits::{ADVANCE_MAX, DELAY_MAX};
 use script_line::line::Line;
 use script_line::tables::Tables;
 use std::alloc::Global;
@@ -66,6 +67,45 @@ impl<'a> Operands<'a> {
         })
     }
 
+    #[tactic(auto, unfolding(crate::specs::Commands::tcreate_line))]
+    pub fn tcreate_line(&mut self, alloc: Global) -> Result<Line, Fault>
+        ensures { Reads tcreate_line_read self.old result self.new }
+    {
+        let port = self.fd(alloc)?;
+        let user = self.number(0, u64::MAX)?;
+        self.value_at_end(Line::TimerCreate { port, user })
+    }
+
+    #[tactic(auto, unfolding(crate::specs::Commands::tset_line))]
+    pub fn tset_line(&mut self) -> Result<Line, Fault>
+        ensures { Reads tset_line_read self.old result self.new }
+    {
+        let timer = self.small_number(0, 31)?;
+        let first = self.number(0, DELAY_MAX)?;
+        let interval = self.number(0, DELAY_MAX)?;
+        self.value_at_end(Line::TimerSet {
+            timer,
+            first,
+            interval,
+        })
+    }
+
+    #[tactic(auto, unfolding(crate::specs::Commands::tdelete_line))]
+    pub fn tdelete_line(&mut self) -> Result<Line, Fault>
+        ensures { Reads tdelete_line_read self.old result self.new }
+    {
+        let timer = self.small_number(0, 31)?;
+        self.value_at_end(Line::TimerDelete { timer })
+    }
+
+    #[tactic(auto, unfolding(crate::specs::Commands::advance_line))]
+    pub fn advance_line(&mut self) -> Result<Line, Fault>
+        ensures { Reads advance_line_read self.old result self.new }
+    {
+        let by = self.number(1, ADVANCE_MAX)?;
+        self.value_at_end(Line::Advance { by })
+    }
+
     #[tactic(auto, unfolding(crate::specs::Commands::interrupt_line))]
     pub fn interrupt_line(&mut self, tables: &Tables) -> Result<Line, Fault>
         ensures { Reads (interrupt_line_read tables.now) self.old result self.new }
@@ -98,6 +138,15 @@ impl<'a> Operands<'a> {
         let op = self.op()?;
         let bytes = self.pieces(alloc)?;
         self.value_at_end(Line::Work { var, op, bytes })
+    }
+
+    #[tactic(auto, unfolding(crate::specs::Commands::ncd_line))]
+    pub fn ncd_line(&mut self, alloc: Global) -> Result<Line, Fault>
+        ensures { Reads ncd_line_read self.old result self.new }
+    {
+        let var = self.variable(alloc)?;
+        let bytes = self.pieces(alloc)?;
+        self.value_at_end(Line::Ncd { var, bytes })
     }
 
     #[tactic(auto, unfolding(crate::specs::Commands::repeat_line))]

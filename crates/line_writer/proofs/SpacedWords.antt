@@ -6,7 +6,7 @@ use Rattle.std.proofs.lemmas.Grind.{flat_map-append}
 use Rattle.script_text.specs.Words.{joined_words, spaced_words}
 use Rattle.script_text.proofs.JoinedWords.{spaced_words-append, joined_first}
 use Rattle.script_line.specs.declared.line.Line.{Line}
-use Rattle.script_line.specs.declared.line.Line.TheVariants.{Create, Call, Return, Serve, Revoke, Bind, Unbind, Info, InfoQuery, GetParam, SetParam, Cred, TestCancel, Exit, Close, Dup, Attach, Detach, Open, Await, Pipe, Write, Read, PortCreate, Associate, Dissociate, Get, GetN, Send, SendN, Alert, Interrupt, Kill, Fork, Work, Repeat, If, End}
+use Rattle.script_line.specs.declared.line.Line.TheVariants.{Create, Call, Return, Serve, Revoke, Bind, Unbind, Info, InfoQuery, GetParam, SetParam, Cred, TestCancel, Exit, Close, Dup, Attach, Detach, Open, Await, Pipe, Write, Read, PortCreate, Associate, Dissociate, Get, GetN, Send, SendN, Alert, TimerCreate, TimerSet, TimerDelete, Advance, Interrupt, Kill, Fork, Work, Ncd, Repeat, If, End}
 use Rattle.script_line.specs.Words.{Tables, keyword_of_line, keyword_word, line_words, operand_words}
 
 -- the words of one more item
@@ -84,10 +84,15 @@ parted tables (GetN port most least wait) = refl
 parted tables (Send port events user) = refl
 parted tables (SendN events user to) = refl
 parted tables (Alert port how events user) = refl
+parted tables (TimerCreate port user) = refl
+parted tables (TimerSet timer first interval) = refl
+parted tables (TimerDelete timer) = refl
+parted tables (Advance by) = refl
 parted tables (Interrupt whom) = refl
 parted tables (Kill whom) = refl
 parted tables (Fork child) = refl
 parted tables (Work var what bytes) = refl
+parted tables (Ncd var bytes) = refl
 parted tables (Repeat times) = refl
 parted tables (If what) = refl
 parted tables End = refl

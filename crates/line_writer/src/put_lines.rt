@@ -246,6 +246,27 @@ fn put_alert(
     text.number(alloc, user)
 }
 
+fn put_tcreate(alloc: Global, text: &mut Writer, port: &FdArg, user: u64) -> Result<(), NoMemory>
+    ensures { Puts (fd_word port.now ∷ decimal user ∷ []) text.old result text.new }
+{
+    put_fd(alloc, text, port)?;
+    text.number(alloc, user)
+}
+
+fn put_tset(
+    alloc: Global,
+    text: &mut Writer,
+    timer: u32,
+    first: u64,
+    interval: u64,
+) -> Result<(), NoMemory>
+    ensures { Puts (decimal timer ∷ decimal first ∷ decimal interval ∷ []) text.old result text.new }
+{
+    text.number(alloc, u64::from(timer))?;
+    text.number(alloc, first)?;
+    text.number(alloc, interval)
+}
+
 fn put_work(
     alloc: Global,
     text: &mut Writer,
@@ -257,6 +278,13 @@ fn put_work(
 {
     text.word(var.slice())?;
     text.word(op_word(op).as_bytes())?;
+    put_pieces(alloc, text, bytes.slice())
+}
+
+fn put_ncd(alloc: Global, text: &mut Writer, var: &Bytes, bytes: &PieceList) -> Result<(), NoMemory>
+    ensures { Puts (var.now ∷ data_words bytes.now) text.old result text.new }
+{
+    text.word(var.slice())?;
     put_pieces(alloc, text, bytes.slice())
 }
 
@@ -331,10 +359,19 @@ pub fn put_line_operands(
             events,
             user,
         } => put_alert(alloc, text, port, *mode, *events, *user),
+        Line::TimerCreate { port, user } => put_tcreate(alloc, text, port, *user),
+        Line::TimerSet {
+            timer,
+            first,
+            interval,
+        } => put_tset(alloc, text, *timer, *first, *interval),
+        Line::TimerDelete { timer } => text.number(alloc, u64::from(*timer)),
+        Line::Advance { by } => text.number(alloc, *by),
         Line::Interrupt { thread } => text.word(tables.thread_name(*thread)),
         Line::Kill { process } => text.word(tables.process_name(*process)),
         Line::Fork { child } => text.word(tables.process_name(*child)),
         Line::Work { var, op, bytes } => put_work(alloc, text, var, *op, bytes),
+        Line::Ncd { var, bytes } => put_ncd(alloc, text, var, bytes),
         Line::Repeat { times } => text.number(alloc, u64::from(*times)),
         Line::If { cond } => text.word(cond_word(*cond).as_bytes()),
         Line::End => Ok(()),

@@ -9,6 +9,7 @@ pub mod Adds
 pub mod Faults
 pub mod Dispatch
 pub mod Drafts
+pub mod Versions
 pub mod Parsing
 pub mod Spelled
 pub mod TextReaderContracts

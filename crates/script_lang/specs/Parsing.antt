@@ -1,5 +1,5 @@
 -- The script that a text spells, or its first bad line with the reason.
-use Rattle.std.specs.Prelude.{ℕ, Bool, true, false, ◌+◌, ◌==◌, not, List, [], ◌∷◌, Option, Some, None, Result, Ok, Err, bytes_eq, if◌then◌else◌}
+use Rattle.std.specs.Prelude.{ℕ, Bool, true, false, ◌+◌, ◌==◌, not, List, [], ◌∷◌, Option, Some, None, Result, Ok, Err, bytes_eq, find, if◌then◌else◌}
 use Rattle.std.specs.List.{list_all}
 use Rattle.script_text.specs.Words.{is_printable, lines_of, words_of}
 use Rattle.script_lang.specs.Types.{Reason}
@@ -15,6 +15,7 @@ use Rattle.script_lang.specs.Value.{ScriptValue}
 use Rattle.script_lang.specs.TextTables.{tables_of_lines}
 use Rattle.script_lang.specs.Scripts.{script_of_items}
 use Rattle.script_lang.specs.Canonical.{header, canonical_text}
+use Rattle.script_lang.specs.Versions.{versions}
 
 abbrev pub bad_line : ℕ → Reason → Bad
 bad_line n reason = record { line = n; reason = reason }
@@ -111,9 +112,7 @@ script_read version tables (Ok found) = script_unless_unknown (script_of_items v
 
 -- the version that a text's first line names
 abbrev pub version_of : List ℕ → Option ℕ
-version_of line =
-    if bytes_eq line (header 1) then Some 1 else (
-    if bytes_eq line (header 2) then Some 2 else None)
+version_of line = find (λ version. bytes_eq line (header version)) versions
 
 abbrev pub result_after_header : Tables → List (List ℕ) → Option ℕ → Result ScriptValue Bad
 result_after_header tables lines None = Err (bad_line 1 Header)

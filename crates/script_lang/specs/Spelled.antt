@@ -1,6 +1,6 @@
 -- Which script a text spells: from the script's lines to the text's, with no reader.
-use Rattle.std.specs.Prelude.{ℕ, ◌≡◌, ◌⊎◌, Bool, true, false, ◌+◌, ◌==◌, ◌||◌, nat_le, nat_lt, List, [], ◌∷◌, Option, Some, None, length, flat_map, bytes_eq, codes, if◌then◌else◌}
-use Rattle.std.specs.List.{list_all}
+use Rattle.std.specs.Prelude.{ℕ, ◌≡◌, ◌⊎◌, Bool, true, false, ◌+◌, ◌==◌, nat_le, nat_lt, List, [], ◌∷◌, Option, Some, None, length, flat_map, bytes_eq, codes, if◌then◌else◌}
+use Rattle.std.specs.List.{list_all, list_any}
 use Rattle.script_text.specs.Types.{PathId}
 use Rattle.script_text.specs.Words.{SpellsName, SpellsNumber, are_distinct, lines_of, words_of}
 use Rattle.script_line.specs.Words.{Each, Ends, First, Spelling, SpellsLine, SpellsParent, SpellsThread, Tables, Then, line_version, paths_of}
@@ -13,6 +13,7 @@ use Rattle.script_lang.specs.Value.{ScriptValue}
 use Rattle.script_lang.specs.Scripts.{tables_of, script_of_items}
 use Rattle.script_lang.specs.Canonical.{header}
 use Rattle.script_lang.specs.Parsing.{is_skipped, is_printable_line}
+use Rattle.script_lang.specs.Versions.{versions}
 use Rattle.dk_base.specs.declared.limits.TheConstants.{BUDGET_MAX, DESCRIPTORS_MAX}
 
 -- nothing for `DESCRIPTORS_MAX`, or `limit N` (N at most so many)
@@ -53,7 +54,7 @@ is_of_place place item = false
 -- versions
 
 abbrev pub is_version : ℕ → Bool
-is_version version = (version == 1) || (version == 2)
+is_version version = list_any (λ of. version == of) versions
 
 -- the least version in whose texts a line may stand
 abbrev pub item_version : ScriptLine → ℕ

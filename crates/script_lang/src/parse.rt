@@ -21,6 +21,10 @@ fn version_of(line: &[u8]) -> Option<u32>
         Some(1)
     } else if line == b"doors script 2".as_slice() {
         Some(2)
+    } else if line == b"doors script 3".as_slice() {
+        Some(3)
+    } else if line == b"doors script 4".as_slice() {
+        Some(4)
     } else {
         None
     }

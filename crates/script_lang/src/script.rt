@@ -100,7 +100,7 @@ impl Script {
         laws::read_is_spelled();
     }
 
-    /// The version of the language that its text is in, 1 or 2.
+    /// The version of the language that its text is in, from 1 to 4.
     pub fn version(&self) -> u32
         ensures { result ≡ self.now.version }
     {

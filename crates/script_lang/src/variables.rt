@@ -122,9 +122,10 @@ pub fn add_variables(
         Line::Get { port, .. }
         | Line::GetN { port, .. }
         | Line::Send { port, .. }
-        | Line::Alert { port, .. } => add_of_fd(alloc, names, port),
+        | Line::Alert { port, .. }
+        | Line::TimerCreate { port, .. } => add_of_fd(alloc, names, port),
         Line::SendN { ports, .. } => add_of_fds(alloc, names, ports.slice()),
-        Line::Work { var, bytes, .. } => {
+        Line::Work { var, bytes, .. } | Line::Ncd { var, bytes } => {
             add_name(alloc, names, var.slice())?;
             add_of_pieces(alloc, names, bytes.slice())
         }
@@ -136,6 +137,9 @@ pub fn add_variables(
         | Line::Exit
         | Line::Detach { .. }
         | Line::Await { .. }
+        | Line::TimerSet { .. }
+        | Line::TimerDelete { .. }
+        | Line::Advance { .. }
         | Line::Interrupt { .. }
         | Line::Kill { .. }
         | Line::Fork { .. }

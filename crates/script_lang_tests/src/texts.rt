@@ -17,6 +17,14 @@ const EVERY_FORM: &str =
 const FORMS_SINCE_2: &str =
     "doors script 2\nbudget 9\nprocess a limit 3\nthread t\nfork k\nend\nchild k of a\nspare s\nchild g of k\nthread u\nend\nschedule t u\n";
 
+/// The forms that version 3 adds.
+const FORMS_SINCE_3: &str =
+    "doors script 3\nbudget 9\nprocess a limit 3\nthread t\ntcreate $p 18446744073709551615\ntcreate $p.15 0\ntcreate 255 7\ntset 0 0 0\ntset 31 1000000000 1000000000\ntdelete 0\ntdelete 31\nadvance 1\nadvance 10000\nfork k\nend\nchild k of a\n";
+
+/// The forms that version 4 adds.
+const FORMS_SINCE_4: &str =
+    "doors script 4\nbudget 9\nprocess a limit 3\nthread t\nncd v \"get \" + $k + fill:8192\nncd v $v\nadvance 1\nfork k\nend\nchild k of a\n";
+
 fn is_copied(alloc: Global, script: &Script) -> bool {
     matches!(script.copy(alloc), Ok(copy) if copy.same(script))
 }
@@ -40,6 +48,16 @@ fn forms_since_2_are_shown_and_copied(rt: HostRuntime) {
     assert!(rt; is_shown_and_copied(rt.alloc(), FORMS_SINCE_2, FORMS_SINCE_2));
 }
 
+#[test]
+fn forms_since_3_are_shown_and_copied(rt: HostRuntime) {
+    assert!(rt; is_shown_and_copied(rt.alloc(), FORMS_SINCE_3, FORMS_SINCE_3));
+}
+
+#[test]
+fn forms_since_4_are_shown_and_copied(rt: HostRuntime) {
+    assert!(rt; is_shown_and_copied(rt.alloc(), FORMS_SINCE_4, FORMS_SINCE_4));
+}
+
 /// Whether a text spells another script than this one.
 fn spells_another(alloc: Global, script: &Script, text: &str) -> bool {
     text.len() < 4_000_000_000
@@ -60,6 +78,13 @@ fn a_script_of_another_version_is_another(rt: HostRuntime) {
             rt.alloc(),
             "doors script 1\nprocess a\n",
             "doors script 2\nprocess a\n"
+        )
+    );
+    assert!(rt;
+        differ(
+            rt.alloc(),
+            "doors script 3\nprocess a\n",
+            "doors script 4\nprocess a\n"
         )
     );
 }

@@ -8,7 +8,7 @@ use Rattle.script_line.specs.declared.line.PassArg.{PassArg}
 use Rattle.script_line.specs.declared.line.Piece.{Piece}
 use Rattle.script_line.specs.declared.line.Piece.TheVariants.{Text, Of, Fill}
 use Rattle.script_line.specs.declared.line.Line.{Line}
-use Rattle.script_line.specs.declared.line.Line.TheVariants.{Create, Call, Return, Serve, Revoke, Bind, Unbind, Info, InfoQuery, GetParam, SetParam, Cred, TestCancel, Exit, Close, Dup, Attach, Detach, Open, Await, Pipe, Write, Read, PortCreate, Associate, Dissociate, Get, GetN, Send, SendN, Alert, Interrupt, Kill, Fork, Work, Repeat, If, End}
+use Rattle.script_line.specs.declared.line.Line.TheVariants.{Create, Call, Return, Serve, Revoke, Bind, Unbind, Info, InfoQuery, GetParam, SetParam, Cred, TestCancel, Exit, Close, Dup, Attach, Detach, Open, Await, Pipe, Write, Read, PortCreate, Associate, Dissociate, Get, GetN, Send, SendN, Alert, TimerCreate, TimerSet, TimerDelete, Advance, Interrupt, Kill, Fork, Work, Ncd, Repeat, If, End}
 use Rattle.dk_base.specs.ByNumber.{at_number}
 use Rattle.script_line.specs.Tables.{Tables}
 use Rattle.script_line.specs.Sets.{attribute_words, poll_word}
@@ -100,10 +100,15 @@ line_words tables (GetN port max nget wait) = codes "getn" ∷ fd_word port ∷ 
 line_words tables (Send port events user) = codes "send" ∷ fd_word port ∷ decimal events ∷ decimal user ∷ []
 line_words tables (SendN events user ports) = codes "sendn" ∷ decimal events ∷ decimal user ∷ map fd_word ports
 line_words tables (Alert port mode events user) = codes "alert" ∷ fd_word port ∷ mode_word mode ∷ decimal events ∷ decimal user ∷ []
+line_words tables (TimerCreate port user) = codes "tcreate" ∷ fd_word port ∷ decimal user ∷ []
+line_words tables (TimerSet timer first interval) = codes "tset" ∷ decimal timer ∷ decimal first ∷ decimal interval ∷ []
+line_words tables (TimerDelete timer) = codes "tdelete" ∷ decimal timer ∷ []
+line_words tables (Advance by) = codes "advance" ∷ decimal by ∷ []
 line_words tables (Interrupt thread) = codes "interrupt" ∷ thread_word tables thread ∷ []
 line_words tables (Kill process) = codes "kill" ∷ process_word tables process ∷ []
 line_words tables (Fork child) = codes "fork" ∷ process_word tables child ∷ []
 line_words tables (Work var op bytes) = codes "work" ∷ var ∷ op_word op ∷ data_words bytes
+line_words tables (Ncd var bytes) = codes "ncd" ∷ var ∷ data_words bytes
 line_words tables (Repeat times) = codes "repeat" ∷ decimal times ∷ []
 line_words tables (If cond) = codes "if" ∷ cond_word cond ∷ []
 line_words tables End = codes "end" ∷ []

@@ -1,8 +1,8 @@
 -- The first words of a body's lines.
-use Rattle.std.specs.Prelude.{ℕ, List, [], ◌∷◌, Option, None, codes, if◌then◌else◌, nat_le}
+use Rattle.std.specs.Prelude.{ℕ, ◌&&◌, List, [], ◌∷◌, Option, bytes_eq, codes, find, nat_le}
 use Rattle.std.specs.Option.{option_or}
 use Rattle.script_line.specs.declared.keyword.Keyword.{Keyword}
-use Rattle.script_line.specs.declared.keyword.Keyword.TheVariants.{Create, Call, Return, Serve, Revoke, Bind, Unbind, Info, GetParam, SetParam, Cred, TestCancel, Exit, Close, Dup, Attach, Detach, Open, Await, Pipe, Write, Read, PortCreate, Associate, Dissociate, Get, GetN, Send, SendN, Alert, Interrupt, Kill, Fork, Work, Repeat, If, End}
+use Rattle.script_line.specs.declared.keyword.Keyword.TheVariants.{Create, Call, Return, Serve, Revoke, Bind, Unbind, Info, GetParam, SetParam, Cred, TestCancel, Exit, Close, Dup, Attach, Detach, Open, Await, Pipe, Write, Read, PortCreate, Associate, Dissociate, Get, GetN, Send, SendN, Alert, TimerCreate, TimerSet, TimerDelete, Advance, Interrupt, Kill, Fork, Work, Ncd, Repeat, If, End}
 use Rattle.script_line.specs.Enumerated.{value_of_word}
 
 abbrev pub keyword_word : Keyword → List ℕ
@@ -36,10 +36,15 @@ keyword_word GetN = codes "getn"
 keyword_word Send = codes "send"
 keyword_word SendN = codes "sendn"
 keyword_word Alert = codes "alert"
+keyword_word TimerCreate = codes "tcreate"
+keyword_word TimerSet = codes "tset"
+keyword_word TimerDelete = codes "tdelete"
+keyword_word Advance = codes "advance"
 keyword_word Interrupt = codes "interrupt"
 keyword_word Kill = codes "kill"
 keyword_word Fork = codes "fork"
 keyword_word Work = codes "work"
+keyword_word Ncd = codes "ncd"
 keyword_word Repeat = codes "repeat"
 keyword_word If = codes "if"
 keyword_word End = codes "end"
@@ -56,9 +61,19 @@ keywords_open_to_get = Open ∷ Await ∷ Pipe ∷ Write ∷ Read ∷ PortCreate
 abbrev pub keywords_getn_to_end : List Keyword
 keywords_getn_to_end = GetN ∷ Send ∷ SendN ∷ Alert ∷ Interrupt ∷ Kill ∷ Work ∷ Repeat ∷ If ∷ End ∷ []
 
--- those that version 2 adds
+-- those that later versions add
 abbrev pub keywords_since_2 : List Keyword
-keywords_since_2 = Fork ∷ []
+keywords_since_2 = Fork ∷ TimerCreate ∷ TimerSet ∷ TimerDelete ∷ Advance ∷ Ncd ∷ []
+
+-- the least version in whose texts a keyword is one
+abbrev pub keyword_version : Keyword → ℕ
+keyword_version Fork = 2
+keyword_version TimerCreate = 3
+keyword_version TimerSet = 3
+keyword_version TimerDelete = 3
+keyword_version Advance = 3
+keyword_version Ncd = 4
+keyword_version keyword = 1
 
 unfoldable pub keyword_create_to_info : List ℕ → Option Keyword
 keyword_create_to_info word = value_of_word keyword_word keywords_create_to_info word
@@ -72,8 +87,9 @@ keyword_open_to_get word = value_of_word keyword_word keywords_open_to_get word
 unfoldable pub keyword_getn_to_end : List ℕ → Option Keyword
 keyword_getn_to_end word = value_of_word keyword_word keywords_getn_to_end word
 
+-- the keyword that a word is, of those that later versions add, in a text of this version
 unfoldable pub keyword_since_2 : ℕ → List ℕ → Option Keyword
-keyword_since_2 version word = if nat_le 2 version then value_of_word keyword_word keywords_since_2 word else None
+keyword_since_2 version word = find (λ keyword. bytes_eq word (keyword_word keyword) && nat_le (keyword_version keyword) version) keywords_since_2
 
 -- the keyword that a word is, in a text of this version
 abbrev pub keyword_of : ℕ → List ℕ → Option Keyword
@@ -82,8 +98,3 @@ keyword_of version word =
     option_or (keyword_getparam_to_detach word) (
     option_or (keyword_open_to_get word) (
     option_or (keyword_getn_to_end word) (keyword_since_2 version word))))
-
--- the least version in whose texts a keyword is one
-abbrev pub keyword_version : Keyword → ℕ
-keyword_version Fork = 2
-keyword_version keyword = 1

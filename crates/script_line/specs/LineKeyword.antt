@@ -4,7 +4,7 @@ use Rattle.script_line.specs.declared.keyword.Keyword.{Keyword}
 use Rattle.script_line.specs.declared.keyword.Keyword.TheVariants as keyword
 use Rattle.script_line.specs.declared.line.Line.{Line}
 use Rattle.script_line.specs.Keywords.{keyword_version}
-use Rattle.script_line.specs.declared.line.Line.TheVariants.{Create, Call, Return, Serve, Revoke, Bind, Unbind, Info, InfoQuery, GetParam, SetParam, Cred, TestCancel, Exit, Close, Dup, Attach, Detach, Open, Await, Pipe, Write, Read, PortCreate, Associate, Dissociate, Get, GetN, Send, SendN, Alert, Interrupt, Kill, Fork, Work, Repeat, If, End}
+use Rattle.script_line.specs.declared.line.Line.TheVariants.{Create, Call, Return, Serve, Revoke, Bind, Unbind, Info, InfoQuery, GetParam, SetParam, Cred, TestCancel, Exit, Close, Dup, Attach, Detach, Open, Await, Pipe, Write, Read, PortCreate, Associate, Dissociate, Get, GetN, Send, SendN, Alert, TimerCreate, TimerSet, TimerDelete, Advance, Interrupt, Kill, Fork, Work, Ncd, Repeat, If, End}
 
 abbrev pub keyword_of_line : Line → Keyword
 keyword_of_line (Create var entry cookie attrs) = keyword.Create
@@ -38,10 +38,15 @@ keyword_of_line (GetN port most least wait) = keyword.GetN
 keyword_of_line (Send port events user) = keyword.Send
 keyword_of_line (SendN events user to) = keyword.SendN
 keyword_of_line (Alert port how events user) = keyword.Alert
+keyword_of_line (TimerCreate port user) = keyword.TimerCreate
+keyword_of_line (TimerSet timer first interval) = keyword.TimerSet
+keyword_of_line (TimerDelete timer) = keyword.TimerDelete
+keyword_of_line (Advance by) = keyword.Advance
 keyword_of_line (Interrupt whom) = keyword.Interrupt
 keyword_of_line (Kill whom) = keyword.Kill
 keyword_of_line (Fork child) = keyword.Fork
 keyword_of_line (Work var of bytes) = keyword.Work
+keyword_of_line (Ncd var bytes) = keyword.Ncd
 keyword_of_line (Repeat times) = keyword.Repeat
 keyword_of_line (If of) = keyword.If
 keyword_of_line End = keyword.End

@@ -102,18 +102,33 @@ line_exact = enum_exact enum _ (
                                                             (
                                                               field_exact fd_exact (field_exact mode_exact (field_exact number_exact (last_exact number_exact))),
                                                               (
-                                                                last_exact thread_exact,
+                                                                field_exact fd_exact (last_exact number_exact),
                                                                 (
-                                                                  last_exact process_exact,
+                                                                  field_exact number_exact (field_exact number_exact (last_exact number_exact)),
                                                                   (
-                                                                    last_exact process_exact,
+                                                                    last_exact number_exact,
                                                                     (
-                                                                      field_exact bytes_exact (field_exact op_exact (last_exact pieces_exact)),
+                                                                      last_exact number_exact,
                                                                       (
-                                                                        last_exact number_exact,
+                                                                        last_exact thread_exact,
                                                                         (
-                                                                          last_exact cond_exact,
-                                                                          (none_exact, tt),
+                                                                          last_exact process_exact,
+                                                                          (
+                                                                            last_exact process_exact,
+                                                                            (
+                                                                              field_exact bytes_exact (field_exact op_exact (last_exact pieces_exact)),
+                                                                              (
+                                                                                field_exact bytes_exact (last_exact pieces_exact),
+                                                                                (
+                                                                                  last_exact number_exact,
+                                                                                  (
+                                                                                    last_exact cond_exact,
+                                                                                    (none_exact, tt),
+                                                                                  ),
+                                                                                ),
+                                                                              ),
+                                                                            ),
+                                                                          ),
                                                                         ),
                                                                       ),
                                                                     ),

@@ -10,7 +10,7 @@ use Rattle.script_line.specs.declared.line.PassArg.{PassArg}
 use Rattle.script_line.specs.declared.line.Piece.{Piece}
 use Rattle.script_line.specs.declared.line.Piece.TheVariants.{Text, Of, Fill}
 use Rattle.script_line.specs.declared.line.Line.{Line}
-use Rattle.script_line.specs.declared.line.Line.TheVariants.{Create, Call, Return, Serve, Revoke, Bind, Unbind, Info, InfoQuery, GetParam, SetParam, Cred, TestCancel, Exit, Close, Dup, Attach, Detach, Open, Await, Pipe, Write, Read, PortCreate, Associate, Dissociate, Get, GetN, Send, SendN, Alert, Interrupt, Kill, Fork, Work, Repeat, If, End}
+use Rattle.script_line.specs.declared.line.Line.TheVariants.{Create, Call, Return, Serve, Revoke, Bind, Unbind, Info, InfoQuery, GetParam, SetParam, Cred, TestCancel, Exit, Close, Dup, Attach, Detach, Open, Await, Pipe, Write, Read, PortCreate, Associate, Dissociate, Get, GetN, Send, SendN, Alert, TimerCreate, TimerSet, TimerDelete, Advance, Interrupt, Kill, Fork, Work, Ncd, Repeat, If, End}
 use Rattle.dk_base.specs.ByNumber.{at_number}
 use Rattle.script_line.specs.Tables.{Tables, ProcedureName, is_child}
 use Rattle.script_line.specs.Sets.{attributes_of, bits_of_word, poll_flags}
@@ -183,10 +183,15 @@ SpellsLine tables process (GetN port most least wait) = Then (codes "getn") (Fir
 SpellsLine tables process (Send port events user) = Then (codes "send") (First (SpellsFd port) (First (SpellsNumber 0 greatest_32 events) (First (SpellsNumber 0 greatest_64 user) Ends)))
 SpellsLine tables process (SendN events user ports) = Then (codes "sendn") (First (SpellsNumber 0 greatest_32 events) (First (SpellsNumber 0 greatest_64 user) (SpellsPorts ports)))
 SpellsLine tables process (Alert port mode events user) = Then (codes "alert") (First (SpellsFd port) (First (SpellsMode mode) (First (SpellsNumber 0 greatest_32 events) (First (SpellsNumber 0 greatest_64 user) Ends))))
+SpellsLine tables process (TimerCreate port user) = Then (codes "tcreate") (First (SpellsFd port) (First (SpellsNumber 0 greatest_64 user) Ends))
+SpellsLine tables process (TimerSet timer first interval) = Then (codes "tset") (First (SpellsNumber 0 31 timer) (First (SpellsNumber 0 1000000000 first) (First (SpellsNumber 0 1000000000 interval) Ends)))
+SpellsLine tables process (TimerDelete timer) = Then (codes "tdelete") (First (SpellsNumber 0 31 timer) Ends)
+SpellsLine tables process (Advance by) = Then (codes "advance") (First (SpellsNumber 1 10000 by) Ends)
 SpellsLine tables process (Interrupt thread) = Then (codes "interrupt") (First (SpellsThread tables thread) Ends)
 SpellsLine tables process (Kill whom) = Then (codes "kill") (First (SpellsProcess tables whom) Ends)
 SpellsLine tables process (Fork child) = Then (codes "fork") (First (SpellsChild tables process child) Ends)
 SpellsLine tables process (Work var op bytes) = Then (codes "work") (First (SpellsName var) (First (SpellsOp op) (SpellsPieces bytes Ends)))
+SpellsLine tables process (Ncd var bytes) = Then (codes "ncd") (First (SpellsName var) (SpellsPieces bytes Ends))
 SpellsLine tables process (Repeat times) = Then (codes "repeat") (First (SpellsNumber 1 1000000 times) Ends)
 SpellsLine tables process (If cond) = Then (codes "if") (First (SpellsCond cond) Ends)
 SpellsLine tables process End = Then (codes "end") Ends

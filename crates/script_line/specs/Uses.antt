@@ -7,7 +7,7 @@ use Rattle.script_line.specs.declared.line.PassArg.{PassArg}
 use Rattle.script_line.specs.declared.line.Piece.{Piece}
 use Rattle.script_line.specs.declared.line.Piece.TheVariants.{Text, Of, Fill}
 use Rattle.script_line.specs.declared.line.Line.{Line}
-use Rattle.script_line.specs.declared.line.Line.TheVariants.{Create, Call, Return, Serve, Revoke, Bind, Unbind, Info, InfoQuery, GetParam, SetParam, Cred, TestCancel, Exit, Close, Dup, Attach, Detach, Open, Await, Pipe, Write, Read, PortCreate, Associate, Dissociate, Get, GetN, Send, SendN, Alert, Interrupt, Kill, Fork, Work, Repeat, If, End}
+use Rattle.script_line.specs.declared.line.Line.TheVariants.{Create, Call, Return, Serve, Revoke, Bind, Unbind, Info, InfoQuery, GetParam, SetParam, Cred, TestCancel, Exit, Close, Dup, Attach, Detach, Open, Await, Pipe, Write, Read, PortCreate, Associate, Dissociate, Get, GetN, Send, SendN, Alert, TimerCreate, TimerSet, TimerDelete, Advance, Interrupt, Kill, Fork, Work, Ncd, Repeat, If, End}
 
 abbrev pub fd_variables : FdArg → List (List ℕ)
 fd_variables (Number n) = []
@@ -54,10 +54,15 @@ variables_of (GetN port max nget wait) = fd_variables port
 variables_of (Send port events user) = fd_variables port
 variables_of (SendN events user ports) = flat_map fd_variables ports
 variables_of (Alert port mode events user) = fd_variables port
+variables_of (TimerCreate port user) = fd_variables port
+variables_of (TimerSet timer first interval) = []
+variables_of (TimerDelete timer) = []
+variables_of (Advance by) = []
 variables_of (Interrupt thread) = []
 variables_of (Kill process) = []
 variables_of (Fork child) = []
 variables_of (Work var op bytes) = var ∷ flat_map piece_variables bytes
+variables_of (Ncd var bytes) = var ∷ flat_map piece_variables bytes
 variables_of (Repeat times) = []
 variables_of (If cond) = []
 variables_of End = []

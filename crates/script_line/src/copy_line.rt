@@ -179,12 +179,31 @@ impl Duplicate for Line {
                 events: *events,
                 user: *user,
             }),
+            Line::TimerCreate { port, user } => Ok(Line::TimerCreate {
+                port: port.duplicate(alloc)?,
+                user: *user,
+            }),
+            Line::TimerSet {
+                timer,
+                first,
+                interval,
+            } => Ok(Line::TimerSet {
+                timer: *timer,
+                first: *first,
+                interval: *interval,
+            }),
+            Line::TimerDelete { timer } => Ok(Line::TimerDelete { timer: *timer }),
+            Line::Advance { by } => Ok(Line::Advance { by: *by }),
             Line::Interrupt { thread } => Ok(Line::Interrupt { thread: *thread }),
             Line::Kill { process } => Ok(Line::Kill { process: *process }),
             Line::Fork { child } => Ok(Line::Fork { child: *child }),
             Line::Work { var, op, bytes } => Ok(Line::Work {
                 var: var.copy(alloc)?,
                 op: *op,
+                bytes: bytes.duplicate(alloc)?,
+            }),
+            Line::Ncd { var, bytes } => Ok(Line::Ncd {
+                var: var.copy(alloc)?,
                 bytes: bytes.duplicate(alloc)?,
             }),
             Line::Repeat { times } => Ok(Line::Repeat { times: *times }),

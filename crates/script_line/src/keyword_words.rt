@@ -1,5 +1,5 @@
 ghost use Rattle.std.specs.Prelude.{◌≡◌};
-ghost use Rattle.script_line.specs.Keywords.{keyword_word, keyword_create_to_info as create_to_info_spelled, keyword_getparam_to_detach as getparam_to_detach_spelled, keyword_open_to_get as open_to_get_spelled, keyword_getn_to_end as getn_to_end_spelled, keyword_since_2 as since_2_spelled, keyword_of as keyword_spelled};
+ghost use Rattle.script_line.specs.Keywords.{keyword_version, keyword_word, keyword_create_to_info as create_to_info_spelled, keyword_getparam_to_detach as getparam_to_detach_spelled, keyword_open_to_get as open_to_get_spelled, keyword_getn_to_end as getn_to_end_spelled, keyword_since_2 as since_2_spelled, keyword_of as keyword_spelled};
 
 use crate::keyword::Keyword;
 
@@ -38,13 +38,30 @@ pub fn word_of(keyword: Keyword) -> &'static str
         Keyword::Send => "send",
         Keyword::SendN => "sendn",
         Keyword::Alert => "alert",
+        Keyword::TimerCreate => "tcreate",
+        Keyword::TimerSet => "tset",
+        Keyword::TimerDelete => "tdelete",
+        Keyword::Advance => "advance",
         Keyword::Interrupt => "interrupt",
         Keyword::Kill => "kill",
         Keyword::Fork => "fork",
         Keyword::Work => "work",
+        Keyword::Ncd => "ncd",
         Keyword::Repeat => "repeat",
         Keyword::If => "if",
         Keyword::End => "end",
+    }
+}
+
+/// The least version in whose texts a keyword is one.
+fn version_of(keyword: Keyword) -> u32
+    ensures { result ≡ keyword_version keyword }
+{
+    match keyword {
+        Keyword::Fork => 2,
+        Keyword::TimerCreate | Keyword::TimerSet | Keyword::TimerDelete | Keyword::Advance => 3,
+        Keyword::Ncd => 4,
+        _ => 1,
     }
 }
 
@@ -136,20 +153,23 @@ fn keyword_getn_to_end(word: &[u8]) -> Option<Keyword>
         .find(|keyword| word == word_of(*keyword).as_bytes())
 }
 
-const KEYWORDS_SINCE_2: [Keyword; 1] = [Keyword::Fork];
+const KEYWORDS_SINCE_2: [Keyword; 6] = [
+    Keyword::Fork,
+    Keyword::TimerCreate,
+    Keyword::TimerSet,
+    Keyword::TimerDelete,
+    Keyword::Advance,
+    Keyword::Ncd,
+];
 
-/// The keyword that a word is, of those that version 2 adds.
+/// The keyword that a word is, of those that later versions add.
 #[tactic(auto, unfolding(crate::specs::Keywords::keyword_since_2))]
 fn keyword_since_2(version: u32, word: &[u8]) -> Option<Keyword>
     ensures { result ≡ since_2_spelled version word.now }
 {
-    if version < 2 {
-        return None;
-    }
-    KEYWORDS_SINCE_2
-        .iter()
-        .copied()
-        .find(|keyword| word == word_of(*keyword).as_bytes())
+    KEYWORDS_SINCE_2.iter().copied().find(|keyword| {
+        word == word_of(*keyword).as_bytes() && version_of(*keyword) <= version
+    })
 }
 
 /// The keyword that a word is, in a text of this version.

@@ -196,6 +196,25 @@ pub enum Line {
         events: u32,
         user: u64,
     },
+    /// `tcreate FD USER` (timer_create(3C))
+    TimerCreate {
+        port: FdArg,
+        user: u64,
+    },
+    /// `tset ID FIRST INTERVAL` (timer_settime(3C)): at most 31, DELAY_MAX and DELAY_MAX
+    TimerSet {
+        timer: u32,
+        first: u64,
+        interval: u64,
+    },
+    /// `tdelete ID` (timer_delete(3C))
+    TimerDelete {
+        timer: u32,
+    },
+    /// `advance N`: from 1 to ADVANCE_MAX
+    Advance {
+        by: u64,
+    },
     /// `interrupt THREAD` (pthread_kill(3C))
     Interrupt {
         thread: Tid,
@@ -212,6 +231,11 @@ pub enum Line {
     Work {
         var: Bytes,
         op: Op,
+        bytes: PieceList,
+    },
+    /// `ncd VAR DATA`
+    Ncd {
+        var: Bytes,
         bytes: PieceList,
     },
     /// `repeat N`

@@ -8,5 +8,11 @@ returns-then-eq c = let spelled = version_spelled c.args.line.now in rw spelled 
 pub returns-then-eq-2 : goal.returns-then-eq-2
 returns-then-eq-2 c = let spelled = version_spelled c.args.line.now in rw spelled (search rules)
 
-pub returns-else-eq-2 : goal.returns-else-eq-2
-returns-else-eq-2 c = let spelled = version_spelled c.args.line.now in rw spelled (search rules)
+pub returns-then-eq-3 : goal.returns-then-eq-3
+returns-then-eq-3 c = let spelled = version_spelled c.args.line.now in rw spelled (search rules)
+
+pub returns-then-eq-4 : goal.returns-then-eq-4
+returns-then-eq-4 c = let spelled = version_spelled c.args.line.now in rw spelled (search rules)
+
+pub returns-else-eq-4 : goal.returns-else-eq-4
+returns-else-eq-4 c = let spelled = version_spelled c.args.line.now in rw spelled (search rules)

@@ -1,4 +1,4 @@
-use Rattle.script_line.specs.declared.keyword.Keyword.TheVariants.{Create, Call, Return, Serve, Revoke, Bind, Unbind, Info, GetParam, SetParam, Cred, TestCancel, Exit, Close, Dup, Attach, Detach, Open, Await, Pipe, Write, Read, PortCreate, Associate, Dissociate, Get, GetN, Send, SendN, Alert, Interrupt, Kill, Fork, Work, Repeat, If, End}
+use Rattle.script_line.specs.declared.keyword.Keyword.TheVariants.{Create, Call, Return, Serve, Revoke, Bind, Unbind, Info, GetParam, SetParam, Cred, TestCancel, Exit, Close, Dup, Attach, Detach, Open, Await, Pipe, Write, Read, PortCreate, Associate, Dissociate, Get, GetN, Send, SendN, Alert, TimerCreate, TimerSet, TimerDelete, Advance, Interrupt, Kill, Fork, Work, Ncd, Repeat, If, End}
 use Rattle.line_reader.proofs.ByKeyword.{at_keyword}
 use Rattle.line_reader.proofs.operands.Operands.line.Goals as goal
 
@@ -92,6 +92,18 @@ returns-in-SendN c = at_keyword c.args.tables.now c.args.process c.args.self.now
 pub returns-in-Alert : goal.returns-in-Alert
 returns-in-Alert c = at_keyword c.args.tables.now c.args.process c.args.self.now c.alert_line.result c.alert_line.new.self _ Alert c.in-Alert.is c.alert_line.ensures
 
+pub returns-in-TimerCreate : goal.returns-in-TimerCreate
+returns-in-TimerCreate c = at_keyword c.args.tables.now c.args.process c.args.self.now c.tcreate_line.result c.tcreate_line.new.self _ TimerCreate c.in-TimerCreate.is c.tcreate_line.ensures
+
+pub returns-in-TimerSet : goal.returns-in-TimerSet
+returns-in-TimerSet c = at_keyword c.args.tables.now c.args.process c.args.self.now c.tset_line.result c.tset_line.new.self _ TimerSet c.in-TimerSet.is c.tset_line.ensures
+
+pub returns-in-TimerDelete : goal.returns-in-TimerDelete
+returns-in-TimerDelete c = at_keyword c.args.tables.now c.args.process c.args.self.now c.tdelete_line.result c.tdelete_line.new.self _ TimerDelete c.in-TimerDelete.is c.tdelete_line.ensures
+
+pub returns-in-Advance : goal.returns-in-Advance
+returns-in-Advance c = at_keyword c.args.tables.now c.args.process c.args.self.now c.advance_line.result c.advance_line.new.self _ Advance c.in-Advance.is c.advance_line.ensures
+
 pub returns-in-Interrupt : goal.returns-in-Interrupt
 returns-in-Interrupt c = at_keyword c.args.tables.now c.args.process c.args.self.now c.interrupt_line.result c.interrupt_line.new.self _ Interrupt c.in-Interrupt.is c.interrupt_line.ensures
 
@@ -103,6 +115,9 @@ returns-in-Fork c = at_keyword c.args.tables.now c.args.process c.args.self.now 
 
 pub returns-in-Work : goal.returns-in-Work
 returns-in-Work c = at_keyword c.args.tables.now c.args.process c.args.self.now c.work_line.result c.work_line.new.self _ Work c.in-Work.is c.work_line.ensures
+
+pub returns-in-Ncd : goal.returns-in-Ncd
+returns-in-Ncd c = at_keyword c.args.tables.now c.args.process c.args.self.now c.ncd_line.result c.ncd_line.new.self _ Ncd c.in-Ncd.is c.ncd_line.ensures
 
 pub returns-in-Repeat : goal.returns-in-Repeat
 returns-in-Repeat c = at_keyword c.args.tables.now c.args.process c.args.self.now c.repeat_line.result c.repeat_line.new.self _ Repeat c.in-Repeat.is c.repeat_line.ensures
