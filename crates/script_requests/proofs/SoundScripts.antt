@@ -82,6 +82,22 @@ getn-fit script of port most least wait (keyword ∷ from ∷ number ∷ words) 
 named-within : {X : Type 0} (f : X → List ℕ) (xs : List X) (n : ℕ) (name : List ℕ) → at_number (map f xs) n ≡ Some name → IsNumberOf (length xs) n
 named-within f xs n name e = let same : length (map f xs) ≡ length xs = length-map xs f in rw same at (at_number-within (map f xs) n name e)
 
+tset-fit :
+    (script : ScriptValue) (of timer first interval : ℕ) (words : List (List ℕ)) →
+    SpellsLine (tables_of script) of (line.TimerSet timer first interval) words → (first ≤ 1000000000) × (interval ≤ 1000000000)
+tset-fit script of timer first interval [] s = absurd s
+tset-fit script of timer first interval (keyword ∷ []) s = absurd s.1
+tset-fit script of timer first interval (keyword ∷ id ∷ []) s = absurd s.1.1
+tset-fit script of timer first interval (keyword ∷ id ∷ delay ∷ []) s = absurd s.1.1.1
+tset-fit script of timer first interval (keyword ∷ id ∷ delay ∷ period ∷ words) s = (s.1.1.0.1, s.1.1.1.0.1)
+
+advance-fit :
+    (script : ScriptValue) (of by : ℕ) (words : List (List ℕ)) →
+    SpellsLine (tables_of script) of (line.Advance by) words → (1 ≤ by) × (by ≤ 10000)
+advance-fit script of by [] s = absurd s
+advance-fit script of by (keyword ∷ []) s = absurd s.1
+advance-fit script of by (keyword ∷ number ∷ words) s = (s.1.0.0, s.1.0.1)
+
 interrupt-fit :
     (script : ScriptValue) (of : ℕ) (thread : Tid) (words : List (List ℕ)) →
     SpellsLine (tables_of script) of (line.Interrupt thread) words → IsNumberOf (length script.threads) thread.0
@@ -107,6 +123,8 @@ line-fit : (script : ScriptValue) (of : ℕ) (x : Line) (words : List (List ℕ)
 line-fit script of (line.Create var entry cookie attrs) words s = create-fit script of var entry cookie attrs words s
 line-fit script of (line.Read var fd most) words s = read-fit script of var fd most words s
 line-fit script of (line.GetN port most least wait) words s = getn-fit script of port most least wait words s
+line-fit script of (line.TimerSet timer first interval) words s = tset-fit script of timer first interval words s
+line-fit script of (line.Advance by) words s = advance-fit script of by words s
 line-fit script of (line.Interrupt thread) words s = interrupt-fit script of thread words s
 line-fit script of (line.Kill process) words s = kill-fit script of process words s
 line-fit script of (line.Fork child) words s = fork-fit script of child words s

@@ -3,7 +3,7 @@ use Rattle.std.specs.Prelude.{ℕ, Bool, true, false, List, [], ◌∷◌, ◌++
 use Rattle.std.specs.List.{join_with_byte}
 use Rattle.dk_base.specs.Words.{errno_name}
 use Rattle.script_requests.specs.Types.{Answer, Attrs, DoorInfo, Errno, EventRec, Fd, Pid, Src}
-use Rattle.dk_base.specs.declared.object.Src.TheVariants.{Fd as FromFd, User, Alert}
+use Rattle.dk_base.specs.declared.object.Src.TheVariants.{Fd as FromFd, User, Alert, Timer}
 use Rattle.dk_base.specs.declared.answer.Answer.TheVariants.{Wait, WaitCall, Done, NewFd, TwoFds, Count, Available, Param, Info, Client, Child, Cancel, Data, Entered, EnteredNotice, EnterFailed, Results, OneEvent, Events, Errors, Failure}
 use Rattle.script_line.specs.Words.{attribute_words, poll_word, value_word}
 use Rattle.script_lang.specs.Words.{ScriptValue}
@@ -57,6 +57,8 @@ abbrev pub source_text : Src → EventRec → List ℕ
 source_text FromFd event = codes "fd:" ++ decimal event.object ++ codes ":" ++ poll_word (record { 0 = event.events })
 source_text User event = codes "user:0:" ++ decimal event.events
 source_text Alert event = codes "alert:0:" ++ decimal event.events
+-- the timer's id, and how often it fired
+source_text Timer event = codes "timer:" ++ decimal event.object ++ codes ":" ++ decimal event.events
 
 abbrev pub event_text : EventRec → List ℕ
 event_text event = source_text event.source event ++ codes ":" ++ decimal event.user

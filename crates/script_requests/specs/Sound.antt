@@ -2,12 +2,12 @@
 use Rattle.std.specs.Prelude.{ℕ, ◌≡◌, ◌<◌, ◌≤◌, Some, length, slice_get, All}
 use Rattle.dk_base.specs.ByNumber.{at_number}
 use Rattle.script_lang.specs.Types.{Line}
-use Rattle.script_line.specs.declared.line.Line.TheVariants.{Create, Read, GetN, Interrupt, Kill, Fork}
+use Rattle.script_line.specs.declared.line.Line.TheVariants.{Create, Read, GetN, TimerSet, Advance, Interrupt, Kill, Fork}
 use Rattle.script_requests.specs.Types.{Pid, Procedure, ScriptProcess, ScriptThread}
 use Rattle.script_lang.specs.Words.{ScriptValue, limit_at}
 use Rattle.script_requests.specs.DeclaredNames.{IsThread, IsProcess, IsDeclaredThread}
 use Rattle.script_requests.specs.Trees.{IsClosed}
-use Rattle.dk_base.specs.declared.limits.TheConstants.{DATA_MAX, DESCRIPTORS_MAX, ANSWER_ITEMS_MAX, PROCESSES_MAX, THREADS_MAX, BUDGET_MAX}
+use Rattle.dk_base.specs.declared.limits.TheConstants.{ADVANCE_MAX, DATA_MAX, DELAY_MAX, DESCRIPTORS_MAX, ANSWER_ITEMS_MAX, PROCESSES_MAX, THREADS_MAX, BUDGET_MAX}
 
 -- an entry is that of a procedure of this process
 pub record IsEntryOf (script : ScriptValue) (process entry : ℕ) : Type 0 where
@@ -27,6 +27,8 @@ abbrev pub IsFitLine : ScriptValue → ℕ → Line → Type 0
 IsFitLine script of (Create var entry cookie attrs) = IsEntryOf script of entry
 IsFitLine script of (Read var fd most) = (1 ≤ most) × (most ≤ DATA_MAX)
 IsFitLine script of (GetN port most least wait) = most ≤ ANSWER_ITEMS_MAX
+IsFitLine script of (TimerSet timer first interval) = (first ≤ DELAY_MAX) × (interval ≤ DELAY_MAX)
+IsFitLine script of (Advance by) = (1 ≤ by) × (by ≤ ADVANCE_MAX)
 IsFitLine script of (Interrupt thread) = IsThread script thread.0
 IsFitLine script of (Kill process) = IsProcess script process.0
 -- a process forks its own children

@@ -76,6 +76,7 @@ vars_of (line.Pipe reading writing) = reading ∷ writing ∷ []
 vars_of (line.Read var fd most) = var ∷ []
 vars_of (line.PortCreate var) = var ∷ []
 vars_of (line.Work var op bytes) = var ∷ []
+vars_of (line.Ncd var bytes) = var ∷ []
 vars_of line = []
 
 -- the values that an answer gives, in order

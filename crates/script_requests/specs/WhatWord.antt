@@ -1,7 +1,7 @@
 -- The word by which a trace shows the kernel entry, or the end of a wait, that an event is.
 use Rattle.std.specs.Prelude.{ℕ, List, codes}
 use Rattle.script_requests.specs.Types.{What}
-use Rattle.dk_base.specs.declared.event.What.TheVariants.{Create, Call, Return, Revoke, Bind, Unbind, Info, GetParam, SetParam, Cred, TestCancel, Close, Dup, Attach, Detach, Open, Await, Pipe, Write, Read, PortCreate, Associate, Dissociate, Get, GetN, Send, SendN, Alert, Interrupt, Kill, Exit, Fork, Work, Accept, Collect, Got, Found, Done, Woken}
+use Rattle.dk_base.specs.declared.event.What.TheVariants.{Create, Call, Return, Revoke, Bind, Unbind, Info, GetParam, SetParam, Cred, TestCancel, Close, Dup, Attach, Detach, Open, Await, Pipe, Write, Read, PortCreate, Associate, Dissociate, Get, GetN, Send, SendN, Alert, TimerCreate, TimerSet, TimerDelete, Advance, Interrupt, Kill, Exit, Fork, Work, Ncd, Accept, Collect, Got, Found, Done, Woken}
 
 abbrev pub what_word : What → List ℕ
 what_word Create = codes "create"
@@ -32,11 +32,16 @@ what_word GetN = codes "getn"
 what_word Send = codes "send"
 what_word SendN = codes "sendn"
 what_word Alert = codes "alert"
+what_word TimerCreate = codes "tcreate"
+what_word TimerSet = codes "tset"
+what_word TimerDelete = codes "tdelete"
+what_word Advance = codes "advance"
 what_word Interrupt = codes "interrupt"
 what_word Kill = codes "kill"
 what_word Exit = codes "exit"
 what_word Fork = codes "fork"
 what_word Work = codes "work"
+what_word Ncd = codes "ncd"
 what_word Accept = codes "accept"
 what_word Collect = codes "collect"
 what_word Got = codes "got"

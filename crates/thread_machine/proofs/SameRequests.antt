@@ -163,8 +163,11 @@ spelled-same slots values (line.SendN events user ports) tables process words h 
     (fds-same slots values ports h (sendn-ports events user ports tables process words s))
 spelled-same slots values (line.Alert port mode events user) tables process words h s =
     ap (λ (x : Fd). request.Alert x mode events user) (fd-same slots values port h (fd-first (codes "alert") port _ words s))
+spelled-same slots values (line.TimerCreate port user) tables process words h s =
+    ap (λ (x : Fd). request.TimerCreate x user) (fd-same slots values port h (fd-first (codes "tcreate") port _ words s))
 spelled-same slots values (line.Work var op bytes) tables process words h s =
     ap (λ (xs : List ℕ). request.Work op xs) (data-same slots values bytes h)
+spelled-same slots values (line.Ncd var bytes) tables process words h s = ap request.Ncd (data-same slots values bytes h)
 spelled-same slots values x tables process words h s = refl
 
 pub request-same :

@@ -78,6 +78,7 @@ spelled-vars (line.Pipe reading writing) tables process words k h =
 spelled-vars (line.Read var fd most) tables process words k h = one-short var k (var-short (codes "read") var _ words h)
 spelled-vars (line.PortCreate var) tables process words k h = one-short var k (var-short (codes "pcreate") var _ words h)
 spelled-vars (line.Work var op bytes) tables process words k h = one-short var k (var-short (codes "work") var _ words h)
+spelled-vars (line.Ncd var bytes) tables process words k h = one-short var k (var-short (codes "ncd") var _ words h)
 spelled-vars x tables process words k h = tt
 
 pub vars-short : (x : Line) (k : ℕ) → IsSpelledLine x → IsShort (slice_get (vars_of x) k)

@@ -34,7 +34,8 @@ pub fn first_var(line: &Line) -> Option<&[u8]>
         | Line::Open { var, .. }
         | Line::Read { var, .. }
         | Line::PortCreate { var }
-        | Line::Work { var, .. } => Some(var.slice()),
+        | Line::Work { var, .. }
+        | Line::Ncd { var, .. } => Some(var.slice()),
         Line::Pipe { reading, .. } => Some(reading.slice()),
         _ => None,
     }

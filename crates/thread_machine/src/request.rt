@@ -135,12 +135,30 @@ impl Variables {
                 events: *events,
                 user: *user,
             },
+            Line::TimerCreate { port, user } => Request::TimerCreate {
+                port: self.fd(port),
+                user: *user,
+            },
+            Line::TimerSet {
+                timer,
+                first,
+                interval,
+            } => Request::TimerSet {
+                timer: *timer,
+                first: *first,
+                interval: *interval,
+            },
+            Line::TimerDelete { timer } => Request::TimerDelete { timer: *timer },
+            Line::Advance { by } => Request::Advance { by: *by },
             Line::Interrupt { thread } => Request::Interrupt { thread: *thread },
             Line::Kill { process } => Request::Kill { process: *process },
             Line::Fork { child } => Request::Fork { child: *child },
             Line::Work { op, bytes, .. } => Request::Work {
                 op: *op,
                 bytes: self.data(alloc, bytes.slice())?,
+            },
+            Line::Ncd { bytes, .. } => Request::Ncd {
+                line: self.data(alloc, bytes.slice())?,
             },
             Line::Exit | Line::Repeat { .. } | Line::If { .. } | Line::End => Request::Exit,
         })

@@ -89,6 +89,10 @@ fn push_source(text: &mut Bytes, event: EventRec) -> Result<(), NoMemory>
         }
         Src::User => push_counted(text, "user:0:", u64::from(event.events)),
         Src::Alert => push_counted(text, "alert:0:", u64::from(event.events)),
+        Src::Timer => {
+            push_counted(text, "timer:", u64::from(event.object))?;
+            push_counted(text, ":", u64::from(event.events))
+        }
     }
 }
 

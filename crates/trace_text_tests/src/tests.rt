@@ -45,7 +45,7 @@ fn shows(alloc: Global, script: &Script, what: What, answer: Answer, expected: &
 }
 
 /// The word of each kind of event, where it fails.
-const WORDS: [(What, &str); 39] = [
+const WORDS: [(What, &str); 44] = [
     (What::Create, "7 s c create EINTR"),
     (What::Call, "7 s c call EINTR"),
     (What::Return, "7 s c return EINTR"),
@@ -74,11 +74,16 @@ const WORDS: [(What, &str); 39] = [
     (What::Send, "7 s c send EINTR"),
     (What::SendN, "7 s c sendn EINTR"),
     (What::Alert, "7 s c alert EINTR"),
+    (What::TimerCreate, "7 s c tcreate EINTR"),
+    (What::TimerSet, "7 s c tset EINTR"),
+    (What::TimerDelete, "7 s c tdelete EINTR"),
+    (What::Advance, "7 s c advance EINTR"),
     (What::Interrupt, "7 s c interrupt EINTR"),
     (What::Kill, "7 s c kill EINTR"),
     (What::Exit, "7 s c exit EINTR"),
     (What::Fork, "7 s c fork EINTR"),
     (What::Work, "7 s c work EINTR"),
+    (What::Ncd, "7 s c ncd EINTR"),
     (What::Accept, "7 s c accept EINTR"),
     (What::Collect, "7 s c collect EINTR"),
     (What::Got, "7 s c got EINTR"),
@@ -299,8 +304,9 @@ fn port_answers<R: Abort>(rt: &R, alloc: Global, script: &Script) -> Result<(), 
         port_event(Src::Fd, 3, 29),
         port_event(Src::User, 0, 2),
         port_event(Src::Alert, 0, 1),
+        port_event(Src::Timer, 31, u32::MAX),
     ];
-    let text = "7 s c got ok 3 fd:3:in+out+err+hup:5 user:0:2:5 alert:0:1:5";
+    let text = "7 s c got ok 4 fd:3:in+out+err+hup:5 user:0:2:5 alert:0:1:5 timer:31:4294967295:5";
     assert!(rt; shows(alloc, script, What::Got, many_events(alloc, &told)?, text));
     let text = "7 s c getn ok 0";
     assert!(rt; shows(alloc, script, What::GetN, many_events(alloc, &[])?, text));

@@ -4,7 +4,7 @@ use Rattle.std.specs.Prelude.{All, map}
 use Rattle.std.proofs.lemmas.List.Elements.{All-head, All-tail}
 use Rattle.dk_base.specs.declared.limits.TheConstants.{THREADS_MAX}
 use Rattle.written_kernel.specs.Types.{Event}
-use Rattle.written_kernel.specs.Words.{IsOpening, State, Turn, event_of, events_of, is_runnable, opening, state_after, with_new_thread}
+use Rattle.written_kernel.specs.Words.{IsOpening, State, Turn, events_with_replies, is_runnable, opening, state_after, with_new_thread}
 use Rattle.written_kernel.specs.Opening.IsOpening.{thread}
 use Rattle.written_kernel.proofs.Steps.{events-step}
 use Rattle.written_kernel.proofs.Opening.{length-with_new_thread, opening_events}
@@ -12,7 +12,7 @@ use Rattle.script_requests.specs.Types.{ScriptThread}
 use Rattle.script_lang.specs.Words.{ScriptValue as Script}
 use Rattle.script_requests.specs.Words.{Frame, IsProcess, IsSound, IsSoundThread, first_frame, frame_after, frame_from, frame_of}
 use Rattle.written_script.proofs.Children.{IsFresh, IsFresh-state_with_children, events-with_children, state_with_children}
-use Rattle.written_script.specs.ScriptRuns.{History, first_history, request_at_turn, history_after, run, run_from, AreRunnableFrom, turns_from, turns_of, threads_of_events, opening_of, with_script_threads, limit_of, thread_of_event}
+use Rattle.written_script.specs.ScriptRuns.{History, event_at_turn, first_history, request_at_turn, history_after, run, run_from, AreRunnableFrom, turns_from, turns_of, threads_of_events, opening_of, with_script_threads, limit_of, thread_of_event}
 
 pub run_from-append :
     (script : Script) (ts : List ℕ) (h : History) (t : ℕ) →
@@ -38,19 +38,19 @@ pub state_after-turns_of :
 unfolding run
 state_after-turns_of script ts = state_after-turns_from script ts (first_history script)
 
-events_of-turns_from :
+events-turns_from :
     (script : Script) (ts : List ℕ) (h : History) →
-    (run_from script h ts).events ≡ h.events ++ events_of h.state (turns_from script h ts)
-events_of-turns_from script [] h = sym (append-nil h.events)
-events_of-turns_from script (u ∷ us) h =
+    (run_from script h ts).events ≡ h.events ++ events_with_replies h.state h.asked (turns_from script h ts)
+events-turns_from script [] h = sym (append-nil h.events)
+events-turns_from script (u ∷ us) h =
     let next = history_after script h u
-    in events_of-turns_from script us next
-    ∙ append_assoc h.events (event_of h.state u (request_at_turn script h u) ∷ []) (events_of next.state (turns_from script next us))
+    in events-turns_from script us next
+    ∙ append_assoc h.events (event_at_turn script h u ∷ []) (events_with_replies next.state next.asked (turns_from script next us))
 
-pub events_of-turns_of :
-    (script : Script) (ts : List ℕ) → (run script ts).events ≡ events_of (opening_of script) (turns_of script ts)
+pub events-turns_of :
+    (script : Script) (ts : List ℕ) → (run script ts).events ≡ events_with_replies (opening_of script) [] (turns_of script ts)
 unfolding run
-events_of-turns_of script ts = events_of-turns_from script ts (first_history script)
+events-turns_of script ts = events-turns_from script ts (first_history script)
 
 length-turns_from : (script : Script) (ts : List ℕ) (h : History) → length (turns_from script h ts) ≡ length ts
 length-turns_from script [] h = refl

@@ -4,10 +4,10 @@ use Rattle.std.specs.Prelude.{nat_le, slice_get, if◌then◌else◌, is_none}
 use Rattle.std.specs.Option.{option_map_or}
 use Rattle.std.proofs.lemmas.Bool.{le-leb}
 use Rattle.std.proofs.Math.Seq.{take-append_seam, drop-append_seam}
-use Rattle.written_kernel.specs.Words.{State, event_of, is_runnable, least_among, least_or, least_runnable}
+use Rattle.written_kernel.specs.Words.{State, is_runnable, least_among, least_or, least_runnable}
 use Rattle.script_lang.specs.Words.{ScriptValue}
 use Rattle.written_script.specs.Plays.{AreLeastFrom, IsWholePlay, IsRefusedPlay}
-use Rattle.written_script.specs.ScriptRuns.{History, first_history, request_at_turn, history_after, run, run_from, AreRunnableFrom, IsAllowed, least_runnable_turns, tid_number, scheduled_turns, Refusal, refusal_from, refusal, turns_before, turns_of_play, is_over}
+use Rattle.written_script.specs.ScriptRuns.{History, event_at_turn, first_history, request_at_turn, history_after, run, run_from, AreRunnableFrom, IsAllowed, least_runnable_turns, tid_number, scheduled_turns, Refusal, refusal_from, refusal, turns_before, turns_of_play, is_over}
 
 -- the least runnable thread is runnable
 least-is_runnable : (m : State) (n t : ℕ) → least_among m n ≡ Some t → is_runnable m t ≡ true
@@ -45,7 +45,7 @@ history_events-run_from :
     length (run_from script h ts).events ≡ length h.events + length ts
 history_events-run_from script [] h = omega arith
 history_events-run_from script (t ∷ ts) h =
-    let one : length (history_after script h t).events ≡ length h.events + 1 = length-append h.events (event_of h.state t (request_at_turn script h t) ∷ [])
+    let one : length (history_after script h t).events ≡ length h.events + 1 = length-append h.events (event_at_turn script h t ∷ [])
     in let rest : length (run_from script (history_after script h t) ts).events ≡ length (history_after script h t).events + length ts =
     history_events-run_from script ts (history_after script h t)
     in omega arith

@@ -1,5 +1,5 @@
 -- Each turn of a sound script is one that the kernel takes, and whatever its runs name is declared.
-use Rattle.std.proofs.Common.{◌≡◌, ℕ, ◌+◌, ◌≤◌, ◌<◌, List, [], ◌∷◌, ◌++◌, Option, Some, None, IsSome, Bool, true, false, if◌then◌else◌, length, map, option_map, unwrap_or, arith, refl, sym, ap, ◌∙◌, subst, append-nil, append_assoc}
+use Rattle.std.proofs.Common.{◌≡◌, ℕ, ◌+◌, ◌*◌, ◌≤◌, ◌<◌, List, [], ◌∷◌, ◌++◌, Option, Some, None, IsSome, Bool, true, false, if◌then◌else◌, length, map, option_map, unwrap_or, arith, refl, sym, ap, ◌∙◌, subst, append-nil, append_assoc}
 use Rattle.std.specs.Prelude.{All}
 use Rattle.std.proofs.lemmas.Bool.{false≢true}
 use Rattle.std.proofs.lemmas.Bool.Decides.{nat_tests}
@@ -9,13 +9,17 @@ use Rattle.dk_base.specs.ByNumber.{at_number}
 use Rattle.dk_base.specs.declared.answer.Answer.TheVariants as answer
 use Rattle.written_kernel.specs.Types.{Answer, Pid, Process, Request, Thread}
 use Rattle.kernel_records.specs.Words.{new_thread_where, parent_in, process_in, state_in}
-use Rattle.written_kernel.specs.Words.{IsRun, MayTurn, State, bound_of, can_go_on, event_of, is_runnable, is_running, is_unborn_process, output_at, parent_of, process_of, state_of, step, thread_of, with_new_thread, with_output}
+use Rattle.written_kernel.specs.Words.{IsRun, MayTurn, State, bound_of, can_go_on, is_runnable, is_running, is_unborn_process, output_at, parent_of, process_of, shown_answer, state_of, step, thread_of, with_new_thread, with_output}
 use Rattle.kernel_records.proofs.Lists.{at_number-map, numbered_there, numbered_within, same_numbered}
+use Rattle.written_kernel.proofs.Runs.{process_of-state_after}
 use Rattle.written_kernel.proofs.Opening.{bound_of-opening, next_thread, object_at-opening, opened}
 use Rattle.written_kernel.proofs.Steps.{ProcessIdentity, events-step, process_identity, process_of-step, processes-step, step-keeps, threads-step}
 use Rattle.kernel_invariant.specs.Invariant.{Invariant}
 use Rattle.kernel_invariant.proofs.Events.{step_keeps}
 use Rattle.kernel_invariant.proofs.Openings.{opening_keeps}
+use Rattle.channel_invariant.specs.Channels.{AreChannels}
+use Rattle.channel_invariant.proofs.Acts.{step_fits}
+use Rattle.channel_invariant.proofs.Runs.{opening_fits}
 use Rattle.script_lang.specs.Types.{Line}
 use Rattle.script_line.specs.declared.line.Line.TheVariants as line
 use Rattle.script_requests.specs.Types.{Procedure, ScriptThread}
@@ -25,14 +29,14 @@ use Rattle.script_requests.specs.Steps.BodyStep.{Do, When}
 use Rattle.script_requests.proofs.Elements.{All-at_number, All-slice_get, at_number-within}
 use Rattle.script_requests.proofs.SoundFrames.{AnswerEntersLines, AreSteps, EntersLines, IsFrame, IsStep, first_frame-frame, frame_after-frame}
 use Rattle.written_script.specs.DeclaredRuns.{IsDeclared, IsDeclaredDoor}
-use Rattle.written_script.specs.ScriptRuns.{History, with_script_threads, opening_of, first_history, request_at_turn, history_after, run, run_from, AreRunnableFrom, IsAllowed, turns_from, turns_of}
+use Rattle.written_script.specs.ScriptRuns.{History, event_at_turn, with_script_threads, opening_of, first_history, reply_at_turn, request_at_turn, history_after, run, run_from, AreRunnableFrom, IsAllowed, turns_from, turns_of}
 use Rattle.written_script.proofs.DeclaredObjects.{IsKnownNotice, IsKnownName, no_rows-known}
 use Rattle.written_script.proofs.KnownStates.{IsKnown, IsKnownAnswer, IsKnownCall, answer-declared}
 use Rattle.written_script.proofs.KnownActs.{MakesDeclared}
 use Rattle.written_script.proofs.DeclaredStates.{AsksDeclared, IsKnownStep, step-known, root-declared, waiting-declared}
-use Rattle.written_script.proofs.FitRequests.{HasThreads, request-fit}
+use Rattle.written_script.proofs.FitRequests.{HasThreads, IsEarly, request-fit}
 use Rattle.written_script.proofs.Children.{IsFresh-state_with_children, parents-state_with_children, state_with_children}
-use Rattle.written_script.proofs.Histories.{IsOpening-opening_of, events-opening_of, events-run, frame_of-append}
+use Rattle.written_script.proofs.Histories.{IsOpening-opening_of, events-opening_of, events-run, frame_of-append, state_after-turns_of}
 
 -- what a fit line makes is declared
 
@@ -68,6 +72,7 @@ pub record IsKnownHistory (script : ScriptValue) (h : History) : Type 0 where
   pub known : IsKnown script h.state
   pub events : All (IsDeclaredEvent script) h.events
   pub invariant : Invariant h.state
+  pub channels : AreChannels h.state
   -- the lines of each thread's frame are of a body of its process
   pub frames : (u : ℕ) → IsThread script u → IsFrame (IsFitLine script (process_of h.state u)) (frame_of script u h.events)
 
@@ -117,27 +122,37 @@ HasThreads-history_after script h t has =
       parents = λ child x parent there e. parent_of-step h.state t child (request_at_turn script h t) ∙ has.parents child x parent there e;
     }
 
--- the bytes of a task name nothing
+-- the bytes of a task name nothing, nor do those of a reply
 declared-shown : (script : ScriptValue) (output : Option (List ℕ)) (a : Answer) → IsDeclaredAnswer script a → IsDeclaredAnswer script (with_output output a)
 declared-shown script None a h = h
 declared-shown script (Some bytes) a h = tt
 
+-- the clock moves by so much in an event, at most
+early-channels : (m : State) → AreChannels m → m.events ≤ 100000 → IsEarly m
+early-channels m channels few =
+    let early : m.channels.timers.clock ≤ 10000 * m.events = channels.early
+    in let last : m.channels.timers.clock ≤ 1000000000 = omega (arith, few, early)
+    in last
+
 -- each runnable thread's turn is one that the kernel takes
 pub may_turn :
     (script : ScriptValue) (h : History) (t : ℕ) → IsSound script → IsKnownHistory script h → is_runnable h.state t ≡ true →
-    h.state.events < 1000000 → MayTurn h.state t (request_at_turn script h t)
+    h.state.events ≤ 100000 → MayTurn h.state t (request_at_turn script h t)
 may_turn script h t sound kept can few = by_test (is_running h.state t) refl
   where
+    small : h.state.events < 1000000
+    small = omega (arith, few)
+
     by_test :
         (b : Bool) → is_running h.state t ≡ b →
         MayTurn h.state t (if b then Some (request_after script t h.events) else None)
     by_test true running =
         record {
           running = running;
-          fit = request-fit script h.state t (frame_of script t h.events) kept.has (kept.frames t (history_after-thread script h t kept can));
-          few = few;
+          fit = request-fit script h.state t (frame_of script t h.events) kept.has (early-channels h.state kept.channels few) (kept.frames t (history_after-thread script h t kept can));
+          few = small;
         }
-    by_test false waits = record { runnable = can; waits = waits; few = few }
+    by_test false waits = record { runnable = can; waits = waits; few = small }
 
 -- what a thread of a process enters is a procedure of that process
 
@@ -172,22 +187,23 @@ frames-history_after :
     (script : ScriptValue) (h : History) (t u : ℕ) → IsSound script → IsKnownHistory script h → is_runnable h.state t ≡ true → IsThread script u →
     IsFrame (IsFitLine script (process_of (history_after script h t).state u)) (frame_of script u (history_after script h t).events)
 frames-history_after script h t u sound kept can thread =
-    rw (frame_of-append script u h.events (event_of h.state t (request_at_turn script h t)), process_of-step h.state t u (request_at_turn script h t))
-    (frame_after-frame (IsFitLine script (process_of h.state u)) script u (frame_of script u h.events) (event_of h.state t (request_at_turn script h t))
+    rw (frame_of-append script u h.events (event_at_turn script h t), process_of-step h.state t u (request_at_turn script h t))
+    (frame_after-frame (IsFitLine script (process_of h.state u)) script u (frame_of script u h.events) (event_at_turn script h t)
     (λ same. own (grind (arith, nat_tests)))
     (kept.frames u thread))
   where
-    own : t ≡ u → AnswerEntersLines (IsFitLine script (process_of h.state u)) script (event_of h.state t (request_at_turn script h t)).answer
+    own : t ≡ u → AnswerEntersLines (IsFitLine script (process_of h.state u)) script (event_at_turn script h t).answer
     own same =
         subst
-        (λ v. AnswerEntersLines (IsFitLine script (process_of h.state v)) script (event_of h.state t (request_at_turn script h t)).answer)
+        (λ v. AnswerEntersLines (IsFitLine script (process_of h.state v)) script (event_at_turn script h t).answer)
         same
+        (shown-enters script (process_of h.state t) (reply_at_turn script h t) (shown_answer h.state t (step h.state t (request_at_turn script h t)).answer)
         (shown-enters script (process_of h.state t) (output_at (state_of h.state t)) (step h.state t (request_at_turn script h t)).answer
-        (answer-enters script (process_of h.state t) (step h.state t (request_at_turn script h t)).answer sound (turn-known script h t kept can).answer))
+        (answer-enters script (process_of h.state t) (step h.state t (request_at_turn script h t)).answer sound (turn-known script h t kept can).answer)))
 
 pub IsKnownHistory-history_after :
     (script : ScriptValue) (h : History) (t : ℕ) → IsSound script → IsKnownHistory script h → is_runnable h.state t ≡ true →
-    h.state.events < 1000000 → IsKnownHistory script (history_after script h t)
+    h.state.events ≤ 100000 → IsKnownHistory script (history_after script h t)
 IsKnownHistory-history_after script h t sound kept can few =
     let thread : IsThread script t = history_after-thread script h t kept can
     in let after = turn-known script h t kept can
@@ -199,16 +215,18 @@ IsKnownHistory-history_after script h t sound kept can few =
           All-push
           (IsDeclaredEvent script)
           h.events
-          (event_of h.state t (request_at_turn script h t))
+          (event_at_turn script h t)
           kept.events
           (record {
             thread = thread;
             root = root-declared script h.state t kept.known thread;
             answer =
-                declared-shown script (output_at (state_of h.state t)) (step h.state t (request_at_turn script h t)).answer
-                (answer-declared script (process_of h.state t) (step h.state t (request_at_turn script h t)).answer after.answer);
+                declared-shown script (reply_at_turn script h t) (shown_answer h.state t (step h.state t (request_at_turn script h t)).answer)
+                (declared-shown script (output_at (state_of h.state t)) (step h.state t (request_at_turn script h t)).answer
+                (answer-declared script (process_of h.state t) (step h.state t (request_at_turn script h t)).answer after.answer));
           });
       invariant = (step_keeps h.state t (request_at_turn script h t) kept.invariant (may_turn script h t sound kept can few)).invariant;
+      channels = step_fits h.state t (request_at_turn script h t) kept.channels (may_turn script h t sound kept can few);
       frames = λ u known. frames-history_after script h t u sound kept can known;
     }
 
@@ -321,13 +339,14 @@ IsKnownHistory-first_history script sound =
       };
       events = All-nil (IsDeclaredEvent script);
       invariant = opening_keeps (opening_of script) (IsOpening-opening_of script sound);
+      channels = opening_fits (opening_of script) (IsOpening-opening_of script sound);
       frames = λ u thread. first-frame script u sound;
     }
 
 -- whole runs
 
 run_from-known :
-    (script : ScriptValue) (ts : List ℕ) (h : History) → IsSound script → IsKnownHistory script h → h.state.events + length ts < 1000000 →
+    (script : ScriptValue) (ts : List ℕ) (h : History) → IsSound script → IsKnownHistory script h → h.state.events + length ts ≤ 100000 →
     AreRunnableFrom script h ts → IsKnownHistory script (run_from script h ts)
 run_from-known script [] h sound kept few can = kept
 run_from-known script (t ∷ ts) h sound kept few can =
@@ -338,7 +357,7 @@ run_from-known script (t ∷ ts) h sound kept few can =
     can.1
 
 -- so few turns are allowed
-few_turns : (script : ScriptValue) (ts : List ℕ) → IsSound script → IsAllowed script ts → (opening_of script).events + length ts < 1000000
+few_turns : (script : ScriptValue) (ts : List ℕ) → IsSound script → IsAllowed script ts → (opening_of script).events + length ts ≤ 100000
 few_turns script ts sound allowed =
     let none : (opening_of script).events ≡ 0 = events-opening_of script
     in let within : length ts ≤ script.budget = allowed.within
@@ -370,12 +389,12 @@ run-may_turn script ts t sound allowed can =
 
 turns_from-run :
     (script : ScriptValue) (ts : List ℕ) (h : History) → IsSound script → IsKnownHistory script h →
-    h.state.events + length ts < 1000000 → AreRunnableFrom script h ts → IsRun h.state (turns_from script h ts)
+    h.state.events + length ts ≤ 100000 → AreRunnableFrom script h ts → IsRun h.state (turns_from script h ts)
 turns_from-run script [] h sound kept few can = tt
 turns_from-run script (t ∷ ts) h sound kept few can =
     let one : (history_after script h t).state.events ≡ h.state.events + 1 = events-step h.state t (request_at_turn script h t)
-    in let left : h.state.events < 1000000 = omega arith
-    in let rest : (history_after script h t).state.events + length ts < 1000000 = omega arith
+    in let left : h.state.events ≤ 100000 = omega arith
+    in let rest : (history_after script h t).state.events + length ts ≤ 100000 = omega arith
     in (
       may_turn script h t sound kept can.0 left,
       turns_from-run script ts (history_after script h t) sound (IsKnownHistory-history_after script h t sound kept can.0 left) rest can.1,
@@ -391,3 +410,20 @@ turns_of-run script ts sound allowed =
     (IsKnownHistory-first_history script sound)
     (few_turns script ts sound allowed)
     allowed.runnable
+
+-- a thread of a run is of the process that the script says
+pub process_of-run :
+    (script : ScriptValue) (ts : List ℕ) (t : ℕ) → IsSound script → IsThread script t →
+    option_map process_of_declared (at_number script.threads t) ≡ Some (process_of (run script ts).state t)
+process_of-run script ts t sound thread = by_thread (at_number script.threads t) refl (declared_thread script t thread)
+  where
+    same : process_of (run script ts).state t ≡ process_of (opening_of script) t
+    same =
+        ap (λ (m : State). process_of m t) (sym (state_after-turns_of script ts))
+        ∙ process_of-state_after (opening_of script) (turns_of script ts) t
+
+    by_thread :
+        (o : Option ScriptThread) → at_number script.threads t ≡ o → IsSome o →
+        option_map process_of_declared o ≡ Some (process_of (run script ts).state t)
+    by_thread None e some = absurd (false≢true some)
+    by_thread (Some x) e some = ap Some (sym (same ∙ process_of-opening_of script t x sound e))

@@ -2,7 +2,7 @@
 use Rattle.std.specs.Prelude.{ℕ, ◌≡◌, ◌≤◌, ◌||◌, List, [], ◌∷◌, ◌++◌, Option, Some, None, Bool, true, is_none, zero, suc, ◌+◌, ◌-◌, length, map, take, nat_le, if◌then◌else◌}
 use Rattle.std.specs.Option.{option_map_or}
 use Rattle.written_kernel.specs.Types.{Event, Pid, Request, Tid}
-use Rattle.written_kernel.specs.Words.{State, Turn, event_of, is_runnable, is_running, least_runnable, opening, step, with_child, with_new_thread}
+use Rattle.written_kernel.specs.Words.{AskedLine, State, Turn, asked_with, event_of, is_runnable, is_running, least_runnable, line_in, opening, process_of, reply_after, step, with_child, with_new_thread, with_reply}
 use Rattle.script_requests.specs.Types.{ScriptProcess, ScriptThread}
 use Rattle.script_lang.specs.Words.{ScriptValue}
 use Rattle.script_requests.specs.Words.{request_after}
@@ -29,24 +29,38 @@ with_children m before (x ∷ xs) = with_children (with_parent m (before + 1) x.
 abbrev pub opening_of : ScriptValue → State
 opening_of script = with_script_threads (with_children (opening (map limit_of script.processes)) 0 script.processes) script.threads
 
--- a state with the events that led to it
+-- a state with the events that led to it, and the lines that processes asked their caches
 pub record History : Type 0 where
   pub state : State
   pub events : List Event
+  pub asked : List AskedLine
 
 abbrev pub first_history : ScriptValue → History
-first_history script = record { state = opening_of script; events = [] }
+first_history script = record { state = opening_of script; events = []; asked = [] }
 
 -- a Running thread asks; another thread's turn ends its wait
 abbrev pub request_at_turn : ScriptValue → History → ℕ → Option Request
 request_at_turn script h t = if is_running h.state t then Some (request_after script t h.events) else None
+
+-- the line that it asks its process's cache, if it asks one
+abbrev pub line_at_turn : ScriptValue → History → ℕ → Option (List ℕ)
+line_at_turn script h t = line_in (request_at_turn script h t)
+
+-- what is replied to it
+abbrev pub reply_at_turn : ScriptValue → History → ℕ → Option (List ℕ)
+reply_at_turn script h t = reply_after h.asked (process_of h.state t) (line_at_turn script h t)
+
+-- the event of a turn, with the bytes of a reply
+abbrev pub event_at_turn : ScriptValue → History → ℕ → Event
+event_at_turn script h t = with_reply (reply_at_turn script h t) (event_of h.state t (request_at_turn script h t))
 
 -- a thread takes a turn
 abbrev pub history_after : ScriptValue → History → ℕ → History
 history_after script h t =
     record {
       state = (step h.state t (request_at_turn script h t)).state;
-      events = h.events ++ event_of h.state t (request_at_turn script h t) ∷ [];
+      events = h.events ++ event_at_turn script h t ∷ [];
+      asked = asked_with h.asked (process_of h.state t) (line_at_turn script h t);
     }
 
 abbrev pub run_from : ScriptValue → History → List ℕ → History

@@ -1,9 +1,9 @@
 //! What the runs of a spelled script keep. Nothing runs here: a function has no body, and a call of it hands
 //! its laws to the caller's proof.
 
-ghost use Rattle.std.specs.Prelude.{◌≡◌, ℕ, List, None, Some, length, true, false};
+ghost use Rattle.std.specs.Prelude.{◌≡◌, ℕ, List, [], None, Some, length, true, false};
 ghost use Rattle.script_lang.specs.Words.{ScriptValue, spells};
-ghost use Rattle.written_kernel.specs.Words.{MayTurn, events_of, is_runnable, state_after};
+ghost use Rattle.written_kernel.specs.Words.{MayTurn, events_with_replies, is_runnable, state_after};
 ghost use Rattle.written_script.specs.DeclaredRuns.{IsDeclared};
 ghost use Rattle.written_script.specs.Plays.{IsWholePlay, IsRefusedPlay};
 ghost use Rattle.written_script.specs.ScriptRuns.{run, request_at_turn, IsAllowed, Refusal, opening_of, refusal, turns_of, turns_of_play};
@@ -28,9 +28,9 @@ pub fn played_turns()
 {}
 
 /// The state and the events of a run are those of its turns from the script's opening state, one turn for each thread of the
-/// list. So the laws of turns speak of the lines that a run prints.
+/// list; what the cache of a process replied goes by the lines that the process asked it before. So the laws of turns speak of the lines that a run prints.
 pub fn turns_of_runs()
     ensures state { (script : ScriptValue) (ts : List ℕ) → (run script ts).state ≡ state_after (opening_of script) (turns_of script ts) }
-    ensures events { (script : ScriptValue) (ts : List ℕ) → (run script ts).events ≡ events_of (opening_of script) (turns_of script ts) }
+    ensures events { (script : ScriptValue) (ts : List ℕ) → (run script ts).events ≡ events_with_replies (opening_of script) [] (turns_of script ts) }
     ensures counted { (script : ScriptValue) (ts : List ℕ) → length (turns_of script ts) ≡ length ts }
 {}

@@ -8,9 +8,9 @@ use Rattle.script_text.proofs.TextLines.{lines_of-text_of_lines}
 use Rattle.script_lang.specs.Words.{ScriptValue, spells}
 use Rattle.script_requests.specs.Types.{Event}
 use Rattle.script_requests.specs.Words.{line_of, lines_text, second_word, tail_text, thread_named, trace_text}
-use Rattle.written_kernel.specs.Words.{event_of, is_runnable, waiting_threads}
+use Rattle.written_kernel.specs.Words.{is_runnable, waiting_threads}
 use Rattle.written_script.specs.ScriptRuns.{AreRunnableFrom}
-use Rattle.written_script.specs.Words.{History, IsAllowed, ending_of, first_history, history_after, is_over, request_at_turn, run, run_from, text_of_history}
+use Rattle.written_script.specs.Words.{History, IsAllowed, ending_of, event_at_turn, first_history, history_after, is_over, run, run_from, text_of_history}
 use Rattle.written_script.proofs.Histories.{AreRunnableFrom-append, run-append}
 use Rattle.written_script.proofs.Plays.{events-of-turns}
 use Rattle.written_trace.specs.Fronts.{IsFrontOf, IsFrontOfRun, turns_in_whole_lines, whole_lines}
@@ -190,7 +190,7 @@ unfolding run
 front_at_turn source script ts rest written t s allowed can left lines front =
     let count : length (run script ts).events ≡ length ts = events-of-turns script ts in
     let one : length (ts ++ t ∷ []) ≡ length ts + 1 = length-append ts (t ∷ []) in
-    let event = event_of (run script ts).state t (request_at_turn script (run script ts) t) in
+    let event = event_at_turn script (run script ts) t in
     record {
       turns = ts;
       whole =

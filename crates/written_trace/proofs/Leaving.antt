@@ -5,8 +5,8 @@ use Rattle.std.proofs.lemmas.Bool.{false≢true}
 use Rattle.std.proofs.lemmas.List.Elements.{All-head, All-tail}
 use Rattle.script_lang.specs.Words.{ScriptValue}
 use Rattle.script_requests.specs.Words.{thread_in_line}
-use Rattle.written_kernel.specs.Words.{State, event_of, is_runnable, waiting_threads}
-use Rattle.written_script.specs.Words.{History, ending_of, history_after, is_over, request_at_turn, run_from}
+use Rattle.written_kernel.specs.Words.{State, is_runnable, waiting_threads}
+use Rattle.written_script.specs.Words.{History, ending_of, event_at_turn, history_after, is_over, run_from}
 use Rattle.written_script.specs.ScriptRuns.{AreRunnableFrom}
 use Rattle.written_trace.specs.declared.verdict.Verdict.{Verdict}
 use Rattle.written_trace.specs.declared.verdict.Verdict.TheVariants.{Differs}
@@ -85,16 +85,16 @@ by_none script h v none others same = ap (verdict_from script h) (none_more othe
 -- the run is not over, and the line names no thread that can take a turn
 
 pub read_first : (script : ScriptValue) (h : History) (t : ℕ) (ts : List ℕ) → ReadableFrom script h → IsToEnd script h (t ∷ ts)
-    → HasReadableLine script (event_of h.state t (request_at_turn script h t))
+    → HasReadableLine script (event_at_turn script h t)
 read_first script h t ts readable to_end =
     let all : AreReadable script (events_from script h (t ∷ ts)) = readable (t ∷ ts) to_end.runnable to_end.within in
-    All-head (HasReadableLine script) (event_of h.state t (request_at_turn script h t)) (events_from script (history_after script h t) ts) all
+    All-head (HasReadableLine script) (event_at_turn script h t) (events_from script (history_after script h t) ts) all
 
 other_turn : (script : ScriptValue) (h : History) (have : List ℕ) (ts : List ℕ) (tail : Option ℕ) → is_over script h ≡ false → ReadableFrom script h
     → turn_in_line script h.state have ≡ None → IsToEnd script h ts → IsOtherTurn script have (slice_get (trace_from script h ts tail) 0)
 other_turn script h have [] tail going readable none to_end = absurd (false≢true (sym going ∙ to_end.over))
 other_turn script h have (t ∷ ts) tail going readable none to_end =
-    let read : HasReadableLine script (event_of h.state t (request_at_turn script h t)) = read_first script h t ts readable to_end in
+    let read : HasReadableLine script (event_at_turn script h t) = read_first script h t ts readable to_end in
     record {
       turn = line_of_turn script h t;
       stands = refl;
@@ -147,7 +147,7 @@ other_line script h t line lines going few readable turn other =
     let left : length h.events < script.budget = left_if script h going in
     let on : CanEnd script (history_after script h t) = can_end script (history_after script h t) (omega (arith, one, left)) in
     let to_end : IsToEnd script h (t ∷ on.turns) = turn_first script h t on.turns (can_take h.state (thread_in_line script line) t turn) on.to_end in
-    let read : HasReadableLine script (event_of h.state t (request_at_turn script h t)) = read_first script h t on.turns readable to_end in
+    let read : HasReadableLine script (event_at_turn script h t) = read_first script h t on.turns readable to_end in
     record {
       k = 0;
       place = refl;
@@ -279,7 +279,7 @@ each_first script h t line lines k IsSo going readable turn rest [] tail to_end 
 each_first script h t line lines k IsSo going readable turn rest (u ∷ us) tail to_end same =
     let first : line_of_turn script h u ≡ line = cc in
     let others : take k (trace_from script (history_after script h u) us tail) ≡ take k lines = cc in
-    let read : HasReadableLine script (event_of h.state u (request_at_turn script h u)) = read_first script h u us readable to_end in
+    let read : HasReadableLine script (event_at_turn script h u) = read_first script h u us readable to_end in
     let named_again : thread_in_line script line ≡ Some u = ap (thread_in_line script) (sym first) ∙ read.thread in
     let again : turn_in_line script h.state line ≡ Some u = named_turn script h.state line u named_again to_end.runnable.0 in
     let one_turn : t ≡ u = same_turn (turn_in_line script h.state line) t u turn again in
@@ -343,7 +343,7 @@ pub readable_after : (script : ScriptValue) (h : History) (t : ℕ) → is_runna
     → ReadableFrom script (history_after script h t)
 readable_after script h t can readable ts runnable within =
     let one : length (history_after script h t).events ≡ length h.events + 1 = length-history_after script h t in
-    All-tail (HasReadableLine script) (event_of h.state t (request_at_turn script h t)) (events_from script (history_after script h t) ts)
+    All-tail (HasReadableLine script) (event_at_turn script h t) (events_from script (history_after script h t) ts)
     (readable (t ∷ ts) (can, runnable) (omega (arith, one, within)))
 
 -- what is said of the lines after a turn

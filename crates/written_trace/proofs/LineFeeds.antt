@@ -307,6 +307,9 @@ source_no_feed source.Fd event =
     (poll_no_feed (record { 0 = event.events }))
 source_no_feed source.User event = decimal_no_feed event.events
 source_no_feed source.Alert event = decimal_no_feed event.events
+source_no_feed source.Timer event =
+    between (codes "timer:" ++ decimal event.object) (codes ":") (decimal event.events) (decimal_no_feed event.object) refl
+    (decimal_no_feed event.events)
 
 event_no_feed : (event : EventRec) → no_feed (event_text event) ≡ true
 event_no_feed event =

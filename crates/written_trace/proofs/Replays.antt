@@ -4,7 +4,7 @@ use Rattle.std.specs.Prelude.{nat_le, is_none}
 use Rattle.std.specs.List.{flat_map}
 use Rattle.std.proofs.lemmas.Bool.Decides.{nat_tests}
 use Rattle.dk_base.specs.declared.answer.Answer.TheVariants as answer
-use Rattle.written_kernel.specs.Words.{event_of, is_running, least_runnable, step, waiting_threads}
+use Rattle.written_kernel.specs.Words.{asked_with, event_of, is_running, least_runnable, line_in, process_of, reply_after, step, waiting_threads, with_reply}
 use Rattle.script_lang.specs.Words.{ScriptValue}
 use Rattle.script_requests.specs.Types.{Answer, Event, Request, Tid}
 use Rattle.script_requests.specs.Words.{Frame, answer_text, end_line_of, first_frame, frame_after, frame_after_answer, frame_from, line_of, lines_text, request_after, request_of, spaced_name, trace_text, waiting_text}
@@ -57,7 +57,12 @@ turn_same script turns h t = by_test (is_running h.state t)
 
 -- a history in which a thread has made this request, or none
 abbrev after_request : History → ℕ → Option Request → History
-after_request h t request = record { state = (step h.state t request).state; events = h.events ++ event_of h.state t request ∷ [] }
+after_request h t request =
+    record {
+      state = (step h.state t request).state;
+      events = h.events ++ with_reply (reply_after h.asked (process_of h.state t) (line_in request)) (event_of h.state t request) ∷ [];
+      asked = asked_with h.asked (process_of h.state t) (line_in request);
+    }
 
 -- a turn makes the same history
 history_same : (script : ScriptValue) (turns : List ℕ) (h : History) (t : ℕ) →

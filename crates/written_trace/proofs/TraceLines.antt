@@ -10,8 +10,8 @@ use Rattle.script_text.proofs.TextLines.{text_of_lines-append}
 use Rattle.script_lang.specs.Words.{ScriptValue, spells}
 use Rattle.script_requests.specs.Types.{Event}
 use Rattle.script_requests.specs.Words.{end_line_of, line_of, lines_text, second_word, tail_text, thread_named, trace_text}
-use Rattle.written_kernel.specs.Words.{event_of, waiting_threads}
-use Rattle.written_script.specs.Words.{History, ending_of, first_history, history_after, request_at_turn, run, run_from, text_of_history, threads_of_events}
+use Rattle.written_kernel.specs.Words.{waiting_threads}
+use Rattle.written_script.specs.Words.{History, ending_of, event_at_turn, first_history, history_after, run, run_from, text_of_history, threads_of_events}
 use Rattle.written_trace.specs.LegalTraces.{IsTextOf}
 use Rattle.written_trace.specs.Turns.{HasReadableLine, begins_with_digit, event_lines}
 use Rattle.written_trace.specs.Verdicts.{end_line_after}
@@ -22,13 +22,13 @@ use Rattle.written_trace.proofs.TextOfLines.{lines_of_text}
 -- the events that these turns make after a history
 abbrev pub events_from : ScriptValue → History → List ℕ → List Event
 events_from script h [] = []
-events_from script h (t ∷ ts) = event_of h.state t (request_at_turn script h t) ∷ events_from script (history_after script h t) ts
+events_from script h (t ∷ ts) = event_at_turn script h t ∷ events_from script (history_after script h t) ts
 
 pub events-run_from : (script : ScriptValue) (ts : List ℕ) (h : History) → (run_from script h ts).events ≡ h.events ++ events_from script h ts
 events-run_from script [] h = sym (append-nil h.events)
 events-run_from script (t ∷ ts) h =
     events-run_from script ts (history_after script h t)
-    ∙ append_assoc h.events (event_of h.state t (request_at_turn script h t) ∷ []) (events_from script (history_after script h t) ts)
+    ∙ append_assoc h.events (event_at_turn script h t ∷ []) (events_from script (history_after script h t) ts)
 
 pub events-run : (script : ScriptValue) (ts : List ℕ) → (run script ts).events ≡ events_from script (first_history script) ts
 unfolding run
@@ -38,7 +38,7 @@ events-run script ts = events-run_from script ts (first_history script)
 pub events_from-append : (script : ScriptValue) (ts us : List ℕ) (h : History) → events_from script h (ts ++ us) ≡ events_from script h ts ++ events_from script (run_from script h ts) us
 events_from-append script [] us h = refl
 events_from-append script (t ∷ ts) us h =
-    ap (λ events. event_of h.state t (request_at_turn script h t) ∷ events) (events_from-append script ts us (history_after script h t))
+    ap (λ events. event_at_turn script h t ∷ events) (events_from-append script ts us (history_after script h t))
 
 pub threads-events_from : (script : ScriptValue) (ts : List ℕ) (h : History) → threads_of_events (events_from script h ts) ≡ ts
 threads-events_from script [] h = refl

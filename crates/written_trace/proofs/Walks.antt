@@ -11,8 +11,8 @@ use Rattle.script_text.specs.Words.{bounded_number}
 use Rattle.script_text.proofs.DecimalWords.{number_again, number_found}
 use Rattle.script_lang.specs.Words.{ScriptValue}
 use Rattle.script_requests.specs.Words.{thread_in_line}
-use Rattle.written_kernel.specs.Words.{State, event_of, is_runnable, least_among, least_or, least_runnable}
-use Rattle.written_script.specs.Words.{History, history_after, is_over, request_at_turn, run_from}
+use Rattle.written_kernel.specs.Words.{State, is_runnable, least_among, least_or, least_runnable}
+use Rattle.written_script.specs.Words.{History, event_at_turn, history_after, is_over, run_from}
 use Rattle.written_script.specs.ScriptRuns.{AreRunnableFrom}
 use Rattle.written_script.proofs.RunTurns.{is_runnable-there}
 use Rattle.written_trace.specs.declared.verdict.Verdict.TheVariants.{Legal, Differs}
@@ -232,7 +232,7 @@ walked_again script [] h tail small readable runnable within over few =
     (after_end_again (length h.events) tail (omega (arith, small, within)) (subst (λ (m : ℕ). IfSome tail (λ k. k ≤ m)) count few))
 walked_again script (t ∷ ts) h tail small readable (can, rest) within over few =
     let next = history_after script h t in
-    let event = event_of h.state t (request_at_turn script h t) in
+    let event = event_at_turn script h t in
     let one : length next.events ≡ length h.events + 1 = length-history_after script h t in
     let count : length next.events + length ts ≡ length h.events + length (t ∷ ts) = omega (arith, one) in
     let named : thread_in_line script (line_of_turn script h t) ≡ Some t = (All-head (HasReadableLine script) event (events_from script next ts) readable).thread in

@@ -5,14 +5,14 @@ use Rattle.script_text.specs.declared.number.Number.TheVariants.{Found, OutOfRan
 use Rattle.script_text.specs.Words.{bounded_number, lines_of}
 use Rattle.script_lang.specs.Words.{ScriptValue}
 use Rattle.script_requests.specs.Words.{end_line_of, line_of, thread_in_line}
-use Rattle.written_kernel.specs.Words.{State, event_of, is_runnable, waiting_threads}
-use Rattle.written_script.specs.Words.{History, ending_of, first_history, history_after, is_over, request_at_turn}
+use Rattle.written_kernel.specs.Words.{State, is_runnable, waiting_threads}
+use Rattle.written_script.specs.Words.{History, ending_of, event_at_turn, first_history, history_after, is_over}
 use Rattle.written_trace.specs.declared.verdict.Verdict.{Verdict}
 use Rattle.written_trace.specs.declared.verdict.Verdict.TheVariants.{Legal, Differs}
 
 -- the line of the next event, if this thread takes the turn
 abbrev pub line_of_turn : ScriptValue → History → ℕ → List ℕ
-line_of_turn script h t = line_of script (event_of h.state t (request_at_turn script h t))
+line_of_turn script h t = line_of script (event_at_turn script h t)
 
 -- the end line, if the run is over
 abbrev pub end_line_after : ScriptValue → History → List ℕ

@@ -39,11 +39,16 @@ pub(crate) enum Asks {
     Send(u32, u32, u64),
     SendN(&'static [Fd], u32, u64),
     Alert(u32, AlertMode, u32, u64),
+    TimerCreate(u32, u64),
+    TimerSet(u32, u64, u64),
+    TimerDelete(u32),
+    Advance(u64),
     Interrupt(u32),
     Kill(u32),
     Exit,
     Fork(u32),
     Work(Op, &'static [u8]),
+    Ncd(&'static [u8]),
 }
 
 fn has(bytes: &Bytes, wanted: &[u8]) -> bool {
@@ -101,7 +106,26 @@ pub(crate) fn is_asked(request: &Request, asks: Asks) -> bool {
     }
 }
 
-/// Whether a request of pipes, ports or tasks is what is wanted.
+/// Whether a request of timers is what is wanted.
+fn is_of_timers(request: &Request, asks: Asks) -> bool {
+    match request {
+        Request::TimerCreate { port, user } => {
+            matches!(asks, Asks::TimerCreate(n, value) if port.0 == n && *user == value)
+        }
+        Request::TimerSet {
+            timer,
+            first,
+            interval,
+        } => {
+            matches!(asks, Asks::TimerSet(id, delay, period) if *timer == id && *first == delay && *interval == period)
+        }
+        Request::TimerDelete { timer } => matches!(asks, Asks::TimerDelete(id) if *timer == id),
+        Request::Advance { by } => matches!(asks, Asks::Advance(n) if *by == n),
+        _ => false,
+    }
+}
+
+/// Whether a request of pipes, ports, tasks or the cache is what is wanted.
 fn is_transfer(request: &Request, asks: Asks) -> bool {
     match request {
         Request::Pipe => matches!(asks, Asks::Pipe),
@@ -154,6 +178,7 @@ fn is_transfer(request: &Request, asks: Asks) -> bool {
         Request::Work { op, bytes } => {
             matches!(asks, Asks::Work(wanted, text) if *op == wanted && has(bytes, text))
         }
-        _ => false,
+        Request::Ncd { line } => matches!(asks, Asks::Ncd(text) if has(line, text)),
+        _ => is_of_timers(request, asks),
     }
 }

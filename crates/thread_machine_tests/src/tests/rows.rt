@@ -16,7 +16,7 @@ pub(crate) struct Row {
     pub(crate) steps: &'static [(Asks, Given)],
 }
 
-pub(crate) const ROWS: [Row; 10] = [
+pub(crate) const ROWS: [Row; 12] = [
     Row {
         name: "commands of doors",
         text: "doors script 1\nprocess a\nthread t\ncreate d e 7 unref\ncreate d e 8\nattach $d p\nopen v p\ndup w $v\nrevoke $w\nbind $v.1\nunbind\ninfo $d\ninfo query\ngetparam $d data-max\nsetparam $d desc-max max\ncred\ntestcancel\nclose 9\ndetach p\nawait p\nexit\nend\nproc e\nend\n",
@@ -58,6 +58,18 @@ pub(crate) const ROWS: [Row; 10] = [
         text: "doors script 2\nprocess a\nthread t\nfork b\nfork b\nend\nchild b of a\nthread u\nclose 0\nend\n",
         thread: 1,
         steps: &FORKS,
+    },
+    Row {
+        name: "commands of timers",
+        text: "doors script 3\nprocess a\nthread t\npcreate q\ntcreate $q 7\ntcreate 9 0\ntset 0 3 2\ntset 31 1000000000 1000000000\nadvance 10000\nget $q\ntdelete 0\ntdelete 0\nclose $q\nend\n",
+        thread: 1,
+        steps: &COMMANDS_OF_TIMERS,
+    },
+    Row {
+        name: "a reply of the cache sets bytes alone",
+        text: "doors script 4\nprocess a\nthread t\nopen v p\nncd v \"get \" + $v + fill:2\nclose $v\nncd w $v + \"!\"\nwrite 1 $w + $v\nend\n",
+        thread: 1,
+        steps: &A_REPLY_SETS_BYTES_ALONE,
     },
     Row {
         name: "a loop is entered again",
@@ -153,6 +165,35 @@ const COMMANDS_OF_PIPES_AND_PORTS: [(Asks, Given); 24] = [
 const FORKS: [(Asks, Given); 3] = [
     (Asks::Fork(2), Given::Child),
     (Asks::Fork(2), Given::Errno(Errno::EAGAIN)),
+    (Asks::Exit, Given::Done),
+];
+
+/// What a command on timers is answered sets no variable.
+const COMMANDS_OF_TIMERS: [(Asks, Given); 12] = [
+    (Asks::PortCreate, Given::NewFd(3)),
+    (Asks::TimerCreate(3, 7), Given::Count(0)),
+    (Asks::TimerCreate(9, 0), Given::Errno(Errno::EBADF)),
+    (Asks::TimerSet(0, 3, 2), Given::Done),
+    (
+        Asks::TimerSet(31, 1_000_000_000, 1_000_000_000),
+        Given::Errno(Errno::EINVAL),
+    ),
+    (Asks::Advance(10_000), Given::Done),
+    (Asks::Get(3, true), Given::Wait),
+    (Asks::Get(3, true), Given::OneEvent),
+    (Asks::TimerDelete(0), Given::Done),
+    (Asks::TimerDelete(0), Given::Errno(Errno::EINVAL)),
+    (Asks::Close(3), Given::Done),
+    (Asks::Exit, Given::Done),
+];
+
+/// Setting a variable replaces its whole value.
+const A_REPLY_SETS_BYTES_ALONE: [(Asks, Given); 6] = [
+    (Asks::Open(0), Given::NewFd(4)),
+    (Asks::Ncd(b"get xx"), Given::Data(b"none")),
+    (Asks::Close(UNSET), Given::Done),
+    (Asks::Ncd(b"none!"), Given::Data(b"bad")),
+    (Asks::Write(1, b"badnone"), Given::Done),
     (Asks::Exit, Given::Done),
 ];
 
