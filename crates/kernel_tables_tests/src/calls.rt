@@ -110,19 +110,29 @@ fn is_chain(calls: &Calls, root: Tid, lead: Tid) -> bool {
         && calls.lead_of(lead) == lead
 }
 
+/// Whether two nested calls are made, entered, returned and collected.
+fn go_through(alloc: Global, calls: &mut Calls) -> bool {
+    is_served(alloc, calls, Tid(1), Tid(2))
+        && is_served(alloc, calls, Tid(2), Tid(3))
+        && is_chain(calls, Tid(1), Tid(3))
+        && returns(alloc, calls, Tid(3), b"yes")
+        && is_chain(calls, Tid(1), Tid(2))
+        && calls.collecting().least() == Some(Tid(2))
+        && calls.ready_call(2).is_some()
+        && collects(calls, Tid(2), b"yes", true)
+        && calls.collecting().least().is_none()
+        && returns(alloc, calls, Tid(2), b"no")
+        && collects(calls, Tid(1), b"no", false)
+        && calls.len() == 0
+        && calls.made() == 2
+        && calls.call(1).is_none()
+}
+
 #[test]
 fn calls_go_through_their_stages(rt: HostRuntime) {
     let alloc = rt.alloc();
     let mut calls = Calls::new(alloc);
-    assert!(rt; is_served(alloc, &mut calls, Tid(1), Tid(2)));
-    assert!(rt; is_served(alloc, &mut calls, Tid(2), Tid(3)) && is_chain(&calls, Tid(1), Tid(3)));
-    assert!(rt; returns(alloc, &mut calls, Tid(3), b"yes") && is_chain(&calls, Tid(1), Tid(2)));
-    assert!(rt; calls.collecting().least() == Some(Tid(2)) && calls.ready_call(2).is_some());
-    assert!(rt; collects(&mut calls, Tid(2), b"yes", true) && calls.collecting().least().is_none());
-    assert!(rt;
-        returns(alloc, &mut calls, Tid(2), b"no") && collects(&mut calls, Tid(1), b"no", false)
-    );
-    assert!(rt; calls.len() == 0 && calls.made() == 2 && calls.call(1).is_none());
+    assert!(rt; go_through(alloc, &mut calls));
 }
 
 /// Whether each thread but the last calls the next one.
@@ -143,16 +153,26 @@ fn is_cut_off(calls: &mut Calls, caller: Tid, u: Tid) -> bool {
     calls.abandon(caller, Leave::Interrupted).cancelled == Some(u) && calls.ready(caller)
 }
 
+/// Whether a chain of all threads falls into two where its thread 32 is interrupted.
+fn is_cut_in_two(alloc: Global, calls: &mut Calls) -> bool {
+    are_chained(alloc, calls)
+        && is_chain(calls, Tid(1), Tid(64))
+        && calls.root_of(Tid(40)) == Tid(1)
+        && calls.lead_of(Tid(40)) == Tid(64)
+        && is_cut_off(calls, Tid(32), Tid(33))
+        && is_chain(calls, Tid(1), Tid(32))
+        && is_chain(calls, Tid(33), Tid(64))
+        && returns(alloc, calls, Tid(64), b"")
+        && is_chain(calls, Tid(33), Tid(63))
+        && calls.served_by(Tid(33)).is_none()
+        && is_told(calls, Tid(32), Errno::EINTR)
+}
+
 #[test]
 fn a_chain_is_cut_in_the_middle(rt: HostRuntime) {
     let alloc = rt.alloc();
     let mut calls = Calls::new(alloc);
-    assert!(rt; are_chained(alloc, &mut calls) && is_chain(&calls, Tid(1), Tid(64)));
-    assert!(rt; calls.root_of(Tid(40)) == Tid(1) && calls.lead_of(Tid(40)) == Tid(64));
-    assert!(rt; is_cut_off(&mut calls, Tid(32), Tid(33)));
-    assert!(rt; is_chain(&calls, Tid(1), Tid(32)) && is_chain(&calls, Tid(33), Tid(64)));
-    assert!(rt; returns(alloc, &mut calls, Tid(64), b"") && is_chain(&calls, Tid(33), Tid(63)));
-    assert!(rt; calls.served_by(Tid(33)).is_none() && is_told(&mut calls, Tid(32), Errno::EINTR));
+    assert!(rt; is_cut_in_two(alloc, &mut calls));
 }
 
 /// Whether a waiting call is refused with this error, and its objects are handed out.
@@ -169,14 +189,24 @@ fn is_forgotten(calls: &mut Calls, caller: Tid, u: Tid, objects: usize) -> bool 
     left.parked == Some(u) && left.dropped.len() == objects && calls.called_by(caller).is_none()
 }
 
+/// Whether a call is refused, another loses its server, and the caller of a third ends.
+fn all_leave(alloc: Global, calls: &mut Calls) -> bool {
+    opens(alloc, calls, Tid(1))
+        && is_refused(calls, 1, Errno::EBADF)
+        && is_told(calls, Tid(1), Errno::EBADF)
+        && opens(alloc, calls, Tid(1))
+        && is_given_to(calls, 2, Tid(2))
+        && calls.server_left(Tid(2)).len() == 2
+        && is_told(calls, Tid(1), Errno::EINTR)
+        && opens(alloc, calls, Tid(1))
+        && is_given_to(calls, 3, Tid(2))
+        && is_forgotten(calls, Tid(1), Tid(2), 2)
+        && calls.len() == 0
+}
+
 #[test]
 fn callers_and_servers_leave(rt: HostRuntime) {
     let alloc = rt.alloc();
     let mut calls = Calls::new(alloc);
-    assert!(rt; opens(alloc, &mut calls, Tid(1)) && is_refused(&mut calls, 1, Errno::EBADF));
-    assert!(rt; is_told(&mut calls, Tid(1), Errno::EBADF));
-    assert!(rt; opens(alloc, &mut calls, Tid(1)) && is_given_to(&mut calls, 2, Tid(2)));
-    assert!(rt; calls.server_left(Tid(2)).len() == 2 && is_told(&mut calls, Tid(1), Errno::EINTR));
-    assert!(rt; opens(alloc, &mut calls, Tid(1)) && is_given_to(&mut calls, 3, Tid(2)));
-    assert!(rt; is_forgotten(&mut calls, Tid(1), Tid(2), 2) && calls.len() == 0);
+    assert!(rt; all_leave(alloc, &mut calls));
 }

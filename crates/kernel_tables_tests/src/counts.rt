@@ -100,11 +100,19 @@ fn are_gone_once(alloc: Global, counts: &mut Counts) -> bool {
     counts.count(Obj::PipeIn(FIRST)) == 0 && are_gone(alloc, counts, &[])
 }
 
+/// Whether each step tells what falls in it, and what is gone by it.
+fn are_told_in_steps(alloc: Global, counts: &mut Counts) -> bool
+    requires { counts.old.counts ≡ [] }
+{
+    is_begun(counts)
+        && rise_to_two(counts)
+        && are_told(counts, &[])
+        && are_told_once(counts)
+        && are_gone_once(alloc, counts)
+}
+
 #[test]
 fn doors_that_fall_to_one_reference_are_told(rt: HostRuntime) {
     let mut counts = Counts::new(rt.alloc());
-    assert!(rt; is_begun(&mut counts) && rise_to_two(&mut counts));
-    assert!(rt; are_told(&mut counts, &[]));
-    assert!(rt; are_told_once(&mut counts));
-    assert!(rt; are_gone_once(rt.alloc(), &mut counts));
+    assert!(rt; are_told_in_steps(rt.alloc(), &mut counts));
 }

@@ -101,12 +101,17 @@ fn drains(table: &mut FdTable, into: &mut Room<Obj>, expected: &[Obj]) -> bool
     table.free() == 3 && into.slice() == expected
 }
 
+fn is_given_again(alloc: Global, table: &mut FdTable) -> bool {
+    let Ok(mut drained) = Room::with_room(alloc, 3) else {
+        return false;
+    };
+    does_all(table) && drains(table, &mut drained, &[Obj::PipeIn(1), Obj::Door(1)])
+}
+
 #[test]
 fn the_lowest_number_is_given_again(rt: HostRuntime) -> Result<(), Fail> {
-    let mut drained = Room::with_room(rt.alloc(), 3)?;
     let mut table = FdTable::new(rt.alloc(), 3)?;
-    assert!(rt; does_all(&mut table));
-    assert!(rt; drains(&mut table, &mut drained, &[Obj::PipeIn(1), Obj::Door(1)]));
+    assert!(rt; is_given_again(rt.alloc(), &mut table));
     Ok(())
 }
 
@@ -128,15 +133,23 @@ fn gives_all_or_none(
         && into.slice() == expected
 }
 
+/// Whether two of three rows are free, and so two objects get numbers, and three do not.
+fn two_get_numbers(alloc: Global, table: &mut FdTable) -> bool {
+    let (Ok(many), Ok(few), Ok(mut given)) = (
+        ObjList::from_slice(alloc, &[Obj::Port(1), Obj::Port(2), Obj::Port(3)]),
+        ObjList::from_slice(alloc, &[Obj::Port(1), Obj::Port(2)]),
+        Room::with_room(alloc, 5),
+    ) else {
+        return false;
+    };
+    table.insert(Obj::Door(1)) == Ok(Fd(0))
+        && gives_all_or_none(table, &many, &few, &mut given, &[Fd(1), Fd(2)])
+}
+
 #[test]
 fn all_objects_get_numbers_or_none(rt: HostRuntime) -> Result<(), Fail> {
-    let alloc = rt.alloc();
-    let many = ObjList::from_slice(alloc, &[Obj::Port(1), Obj::Port(2), Obj::Port(3)])?;
-    let few = ObjList::from_slice(alloc, &[Obj::Port(1), Obj::Port(2)])?;
-    let mut given = Room::with_room(alloc, 5)?;
-    let mut table = FdTable::new(alloc, 3)?;
-    assert!(rt; table.insert(Obj::Door(1)) == Ok(Fd(0)));
-    assert!(rt; gives_all_or_none(&mut table, &many, &few, &mut given, &[Fd(1), Fd(2)]));
+    let mut table = FdTable::new(rt.alloc(), 3)?;
+    assert!(rt; two_get_numbers(rt.alloc(), &mut table));
     Ok(())
 }
 

@@ -8,6 +8,7 @@ use dk_base::set::Attrs;
 use door_object::doors::Doors;
 use kernel_records::pool::Pool;
 use std::alloc::Global;
+use std::process::Abort;
 
 const GREATEST: u64 = 18_446_744_073_709_551_615;
 
@@ -154,46 +155,54 @@ fn set_limits(doors: &mut Doors) -> bool {
     true
 }
 
+/// Calls of a door with so many bytes and descriptors, and the error of each.
+fn are_limited<R: Abort>(rt: &R, doors: &Doors, door: u32, rows: &[(u64, u64, Option<Errno>)]) {
+    for (size, descriptors, expected) in rows {
+        assert!(rt;
+            is_refused(doors.check_limits(door, *size, *descriptors), *expected),
+            "{size} {descriptors}"
+        );
+    }
+}
+
+/// Two doors, the first with limits, the second with DOOR_REFUSE_DESC.
+fn are_made(doors: &mut Doors) -> bool {
+    make(doors, Attrs(0)).is_some()
+        && make(doors, Attrs::REFUSE_DESC).is_some()
+        && set_limits(doors)
+}
+
+/// Whether the owner may not set a least size above the greatest, and another process may set and revoke nothing.
+fn are_refused(doors: &mut Doors) -> bool {
+    is_refused(doors.check_limits(3, 5001, 21), Some(Errno::EBADF))
+        && is_refused(
+            doors.setparam(1, OWNER, Param::DataMin, 5001),
+            Some(Errno::EINVAL),
+        )
+        && is_refused(
+            doors.setparam(1, OWNER, Param::DataMax, 9),
+            Some(Errno::EINVAL),
+        )
+        && is_refused(
+            doors.setparam(1, OTHER, Param::DataMax, 9),
+            Some(Errno::EPERM),
+        )
+        && is_refused(doors.revoke(1, OTHER), Some(Errno::EPERM))
+        && is_refused(doors.revoke(1, OWNER), None)
+        && is_refused(doors.check_limits(1, 5001, 21), Some(Errno::EBADF))
+}
+
+fn have_an_order<R: Abort>(rt: &R, doors: &mut Doors) {
+    assert!(rt; are_made(doors));
+    are_limited(rt, doors, 1, &LIMITS);
+    are_limited(rt, doors, 2, &REFUSING);
+    assert!(rt; are_refused(doors));
+}
+
 #[test]
 fn limits_have_an_order(rt: HostRuntime) {
     let mut doors = Doors::new(rt.alloc());
-    assert!(rt; make(&mut doors, Attrs(0)).is_some());
-    assert!(rt; make(&mut doors, Attrs::REFUSE_DESC).is_some());
-    assert!(rt; set_limits(&mut doors));
-    for (size, descriptors, expected) in LIMITS {
-        assert!(rt;
-            is_refused(doors.check_limits(1, size, descriptors), expected),
-            "{size} {descriptors}"
-        );
-    }
-    for (size, descriptors, expected) in REFUSING {
-        assert!(rt;
-            is_refused(doors.check_limits(2, size, descriptors), expected),
-            "{size} {descriptors}"
-        );
-    }
-    assert!(rt; is_refused(doors.check_limits(3, 5001, 21), Some(Errno::EBADF)));
-    assert!(rt;
-        is_refused(
-            doors.setparam(1, OWNER, Param::DataMin, 5001),
-            Some(Errno::EINVAL)
-        )
-    );
-    assert!(rt;
-        is_refused(
-            doors.setparam(1, OWNER, Param::DataMax, 9),
-            Some(Errno::EINVAL)
-        )
-    );
-    assert!(rt;
-        is_refused(
-            doors.setparam(1, OTHER, Param::DataMax, 9),
-            Some(Errno::EPERM)
-        )
-    );
-    assert!(rt; is_refused(doors.revoke(1, OTHER), Some(Errno::EPERM)));
-    assert!(rt; is_refused(doors.revoke(1, OWNER), None));
-    assert!(rt; is_refused(doors.check_limits(1, 5001, 21), Some(Errno::EBADF)));
+    have_an_order(&rt, &mut doors);
 }
 
 /// Whether this is told of door 1: its target, and its attributes.
@@ -217,20 +226,26 @@ fn owns_the_second(alloc: Global, doors: &Doors) -> bool {
     matches!(doors.owned(alloc, OWNER), Ok(owned) if owned.slice() == [2].as_slice())
 }
 
+/// Whether a private door is told of before it is revoked, after that, and once its owner has ended.
+fn is_told_of(alloc: Global, doors: &mut Doors) -> bool {
+    if make(doors, Attrs::PRIVATE).is_none() || make(doors, Attrs(0)).is_none() {
+        return false;
+    }
+    let before = is_pool(doors.pool_of(1), true)
+        && is_pool(doors.pool_of(2), false)
+        && tells(&doors.info(1, OWNER, 2), Some(1), 6)
+        && tells(&doors.info(1, OTHER, 2), Some(1), 2)
+        && tells(&doors.info(1, OTHER, 1), Some(1), 34)
+        && doors.revoke(1, OWNER).is_ok()
+        && tells(&doors.info(1, OTHER, 2), Some(1), 10)
+        && owns_the_second(alloc, doors);
+    doors.owner_ended(OWNER);
+    before && tells(&doors.info(1, OTHER, 1), None, 42) && !doors.valid(2)
+}
+
 #[test]
 fn a_door_is_told_of(rt: HostRuntime) {
     let alloc = rt.alloc();
     let mut doors = Doors::new(alloc);
-    assert!(rt; make(&mut doors, Attrs::PRIVATE).is_some());
-    assert!(rt; make(&mut doors, Attrs(0)).is_some());
-    assert!(rt; is_pool(doors.pool_of(1), true) && is_pool(doors.pool_of(2), false));
-    assert!(rt; tells(&doors.info(1, OWNER, 2), Some(1), 6));
-    assert!(rt; tells(&doors.info(1, OTHER, 2), Some(1), 2));
-    assert!(rt; tells(&doors.info(1, OTHER, 1), Some(1), 34));
-    assert!(rt; doors.revoke(1, OWNER).is_ok());
-    assert!(rt; tells(&doors.info(1, OTHER, 2), Some(1), 10));
-    assert!(rt; owns_the_second(alloc, &doors));
-    doors.owner_ended(OWNER);
-    assert!(rt; tells(&doors.info(1, OTHER, 1), None, 42));
-    assert!(rt; !doors.valid(2));
+    assert!(rt; is_told_of(alloc, &mut doors));
 }

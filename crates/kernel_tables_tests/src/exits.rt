@@ -10,7 +10,6 @@ use exit_paths::left::Left;
 use proc_table::procs::Procs;
 use server_pool::pools::Pools;
 use std::alloc::Global;
-use std::test::Fail;
 
 fn is_silent(left: &Left) -> bool {
     left.dropped.is_empty()
@@ -86,46 +85,49 @@ fn is_no_revocation(
     }
 }
 
-#[test]
-fn nobody_is_interrupted(rt: HostRuntime) -> Result<(), Fail> {
-    let alloc = rt.alloc();
-    let mut pools = Pools::new(alloc)?;
+/// What nobody is there for.
+#[derive(Clone, Copy)]
+enum Exit {
+    Interrupt,
+    End,
+    Fork,
+    Revocation,
+}
+
+const EXITS: [Exit; 4] = [Exit::Interrupt, Exit::End, Exit::Fork, Exit::Revocation];
+
+fn is_nothing(
+    alloc: Global,
+    procs: &mut Procs,
+    calls: &mut Calls,
+    pools: &mut Pools,
+    doors: &Doors,
+    exit: Exit,
+) -> bool
+    requires can { CanExit 0 doors.now.items (record { procs = procs.old; calls = calls.old; pools = pools.old }) }
+    requires carried { in_transit calls.old.tree.calls ≤ 0 }
+{
+    match exit {
+        Exit::Interrupt => is_no_interrupt(alloc, procs, calls, pools, doors),
+        Exit::End => is_no_end(alloc, procs, calls, pools, doors),
+        Exit::Fork => is_no_fork(alloc, procs, calls, pools, doors),
+        Exit::Revocation => is_no_revocation(alloc, procs, calls, pools, doors),
+    }
+}
+
+fn tells_nothing(alloc: Global, exit: Exit) -> bool {
+    let Ok(mut pools) = Pools::new(alloc) else {
+        return false;
+    };
     let mut procs = Procs::new(alloc);
     let mut calls = Calls::new(alloc);
     let doors = Doors::new(alloc);
-    assert!(rt; is_no_interrupt(alloc, &mut procs, &mut calls, &mut pools, &doors));
-    Ok(())
+    is_nothing(alloc, &mut procs, &mut calls, &mut pools, &doors, exit)
 }
 
 #[test]
-fn no_door_is_revoked(rt: HostRuntime) -> Result<(), Fail> {
-    let alloc = rt.alloc();
-    let mut pools = Pools::new(alloc)?;
-    let procs = Procs::new(alloc);
-    let mut calls = Calls::new(alloc);
-    let doors = Doors::new(alloc);
-    assert!(rt; is_no_revocation(alloc, &procs, &mut calls, &mut pools, &doors));
-    Ok(())
-}
-
-#[test]
-fn nobody_ends(rt: HostRuntime) -> Result<(), Fail> {
-    let alloc = rt.alloc();
-    let mut pools = Pools::new(alloc)?;
-    let mut procs = Procs::new(alloc);
-    let mut calls = Calls::new(alloc);
-    let doors = Doors::new(alloc);
-    assert!(rt; is_no_end(alloc, &mut procs, &mut calls, &mut pools, &doors));
-    Ok(())
-}
-
-#[test]
-fn nobody_forks(rt: HostRuntime) -> Result<(), Fail> {
-    let alloc = rt.alloc();
-    let mut pools = Pools::new(alloc)?;
-    let mut procs = Procs::new(alloc);
-    let mut calls = Calls::new(alloc);
-    let doors = Doors::new(alloc);
-    assert!(rt; is_no_fork(alloc, &mut procs, &mut calls, &mut pools, &doors));
-    Ok(())
+fn nothing_is_told_of_nobody(rt: HostRuntime) {
+    for exit in EXITS {
+        assert!(rt; tells_nothing(rt.alloc(), exit));
+    }
 }

@@ -41,13 +41,18 @@ fn are_copied(parent: &FdTable, child: &mut FdTable, added: &mut Room<Obj>) -> b
         && added.slice() == [Obj::Door(1), Obj::Door(2)].as_slice()
 }
 
+/// Whether a child with three rows gets those of its parent.
+fn is_forked(alloc: Global, parent: &mut FdTable) -> bool {
+    let (Ok(mut child), Ok(mut added)) = (FdTable::new(alloc, 3), Room::with_room(alloc, 3)) else {
+        return false;
+    };
+    gives_two(parent) && are_copied(parent, &mut child, &mut added)
+}
+
 #[test]
 fn rows_are_copied_under_their_numbers(rt: HostRuntime) -> Result<(), Fail> {
-    let alloc = rt.alloc();
-    let mut parent = FdTable::new(alloc, 3)?;
-    let mut child = FdTable::new(alloc, 3)?;
-    let mut added = Room::with_room(alloc, 3)?;
-    assert!(rt; gives_two(&mut parent) && are_copied(&parent, &mut child, &mut added));
+    let mut parent = FdTable::new(rt.alloc(), 3)?;
+    assert!(rt; is_forked(rt.alloc(), &mut parent));
     Ok(())
 }
 
@@ -88,24 +93,30 @@ fn are_interrupted(
         && calls.len() == 0
 }
 
+/// Whether a call is made, and its caller is interrupted.
+fn is_caller_interrupted(alloc: Global, calls: &mut Calls, callers: &TidList) -> bool
+    requires tree { calls.old.tree ≡ record { made = 0; calls = [] } }
+    requires few { length callers.now ≤ 2 }
+{
+    if !opens_first(alloc, calls) {
+        return false;
+    }
+    let (Ok(mut dropped), Ok(mut given), Ok(mut cancelled)) = (
+        Room::with_room(alloc, 2),
+        Room::with_room(alloc, 2),
+        Room::with_room(alloc, 2),
+    ) else {
+        return false;
+    };
+    are_interrupted(calls, callers, &mut dropped, &mut given, &mut cancelled)
+}
+
 #[test]
 fn callers_are_interrupted(rt: HostRuntime) -> Result<(), Fail> {
     let alloc = rt.alloc();
-    let mut dropped = Room::with_room(alloc, 2)?;
-    let mut given = Room::with_room(alloc, 2)?;
-    let mut cancelled = Room::with_room(alloc, 2)?;
     let callers = TidList::from_slice(alloc, &[Tid(1), Tid(2)])?;
     let mut calls = Calls::new(alloc);
-    assert!(rt;
-        opens_first(alloc, &mut calls)
-            && are_interrupted(
-                &mut calls,
-                &callers,
-                &mut dropped,
-                &mut given,
-                &mut cancelled
-            )
-    );
+    assert!(rt; is_caller_interrupted(alloc, &mut calls, &callers));
     Ok(())
 }
 

@@ -86,15 +86,26 @@ fn may_take(doors: &Doors, d: u32) -> (bool, bool) {
     )
 }
 
+/// Whether notices of two doors are over, and none can be made of one that is revoked.
+fn end_with_invocations(doors: &mut Doors, notices: &mut Notices) -> bool
+    requires { notices.old.list ≡ record { made = 0; notices = [] } }
+{
+    are_doors_made(doors)
+        && doors.takes_many(MANY)
+        && !doors.takes_many(ONE)
+        && may_take(doors, ONE) == (false, true)
+        && may_take(doors, MANY) == (true, true)
+        && are_ended(notices, doors)
+        && doors.revoke(MANY, Pid(1)).is_ok()
+        && may_take(doors, MANY) == (false, false)
+}
+
 #[test]
 fn a_notice_ends_with_its_invocation(rt: HostRuntime) {
     let alloc = rt.alloc();
     let mut doors = Doors::new(alloc);
-    assert!(rt; are_doors_made(&mut doors) && doors.takes_many(MANY) && !doors.takes_many(ONE));
-    assert!(rt; may_take(&doors, ONE) == (false, true) && may_take(&doors, MANY) == (true, true));
     let mut notices = Notices::new(alloc);
-    assert!(rt; are_ended(&mut notices, &doors));
-    assert!(rt; doors.revoke(MANY, Pid(1)).is_ok() && may_take(&doors, MANY) == (false, false));
+    assert!(rt; end_with_invocations(&mut doors, &mut notices));
 }
 
 /// Of four notices, the first waits at a door that is lost, threads that end were given the second and have entered the third, and

@@ -120,12 +120,18 @@ fn goes(
     }
 }
 
+fn one_goes(
+    alloc: Global,
+    table: &mut FdTable,
+    into: &mut Room<Obj>,
+    (pass, objects, rows): Transfer,
+) -> bool {
+    matches!(PassList::from_slice(alloc, pass), Ok(pass) if goes(table, &pass, into, objects) && has_rows(table, &rows))
+}
+
 fn all_go(alloc: Global, table: &mut FdTable, into: &mut Room<Obj>) -> bool {
-    for (pass, objects, rows) in TRANSFERS {
-        let Ok(pass) = PassList::from_slice(alloc, pass) else {
-            return false;
-        };
-        if !goes(table, &pass, into, objects) || !has_rows(table, &rows) {
+    for transfer in TRANSFERS {
+        if !one_goes(alloc, table, into, transfer) {
             return false;
         }
     }
@@ -156,13 +162,21 @@ fn installs(table: &mut FdTable, objects: &ObjList, fds: &mut Room<Fd>, pass: &P
         && fds.slice() == [Fd(0), Fd(3)].as_slice()
 }
 
+/// Whether two objects are installed once two rows are free.
+fn is_installed(alloc: Global, table: &mut FdTable) -> bool {
+    let (Ok(objects), Ok(pass), Ok(mut fds)) = (
+        ObjList::from_slice(alloc, &[PORT, DOOR]),
+        PassList::from_slice(alloc, &[ZERO_RELEASED, ONE]),
+        Room::with_room(alloc, 2),
+    ) else {
+        return false;
+    };
+    gives_first(table) && installs(table, &objects, &mut fds, &pass)
+}
+
 #[test]
 fn what_was_passed_is_installed(rt: HostRuntime) -> Result<(), Fail> {
-    let alloc = rt.alloc();
-    let objects = ObjList::from_slice(alloc, &[PORT, DOOR])?;
-    let pass = PassList::from_slice(alloc, &[ZERO_RELEASED, ONE])?;
-    let mut fds = Room::with_room(alloc, 2)?;
-    let mut table = FdTable::new(alloc, 4)?;
-    assert!(rt; gives_first(&mut table) && installs(&mut table, &objects, &mut fds, &pass));
+    let mut table = FdTable::new(rt.alloc(), 4)?;
+    assert!(rt; is_installed(rt.alloc(), &mut table));
     Ok(())
 }

@@ -1,6 +1,0 @@
-use Rattle.exit_paths.proofs.First.{can_exit_first}
-use Rattle.kernel_tables_tests.proofs.exits.no_door_is_revoked.Goals as goal
-
-pub is_no_revocation-requires-clause-can : goal.is_no_revocation-requires-clause-can
-is_no_revocation-requires-clause-can g c =
-    rw c.new-procs.ensures (rw c.in_ok-pools.ensures (rw c.new-doors.ensures (can_exit_first c.new-calls.result c.new-calls.ensures)))
