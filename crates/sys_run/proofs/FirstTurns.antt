@@ -1,6 +1,7 @@
 -- The run that `play` makes, turn by turn.
 use Rattle.std.proofs.Common.{◌≡◌, ◌⊎◌, ℕ, ◌+◌, ◌-◌, ◌<◌, ◌≤◌, List, [], ◌∷◌, ◌++◌, length, drop, length-append, length-drop, append-nil, Option, Some, None, true, false, inl, inr, arith, refl, ap, sym, ◌∙◌, subst, zero, suc}
 use Rattle.std.specs.Prelude.{if◌then◌else◌, slice_get, slice_set}
+use Rattle.ncd_app.specs.Words.{NcdValue}
 use Rattle.written_kernel.specs.Types.{Event, Tid}
 use Rattle.written_kernel.specs.Words.{State, is_runnable, output_at, state_of}
 use Rattle.script_lang.specs.Words.{ScriptValue}
@@ -145,33 +146,36 @@ pub nothing_told : (p : SysValue) → p ≡ with_journal p.script (p.journal ++ 
 nothing_told p = ap (with_journal p.script) (sym (append-nil p.journal))
 
 -- the first events of a run, by the count of its kernel, and with kernel and machines after them
-pub record IsTold (script : ScriptValue) (es : List Event) (kernel : State) (machines : List Machine) : Type 0 where
+pub record IsTold (script : ScriptValue) (es : List Event) (kernel : State) (machines : List Machine) (tables : List NcdValue) : Type 0 where
   pub events : first_events script kernel.events ≡ es
-  pub stands : IsSys script (first_events script kernel.events) kernel machines
+  pub stands : IsSys script (first_events script kernel.events) kernel machines tables
 
-pub told_none : (script : ScriptValue) (kernel : State) (machines : List Machine) → IsSys script [] kernel machines → IsTold script [] kernel machines
-told_none script kernel machines is =
+pub told_none :
+    (script : ScriptValue) (kernel : State) (machines : List Machine) (tables : List NcdValue) → IsSys script [] kernel machines tables →
+    IsTold script [] kernel machines tables
+told_none script kernel machines tables is =
     let events : first_events script kernel.events ≡ [] =
     ap (first_events script) (events-counted (none_yet script) kernel is.kernel_stands) ∙ no_events script
-    in record { events = events; stands = subst (λ es. IsSys script es kernel machines) (sym events) is }
+    in record { events = events; stands = subst (λ es. IsSys script es kernel machines tables) (sym events) is }
 
 pub its_machine :
-    (script : ScriptValue) (kernel : State) (machines : List Machine) (t : ℕ) → IsSys script (first_events script kernel.events) kernel machines →
-    turn_of_play (so_far script kernel.events) ≡ Some t → HasMachine t machines
-its_machine script kernel machines t is e = has_machine script (first_events script kernel.events) kernel machines t is (due (so_far script kernel.events) t e).can
+    (script : ScriptValue) (kernel : State) (machines : List Machine) (tables : List NcdValue) (t : ℕ) →
+    IsSys script (first_events script kernel.events) kernel machines tables → turn_of_play (so_far script kernel.events) ≡ Some t → HasMachine t machines
+its_machine script kernel machines tables t is e = has_machine script (first_events script kernel.events) kernel machines tables t is (due (so_far script kernel.events) t e).can
 
 pub can_turn :
-    (script : ScriptValue) (kernel : State) (machines : List Machine) (t : ℕ) (x : Machine) (output : Option (List ℕ)) →
-    IsSys script (first_events script kernel.events) kernel machines → turn_of_play (so_far script kernel.events) ≡ Some t →
+    (script : ScriptValue) (kernel : State) (machines : List Machine) (tables : List NcdValue) (t : ℕ) (x : Machine) (output : Option (List ℕ)) →
+    IsSys script (first_events script kernel.events) kernel machines tables → turn_of_play (so_far script kernel.events) ≡ Some t →
     slice_get machines (t - 1) ≡ Some x → output ≡ output_at (state_of (state_of_run (so_far script kernel.events)) t) →
-    CanTurn script (first_events script kernel.events) kernel x t output
-can_turn script kernel machines t x output is e read is_output =
+    CanTurn script (first_events script kernel.events) kernel x tables t output
+can_turn script kernel machines tables t x output is e read is_output =
     let is_due = due (so_far script kernel.events) t e
-    in let has = its_machine script kernel machines t is e
+    in let has = its_machine script kernel machines tables t is e
     in record {
       run = is.journal_is_run;
       kernel_stands = is.kernel_stands;
-      machine_stands = machine-stands script (first_events script kernel.events) kernel machines t x is has read;
+      machine_stands = machine-stands script (first_events script kernel.events) kernel machines tables t x is has read;
+      tables_stand = is.tables_stand;
       can = is_due.can;
       left = is_due.left;
       is_output = is_output;
@@ -179,29 +183,30 @@ can_turn script kernel machines t x output is e read is_output =
 
 -- where no turn was taken
 pub told_same :
-    (script : ScriptValue) (kernel kernel' : State) (machines : List Machine) (t : ℕ) (x : Machine) →
-    IsSys script (first_events script kernel.events) kernel machines → turn_of_play (so_far script kernel.events) ≡ Some t → kernel' ≡ kernel →
-    MachineStands script (first_events script kernel.events) t x → IsTold script (first_events script kernel.events) kernel' (slice_set machines (t - 1) x)
-told_same script kernel kernel' machines t x is e same machine =
+    (script : ScriptValue) (kernel kernel' : State) (machines : List Machine) (tables tables' : List NcdValue) (t : ℕ) (x : Machine) →
+    IsSys script (first_events script kernel.events) kernel machines tables → turn_of_play (so_far script kernel.events) ≡ Some t → kernel' ≡ kernel →
+    tables' ≡ tables → MachineStands script (first_events script kernel.events) t x →
+    IsTold script (first_events script kernel.events) kernel' (slice_set machines (t - 1) x) tables'
+told_same script kernel kernel' machines tables tables' t x is e same same_tables machine =
     let es = first_events script kernel.events
-    in let has = its_machine script kernel machines t is e
+    in let has = its_machine script kernel machines tables t is e
     in let events : first_events script kernel'.events ≡ es = ap (λ (k : State). first_events script k.events) same
     in record {
       events = events;
       stands =
-          subst (λ fs. IsSys script fs kernel' (slice_set machines (t - 1) x)) (sym events)
-          (IsSys-same script es es kernel kernel' machines t x is has refl same machine);
+          subst (λ fs. IsSys script fs kernel' (slice_set machines (t - 1) x) tables') (sym events)
+          (IsSys-same script es es kernel kernel' machines tables tables' t x is has refl same same_tables machine);
     }
 
 pub told :
-    (script : ScriptValue) (kernel kernel' : State) (machines : List Machine) (t : ℕ) (turned : Turned) (x : Machine) →
-    IsSys script (first_events script kernel.events) kernel machines → turn_of_play (so_far script kernel.events) ≡ Some t →
-    HasTurned script (first_events script kernel.events) t turned kernel' x →
-    IsTold script (first_events script kernel.events ++ turned.event ∷ []) kernel' (slice_set machines (t - 1) x)
-told script kernel kernel' machines t turned x is e turn =
+    (script : ScriptValue) (kernel kernel' : State) (machines : List Machine) (tables tables' : List NcdValue) (t : ℕ) (turned : Turned) (x : Machine) →
+    IsSys script (first_events script kernel.events) kernel machines tables → turn_of_play (so_far script kernel.events) ≡ Some t →
+    HasTurned script (first_events script kernel.events) t turned kernel' x tables' →
+    IsTold script (first_events script kernel.events ++ turned.event ∷ []) kernel' (slice_set machines (t - 1) x) tables'
+told script kernel kernel' machines tables tables' t turned x is e turn =
     let p = so_far script kernel.events
     in let is_due = due p t e
-    in let has = its_machine script kernel machines t is e
+    in let has = its_machine script kernel machines tables t is e
     in let counted : kernel.events ≡ length p.journal = events-counted p kernel is.kernel_stands
     in let counted' : kernel'.events ≡ length (with_turn p t).journal = events-counted (with_turn p t) kernel' turn.kernel_stands
     in let one : length (with_turn p t).journal ≡ length p.journal + 1 = simp length-append refl
@@ -211,6 +216,7 @@ told script kernel kernel' machines t turned x is e turn =
     in record {
       events = events ∙ sym event;
       stands =
-          IsSys-turn script p.journal (first_events script kernel'.events) kernel kernel' machines t x is has is_due.can is_due.left
-          (ap (with_journal script) events) turn.kernel_stands (subst (λ es. MachineStands script es t x) (event ∙ sym events) turn.machine_stands);
+          IsSys-turn script p.journal (first_events script kernel'.events) kernel kernel' machines tables tables' t x is has is_due.can is_due.left
+          (ap (with_journal script) events) turn.kernel_stands (subst (λ es. MachineStands script es t x) (event ∙ sym events) turn.machine_stands)
+          turn.tables_stand;
     }

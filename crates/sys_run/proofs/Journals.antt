@@ -1,18 +1,20 @@
 -- A journal stays a run of its script, turn by turn.
-use Rattle.std.proofs.Common.{◌≡◌, ℕ, ◌+◌, ◌≤◌, ◌<◌, List, [], ◌∷◌, ◌++◌, length, true, arith, refl, ap, ◌∙◌, length-append, zero-add}
+use Rattle.std.proofs.Common.{◌≡◌, ℕ, ◌+◌, ◌≤◌, ◌<◌, List, [], ◌∷◌, ◌++◌, length, Option, Some, None, true, arith, refl, ap, ◌∙◌, length-append, zero-add}
 use Rattle.std.specs.Prelude.{nat_le, nat_lt, not}
 use Rattle.std.proofs.lemmas.Bool.Decides.{nat_tests}
-use Rattle.written_kernel.specs.Words.{MayTurn, StandsFor, State, event_of, is_runnable}
+use Rattle.written_kernel.specs.Words.{MayTurn, StandsFor, State, is_runnable, process_of, AskedLine, asked_with}
 use Rattle.script_lang.specs.Words.{ScriptValue}
-use Rattle.written_script.specs.Words.{History, IsAllowed, IsDeclared, first_history, history_after, request_at_turn, run, run_from, threads_of_events}
+use Rattle.written_script.specs.Words.{History, IsAllowed, IsDeclared, event_at_turn, first_history, history_after, line_at_turn, request_at_turn, run, run_from, threads_of_events}
 use Rattle.written_script.proofs.Histories.{run-append, AreRunnableFrom-append, threads_of_events-append, length-threads_of_events, events-run}
-use Rattle.written_script.proofs.RunTurns.{IsKnownHistory, run-known, declared-known, may_turn}
-use Rattle.sys_run.specs.Sys.{SysValue, history, state_of_run, IsJournal, with_turn}
+use Rattle.written_script.proofs.RunTurns.{IsKnownHistory, run-known, declared-known, may_turn, process_of-run}
+use Rattle.script_requests.specs.Words.{IsThread}
+use Rattle.sys_run.specs.Sys.{SysValue, asked_in, history, state_of_run, IsJournal, with_turn}
+use Rattle.sys_run.specs.TurnRequests.{IsDeclaredIn}
 
 pub history-with_turn : (p : SysValue) (t : ℕ) → history (with_turn p t) ≡ history_after p.script (history p) t
 unfolding history
 history-with_turn p t =
-    ap (run p.script) (threads_of_events-append p.journal (event_of (history p).state t (request_at_turn p.script (history p) t) ∷ []))
+    ap (run p.script) (threads_of_events-append p.journal (event_at_turn p.script (history p) t ∷ []))
     ∙ run-append p.script (threads_of_events p.journal) t
 
 pub events-history : (p : SysValue) → (history p).state.events ≡ length p.journal
@@ -52,8 +54,8 @@ unfolding history run
 IsJournal-with_turn p t is can left =
     record {
       script = is.script;
-      events = rw (history-with_turn p t) (ap (λ es. es ++ event_of (history p).state t (request_at_turn p.script (history p) t) ∷ []) is.events);
-      allowed = rw (threads_of_events-append p.journal (event_of (history p).state t (request_at_turn p.script (history p) t) ∷ [])) (allowed_more p.script (threads_of_events p.journal) t is.allowed can (rw (length-threads_of_events p.journal) left));
+      events = rw (history-with_turn p t) (ap (λ es. es ++ event_at_turn p.script (history p) t ∷ []) is.events);
+      allowed = rw (threads_of_events-append p.journal (event_at_turn p.script (history p) t ∷ [])) (allowed_more p.script (threads_of_events p.journal) t is.allowed can (rw (length-threads_of_events p.journal) left));
     }
 
 pub le-not_lt : (a b : ℕ) → nat_le a b ≡ not (nat_lt b a)
@@ -73,3 +75,38 @@ length-history p =
     let rest : length (run_from p.script (first_history p.script) (threads_of_events p.journal)).events ≡ length (threads_of_events p.journal) =
     events-run_from p.script (threads_of_events p.journal) (first_history p.script) ∙ zero-add (length (threads_of_events p.journal))
     in rest ∙ length-threads_of_events p.journal
+
+-- the lines that the processes asked
+
+-- with those of one turn more
+pub asked_in-with_turn :
+    (p : SysValue) (t : ℕ) →
+    asked_in (with_turn p t) ≡ asked_with (asked_in p) (process_of (state_of_run p) t) (line_at_turn p.script (history p) t)
+asked_in-with_turn p t = ap (λ (h : History). h.asked) (history-with_turn p t)
+
+one_line : (asked : List AskedLine) (p : ℕ) (line : Option (List ℕ)) → length (asked_with asked p line) ≤ length asked + 1
+one_line asked p None = omega arith
+one_line asked p (Some line) =
+    let one : length (asked_with asked p (Some line)) ≡ length asked + 1 = simp length-append refl in omega arith
+
+asked-run_from : (script : ScriptValue) (ts : List ℕ) (h : History) → length (run_from script h ts).asked ≤ length h.asked + length ts
+asked-run_from script [] h = omega arith
+asked-run_from script (u ∷ us) h =
+    let one : length (history_after script h u).asked ≤ length h.asked + 1 = one_line h.asked (process_of h.state u) (line_at_turn script h u)
+    in let rest : length (run_from script (history_after script h u) us).asked ≤ length (history_after script h u).asked + length us =
+    asked-run_from script us (history_after script h u)
+    in omega arith
+
+-- there are no more than events
+pub few_asked : (p : SysValue) → length (asked_in p) ≤ length p.journal
+unfolding history run
+few_asked p =
+    let rest : length (run_from p.script (first_history p.script) (threads_of_events p.journal)).asked ≤ 0 + length (threads_of_events p.journal) =
+    asked-run_from p.script (threads_of_events p.journal) (first_history p.script)
+    in let count : length (threads_of_events p.journal) ≡ length p.journal = length-threads_of_events p.journal
+    in omega arith
+
+-- a thread is of the process that declares it
+pub declared-in : (p : SysValue) (t : ℕ) → IsJournal p → IsThread p.script t → IsDeclaredIn p.script t (process_of (state_of_run p) t)
+unfolding history
+declared-in p t is thread = process_of-run p.script (threads_of_events p.journal) t is.script thread

@@ -2,6 +2,7 @@ pub mod Finishing
 pub mod Journals
 pub mod Looks
 pub mod Machines
+pub mod NameTables
 pub mod Opens
 pub mod Scheduling
 pub mod Systems

@@ -2,6 +2,7 @@
 use Rattle.std.proofs.Common.{◌≡◌, ℕ, ◌+◌, ◌-◌, ◌≤◌, ◌<◌, List, [], length, Some, true, arith, refl, ap, sym, ◌∙◌, subst}
 use Rattle.std.specs.Prelude.{slice_get, slice_set}
 use Rattle.std.proofs.Math.ListN.{length-set}
+use Rattle.ncd_app.specs.Words.{NcdValue}
 use Rattle.written_kernel.specs.Types.{Event}
 use Rattle.script_lang.specs.Words.{ScriptValue}
 use Rattle.thread_machine.specs.declared.machine.Machine.{Machine}
@@ -11,7 +12,8 @@ use Rattle.script_requests.specs.Words.{IsSound, IsThread}
 use Rattle.written_script.specs.Words.{History, opening_of}
 use Rattle.written_script.proofs.Histories.{IsOpening-opening_of}
 use Rattle.written_script.proofs.RunTurns.{history_after-thread}
-use Rattle.sys_run.specs.Sys.{SysValue, with_journal, history, state_of_run, with_turn, MachineStands, AllStandFrom, IsJournal, IsSys}
+use Rattle.sys_run.specs.NameTables.{AllTablesStandFrom, HasTables}
+use Rattle.sys_run.specs.Sys.{SysValue, asked_in, with_journal, history, state_of_run, with_turn, MachineStands, AllStandFrom, IsJournal, IsSys}
 use Rattle.sys_run.proofs.Journals.{known-history, IsJournal-with_turn}
 use Rattle.sys_run.proofs.Finishing.{history-new}
 use Rattle.sys_run.proofs.Machines.{stands-at, AllStandFrom-turn, AllStandFrom-same}
@@ -25,10 +27,10 @@ IsJournal-new script sound =
     }
 
 pub IsSys-new :
-    (script : ScriptValue) (kernel : State) (machines : List Machine) →
+    (script : ScriptValue) (kernel : State) (machines : List Machine) (tables : List NcdValue) →
     IsSound script → kernel ≡ opening_of script → AllStandFrom script [] 1 machines → length machines ≡ length script.threads →
-    IsSys script [] kernel machines
-IsSys-new script kernel machines sound k first count =
+    AllTablesStandFrom [] 1 tables → length tables ≡ length script.processes → IsSys script [] kernel machines tables
+IsSys-new script kernel machines tables sound k first count stand there =
     record {
       journal_is_run = IsJournal-new script sound;
       kernel_stands =
@@ -38,6 +40,11 @@ IsSys-new script kernel machines sound k first count =
           (k ∙ sym (forget-opening (IsOpening-opening_of script sound)));
       machines_stand = first;
       machines_there = count;
+      tables_stand =
+          subst
+          (λ (h : History). HasTables script h.asked tables)
+          (sym (history-new script))
+          (record { stand = stand; there = there });
     }
 
 -- a runnable thread has a machine
@@ -46,9 +53,9 @@ pub record HasMachine (t : ℕ) (machines : List Machine) : Type 0 where
   pub place : t - 1 < length machines
 
 pub has_machine :
-    (script : ScriptValue) (es : List Event) (kernel : State) (machines : List Machine) (t : ℕ) →
-    IsSys script es kernel machines → is_runnable (state_of_run (with_journal script es)) t ≡ true → HasMachine t machines
-has_machine script es kernel machines t is can =
+    (script : ScriptValue) (es : List Event) (kernel : State) (machines : List Machine) (tables : List NcdValue) (t : ℕ) →
+    IsSys script es kernel machines tables → is_runnable (state_of_run (with_journal script es)) t ≡ true → HasMachine t machines
+has_machine script es kernel machines tables t is can =
     let thread : IsThread script t =
     history_after-thread script (history (with_journal script es)) t (known-history (with_journal script es) is.journal_is_run) can
     in let first : 0 < t = thread.0
@@ -57,22 +64,23 @@ has_machine script es kernel machines t is can =
     in record { first = first; place = omega arith }
 
 pub machine-stands :
-    (script : ScriptValue) (es : List Event) (kernel : State) (machines : List Machine) (t : ℕ) (x : Machine) →
-    IsSys script es kernel machines → HasMachine t machines → slice_get machines (t - 1) ≡ Some x →
+    (script : ScriptValue) (es : List Event) (kernel : State) (machines : List Machine) (tables : List NcdValue) (t : ℕ) (x : Machine) →
+    IsSys script es kernel machines tables → HasMachine t machines → slice_get machines (t - 1) ≡ Some x →
     MachineStands script es t x
-machine-stands script es kernel machines t x is has e =
+machine-stands script es kernel machines tables t x is has e =
     let first : 0 < t = has.first
     in let number : 1 + (t - 1) ≡ t = omega arith
     in rw number at (stands-at script es machines 1 (t - 1) x is.machines_stand e)
 
 -- after a turn
 pub IsSys-turn :
-    (script : ScriptValue) (es es' : List Event) (kernel kernel' : State) (machines : List Machine) (t : ℕ) (x : Machine) →
-    IsSys script es kernel machines → HasMachine t machines → is_runnable (state_of_run (with_journal script es)) t ≡ true →
+    (script : ScriptValue) (es es' : List Event) (kernel kernel' : State) (machines : List Machine) (tables tables' : List NcdValue) (t : ℕ)
+    (x : Machine) →
+    IsSys script es kernel machines tables → HasMachine t machines → is_runnable (state_of_run (with_journal script es)) t ≡ true →
     length es < script.budget → with_journal script es' ≡ with_turn (with_journal script es) t →
     StandsFor kernel' (state_of_run (with_turn (with_journal script es) t)) → MachineStands script es' t x →
-    IsSys script es' kernel' (slice_set machines (t - 1) x)
-IsSys-turn script es es' kernel kernel' machines t x is has can left new stands machine =
+    HasTables script (asked_in (with_turn (with_journal script es) t)) tables' → IsSys script es' kernel' (slice_set machines (t - 1) x) tables'
+IsSys-turn script es es' kernel kernel' machines tables tables' t x is has can left new stands machine stand =
     let first : 0 < t = has.first
     in let number : 1 + (t - 1) ≡ t = omega arith
     in let journal : es' ≡ (with_turn (with_journal script es) t).journal = ap (λ (p : SysValue). p.journal) new
@@ -93,22 +101,25 @@ IsSys-turn script es es' kernel kernel' machines t x is has can left new stands 
           (sym number)
           (rw number (rw journal at machine)));
       machines_there = simp length-set is.machines_there;
+      tables_stand = rw new stand;
     }
 
 -- where no turn was taken
 pub IsSys-same :
-    (script : ScriptValue) (es es' : List Event) (kernel kernel' : State) (machines : List Machine) (t : ℕ) (x : Machine) →
-    IsSys script es kernel machines → HasMachine t machines → es' ≡ es → kernel' ≡ kernel → MachineStands script es' t x →
-    IsSys script es' kernel' (slice_set machines (t - 1) x)
-IsSys-same script es es' kernel kernel' machines t x is has hes hk machine =
+    (script : ScriptValue) (es es' : List Event) (kernel kernel' : State) (machines : List Machine) (tables tables' : List NcdValue) (t : ℕ)
+    (x : Machine) →
+    IsSys script es kernel machines tables → HasMachine t machines → es' ≡ es → kernel' ≡ kernel → tables' ≡ tables → MachineStands script es' t x →
+    IsSys script es' kernel' (slice_set machines (t - 1) x) tables'
+IsSys-same script es es' kernel kernel' machines tables tables' t x is has hes hk ht machine =
     let first : 0 < t = has.first
     in let number : 1 + (t - 1) ≡ t = omega arith
-    in rw (hes, hk)
+    in rw (hes, hk, ht)
     (record {
       journal_is_run = is.journal_is_run;
       kernel_stands = is.kernel_stands;
       machines_stand = AllStandFrom-same script es machines 1 (t - 1) x is.machines_stand (rw number (rw hes at machine));
       machines_there = simp length-set is.machines_there;
+      tables_stand = is.tables_stand;
     })
 
 -- what the kernel sees of its threads is what its state has

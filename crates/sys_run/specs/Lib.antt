@@ -1,3 +1,4 @@
+pub mod NameTables
 pub mod Sys
 pub mod Schedules
 pub mod TurnRequests

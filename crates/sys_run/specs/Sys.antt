@@ -1,15 +1,17 @@
 -- A script with the journal of its events so far.
 use Rattle.std.specs.Prelude.{ℕ, ◌≡◌, ◌-◌, ◌∷◌, ◌++◌, [], List, Option, None, Bool, if◌then◌else◌, is_some, nat_lt, slice_get, suc, length}
 use Rattle.written_kernel.specs.Types.{Event, Tid}
-use Rattle.written_kernel.specs.Words.{StandsFor, State, event_of, least_runnable, output_at, state_of, step}
+use Rattle.written_kernel.specs.Words.{StandsFor, State, least_runnable, output_at, state_of, step, AskedLine}
 use Rattle.kernel_records.specs.declared.record.ThreadState.TheVariants as is
+use Rattle.ncd_app.specs.Words.{NcdValue}
 use Rattle.work_ops.specs.Words.{TaskValue}
 use Rattle.kernel_laws.specs.Words.{Laws}
 use Rattle.script_lang.specs.Words.{ScriptValue}
 use Rattle.script_requests.specs.Words.{IsSound, frame_of}
-use Rattle.written_script.specs.Words.{History, IsAllowed, least_runnable_turns, opening_of, request_at_turn, run, threads_of_events, turns_of}
+use Rattle.written_script.specs.Words.{History, IsAllowed, event_at_turn, least_runnable_turns, opening_of, request_at_turn, run, threads_of_events, turns_of}
 use Rattle.thread_machine.specs.declared.machine.Machine.{Machine}
 use Rattle.thread_machine.specs.Words.{IsMachine, Stands}
+use Rattle.sys_run.specs.NameTables.{HasTables}
 
 -- The value of a `Sys`: clauses see each `Sys` as this record.
 pub record SysValue : Type 0 where
@@ -25,6 +27,10 @@ history p = run p.script (threads_of_events p.journal)
 
 abbrev pub state_of_run : SysValue → State
 state_of_run p = (history p).state
+
+-- the lines that the processes of the run asked their tables, in order
+abbrev pub asked_in : SysValue → List AskedLine
+asked_in p = (history p).asked
 
 -- thread t is at a task
 abbrev pub is_working : State → ℕ → Bool
@@ -56,7 +62,7 @@ pub record IsJournal (p : SysValue) : Type 0 where
 
 -- the journal with the event of a turn of t
 abbrev pub with_turn : SysValue → ℕ → SysValue
-with_turn p t = with_journal p.script (p.journal ++ event_of (history p).state t (request_at_turn p.script (history p) t) ∷ [])
+with_turn p t = with_journal p.script (p.journal ++ event_at_turn p.script (history p) t ∷ [])
 
 abbrev pub with_turns : SysValue → List ℕ → SysValue
 with_turns p [] = p
@@ -78,9 +84,10 @@ turns_left p = least_runnable_turns p.script (p.script.budget - length p.journal
 abbrev pub scheduled_turn : SysValue → Option Tid
 scheduled_turn p = if nat_lt (length p.journal) p.script.budget then slice_get p.script.schedule (length p.journal) else None
 
--- kernel and machines stand after the journal's run
-pub record IsSys (script : ScriptValue) (journal : List Event) (kernel : State) (machines : List Machine) : Type 0 where
+-- kernel, machines and name tables stand after the journal's run
+pub record IsSys (script : ScriptValue) (journal : List Event) (kernel : State) (machines : List Machine) (tables : List NcdValue) : Type 0 where
   pub journal_is_run : IsJournal (with_journal script journal)
   pub kernel_stands : StandsFor kernel (state_of_run (with_journal script journal))
   pub machines_stand : AllStandFrom script journal 1 machines
   pub machines_there : length machines ≡ length script.threads
+  pub tables_stand : HasTables script (asked_in (with_journal script journal)) tables

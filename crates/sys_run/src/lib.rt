@@ -3,6 +3,7 @@
 
 mod kernel_looks;
 pub mod laws;
+mod name_tables;
 mod opening;
 pub mod playing;
 pub mod sys;

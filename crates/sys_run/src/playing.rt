@@ -7,6 +7,7 @@ ghost use Rattle.sys_run.specs.Playing.{EndsIfTold, EndsPlay, told_events, turn_
 ghost use Rattle.sys_run.specs.Sys.{LawsOf, history, state_of_run, with_journal};
 
 use crate::kernel_looks::{ending_of, next_scheduled, next_thread};
+use crate::name_tables::NameTables;
 use crate::opening::{first_machines, open};
 use crate::sys::Played;
 use crate::threads::all_waiting;
@@ -31,13 +32,14 @@ pub enum Told {
     End { played: Played },
 }
 
-/// The run that `play` makes of a script, turn by turn. Kernel and machines stand after the turns so far, of which the kernel has the
-/// number alone. Clauses see the journal of their events, as of a `Sys`.
+/// The run that `play` makes of a script, turn by turn. Kernel, machines and name tables stand after the turns so far, of which the
+/// kernel has the number alone. Clauses see the journal of their events, as of a `Sys`.
 pub struct Playing {
     alloc: Global,
     script: Script,
     kernel: Kernel,
     machines: Vec<Machine>,
+    tables: NameTables,
 }
 
 /// By hand, so that dropping a run is one call for its holder, who would otherwise drop each of its parts.
@@ -48,6 +50,7 @@ impl Drop for Playing {
             script: _,
             kernel: _,
             machines: _,
+            tables: _,
         } = self;
     }
 }
@@ -60,7 +63,7 @@ impl Model for Playing {
 
     ghost view = { λ s. with_journal s.script (first_events s.script s.kernel.events) };
 
-    ghost invariant = { λ s. IsSys s.script (first_events s.script s.kernel.events) s.kernel s.machines.items };
+    ghost invariant = { λ s. IsSys s.script (first_events s.script s.kernel.events) s.kernel s.machines.items s.tables };
 }
 
 /// The bytes of a thread's task, if it is at one.
@@ -86,11 +89,13 @@ impl Playing {
         script_requests::laws::sound_scripts();
         let kernel = open(alloc, &script)?;
         let machines = first_machines(alloc, &script)?;
+        let tables = NameTables::new(alloc, script.processes())?;
         Ok(Playing {
             alloc,
             script,
             kernel,
             machines,
+            tables,
         })
     }
 
@@ -125,6 +130,7 @@ impl Playing {
             &self.script,
             &mut self.kernel,
             machine,
+            &mut self.tables,
             t,
             output,
         )?;

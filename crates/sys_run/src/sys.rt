@@ -6,6 +6,7 @@ ghost use Rattle.written_script.specs.Words.{ending_of, is_over, scheduled_turns
 ghost use Rattle.sys_run.specs.Sys.{with_journal, history, state_of_run, with_turn, with_turns, turns_left, next_turn, scheduled_turn, threads_woken_by, LawsOf, IsJournal, WorksOn, is_working};
 
 use crate::kernel_looks::{ending_of, next_scheduled, next_thread};
+use crate::name_tables::NameTables;
 use crate::opening::{first_machines, open};
 use crate::threads::all_waiting;
 use crate::turn::take_turn;
@@ -31,13 +32,14 @@ pub enum Played {
     Refused { turn: u32, thread: Tid },
 }
 
-/// A script, the kernel, and the journal of the events so far. The journal is a run of the script from its opening
-/// state, in which its threads took turns, and kernel and machines stand after it.
+/// A script, the kernel, a name table for each process, and the journal of the events so far. The journal is a run of the script from
+/// its opening state, in which its threads took turns, and kernel, machines and tables stand after it.
 pub struct Sys {
     alloc: Global,
     script: Script,
     kernel: Kernel,
     machines: Vec<Machine>,
+    tables: NameTables,
     journal: Vec<Event>,
 }
 
@@ -49,6 +51,7 @@ impl Drop for Sys {
             script: _,
             kernel: _,
             machines: _,
+            tables: _,
             journal: _,
         } = self;
     }
@@ -61,7 +64,7 @@ impl Model for Sys {
 
     ghost view = { λ s. record { script = s.script; journal = s.journal.items } };
 
-    ghost invariant = { λ s. IsSys s.script s.journal.items s.kernel s.machines.items };
+    ghost invariant = { λ s. IsSys s.script s.journal.items s.kernel s.machines.items s.tables };
 }
 
 impl Sys {
@@ -75,12 +78,15 @@ impl Sys {
         script_requests::laws::sound_scripts();
         let kernel = open(alloc, &script)?;
         let machines = first_machines(alloc, &script)?;
+        let tables = NameTables::new(alloc, script.processes())?;
+        let journal = Vec::new(alloc);
         Ok(Sys {
             alloc,
             script,
             kernel,
             machines,
-            journal: Vec::new(alloc),
+            tables,
+            journal,
         })
     }
 
@@ -159,6 +165,7 @@ impl Sys {
             &self.script,
             &mut self.kernel,
             machine,
+            &mut self.tables,
             &mut self.journal,
             t,
             output,

@@ -38,11 +38,16 @@ pub(crate) fn of_entry(request: &Request) -> What
         Request::Send { .. } => What::Send,
         Request::SendN { .. } => What::SendN,
         Request::Alert { .. } => What::Alert,
+        Request::TimerCreate { .. } => What::TimerCreate,
+        Request::TimerSet { .. } => What::TimerSet,
+        Request::TimerDelete { .. } => What::TimerDelete,
+        Request::Advance { .. } => What::Advance,
         Request::Interrupt { .. } => What::Interrupt,
         Request::Kill { .. } => What::Kill,
         Request::Exit => What::Exit,
         Request::Fork { .. } => What::Fork,
         Request::Work { .. } => What::Work,
+        Request::Ncd { .. } => What::Ncd,
     }
 }
 

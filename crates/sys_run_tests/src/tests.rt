@@ -177,17 +177,48 @@ fn runs(rt: HostRuntime) -> Result<(), Fail> {
     Ok(())
 }
 
-/// Some turns of another kind: a task is done, and the run ends in a third way.
-const OTHERS: [&str; 2] = [
+/// Two processes ask their name tables in turn.
+const TABLES: &str =
+    "doors script 4\nprocess p\nthread w\n ncd r \"set k v\"\n ncd r \"get k\"\n ncd r \"get k\"\n ncd r \"stat\"\nend\nprocess q\nthread v\n ncd r \"get k\"\n ncd r \"get k\"\n ncd r \"set k u\"\n ncd r \"get k\"\nend\nschedule w v w v w v w v\n";
+
+/// What they are replied, turn by turn; an exit has no text.
+const REPLIES: [&str; 10] = [
+    "ok",
+    "none",
+    "value v",
+    "none",
+    "value v",
+    "ok",
+    "hits 1 misses 1",
+    "value u",
+    "",
+    "",
+];
+
+/// Some turns of another kind: a task is done, the run ends in a third way, and lines are replied to.
+const OTHERS: [&str; 3] = [
     "doors script 1\nprocess p\nthread w\n work h digest \"hi\"\nend\n",
     "doors script 1\nbudget 3\nprocess p\nthread w\n repeat 9\n  open d x\n end\nend\n",
+    TABLES,
 ];
+
+/// Whether two answers have the same bytes of a task or of a reply, or neither has any.
+fn have_same_bytes(told: &Answer, kept: &Answer) -> bool {
+    match (told, kept) {
+        (Answer::Data { bytes: told }, Answer::Data { bytes: kept }) => {
+            told.slice() == kept.slice()
+        }
+        (Answer::Data { .. }, _) | (_, Answer::Data { .. }) => false,
+        _ => true,
+    }
+}
 
 fn is_same(told: &Event, kept: &Event) -> bool {
     told.number == kept.number
         && told.thread == kept.thread
         && told.root == kept.root
         && told.what == kept.what
+        && have_same_bytes(&told.answer, &kept.answer)
 }
 
 fn tells_event(playing: &mut Playing, kept: &Event) -> bool {
@@ -253,6 +284,47 @@ fn told_events(rt: HostRuntime) -> Result<(), Fail> {
         let is_right = is_told_of(rt.alloc(), text);
         assert!(rt; is_right, "{text}");
     }
+    Ok(())
+}
+
+fn is_reply(event: &Event, reply: &str) -> bool {
+    match &event.answer {
+        Answer::Data { bytes } => bytes.slice() == reply.as_bytes(),
+        _ => reply.is_empty(),
+    }
+}
+
+fn are_replies(events: &[Event], replies: &[&str]) -> bool {
+    events.len() == replies.len()
+        && events
+            .iter()
+            .zip(replies.iter())
+            .all(|(event, reply)| is_reply(event, reply))
+}
+
+fn is_replied(alloc: Global, script: Script) -> bool {
+    match Sys::new(alloc, script) {
+        Ok(mut sys) => play_all(&mut sys).is_some() && are_replies(sys.journal(), &REPLIES),
+        Err(_) => false,
+    }
+}
+
+fn is_replied_of(alloc: Global, text: &str) -> bool {
+    if text.len() >= 4_000_000_000 {
+        return false;
+    }
+    match parse(alloc, text.as_bytes()) {
+        Ok(script) => is_replied(alloc, script),
+        Err(_) => false,
+    }
+}
+
+/// Each process has a table of its own, with its own cache, and the journal has the bytes of its replies; `told_events` looks that a
+/// run which is told has the same.
+#[test]
+fn replies(rt: HostRuntime) -> Result<(), Fail> {
+    let is_right = is_replied_of(rt.alloc(), TABLES);
+    assert!(rt; is_right, "replies of two tables");
     Ok(())
 }
 

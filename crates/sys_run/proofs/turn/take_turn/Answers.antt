@@ -1,4 +1,5 @@
 use Rattle.std.proofs.Common.{◌≡◌, ℕ, List, [], ◌∷◌, ◌++◌, ap, sym, ◌∙◌, subst}
+use Rattle.ncd_app.specs.Words.{NcdValue}
 use Rattle.written_kernel.specs.Types.{Event}
 use Rattle.written_kernel.specs.Words.{State}
 use Rattle.script_lang.specs.Words.{ScriptValue}
@@ -15,9 +16,9 @@ record HasAppended (script : ScriptValue) (es fs : List Event) (t : ℕ) (x : Ma
   pub machine : MachineStands script fs t x
 
 appended :
-    (script : ScriptValue) (es room fs : List Event) (t : ℕ) (turned : Turned) (kernel : State) (x : Machine) → room ≡ es →
-    fs ≡ room ++ turned.event ∷ [] → HasTurned script es t turned kernel x → HasAppended script es fs t x
-appended script es room fs t turned kernel x same new h =
+    (script : ScriptValue) (es room fs : List Event) (t : ℕ) (turned : Turned) (kernel : State) (x : Machine) (tables : List NcdValue) → room ≡ es →
+    fs ≡ room ++ turned.event ∷ [] → HasTurned script es t turned kernel x tables → HasAppended script es fs t x
+appended script es room fs t turned kernel x tables same new h =
     let events : fs ≡ es ++ turned.event ∷ [] = new ∙ ap (λ gs. gs ++ turned.event ∷ []) same
     in record {
       journal = ap (with_journal script) events ∙ h.journal;
@@ -35,14 +36,17 @@ returns-in_err-turned-clause-machine c = rw c.make_room.ensures.items (c.in_err-
 
 pub returns-clause-journal : goal.returns-clause-journal
 returns-clause-journal c =
-    (appended _ _ _ _ _ _ _ _ c.make_room.ensures.items c.push_reserved.ensures.items (c.in_ok-turned.ensures.turned _ c.requires)).journal
+    (appended _ _ _ _ _ _ _ _ _ c.make_room.ensures.items c.push_reserved.ensures.items (c.in_ok-turned.ensures.turned _ c.requires)).journal
 
 pub returns-clause-kernel : goal.returns-clause-kernel
 returns-clause-kernel c = (c.in_ok-turned.ensures.turned _ c.requires).kernel_stands
 
 pub returns-clause-machine : goal.returns-clause-machine
 returns-clause-machine c =
-    (appended _ _ _ _ _ _ _ _ c.make_room.ensures.items c.push_reserved.ensures.items (c.in_ok-turned.ensures.turned _ c.requires)).machine
+    (appended _ _ _ _ _ _ _ _ _ c.make_room.ensures.items c.push_reserved.ensures.items (c.in_ok-turned.ensures.turned _ c.requires)).machine
+
+pub returns-clause-tables : goal.returns-clause-tables
+returns-clause-tables c = (c.in_ok-turned.ensures.turned _ c.requires).tables_stand
 
 pub returns-clause-woken : goal.returns-clause-woken
 returns-clause-woken c = (c.in_ok-turned.ensures.turned _ c.requires).woken

@@ -1,5 +1,6 @@
 use Rattle.std.proofs.Common.{◌≡◌, ℕ, List, Option, Result, Ok, Err, IfOk, OnErr, subst, sym}
 use Rattle.std.proofs.lemmas.Result.{IfOk-weaker}
+use Rattle.ncd_app.specs.Words.{NcdValue}
 use Rattle.written_kernel.specs.Types.{Event, NoMemory}
 use Rattle.written_kernel.specs.Words.{State}
 use Rattle.script_lang.specs.Words.{ScriptValue}
@@ -19,13 +20,14 @@ stands-with_room : (script : ScriptValue) (es : List Event) (t : ℕ) (old new :
 stands-with_room script es t old new kept is = record { machine = kept.0 script is.machine; stands = kept.1 script _ is.stands }
 
 can-with_room :
-    (script : ScriptValue) (es : List Event) (kernel : State) (old new : Machine) (t : ℕ) (output : Option (List ℕ)) → KeepsMachine old new →
-    CanTurn script es kernel old t output → CanTurn script es kernel new t output
-can-with_room script es kernel old new t output kept h =
+    (script : ScriptValue) (es : List Event) (kernel : State) (old new : Machine) (tables : List NcdValue) (t : ℕ) (output : Option (List ℕ)) →
+    KeepsMachine old new → CanTurn script es kernel old tables t output → CanTurn script es kernel new tables t output
+can-with_room script es kernel old new tables t output kept h =
     record {
       run = h.run;
       kernel_stands = h.kernel_stands;
       machine_stands = stands-with_room script es t old new kept h.machine_stands;
+      tables_stand = h.tables_stand;
       can = h.can;
       left = h.left;
       is_output = h.is_output;
@@ -44,7 +46,7 @@ in_any (Err fault) p = p
 
 pub turn-requires-clause-can : goal.turn-requires-clause-can
 turn-requires-clause-can c =
-    (c.requires.0, can-with_room _ _ _ _ _ _ _ (c.make_room.ensures.machine, c.make_room.ensures.stands) c.requires.1)
+    (c.requires.0, can-with_room _ _ _ _ _ _ _ _ (c.make_room.ensures.machine, c.make_room.ensures.stands) c.requires.1)
 
 pub returns-in_err-make_room-clause-machine_err : goal.returns-in_err-make_room-clause-machine_err
 returns-in_err-make_room-clause-machine_err c =
@@ -53,9 +55,9 @@ returns-in_err-make_room-clause-machine_err c =
 pub returns-clause-turned : goal.returns-clause-turned
 returns-clause-turned c =
     IfOk-weaker c.turn.result
-    (λ x. (es : List Event) → CanTurn c.args.script.now es c.args.kernel.now c.make_room.new.self c.args.t.0 c.args.output → HasTurned c.args.script.now es c.args.t.0 x c.turn.new.kernel c.turn.new.machine)
-    (λ x. (es : List Event) → CanTurn c.args.script.now es c.args.kernel.now c.args.machine.now c.args.t.0 c.args.output → HasTurned c.args.script.now es c.args.t.0 x c.turn.new.kernel c.turn.new.machine)
-    (λ x turned. λ es h. turned es (can-with_room _ es _ _ _ _ _ (c.make_room.ensures.machine, c.make_room.ensures.stands) h))
+    (λ x. (es : List Event) → CanTurn c.args.script.now es c.args.kernel.now c.make_room.new.self c.args.tables.now c.args.t.0 c.args.output → HasTurned c.args.script.now es c.args.t.0 x c.turn.new.kernel c.turn.new.machine c.turn.new.tables)
+    (λ x. (es : List Event) → CanTurn c.args.script.now es c.args.kernel.now c.args.machine.now c.args.tables.now c.args.t.0 c.args.output → HasTurned c.args.script.now es c.args.t.0 x c.turn.new.kernel c.turn.new.machine c.turn.new.tables)
+    (λ x turned. λ es h. turned es (can-with_room _ es _ _ _ _ _ _ (c.make_room.ensures.machine, c.make_room.ensures.stands) h))
     c.turn.ensures.turned
 
 pub returns-clause-machine_err : goal.returns-clause-machine_err

@@ -9,17 +9,18 @@ use Rattle.sys_run.proofs.sys.Sys.take.Goals as goal
 pub index_mut-machine-requires : goal.index_mut-machine-requires
 index_mut-machine-requires c =
     let has : HasMachine c.args.t.0 c.self.inside.machines.items =
-    has_machine _ _ _ _ _ c.self.invariant (rw (← c.self.view_is) at c.requires.can)
+    has_machine _ _ _ _ _ _ c.self.invariant (rw (← c.self.view_is) at c.requires.can)
     in omega (arith, has.place)
 
 pub take_turn-requires : goal.take_turn-requires
 take_turn-requires c =
     let has : HasMachine c.args.t.0 c.self.inside.machines.items =
-    has_machine _ _ _ _ _ c.self.invariant (rw (← c.self.view_is) at c.requires.can)
+    has_machine _ _ _ _ _ _ c.self.invariant (rw (← c.self.view_is) at c.requires.can)
     in record {
       run = c.self.invariant.journal_is_run;
       kernel_stands = c.self.invariant.kernel_stands;
-      machine_stands = machine-stands _ _ _ _ _ _ c.self.invariant has (slice_get_read _ _ _ _ refl has.place c.index_mut-machine.ensures.value);
+      machine_stands = machine-stands _ _ _ _ _ _ _ c.self.invariant has (slice_get_read _ _ _ _ refl has.place c.index_mut-machine.ensures.value);
+      tables_stand = c.self.invariant.tables_stand;
       can = rw (← c.self.view_is) at c.requires.can;
       left = rw (← c.self.view_is) at c.requires.left;
       is_output = rw (← c.self.view_is) at c.requires.output;
@@ -28,8 +29,10 @@ take_turn-requires c =
 pub invariant_of-self : goal.invariant_of-self
 invariant_of-self c =
     let has : HasMachine c.args.t.0 c.self.inside.machines.items =
-    has_machine _ _ _ _ _ c.self.invariant (rw (← c.self.view_is) at c.requires.can)
+    has_machine _ _ _ _ _ _ c.self.invariant (rw (← c.self.view_is) at c.requires.can)
     in IsSys-same
+    _
+    _
     _
     _
     _
@@ -42,13 +45,16 @@ invariant_of-self c =
     has
     c.in_err-woken.ensures.journal_err
     c.in_err-woken.ensures.kernel_err
+    c.in_err-woken.ensures.tables_err
     c.in_err-woken.ensures.machine
 
 pub invariant_of-self-2 : goal.invariant_of-self-2
 invariant_of-self-2 c =
     let has : HasMachine c.args.t.0 c.self.inside.machines.items =
-    has_machine _ _ _ _ _ c.self.invariant (rw (← c.self.view_is) at c.requires.can)
+    has_machine _ _ _ _ _ _ c.self.invariant (rw (← c.self.view_is) at c.requires.can)
     in IsSys-turn
+    _
+    _
     _
     _
     _
@@ -64,6 +70,7 @@ invariant_of-self-2 c =
     c.in_ok-woken.ensures.journal
     c.in_ok-woken.ensures.kernel
     c.in_ok-woken.ensures.machine
+    c.in_ok-woken.ensures.tables
 
 pub returns-clause-laws : goal.returns-clause-laws
 returns-clause-laws c =
