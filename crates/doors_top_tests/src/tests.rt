@@ -49,10 +49,11 @@ fn is_answer<R: Threads + Wait + Sync>(
     requires { 1 ≤ piece }
 {
     let (read, write) = failing;
-    let mut sink = MemSink::new(alloc, 4096, piece, CallList::from_slice(alloc, &[write])?)?;
-    let fail = CallList::from_slice(alloc, &[read])?;
     let bytes = Bytes::from_slice(alloc, input.as_bytes())?;
-    let mut source = MemSource::in_pieces(bytes, piece, fail);
+    let reads = CallList::from_slice(alloc, &[read])?;
+    let writes = CallList::from_slice(alloc, &[write])?;
+    let mut sink = MemSink::new(alloc, 4096, piece, writes)?;
+    let mut source = MemSource::in_pieces(bytes, piece, reads);
     Ok(ends_with(rt, alloc, words, &mut source, &mut sink, expected))
 }
 
@@ -69,7 +70,7 @@ const CANONICAL: &str =
     "doors script 1\nbudget 100000\nprocess a limit 256\nthread t\nsend 3 1 2\nreturn \"A\\x0a\" + $v desc $d!\nend\n";
 
 /// The words and the input, and then how many of its bytes are left, the output and the status.
-const ANSWERS: [(&[&str], &str, usize, &str, Status); 22] = [
+static ANSWERS: [(&[&str], &str, usize, &str, Status); 22] = [
     (&["play"], ECHO, 0, ECHO_TRACE, Status::Complete),
     (&["show"], SPACED, 0, CANONICAL, Status::Complete),
     // a wait that nothing ends
@@ -218,11 +219,11 @@ const ANSWERS: [(&[&str], &str, usize, &str, Status); 22] = [
 #[test]
 fn commands_are_answered(rt: HostRuntime) -> Result<(), Fail> {
     let alloc = rt.alloc();
-    for (words, input, left, output, status) in ANSWERS {
+    for (words, input, left, output, status) in ANSWERS.iter() {
         let expected = Expected {
-            left,
-            output,
-            status,
+            left: *left,
+            output: *output,
+            status: *status,
         };
         let is_whole = is_answer(&rt, alloc, words, input, 4096, (0, 0), &expected)?;
         assert!(rt; is_whole, "{output}");
@@ -237,7 +238,7 @@ const EXIT: &str = "doors script 1\nprocess p\nthread t\nend\n";
 
 /// The words, the input, the read and the write of five bytes that fail, and then how many bytes of the input are left, the
 /// output and the status.
-const FAULTS: [(&[&str], &str, (u64, u64), usize, &str, Status); 10] = [
+static FAULTS: [(&[&str], &str, (u64, u64), usize, &str, Status); 10] = [
     (&["play"], ECHO, (9, 0), 126, "", Status::ReadFault),
     (&["play"], ECHO, (0, 3), 0, "1 s s crea", Status::WriteFault),
     (&["run"], EXIT, (3, 0), 28, "", Status::ReadFault),
@@ -274,13 +275,13 @@ const FAULTS: [(&[&str], &str, (u64, u64), usize, &str, Status); 10] = [
 #[test]
 fn reads_and_writes_fail(rt: HostRuntime) -> Result<(), Fail> {
     let alloc = rt.alloc();
-    for (words, input, failing, left, output, status) in FAULTS {
+    for (words, input, failing, left, output, status) in FAULTS.iter() {
         let expected = Expected {
-            left,
-            output,
-            status,
+            left: *left,
+            output: *output,
+            status: *status,
         };
-        let is_cut = is_answer(&rt, alloc, words, input, 5, failing, &expected)?;
+        let is_cut = is_answer(&rt, alloc, words, input, 5, *failing, &expected)?;
         assert!(rt; is_cut, "{output}");
     }
     Ok(())
@@ -292,8 +293,8 @@ fn is_played(alloc: Global, source: &mut MemSource, sink: &mut MemSink) -> bool 
 }
 
 fn plays(alloc: Global) -> Result<bool, Fail> {
-    let mut sink = MemSink::new(alloc, 4096, 4096, CallList::new(alloc))?;
     let bytes = Bytes::from_slice(alloc, ECHO.as_bytes())?;
+    let mut sink = MemSink::new(alloc, 4096, 4096, CallList::new(alloc))?;
     let mut source = MemSource::new(bytes, CallList::new(alloc));
     Ok(is_played(alloc, &mut source, &mut sink))
 }

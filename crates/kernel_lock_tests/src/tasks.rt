@@ -1,11 +1,9 @@
-use crate::tests::{ends, reaches, script_of};
-use dk_base::answer::Answer;
-use dk_base::event::Event;
+use crate::runs::{Besides, Expected, reaches, run_is};
 use dk_base::number::Tid;
 use dk_base::outside::{Gate, NoGate};
-use kernel_lock::run::{Ran, run_threads_on};
 use script_requests::ending::Ending;
 use std::alloc::Global;
+use std::process::Abort;
 use std::sync::Wait;
 use std::sync::atomic::{AtomicU64, Ordering};
 use std::test::Fail;
@@ -14,17 +12,26 @@ use std::thread::Threads;
 const TASKS: &str =
     "doors script 1\nprocess p\nthread w1\n work v upper \"ab1\"\nend\nthread w2\n work v reverse \"abc\"\nend\nthread w3\n work v sum \"abc\"\nend\nthread w4\n work v digest \"abc\"\nend\n";
 
-/// What each worker's task gives.
-const OUTPUTS: [&str; 4] = [
-    "AB1",
-    "cba",
-    "294",
-    "ba7816bf8f01cfea414140de5dae2223b00361a396177a9cb410ff61f20015ad",
-];
+/// Each worker's task gives its output.
+const COMPUTED: Expected = Expected {
+    ending: Ending::Complete,
+    threads: 4,
+    besides: Besides::Gives { events: 12 },
+};
 
 /// The second kill is there so that the run goes on after the first.
 const KILLED: &str =
     "doors script 1\nprocess p\nthread w\n work v upper \"a\"\nend\nprocess o\nthread k\n kill p\n kill p\nend\n";
+
+/// The worker's task is dropped.
+const DROPPED: Expected = Expected {
+    ending: Ending::Complete,
+    threads: 2,
+    besides: Besides::Takes {
+        first: 1,
+        second: 3,
+    },
+};
 
 const WORKER: Tid = Tid(1);
 
@@ -116,58 +123,16 @@ impl Gate for Killing {
     }
 }
 
-/// Whether a thread's task is done, and gave this.
-fn gives(events: &[Event], t: u32, output: &str) -> bool {
-    for event in events {
-        if let Answer::Data { bytes } = &event.answer {
-            if event.thread == Tid(t) {
-                return bytes.slice() == output.as_bytes();
-            }
-        }
-    }
-    false
-}
-
-/// Whether each worker's task gave what it is to give.
-fn all_give(events: &[Event]) -> bool {
-    let mut t: u32 = 0;
-    for output in OUTPUTS {
-        t = t.wrapping_add(1);
-        if !gives(events, t, output) {
-            return false;
-        }
-    }
-    true
-}
-
-/// Whether so many threads end a run of so many events, where at most `started` of them are started.
-fn is_whole(ran: &Ran, threads: usize, started: u32, events: u32) -> bool {
-    ends(ran, Ending::Complete, threads, started) && ran.sys.events() == events
-}
-
-/// Whether four workers each compute their task, where at most so many threads are started.
-fn work<G: Gate + Sync, R: Threads + Wait + Sync>(
-    rt: &R,
-    alloc: Global,
-    gate: &G,
-    most: u32,
-) -> bool {
-    let Some(script) = script_of(alloc, TASKS) else {
-        return false;
-    };
-    match run_threads_on(rt, alloc, script, gate, most) {
-        Ok(ran) => is_whole(&ran, 4, most, 12) && all_give(ran.sys.journal()),
-        Err(_) => false,
-    }
+fn workers_meet<R: Abort + Threads + Wait + Sync>(rt: &R, alloc: Global, gate: &Workers) {
+    let is_right = run_is(rt, alloc, TASKS, gate, u32::MAX, COMPUTED);
+    assert!(rt; is_right, "each task gave its output");
+    assert!(rt; gate.failed.load(Ordering::SeqCst) == 0, "the workers met");
 }
 
 /// Four workers are held until all have computed, so each has computed in a thread of its own and has not handed in.
 #[test]
 fn four_workers_compute_at_once(rt: HostRuntime) -> Result<(), Fail> {
-    let gate = Workers::new();
-    let works = work(&rt, rt.alloc(), &gate, u32::MAX);
-    assert!(rt; works, "each task gave its output");
-    assert!(rt; gate.failed.load(Ordering::SeqCst) == 0, "the workers met");
+    workers_meet(&rt, rt.alloc(), &Workers::new());
     Ok(())
 }
 
@@ -175,31 +140,21 @@ fn four_workers_compute_at_once(rt: HostRuntime) -> Result<(), Fail> {
 #[test]
 fn refused_starts_compute(rt: HostRuntime) -> Result<(), Fail> {
     for most in 0..5u32 {
-        let works = work(&rt, rt.alloc(), &NoGate, most);
-        assert!(rt; works, "with {most} each task gave its output");
+        let is_right = run_is(&rt, rt.alloc(), TASKS, &NoGate, most, COMPUTED);
+        assert!(rt; is_right, "with {most} each task gave its output");
     }
     Ok(())
 }
 
-/// Whether the worker's task was dropped: it took one turn, and the killer three.
-fn is_dropped<R: Threads + Wait + Sync>(rt: &R, alloc: Global, gate: &Killing) -> bool {
-    let Some(script) = script_of(alloc, KILLED) else {
-        return false;
-    };
-    match run_threads_on(rt, alloc, script, gate, u32::MAX) {
-        Ok(ran) => {
-            is_whole(&ran, 2, u32::MAX, 4) && ran.by.slice() == [1, 3].as_slice() && ran.tail == 0
-        }
-        Err(_) => false,
-    }
+fn worker_is_killed<R: Abort + Threads + Wait + Sync>(rt: &R, alloc: Global, gate: &Killing) {
+    let is_right = run_is(rt, alloc, KILLED, gate, u32::MAX, DROPPED);
+    assert!(rt; is_right, "what was computed is dropped");
+    assert!(rt; gate.failed.load(Ordering::SeqCst) == 0, "the two met");
 }
 
 /// A worker is killed after it has computed and before it hands in.
 #[test]
 fn killed_before_it_hands_in(rt: HostRuntime) -> Result<(), Fail> {
-    let gate = Killing::new();
-    let dropped = is_dropped(&rt, rt.alloc(), &gate);
-    assert!(rt; dropped, "what was computed is dropped");
-    assert!(rt; gate.failed.load(Ordering::SeqCst) == 0, "the two met");
+    worker_is_killed(&rt, rt.alloc(), &Killing::new());
     Ok(())
 }

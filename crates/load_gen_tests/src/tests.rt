@@ -8,7 +8,7 @@ use std::alloc::Global;
 use sys_run::playing::Playing;
 
 /// What `show` prints of a load of so many calls.
-const SHOWN: [(u32, &str); 5] = [
+static SHOWN: [(u32, &str); 5] = [
     (
         1,
         "doors script 1\nbudget 100000\nprocess srv limit 256\nthread s\ncreate d echo 0\nattach $d load\nserve\nend\nproc echo\nclose $arg\nreturn $arg\nend\nprocess cli limit 256\nthread k1\nopen d load\nrepeat 1\ndup e $d\ncall r $d \"k\" desc $e! rsize 4096\nend\nend\n",
@@ -46,13 +46,13 @@ fn is_printed(alloc: Global, script: &Script, expected: &str) -> bool {
 
 #[test]
 fn loads_are_shown(rt: HostRuntime) {
-    for (n, expected) in SHOWN {
-        assert!(rt; is_shown(rt.alloc(), n, expected), "a load of {n}");
+    for (n, expected) in SHOWN.iter() {
+        assert!(rt; is_shown(rt.alloc(), *n, expected), "a load of {n}");
     }
 }
 
 /// The line of a load's run.
-const LOADS: [(u32, &str); 3] = [
+static LOADS: [(u32, &str); 3] = [
     (1, "load 1 calls 1 ok 1 events 11 end complete"),
     (2, "load 2 calls 2 ok 2 events 19 end complete"),
     (5, "load 5 calls 5 ok 5 events 41 end complete"),
@@ -83,13 +83,13 @@ fn is_played(alloc: Global, n: u32, expected: &str) -> bool {
 
 #[test]
 fn loads_are_told(rt: HostRuntime) {
-    for (n, expected) in LOADS {
-        assert!(rt; is_played(rt.alloc(), n, expected), "a load of {n}");
+    for (n, expected) in LOADS.iter() {
+        assert!(rt; is_played(rt.alloc(), *n, expected), "a load of {n}");
     }
 }
 
 /// Runs of other scripts, in which not each call is made, and not each is answered.
-const OTHERS: [(&str, &str); 4] = [
+static OTHERS: [(&str, &str); 4] = [
     // a call that is refused is not made
     (
         "doors script 1\nprocess p\nthread t\ncall r 9 \"\"\nend\n",
@@ -124,7 +124,7 @@ fn is_told_of(alloc: Global, text: &str, expected: &str) -> bool {
 
 #[test]
 fn other_runs_are_told(rt: HostRuntime) {
-    for (text, expected) in OTHERS {
+    for (text, expected) in OTHERS.iter() {
         assert!(rt; is_told_of(rt.alloc(), text, expected), "{expected}");
     }
 }

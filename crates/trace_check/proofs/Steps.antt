@@ -3,11 +3,11 @@ use Rattle.std.proofs.Common.{◌≡◌, ℕ, ◌+◌, ◌-◌, ◌<◌, Bool, t
 use Rattle.std.specs.Prelude.{slice_get, bytes_eq, is_none, nat_le, ◌||◌, if◌then◌else◌}
 use Rattle.std.proofs.lemmas.Bool.Decides.{nat_tests}
 use Rattle.written_kernel.specs.Types.{Event}
-use Rattle.written_kernel.specs.Words.{event_of, least_runnable}
+use Rattle.written_kernel.specs.Words.{least_runnable}
 use Rattle.script_text.specs.Words.{lines_of}
 use Rattle.script_lang.specs.Words.{ScriptValue}
 use Rattle.script_requests.specs.Words.{line_of}
-use Rattle.written_script.specs.Words.{History, history_after, is_over, request_at_turn, run}
+use Rattle.written_script.specs.Words.{History, event_at_turn, history_after, is_over, run}
 use Rattle.written_trace.specs.declared.verdict.Verdict.{Verdict}
 use Rattle.written_trace.specs.declared.verdict.Verdict.TheVariants.{Differs}
 use Rattle.written_trace.specs.Words.{line_after, line_of_turn, turn_in_line, verdict, verdict_at_end, verdict_from, verdict_of_turn}
@@ -72,7 +72,7 @@ length-turn p t = simp length-append refl
 
 module _ (p new : SysValue) (t n : ℕ) (want : List ℕ) (is : IsTurn p new t n want) where
   next_event : Event
-  next_event = event_of (history p).state t (request_at_turn p.script (history p) t)
+  next_event = event_at_turn p.script (history p) t
 
   number : n ≡ length p.journal + 1
   number = is.count ∙ ap (λ (q : SysValue). length q.journal) is.step ∙ length-turn p t

@@ -27,6 +27,21 @@ struct Made {
     output: Bytes,
 }
 
+/// Runs a command, and copies what it wrote.
+fn outcome<R: Threads + Wait + Sync>(
+    rt: &R,
+    alloc: Global,
+    words: &[&str],
+    source: &mut MemSource,
+    sink: &mut MemSink,
+) -> Result<Made, NoMemory> {
+    let status = doors_main(rt, alloc, words, source, sink, &NoGate);
+    Ok(Made {
+        status,
+        output: Bytes::from_slice(alloc, sink.held())?,
+    })
+}
+
 /// Runs a command over an input, with a sink that takes seven bytes a write and whose write of this number fails; 0 fails none.
 fn make<R: Threads + Wait + Sync>(
     rt: &R,
@@ -35,18 +50,11 @@ fn make<R: Threads + Wait + Sync>(
     input: &[u8],
     failing: u64,
 ) -> Result<Made, NoMemory> {
-    let mut sink = MemSink::new(
-        alloc,
-        65536,
-        PIECE,
-        CallList::from_slice(alloc, &[failing])?,
-    )?;
-    let mut source = MemSource::new(Bytes::from_slice(alloc, input)?, CallList::new(alloc));
-    let status = doors_main(rt, alloc, words, &mut source, &mut sink, &NoGate);
-    Ok(Made {
-        status,
-        output: Bytes::from_slice(alloc, sink.held())?,
-    })
+    let bytes = Bytes::from_slice(alloc, input)?;
+    let writes = CallList::from_slice(alloc, &[failing])?;
+    let mut sink = MemSink::new(alloc, 65536, PIECE, writes)?;
+    let mut source = MemSource::new(bytes, CallList::new(alloc));
+    outcome(rt, alloc, words, &mut source, &mut sink)
 }
 
 /// The lines of a text that end in a line feed, how many they are, and what stands after them.
@@ -96,19 +104,34 @@ fn is_front_of_run<R: Threads + Wait + Sync>(
     written: &[u8],
 ) -> Result<bool, Fail> {
     let lines = lines_of(alloc, written)?;
-    let judged = judge(rt, alloc, lines.whole.slice())?;
+    match judge(rt, alloc, lines.whole.slice()) {
+        Ok(judged) => is_front(alloc, &lines, &judged),
+        Err(_) => Ok(false),
+    }
+}
+
+/// Whether what `check` says of whole lines fits what stands after them.
+fn is_front(alloc: Global, lines: &Lines, judged: &Made) -> Result<bool, Fail> {
     let next = lines.count.wrapping_add(1);
     let wanted = format!(in alloc; "illegal line {next}\n")?;
     let number = format!(in alloc; "{next} ")?;
-    let rest = lines.rest.slice();
-    Ok(match judged.status {
+    Ok(fits(
+        lines.rest.slice(),
+        judged,
+        wanted.as_bytes(),
+        number.as_bytes(),
+    ))
+}
+
+fn fits(rest: &[u8], judged: &Made, wanted: &[u8], number: &[u8]) -> bool {
+    match judged.status {
         Status::Complete => is_begun(rest, b"tail "),
         Status::Illegal => {
-            judged.output.slice().starts_with(wanted.as_bytes())
-                && (is_begun(rest, number.as_bytes()) || is_begun(rest, b"end "))
+            judged.output.slice().starts_with(wanted)
+                && (is_begun(rest, number) || is_begun(rest, b"end "))
         }
         _ => false,
-    })
+    }
 }
 
 /// Whether a run of the four clients whose write of this number fails leaves a front of a legal run. A run of them needs at least a
@@ -119,8 +142,11 @@ fn is_cut_run<R: Threads + Wait + Sync>(rt: &R, alloc: Global, failing: u64) -> 
     if made.status == Status::WriteFault {
         return is_front_of_run(rt, alloc, output);
     }
-    let judged = judge(rt, alloc, output)?;
-    Ok(failing > 100 && made.status == Status::Complete && judged.status == Status::Complete)
+    let is_legal = matches!(
+        judge(rt, alloc, output),
+        Ok(judged) if judged.status == Status::Complete
+    );
+    Ok(failing > 100 && made.status == Status::Complete && is_legal)
 }
 
 /// Whether a write of this number that fails leaves the text's first bytes, as many as the writes before it took; and where there are
@@ -132,17 +158,20 @@ fn is_cut_text<R: Threads + Wait + Sync>(
     input: &[u8],
     whole: &Made,
     failing: u64,
-) -> Result<bool, Fail> {
-    let made = make(rt, alloc, words, input, failing)?;
+) -> bool {
+    matches!(make(rt, alloc, words, input, failing), Ok(made) if is_cut(&made, whole, failing))
+}
+
+fn is_cut(made: &Made, whole: &Made, failing: u64) -> bool {
     let output = made.output.slice();
     let before = failing.wrapping_sub(1).wrapping_mul(PIECE as u64);
-    Ok(if before < whole.output.len() as u64 {
+    if before < whole.output.len() as u64 {
         made.status == Status::WriteFault
             && output.len() as u64 == before
             && whole.output.slice().starts_with(output)
     } else {
         made.status == whole.status && output == whole.output.slice()
-    })
+    }
 }
 
 /// Whether each write of a command leaves a front of its text where it fails, and the text needs as many writes as this.
@@ -155,7 +184,7 @@ fn are_cut_texts<R: Threads + Wait + Sync>(
 ) -> Result<bool, Fail> {
     let whole = make(rt, alloc, words, input, 0)?;
     for failing in 1..=150 {
-        if !is_cut_text(rt, alloc, words, input, &whole, failing)? {
+        if !is_cut_text(rt, alloc, words, input, &whole, failing) {
             return Ok(false);
         }
     }
@@ -172,7 +201,7 @@ fn each_write_of_a_run_fails(rt: HostRuntime) -> Result<(), Fail> {
 }
 
 /// The words, the input, and how many writes the text needs at least.
-const TEXTS: [(&[&str], &str, u64); 4] = [
+static TEXTS: [(&[&str], &str, u64); 4] = [
     (&["play"], FOUR_CLIENTS, 100),
     (&["show"], FOUR_CLIENTS, 60),
     (
@@ -186,8 +215,8 @@ const TEXTS: [(&[&str], &str, u64); 4] = [
 #[test]
 fn each_write_of_a_command_fails(rt: HostRuntime) -> Result<(), Fail> {
     let alloc = rt.alloc();
-    for (words, input, writes) in TEXTS {
-        let are_cut = are_cut_texts(&rt, alloc, words, input.as_bytes(), writes)?;
+    for (words, input, writes) in TEXTS.iter() {
+        let are_cut = are_cut_texts(&rt, alloc, words, input.as_bytes(), *writes)?;
         assert!(rt; are_cut, "{input}");
     }
     Ok(())
@@ -201,18 +230,31 @@ fn play_echo<R: Threads + Wait + Sync>(
     room: usize,
     write: u64,
 ) -> Result<Made, NoMemory> {
-    let mut sink = MemSink::new(alloc, room, 4096, CallList::from_slice(alloc, &[write])?)?;
-    let fail = CallList::from_slice(alloc, &[read])?;
-    let mut source = MemSource::new(Bytes::from_slice(alloc, ECHO.as_bytes())?, fail);
-    let status = doors_main(rt, alloc, &["play"], &mut source, &mut sink, &NoGate);
-    Ok(Made {
-        status,
-        output: Bytes::from_slice(alloc, sink.held())?,
-    })
+    let bytes = Bytes::from_slice(alloc, ECHO.as_bytes())?;
+    let reads = CallList::from_slice(alloc, &[read])?;
+    let writes = CallList::from_slice(alloc, &[write])?;
+    let mut sink = MemSink::new(alloc, room, 4096, writes)?;
+    let mut source = MemSource::new(bytes, reads);
+    outcome(rt, alloc, &["play"], &mut source, &mut sink)
+}
+
+/// Whether the echo script, played so, ends with this output and status.
+fn is_cut_echo<R: Threads + Wait + Sync>(
+    rt: &R,
+    alloc: Global,
+    failing: (u64, usize, u64),
+    output: &str,
+    status: Status,
+) -> bool {
+    let (read, room, write) = failing;
+    matches!(
+        play_echo(rt, alloc, read, room, write),
+        Ok(made) if made.status == status && made.output.slice() == output.as_bytes()
+    )
 }
 
 /// The read that fails, the room of the sink, the write that fails, and then the output and the status; 0 fails none.
-const ENDS: [(u64, usize, u64, &str, Status); 3] = [
+static ENDS: [(u64, usize, u64, &str, Status); 3] = [
     (2, 4096, 0, "", Status::ReadFault),
     (0, 20, 0, "1 s s create ok fd 0", Status::WriteFault),
     (0, 4096, 1, "", Status::WriteFault),
@@ -221,12 +263,9 @@ const ENDS: [(u64, usize, u64, &str, Status); 3] = [
 #[test]
 fn the_ends_of_the_program_fail(rt: HostRuntime) -> Result<(), Fail> {
     let alloc = rt.alloc();
-    for (read, room, write, output, status) in ENDS {
-        let made = play_echo(&rt, alloc, read, room, write)?;
-        assert!(rt;
-            made.status == status && made.output.slice() == output.as_bytes(),
-            "{output}"
-        );
+    for (read, room, write, output, status) in ENDS.iter() {
+        let is_cut = is_cut_echo(&rt, alloc, (*read, *room, *write), output, *status);
+        assert!(rt; is_cut, "{output}");
     }
     Ok(())
 }
