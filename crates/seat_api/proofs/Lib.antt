@@ -1,0 +1,5 @@
+pub mod Lists
+pub mod Histories
+pub mod Rules
+pub mod Desks
+pub mod Calls

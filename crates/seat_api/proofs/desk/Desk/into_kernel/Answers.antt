@@ -1,0 +1,6 @@
+use Rattle.std.proofs.Common.{◌∙◌}
+use Rattle.seat_api.proofs.Desks.{closed}
+use Rattle.seat_api.proofs.desk.Desk.into_kernel.Goals as goal
+
+pub returns : goal.returns
+returns g c = closed g.J.Opening.opening c.self.inside.kernel c.self.inside.history.items c.self.invariant (c.self.view_is ∙ c.requires)

@@ -1,0 +1,12 @@
+//! Seats: a host's own threads act as threads of a kernel, and are answered from one legal history.
+#![tactic(auto)]
+
+mod desk;
+pub mod entry;
+pub mod laws;
+pub mod limits;
+pub mod opening;
+pub mod room;
+mod rule;
+pub mod seats;
+mod view;
