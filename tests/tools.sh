@@ -175,17 +175,19 @@ refusals() {
     refused "chart of another command" 2 "line 5: no trace of $script, \`c\` stands at line 16 of the script"
 }
 
-# changed NAME SED TEXT: the script of tests/tools/fits.doors so changed does not fit its trace any more.
-changed() {
-    sed "$2" tests/tools/fits.doors >"$work/fits.doors"
-    cmp -s tests/tools/fits.doors "$work/fits.doors" && fail "chart, $1" "nothing is changed"
+# changed_in FILE NAME SED TEXT: the script tests/tools/FILE.doors so changed does not fit its trace any more.
+changed_in() {
+    sed "$3" "tests/tools/$1.doors" >"$work/$1.doors"
+    cmp -s "tests/tools/$1.doors" "$work/$1.doors" && fail "chart, $2" "nothing is changed"
     for AWK in $(awks); do
         export AWK
-        tool chart "$work/fits.doors" tests/tools/fits.trace
-        refused "chart, $1, with $(basename "$AWK")" 2 "$3"
+        tool chart "$work/$1.doors" "tests/tools/$1.trace"
+        refused "chart, $2, with $(basename "$AWK")" 2 "$4"
     done
     unset AWK
 }
+
+changed() { changed_in fits "$@"; }
 
 # A script that was changed after its trace was made.
 changed_scripts() {
@@ -195,6 +197,16 @@ changed_scripts() {
     changed "another cookie" 's/create door fetch 7/create door fetch 8/' "the cookie 8"
     changed "other data" 's/"bin"/"sbin"/' 'passes "sbin"'
     changed "other results" 's/return "done"/return "gone"/' 'the results of c2 are "gone"'
+    changed_in timers "another moment" 's/tset 0 3 0/tset 0 5 0/' 'no timer of the script has `timer:0:1:7` queued there'
+    changed_in timers "shorter advances" 's/advance 2/advance 1/' "line 8: no trace"
+    changed_in timers "another user value" 's/tcreate $port 9/tcreate $port 10/' 'no timer of the script has `timer:1:10:9` queued there'
+    changed_in timers "another interval" '11s/tset 1 1 1/tset 1 1 2/' "line 23: no trace"
+    changed_in timers "a lower version" '1s/4/3/' '`ncd` is no command of version 3'
+    changed_in timers "the lowest version" '1s/4/1/' '`tcreate` is no command of version 1'
+    changed_in timers "no version" '1s/4/5/' "line 1: no script"
+    sed '5s/open ok fd 0/open ENOENT/' tests/tools/fits.trace >"$work/other"
+    tool chart tests/tools/fits.doors "$work/other"
+    refused "chart of a call without a descriptor" 2 "line 6: no trace of tests/tools/fits.doors, no descriptor is there"
     tool chart --from 26 tests/tools/fits.doors tests/tools/fits.trace
     same "chart of the last events" tests/tools/fits.part
 }
@@ -320,6 +332,65 @@ hunts() {
     hunts_real
 }
 
+# Patterns for tests/tools/fits.doors, each with the word that is told, and the one that is meant; and such as are not told.
+misspelled='
+colect EINTR|colect|collect
+colect|colect|collect
+ann colect|colect|collect
+an collect EINTR|an|ann
+collect EINT|EINT|EINTR
+collect EITNR|EITNR|EINTR
+collect E|E|
+ann interupt|interupt|interrupt
+end staled|staled|stalled
+^end stale|stale|
+anne collect EINTR|anne|ann
+an interrupt ok|an|ann
+collect (EINT|EBADF)|EINT|EINTR
+ann accept enter c1 fetsh 7|fetsh|fetch
+karl call wait|karl|
+fetch collect ok|fetch|
+^[0-9]+ ann ann collect EINTTR$|EINTTR|EINTR
+'
+not_told='
+ann collect EINTR
+ann collect EINT.*
+ann collect E(INTR|BADF)
+(col|conn)ect EINTTR
+ann colect E.*
+x
+entri of rot
+ann collect ok "entri of
+(ann|bob) ann collect
+^end (stalled|budget) [0-9]+ ann$
+c1 fetch 7
+'
+
+# With each awk. No line of a trace is told.
+hunts_misspelled() {
+    fits=tests/tools/fits.doors
+    for AWK in $(awks); do
+        export AWK
+        echo "$misspelled" | grep . >"$work/rows"
+        # a bar within the pattern stands before the last two
+        sed 's/|\([^|]*\)|\([^|]*\)$/\t\1\t\2/' "$work/rows" >"$work/cells"
+        while IFS="$(printf '\t')" read -r pattern word meant; do
+            hunted -n 1 "$pattern" "$top/$fits"
+            refused "hunt of $pattern with $(basename "$AWK")" 3 "fits.doors: $word: "
+            if [ -n "$meant" ] && ! grep -q -F -e "; did you mean '$meant'?" "$work/err"; then fail "hunt of $pattern" "no hint '$meant'"; fi
+        done <"$work/cells"
+        echo "$not_told" | grep . >"$work/rows"
+        cat tests/tools/fits.trace >>"$work/rows"
+        while read -r pattern; do
+            PATTERN=$pattern "$AWK" -f tools/pattern.awk $fits >"$work/out" 2>"$work/err"
+            status=$?
+            : >"$work/empty"
+            same "hunt of $pattern with $(basename "$AWK")" "$work/empty"
+        done <"$work/rows"
+    done
+    unset AWK
+}
+
 hunts_refused() {
     for words in "" "x" "x y z" "-n 0 x y" "-n 1x x y" "-n" "-w x y"; do
         hunted $words
@@ -338,8 +409,13 @@ hunts_refused() {
     refused "hunt of no thread at the end" 3 "karl: neither the script nor a trace has this word"
     hunted '^[0-9]+ c c collect EINTTR$' "$loops"
     refused "hunt of no error" 3 "EINTTR: neither the script nor a trace has this word"
+    hunted 'ann ann tset okk' "$top/tests/tools/timers.doors"
+    refused "hunt of no answer" 3 "okk: neither the script nor a trace has this word"
     hunted 'cl cl collect' "$loops"
-    refused "hunt of a part of a thread" 3 "cl: there is no such thread"
+    refused "hunt of a part of a thread" 3 "cl: neither the script nor a trace has this word"
+    hunted 'e e collect' "$loops"
+    refused "hunt of what is no thread" 3 "e: there is no such thread"
+    hunts_misspelled
     hunted x "$work/none"
     refused "hunt of a script that is not there" 2 "none: it cannot be read"
     echo "doors script 1" >"$work/bad.doors"
@@ -370,6 +446,8 @@ hunts_refused() {
 hunts_real() {
     hunted -n 5 'accept enter c1 e 0' "$top/tests/tools/loops.doors"
     says "hunt with the program" 0 "kept: loops-1.trace, loops-1.doors, loops-1.chart"
+    hunted -n 1 'tick tick ncd ok "bad"' "$top/tests/tools/timers.doors"
+    says "hunt of a name table" 0 "kept: timers-1.trace, timers-1.doors, timers-1.chart"
     unset DOORS
     mkdir "$work/tools"
     cp tools/* "$work/tools"

@@ -16,7 +16,7 @@ function follow_done(i, t, what, n,    k) {
         open_fd(t, word[4], "w" pipes)
         set_variable(t, operand(t, 2), word[3])
         set_variable(t, operand(t, 3), word[4])
-    } else if (what == "read" || what == "done") set_variable(t, operand(t, 2), "")
+    } else if (what == "read" || what == "done" || what == "ncd") set_variable(t, operand(t, 2), "")
     else if (what == "close" || what == "revoke") close_fd(t, descriptor(t, operand(t, 2)))
     else if (what == "attach") follow_attach(i, t, operand(t, 3))
     else if (what == "detach") delete at_path[operand(t, 2)]
@@ -25,6 +25,8 @@ function follow_done(i, t, what, n,    k) {
     else if (what == "kill") follow_kill(i, t, process_id[operand(t, 2)])
     else if (what == "fork") follow_fork(i, t, process_id[operand(t, 2)])
     else if (what == "exit") follow_exit(i, t)
+    else if (what == "get" || what == "getn") take_timers(object_of(t, operand(t, 2)), n)
+    else follow_timers(i, t, what)
 }
 
 function give(t, what) {
@@ -60,6 +62,7 @@ function follow_kill(i, t, p,    other) {
     }
     has_ended[p] = 1
     ended_at[p] = i
+    end_timers(p)
 }
 
 function follow_fork(i, t, child,    other, fd) {
@@ -82,7 +85,9 @@ function follow_exit(i, t,    p) {
         number[i] = serves[t]
         label[i] = "exit in \001"
     }
-    if (is_over(p, i)) label[i] = label[i] ", " process_name[p] " ends"
+    if (!is_over(p, i)) return
+    label[i] = label[i] ", " process_name[p] " ends"
+    end_timers(p)
 }
 
 # Whether a process is known to be over after event i. A spare that has begun need not have had a turn: that it has not begun is

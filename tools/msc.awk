@@ -14,14 +14,18 @@ function draw(    r, i) {
     print "}"
 }
 
-# Wide enough for the longest word of a label, which mscgen would part.
+# Wide enough for each label of at most 44 bytes, and for the longest word, which mscgen would part.
 function column_width(    r, i, list, n, k, most) {
-    most = 30
+    most = 28
     for (r = 1; r <= rows; r++) {
-        n = split(row_event[r] ? text_of(row_event[r]) : "", list, " ")
+        i = row_event[r]
+        if (!i) continue
+        n = length(i " " text_of(i))
+        if (n > most && n <= 44) most = n
+        n = split(text_of(i), list, " ")
         for (k = 1; k <= n; k++) if (length(list[k]) > most) most = length(list[k])
     }
-    return 8 * most
+    return 8 * most + 16
 }
 
 function put_threads(    t, columns, list) {

@@ -16,7 +16,7 @@ function make_rows(most,    i, period, times) {
         if (!period) continue
         for (times = 1; times < period; times++) add_row(++i, "")
         times = repeats(i - period + 1, period)
-        add_row(0, (period == 1 ? "event " i : "events " i - period + 1 " to " i) " again, " times " times, up to event " i + times * period)
+        add_row(0, (period == 1 ? "event " i : "events " i - period + 1 " to " i) " again, " times " times, up to event " i + times * period clock_text(i + times * period, period))
         i += times * period
     }
 }
@@ -59,7 +59,13 @@ function text_of(i,    parts, n, k, text) {
     n = split(label[i], parts, "\001")
     text = parts[1]
     for (k = 2; k <= n; k++) text = text number[i] parts[k]
-    return text
+    return text clock_text(i, 1)
+}
+
+# What the clock is after event i, where one of the last so many events moved it.
+function clock_text(i, last) {
+    for (; last > 0; last--) if (i-- in clock_at) return ", clock " clock_at[i + 1]
+    return ""
 }
 
 # What the last line of a trace leaves a thread waiting for: one that it names.

@@ -2,7 +2,8 @@
 #
 # process_name[p]; thread_id[name], thread_name[t], thread_process[t], is_spare[t]; body_of[p, name] of a procedure, body of a
 # thread t is t itself. A body b has lines 1 to length_of[b], whose words are op[b, line, 1] to op[b, line, op_count[b, line]];
-# block_end[b, line] is the `end` of a block. raw[1] .. are the lines as they stand, script_lines of them.
+# block_end[b, line] is the `end` of a block. raw[1] .. are the lines as they stand, script_lines of them. since[w]: the version
+# of scripts from which on w is a command.
 #
 # Where a function of these files is given an element that may not be set, "" stands behind it: gawk 5.2 loses such a value.
 
@@ -33,9 +34,13 @@ function split_words(text,    n) {
 
 function read_script(    line, status, names, i, n) {
     n = split("create call return serve revoke bind unbind info getparam setparam cred testcancel exit close dup attach" \
-        " detach open await pipe write read pcreate associate dissociate get getn send sendn alert interrupt kill fork work" \
+        " detach open await pipe write read pcreate associate dissociate get getn send sendn alert interrupt kill work" \
         " repeat if end", names, " ")
-    for (i = 1; i <= n; i++) is_command[names[i]] = 1
+    for (i = 1; i <= n; i++) since[names[i]] = 1
+    since["fork"] = 2
+    n = split("tcreate tset tdelete advance", names, " ")
+    for (i = 1; i <= n; i++) since[names[i]] = 3
+    since["ncd"] = 4
     script_line = 0
     while ((status = (getline line < script_file)) > 0) {
         raw[++script_line] = line
@@ -50,7 +55,7 @@ function read_script(    line, status, names, i, n) {
 
 function take_line(line,    n) {
     if (script_line == 1) {
-        if (line !~ /^doors script [12]$/) bad_script("its first line is not `doors script 1` or `doors script 2`")
+        if (line !~ /^doors script [1-4]$/) bad_script("its first line is not `doors script V`, with V from 1 to 4")
         version = substr(line, 14)
         return
     }
@@ -112,7 +117,7 @@ function new_member(kind, name) {
 }
 
 function take_command(n,    at, i) {
-    if (!(word[1] in is_command) || (word[1] == "fork" && version == 1)) bad_script("`" word[1] "` is no command")
+    if (!(word[1] in since) || since[word[1]] > version) bad_script("`" word[1] "` is no command of version " version)
     if (word[1] == "end" && depth == 0) {
         body = ""
         return

@@ -33,7 +33,7 @@ function tell(i, t, what,    n, error, serves_before) {
     else if (word[1] == "wait") tell_wait(i, t, what)
     else {
         if (what == "collect") tell_collect(i, t, n, error)
-        else if (what == "got") check_got(t)
+        else if (what == "got") tell_got(t, n)
         else if (what == "interrupt") tell_interrupt(i, t, thread_id[operand(t, 2)])
         else if (!error) follow_done(i, t, what, n)
         waits[t] = ""
@@ -87,6 +87,9 @@ function operands_text(t, what) {
     if (what == "associate" || what == "dissociate") return " " fd_text(t, operand(t, 3)) words_from(t, 4)
     if (what ~ /^(send|get|getn|alert)$/) return words_from(t, 3)
     if (what == "sendn") return " " operand(t, 2) " " operand(t, 3)
+    if (what ~ /^(tset|tdelete|advance)$/) return words_from(t, 2)
+    if (what == "tcreate") return words_from(t, 3)
+    if (what == "ncd" && plain_text(t, 3) != "") return " " short(plain_text(t, 3))
     return ""
 }
 
@@ -114,6 +117,7 @@ function tell_call(i, t, error,    call, door) {
         finish(t, word[1])
         return
     }
+    if (descriptor(t, operand(t, 3)) == "") bad_trace("no descriptor is there for `call`, and it has no error")
     call = substr(word[2], 2)
     waits[t] = "call"
     in_call[t] = call
@@ -177,6 +181,11 @@ function tell_collect(i, t, n, error,    call) {
     label[i] = "collect \001" result_text(n)
     check_collect(t, call, error)
     if (!error) set_variable(t, operand(t, 2), receive(t, 3, n, results[call] ""))
+}
+
+function tell_got(t, n) {
+    check_got(t)
+    take_timers(waits_for[t], n)
 }
 
 function tell_wait(i, t, what) {
