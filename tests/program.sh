@@ -14,7 +14,7 @@
 # tests/tools.sh, which this calls, tests the tools beside the program, and tests/tools has its charts.
 
 # Each page has at least one script.
-pages="README.md docs/TUTORIAL.md docs/VERSION_2.md docs/FROM_C.md docs/RECIPES.md"
+pages="README.md docs/TUTORIAL.md docs/VERSION_2.md docs/VERSION_3.md docs/VERSION_4.md docs/FROM_C.md docs/RECIPES.md"
 
 LC_ALL=C
 export LC_ALL
@@ -316,6 +316,11 @@ notice_runs() {
 association_runs() {
     hundred_runs three_writers_and_one_that_selects replaced_and_withdrawn_while_others_take last_writer_goes_in_many_ways
     hundred_runs four_workers four_workers four_workers_behind_a_door
+}
+
+# Scripts in which others than those who wait move the clock, and clients share a name table.
+timer_and_cache_runs() {
+    hundred_runs three_that_advance_and_three_that_look time_out_of_a_call timers_of_a_process_that_is_killed cache_of_four_clients
 }
 
 # A door that has 4000 notices before the first of them is accepted.
@@ -756,6 +761,7 @@ for program in "$@"; do
     leaving_runs
     notice_runs
     association_runs
+    timer_and_cache_runs
     many_notices
     cut_chains
     refused_starts

@@ -149,8 +149,11 @@ refuse() {
     echo "$1: $refused of $most"
 }
 
-for name in interrupts_from_the_root_of_a_chain_down sixty_four_associations_of_one_pipe_fire_at_one_event spares_and_work notices_of_two_doors_at_one_event_go_by_door_number; do
-    script=$top/tests/play/$name.in
+for file in tests/play/interrupts_from_the_root_of_a_chain_down.in tests/play/sixty_four_associations_of_one_pipe_fire_at_one_event.in \
+    tests/play/spares_and_work.in tests/play/notices_of_two_doors_at_one_event_go_by_door_number.in examples/time_out.doors \
+    examples/nscd.doors; do
+    script=$top/$file
+    name=$(basename "${file%.*}")
     refuse "play $name" play "$script"
     refuse "show $name" show "$script"
     "$program" play <"$script" >"$work/trace"
