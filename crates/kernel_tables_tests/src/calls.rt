@@ -1,7 +1,4 @@
 //! Door calls: two through their stages, a chain of all threads that is cut in the middle, callers and servers that leave.
-ghost use Rattle.std.specs.Prelude.{◌≡◌, true};
-ghost use Rattle.call_tree.specs.Words.{IsThread};
-
 use call_tree::calls::Calls;
 use call_tree::parts::{Args, Leave, Outcome};
 use dk_base::error::Errno;
@@ -13,10 +10,12 @@ use std::alloc::Global;
 /// The door that all calls are of.
 const DOOR: u32 = 3;
 
-fn is_thread(t: Tid) -> bool
-    ensures { result ≡ true → IsThread t.0 }
+/// Whether this is so of new calls.
+fn is_so_of_new(alloc: Global, check: fn(Global, &mut Calls) -> bool) -> bool
+    requires { IsAlwaysCallable check }
 {
-    t.0 > 0 && t.0 <= 64
+    let mut calls = Calls::new(alloc);
+    check(alloc, &mut calls)
 }
 
 /// Another call of a thread, with two objects and room for two bytes.
@@ -24,7 +23,7 @@ fn opens(alloc: Global, calls: &mut Calls, caller: Tid) -> bool {
     if calls.reserve().is_err() || calls.made() > 1000 {
         return false;
     }
-    if !is_thread(caller) || calls.called_by(caller).is_some() {
+    if caller.0 == 0 || caller.0 > 64 || calls.called_by(caller).is_some() {
         return false;
     }
     let Ok(objects) = ObjList::from_slice(alloc, &[Obj::Door(1), Obj::Port(2)]) else {
@@ -37,7 +36,7 @@ fn opens(alloc: Global, calls: &mut Calls, caller: Tid) -> bool {
 
 /// Whether a waiting call is given to a thread.
 fn is_given_to(calls: &mut Calls, c: u32, u: Tid) -> bool {
-    if !calls.is_queued(c) || !is_thread(u) {
+    if !calls.is_queued(c) || u.0 == 0 || u.0 > 64 {
         return false;
     }
     if calls.served_by(u).is_some() || calls.called_by(u).is_some() {
@@ -130,9 +129,7 @@ fn go_through(alloc: Global, calls: &mut Calls) -> bool {
 
 #[test]
 fn calls_go_through_their_stages(rt: HostRuntime) {
-    let alloc = rt.alloc();
-    let mut calls = Calls::new(alloc);
-    assert!(rt; go_through(alloc, &mut calls));
+    assert!(rt; is_so_of_new(rt.alloc(), go_through));
 }
 
 /// Whether each thread but the last calls the next one.
@@ -170,9 +167,7 @@ fn is_cut_in_two(alloc: Global, calls: &mut Calls) -> bool {
 
 #[test]
 fn a_chain_is_cut_in_the_middle(rt: HostRuntime) {
-    let alloc = rt.alloc();
-    let mut calls = Calls::new(alloc);
-    assert!(rt; is_cut_in_two(alloc, &mut calls));
+    assert!(rt; is_so_of_new(rt.alloc(), is_cut_in_two));
 }
 
 /// Whether a waiting call is refused with this error, and its objects are handed out.
@@ -206,7 +201,5 @@ fn all_leave(alloc: Global, calls: &mut Calls) -> bool {
 
 #[test]
 fn callers_and_servers_leave(rt: HostRuntime) {
-    let alloc = rt.alloc();
-    let mut calls = Calls::new(alloc);
-    assert!(rt; all_leave(alloc, &mut calls));
+    assert!(rt; is_so_of_new(rt.alloc(), all_leave));
 }

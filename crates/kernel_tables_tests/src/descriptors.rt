@@ -8,7 +8,21 @@ use dk_base::number::Fd;
 use dk_base::object::Obj;
 use fd_table::table::FdTable;
 use std::alloc::Global;
-use std::test::Fail;
+
+/// Whether this is so of a new table of so many rows.
+pub(crate) fn is_so_of_rows(
+    alloc: Global,
+    rows: u32,
+    check: fn(Global, &mut FdTable) -> bool,
+) -> bool
+    requires rows { rows ≤ DESCRIPTORS_MAX }
+    requires check { IsAlwaysCallable check }
+{
+    match FdTable::new(alloc, rows) {
+        Ok(mut table) => check(alloc, &mut table),
+        Err(_) => false,
+    }
+}
 
 /// Whether the next objects get the numbers from 0 on, this many.
 fn gives_numbers(table: &mut FdTable, many: u32) -> bool {
@@ -45,7 +59,6 @@ fn tables_have_limits(rt: HostRuntime) {
 }
 
 /// What is asked of a table, and what it answers.
-#[derive(Clone, Copy)]
 enum Act {
     Insert(Obj, Result<Fd, Errno>),
     Remove(Fd, Result<Obj, Errno>),
@@ -54,7 +67,7 @@ enum Act {
 }
 
 /// A table of three rows. The last act leaves the rows 0 and 2.
-const ACTS: [Act; 15] = [
+static ACTS: [Act; 15] = [
     Act::Insert(Obj::Door(1), Ok(Fd(0))),
     Act::Insert(Obj::Port(1), Ok(Fd(1))),
     Act::Dup(Fd(0), Ok(Fd(2))),
@@ -72,17 +85,17 @@ const ACTS: [Act; 15] = [
     Act::Remove(Fd(1), Ok(Obj::PipeOut(1))),
 ];
 
-fn does(table: &mut FdTable, act: Act) -> bool {
+fn does(table: &mut FdTable, act: &Act) -> bool {
     match act {
-        Act::Insert(object, gives) => table.insert(object) == gives,
-        Act::Remove(fd, gives) => table.remove(fd) == gives,
-        Act::Dup(fd, gives) => table.dup(fd) == gives,
-        Act::Get(fd, gives) => table.get(fd) == gives,
+        Act::Insert(object, gives) => table.insert(*object) == *gives,
+        Act::Remove(fd, gives) => table.remove(*fd) == *gives,
+        Act::Dup(fd, gives) => table.dup(*fd) == *gives,
+        Act::Get(fd, gives) => table.get(*fd) == *gives,
     }
 }
 
 fn does_all(table: &mut FdTable) -> bool {
-    for act in ACTS {
+    for act in &ACTS {
         if !does(table, act) {
             return false;
         }
@@ -109,10 +122,8 @@ fn is_given_again(alloc: Global, table: &mut FdTable) -> bool {
 }
 
 #[test]
-fn the_lowest_number_is_given_again(rt: HostRuntime) -> Result<(), Fail> {
-    let mut table = FdTable::new(rt.alloc(), 3)?;
-    assert!(rt; is_given_again(rt.alloc(), &mut table));
-    Ok(())
+fn the_lowest_number_is_given_again(rt: HostRuntime) {
+    assert!(rt; is_so_of_rows(rt.alloc(), 3, is_given_again));
 }
 
 /// Whether the first objects are refused with nothing changed, and the others get these numbers.
@@ -147,10 +158,8 @@ fn two_get_numbers(alloc: Global, table: &mut FdTable) -> bool {
 }
 
 #[test]
-fn all_objects_get_numbers_or_none(rt: HostRuntime) -> Result<(), Fail> {
-    let mut table = FdTable::new(rt.alloc(), 3)?;
-    assert!(rt; two_get_numbers(rt.alloc(), &mut table));
-    Ok(())
+fn all_objects_get_numbers_or_none(rt: HostRuntime) {
+    assert!(rt; is_so_of_rows(rt.alloc(), 3, two_get_numbers));
 }
 
 /// Whether an object gets a descriptor that names nothing.
@@ -163,18 +172,17 @@ fn puts(table: &mut FdTable, fd: Fd, object: Obj) -> bool {
 }
 
 /// Above the lowest free descriptor, at it, and at the last one.
-fn puts_three(table: &mut FdTable) -> bool {
+fn puts_three(_: Global, table: &mut FdTable) -> bool {
     puts(table, Fd(1), Obj::Port(1))
         && table.lowest_free() == Some(0)
         && puts(table, Fd(0), Obj::Door(1))
         && table.lowest_free() == Some(2)
         && puts(table, Fd(2), Obj::Door(2))
         && !puts(table, Fd(1), Obj::Door(3))
+        && is_full(table)
 }
 
 #[test]
-fn a_descriptor_is_given_by_number(rt: HostRuntime) -> Result<(), Fail> {
-    let mut table = FdTable::new(rt.alloc(), 3)?;
-    assert!(rt; puts_three(&mut table) && is_full(&mut table));
-    Ok(())
+fn a_descriptor_is_given_by_number(rt: HostRuntime) {
+    assert!(rt; is_so_of_rows(rt.alloc(), 3, puts_three));
 }

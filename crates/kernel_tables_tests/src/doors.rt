@@ -17,7 +17,7 @@ const OWNER: Pid = Pid(1);
 const OTHER: Pid = Pid(2);
 
 /// Attributes, and whether a door is made that has them.
-const MADE: [(Attrs, bool); 9] = [
+static MADE: [(Attrs, bool); 9] = [
     (Attrs(0), true),
     (Attrs::UNREF, true),
     (Attrs::PRIVATE, true),
@@ -49,8 +49,8 @@ fn is_made(alloc: Global, attrs: Attrs, expected: bool) -> bool {
 #[test]
 fn three_attributes_are_only_told(rt: HostRuntime) {
     let alloc = rt.alloc();
-    for (attrs, expected) in MADE {
-        assert!(rt; is_made(alloc, attrs, expected), "{}", attrs.0);
+    for (attrs, expected) in &MADE {
+        assert!(rt; is_made(alloc, *attrs, *expected), "{}", attrs.0);
     }
 }
 
@@ -63,7 +63,7 @@ fn is_refused(answer: Result<(), Errno>, expected: Option<Errno>) -> bool {
 }
 
 /// A door's attributes, a parameter and its new value, the error, and the value afterwards. Each row has a door of its own.
-const SET: [(Attrs, Param, u64, Option<Errno>, u64); 12] = [
+static SET: [(Attrs, Param, u64, Option<Errno>, u64); 12] = [
     (Attrs(0), Param::DataMax, 0, None, 0),
     (Attrs(0), Param::DataMax, 1, None, 1),
     (Attrs(0), Param::DataMax, GREATEST, None, GREATEST),
@@ -99,26 +99,24 @@ fn is_set(
     after: u64,
 ) -> bool {
     let mut doors = Doors::new(alloc);
-    if make(&mut doors, attrs).is_none() {
-        return false;
-    }
-    is_refused(doors.setparam(1, OWNER, param, value), expected)
+    make(&mut doors, attrs).is_some()
+        && is_refused(doors.setparam(1, OWNER, param, value), expected)
         && doors.getparam(1, param) == after
 }
 
 #[test]
 fn parameters_are_set(rt: HostRuntime) {
     let alloc = rt.alloc();
-    for (attrs, param, value, expected, after) in SET {
+    for (attrs, param, value, expected, after) in &SET {
         assert!(rt;
-            is_set(alloc, attrs, param, value, expected, after),
+            is_set(alloc, *attrs, *param, *value, *expected, *after),
             "{value}"
         );
     }
 }
 
 /// Sizes and numbers of descriptors, and the error, at a door that takes 10 to 5000 bytes and 20 descriptors.
-const LIMITS: [(u64, u64, Option<Errno>); 10] = [
+static LIMITS: [(u64, u64, Option<Errno>); 10] = [
     (9, 21, Some(Errno::ENOBUFS)),
     (5001, 17, Some(Errno::ENOBUFS)),
     (10, 21, Some(Errno::ENFILE)),
@@ -132,7 +130,7 @@ const LIMITS: [(u64, u64, Option<Errno>); 10] = [
 ];
 
 /// The same at a door that refuses descriptors.
-const REFUSING: [(u64, u64, Option<Errno>); 5] = [
+static REFUSING: [(u64, u64, Option<Errno>); 5] = [
     (4097, 1, Some(Errno::ENOTSUP)),
     (0, 1, Some(Errno::ENOTSUP)),
     (4097, 0, Some(Errno::E2BIG)),
@@ -140,15 +138,15 @@ const REFUSING: [(u64, u64, Option<Errno>); 5] = [
     (4096, 0, None),
 ];
 
-const LIMITED: [(Param, u64); 3] = [
+static LIMITED: [(Param, u64); 3] = [
     (Param::DataMin, 10),
     (Param::DataMax, 5000),
     (Param::DescMax, 20),
 ];
 
 fn set_limits(doors: &mut Doors) -> bool {
-    for (param, value) in LIMITED {
-        if doors.setparam(1, OWNER, param, value).is_err() {
+    for (param, value) in &LIMITED {
+        if doors.setparam(1, OWNER, *param, *value).is_err() {
             return false;
         }
     }

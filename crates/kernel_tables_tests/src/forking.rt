@@ -5,6 +5,7 @@ ghost use Rattle.kernel_records.specs.Words.{objects_of};
 ghost use Rattle.call_tree.specs.Words.{transit_in};
 ghost use Rattle.server_pool.specs.Words.{stack_in};
 
+use crate::descriptors::is_so_of_rows;
 use call_tree::calls::Calls;
 use call_tree::parts::{Args, Outcome};
 use dk_base::error::Errno;
@@ -15,7 +16,6 @@ use fd_table::table::FdTable;
 use fork_step::forking::{fork_binding, fork_calls, fork_rows};
 use server_pool::pools::Pools;
 use std::alloc::Global;
-use std::test::Fail;
 
 /// Whether descriptors 0 and 2 are given, and 1 is free.
 fn gives_two(table: &mut FdTable) -> bool {
@@ -50,10 +50,8 @@ fn is_forked(alloc: Global, parent: &mut FdTable) -> bool {
 }
 
 #[test]
-fn rows_are_copied_under_their_numbers(rt: HostRuntime) -> Result<(), Fail> {
-    let mut parent = FdTable::new(rt.alloc(), 3)?;
-    assert!(rt; is_forked(rt.alloc(), &mut parent));
-    Ok(())
+fn rows_are_copied_under_their_numbers(rt: HostRuntime) {
+    assert!(rt; is_so_of_rows(rt.alloc(), 3, is_forked));
 }
 
 /// The first call, of thread 1, with two objects.
@@ -111,13 +109,17 @@ fn is_caller_interrupted(alloc: Global, calls: &mut Calls, callers: &TidList) ->
     are_interrupted(calls, callers, &mut dropped, &mut given, &mut cancelled)
 }
 
+/// The same of new calls, and of two threads.
+fn is_one_of_two_interrupted(alloc: Global) -> bool {
+    match TidList::from_slice(alloc, &[Tid(1), Tid(2)]) {
+        Ok(callers) => is_caller_interrupted(alloc, &mut Calls::new(alloc), &callers),
+        Err(_) => false,
+    }
+}
+
 #[test]
-fn callers_are_interrupted(rt: HostRuntime) -> Result<(), Fail> {
-    let alloc = rt.alloc();
-    let callers = TidList::from_slice(alloc, &[Tid(1), Tid(2)])?;
-    let mut calls = Calls::new(alloc);
-    assert!(rt; is_caller_interrupted(alloc, &mut calls, &callers));
-    Ok(())
+fn callers_are_interrupted(rt: HostRuntime) {
+    assert!(rt; is_one_of_two_interrupted(rt.alloc()));
 }
 
 /// Whether the first thread of a child is bound to the door that is lost, where its parent's thread is bound to one.
@@ -133,9 +135,15 @@ fn is_bound_to_lost(pools: &mut Pools) -> bool
     pools.unbind(Tid(2)) == Ok(0) && pools.bound(Tid(1)) == Some(7)
 }
 
+/// The same of new pools.
+fn is_bound_to_lost_at_first(alloc: Global) -> bool {
+    match Pools::new(alloc) {
+        Ok(mut pools) => is_bound_to_lost(&mut pools),
+        Err(_) => false,
+    }
+}
+
 #[test]
-fn a_child_is_bound_to_the_lost_door(rt: HostRuntime) -> Result<(), Fail> {
-    let mut pools = Pools::new(rt.alloc())?;
-    assert!(rt; is_bound_to_lost(&mut pools));
-    Ok(())
+fn a_child_is_bound_to_the_lost_door(rt: HostRuntime) {
+    assert!(rt; is_bound_to_lost_at_first(rt.alloc()));
 }

@@ -5,14 +5,13 @@ use dk_base::number::PathId;
 use name_space::names::Names;
 
 /// What is asked of the names: a door is attached to a path, or a path's door is detached or looked up.
-#[derive(Clone, Copy)]
 enum Asks {
     Attach(u32, u32),
     Detach(u32),
     Look(u32),
 }
 
-const ROWS: [(Asks, Result<u32, Errno>); 10] = [
+static ROWS: [(Asks, Result<u32, Errno>); 10] = [
     (Asks::Attach(3, 7), Ok(7)),
     (Asks::Attach(4, 7), Ok(7)),
     (Asks::Attach(3, 8), Err(Errno::EBUSY)),
@@ -36,11 +35,11 @@ fn attach(names: &mut Names, path: u32, door: u32) -> Result<u32, Errno> {
     }
 }
 
-fn answer(names: &mut Names, asks: Asks) -> Result<u32, Errno> {
+fn answer(names: &mut Names, asks: &Asks) -> Result<u32, Errno> {
     match asks {
-        Asks::Attach(path, door) => attach(names, path, door),
-        Asks::Detach(path) => names.detach(PathId(path)),
-        Asks::Look(path) => names.look(PathId(path)),
+        Asks::Attach(path, door) => attach(names, *path, *door),
+        Asks::Detach(path) => names.detach(PathId(*path)),
+        Asks::Look(path) => names.look(PathId(*path)),
     }
 }
 
@@ -58,8 +57,8 @@ fn are_in_order(names: &Names) -> bool {
 }
 
 fn answers_all(names: &mut Names) -> bool {
-    for (asks, expected) in ROWS {
-        if answer(names, asks) != expected {
+    for (asks, expected) in &ROWS {
+        if answer(names, asks) != *expected {
             return false;
         }
     }

@@ -1,8 +1,8 @@
 //! Unreferenced notices: one through its stages, at a door that has at most one and at a door that may have more, and what is left
 //! of notices where threads end and doors are lost.
 ghost use Rattle.std.specs.Prelude.{◌≡◌, [], false, true};
-ghost use Rattle.kernel_records.specs.Words.{enter_notice, give_notice};
-ghost use Rattle.unref_notice.specs.Words.{takes_many_in};
+ghost use Rattle.kernel_records.specs.Words.{end_notice, enter_notice, give_notice, kept_notices};
+ghost use Rattle.unref_notice.specs.Words.{IsAllEntered, takes_many_in};
 
 use dk_base::number::{Pid, Tid};
 use dk_base::object::Item;
@@ -45,6 +45,15 @@ fn stage_at(notices: &Notices, place: usize, number: u32) -> Option<NoticeStage>
     }
 }
 
+/// The notice that a thread has entered is over.
+fn ends(notices: &mut Notices, doors: &Doors, serves: Option<Item>, t: Tid)
+    requires entered { IsAllEntered serves t.0 notices.old.list.notices }
+    requires kept { kept_notices doors.now.items notices.old.list ≡ notices.old.list }
+    ensures { notices.new.list ≡ kept_notices doors.now.items (end_notice notices.old.list t.0) }
+{
+    notices.end(serves, t, |d| doors.takes_many(d));
+}
+
 /// What is over of a door that has at most one notice stays, so that it has no other; of another door it is forgotten.
 fn are_ended(notices: &mut Notices, doors: &Doors) -> bool
     requires none { notices.old.list ≡ record { made = 0; notices = [] } }
@@ -59,10 +68,10 @@ fn are_ended(notices: &mut Notices, doors: &Doors) -> bool
     let three = notices.make(MANY, 5);
     let first = is_entered(notices, 1, Tid(4));
     let second = is_entered(notices, 2, Tid(6));
-    notices.end(Some(Item::Notice(1)), Tid(4), |d| doors.takes_many(d));
-    notices.end(Some(Item::Notice(2)), Tid(6), |d| doors.takes_many(d));
-    notices.end(None, Tid(6), |d| doors.takes_many(d));
-    notices.end(Some(Item::Call(3)), Tid(6), |d| doors.takes_many(d));
+    ends(notices, doors, Some(Item::Notice(1)), Tid(4));
+    ends(notices, doors, Some(Item::Notice(2)), Tid(6));
+    ends(notices, doors, None, Tid(6));
+    ends(notices, doors, Some(Item::Call(3)), Tid(6));
     (one == 1 && two == 2 && three == 3)
         && (first && second)
         && notices.len() == 2

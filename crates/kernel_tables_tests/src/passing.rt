@@ -1,4 +1,5 @@
 //! Descriptors that are passed.
+use crate::descriptors::is_so_of_rows;
 use arg_transfer::passing::{check_pass, release, take_out};
 use dk_base::error::Errno;
 use dk_base::list::{ObjList, PassList, Room};
@@ -6,7 +7,6 @@ use dk_base::number::Fd;
 use dk_base::object::{Obj, Pass};
 use fd_table::table::FdTable;
 use std::alloc::Global;
-use std::test::Fail;
 
 /// The rows of a table of four.
 type Rows = [Option<Obj>; 4];
@@ -66,7 +66,7 @@ const FOUR: Pass = Pass {
 type Transfer = (&'static [Pass], Option<&'static [Obj]>, Rows);
 
 /// One after the other, of one table.
-const TRANSFERS: [Transfer; 13] = [
+static TRANSFERS: [Transfer; 13] = [
     (&[ZERO, THREE], None, FIRST),
     (&[ZERO_RELEASED, FOUR], None, FIRST),
     (&[ZERO, ZERO_RELEASED], None, FIRST),
@@ -124,13 +124,13 @@ fn one_goes(
     alloc: Global,
     table: &mut FdTable,
     into: &mut Room<Obj>,
-    (pass, objects, rows): Transfer,
+    (pass, objects, rows): &Transfer,
 ) -> bool {
-    matches!(PassList::from_slice(alloc, pass), Ok(pass) if goes(table, &pass, into, objects) && has_rows(table, &rows))
+    matches!(PassList::from_slice(alloc, pass), Ok(pass) if goes(table, &pass, into, *objects) && has_rows(table, rows))
 }
 
 fn all_go(alloc: Global, table: &mut FdTable, into: &mut Room<Obj>) -> bool {
-    for transfer in TRANSFERS {
+    for transfer in &TRANSFERS {
         if !one_goes(alloc, table, into, transfer) {
             return false;
         }
@@ -138,13 +138,17 @@ fn all_go(alloc: Global, table: &mut FdTable, into: &mut Room<Obj>) -> bool {
     true
 }
 
+/// Whether all transfers go as they are written.
+fn go_as_written(alloc: Global, table: &mut FdTable) -> bool {
+    match Room::with_room(alloc, 16) {
+        Ok(mut into) => gives_first(table) && all_go(alloc, table, &mut into),
+        Err(_) => false,
+    }
+}
+
 #[test]
-fn all_that_is_passed_goes_or_none(rt: HostRuntime) -> Result<(), Fail> {
-    let alloc = rt.alloc();
-    let mut into = Room::with_room(alloc, 16)?;
-    let mut table = FdTable::new(alloc, 4)?;
-    assert!(rt; gives_first(&mut table) && all_go(alloc, &mut table, &mut into));
-    Ok(())
+fn all_that_is_passed_goes_or_none(rt: HostRuntime) {
+    assert!(rt; is_so_of_rows(rt.alloc(), 4, go_as_written));
 }
 
 /// Whether the objects are refused with nothing changed where one row is free, and get numbers where two are.
@@ -175,8 +179,6 @@ fn is_installed(alloc: Global, table: &mut FdTable) -> bool {
 }
 
 #[test]
-fn what_was_passed_is_installed(rt: HostRuntime) -> Result<(), Fail> {
-    let mut table = FdTable::new(rt.alloc(), 4)?;
-    assert!(rt; is_installed(rt.alloc(), &mut table));
-    Ok(())
+fn what_was_passed_is_installed(rt: HostRuntime) {
+    assert!(rt; is_so_of_rows(rt.alloc(), 4, is_installed));
 }

@@ -8,9 +8,47 @@ use kernel_records::pool::{Pool, Waiting};
 use server_pool::facts::BindFacts;
 use server_pool::pools::Pools;
 use std::alloc::Global;
-use std::test::Fail;
 
 const SERVED: Pool = Pool::Common(Pid(1));
+
+const PRIVATE: Pool = Pool::Private(1);
+
+/// What is asked of the pools, and what they answer.
+enum Act {
+    /// A process and a door are added, and so two pools.
+    AddTwo,
+    /// A thread parks at an event, if it may.
+    Park(Tid, Pool, u64, bool),
+    /// The same, where room for two threads is taken.
+    ParkWithRoom(Tid, Pool, u64),
+    Unpark(Tid, Pool, bool),
+    Pick(Pool, Option<u32>),
+    /// An item waits, if there is room for it.
+    Queue(Pool, Item, Result<(), Errno>),
+    /// The same, where room for two is taken.
+    QueueWithRoom(Pool, Item),
+    /// Calls wait whose numbers are from one to below another.
+    QueueCalls(u32, u32),
+    CountCalls(Pool, usize),
+    Withdraw(Pool, Item, bool),
+    /// The next item is served by the thread that is picked.
+    Match(Pool, u32, Item),
+    MatchNothing(Pool),
+    Bind(Tid, u32),
+    Bound(Tid, Option<u32>),
+    Unbind(Tid, Result<u32, Errno>),
+    /// Thread 3 would be bound to door 7, which is valid or not, private or not, and of its own process or not.
+    TryBind(bool, bool, bool, Option<Errno>),
+    AddProcess,
+    /// A spare is added, if its number is above those of the others.
+    AddSpare(Pid, Tid, bool),
+    TakeSpare(Pid, Option<Tid>),
+    WithdrawSpare(Pid, Tid),
+    /// How many threads are parked and items wait.
+    Size(usize),
+    /// Door 1 goes, with so many items that wait there and so many threads that are parked there.
+    DropDoor(usize, usize),
+}
 
 /// Whether a process and a door are added with ample memory.
 fn are_two_pools_added(pools: &mut Pools) -> bool {
@@ -18,7 +56,7 @@ fn are_two_pools_added(pools: &mut Pools) -> bool {
         return false;
     }
     pools.add_door();
-    pools.has(SERVED) && pools.has(Pool::Private(1)) && !pools.has(Pool::Private(2))
+    pools.has(SERVED) && pools.has(PRIVATE) && !pools.has(Pool::Private(2))
 }
 
 /// Whether a thread parks in a pool that is there, after all that are parked there.
@@ -42,19 +80,17 @@ fn is_parked_with_room(pools: &mut Pools, t: Tid, pool: Pool, since: u64) -> boo
     true
 }
 
-/// What becomes of an item in a pool, none where the pool is not there.
-fn queued(pools: &mut Pools, pool: Pool, item: Item) -> Option<Result<(), Errno>> {
+/// Whether this becomes of an item in a pool that is there.
+fn is_queued(pools: &mut Pools, pool: Pool, item: Item, gives: Result<(), Errno>) -> bool {
     if !pools.has(pool) || pools.room(pool).is_err() {
-        return None;
+        return false;
     }
-    Some(pools.enqueue(
-        pool,
-        Waiting {
-            item,
-            made: 1,
-            door: 1,
-        },
-    ))
+    let waiting = Waiting {
+        item,
+        made: 1,
+        door: 1,
+    };
+    pools.enqueue(pool, waiting) == gives
 }
 
 /// Whether an item waits in a pool that is there, where room for two is taken.
@@ -70,73 +106,20 @@ fn is_queued_with_room(pools: &mut Pools, pool: Pool, item: Item) -> bool {
     pools.enqueue(pool, waiting).is_ok()
 }
 
-fn is_queued(pools: &mut Pools, pool: Pool, item: Item) -> bool {
-    matches!(queued(pools, pool, item), Some(Ok(())))
-}
-
-fn is_full(pools: &mut Pools, pool: Pool, item: Item) -> bool {
-    matches!(queued(pools, pool, item), Some(Err(Errno::EAGAIN)))
-}
-
 fn are_queued(pools: &mut Pools, from: u32, to: u32) -> bool {
     for number in from..to {
-        if !is_queued(pools, SERVED, Item::Call(number)) {
+        if !is_queued(pools, SERVED, Item::Call(number), Ok(())) {
             return false;
         }
     }
     true
 }
 
-/// A notice waits beyond 32 calls, and another pool has calls of its own.
-fn are_calls_counted(pools: &mut Pools) -> bool {
-    are_two_pools_added(pools)
-        && are_queued(pools, 1, 2)
-        && pools.calls_waiting(SERVED) == 1
-        && are_queued(pools, 2, 3)
-        && pools.calls_waiting(SERVED) == 2
-        && are_queued(pools, 3, 33)
-        && pools.calls_waiting(SERVED) == 32
-        && is_full(pools, SERVED, Item::Call(33))
-        && is_queued(pools, SERVED, Item::Notice(1))
-        && is_queued(pools, Pool::Private(1), Item::Call(33))
-        && pools.calls_waiting(SERVED) == 32
-        && pools.calls_waiting(Pool::Private(1)) == 1
-}
-
-/// A call that is withdrawn makes room for another.
-fn are_calls_withdrawn(pools: &mut Pools) -> bool {
-    pools.withdraw(SERVED, Item::Call(7))
-        && !pools.withdraw(SERVED, Item::Call(7))
-        && is_queued(pools, SERVED, Item::Call(34))
-        && is_full(pools, SERVED, Item::Call(35))
-}
-
-#[test]
-fn at_most_32_calls_wait_in_a_pool(rt: HostRuntime) -> Result<(), Fail> {
-    let mut pools = Pools::new(rt.alloc())?;
-    assert!(rt;
-        are_calls_counted(&mut pools)
-            && is_queued_with_room(&mut pools, SERVED, Item::Notice(2))
-            && are_calls_withdrawn(&mut pools)
-    );
-    Ok(())
-}
-
-/// Thread 5 parks at event 3, threads 2 and 4 at event 7; after them thread 1 cannot park at event 6, nor thread 3 at
-/// event 7.
-fn are_three_parked(pools: &mut Pools) -> bool {
-    are_two_pools_added(pools)
-        && pools.pick(SERVED).is_none()
-        && is_parked(pools, Tid(5), SERVED, 3)
-        && is_parked(pools, Tid(2), SERVED, 7)
-        && is_parked(pools, Tid(4), SERVED, 7)
-        && !is_parked(pools, Tid(1), SERVED, 6)
-        && !is_parked(pools, Tid(3), SERVED, 7)
-        && is_parked_with_room(pools, Tid(3), Pool::Private(1), 7)
-}
-
-fn is_picked(pools: &Pools, pool: Pool, t: u32) -> bool {
-    matches!(pools.pick(pool), Some(x) if x.thread.0 == t)
+fn is_picked(pools: &Pools, pool: Pool, t: Option<u32>) -> bool {
+    match pools.pick(pool) {
+        Some(parked) => t == Some(parked.thread.0),
+        None => t.is_none(),
+    }
 }
 
 fn is_same(item: Item, other: Item) -> bool {
@@ -149,41 +132,9 @@ fn is_same(item: Item, other: Item) -> bool {
 
 /// Whether an item is next, and is matched with the thread that is picked.
 fn is_matched(pools: &mut Pools, pool: Pool, t: u32, item: Item) -> bool {
-    is_picked(pools, pool, t)
+    is_picked(pools, pool, Some(t))
         && matches!(pools.next(pool), Some(w) if is_same(w.item, item))
         && matches!(pools.match_next(pool), Some(m) if m.thread.0 == t && is_same(m.item, item))
-}
-
-fn are_matched(pools: &mut Pools) -> bool {
-    pools.match_next(SERVED).is_none()
-        && is_queued(pools, SERVED, Item::Notice(9))
-        && is_queued(pools, SERVED, Item::Call(1))
-        && pools.match_next(Pool::Private(1)).is_none()
-        && is_matched(pools, SERVED, 4, Item::Notice(9))
-        && pools.calls_waiting(SERVED) == 1
-        && is_matched(pools, SERVED, 2, Item::Call(1))
-        && pools.calls_waiting(SERVED) == 0
-        && is_picked(pools, SERVED, 5)
-        && is_picked(pools, Pool::Private(1), 3)
-}
-
-fn are_unparked(pools: &mut Pools) -> bool {
-    !pools.unpark(Tid(3), SERVED)
-        && pools.unpark(Tid(5), SERVED)
-        && !pools.unpark(Tid(5), SERVED)
-        && pools.pick(SERVED).is_none()
-        && is_queued(pools, SERVED, Item::Call(2))
-        && pools.match_next(SERVED).is_none()
-        && is_picked(pools, Pool::Private(1), 3)
-}
-
-#[test]
-fn the_thread_that_parked_last_is_picked(rt: HostRuntime) -> Result<(), Fail> {
-    let mut pools = Pools::new(rt.alloc())?;
-    assert!(rt;
-        are_three_parked(&mut pools) && are_matched(&mut pools) && are_unparked(&mut pools)
-    );
-    Ok(())
 }
 
 /// Whether a thread is bound to a door, in place of the one that it was bound to.
@@ -192,25 +143,6 @@ fn is_bound(pools: &mut Pools, t: Tid, d: u32) -> bool {
     pools.bound(t) == Some(d)
 }
 
-/// Thread 64 is bound to door 3, then to door 5, then to none.
-fn is_bound_and_unbound(pools: &mut Pools) -> bool {
-    pools.unbind(Tid(64)) == Err(Errno::EBADF)
-        && is_bound(pools, Tid(64), 3)
-        && is_bound(pools, Tid(64), 5)
-        && pools.bound(Tid(1)).is_none()
-        && pools.unbind(Tid(64)) == Ok(5)
-        && pools.unbind(Tid(64)) == Err(Errno::EBADF)
-        && pools.bound(Tid(64)).is_none()
-}
-
-#[test]
-fn a_thread_is_bound_to_one_door(rt: HostRuntime) -> Result<(), Fail> {
-    let mut pools = Pools::new(rt.alloc())?;
-    assert!(rt; is_bound_and_unbound(&mut pools));
-    Ok(())
-}
-
-/// Whether a spare with a number above those of the others is added.
 /// What a thread is told that is bound to a door of which this is known.
 fn told(pools: &mut Pools, valid: bool, is_private: bool, own: bool) -> Option<Errno> {
     let facts = BindFacts {
@@ -221,36 +153,19 @@ fn told(pools: &mut Pools, valid: bool, is_private: bool, own: bool) -> Option<E
     pools.try_bind(Tid(3), 7, facts).err()
 }
 
-#[test]
-fn only_a_private_door_of_the_process_is_bound(rt: HostRuntime) -> Result<(), Fail> {
-    let mut pools = Pools::new(rt.alloc())?;
-    assert!(rt;
-        told(&mut pools, false, false, false) == Some(Errno::EBADF)
-            && told(&mut pools, true, false, true) == Some(Errno::EINVAL)
-            && told(&mut pools, true, true, false) == Some(Errno::EINVAL)
-            && pools.bound(Tid(3)).is_none()
-            && told(&mut pools, true, true, true).is_none()
-            && pools.bound(Tid(3)) == Some(7)
-    );
-    Ok(())
+fn is_spare_added(pools: &mut Pools, p: Pid, t: Tid) -> bool {
+    pools.is_above_spares(p, t) && pools.add_spare(p, t).is_ok()
 }
 
-/// Two calls and a notice wait at door 1, which threads 5 and 2 are bound to and parked at.
-fn is_door_in_use(pools: &mut Pools) -> bool {
-    pools.bind(Tid(5), 1);
-    pools.bind(Tid(2), 1);
-    are_two_pools_added(pools)
-        && are_queued(pools, 1, 3)
-        && is_queued(pools, SERVED, Item::Notice(1))
-        && is_parked(pools, Tid(5), Pool::Private(1), 3)
-        && is_parked(pools, Tid(2), Pool::Private(1), 7)
-        && pools.size() == 5
+fn is_spare_withdrawn(pools: &mut Pools, p: Pid, t: Tid) -> bool {
+    pools.withdraw_spare(p, t);
+    true
 }
 
-/// Whether what waits at door 1 leaves with the threads that are parked there.
-fn is_door_dropped(alloc: Global, pools: &mut Pools) -> bool {
+/// Whether door 1 goes with so many items that wait there and so many threads that are parked there, and thread 5 is unbound.
+fn is_door_dropped(alloc: Global, pools: &mut Pools, waits: usize, parks: usize) -> bool {
     let waiting = pools.waiting_at(SERVED, 1);
-    let parked = pools.parked_in(Pool::Private(1));
+    let parked = pools.parked_in(PRIVATE);
     let Ok(mut items) = Room::with_room(alloc, waiting) else {
         return false;
     };
@@ -258,55 +173,201 @@ fn is_door_dropped(alloc: Global, pools: &mut Pools) -> bool {
         return false;
     };
     pools.drop_door(SERVED, 1, &mut items, &mut threads);
-    items.len() == 3 && threads.len() == 2 && pools.bound(Tid(5)).is_none() && pools.size() == 0
+    items.len() == waits && threads.len() == parks && pools.bound(Tid(5)).is_none()
 }
 
-#[test]
-fn a_door_is_dropped_with_what_waits_there(rt: HostRuntime) -> Result<(), Fail> {
-    let mut pools = Pools::new(rt.alloc())?;
-    assert!(rt; is_door_in_use(&mut pools) && is_door_dropped(rt.alloc(), &mut pools));
-    Ok(())
-}
-
-fn is_spare_added(pools: &mut Pools, p: Pid, t: Tid) -> bool {
-    pools.is_above_spares(p, t) && pools.add_spare(p, t).is_ok()
-}
-
-fn is_spare_taken(pools: &mut Pools, p: Pid, t: u32) -> bool {
-    matches!(pools.take_spare(p), Some(taken) if taken.0 == t)
-}
-
-fn are_spares_taken(pools: &mut Pools) -> bool {
-    pools.add_process().is_ok()
-        && pools.add_process().is_ok()
-        && is_spare_added(pools, Pid(1), Tid(2))
-        && is_spare_added(pools, Pid(1), Tid(5))
-        && is_spare_added(pools, Pid(1), Tid(9))
-        && !is_spare_added(pools, Pid(1), Tid(9))
-        && is_spare_added(pools, Pid(2), Tid(3))
-        && is_spare_taken(pools, Pid(1), 2)
-        && is_spare_taken(pools, Pid(1), 5)
-        && is_spare_taken(pools, Pid(2), 3)
-        && pools.take_spare(Pid(2)).is_none()
-}
-
-/// Of three further spares, the second is withdrawn.
-fn is_spare_withdrawn(pools: &mut Pools) -> bool {
-    if !(is_spare_added(pools, Pid(2), Tid(11))
-        && is_spare_added(pools, Pid(2), Tid(12))
-        && is_spare_added(pools, Pid(2), Tid(13)))
-    {
-        return false;
+/// What is asked of bindings, of spares and of doors.
+fn does_without_queue(alloc: Global, pools: &mut Pools, act: &Act) -> bool {
+    match act {
+        Act::Bind(t, d) => is_bound(pools, *t, *d),
+        Act::Bound(t, gives) => pools.bound(*t) == *gives,
+        Act::Unbind(t, gives) => pools.unbind(*t) == *gives,
+        Act::TryBind(valid, private, own, gives) => told(pools, *valid, *private, *own) == *gives,
+        Act::AddProcess => pools.add_process().is_ok(),
+        Act::AddSpare(p, t, gives) => is_spare_added(pools, *p, *t) == *gives,
+        Act::TakeSpare(p, gives) => pools.take_spare(*p) == *gives,
+        Act::WithdrawSpare(p, t) => is_spare_withdrawn(pools, *p, *t),
+        Act::Size(gives) => pools.size() == *gives,
+        Act::DropDoor(waits, parks) => is_door_dropped(alloc, pools, *waits, *parks),
+        _ => false,
     }
-    pools.withdraw_spare(Pid(2), Tid(12));
-    is_spare_taken(pools, Pid(2), 11)
-        && is_spare_taken(pools, Pid(2), 13)
-        && pools.take_spare(Pid(2)).is_none()
 }
 
+fn does(alloc: Global, pools: &mut Pools, act: &Act) -> bool {
+    match act {
+        Act::AddTwo => are_two_pools_added(pools),
+        Act::Park(t, pool, since, gives) => is_parked(pools, *t, *pool, *since) == *gives,
+        Act::ParkWithRoom(t, pool, since) => is_parked_with_room(pools, *t, *pool, *since),
+        Act::Unpark(t, pool, gives) => pools.unpark(*t, *pool) == *gives,
+        Act::Pick(pool, gives) => is_picked(pools, *pool, *gives),
+        Act::Queue(pool, item, gives) => is_queued(pools, *pool, *item, *gives),
+        Act::QueueWithRoom(pool, item) => is_queued_with_room(pools, *pool, *item),
+        Act::QueueCalls(from, to) => are_queued(pools, *from, *to),
+        Act::CountCalls(pool, gives) => pools.calls_waiting(*pool) == *gives,
+        Act::Withdraw(pool, item, gives) => pools.withdraw(*pool, *item) == *gives,
+        Act::Match(pool, t, item) => is_matched(pools, *pool, *t, *item),
+        Act::MatchNothing(pool) => pools.match_next(*pool).is_none(),
+        _ => does_without_queue(alloc, pools, act),
+    }
+}
+
+/// How many acts are answered as they are written.
+fn right_acts(alloc: Global, pools: &mut Pools, acts: &[Act]) -> usize {
+    for (i, act) in acts.iter().enumerate() {
+        if !does(alloc, pools, act) {
+            return i;
+        }
+    }
+    acts.len()
+}
+
+/// The same of new pools.
+fn right_acts_of_new(alloc: Global, acts: &[Act]) -> usize {
+    match Pools::new(alloc) {
+        Ok(mut pools) => right_acts(alloc, &mut pools, acts),
+        Err(_) => 0,
+    }
+}
+
+/// A notice waits beyond 32 calls, and another pool has calls of its own. A call that is withdrawn makes room for another.
+static CALLS: [Act; 17] = [
+    Act::AddTwo,
+    Act::QueueCalls(1, 2),
+    Act::CountCalls(SERVED, 1),
+    Act::QueueCalls(2, 3),
+    Act::CountCalls(SERVED, 2),
+    Act::QueueCalls(3, 33),
+    Act::CountCalls(SERVED, 32),
+    Act::Queue(SERVED, Item::Call(33), Err(Errno::EAGAIN)),
+    Act::Queue(SERVED, Item::Notice(1), Ok(())),
+    Act::Queue(PRIVATE, Item::Call(33), Ok(())),
+    Act::CountCalls(SERVED, 32),
+    Act::CountCalls(PRIVATE, 1),
+    Act::QueueWithRoom(SERVED, Item::Notice(2)),
+    Act::Withdraw(SERVED, Item::Call(7), true),
+    Act::Withdraw(SERVED, Item::Call(7), false),
+    Act::Queue(SERVED, Item::Call(34), Ok(())),
+    Act::Queue(SERVED, Item::Call(35), Err(Errno::EAGAIN)),
+];
+
 #[test]
-fn the_lowest_spare_is_taken(rt: HostRuntime) -> Result<(), Fail> {
-    let mut pools = Pools::new(rt.alloc())?;
-    assert!(rt; are_spares_taken(&mut pools) && is_spare_withdrawn(&mut pools));
-    Ok(())
+fn at_most_32_calls_wait_in_a_pool(rt: HostRuntime) {
+    let right = right_acts_of_new(rt.alloc(), &CALLS);
+    assert!(rt; right == CALLS.len(), "act {right}");
+}
+
+/// Thread 5 parks at event 3, threads 2 and 4 at event 7; after them thread 1 cannot park at event 6, nor thread 3 at event 7.
+/// Two of the three are matched with what waits, and the third is unparked.
+static PARKING: [Act; 25] = [
+    Act::AddTwo,
+    Act::Pick(SERVED, None),
+    Act::Park(Tid(5), SERVED, 3, true),
+    Act::Park(Tid(2), SERVED, 7, true),
+    Act::Park(Tid(4), SERVED, 7, true),
+    Act::Park(Tid(1), SERVED, 6, false),
+    Act::Park(Tid(3), SERVED, 7, false),
+    Act::ParkWithRoom(Tid(3), PRIVATE, 7),
+    Act::MatchNothing(SERVED),
+    Act::Queue(SERVED, Item::Notice(9), Ok(())),
+    Act::Queue(SERVED, Item::Call(1), Ok(())),
+    Act::MatchNothing(PRIVATE),
+    Act::Match(SERVED, 4, Item::Notice(9)),
+    Act::CountCalls(SERVED, 1),
+    Act::Match(SERVED, 2, Item::Call(1)),
+    Act::CountCalls(SERVED, 0),
+    Act::Pick(SERVED, Some(5)),
+    Act::Pick(PRIVATE, Some(3)),
+    Act::Unpark(Tid(3), SERVED, false),
+    Act::Unpark(Tid(5), SERVED, true),
+    Act::Unpark(Tid(5), SERVED, false),
+    Act::Pick(SERVED, None),
+    Act::Queue(SERVED, Item::Call(2), Ok(())),
+    Act::MatchNothing(SERVED),
+    Act::Pick(PRIVATE, Some(3)),
+];
+
+#[test]
+fn the_thread_that_parked_last_is_picked(rt: HostRuntime) {
+    let right = right_acts_of_new(rt.alloc(), &PARKING);
+    assert!(rt; right == PARKING.len(), "act {right}");
+}
+
+/// Thread 64 is bound to door 3, then to door 5, then to none.
+static BINDING: [Act; 7] = [
+    Act::Unbind(Tid(64), Err(Errno::EBADF)),
+    Act::Bind(Tid(64), 3),
+    Act::Bind(Tid(64), 5),
+    Act::Bound(Tid(1), None),
+    Act::Unbind(Tid(64), Ok(5)),
+    Act::Unbind(Tid(64), Err(Errno::EBADF)),
+    Act::Bound(Tid(64), None),
+];
+
+#[test]
+fn a_thread_is_bound_to_one_door(rt: HostRuntime) {
+    let right = right_acts_of_new(rt.alloc(), &BINDING);
+    assert!(rt; right == BINDING.len(), "act {right}");
+}
+
+static REFUSED: [Act; 6] = [
+    Act::TryBind(false, false, false, Some(Errno::EBADF)),
+    Act::TryBind(true, false, true, Some(Errno::EINVAL)),
+    Act::TryBind(true, true, false, Some(Errno::EINVAL)),
+    Act::Bound(Tid(3), None),
+    Act::TryBind(true, true, true, None),
+    Act::Bound(Tid(3), Some(7)),
+];
+
+#[test]
+fn only_a_private_door_of_the_process_is_bound(rt: HostRuntime) {
+    let right = right_acts_of_new(rt.alloc(), &REFUSED);
+    assert!(rt; right == REFUSED.len(), "act {right}");
+}
+
+/// Two calls and a notice wait at door 1, which threads 5 and 2 are bound to and parked at. What waits there leaves with them.
+static DROPPED: [Act; 10] = [
+    Act::Bind(Tid(5), 1),
+    Act::Bind(Tid(2), 1),
+    Act::AddTwo,
+    Act::QueueCalls(1, 3),
+    Act::Queue(SERVED, Item::Notice(1), Ok(())),
+    Act::Park(Tid(5), PRIVATE, 3, true),
+    Act::Park(Tid(2), PRIVATE, 7, true),
+    Act::Size(5),
+    Act::DropDoor(3, 2),
+    Act::Size(0),
+];
+
+#[test]
+fn a_door_is_dropped_with_what_waits_there(rt: HostRuntime) {
+    let right = right_acts_of_new(rt.alloc(), &DROPPED);
+    assert!(rt; right == DROPPED.len(), "act {right}");
+}
+
+/// The lowest of three spares is taken, twice, and that of another process. Of three further ones, the second is withdrawn.
+static SPARES: [Act; 18] = [
+    Act::AddProcess,
+    Act::AddProcess,
+    Act::AddSpare(Pid(1), Tid(2), true),
+    Act::AddSpare(Pid(1), Tid(5), true),
+    Act::AddSpare(Pid(1), Tid(9), true),
+    Act::AddSpare(Pid(1), Tid(9), false),
+    Act::AddSpare(Pid(2), Tid(3), true),
+    Act::TakeSpare(Pid(1), Some(Tid(2))),
+    Act::TakeSpare(Pid(1), Some(Tid(5))),
+    Act::TakeSpare(Pid(2), Some(Tid(3))),
+    Act::TakeSpare(Pid(2), None),
+    Act::AddSpare(Pid(2), Tid(11), true),
+    Act::AddSpare(Pid(2), Tid(12), true),
+    Act::AddSpare(Pid(2), Tid(13), true),
+    Act::WithdrawSpare(Pid(2), Tid(12)),
+    Act::TakeSpare(Pid(2), Some(Tid(11))),
+    Act::TakeSpare(Pid(2), Some(Tid(13))),
+    Act::TakeSpare(Pid(2), None),
+];
+
+#[test]
+fn the_lowest_spare_is_taken(rt: HostRuntime) {
+    let right = right_acts_of_new(rt.alloc(), &SPARES);
+    assert!(rt; right == SPARES.len(), "act {right}");
 }

@@ -4,6 +4,15 @@ use dk_base::error::ProcFault;
 use dk_base::number::{Pid, Tid};
 use kernel_records::record::ThreadState;
 use proc_table::procs::Procs;
+use std::alloc::Global;
+
+/// Whether this is so of a new table.
+fn is_so_of_new(alloc: Global, check: fn(&mut Procs) -> bool) -> bool
+    requires { IsAlwaysCallable check }
+{
+    let mut procs = Procs::new(alloc);
+    check(&mut procs)
+}
 
 /// Whether a process is added, under this number.
 fn is_process_added(procs: &mut Procs, number: u32) -> bool {
@@ -26,8 +35,7 @@ fn are_processes_full_at_64(procs: &mut Procs) -> bool {
 
 #[test]
 fn there_are_at_most_64_processes(rt: HostRuntime) {
-    let mut procs = Procs::new(rt.alloc());
-    assert!(rt; are_processes_full_at_64(&mut procs));
+    assert!(rt; is_so_of_new(rt.alloc(), are_processes_full_at_64));
 }
 
 fn are_threads_full_at_64(procs: &mut Procs) -> bool {
@@ -46,8 +54,7 @@ fn are_threads_full_at_64(procs: &mut Procs) -> bool {
 
 #[test]
 fn there_are_at_most_64_threads(rt: HostRuntime) {
-    let mut procs = Procs::new(rt.alloc());
-    assert!(rt; are_threads_full_at_64(&mut procs));
+    assert!(rt; is_so_of_new(rt.alloc(), are_threads_full_at_64));
 }
 
 /// Process 1 has thread 1 and a spare, process 2 has threads 3 and 4.
@@ -81,16 +88,18 @@ fn are_last_threads_known(procs: &mut Procs) -> bool {
 
 #[test]
 fn a_spare_thread_keeps_no_process(rt: HostRuntime) {
-    let mut procs = Procs::new(rt.alloc());
-    assert!(rt; are_last_threads_known(&mut procs));
+    assert!(rt; is_so_of_new(rt.alloc(), are_last_threads_known));
 }
 
 fn is_done(procs: &Procs, t: Tid) -> bool {
     matches!(procs.state(t), ThreadState::Done)
 }
 
-/// The process ends with its spare, and the other one goes on.
+/// Of two processes, one ends with its spare, and the other one goes on.
 fn is_process_ended(procs: &mut Procs) -> bool {
+    if !are_two_processes_added(procs) {
+        return false;
+    }
     procs.end_proc(Pid(1));
     is_done(procs, Tid(1))
         && is_done(procs, Tid(2))
@@ -101,8 +110,7 @@ fn is_process_ended(procs: &mut Procs) -> bool {
 
 #[test]
 fn a_process_ends_with_all_its_threads(rt: HostRuntime) {
-    let mut procs = Procs::new(rt.alloc());
-    assert!(rt; are_two_processes_added(&mut procs) && is_process_ended(&mut procs));
+    assert!(rt; is_so_of_new(rt.alloc(), is_process_ended));
 }
 
 /// Whether a thread is added to a process that has not begun, under this number, and is Dormant.
@@ -130,8 +138,11 @@ fn is_child_added(procs: &mut Procs) -> bool {
         && is_added_unborn(procs, Pid(2), false, 3)
 }
 
-/// The child begins, and its thread runs that is no spare.
+/// A child is added, and begins, and its thread runs that is no spare.
 fn is_begun(procs: &mut Procs) -> bool {
+    if !is_child_added(procs) {
+        return false;
+    }
     if procs.first_thread(Pid(2)) != Some(Tid(3)) || procs.going().has(Tid(3)) {
         return false;
     }
@@ -146,6 +157,5 @@ fn is_begun(procs: &mut Procs) -> bool {
 
 #[test]
 fn a_child_begins(rt: HostRuntime) {
-    let mut procs = Procs::new(rt.alloc());
-    assert!(rt; is_child_added(&mut procs) && is_begun(&mut procs));
+    assert!(rt; is_so_of_new(rt.alloc(), is_begun));
 }

@@ -1,4 +1,4 @@
-use Rattle.kernel_tables_tests.proofs.exits.is_no_revocation.Goals as goal
+use Rattle.kernel_tables_tests.proofs.exits.leave.Goals as goal
 
 pub revoke_all-requires-clause-can : goal.revoke_all-requires-clause-can
 revoke_all-requires-clause-can c = (0, c.requires.can)
