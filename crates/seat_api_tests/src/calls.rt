@@ -1,0 +1,186 @@
+//! What a seat asks for, and what it is replied. `acts` alone owns a reply; all else asks it what came.
+ghost use Rattle.std.specs.Prelude.{ℕ, ◌≡◌, ◌<◌, IfOk, true};
+ghost use Rattle.written_kernel.specs.Words.{IsFit, State};
+ghost use Rattle.seat_api.specs.declared.limits.TheConstants.{CALLS_MAX};
+ghost use Rattle.seat_api.specs.History.{is_allowed};
+
+use dk_base::answer::Answer;
+use dk_base::error::NoMemory;
+use dk_base::list::{Bytes, PassList};
+use dk_base::number::{Fd, PathId};
+use dk_base::request::Request;
+use dk_base::set::Attrs;
+use kernel_records::record::ThreadState;
+use seat_api::entry::SeatReply;
+use seat_api::limits::CALLS_MAX;
+use seat_api::opening::Opening;
+use seat_api::seats::{Seat, Seats};
+use std::alloc::Global;
+use std::sync::Wait;
+
+/// A call of a seat.
+#[derive(Clone, Copy)]
+pub enum Asks {
+    Create,
+    /// The descriptor 0 is attached to this path.
+    Attach(u32),
+    Open(u32),
+    Cred,
+    /// A call of this descriptor with the byte `q`.
+    Call(u32),
+    /// A return with nothing, before the first call.
+    Serve,
+    /// A return with the byte `a`.
+    Answer,
+    GoOn,
+}
+
+/// A reply.
+#[derive(Clone, Copy)]
+pub enum Gives {
+    NewFd(u32),
+    Done,
+    Wait,
+    /// The first call of all.
+    WaitFirstCall,
+    WaitCall,
+    /// With the byte `q`.
+    Entered,
+    /// With the byte `a`.
+    Results,
+    Failure,
+    NotRunningInFirstCall,
+    NotReady,
+}
+
+/// What came of a call.
+#[derive(Clone, Copy)]
+pub enum Came {
+    AsWritten,
+    Otherwise,
+    NoMemory,
+    /// There was no memory for the request, so it was not entered.
+    NotAsked,
+}
+
+fn is_answer(answer: &Answer, gives: Gives) -> bool {
+    match gives {
+        Gives::NewFd(number) => matches!(answer, Answer::NewFd { fd } if fd.0 == number),
+        Gives::Done => matches!(answer, Answer::Done),
+        Gives::Wait => matches!(answer, Answer::Wait),
+        Gives::WaitFirstCall => matches!(answer, Answer::WaitCall { call: 1 }),
+        Gives::WaitCall => matches!(answer, Answer::WaitCall { .. }),
+        Gives::Entered => {
+            matches!(answer, Answer::Entered { bytes, .. } if bytes.slice() == b"q".as_slice())
+        }
+        Gives::Results => {
+            matches!(answer, Answer::Results { bytes, .. } if bytes.slice() == b"a".as_slice())
+        }
+        Gives::Failure => matches!(answer, Answer::Failure(_)),
+        _ => false,
+    }
+}
+
+fn what_came(reply: &Result<SeatReply, NoMemory>, gives: Gives) -> Came {
+    let is_written = match reply {
+        Ok(SeatReply::Answer(answer)) => is_answer(answer, gives),
+        Ok(SeatReply::NotRunning(ThreadState::Calling { call: 1 })) => {
+            matches!(gives, Gives::NotRunningInFirstCall)
+        }
+        Ok(SeatReply::NotReady) => matches!(gives, Gives::NotReady),
+        Ok(_) => false,
+        Err(_) => return Came::NoMemory,
+    };
+    if is_written {
+        Came::AsWritten
+    } else {
+        Came::Otherwise
+    }
+}
+
+fn request(alloc: Global, asks: Asks) -> Result<Request, NoMemory>
+    ensures fit { IfOk result (λ r. (m : State) (t : ℕ) → IsFit m t r) }
+    ensures allowed { IfOk result (λ r. is_allowed r ≡ true) }
+{
+    match asks {
+        Asks::Create => Ok(Request::Create {
+            entry: 1,
+            cookie: 0,
+            attrs: Attrs(0),
+        }),
+        Asks::Attach(path) => Ok(Request::Attach {
+            fd: Fd(0),
+            path: PathId(path),
+        }),
+        Asks::Open(path) => Ok(Request::Open { path: PathId(path) }),
+        Asks::Call(door) => Ok(Request::Call {
+            door: Fd(door),
+            bytes: Bytes::from_slice(alloc, b"q")?,
+            pass: PassList::new(alloc),
+            rsize: 16,
+        }),
+        Asks::Serve => Ok(Request::Return {
+            bytes: Bytes::new(alloc),
+            pass: PassList::new(alloc),
+        }),
+        Asks::Answer => Ok(Request::Return {
+            bytes: Bytes::from_slice(alloc, b"a")?,
+            pass: PassList::new(alloc),
+        }),
+        _ => Ok(Request::Cred),
+    }
+}
+
+fn enters<J: Opening, R: Wait>(
+    rt: &R,
+    alloc: Global,
+    seats: &Seats<J>,
+    seat: &mut Seat<J>,
+    asks: Asks,
+    gives: Gives,
+) -> Came
+    requires own { seat.old.table ≡ seats.now }
+    requires few { seat.old.calls < CALLS_MAX }
+    ensures own { (seat.new.table ≡ seats.now) × (seat.new.number ≡ seat.old.number) × (seat.new.next ≡ seat.old.next) }
+{
+    match request(alloc, asks) {
+        Ok(request) => what_came(&seats.enter(rt, seat, request), gives),
+        Err(_) => Came::NotAsked,
+    }
+}
+
+/// What comes of a call, if the seat has one left.
+pub fn acts<J: Opening, R: Wait>(
+    rt: &R,
+    alloc: Global,
+    seats: &Seats<J>,
+    seat: &mut Seat<J>,
+    asks: Asks,
+    gives: Gives,
+) -> Came
+    requires own { seat.old.table ≡ seats.now }
+    ensures own { (seat.new.table ≡ seats.now) × (seat.new.number ≡ seat.old.number) × (seat.new.next ≡ seat.old.next) }
+{
+    if seat.calls() >= CALLS_MAX {
+        return Came::Otherwise;
+    }
+    match asks {
+        Asks::GoOn => what_came(&seats.go_on(rt, seat), gives),
+        _ => enters(rt, alloc, seats, seat, asks, gives),
+    }
+}
+
+/// Whether a call is replied as it is written.
+pub fn is_replied<J: Opening, R: Wait>(
+    rt: &R,
+    alloc: Global,
+    seats: &Seats<J>,
+    seat: &mut Seat<J>,
+    asks: Asks,
+    gives: Gives,
+) -> bool
+    requires own { seat.old.table ≡ seats.now }
+    ensures own { (seat.new.table ≡ seats.now) × (seat.new.number ≡ seat.old.number) × (seat.new.next ≡ seat.old.next) }
+{
+    matches!(acts(rt, alloc, seats, seat, asks, gives), Came::AsWritten)
+}
