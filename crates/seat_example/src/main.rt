@@ -1,0 +1,240 @@
+//! `seat_example`: an event loop and two workers, each a thread of the host that acts as a thread of the kernel by its seat. The loop
+//! takes what the workers send to its port, and what is printed is the same whatever the order.
+#![tactic(auto)]
+
+ghost use Rattle.std.specs.Prelude.{◌≡◌, ◌+◌, ◌≤◌, IfOk, length};
+ghost use Rattle.seat_api.specs.declared.limits.TheConstants.{CALLS_MAX};
+
+use dk_base::answer::Answer;
+use dk_base::error::NoMemory;
+use dk_base::list::IdList;
+use dk_base::number::{Fd, Pid, Tid};
+use dk_base::request::Request;
+use kernel_core::kernel::Kernel;
+use seat_api::entry::SeatReply;
+use seat_api::opening::Opening;
+use seat_api::seats::{Seat, Seats};
+use std::alloc::Global;
+use std::io;
+use std::marker::Brand;
+use std::mem::drop;
+use std::sync::Wait;
+use std::sync::atomic::{AtomicU64, Ordering};
+use std::thread::{Threads, join};
+
+/// How many events a worker sends.
+const EVENTS: u64 = 100;
+
+/// The port. All threads are of one process, which has no other descriptor.
+const PORT: Fd = Fd(0);
+
+/// A kernel of one process with three threads.
+fn one_process(alloc: Global) -> Result<Kernel, NoMemory>
+    ensures no_event { IfOk result (λ k. k.events ≡ 0) }
+    ensures threads { IfOk result (λ k. length k.process_table.threads ≡ 3) }
+{
+    let descriptors = IdList::from_slice(alloc, &[8])?;
+    let mut kernel = Kernel::new(alloc, &descriptors)?;
+    add_threads(&mut kernel)?;
+    Ok(kernel)
+}
+
+fn add_threads(kernel: &mut Kernel) -> Result<(), NoMemory>
+    requires no_event { kernel.old.events ≡ 0 }
+    requires process { 1 ≤ length kernel.old.process_table.processes }
+    requires threads { length kernel.old.process_table.threads ≡ 0 }
+    ensures no_event { kernel.new.events ≡ 0 }
+    ensures threads { IfOk result (λ _. length kernel.new.process_table.threads ≡ 3) }
+{
+    for _ in 0..3u32 {
+        if kernel.add_thread(Pid(1), false).is_err() {
+            return Err(NoMemory);
+        }
+    }
+    Ok(())
+}
+
+/// Tells the loop of one event more, since the kernel wakes its own thread alone and not the host's.
+fn ring(bell: &AtomicU64) {
+    bell.fetch_add(1, Ordering::SeqCst);
+    bell.wake_all();
+}
+
+/// Sleeps until the bell was rung more often than this.
+fn wait_past<R: Wait>(rt: &R, bell: &AtomicU64, count: u64) {
+    for _ in rt.forever() {
+        let rung = bell.load(Ordering::SeqCst);
+        if rung > count {
+            return;
+        }
+        bell.park(rt, (rung & 0xffff_ffff) as u32);
+    }
+    unreachable!()
+}
+
+/// A worker sends its events, which carry 0, 1, 2 and so on.
+fn send_all<J: Opening, R: Wait>(
+    rt: &R,
+    seats: &Seats<J>,
+    bell: &AtomicU64,
+    mut seat: Seat<J>,
+    worker: u32,
+)
+    requires own { seat.table ≡ seats.now }
+    requires calls { seat.calls ≡ 0 }
+{
+    for user in 0..EVENTS {
+        let send = Request::Send {
+            port: PORT,
+            events: worker,
+            user,
+        };
+        drop(seats.enter(rt, &mut seat, send));
+        ring(bell);
+    }
+}
+
+fn is_wait(reply: &Result<SeatReply, NoMemory>) -> bool {
+    matches!(reply, Ok(SeatReply::Answer(Answer::Wait)))
+}
+
+/// The next event, of which so many were taken. Where there is none yet the kernel's thread waits at the port, and the host's for the bell.
+fn next<J: Opening, R: Wait>(
+    rt: &R,
+    seats: &Seats<J>,
+    bell: &AtomicU64,
+    seat: &mut Seat<J>,
+    taken: u64,
+) -> Result<SeatReply, NoMemory>
+    requires own { seat.old.table ≡ seats.now }
+    requires calls { seat.old.calls + 2 ≤ CALLS_MAX }
+    ensures own { seat.new.table ≡ seats.now }
+    ensures calls { seat.new.calls ≤ seat.old.calls + 2 }
+{
+    let get = Request::Get {
+        port: PORT,
+        wait: true,
+    };
+    let reply = seats.enter(rt, seat, get);
+    if !is_wait(&reply) {
+        return reply;
+    }
+    drop(reply);
+    wait_past(rt, bell, taken);
+    seats.go_on(rt, seat)
+}
+
+/// Counts an event that carries its worker's next number.
+fn count_in_order(counts: &mut [u64; 2], reply: &Result<SeatReply, NoMemory>) {
+    if let Ok(SeatReply::Answer(Answer::OneEvent(event))) = reply {
+        if let Some(count) = counts.get_mut(event.events as usize) {
+            if event.user == *count {
+                *count = event.user.wrapping_add(1);
+            }
+        }
+    }
+}
+
+/// The loop takes all events, and counts those of each worker that came in their order.
+fn take_all<J: Opening, R: Wait>(
+    rt: &R,
+    seats: &Seats<J>,
+    bell: &AtomicU64,
+    mut seat: Seat<J>,
+) -> [u64; 2]
+    requires own { seat.table ≡ seats.now }
+    requires calls { seat.calls ≤ 1 }
+{
+    let mut counts = [0, 0];
+    for taken in 0..2 * EVENTS {
+        let reply = next(rt, seats, bell, &mut seat, taken);
+        count_in_order(&mut counts, &reply);
+        drop(reply);
+    }
+    counts
+}
+
+/// Both workers at once.
+fn send_both<J: Opening + Send + Sync, R: Threads + Wait + Sync>(
+    rt: &R,
+    seats: &Seats<J>,
+    bell: &AtomicU64,
+    first: Seat<J>,
+    second: Seat<J>,
+)
+    requires first { (first.table ≡ seats.now) × (first.calls ≡ 0) }
+    requires second { (second.table ≡ seats.now) × (second.calls ≡ 0) }
+{
+    join(
+        rt,
+        || -> ()
+            requires { (first.table ≡ seats.now) × (first.calls ≡ 0) }
+        { send_all(rt, seats, bell, first, 0) },
+        || -> ()
+            requires { (second.table ≡ seats.now) × (second.calls ≡ 0) }
+        { send_all(rt, seats, bell, second, 1) },
+    );
+}
+
+/// The loop and both workers at once: how many events of each worker came in their order.
+fn work<J: Opening + Send + Sync, R: Threads + Wait + Sync>(
+    rt: &R,
+    seats: &Seats<J>,
+    taker: Seat<J>,
+    first: Seat<J>,
+    second: Seat<J>,
+) -> [u64; 2]
+    requires taker { (taker.table ≡ seats.now) × (taker.calls ≤ 1) }
+    requires first { (first.table ≡ seats.now) × (first.calls ≡ 0) }
+    requires second { (second.table ≡ seats.now) × (second.calls ≡ 0) }
+{
+    let bell = AtomicU64::new(0);
+    let (_, counts) = join(
+        rt,
+        || -> ()
+            requires { (first.table ≡ seats.now) × (first.calls ≡ 0) × (second.table ≡ seats.now) × (second.calls ≡ 0) }
+        { send_both(rt, seats, &bell, first, second) },
+        || -> [u64; 2]
+            requires { (taker.table ≡ seats.now) × (taker.calls ≤ 1) }
+        { take_all(rt, seats, &bell, taker) },
+    );
+    counts
+}
+
+/// The program over a kernel, whose state J names. None where there is no memory for the seats.
+fn run<J: Opening + Send + Sync, R: Threads + Wait + Sync>(
+    rt: &R,
+    alloc: Global,
+    kernel: Kernel,
+) -> Option<[u64; 2]>
+    requires opening { kernel ≡ J.opening }
+    requires no_event { kernel.events ≡ 0 }
+    requires threads { length kernel.process_table.threads ≡ 3 }
+{
+    let Ok((seats, mut taker)) = Seats::<J>::new(alloc, kernel, Tid(1)) else {
+        return None;
+    };
+    let first = seats.split(&mut taker, Tid(2)).unwrap();
+    let second = seats.split(&mut taker, Tid(3)).unwrap();
+    drop(seats.enter(rt, &mut taker, Request::PortCreate));
+    Some(work(rt, &seats, taker, first, second))
+}
+
+fn print<R: Print>(rt: &R, worker: u32, count: u64) -> io::Result<()> {
+    println!(rt; "worker {worker}: {count} events in order")
+}
+
+fn main(rt: HostRuntime) -> io::Result<()> {
+    let alloc = rt.alloc();
+    let counts = match one_process(alloc) {
+        Ok(kernel) => run::<Brand, _>(&rt, alloc, kernel),
+        Err(NoMemory) => None,
+    };
+    match counts {
+        Some(counts) => {
+            print(&rt, 1, counts[0])?;
+            print(&rt, 2, counts[1])
+        }
+        None => Err(io::ErrorKind::OutOfMemory.into()),
+    }
+}
