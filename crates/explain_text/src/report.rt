@@ -1,0 +1,177 @@
+//! The lines that are written to the error stream.
+
+use dk_base::error::NoMemory;
+use dk_base::list::Bytes;
+use itoa::Buffer;
+use script_text::string::{hex_digit, is_printable};
+use std::alloc::Global;
+
+/// Of longer words and lines the first bytes are shown.
+const SHOWN_MAX: usize = 200;
+
+/// Places of a line, from 0: the first, and the one after the last.
+#[derive(Clone, Copy)]
+pub struct Span {
+    pub start: usize,
+    pub end: usize,
+}
+
+/// What is written so far. Where memory ran out for a part of it, nothing is written at the end.
+#[derive(Drop)]
+pub struct Report {
+    text: Bytes,
+    is_lost: bool,
+}
+
+/// What stands below a byte of a line: spaces, or marks.
+fn mark_of(byte: u8, is_marked: bool) -> &'static str {
+    match (is_printable(byte), is_marked) {
+        (true, true) => "^",
+        (true, false) => " ",
+        (false, true) => "^^^^",
+        (false, false) => "    ",
+    }
+}
+
+impl Report {
+    pub fn new(alloc: Global) -> Self {
+        Report {
+            text: Bytes::new(alloc),
+            is_lost: false,
+        }
+    }
+
+    /// The lines, if there was enough memory for all of them.
+    pub fn into_text(self) -> Result<Bytes, NoMemory> {
+        let Report { text, is_lost } = self;
+        if is_lost { Err(NoMemory) } else { Ok(text) }
+    }
+
+    /// Memory ran out for something that was to be said.
+    pub fn lose(&mut self) {
+        self.is_lost = true;
+    }
+
+    fn put(&mut self, bytes: &[u8]) {
+        if self.text.append(bytes).is_err() {
+            self.is_lost = true;
+        }
+    }
+
+    /// Words of a sentence.
+    pub fn say(&mut self, words: &str) {
+        self.put(words.as_bytes());
+    }
+
+    /// A byte of a text, in hexadecimal where it is not printable.
+    fn shown(&mut self, byte: u8) {
+        if is_printable(byte) {
+            self.put(&[byte]);
+        } else {
+            self.put(&[b'\\', b'x', hex_digit(byte / 16), hex_digit(byte % 16)]);
+        }
+    }
+
+    /// Bytes of a text; those that are not printable are shown as `\xHH`, and of many the first alone.
+    pub fn word(&mut self, bytes: &[u8]) {
+        for byte in bytes.iter().take(SHOWN_MAX) {
+            self.shown(*byte);
+        }
+        if bytes.len() > SHOWN_MAX {
+            self.say(" ..");
+        }
+    }
+
+    /// The same in quotes.
+    pub fn quoted(&mut self, bytes: &[u8]) {
+        self.say("'");
+        self.word(bytes);
+        self.say("'");
+    }
+
+    pub fn number(&mut self, number: u64) {
+        self.put(Buffer::new().format(number).as_bytes());
+    }
+
+    /// What stands for a byte of a template.
+    fn part(&mut self, byte: u8, word: &[u8], number: u64) {
+        match byte {
+            b'~' => self.quoted(word),
+            b'@' => self.word(word),
+            b'#' => self.number(number),
+            _ => self.put(&[byte]),
+        }
+    }
+
+    /// Words of a sentence: where a `~` stands in them the word in quotes, at a `@` without, and at a `#` the number.
+    pub fn tell(&mut self, words: &str, word: &[u8], number: u64) {
+        for byte in words.as_bytes() {
+            self.part(*byte, word, number);
+        }
+    }
+
+    /// A line that begins so.
+    fn sentence(&mut self, start: &str, at: u64, words: &str, word: &[u8], number: u64) {
+        self.tell(start, &[], at);
+        self.tell(words, word, number);
+        self.end();
+    }
+
+    /// A message on a line of the script.
+    pub fn line(&mut self, at: u64, words: &str, word: &[u8], number: u64) {
+        self.sentence("doors: line #: ", at, words, word, number);
+    }
+
+    /// A message on a line of a trace.
+    pub fn trace(&mut self, at: u64, words: &str, word: &[u8], number: u64) {
+        self.sentence("doors: line # of the trace: ", at, words, word, number);
+    }
+
+    /// A warning on a line of the script.
+    pub fn warning(&mut self, at: u64, words: &str, word: &[u8], number: u64) {
+        self.sentence("doors: warning: line #: ", at, words, word, number);
+    }
+
+    /// An indented line below a message.
+    pub fn note(&mut self, words: &str, word: &[u8], number: u64) {
+        self.sentence("    ", 0, words, word, number);
+    }
+
+    /// The end of a line.
+    pub fn end(&mut self) {
+        self.say("\n");
+    }
+
+    /// An indented line of these words, which are no template; none where there are no words.
+    pub fn advise(&mut self, words: &str) {
+        if !words.is_empty() {
+            self.say("    ");
+            self.say(words);
+            self.end();
+        }
+    }
+
+    fn marks(&mut self, line: &[u8], span: Span) {
+        for (place, byte) in line.iter().enumerate() {
+            if place >= span.end {
+                return;
+            }
+            self.say(mark_of(*byte, place >= span.start));
+        }
+        if span.start >= line.len() {
+            self.say(" ^");
+        }
+    }
+
+    /// A line as it stands, and marks below the span. Of a long line the first bytes, without marks.
+    pub fn show(&mut self, line: &[u8], span: Span) {
+        self.say("    ");
+        self.word(line);
+        self.end();
+        if line.len() <= SHOWN_MAX {
+            self.say("    ");
+            self.marks(line, span);
+            self.end();
+        }
+    }
+}
