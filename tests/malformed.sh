@@ -1,6 +1,7 @@
 #!/bin/sh
 # Plays texts that are scripts but for changes: bytes changed, lines cut, doubled and exchanged, of the scripts of tests/play and of
-# examples/. Each is to be answered within a second: by one line of status 2 and nothing else, or as a script. It is no part of the gate.
+# examples/. Each is to be answered within a second: by one line of status 2 and nothing else, or as a script; and the error stream has one message where
+# the status is not 0, lines below it, and warnings. It is no part of the gate.
 #
 # tests/malformed.sh [COUNT [PROGRAM]]     20000 texts, and the program that `rt ci` left; the same texts each time
 
@@ -68,6 +69,7 @@ def exchange_words(lines):
 
 CHANGES = [change_byte, change_byte, cut, drop_byte] + [of_lines(change) for change in (double, exchange, drop, insert, exchange_words)]
 BAD = re.compile(rb'bad line [0-9]+ [a-z]+\n')
+TOLD = re.compile(rb'((doors:|   ) [ -~]*\n)*')
 ANSWERS = {b'end complete': 0, b'end stalled': 1, b'end budget': 4, b'refused turn': 8}
 statuses, wrong = {}, 0
 for number in range(count):
@@ -85,8 +87,9 @@ for number in range(count):
             last = out.rstrip(b'\n').rsplit(b'\n', 1)[-1]
             if not any(last.startswith(begin) and status == of for begin, of in ANSWERS.items()):
                 why = 'status %d with the last line %r' % (status, last)
-        if done.stderr:
-            why = 'something on the error stream'
+        messages = len(re.findall(rb'^doors: (?!warning: )', done.stderr, re.M))
+        if not TOLD.fullmatch(done.stderr) or messages != (status != 0):
+            why = 'status %d with %r on the error stream' % (status, done.stderr[:200])
     except subprocess.TimeoutExpired:
         status, why = None, 'more than a second'
     statuses[status] = statuses.get(status, 0) + 1

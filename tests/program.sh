@@ -2,8 +2,8 @@
 # Runs the built program on scripts and compares what it writes, its exit status and its error stream. `rt ci` leaves the
 # program in crates/doors/out, so this comes after it. A word names another program.
 #
-# tests/COMMAND/NAME.in is an input of `doors COMMAND`. NAME.out is the output, or NAME.end what the output ends with, and
-# NAME.status the status, 0 where there is none. examples/NAME.doors is played to NAME.trace, which `check` finds legal, and
+# tests/COMMAND/NAME.in is an input of `doors COMMAND`. NAME.out is the output, or NAME.end what the output ends with,
+# NAME.status the status, 0 where there is none, and NAME.err, where it is there, exactly what is on the error stream. examples/NAME.doors is played to NAME.trace, which `check` finds legal, and
 # illegal with a change. In the pages a block that begins with ```doors is a script, and the next that begins with ```trace
 # is what `play` writes for it. In the tutorial a row of a table that begins with a script has the last line of that.
 #
@@ -51,14 +51,18 @@ if command -v timeout >"$work/timeout"; then most="timeout 120"; fi
 # run WORD..: over the standard input.
 run() { $most "$program" "$@" >"$work/out" 2>"$work/err"; }
 
-# Whether the error stream is as it is to be at this status: one line at 3, 5, 6 and 7, and nothing at others.
-is_quiet() {
+# Whether the error stream is as it is to be at this status: one line at 5, 6 and 7; at 3 two; at 1, 2, 4, 8 and 9 a message, and
+# warnings after it; at 0 warnings, if anything. The lines below a message or a warning are indented.
+is_told() {
     case $1 in
-    3 | 5 | 6 | 7)
-        [ "$(wc -l <"$work/err")" -eq 1 ] && [ "$(tail -c 1 "$work/err" | wc -l)" -eq 1 ]
-        ;;
-    *) [ ! -s "$work/err" ] ;;
+    3) [ "$(wc -l <"$work/err")" -eq 2 ] || return ;;
+    5 | 6 | 7) [ "$(wc -l <"$work/err")" -eq 1 ] || return ;;
     esac
+    case $1 in
+    1 | 2 | 3 | 4 | 5 | 6 | 7 | 8 | 9) [ "$(grep -c '^doors: ' "$work/err")" -eq $(($(grep -c '^doors: warning: ' "$work/err") + 1)) ] || return ;;
+    *) [ "$(grep -c '^doors: ' "$work/err")" -eq "$(grep -c '^doors: warning: ' "$work/err")" ] || return ;;
+    esac
+    ! grep -Eqv '^(doors: |    )' "$work/err" && [ "$(tail -c 1 "$work/err" | wc -c)" -eq "$(tail -c 1 "$work/err" | wc -l)" ]
 }
 
 # judge NAME FOUND STATUS TEXT: of the last run, whose status was FOUND.
@@ -69,10 +73,20 @@ judge() {
     elif ! cmp -s "$work/out" "$4"; then
         fail "$1" "another output than $4:"
         diff "$4" "$work/out" | head -n 6
-    elif ! is_quiet "$3"; then
+    elif ! is_told "$3"; then
         fail "$1" "the error stream has $(wc -l <"$work/err") lines: $(head -n 1 "$work/err")"
     else
         pass
+    fi
+}
+
+# judge_told TEXT: the error stream of the last run.
+judge_told() {
+    if cmp -s "$work/err" "$1"; then
+        pass
+    else
+        fail "$1" "another error stream:"
+        diff "$1" "$work/err" | head -n 8
     fi
 }
 
@@ -94,6 +108,7 @@ folder() {
         text=$name.out
         run "$1" <"$input"
         found=$?
+        [ ! -f "$name.err" ] || judge_told "$name.err"
         if [ -f "$name.end" ]; then
             text=$name.end
             keep_end "$text"
@@ -171,7 +186,7 @@ changed_traces() {
             run check <"$to/$name"
             found=$?
             { IFS= read -r first && IFS= read -r want && IFS= read -r have; } <"$work/out" || first="no three lines"
-            if [ $found -ne 9 ] || ! is_quiet 9; then
+            if [ $found -ne 9 ] || ! is_told 9; then
                 fail "$input, $name" "status $found, and 9 is wanted"
             elif [ "$first" != "illegal line $line" ] || [ "$have" != "have${stands:+ $stands}" ]; then
                 fail "$input, $name" "'$first' and '$have', where line $line is '$stands'"
@@ -221,7 +236,7 @@ judge_run() {
         fail "$1" "no line 'tail N' at the end"
     elif [ "$2" -ne "$(status_of "$work/trace")" ]; then
         fail "$1" "status $2, and the run's last line is $(tail -n 1 "$work/trace")"
-    elif ! is_quiet "$2"; then
+    elif ! is_told "$2"; then
         fail "$1" "the error stream has $(wc -l <"$work/err") lines: $(head -n 1 "$work/err")"
     else
         with_trace "$4" "$work/ran" >"$work/to_check"
@@ -232,7 +247,7 @@ judge_run() {
 
 # The canonical text of the script, with the turns of the trace as its schedule, in lines of 16 names.
 with_turns() {
-    "$program" show <"$1" | sed '/^schedule /d'
+    "$program" show <"$1" 2>"$work/said" | sed '/^schedule /d'
     awk '/^[0-9]/ { line = line " " $2; if (++n % 16 == 0) { print "schedule" line; line = "" } }
         END { if (line != "") print "schedule" line }' "$2"
 }
@@ -497,18 +512,25 @@ page() {
     done
 }
 
-# Rows of a page that begin with | `SCRIPT` | `LAST` |: the last line that `play` writes for the script, which has no header there and
-# " / " for a line feed.
+# Rows of a page that begin with | `SCRIPT` | `LAST` | `TOLD` | or | `SCRIPT` | `LAST` | nothing |: the last line that `play` writes
+# for the script, which has no header there and " / " for a line feed, and a line of the error stream, without what it begins with.
 rows() {
     mkdir -p "$work/rows"
-    awk -F'`' -v to="$work/rows" '
-        /^\| `[^`]*` \| `[^`]*` \|/ {
+    awk -F' [|] ' -v to="$work/rows" '
+        function plain(cell) {
+            gsub(/^([|] )?`|`$/, "", cell)
+            return cell
+        }
+        /^\| `[^`]*` \| `[^`]*` \| (`[^`]*`|nothing) \|/ {
             n++
-            gsub(" / ", "\n", $2)
-            print "doors script 1\n" $2 >(to "/" n ".in")
-            print $4 >(to "/" n ".last")
+            script = plain($1)
+            gsub(" / ", "\n", script)
+            print "doors script 1\n" script >(to "/" n ".in")
+            print plain($2) >(to "/" n ".last")
+            print plain($3) >(to "/" n ".told")
             close(to "/" n ".in")
             close(to "/" n ".last")
+            close(to "/" n ".told")
         }
         END { print n + 0 }' "$1" >"$work/count"
     count=$(cat "$work/count")
@@ -521,6 +543,13 @@ rows() {
         tail -n 1 "$work/out" >"$work/last"
         mv "$work/last" "$work/out"
         judge "$1, row $i" $found "$(status_of "$work/rows/$i.last")" "$work/rows/$i.last"
+        sed 's/^doors: //; s/^    //' "$work/err" >"$work/told"
+        [ -s "$work/told" ] || echo nothing >"$work/told"
+        if grep -Fxqf "$work/rows/$i.told" "$work/told"; then
+            pass
+        else
+            fail "$1, row $i" "the error stream has not '$(cat "$work/rows/$i.told")': $(head -n 1 "$work/told")"
+        fi
     done
 }
 
@@ -531,6 +560,15 @@ manuals() {
         mandoc -T lint "$manual" >"$work/lint" 2>&1
         if [ -s "$work/lint" ]; then fail "$manual" "$(head -n 1 "$work/lint")"; else pass; fi
     done
+}
+
+# told TEXT WORD..: such words are no command, and this is what the error stream says of them.
+told() {
+    printf '    %s\n' "$1" >"$work/below"
+    shift
+    usage "$@"
+    tail -n +2 "$work/err" >"$work/told"
+    if cmp -s "$work/told" "$work/below"; then pass; else fail "the words '$*'" "the error stream has $(cat "$work/told")"; fi
 }
 
 # usage WORD..: such words are no command, and nothing is read.
@@ -545,8 +583,16 @@ usage() {
 }
 
 words() {
-    usage
-    usage walk
+    told "no command is given"
+    told "there is no command 'walk': there are play, run, show, check and load" walk
+    told "there is no command 'plai': did you mean 'play'?" plai
+    told "there is no command 'Run': did you mean 'run'?" Run
+    told "'try.doors' is a word too many: the input is no word, but comes after '<', as in: doors play < FILE" play try.doors
+    told "'script' is a word too many: the input is no word, but comes after '<', as in: doors play < FILE" check script trace
+    told "after 'load' one word stands, a number from 1 to 16000" load
+    told "'01' is no N of 'load N': N is a number from 1 to 16000, without a sign or zeros before it" load 01
+    told "after 'load' one word stands, a number from 1 to 16000" load 1 2
+    told "there is no command '\\xc3\\xa9': there are play, run, show, check and load" "$(printf '\303\251')"
     usage PLAY
     usage "play "
     usage ""
@@ -558,12 +604,9 @@ words() {
     usage show check
     usage CHECK
     usage " check"
-    usage load
     usage load 0
-    usage load 01
     usage load 16001
     usage load 100000000000000000001
-    usage load 1 2
     usage load -1
     usage load +1
     usage load 1x

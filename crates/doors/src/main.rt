@@ -2,10 +2,13 @@
 #![tactic(auto)]
 
 use dk_base::error::NoMemory;
+use dk_base::list::Bytes;
 use dk_base::outside::NoGate;
 use dk_base::standard::{StdSink, StdSource};
 use doors_top::status::Status;
 use doors_top::top::doors_main;
+use explain::explaining::explanation;
+use explain_text::recording::{RecordedSink, RecordedSource};
 use std::alloc::Global;
 use std::io::ErrorKind;
 use std::process::ExitCode;
@@ -33,34 +36,58 @@ fn texts_of(alloc: Global, words: &[String]) -> Result<Vec<&str>, NoMemory> {
     }
 }
 
-/// The top call over the real input and output.
-fn status_of<R>(rt: &R) -> Result<Status, NoMemory>
+/// How a command ended, and what is to be said of its answer.
+#[derive(Drop)]
+struct Ended {
+    status: Status,
+    told: Option<Bytes>,
+}
+
+/// The top call over the real input and output. What is said of its answer is made when all is written; where memory runs out for it
+/// nothing is said.
+fn answered<R>(rt: &R, alloc: Global, words: &[&str]) -> Ended
 where
     R: Env + Input + Print + AllocGlobal + Threads + Wait + Sync,
 {
-    let words = words_given(rt)?;
-    let texts = texts_of(rt.alloc(), words.as_slice())?;
-    let mut source = StdSource::new(rt.reader());
-    let mut sink = StdSink::new(io::writer(rt));
-    Ok(doors_main(
-        rt,
-        rt.alloc(),
-        texts.as_slice(),
-        &mut source,
-        &mut sink,
-        &NoGate,
-    ))
+    let mut source = RecordedSource::new(alloc, StdSource::new(rt.reader()));
+    let mut sink = RecordedSink::new(alloc, StdSink::new(io::writer(rt)));
+    let status = doors_main(rt, alloc, words, &mut source, &mut sink, &NoGate);
+    let told = explanation(alloc, words, source.given(), sink.taken(), status.code());
+    Ended {
+        status,
+        told: told.ok(),
+    }
 }
 
-/// One line on the error stream, for a status that has one. Where it cannot be written the status stays.
-fn report<R: Eprint>(rt: &R, status: Status) {
-    if let Some(message) = status.message() {
+/// The same of the words that were given.
+fn program<R>(rt: &R) -> Result<Ended, NoMemory>
+where
+    R: Env + Input + Print + AllocGlobal + Threads + Wait + Sync,
+{
+    let alloc = rt.alloc();
+    let words = words_given(rt)?;
+    let texts = texts_of(alloc, words.as_slice())?;
+    Ok(answered(rt, alloc, texts.as_slice()))
+}
+
+/// What is said on the error stream: one line for a status that has one, or what is to be said of the answer. Where it cannot be
+/// written the status stays.
+fn report<R: Eprint>(rt: &R, ended: &Ended) {
+    if let Some(message) = ended.status.message() {
         let _ = rt.eprintln(message);
+    }
+    if let Some(told) = &ended.told {
+        if let Ok(text) = str::from_utf8(told.slice()) {
+            let _ = rt.eprint(text);
+        }
     }
 }
 
 fn main(rt: HostRuntime) -> ExitCode {
-    let status = status_of(&rt).unwrap_or(Status::Memory);
-    report(&rt, status);
-    ExitCode::from(status.code())
+    let ended = program(&rt).unwrap_or(Ended {
+        status: Status::Memory,
+        told: None,
+    });
+    report(&rt, &ended);
+    ExitCode::from(ended.status.code())
 }
