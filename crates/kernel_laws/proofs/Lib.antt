@@ -46,6 +46,7 @@ mod TimerLives
 mod TimerPorts
 mod TimerPlaces
 mod Dues
+mod KnownTicks
 mod Ticks
 mod Spares
 mod Begins

@@ -5,7 +5,6 @@ use native.Mathlib.Omega.{arith}
 use Rattle.std.proofs.lemmas.Bool.Decides.{nat_tests}
 use Rattle.std.proofs.lemmas.List.Elements.{All-weaker}
 use Rattle.std.proofs.lemmas.Option.{get_or_from_slice_get, slice_get_within}
-use Rattle.dk_base.specs.declared.object.Obj.TheVariants as obj
 use Rattle.dk_base.specs.declared.request.Request.TheVariants as request
 use Rattle.dk_base.specs.declared.answer.Answer.TheVariants as answer
 use Rattle.kernel_records.specs.declared.record.ThreadState.TheVariants as is
@@ -13,8 +12,8 @@ use Rattle.kernel_records.specs.declared.timer.Arming.{Arming}
 use Rattle.kernel_records.specs.declared.timer.Timer.{Timer}
 use Rattle.kernel_records.specs.Words.{Port, is_timer, timer_at}
 use Rattle.kernel_records.proofs.NumberedLists.{find-passes}
-use Rattle.written_kernel.specs.Types.{Answer, EventRec, Obj, Queued, Request, ThreadState}
-use Rattle.written_kernel.specs.Words.{State, Turn, object_at, process_of, state_at, state_of, timers_in}
+use Rattle.written_kernel.specs.Types.{EventRec, Queued, Request, ThreadState}
+use Rattle.written_kernel.specs.Words.{State, Turn, object_at, state_at, state_of, timers_in}
 use Rattle.run_places.specs.Places.{answer_at, process_at}
 use Rattle.run_places.proofs.Known.{TurnAt, from_on, same_turn, turn_at}
 use Rattle.kernel_laws.specs.Channels.{alert_in, alert_under, port_under, told_alert}
@@ -25,84 +24,10 @@ use Rattle.kernel_laws.specs.PortEvents.{AsksPort, Found, IsFound, PortChange, P
 use Rattle.kernel_laws.specs.TimerLives.{Becomes, Ends, Sets, TimerChange, TimerLives}
 use Rattle.kernel_laws.specs.Ticks.{Arms, EndsArming, IsArmed, IsOfArming, Ticks, advanced_by, count_of_timer, events_told, moments_among, moments_queued, moments_told, port_asked, port_named_by, port_waited_at, told_at, told_since}
 use Rattle.kernel_laws.proofs.Channels.{IsThere}
+use Rattle.kernel_laws.proofs.KnownTicks.{IsOwn, IsTold, KnownTimers, Own, WasSet, done_is, is_told, named_is, set_as, told_is, was_set}
 use Rattle.kernel_laws.proofs.Moments.{none_past}
 use Rattle.kernel_laws.proofs.TimerLists.{found_numbered, identified_is, number_found, numbered-bounds}
-use Rattle.kernel_laws.proofs.TimerQueues.{IsNot, from_it, from_some, grown_queued, none_among, none_counted, none_fired, none_queued, none_sent, queued-append, queued-filter, queued-other, ticks_queued, told_taken, without_it}
-
--- an event of timer n at port q: its timer is armed, and the event is as the timer has it
-pub record IsOwn (m : State) (q n : ℕ) (e : Queued) : Type 0 where
-  pub timer : Timer
-  pub there : timer_under m n ≡ Some timer
-  pub of_port : timer.port ≡ q
-  pub arming : Arming
-  pub armed : timer.arming ≡ Some arming
-  pub as_it_is : e ≡ tick_event timer e.rec.events
-  pub some : 1 ≤ e.rec.events
-
-abbrev pub Own : State → ℕ → Queued → Type 0
-Own m q e = (n : ℕ) → e.timer ≡ Some n → IsOwn m q n e
-
--- what this law stands on besides other laws
-pub record KnownTimers (m : State) (xs : List Turn) : Type 0 where
-  pub at_first : clock_at m ≡ 0
-  pub clock :
-      (i : ℕ) (x : Turn) → slice_get xs i ≡ Some x → clock_at (state_at m xs (i + 1)) ≡ clock_at (state_at m xs i) + advanced_by x.request
-  pub own : (i q : ℕ) → i ≤ length xs → All (Own (state_at m xs i) q) (queue_in (port_under (state_at m xs i) q))
-  pub one : (i n q : ℕ) → i ≤ length xs → count_of_timer n (queue_in (port_under (state_at m xs i) q)) ≤ 1
-  pub ports : (i n : ℕ) (t : Timer) → i ≤ length xs → timer_under (state_at m xs i) n ≡ Some t → IsThere (port_under (state_at m xs i) t.port)
-  pub moments : (a : Arming) (before after : ℕ) → 1 ≤ a.first → before ≤ after → moments_by a before ≤ moments_by a after
-
-done_is : (a : Answer) → tells_done a ≡ true → a ≡ answer.Done
-done_is answer.Done e = refl
-done_is a e = absurd (cc e)
-
-named_is : (o : Option Obj) (q : ℕ) → port_named_by o ≡ Some q → o ≡ Some (obj.Port q)
-named_is (Some (obj.Port k)) q e = let same : k ≡ q = cc in ap (λ n. Some (obj.Port n)) same
-named_is o q e = absurd (cc e)
-
--- what an answer tells
-
-data IsTold (a : Answer) : Type 0 where
-  tells_some : Tells a (events_told a) → IsTold a
-  tells_none : events_told a ≡ [] → IsTold a
-
-is_told : (a : Answer) → IsTold a
-is_told (answer.OneEvent r) = IsTold.tells_some (Tells.one r)
-is_told (answer.Events rs) = IsTold.tells_some (Tells.several rs)
-is_told a = IsTold.tells_none refl
-
-told_is : (a : Answer) (rs : List EventRec) → Tells a rs → events_told a ≡ rs
-told_is a rs (Tells.one r) = refl
-told_is a rs (Tells.several us) = refl
-
--- the arming that a timer is set to
-set_as : (a : Arming) (clock : ℕ) → 1 ≤ a.first → a.clock ≡ clock → set_arming clock a.first a.interval ≡ Some a
-set_as a clock l e = go a.first refl
-  where
-    go : (first : ℕ) → a.first ≡ first → set_arming clock first a.interval ≡ Some a
-    go zero f = absurd (omega (arith, l, f))
-    go (suc n) f = ap₂ (λ c k. Some (record { clock = c; first = k; interval = a.interval })) (sym e) (sym f)
-
--- and the other way round
-record WasSet (at by again : ℕ) (a : Arming) : Type 0 where
-  pub first : a.first ≡ by
-  pub interval : a.interval ≡ again
-  pub not_now : 1 ≤ a.first
-  pub clock : a.clock ≡ at
-
-abbrev set_so : ℕ → ℕ → ℕ → Arming
-set_so clock first interval = record { clock = clock; first = first; interval = interval }
-
-was_set : (clock first interval : ℕ) (a : Arming) → set_arming clock first interval ≡ Some a → WasSet clock first interval a
-was_set clock zero interval a e = absurd (cc e)
-was_set clock (suc n) interval a e =
-    let same : set_so clock (suc n) interval ≡ a = cc in
-    record {
-      first = sym (ap (λ (z : Arming). z.first) same);
-      interval = sym (ap (λ (z : Arming). z.interval) same);
-      not_now = omega (arith, ap (λ (z : Arming). z.first) same);
-      clock = sym (ap (λ (z : Arming). z.clock) same);
-    }
+use Rattle.kernel_laws.proofs.TimerQueues.{IsNot, from_some, grown_queued, none_among, none_counted, none_fired, none_queued, none_sent, queued-append, queued-filter, queued-other, ticks_queued, told_taken, without_it}
 
 module _ (m : State) (xs : List Turn) (k : KnownTimers m xs) (lives : TimerLives m xs) (events : PortEvents m xs) where
   -- what a turn makes of a timer

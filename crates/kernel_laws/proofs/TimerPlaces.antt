@@ -20,9 +20,9 @@ use Rattle.kernel_laws.specs.OneShot.{queue_in}
 use Rattle.kernel_laws.specs.PortEvents.{tick_event}
 use Rattle.kernel_laws.specs.Ticks.{advanced_by, count_of_timer}
 use Rattle.kernel_laws.proofs.Channels.{KnownChannels, is_among}
+use Rattle.kernel_laws.proofs.KnownTicks.{IsOwn, KnownTimers, Own}
 use Rattle.kernel_laws.proofs.Lives.{queue_is}
 use Rattle.kernel_laws.proofs.Moments.{moments_rise}
-use Rattle.kernel_laws.proofs.Ticks.{IsOwn, KnownTimers, Own}
 use Rattle.kernel_laws.proofs.TimerLists.{number_found, numbered_is}
 use Rattle.kernel_laws.proofs.TimerPorts.{counted_timer}
 
