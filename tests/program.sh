@@ -11,7 +11,8 @@
 # finds legal and that `play` makes again from its turns, and NAME.status has each status that may come. Every script of the
 # other commands and of the pages is run so too.
 #
-# tests/tools.sh, which this calls, tests the tools beside the program, and tests/tools has its charts.
+# tests/tools.sh, which this calls, tests the tools beside the program, and tests/tools has its charts. tests/edits.sh, which this calls too,
+# looks whether the wrong bodies of tests/edits still fit the code.
 
 # Each page has at least one script.
 pages="README.md docs/TUTORIAL.md docs/VERSION_2.md docs/VERSION_3.md docs/VERSION_4.md docs/FROM_C.md docs/RECIPES.md"
@@ -819,5 +820,6 @@ for program in "$@"; do
     manuals
 done
 if [ -x "$1" ]; then tools "$1"; fi
+if sh tests/edits.sh; then pass; else fail "tests/edits.sh" "a wrong body does not fit the code"; fi
 echo "$passed passed, $failed failed"
 [ "$failed" -eq 0 ]
