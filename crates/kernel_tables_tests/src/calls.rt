@@ -6,16 +6,43 @@ use dk_base::list::{Bytes, ObjList};
 use dk_base::number::Tid;
 use dk_base::object::Obj;
 use std::alloc::Global;
+use std::process::Abort;
 
 /// The door that all calls are of.
 const DOOR: u32 = 3;
 
-/// Whether this is so of new calls.
-fn is_so_of_new(alloc: Global, check: fn(Global, &mut Calls) -> bool) -> bool
-    requires { IsAlwaysCallable check }
-{
-    let mut calls = Calls::new(alloc);
-    check(alloc, &mut calls)
+/// What is asked of the calls, and what they answer.
+enum Act {
+    /// A thread calls, with two objects.
+    Open(Tid),
+    Give(u32, Tid),
+    /// A thread's call goes to another, which enters it.
+    Serve(Tid, Tid),
+    /// Each thread but the last calls the next one.
+    ServeAll,
+    Return(Tid, &'static [u8]),
+    /// The results that a thread collects, and whether they are longer than its room.
+    Collect(Tid, &'static [u8], bool),
+    /// The error that a thread collects.
+    CollectError(Tid, Errno),
+    Refuse(u32, Errno),
+    /// The caller of a thread is interrupted.
+    Interrupt(Tid, Tid),
+    /// A caller ends whose call was given to a thread, with so many objects.
+    End(Tid, Tid, usize),
+    /// A server ends to which a call was given, with so many objects.
+    EndServer(Tid, usize),
+    /// The least thread that may collect.
+    Collecting(Option<Tid>),
+    Ready(u32),
+    /// One thread is the root of both, and the other the lead.
+    Chain(Tid, Tid),
+    /// A thread's root and its lead.
+    Between(Tid, Tid, Tid),
+    ServesNone(Tid),
+    IsGone(u32),
+    /// How many calls there are, and how many were made.
+    Count(usize, u32),
 }
 
 /// Another call of a thread, with two objects and room for two bytes.
@@ -109,29 +136,6 @@ fn is_chain(calls: &Calls, root: Tid, lead: Tid) -> bool {
         && calls.lead_of(lead) == lead
 }
 
-/// Whether two nested calls are made, entered, returned and collected.
-fn go_through(alloc: Global, calls: &mut Calls) -> bool {
-    is_served(alloc, calls, Tid(1), Tid(2))
-        && is_served(alloc, calls, Tid(2), Tid(3))
-        && is_chain(calls, Tid(1), Tid(3))
-        && returns(alloc, calls, Tid(3), b"yes")
-        && is_chain(calls, Tid(1), Tid(2))
-        && calls.collecting().least() == Some(Tid(2))
-        && calls.ready_call(2).is_some()
-        && collects(calls, Tid(2), b"yes", true)
-        && calls.collecting().least().is_none()
-        && returns(alloc, calls, Tid(2), b"no")
-        && collects(calls, Tid(1), b"no", false)
-        && calls.len() == 0
-        && calls.made() == 2
-        && calls.call(1).is_none()
-}
-
-#[test]
-fn calls_go_through_their_stages(rt: HostRuntime) {
-    assert!(rt; is_so_of_new(rt.alloc(), go_through));
-}
-
 /// Whether each thread but the last calls the next one.
 fn are_chained(alloc: Global, calls: &mut Calls) -> bool {
     for t in 1..64 {
@@ -150,26 +154,6 @@ fn is_cut_off(calls: &mut Calls, caller: Tid, u: Tid) -> bool {
     calls.abandon(caller, Leave::Interrupted).cancelled == Some(u) && calls.ready(caller)
 }
 
-/// Whether a chain of all threads falls into two where its thread 32 is interrupted.
-fn is_cut_in_two(alloc: Global, calls: &mut Calls) -> bool {
-    are_chained(alloc, calls)
-        && is_chain(calls, Tid(1), Tid(64))
-        && calls.root_of(Tid(40)) == Tid(1)
-        && calls.lead_of(Tid(40)) == Tid(64)
-        && is_cut_off(calls, Tid(32), Tid(33))
-        && is_chain(calls, Tid(1), Tid(32))
-        && is_chain(calls, Tid(33), Tid(64))
-        && returns(alloc, calls, Tid(64), b"")
-        && is_chain(calls, Tid(33), Tid(63))
-        && calls.served_by(Tid(33)).is_none()
-        && is_told(calls, Tid(32), Errno::EINTR)
-}
-
-#[test]
-fn a_chain_is_cut_in_the_middle(rt: HostRuntime) {
-    assert!(rt; is_so_of_new(rt.alloc(), is_cut_in_two));
-}
-
 /// Whether a waiting call is refused with this error, and its objects are handed out.
 fn is_refused(calls: &mut Calls, c: u32, error: Errno) -> bool {
     calls.is_waiting(c) && calls.refuse(c, error).len() == 2
@@ -184,22 +168,115 @@ fn is_forgotten(calls: &mut Calls, caller: Tid, u: Tid, objects: usize) -> bool 
     left.parked == Some(u) && left.dropped.len() == objects && calls.called_by(caller).is_none()
 }
 
-/// Whether a call is refused, another loses its server, and the caller of a third ends.
-fn all_leave(alloc: Global, calls: &mut Calls) -> bool {
-    opens(alloc, calls, Tid(1))
-        && is_refused(calls, 1, Errno::EBADF)
-        && is_told(calls, Tid(1), Errno::EBADF)
-        && opens(alloc, calls, Tid(1))
-        && is_given_to(calls, 2, Tid(2))
-        && calls.server_left(Tid(2)).len() == 2
-        && is_told(calls, Tid(1), Errno::EINTR)
-        && opens(alloc, calls, Tid(1))
-        && is_given_to(calls, 3, Tid(2))
-        && is_forgotten(calls, Tid(1), Tid(2), 2)
-        && calls.len() == 0
+/// What is asked without a change.
+fn tells(calls: &Calls, act: &Act) -> bool {
+    match act {
+        Act::Collecting(gives) => calls.collecting().least() == *gives,
+        Act::Ready(c) => calls.ready_call(*c).is_some(),
+        Act::Chain(root, lead) => is_chain(calls, *root, *lead),
+        Act::Between(t, root, lead) => calls.root_of(*t) == *root && calls.lead_of(*t) == *lead,
+        Act::ServesNone(t) => calls.served_by(*t).is_none(),
+        Act::IsGone(c) => calls.call(*c).is_none(),
+        Act::Count(here, made) => calls.len() == *here && calls.made() == *made,
+        _ => false,
+    }
 }
+
+fn does(alloc: Global, calls: &mut Calls, act: &Act) -> bool {
+    match act {
+        Act::Open(t) => opens(alloc, calls, *t),
+        Act::Give(c, t) => is_given_to(calls, *c, *t),
+        Act::Serve(t, u) => is_served(alloc, calls, *t, *u),
+        Act::ServeAll => are_chained(alloc, calls),
+        Act::Return(u, results) => returns(alloc, calls, *u, results),
+        Act::Collect(t, results, longer) => collects(calls, *t, results, *longer),
+        Act::CollectError(t, error) => is_told(calls, *t, *error),
+        Act::Refuse(c, error) => is_refused(calls, *c, *error),
+        Act::Interrupt(t, u) => is_cut_off(calls, *t, *u),
+        Act::End(t, u, objects) => is_forgotten(calls, *t, *u, *objects),
+        Act::EndServer(u, objects) => calls.server_left(*u).len() == *objects,
+        _ => tells(calls, act),
+    }
+}
+
+/// How many acts are answered as they are written.
+fn right_acts(alloc: Global, calls: &mut Calls, acts: &[Act]) -> usize {
+    for (i, act) in acts.iter().enumerate() {
+        if !does(alloc, calls, act) {
+            return i;
+        }
+    }
+    acts.len()
+}
+
+/// The same of new calls.
+fn right_acts_of_new(alloc: Global, acts: &[Act]) -> usize {
+    let mut calls = Calls::new(alloc);
+    right_acts(alloc, &mut calls, acts)
+}
+
+fn are_right<R: Abort>(rt: &R, alloc: Global, acts: &[Act]) {
+    let right = right_acts_of_new(alloc, acts);
+    assert!(rt; right == acts.len(), "act {right}");
+}
+
+/// Two nested calls are made, entered, returned and collected.
+static STAGES: [Act; 13] = [
+    Act::Serve(Tid(1), Tid(2)),
+    Act::Serve(Tid(2), Tid(3)),
+    Act::Chain(Tid(1), Tid(3)),
+    Act::Return(Tid(3), b"yes"),
+    Act::Chain(Tid(1), Tid(2)),
+    Act::Collecting(Some(Tid(2))),
+    Act::Ready(2),
+    Act::Collect(Tid(2), b"yes", true),
+    Act::Collecting(None),
+    Act::Return(Tid(2), b"no"),
+    Act::Collect(Tid(1), b"no", false),
+    Act::Count(0, 2),
+    Act::IsGone(1),
+];
+
+#[test]
+fn calls_go_through_their_stages(rt: HostRuntime) {
+    are_right(&rt, rt.alloc(), &STAGES);
+}
+
+/// A chain of all threads falls into two where its thread 32 is interrupted.
+static CUT: [Act; 10] = [
+    Act::ServeAll,
+    Act::Chain(Tid(1), Tid(64)),
+    Act::Between(Tid(40), Tid(1), Tid(64)),
+    Act::Interrupt(Tid(32), Tid(33)),
+    Act::Chain(Tid(1), Tid(32)),
+    Act::Chain(Tid(33), Tid(64)),
+    Act::Return(Tid(64), b""),
+    Act::Chain(Tid(33), Tid(63)),
+    Act::ServesNone(Tid(33)),
+    Act::CollectError(Tid(32), Errno::EINTR),
+];
+
+#[test]
+fn a_chain_is_cut_in_the_middle(rt: HostRuntime) {
+    are_right(&rt, rt.alloc(), &CUT);
+}
+
+/// A call is refused, another loses its server, and the caller of a third ends.
+static LEAVING: [Act; 11] = [
+    Act::Open(Tid(1)),
+    Act::Refuse(1, Errno::EBADF),
+    Act::CollectError(Tid(1), Errno::EBADF),
+    Act::Open(Tid(1)),
+    Act::Give(2, Tid(2)),
+    Act::EndServer(Tid(2), 2),
+    Act::CollectError(Tid(1), Errno::EINTR),
+    Act::Open(Tid(1)),
+    Act::Give(3, Tid(2)),
+    Act::End(Tid(1), Tid(2), 2),
+    Act::Count(0, 3),
+];
 
 #[test]
 fn callers_and_servers_leave(rt: HostRuntime) {
-    assert!(rt; is_so_of_new(rt.alloc(), all_leave));
+    are_right(&rt, rt.alloc(), &LEAVING);
 }

@@ -111,8 +111,13 @@ fn are_told_in_steps(alloc: Global, counts: &mut Counts) -> bool
         && are_gone_once(alloc, counts)
 }
 
+/// The same of new counts.
+fn are_told_from_the_first_on(alloc: Global) -> bool {
+    let mut counts = Counts::new(alloc);
+    are_told_in_steps(alloc, &mut counts)
+}
+
 #[test]
 fn doors_that_fall_to_one_reference_are_told(rt: HostRuntime) {
-    let mut counts = Counts::new(rt.alloc());
-    assert!(rt; are_told_in_steps(rt.alloc(), &mut counts));
+    assert!(rt; are_told_from_the_first_on(rt.alloc()));
 }

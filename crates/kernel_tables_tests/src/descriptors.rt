@@ -146,11 +146,13 @@ fn gives_all_or_none(
 
 /// Whether two of three rows are free, and so two objects get numbers, and three do not.
 fn two_get_numbers(alloc: Global, table: &mut FdTable) -> bool {
-    let (Ok(many), Ok(few), Ok(mut given)) = (
-        ObjList::from_slice(alloc, &[Obj::Port(1), Obj::Port(2), Obj::Port(3)]),
-        ObjList::from_slice(alloc, &[Obj::Port(1), Obj::Port(2)]),
-        Room::with_room(alloc, 5),
-    ) else {
+    let Ok(many) = ObjList::from_slice(alloc, &[Obj::Port(1), Obj::Port(2), Obj::Port(3)]) else {
+        return false;
+    };
+    let Ok(few) = ObjList::from_slice(alloc, &[Obj::Port(1), Obj::Port(2)]) else {
+        return false;
+    };
+    let Ok(mut given) = Room::with_room(alloc, 5) else {
         return false;
     };
     table.insert(Obj::Door(1)) == Ok(Fd(0))

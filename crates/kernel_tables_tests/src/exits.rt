@@ -53,6 +53,21 @@ fn leave(
     }
 }
 
+/// Whether nothing is left behind.
+fn leaves_nothing(
+    alloc: Global,
+    procs: &mut Procs,
+    calls: &mut Calls,
+    pools: &mut Pools,
+    doors: &Doors,
+    exit: &Exit,
+) -> bool
+    requires can { CanExit 0 doors.now.items (record { procs = procs.old; calls = calls.old; pools = pools.old }) }
+    requires carried { in_transit calls.old.tree.calls ≤ 0 }
+{
+    is_silent(&leave(alloc, procs, calls, pools, doors, exit))
+}
+
 fn tells_nothing(alloc: Global, exit: &Exit) -> bool {
     let Ok(mut pools) = Pools::new(alloc) else {
         return false;
@@ -60,7 +75,7 @@ fn tells_nothing(alloc: Global, exit: &Exit) -> bool {
     let mut procs = Procs::new(alloc);
     let mut calls = Calls::new(alloc);
     let doors = Doors::new(alloc);
-    is_silent(&leave(alloc, &mut procs, &mut calls, &mut pools, &doors, exit))
+    leaves_nothing(alloc, &mut procs, &mut calls, &mut pools, &doors, exit)
 }
 
 #[test]

@@ -1,14 +1,15 @@
 //! Unreferenced notices: one through its stages, at a door that has at most one and at a door that may have more, and what is left
 //! of notices where threads end and doors are lost.
-ghost use Rattle.std.specs.Prelude.{◌≡◌, [], false, true};
+ghost use Rattle.std.specs.Prelude.{◌≡◌, ◌==◌, ◌||◌, ◌++◌, [], false, true};
 ghost use Rattle.kernel_records.specs.Words.{end_notice, enter_notice, give_notice, kept_notices};
-ghost use Rattle.unref_notice.specs.Words.{IsAllEntered, takes_many_in};
+ghost use Rattle.unref_notice.specs.Words.{AreAllLeft, IsAllEntered, takes_many_in};
 
 use dk_base::number::{Pid, Tid};
 use dk_base::object::Item;
 use dk_base::set::Attrs;
 use door_object::doors::Doors;
 use kernel_records::record::NoticeStage;
+use std::alloc::Global;
 use unref_notice::notices::Notices;
 
 /// The door that has at most one notice.
@@ -109,12 +110,30 @@ fn end_with_invocations(doors: &mut Doors, notices: &mut Notices) -> bool
         && may_take(doors, MANY) == (false, false)
 }
 
-#[test]
-fn a_notice_ends_with_its_invocation(rt: HostRuntime) {
-    let alloc = rt.alloc();
+/// The same of new doors and notices.
+fn end_from_the_first_on(alloc: Global) -> bool {
     let mut doors = Doors::new(alloc);
     let mut notices = Notices::new(alloc);
-    assert!(rt; end_with_invocations(&mut doors, &mut notices));
+    end_with_invocations(&mut doors, &mut notices)
+}
+
+#[test]
+fn a_notice_ends_with_its_invocation(rt: HostRuntime) {
+    assert!(rt; end_from_the_first_on(rt.alloc()));
+}
+
+/// Threads 6 and 7 end, and the first door is lost.
+fn leaves(notices: &mut Notices, doors: &Doors, waiting: &[Item], held: &[Item])
+    requires left { AreAllLeft (record { ends = λ t. (t == 6) || (t == 7); interrupts = λ t. false; loses = λ d. d == 1 }) (waiting.now ++ held.now) notices.old.list.notices }
+    requires kept { kept_notices doors.now.items notices.old.list ≡ notices.old.list }
+{
+    notices.leave(
+        waiting,
+        held,
+        |t| t == 6 || t == 7,
+        |d| d == ONE,
+        |d| doors.takes_many(d),
+    );
 }
 
 /// Of four notices, the first waits at a door that is lost, threads that end were given the second and have entered the third, and
@@ -133,24 +152,21 @@ fn are_left(notices: &mut Notices, doors: &Doors) -> bool
     notices.give(2, Tid(6));
     let waiting = [Item::Call(4), Item::Notice(1)];
     let held = [Item::Notice(3), Item::Notice(9), Item::Notice(2)];
-    notices.leave(
-        &waiting,
-        &held,
-        |t| t == 6 || t == 7,
-        |d| d == ONE,
-        |d| doors.takes_many(d),
-    );
+    leaves(notices, doors, &waiting, &held);
     (four == 4 && entered)
         && notices.len() == 2
         && matches!(stage_at(notices, 0, 1), Some(NoticeStage::Dropped))
         && matches!(stage_at(notices, 1, 4), Some(NoticeStage::Waiting))
 }
 
+/// The same of new notices, once the doors are made.
+fn are_left_from_the_first_on(alloc: Global) -> bool {
+    let mut doors = Doors::new(alloc);
+    let mut notices = Notices::new(alloc);
+    are_doors_made(&mut doors) && are_left(&mut notices, &doors)
+}
+
 #[test]
 fn notices_are_left_by_their_stages(rt: HostRuntime) {
-    let alloc = rt.alloc();
-    let mut doors = Doors::new(alloc);
-    assert!(rt; are_doors_made(&mut doors));
-    let mut notices = Notices::new(alloc);
-    assert!(rt; are_left(&mut notices, &doors));
+    assert!(rt; are_left_from_the_first_on(rt.alloc()));
 }

@@ -168,11 +168,13 @@ fn installs(table: &mut FdTable, objects: &ObjList, fds: &mut Room<Fd>, pass: &P
 
 /// Whether two objects are installed once two rows are free.
 fn is_installed(alloc: Global, table: &mut FdTable) -> bool {
-    let (Ok(objects), Ok(pass), Ok(mut fds)) = (
-        ObjList::from_slice(alloc, &[PORT, DOOR]),
-        PassList::from_slice(alloc, &[ZERO_RELEASED, ONE]),
-        Room::with_room(alloc, 2),
-    ) else {
+    let Ok(objects) = ObjList::from_slice(alloc, &[PORT, DOOR]) else {
+        return false;
+    };
+    let Ok(pass) = PassList::from_slice(alloc, &[ZERO_RELEASED, ONE]) else {
+        return false;
+    };
+    let Ok(mut fds) = Room::with_room(alloc, 2) else {
         return false;
     };
     gives_first(table) && installs(table, &objects, &mut fds, &pass)

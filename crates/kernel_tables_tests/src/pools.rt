@@ -8,6 +8,7 @@ use kernel_records::pool::{Pool, Waiting};
 use server_pool::facts::BindFacts;
 use server_pool::pools::Pools;
 use std::alloc::Global;
+use std::process::Abort;
 
 const SERVED: Pool = Pool::Common(Pid(1));
 
@@ -229,6 +230,11 @@ fn right_acts_of_new(alloc: Global, acts: &[Act]) -> usize {
     }
 }
 
+fn are_right<R: Abort>(rt: &R, alloc: Global, acts: &[Act]) {
+    let right = right_acts_of_new(alloc, acts);
+    assert!(rt; right == acts.len(), "act {right}");
+}
+
 /// A notice waits beyond 32 calls, and another pool has calls of its own. A call that is withdrawn makes room for another.
 static CALLS: [Act; 17] = [
     Act::AddTwo,
@@ -252,8 +258,7 @@ static CALLS: [Act; 17] = [
 
 #[test]
 fn at_most_32_calls_wait_in_a_pool(rt: HostRuntime) {
-    let right = right_acts_of_new(rt.alloc(), &CALLS);
-    assert!(rt; right == CALLS.len(), "act {right}");
+    are_right(&rt, rt.alloc(), &CALLS);
 }
 
 /// Thread 5 parks at event 3, threads 2 and 4 at event 7; after them thread 1 cannot park at event 6, nor thread 3 at event 7.
@@ -288,8 +293,7 @@ static PARKING: [Act; 25] = [
 
 #[test]
 fn the_thread_that_parked_last_is_picked(rt: HostRuntime) {
-    let right = right_acts_of_new(rt.alloc(), &PARKING);
-    assert!(rt; right == PARKING.len(), "act {right}");
+    are_right(&rt, rt.alloc(), &PARKING);
 }
 
 /// Thread 64 is bound to door 3, then to door 5, then to none.
@@ -305,8 +309,7 @@ static BINDING: [Act; 7] = [
 
 #[test]
 fn a_thread_is_bound_to_one_door(rt: HostRuntime) {
-    let right = right_acts_of_new(rt.alloc(), &BINDING);
-    assert!(rt; right == BINDING.len(), "act {right}");
+    are_right(&rt, rt.alloc(), &BINDING);
 }
 
 static REFUSED: [Act; 6] = [
@@ -320,8 +323,7 @@ static REFUSED: [Act; 6] = [
 
 #[test]
 fn only_a_private_door_of_the_process_is_bound(rt: HostRuntime) {
-    let right = right_acts_of_new(rt.alloc(), &REFUSED);
-    assert!(rt; right == REFUSED.len(), "act {right}");
+    are_right(&rt, rt.alloc(), &REFUSED);
 }
 
 /// Two calls and a notice wait at door 1, which threads 5 and 2 are bound to and parked at. What waits there leaves with them.
@@ -340,8 +342,7 @@ static DROPPED: [Act; 10] = [
 
 #[test]
 fn a_door_is_dropped_with_what_waits_there(rt: HostRuntime) {
-    let right = right_acts_of_new(rt.alloc(), &DROPPED);
-    assert!(rt; right == DROPPED.len(), "act {right}");
+    are_right(&rt, rt.alloc(), &DROPPED);
 }
 
 /// The lowest of three spares is taken, twice, and that of another process. Of three further ones, the second is withdrawn.
@@ -368,6 +369,5 @@ static SPARES: [Act; 18] = [
 
 #[test]
 fn the_lowest_spare_is_taken(rt: HostRuntime) {
-    let right = right_acts_of_new(rt.alloc(), &SPARES);
-    assert!(rt; right == SPARES.len(), "act {right}");
+    are_right(&rt, rt.alloc(), &SPARES);
 }
