@@ -51,7 +51,7 @@ fn the_answers_to_64_lines_are_kept(rt: HostRuntime) -> Result<(), Fail> {
 }
 
 /// Lines with their replies, and how often `stat` counts hits and misses: only what replies `ok` ends the life of an answer.
-const COUNTS: [(&str, &str); 26] = [
+static COUNTS: [(&str, &str); 26] = [
     ("get a", "none"),
     ("get a", "none"),
     ("stat", "hits 1 misses 1"),

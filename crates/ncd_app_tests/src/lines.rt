@@ -5,7 +5,7 @@ use ncd_app::ncd::Ncd;
 use std::test::Fail;
 
 /// Words of 0, 1, 32 and 33 bytes, spaces at an end and beside each other, the least and the greatest byte of a word, and others.
-const LINES: [(&str, &str); 60] = [
+static LINES: [(&str, &str); 60] = [
     ("", "bad"),
     ("stat", "hits 0 misses 0"),
     ("stat ", "bad"),

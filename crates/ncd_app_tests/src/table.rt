@@ -6,7 +6,7 @@ use std::alloc::Global;
 use std::test::Fail;
 
 /// What a full table replies: a record more, and one replaced, taken away and added.
-const FULL: [(&str, &str); 11] = [
+static FULL: [(&str, &str); 11] = [
     ("set r1024 v", "full"),
     ("alias r1024 r5", "full"),
     ("get r1024", "none"),
@@ -31,7 +31,7 @@ fn a_table_has_1024_records(rt: HostRuntime) -> Result<(), Fail> {
 }
 
 /// Chains of 7, 8 and 9 aliases, rings of one and two, and an alias of a key without a record.
-const ALIASES: [(&str, &str); 21] = [
+static ALIASES: [(&str, &str); 21] = [
     ("set end here", "ok"),
     ("alias a1 end", "ok"),
     ("alias a2 a1", "ok"),
@@ -64,7 +64,7 @@ fn eight_aliases_are_followed(rt: HostRuntime) -> Result<(), Fail> {
 }
 
 /// Keys in order of bytes, with no alias among them and none of another value.
-const ORDER: [(&str, &str); 10] = [
+static ORDER: [(&str, &str); 10] = [
     ("who v", "none"),
     ("set b v", "ok"),
     ("who v", "keys b"),

@@ -6,7 +6,7 @@ use script_line::reason::Reason;
 use std::alloc::Global;
 
 /// One text for each reason, with the first bad line. `tests/show/` has many more.
-const BAD_TEXTS: [(&str, u32, Reason); 10] = [
+static BAD_TEXTS: [(&str, u32, Reason); 10] = [
     ("doors script 5\n", 1, Reason::Header),
     ("doors script 1\r\n", 1, Reason::Byte),
     ("doors script 1\nbudget 1\nbudget 2\n", 3, Reason::Word),
@@ -37,7 +37,7 @@ const BAD_TEXTS: [(&str, u32, Reason); 10] = [
 
 /// Lines that later versions add: the version of a text whose body has one, and the reason why it is refused. In a lower version its
 /// first word is no word.
-const BAD_LINES: [(u32, &str, Reason); 26] = [
+static BAD_LINES: [(u32, &str, Reason); 26] = [
     (1, "fork a", Reason::Word),
     (1, "tcreate 0 1", Reason::Word),
     (2, "tcreate 0 1", Reason::Word),
@@ -85,7 +85,8 @@ fn is_bad_line(alloc: Global, version: u32, line: &str, reason: Reason) -> bool 
 
 #[test]
 fn bad_lines_of_later_versions_are_refused(rt: HostRuntime) {
-    for (version, line, reason) in BAD_LINES {
+    for row in &BAD_LINES {
+        let (version, line, reason) = *row;
         assert!(rt;
             is_bad_line(rt.alloc(), version, line, reason),
             "{version} {line}"
@@ -95,7 +96,8 @@ fn bad_lines_of_later_versions_are_refused(rt: HostRuntime) {
 
 #[test]
 fn bad_texts_are_refused(rt: HostRuntime) {
-    for (text, line, reason) in BAD_TEXTS {
+    for row in &BAD_TEXTS {
+        let (text, line, reason) = *row;
         assert!(rt; is_refused(rt.alloc(), text, line, reason), "{text}");
     }
 }

@@ -65,7 +65,7 @@ fn is_number(word: &str, low: u64, high: u64, expected: Expected) -> bool {
     }
 }
 
-const NUMBERS: [(&str, u64, u64, Expected); 16] = [
+static NUMBERS: [(&str, u64, u64, Expected); 16] = [
     ("0", 0, 255, Expected::Found(0)),
     ("255", 0, 255, Expected::Found(255)),
     ("256", 0, 255, Expected::OutOfRange),
@@ -96,7 +96,8 @@ const NUMBERS: [(&str, u64, u64, Expected); 16] = [
 
 #[test]
 fn numbers_have_ranges(rt: HostRuntime) {
-    for (word, low, high, expected) in NUMBERS {
+    for row in &NUMBERS {
+        let (word, low, high, expected) = *row;
         assert!(rt; is_number(word, low, high, expected), "{word}");
     }
 }
@@ -144,7 +145,7 @@ fn spells(alloc: Global, word: &str, bytes: &[u8]) -> bool {
     matches!(string_of(alloc, word.as_bytes()), Ok(Some(text)) if text.slice() == bytes)
 }
 
-const STRINGS: [(&str, &[u8]); 5] = [
+static STRINGS: [(&str, &[u8]); 5] = [
     ("\"\"", b""),
     ("\"a b\"", b"a b"),
     ("\"\\\"\\\\\"", b"\"\\"),
@@ -154,12 +155,13 @@ const STRINGS: [(&str, &[u8]); 5] = [
 
 #[test]
 fn strings_spell_bytes(rt: HostRuntime) {
-    for (word, bytes) in STRINGS {
+    for row in &STRINGS {
+        let (word, bytes) = *row;
         assert!(rt; spells(rt.alloc(), word, bytes), "{word}");
     }
 }
 
-const NO_STRINGS: [&str; 12] = [
+static NO_STRINGS: [&str; 12] = [
     "",
     "a",
     "\"",
@@ -180,7 +182,7 @@ fn is_no_string(alloc: Global, word: &str) -> bool {
 
 #[test]
 fn other_words_are_no_strings(rt: HostRuntime) {
-    for word in NO_STRINGS {
-        assert!(rt; is_no_string(rt.alloc(), word), "{word}");
+    for word in &NO_STRINGS {
+        assert!(rt; is_no_string(rt.alloc(), *word), "{word}");
     }
 }

@@ -31,7 +31,7 @@ struct Row {
     deed: Deed,
 }
 
-const ROWS: [Row; 8] = [
+static ROWS: [Row; 8] = [
     Row {
         name: "one waits for a path that nobody attaches, and one exits",
         text: "doors script 1\nprocess p limit 4\nthread w\n await nowhere\nend\nthread i\nend\n",
@@ -170,8 +170,8 @@ fn is_right(alloc: Global, row: &Row) -> bool {
 
 #[test]
 fn runs(rt: HostRuntime) -> Result<(), Fail> {
-    for row in ROWS {
-        let is_right = is_right(rt.alloc(), &row);
+    for row in &ROWS {
+        let is_right = is_right(rt.alloc(), row);
         assert!(rt; is_right, "{}", row.name);
     }
     Ok(())
@@ -182,7 +182,7 @@ const TABLES: &str =
     "doors script 4\nprocess p\nthread w\n ncd r \"set k v\"\n ncd r \"get k\"\n ncd r \"get k\"\n ncd r \"stat\"\nend\nprocess q\nthread v\n ncd r \"get k\"\n ncd r \"get k\"\n ncd r \"set k u\"\n ncd r \"get k\"\nend\nschedule w v w v w v w v\n";
 
 /// What they are replied, turn by turn; an exit has no text.
-const REPLIES: [&str; 10] = [
+static REPLIES: [&str; 10] = [
     "ok",
     "none",
     "value v",
@@ -196,7 +196,7 @@ const REPLIES: [&str; 10] = [
 ];
 
 /// Some turns of another kind: a task is done, the run ends in a third way, and lines are replied to.
-const OTHERS: [&str; 3] = [
+static OTHERS: [&str; 3] = [
     "doors script 1\nprocess p\nthread w\n work h digest \"hi\"\nend\n",
     "doors script 1\nbudget 3\nprocess p\nthread w\n repeat 9\n  open d x\n end\nend\n",
     TABLES,
@@ -276,12 +276,12 @@ fn is_told_of(alloc: Global, text: &str) -> bool {
 /// The events that are told are those that are kept.
 #[test]
 fn told_events(rt: HostRuntime) -> Result<(), Fail> {
-    for row in ROWS {
+    for row in &ROWS {
         let is_right = is_told_of(rt.alloc(), row.text);
         assert!(rt; is_right, "{}", row.name);
     }
-    for text in OTHERS {
-        let is_right = is_told_of(rt.alloc(), text);
+    for text in &OTHERS {
+        let is_right = is_told_of(rt.alloc(), *text);
         assert!(rt; is_right, "{text}");
     }
     Ok(())

@@ -5,7 +5,7 @@ use std::test::Fail;
 use trace_check::{check, parts, text_of_verdict};
 
 /// A script with a trace after it, and the text of the verdict.
-const ROWS: [(&str, &str); 4] = [
+static ROWS: [(&str, &str); 4] = [
     (
         "doors script 1\nprocess p\nthread w\nawait x\nend\nthread i\nend\ntrace\n1 i i exit ok\n2 w w await wait\nend stalled 2 w\ntail 2",
         "legal 2\n",
@@ -45,7 +45,8 @@ fn is_checked(alloc: Global, text: &[u8], trace: &[u8], expected: &str) -> bool 
 
 #[test]
 fn verdicts(rt: HostRuntime) -> Result<(), Fail> {
-    for (input, expected) in ROWS {
+    for row in &ROWS {
+        let (input, expected) = *row;
         let (text, trace) = parts(input.as_bytes());
         let is_right = match trace {
             Some(trace) => is_checked(rt.alloc(), text, trace, expected),

@@ -45,7 +45,7 @@ fn shows(alloc: Global, script: &Script, what: What, answer: Answer, expected: &
 }
 
 /// The word of each kind of event, where it fails.
-const WORDS: [(What, &str); 44] = [
+static WORDS: [(What, &str); 44] = [
     (What::Create, "7 s c create EINTR"),
     (What::Call, "7 s c call EINTR"),
     (What::Return, "7 s c return EINTR"),
@@ -93,7 +93,8 @@ const WORDS: [(What, &str); 44] = [
 ];
 
 fn words<R: Abort>(rt: &R, alloc: Global, script: &Script) {
-    for (what, expected) in WORDS {
+    for row in &WORDS {
+        let (what, expected) = *row;
         let is_shown = shows(alloc, script, what, Answer::Failure(Errno::EINTR), expected);
         assert!(rt; is_shown, "{expected}");
     }
@@ -120,7 +121,7 @@ enum Plain {
     Failure,
 }
 
-const PLAIN: [(What, Plain, &str); 17] = [
+static PLAIN: [(What, Plain, &str); 17] = [
     (What::Return, Plain::Wait, "7 s c return wait"),
     (What::Call, Plain::WaitCall, "7 s c call wait c12"),
     (What::Attach, Plain::Done, "7 s c attach ok"),
@@ -188,7 +189,8 @@ fn answer_of(form: Plain) -> Answer {
 }
 
 fn plain_answers<R: Abort>(rt: &R, alloc: Global, script: &Script) {
-    for (what, form, expected) in PLAIN {
+    for row in &PLAIN {
+        let (what, form, expected) = *row;
         assert!(rt;
             shows(alloc, script, what, answer_of(form), expected),
             "{expected}"
@@ -196,7 +198,7 @@ fn plain_answers<R: Abort>(rt: &R, alloc: Global, script: &Script) {
     }
 }
 
-const DOORS: [(Option<Pid>, u32, &str); 3] = [
+static DOORS: [(Option<Pid>, u32, &str); 3] = [
     (
         Some(Pid(1)),
         68,
@@ -225,7 +227,8 @@ fn info(target: Option<Pid>, attrs: u32) -> Answer {
 }
 
 fn doors<R: Abort>(rt: &R, alloc: Global, script: &Script) {
-    for (target, attrs, expected) in DOORS {
+    for row in &DOORS {
+        let (target, attrs, expected) = *row;
         let is_shown = shows(alloc, script, What::Info, info(target, attrs), expected);
         assert!(rt; is_shown, "{expected}");
     }
@@ -243,7 +246,7 @@ fn entered(alloc: Global, fds: &[Fd]) -> Result<Answer, Fail> {
     })
 }
 
-const ENTERED: [(&[Fd], &str); 2] = [
+static ENTERED: [(&[Fd], &str); 2] = [
     (&[], "7 s c accept enter c2 echo 7 \"hi\""),
     (
         &[Fd(1), Fd(4)],
@@ -252,7 +255,8 @@ const ENTERED: [(&[Fd], &str); 2] = [
 ];
 
 fn invocations<R: Abort>(rt: &R, alloc: Global, script: &Script) -> Result<(), Fail> {
-    for (fds, expected) in ENTERED {
+    for row in &ENTERED {
+        let (fds, expected) = *row;
         let is_shown = shows(alloc, script, What::Accept, entered(alloc, fds)?, expected);
         assert!(rt; is_shown, "{expected}");
     }
@@ -265,14 +269,15 @@ fn results(alloc: Global, fds: &[Fd], grown: bool) -> Result<Answer, Fail> {
     Ok(Answer::Results { bytes, fds, grown })
 }
 
-const RESULTS: [(&[Fd], bool, &str); 3] = [
+static RESULTS: [(&[Fd], bool, &str); 3] = [
     (&[], false, "7 s c collect ok \"hi\""),
     (&[], true, "7 s c collect ok \"hi\" grown"),
     (&[Fd(0)], true, "7 s c collect ok \"hi\" fd 0 grown"),
 ];
 
 fn collected_results<R: Abort>(rt: &R, alloc: Global, script: &Script) -> Result<(), Fail> {
-    for (fds, grown, expected) in RESULTS {
+    for row in &RESULTS {
+        let (fds, grown, expected) = *row;
         let answer = results(alloc, fds, grown)?;
         assert!(rt;
             shows(alloc, script, What::Collect, answer, expected),
@@ -317,7 +322,7 @@ fn port_answers<R: Abort>(rt: &R, alloc: Global, script: &Script) -> Result<(), 
 }
 
 /// Data of up to 64 bytes stands in quotes. The digest of more is that of sha256sum(1).
-const DATA: [(&[u8], &str); 4] = [
+static DATA: [(&[u8], &str); 4] = [
     (b"", "7 s c done ok \"\""),
     (
         b"a\"\\\n~\x7f z\xff",
@@ -334,7 +339,8 @@ const DATA: [(&[u8], &str); 4] = [
 ];
 
 fn shown_data<R: Abort>(rt: &R, alloc: Global, script: &Script) -> Result<(), Fail> {
-    for (data, expected) in DATA {
+    for row in &DATA {
+        let (data, expected) = *row;
         let bytes = Bytes::from_slice(alloc, data)?;
         let is_shown = shows(alloc, script, What::Done, Answer::Data { bytes }, expected);
         assert!(rt; is_shown, "{expected}");
@@ -342,14 +348,15 @@ fn shown_data<R: Abort>(rt: &R, alloc: Global, script: &Script) -> Result<(), Fa
     Ok(())
 }
 
-const END_LINES: [(Ending, &str); 3] = [
+static END_LINES: [(Ending, &str); 3] = [
     (Ending::Complete, "end complete 0"),
     (Ending::Stalled, "end stalled 0 s c"),
     (Ending::Budget, "end budget 0"),
 ];
 
 fn end_lines<R: Abort>(rt: &R, alloc: Global, script: &Script, waiting: &TidList) {
-    for (ending, expected) in END_LINES {
+    for row in &END_LINES {
+        let (ending, expected) = *row;
         let text = end_line(alloc, script, ending, 0, waiting);
         assert!(rt; is_text(&text, expected), "{expected}");
     }
@@ -409,7 +416,7 @@ fn whole_texts<R: Abort>(
 }
 
 /// Lines with the thread that each names.
-const NAMED: [(&str, Option<Tid>); 11] = [
+static NAMED: [(&str, Option<Tid>); 11] = [
     ("7 s c done ok \"hi\"", Some(S)),
     ("7 c", Some(C)),
     ("  7   spare_1  c done ok ", Some(SPARE)),
@@ -424,7 +431,8 @@ const NAMED: [(&str, Option<Tid>); 11] = [
 ];
 
 fn threads_of_lines<R: Abort>(rt: &R, script: &Script) {
-    for (text, thread) in NAMED {
+    for row in &NAMED {
+        let (text, thread) = *row;
         assert!(rt; thread_of(script, text.as_bytes()) == thread, "{text}");
     }
 }

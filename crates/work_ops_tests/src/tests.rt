@@ -18,7 +18,7 @@ const REVERSED: &[u8] =
     b".!!\x0a \xff\xfa\xe1\x80\x7f\x00sexof nworb 2 revo ;9876543210 ,god yzal ehT {za`[ZA@";
 
 /// An op, a text and how often it stands in the input, and the same of the output.
-const TASKS: [(Op, &[u8], u32, &[u8], u32); 16] = [
+static TASKS: [(Op, &[u8], u32, &[u8], u32); 16] = [
     (Op::Upper, b"", 1, b"", 1),
     (Op::Upper, b"q", 1, b"Q", 1),
     (Op::Upper, TEXT, 1, UPPER, 1),
@@ -92,7 +92,8 @@ fn is_made(
 
 #[test]
 fn ops_make_their_outputs(rt: HostRuntime) {
-    for (op, text, times, made, made_times) in TASKS {
+    for row in &TASKS {
+        let (op, text, times, made, made_times) = *row;
         assert!(rt; is_made(rt.alloc(), op, text, times, made, made_times) == Ok(true));
     }
 }
