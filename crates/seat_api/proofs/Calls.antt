@@ -2,13 +2,22 @@
 use Rattle.std.proofs.Common.{◌≡◌, ℕ, List, [], ◌∷◌, ◌++◌, length, ap, refl, subst, sym, ◌∙◌, arith}
 use mathlib.Core.List.{IsPrefix}
 use Rattle.written_kernel.specs.Words.{State}
-use Rattle.seat_api.specs.declared.entry.SeatAct.{SeatAct}
+use Rattle.seat_replies.specs.declared.call.SeatAct.{SeatAct}
+use Rattle.seat_replies.specs.declared.call.SeatReply.{SeatReply}
+use Rattle.seat_turns.specs.Rule.{InTurn, TakesTurn, left, opened, told}
+use Rattle.seat_turns.proofs.Entries.{by-mine}
 use Rattle.seat_api.specs.declared.entry.SeatEntry.{SeatEntry}
-use Rattle.seat_api.specs.declared.entry.SeatReply.{SeatReply}
 use Rattle.seat_api.specs.History.{IsLegal, by, reply_of, state_after}
-use Rattle.seat_api.specs.Rule.{Sitting, TakesTurn, left, opened, told}
-use Rattle.seat_api.specs.Seating.{Chair, Extends, Sits, entry_of}
-use Rattle.seat_api.proofs.Histories.{by-mine, legal-last}
+use Rattle.seat_api.specs.Seating.{Chair, Extends, Sits, Sitting, entry_of}
+use Rattle.seat_api.proofs.Histories.{legal-last}
+
+-- a desk is seen as its history, of whose entries each tells its seat
+
+abbrev whole_of : List SeatEntry → List SeatEntry
+whole_of es = es
+
+abbrev seat_of : SeatEntry → ℕ
+seat_of e = e.seat
 
 -- over plain lists: `whole` is the history before the entry
 extends_whole :
@@ -23,31 +32,48 @@ extends_whole opening v w act reply whole begins was seen mine legal =
       position =
           subst (λ es. reply ≡ reply_of (state_after opening es) v.thread.0 act) (sym begins.1) (legal-last opening [] whole e legal).reply;
       legal = subst (IsLegal opening) (sym seen) legal;
-      mine = mine ∙ (by-mine v.number whole e (λ i. v.number) ∙ ap (λ es. es ++ e ∷ []) (sym was));
+      mine = mine ∙ (by-mine seat_of v.number whole e (λ i. v.number) ∙ ap (λ es. es ++ e ∷ []) (sym was));
       all_mine = ap (by v.number) seen ∙ sym mine;
     }
 
--- `m` is the seat before its turn, `n` in it, and `k` after it
-pub extends :
-    (opening : State) (m n k : Sitting) (v w : Chair) (act : SeatAct) (reply : SeatReply) (made : ℕ) → TakesTurn m n →
-    (let all = n.0.whole ++ record { seat = v.number; number = made; thread = v.thread; act = act; reply = reply } ∷ [] in
-    (k ≡ (left (told n.0 all), [])) × IsLegal opening all) →
-    m.0.number ≡ v.number → length m.0.mine ≡ made → v.seen ≡ m.0.seen → v.mine ≡ m.0.mine → w.seen ≡ k.0.seen → w.mine ≡ k.0.mine →
-    Extends opening v w act reply
-extends opening m n k v w act reply made turn done number count seen mine seen_now mine_now =
-    let whole : List SeatEntry = n.0.whole in
-    let same : n.0.whole ≡ turn.1 = ap (λ (s : Sitting). s.0.whole) turn.2 in
-    let its_number : n.0.number ≡ v.number = ap (λ (s : Sitting). s.0.number) turn.2 ∙ number in
-    let its_count : made ≡ length v.mine = sym count ∙ ap (λ (es : List SeatEntry). length es) (sym mine) in
-    let all : List SeatEntry = whole ++ record { seat = v.number; number = made; thread = v.thread; act = act; reply = reply } ∷ [] in
-    let is : all ≡ whole ++ entry_of v act reply ∷ [] =
-    ap (λ (i : ℕ). whole ++ record { seat = v.number; number = i; thread = v.thread; act = act; reply = reply } ∷ []) its_count in
-    extends_whole opening v w act reply whole
-    (subst (λ (x : List SeatEntry × List SeatEntry). IsPrefix x.0 x.1) (λ i. (sym seen i, sym same i)) turn.3.seen)
-    (mine ∙ (turn.3.mine ∙ (ap (by m.0.number) (sym same) ∙ ap (λ (i : ℕ). by i whole) number)))
-    (seen_now ∙ (ap (λ (s : Sitting). s.0.seen) done.0 ∙ is))
-    (mine_now ∙ (ap (λ (s : Sitting). s.0.mine) done.0 ∙ (ap (λ (i : ℕ). by i all) its_number ∙ ap (by v.number) is)))
-    (subst (IsLegal opening) is done.1)
+-- `m` is the seat before its turn, and `n` in it, with the history `d`
+module _ (m n : Sitting) (d : List SeatEntry) (turn : TakesTurn whole_of seat_of m n d) where
+  pub in_turn : m.0.sits ≡ 1 → InTurn n
+  in_turn sits = (ap (λ (s : Sitting). s.0.sits) turn.1 ∙ sits, (turn.0, ap (λ (s : Sitting). s.0.stage) turn.1), ap (λ (s : Sitting). s.1) turn.1)
+
+  pub counted : (number made : ℕ) → m.0.number ≡ number → length m.0.mine ≡ made → made ≡ length (by number d)
+  counted number made is count = sym count ∙ (ap (λ (es : List SeatEntry). length es) turn.2.mine ∙ ap (λ (i : ℕ). length (by i d)) is)
+
+  pub is_whole : (es : List SeatEntry) → es ≡ d → es ≡ n.0.whole
+  is_whole es is = is ∙ sym (ap (λ (s : Sitting). s.0.whole) turn.1)
+
+  pub has_entry :
+      (all : List SeatEntry) (e : SeatEntry) → all ≡ d ++ e ∷ [] → m.0.number ≡ e.seat →
+      (e : SeatEntry) × (all ≡ n.0.whole ++ e ∷ []) × (e.seat ≡ n.0.number)
+  has_entry all e is number = (
+    e,
+    is ∙ ap (λ (es : List SeatEntry). es ++ e ∷ []) (sym (ap (λ (s : Sitting). s.0.whole) turn.1)),
+    sym (ap (λ (s : Sitting). s.0.number) turn.1 ∙ number),
+  )
+
+  -- `k` is the seat after its turn
+  pub extends :
+      (opening : State) (k : Sitting) (all : List SeatEntry) (v w : Chair) (act : SeatAct) (reply : SeatReply) (made : ℕ) →
+      k ≡ (left (told seat_of n.0 all), []) →
+      all ≡ d ++ record { seat = v.number; number = made; thread = v.thread; act = act; reply = reply } ∷ [] → IsLegal opening all →
+      m.0.number ≡ v.number → length m.0.mine ≡ made → v.seen ≡ m.0.seen → v.mine ≡ m.0.mine → w.seen ≡ k.0.seen → w.mine ≡ k.0.mine →
+      Extends opening v w act reply
+  extends opening k all v w act reply made after all_is legal number count seen mine seen_now mine_now =
+      let its_number : n.0.number ≡ v.number = ap (λ (s : Sitting). s.0.number) turn.1 ∙ number in
+      let its_count : made ≡ length v.mine = sym count ∙ ap (λ (es : List SeatEntry). length es) (sym mine) in
+      let is : all ≡ d ++ entry_of v act reply ∷ [] =
+      all_is
+      ∙ ap (λ (i : ℕ). d ++ record { seat = v.number; number = i; thread = v.thread; act = act; reply = reply } ∷ []) its_count in
+      extends_whole opening v w act reply d (subst (λ (es : List SeatEntry). IsPrefix es d) (sym seen) turn.2.seen)
+      (mine ∙ (turn.2.mine ∙ ap (λ (i : ℕ). by i d) number))
+      (seen_now ∙ (ap (λ (s : Sitting). s.0.seen) after ∙ is))
+      (mine_now ∙ (ap (λ (s : Sitting). s.0.mine) after ∙ (ap (λ (i : ℕ). by i all) its_number ∙ ap (by v.number) is)))
+      (subst (IsLegal opening) is legal)
 
 -- the seat that comes with a table
 pub sits_first : (m : Sitting) → m ≡ (opened, []) → Sits m 0 0 0 1

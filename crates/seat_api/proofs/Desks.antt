@@ -1,27 +1,25 @@
 -- A desk: what its kernel stands for keeps the names of the opening state, has no thread at a task, and goes on with each call.
-use Rattle.std.proofs.Common.{◌≡◌, ℕ, zero, suc, ◌+◌, ◌<◌, ◌≤◌, List, [], ◌∷◌, ◌++◌, Bool, true, false, if◌then◌else◌, Option, None, Some, length, option_map, map, slice_get, refl, ap, sym, subst, ◌∙◌, arith}
+use Rattle.std.proofs.Common.{◌≡◌, ℕ, suc, ◌<◌, ◌≤◌, List, [], ◌∷◌, ◌++◌, Bool, true, false, if◌then◌else◌, Option, None, Some, length, option_map, slice_get, refl, ap, sym, subst, ◌∙◌, arith}
 use Rattle.dk_base.specs.ByNumber.{at_number}
 use Rattle.dk_base.specs.declared.limits.TheConstants.{EVENTS_MAX}
 use Rattle.dk_base.specs.declared.request.Request.TheVariants as request
 use Rattle.kernel_records.specs.declared.record.ThreadState.TheVariants as is
 use Rattle.kernel_records.specs.Words.{parent_in}
 use Rattle.kernel_records.proofs.Lists.{same_numbered}
-use Rattle.written_kernel.specs.Types.{Answer as AnswerValue, Pid, Process, Request, ThreadState}
-use Rattle.written_kernel.specs.Words.{IsFit, IsOpening, IsRun, StandsFor, State, Turn, event_of, forget, output_at, parent_of, process_of, state_after as state_after_turns, state_at, state_of, step, with_output}
+use Rattle.written_kernel.specs.Types.{Pid, Process, Request, ThreadState}
+use Rattle.written_kernel.specs.Words.{IsFit, IsOpening, IsRun, StandsFor, State, Turn, forget, output_at, parent_of, process_of, state_after as state_after_turns, state_of, step}
 use Rattle.written_kernel.proofs.Opening.{forget-opening}
 use Rattle.written_kernel.proofs.Runs.{events-state_after, state_at_all}
 use Rattle.written_kernel.proofs.Steps.{ProcessIdentity, process_identity, process_of-step, processes-step, step-keeps, threads-step}
 use Rattle.kernel_laws.specs.Laws.{Laws}
-use Rattle.kernel_laws.specs.Tasks.{Tasks, WasAsked}
-use Rattle.seat_api.specs.declared.entry.SeatAct.{SeatAct}
-use Rattle.seat_api.specs.declared.entry.SeatAct.TheVariants.{Enter, GoOn}
+use Rattle.kernel_laws.specs.Tasks.{Tasks}
+use Rattle.seat_replies.specs.declared.call.SeatAct.{SeatAct}
+use Rattle.seat_replies.specs.declared.call.SeatAct.TheVariants.{Enter, GoOn}
 use Rattle.seat_api.specs.declared.entry.SeatEntry.{SeatEntry}
-use Rattle.seat_api.specs.declared.entry.SeatReply.{SeatReply}
-use Rattle.seat_api.specs.declared.entry.SeatReply.TheVariants.{Answer}
 use Rattle.seat_api.specs.declared.limits.TheConstants.{HISTORY_MAX}
 use Rattle.seat_api.specs.Desk.{IsDesk}
-use Rattle.seat_api.specs.History.{Follows, IsFitAct, IsLegal, answered, is_allowed, is_answered, refusal, reply_of, request_of, state_after, state_by, turns}
-use Rattle.seat_api.proofs.Histories.{IsRunOf, every_at, is_allowed_turn, legal-snoc, runs, state-snoc}
+use Rattle.seat_api.specs.History.{Follows, IsFitAct, IsLegal, answered, by, is_allowed, is_answered, reply_of, request_of, state_after, state_by, turns}
+use Rattle.seat_api.proofs.Histories.{every_at, is_allowed_turn, legal-snoc, runs, state-snoc}
 
 -- what a request may name is the same
 
@@ -207,31 +205,36 @@ called opening kernel es all e before d is f stands =
       stands = subst (λ es. StandsFor kernel (state_after opening es)) (sym is) (subst (StandsFor kernel) (sym (state-snoc opening es e)) stands);
     }
 
--- replies: where the kernel answers, its answer is that of the event, for no thread is at a task
+-- the kernel in the box may be asked
+pub record MayReply (kernel : State) (t : ℕ) (a : SeatAct) : Type 0 where
+  pub fit : IsFitAct kernel t a
+  pub few : kernel.events < EVENTS_MAX
+  pub no_task : output_at (state_of kernel t) ≡ None
 
-abbrev answer_shown : State → ℕ → SeatAct → SeatReply
-answer_shown m t a = Answer (event_of m t (request_of a)).answer
+pub may_reply :
+    (opening kernel box : State) (es log : List SeatEntry) (t : ℕ) (a : SeatAct) → AreLaws → kernel ≡ box → IsDesk opening box es → es ≡ log →
+    IsFitAct opening t a → length log ≤ HISTORY_MAX → MayReply kernel t a
+may_reply opening kernel box es log t a laws is desk seen fit few =
+    let d : IsDesk opening kernel es = subst (λ m. IsDesk opening m es) (sym is) desk in
+    let can = ready opening kernel es laws d (subst (λ (l : List SeatEntry). length l ≤ HISTORY_MAX) (sym seen) few) in
+    record {
+      fit = subst (λ m. IsFitAct m t a) (sym d.stands) (fit_forgotten (state_after opening es) t a (fit_after opening es t a fit));
+      few = can.few;
+      no_task = can.no_task t;
+    }
 
-pub answered_reply :
-    (kernel m : State) (t : ℕ) (a : SeatAct) (answer : AnswerValue) → StandsFor kernel m → output_at (state_of kernel t) ≡ None →
-    is_answered m t a ≡ true → answer ≡ (step m t (request_of a)).answer → Answer answer ≡ reply_of m t a
-answered_reply kernel m t a answer h none can is =
-    let no_task : output_at (state_of m t) ≡ None = sym (ap (λ (n : State). output_at (state_of n t)) h) ∙ none in
-    ap Answer is
-    ∙ (ap (λ o. Answer (with_output o (step m t (request_of a)).answer)) (sym no_task)
-    ∙ ap (λ c. if c then answer_shown m t a else refusal m t a) (sym can))
-
-pub answered_state :
-    (kernel m : State) (t : ℕ) (a : SeatAct) → is_answered m t a ≡ true → StandsFor kernel (step m t (request_of a)).state →
-    StandsFor kernel (state_by m t a)
-answered_state kernel m t a can =
-    subst (λ b. StandsFor kernel (if b then (step m t (request_of a)).state else m)) (sym can)
-
-pub refused_reply :
-    (m : State) (t : ℕ) (a : SeatAct) (r : SeatReply) → is_answered m t a ≡ false → r ≡ refusal m t a → r ≡ reply_of m t a
-refused_reply m t a r cannot is = is ∙ ap (λ c. if c then answer_shown m t a else refusal m t a) (sym cannot)
-
-pub refused_state :
-    (kernel m : State) (t : ℕ) (a : SeatAct) → is_answered m t a ≡ false → StandsFor kernel m → StandsFor kernel (state_by m t a)
-refused_state kernel m t a cannot =
-    subst (λ b. StandsFor kernel (if b then (step m t (request_of a)).state else m)) (sym cannot)
+-- and after its reply the desk has one entry more
+pub made :
+    (opening kernel box after : State) (es log all : List SeatEntry) (e : SeatEntry) → kernel ≡ box → IsDesk opening box es → es ≡ log →
+    all ≡ es ++ e ∷ [] → e.number ≡ length (by e.seat log) → IsFitAct opening e.thread.0 e.act →
+    ((m : State) → StandsFor kernel m → e.reply ≡ reply_of m e.thread.0 e.act) →
+    ((m : State) → StandsFor kernel m → StandsFor after (state_by m e.thread.0 e.act)) → IsDesk opening after all
+made opening kernel box after es log all e is desk seen more number fit reply state =
+    let d : IsDesk opening kernel es = subst (λ m. IsDesk opening m es) (sym is) desk in
+    called opening after es all e kernel d more
+    record {
+      reply = reply (state_after opening es) d.stands;
+      number = number ∙ ap (λ (l : List SeatEntry). length (by e.seat l)) (sym seen);
+      fit = fit_after opening es e.thread.0 e.act fit;
+    }
+    (state (state_after opening es) d.stands)

@@ -1,29 +1,16 @@
 -- Legal histories: one more entry, and the run that the answered calls are.
-use Rattle.std.proofs.Common.{◌≡◌, ℕ, suc, ◌+◌, ◌<◌, ◌≤◌, ◌≢◌, List, [], ◌∷◌, ◌++◌, Bool, true, false, cond, if◌then◌else◌, not, ◌&&◌, eqb, length, map, Option, None, Some, slice_get, zero, refl, ap, sym, subst, ◌∙◌, arith, append_assoc, eq-eqb, ne_eqb}
+use Rattle.std.proofs.Common.{◌≡◌, ℕ, suc, ◌+◌, ◌<◌, ◌≤◌, List, [], ◌∷◌, ◌++◌, Bool, true, false, cond, if◌then◌else◌, not, ◌&&◌, length, map, Option, None, Some, slice_get, zero, refl, ap, sym, subst, ◌∙◌, arith, append_assoc}
 use Rattle.std.proofs.lemmas.List.{append-nil}
-use Rattle.std.proofs.lemmas.List.Elements.{filter-append}
 use Rattle.dk_base.specs.declared.limits.TheConstants.{EVENTS_MAX}
 use Rattle.written_kernel.specs.Types.{Request}
-use Rattle.written_kernel.specs.Words.{IsRun, MayTurn, State, Turn, event_of, events_of, is_runnable, is_running, state_after as state_after_turns, state_after_turn, step}
+use Rattle.written_kernel.specs.Words.{IsRun, MayTurn, State, Turn, event_of, events_of, is_runnable, is_running, state_after as state_after_turns, step}
 use Rattle.written_kernel.proofs.Steps.{events-step}
-use Rattle.seat_api.specs.declared.entry.SeatAct.{SeatAct}
-use Rattle.seat_api.specs.declared.entry.SeatAct.TheVariants.{Enter, GoOn}
+use Rattle.seat_replies.specs.declared.call.SeatAct.{SeatAct}
+use Rattle.seat_replies.specs.declared.call.SeatAct.TheVariants.{Enter, GoOn}
 use Rattle.seat_api.specs.declared.entry.SeatEntry.{SeatEntry}
-use Rattle.seat_api.specs.declared.entry.SeatReply.{SeatReply}
-use Rattle.seat_api.specs.declared.entry.SeatReply.TheVariants.{Answer, NotReady, NotRunning}
-use Rattle.seat_api.specs.History.{AreAnswers, Follows, IsFitAct, IsLegal, IsLegalAfter, answered, by, is_allowed, is_answer, is_answered, refusal, replies, reply_of, request_of, state_after, state_by, turns}
-use Rattle.seat_api.specs.Sums.{Every}
-
--- one more entry of the seat n
-pub by-mine : (n : ℕ) (log : List SeatEntry) (e : SeatEntry) → e.seat ≡ n → by n (log ++ e ∷ []) ≡ by n log ++ e ∷ []
-by-mine n log e is =
-    filter-append (λ (x : SeatEntry). eqb x.seat n) log (e ∷ []) ∙ ap (λ b. by n log ++ cond b (e ∷ []) []) (eq-eqb e.seat n is)
-
--- or of another
-pub by-other : (n : ℕ) (log : List SeatEntry) (e : SeatEntry) → e.seat ≢ n → by n (log ++ e ∷ []) ≡ by n log
-by-other n log e is =
-    filter-append (λ (x : SeatEntry). eqb x.seat n) log (e ∷ [])
-    ∙ (ap (λ b. by n log ++ cond b (e ∷ []) []) (ne_eqb e.seat n is) ∙ append-nil (by n log))
+use Rattle.seat_replies.specs.declared.call.SeatReply.TheVariants.{Answer}
+use Rattle.seat_api.specs.History.{AreAnswers, Follows, IsFitAct, IsLegal, IsLegalAfter, answered, is_allowed, is_answer, is_answered, refusal, replies, reply_of, request_of, state_after, state_by, turns}
+use Rattle.seat_turns.specs.Sums.{Every}
 
 pub state-snoc :
     (m : State) (es : List SeatEntry) (e : SeatEntry) → state_after m (es ++ e ∷ []) ≡ state_by (state_after m es) e.thread.0 e.act

@@ -3,13 +3,17 @@ use Rattle.std.specs.Prelude.{◌≡◌, ℕ, ◌<◌, ◌≤◌, List, [], ◌�
 use Rattle.atomic_table.specs.Seated.{TableId}
 use Rattle.dk_base.specs.declared.number.Tid.{Tid}
 use Rattle.written_kernel.specs.Words.{State}
-use Rattle.seat_api.specs.declared.entry.SeatAct.{SeatAct}
+use Rattle.seat_replies.specs.declared.call.SeatAct.{SeatAct}
+use Rattle.seat_replies.specs.declared.call.SeatReply.{SeatReply}
+use Rattle.seat_turns.specs.declared.view.Stage.TheVariants.{Out}
+use Rattle.seat_turns.specs.Rule as turn
 use Rattle.seat_api.specs.declared.entry.SeatEntry.{SeatEntry}
-use Rattle.seat_api.specs.declared.entry.SeatReply.{SeatReply}
 use Rattle.seat_api.specs.declared.limits.TheConstants.{CALLS_MAX, SEATS_MAX}
-use Rattle.seat_api.specs.declared.view.Stage.TheVariants.{Out}
 use Rattle.seat_api.specs.History.{IsLegal, by, reply_of, state_after}
-use Rattle.seat_api.specs.Rule.{Sitting}
+
+-- what a seat knows, whose turns are at a desk: contracts see a desk as its history
+abbrev pub Sitting : Type 0
+Sitting = turn.Sitting SeatEntry (List SeatEntry)
 
 -- `table` tells of which seats it is one. Of the first seat `next` is how many seats were made, which numbers the next one; of the others it is 0.
 -- `calls` are its calls, and `seen` and `mine` the beginning of the history that it has seen, and the entries of its own.

@@ -7,6 +7,4 @@ pub mod laws;
 pub mod limits;
 pub mod opening;
 pub mod room;
-mod rule;
 pub mod seats;
-mod view;

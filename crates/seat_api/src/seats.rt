@@ -1,67 +1,51 @@
 //! The table that seats share, and a seat at it.
-ghost use Rattle.std.specs.Prelude.{◌≡◌, ℕ, ◌+◌, ◌<◌, ◌≤◌, [], ◌∷◌, ◌++◌, length, Some, None, IfOk, IfErr, IsOk, true, OnErr};
+ghost use Rattle.std.specs.Prelude.{◌≡◌, ◌+◌, ◌<◌, ◌≤◌, [], length, IfOk, IfErr, IsOk, true, OnErr};
 ghost use mathlib.Core.List.{IsPrefix};
 ghost use Rattle.written_kernel.specs.Words.{IsFit};
-ghost use Rattle.seat_api.specs.declared.entry.SeatAct.TheVariants.{Enter, GoOn};
+ghost use Rattle.seat_replies.specs.declared.call.SeatAct.TheVariants.{Enter, GoOn};
+ghost use Rattle.seat_turns.specs.Rule.{longer};
 ghost use Rattle.seat_api.specs.declared.limits.TheConstants.{CALLS_MAX, HISTORY_MAX, SEATS_MAX};
-ghost use Rattle.seat_api.specs.declared.view.Stage.TheVariants.{Turn};
-ghost use Rattle.seat_api.specs.History.{IsFitAct, IsLegal, by, is_allowed};
-ghost use Rattle.seat_api.specs.Rule.{HasTurn, InTurn, IsWaiting, MayDraw, TakesTurn, left, longer, told, turns};
+ghost use Rattle.seat_api.specs.History.{IsFitAct, is_allowed};
 ghost use Rattle.seat_api.specs.Seating.{Extends, IsSame};
 
 use crate::desk::Desk;
 use crate::entry::{SeatAct, SeatEntry, SeatReply};
 use crate::opening::Opening;
-use crate::rule::{Append, Draw, Leave, Look, Made, Note, OneHistory, Read, Share};
-use crate::view::View;
-use atomic_table::{Refused, Table};
 use dk_base::error::NoMemory;
 use dk_base::number::Tid;
 use dk_base::request::Request;
 use kernel_core::kernel::Kernel;
-use std::alloc::{AllocFailed, Global};
-use std::marker::{Brand, Model};
+use seat_turns::turns::{Place, Turns};
+use std::alloc::Global;
+use std::marker::Model;
 use std::sync::Wait;
-
-// the words of the table
-
-const TICKET: usize = 0;
-
-const SERVING: usize = 1;
-
-const COUNT: usize = 2;
-
-type Place<J> = atomic_table::Seat<Option<Desk<J>>, View>;
 
 /// A kernel that seats share, with one history of their calls, which is legal from the state that `J` names. Contracts see which seats it is.
 pub struct Seats<J: Opening> {
-    table: Table<Option<Desk<J>>, View, (), OneHistory, Global>,
+    turns: Turns<SeatEntry, Desk<J>>,
 }
 
 /// By hand, so that dropping the seats is one call for their holder.
 impl<J: Opening> Drop for Seats<J> {
     fn drop(self) {
-        let Seats { table: _ } = self;
+        let Seats { turns: _ } = self;
     }
 }
 
 impl<J: Opening> Model for Seats<J> {
-    ghost use Rattle.std.specs.Prelude.{◌≡◌};
     ghost use Rattle.atomic_table.specs.Seated.{TableId, table_id_coded};
 
     ghost Value = { TableId };
 
     ghost coded = { table_id_coded };
 
-    ghost view = { λ s. s.table.shared.table_id };
-
-    ghost invariant = { λ s. (s.table.shared.table_id.words ≡ 3) × (s.table.shared.table_id.slots ≡ 1) };
+    ghost view = { λ s. s.turns };
 }
 
 /// A seat, with which one thread of the host acts as a thread of the kernel. What it has seen of the history, and which of its entries are its
 /// own, contracts see; it takes no memory.
 pub struct Seat<J: Opening> {
-    place: Place<J>,
+    place: Place<SeatEntry, Desk<J>>,
     number: u32,
     thread: Tid,
     next: u32,
@@ -135,14 +119,9 @@ impl<J: Opening> Seats<J> {
         ensures history { IfOk result (λ s. (s.1.seen ≡ []) × (s.1.mine ≡ [])) }
         ensures err { IfErr result (λ k. k ≡ kernel) }
     {
-        let desk: Desk<J> = Desk::new(alloc, kernel);
-        let mut slots = Vec::new(alloc);
-        if let Err(AllocFailed { value }) = slots.push(Some(desk)) {
-            return Err(value.unwrap().into_kernel());
-        }
-        match Table::new(alloc, &[0, 0, 0], slots, &()) {
-            Ok((table, place)) => Ok((
-                Seats { table },
+        match Turns::new(alloc, Desk::new(alloc, kernel)?) {
+            Ok((turns, place)) => Ok((
+                Seats { turns },
                 Seat {
                     place,
                     number: 0,
@@ -152,7 +131,7 @@ impl<J: Opening> Seats<J> {
                     made: 0,
                 },
             )),
-            Err(Refused { mut slots }) => Err(slots.pop().unwrap().unwrap().into_kernel()),
+            Err(desk) => Err(desk.into_kernel()),
         }
     }
 
@@ -168,7 +147,7 @@ impl<J: Opening> Seats<J> {
         ensures history { IfOk result (λ s. (s.seen ≡ first.old.seen) × (s.mine ≡ [])) }
         ensures first { first.new ≡ record first.old { next = first.old.next + 1 } }
     {
-        let place = self.table.shared.split_seat::<Share>(&mut first.place);
+        let place = self.turns.split(&mut first.place);
         let number = first.next;
         first.next += 1;
         Ok(Seat {
@@ -219,9 +198,10 @@ impl<J: Opening> Seats<J> {
     pub fn seen(&self, seat: &mut Seat<J>) -> u64
         requires { seat.old.table ≡ self.now }
         ensures length { length seat.old.seen ≤ result }
+        ensures few { result ≤ HISTORY_MAX }
         ensures seat { seat.new ≡ seat.old }
     {
-        self.table.shared.load::<Read>(&mut seat.place, COUNT)
+        self.turns.seen(&mut seat.place)
     }
 
     /// Two seats compare what they have seen: one is the beginning of the other, and the first seat has the longer now. It waits for nobody, makes no
@@ -234,13 +214,11 @@ impl<J: Opening> Seats<J> {
         ensures a { IsSame a.old a.new × (a.new.next ≡ a.old.next) × (a.new.calls ≡ a.old.calls) × (a.new.mine ≡ a.old.mine) }
         ensures b { b.new ≡ b.old }
     {
-        let note = self.table.shared.split_seat::<Note>(&mut b.place);
-        self.table.shared.join_seat::<Note>(&mut a.place, note);
-        let _ = self.table.shared.load::<Read>(&mut a.place, COUNT);
+        self.turns.meet(&mut a.place, &mut b.place);
         Ok(())
     }
 
-    // One call of the seat's thread.
+    // One call of the seat's thread, in its turn. A call that wants memory leaves the turn without an entry.
     fn call<R: Wait>(&self, rt: &R, seat: &mut Seat<J>, act: SeatAct) -> Result<SeatReply, NoMemory>
         requires own { seat.old.table ≡ self.now }
         requires few { seat.old.calls < CALLS_MAX }
@@ -251,117 +229,17 @@ impl<J: Opening> Seats<J> {
         ensures err { OnErr result ((seat.new.seen ≡ seat.old.seen) × (seat.new.mine ≡ seat.old.mine)) }
     {
         seat.calls += 1;
-        self.take_turn(rt, &mut seat.place);
-        let reply = self.act_in_turn(&mut seat.place, seat.number, seat.made, seat.thread, act)?;
-        seat.made += 1;
-        Ok(reply)
-    }
-
-    // Draws a ticket, and waits until it is served.
-    fn take_turn<R: Wait>(&self, rt: &R, place: &mut Place<J>)
-        requires own { place.old.table_id ≡ self.now }
-        requires may { MayDraw place.old.me }
-        ensures own { (place.new.table_id ≡ place.old.table_id) × (place.new.id ≡ place.old.id) }
-        ensures turn { TakesTurn place.old.me place.new.me }
-    {
-        let ticket = self.table.shared.fetch_add::<Draw>(place, TICKET, 1);
-        self.wait_turn(rt, place, ticket);
-    }
-
-    // Waits until the ticket is served: parked, and woken where a turn is left.
-    fn wait_turn<R: Wait>(&self, rt: &R, place: &mut Place<J>, ticket: u64)
-        requires own { place.old.table_id ≡ self.now }
-        requires waits { IsWaiting place.old.me ticket }
-        ensures own { (place.new.table_id ≡ place.old.table_id) × (place.new.id ≡ place.old.id) }
-        ensures turn { HasTurn place.old.me place.new.me }
-    {
-        for _ in rt.forever() {
-            let serving = self.table.shared.load::<Look>(place, SERVING);
-            if serving == ticket {
-                return;
-            }
-            self.table
-                .shared
-                .park(rt, SERVING, (serving & 0xffff_ffff) as u32);
-        }
-        unreachable!()
-    }
-
-    // Makes the call in the turn, and leaves the turn. A call that wants memory leaves it without an entry.
-    fn act_in_turn(
-        &self,
-        place: &mut Place<J>,
-        number: u32,
-        made: u64,
-        thread: Tid,
-        act: SeatAct,
-    ) -> Result<SeatReply, NoMemory>
-        requires own { place.old.table_id ≡ self.now }
-        requires turn { InTurn place.old.me }
-        requires fit { IsFitAct J.opening thread.0 act }
-        requires few { length place.old.me.0.whole ≤ HISTORY_MAX }
-        requires seat { (number ≡ place.old.me.0.number) × (made ≡ length (by number place.old.me.0.whole)) }
-        ensures own { (place.new.table_id ≡ place.old.table_id) × (place.new.id ≡ place.old.id) }
-        ensures done { IfOk result (λ r. let all = place.old.me.0.whole ++ record { seat = number; number = made; thread = thread; act = act; reply = r } ∷ [] in (place.new.me ≡ (left (told place.old.me.0 all), [])) × IsLegal J.opening all) }
-        ensures err { OnErr result (place.new.me ≡ (left place.old.me.0, [])) }
-    {
-        let mut desk = self.take(place);
-        match desk.make(number, made, thread, act) {
+        let mut desk = self.turns.take_turn(rt, &mut seat.place);
+        match desk.make(seat.number, seat.made, seat.thread, act) {
             Ok(reply) => {
-                desk.legal();
-                self.append::<Brand>(place, desk.last());
-                self.give(place, desk);
-                self.leave(place);
+                self.turns.end_turn(&mut seat.place, desk);
+                seat.made += 1;
                 Ok(reply)
             }
             Err(full) => {
-                self.give(place, desk);
-                self.leave(place);
+                self.turns.leave_turn(&mut seat.place, desk);
                 Err(full)
             }
         }
-    }
-
-    // Takes the desk out of the slot.
-    fn take(&self, place: &mut Place<J>) -> Desk<J>
-        requires own { place.old.table_id ≡ self.now }
-        requires holds { place.old.me.1 ≡ (0, Some place.old.me.0.whole) ∷ [] }
-        ensures own { (place.new.table_id ≡ place.old.table_id) × (place.new.id ≡ place.old.id) }
-        ensures taken { (result ≡ place.old.me.0.whole) × (place.new.me ≡ (place.old.me.0, (0, None) ∷ [])) }
-    {
-        self.table.shared.exchange(place, 0, None).unwrap()
-    }
-
-    // Appends the entry to the history.
-    fn append<E: Made>(&self, place: &mut Place<J>, entry: &SeatEntry)
-        requires own { place.old.table_id ≡ self.now }
-        requires turn { (place.old.me.0.sits ≡ 1) × ((t : ℕ) × (place.old.me.0.stage ≡ Turn t)) }
-        requires entry { (entry.now ≡ E.entry) × (entry.now.seat ≡ place.old.me.0.number) }
-        ensures own { (place.new.table_id ≡ place.old.table_id) × (place.new.id ≡ place.old.id) }
-        ensures told { place.new.me ≡ (told place.old.me.0 (place.old.me.0.whole ++ entry.now ∷ []), place.old.me.1) }
-    {
-        let _ = entry;
-        self.table.shared.fetch_add::<Append<E>>(place, COUNT, 1);
-    }
-
-    // Gives the desk back.
-    fn give(&self, place: &mut Place<J>, desk: Desk<J>)
-        requires own { place.old.table_id ≡ self.now }
-        requires holds { place.old.me.1 ≡ (0, None) ∷ [] }
-        ensures own { (place.new.table_id ≡ place.old.table_id) × (place.new.id ≡ place.old.id) }
-        ensures given { place.new.me ≡ (place.old.me.0, (0, Some desk) ∷ []) }
-    {
-        let _ = self.table.shared.exchange(place, 0, Some(desk));
-    }
-
-    // Leaves the turn to the next ticket.
-    fn leave(&self, place: &mut Place<J>)
-        requires own { place.old.table_id ≡ self.now }
-        requires holds { (turns place.old.me.0.stage ≡ 1) × (place.old.me.1 ≡ (0, Some place.old.me.0.whole) ∷ []) }
-        ensures own { (place.new.table_id ≡ place.old.table_id) × (place.new.id ≡ place.old.id) }
-        ensures left { place.new.me ≡ (left place.old.me.0, []) }
-    {
-        self.table.shared.fetch_add::<Leave>(place, SERVING, 1);
-        self.table.shared.wake_all(SERVING);
     }
 }
