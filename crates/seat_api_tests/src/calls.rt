@@ -1,7 +1,6 @@
-//! What a seat asks for, and what it is replied. `acts` alone owns a reply; all else asks it what came.
-ghost use Rattle.std.specs.Prelude.{ℕ, ◌≡◌, ◌<◌, IfOk, true};
+//! What a seat asks for, and what it is replied.
+ghost use Rattle.std.specs.Prelude.{ℕ, ◌≡◌, IfOk, true};
 ghost use Rattle.written_kernel.specs.Words.{IsFit, State};
-ghost use Rattle.seat_api.specs.declared.limits.TheConstants.{CALLS_MAX};
 ghost use Rattle.seat_api.specs.History.{is_allowed};
 
 use dk_base::answer::Answer;
@@ -12,11 +11,7 @@ use dk_base::request::Request;
 use dk_base::set::Attrs;
 use kernel_records::record::ThreadState;
 use seat_api::entry::SeatReply;
-use seat_api::limits::CALLS_MAX;
-use seat_api::opening::Opening;
-use seat_api::seats::{Seat, Seats};
 use std::alloc::Global;
-use std::sync::Wait;
 
 /// A call of a seat.
 #[derive(Clone, Copy)]
@@ -81,7 +76,7 @@ fn is_answer(answer: &Answer, gives: Gives) -> bool {
     }
 }
 
-fn what_came(reply: &Result<SeatReply, NoMemory>, gives: Gives) -> Came {
+pub fn what_came(reply: &Result<SeatReply, NoMemory>, gives: Gives) -> Came {
     let is_written = match reply {
         Ok(SeatReply::Answer(answer)) => is_answer(answer, gives),
         Ok(SeatReply::NotRunning(ThreadState::Calling { call: 1 })) => {
@@ -98,7 +93,7 @@ fn what_came(reply: &Result<SeatReply, NoMemory>, gives: Gives) -> Came {
     }
 }
 
-fn request(alloc: Global, asks: Asks) -> Result<Request, NoMemory>
+pub fn request(alloc: Global, asks: Asks) -> Result<Request, NoMemory>
     ensures fit { IfOk result (λ r. (m : State) (t : ℕ) → IsFit m t r) }
     ensures allowed { IfOk result (λ r. is_allowed r ≡ true) }
 {
@@ -129,58 +124,4 @@ fn request(alloc: Global, asks: Asks) -> Result<Request, NoMemory>
         }),
         _ => Ok(Request::Cred),
     }
-}
-
-fn enters<J: Opening, R: Wait>(
-    rt: &R,
-    alloc: Global,
-    seats: &Seats<J>,
-    seat: &mut Seat<J>,
-    asks: Asks,
-    gives: Gives,
-) -> Came
-    requires own { seat.old.table ≡ seats.now }
-    requires few { seat.old.calls < CALLS_MAX }
-    ensures own { (seat.new.table ≡ seats.now) × (seat.new.number ≡ seat.old.number) × (seat.new.next ≡ seat.old.next) }
-{
-    match request(alloc, asks) {
-        Ok(request) => what_came(&seats.enter(rt, seat, request), gives),
-        Err(_) => Came::NotAsked,
-    }
-}
-
-/// What comes of a call, if the seat has one left.
-pub fn acts<J: Opening, R: Wait>(
-    rt: &R,
-    alloc: Global,
-    seats: &Seats<J>,
-    seat: &mut Seat<J>,
-    asks: Asks,
-    gives: Gives,
-) -> Came
-    requires own { seat.old.table ≡ seats.now }
-    ensures own { (seat.new.table ≡ seats.now) × (seat.new.number ≡ seat.old.number) × (seat.new.next ≡ seat.old.next) }
-{
-    if seat.calls() >= CALLS_MAX {
-        return Came::Otherwise;
-    }
-    match asks {
-        Asks::GoOn => what_came(&seats.go_on(rt, seat), gives),
-        _ => enters(rt, alloc, seats, seat, asks, gives),
-    }
-}
-
-/// Whether a call is replied as it is written.
-pub fn is_replied<J: Opening, R: Wait>(
-    rt: &R,
-    alloc: Global,
-    seats: &Seats<J>,
-    seat: &mut Seat<J>,
-    asks: Asks,
-    gives: Gives,
-) -> bool
-    requires own { seat.old.table ≡ seats.now }
-    ensures own { (seat.new.table ≡ seats.now) × (seat.new.number ≡ seat.old.number) × (seat.new.next ≡ seat.old.next) }
-{
-    matches!(acts(rt, alloc, seats, seat, asks, gives), Came::AsWritten)
 }

@@ -1,76 +1,47 @@
 //! Two host threads, each with the seat of its own process.
-ghost use Rattle.std.specs.Prelude.{◌≡◌, ◌≤◌, length};
+ghost use Rattle.std.specs.Prelude.{◌≡◌, ◌≤◌};
 
-use crate::calls::{Asks, Gives, is_replied};
+use crate::caller::{Caller, is_replied};
+use crate::calls::{Asks, Gives};
 use dk_base::number::Tid;
-use seat_api::opening::Opening;
-use seat_api::seats::{Seat, Seats};
-use std::alloc::Global;
-use std::sync::Wait;
 use std::thread::{Threads, join};
 
 /// Whether a hundred doors have the descriptors 0 to 99, in order.
-fn are_created<J: Opening, R: Wait>(
-    rt: &R,
-    alloc: Global,
-    seats: &Seats<J>,
-    seat: &mut Seat<J>,
-) -> bool
-    requires own { seat.old.table ≡ seats.now }
-    ensures own { seat.new.table ≡ seats.now }
+fn are_created<C: Caller>(caller: &mut C) -> bool
+    ensures table { C.table caller.new ≡ C.table caller.old }
 {
     for i in 0..100u32 {
-        if !is_replied(rt, alloc, seats, seat, Asks::Create, Gives::NewFd(i)) {
+        if !is_replied(caller, Asks::Create, Gives::NewFd(i)) {
             return false;
         }
     }
     true
 }
 
-fn creates<J: Opening, R: Wait>(
-    rt: &R,
-    alloc: Global,
-    seats: &Seats<J>,
-    mut seat: Seat<J>,
-) -> (Seat<J>, bool)
-    requires own { seat.table ≡ seats.now }
-    ensures own { result.0.table ≡ seats.now }
+fn creates<C: Caller>(mut caller: C) -> (C, bool)
+    ensures table { C.table result.0 ≡ C.table caller }
 {
-    let right = are_created(rt, alloc, seats, &mut seat);
-    (seat, right)
+    let right = are_created(&mut caller);
+    (caller, right)
 }
 
 /// Whether both see all calls, and can meet.
-fn meet<J: Opening>(seats: &Seats<J>, a: &mut Seat<J>, b: &mut Seat<J>) -> bool
-    requires a { a.old.table ≡ seats.now }
-    requires b { b.old.table ≡ seats.now }
+fn meet<C: Caller>(a: &mut C, b: &mut C) -> bool
+    requires tables { C.table a.old ≡ C.table b.old }
 {
-    seats.seen(a) == 200 && seats.seen(b) == 200 && seats.meet(a, b).is_ok()
+    a.seen() == 200 && b.seen() == 200 && a.meets(b)
 }
 
 /// Whether two seats make their doors at the same time, see all calls, and can meet.
-pub fn both_create<J: Opening + Send + Sync, R: Threads + Wait + Sync>(
-    rt: &R,
-    alloc: Global,
-    seats: &Seats<J>,
-    first: &mut Seat<J>,
-) -> bool
-    requires own { first.old.table ≡ seats.now }
-    requires first { (first.old.number ≡ 0) × (first.old.next ≡ 2) }
-    requires threads { 2 ≤ length J.opening.process_table.threads }
+pub fn both_create<R: Threads, C: Caller + Send + Drop>(rt: &R, first: &mut C) -> bool
+    requires threads { 2 ≤ C.threads }
 {
-    let a = seats.split(first, Tid(1)).unwrap();
-    let b = seats.split(first, Tid(2)).unwrap();
-    let ((mut a, by_a), (mut b, by_b)) = join(
-        rt,
-        || -> (Seat<J>, bool)
-            requires { a.table ≡ seats.now }
-            ensures { result.0.table ≡ seats.entry.now }
-        { creates(rt, alloc, seats, a) },
-        || -> (Seat<J>, bool)
-            requires { b.table ≡ seats.now }
-            ensures { result.0.table ≡ seats.entry.now }
-        { creates(rt, alloc, seats, b) },
-    );
-    by_a & by_b & meet(seats, &mut a, &mut b)
+    let Some(a) = first.split(Tid(1)) else {
+        return false;
+    };
+    let Some(b) = first.split(Tid(2)) else {
+        return false;
+    };
+    let ((mut a, by_a), (mut b, by_b)) = join(rt, || creates(a), || creates(b));
+    by_a & by_b & meet(&mut a, &mut b)
 }

@@ -1,12 +1,9 @@
 //! Eight host threads that act at the same time, each with the two seats of a process.
-ghost use Rattle.std.specs.Prelude.{◌≡◌, ◌+◌, ◌*◌, [], length};
-ghost use Rattle.std.specs.List.{AllWithin};
+ghost use Rattle.std.specs.Prelude.{◌≡◌, ◌<◌};
 
-use crate::calls::is_replied;
+use crate::caller::{Caller, is_replied};
 use crate::plan::{CALLS, Who, step_at};
 use dk_base::number::Tid;
-use seat_api::opening::Opening;
-use seat_api::seats::{Seat, Seats};
 use std::alloc::Global;
 use std::sync::Wait;
 use std::sync::atomic::{AtomicU64, Ordering};
@@ -54,33 +51,15 @@ fn rings(word: &AtomicU64) {
 }
 
 /// The seats of a process.
-struct Pair<J: Opening> {
-    server: Seat<J>,
-    client: Seat<J>,
+#[derive(Drop)]
+struct Pair<C> {
+    server: C,
+    client: C,
     process: u64,
 }
 
-/// By hand, so that dropping a pair is one call.
-impl<J: Opening> Drop for Pair<J> {
-    fn drop(self) {
-        let Pair {
-            server: _,
-            client: _,
-            process: _,
-        } = self;
-    }
-}
-
 /// How many calls of a pair are replied as they are written.
-fn right_calls<J: Opening, R: Wait>(
-    rt: &R,
-    alloc: Global,
-    seats: &Seats<J>,
-    all: &Made,
-    pair: &mut Pair<J>,
-) -> u64
-    requires own { (pair.old.server.table ≡ seats.now) × (pair.old.client.table ≡ seats.now) }
-{
+fn right_calls<R: Wait, C: Caller>(rt: &R, all: &Made, pair: &mut Pair<C>) -> u64 {
     let process = pair.process;
     for made in 0..CALLS {
         let step = step_at(process, made);
@@ -91,12 +70,11 @@ fn right_calls<J: Opening, R: Wait>(
         ) {
             return made;
         }
-        let (asks, gives) = (step.asks, step.gives);
-        let right = match step.who {
-            Who::Server => is_replied(rt, alloc, seats, &mut pair.server, asks, gives),
-            Who::Client => is_replied(rt, alloc, seats, &mut pair.client, asks, gives),
+        let caller = match step.who {
+            Who::Server => &mut pair.server,
+            Who::Client => &mut pair.client,
         };
-        if !right {
+        if !is_replied(caller, step.asks, step.gives) {
             return made;
         }
         rings(&all.of[(process % 8) as usize]);
@@ -104,23 +82,27 @@ fn right_calls<J: Opening, R: Wait>(
     CALLS
 }
 
-/// Whether there is memory for the pairs. The clients have the last threads.
-fn are_made<J: Opening>(seats: &Seats<J>, first: &mut Seat<J>, pairs: &mut Vec<Pair<J>>) -> bool
-    requires own { first.old.table ≡ seats.now }
-    requires first { (first.old.number ≡ 0) × (first.old.next ≡ 2) }
-    requires threads { length J.opening.process_table.threads ≡ 16 }
-    requires none { pairs.old.items ≡ [] }
-    ensures own { first.new.table ≡ seats.now }
-    ensures pairs { AllWithin (λ p. (p.server.table ≡ seats.now) × (p.client.table ≡ seats.now)) pairs.new.items 0 (length pairs.new.items) }
+/// The pair of a process. The clients have the last threads.
+fn seated_pair<C: Caller + Drop>(first: &mut C, process: u32) -> Option<Pair<C>>
+    requires process { process < 8 }
+    requires threads { C.threads ≡ 16 }
+{
+    let server = first.split(Tid(process + 1))?;
+    let client = first.split(Tid(process + 9))?;
+    Some(Pair {
+        server,
+        client,
+        process: process as u64,
+    })
+}
+
+/// Whether there are pairs for all processes, and memory for them.
+fn are_made<C: Caller + Drop>(first: &mut C, pairs: &mut Vec<Pair<C>>) -> bool
+    requires threads { C.threads ≡ 16 }
 {
     for process in 0..8u32 {
-        let server = seats.split(first, Tid(process + 1)).unwrap();
-        let client = seats.split(first, Tid(process + 9)).unwrap();
-        let process = process as u64;
-        let pair = Pair {
-            server,
-            client,
-            process,
+        let Some(pair) = seated_pair(first, process) else {
+            return false;
         };
         if pairs.push(pair).is_err() {
             return false;
@@ -130,21 +112,15 @@ fn are_made<J: Opening>(seats: &Seats<J>, first: &mut Seat<J>, pairs: &mut Vec<P
 }
 
 /// How many calls of all are replied as they are written.
-fn right_calls_of_all<J: Opening + Send + Sync, R: Threads + Wait + Sync>(
+fn right_calls_of_all<R: Threads + Wait + Sync, C: Caller + Send + Drop>(
     rt: &R,
-    alloc: Global,
-    seats: &Seats<J>,
     all: &Made,
-    pairs: Vec<Pair<J>>,
-) -> u64
-    requires own { AllWithin (λ p. (p.server.table ≡ seats.now) × (p.client.table ≡ seats.now)) pairs.items 0 (length pairs.items) }
-{
+    pairs: Vec<Pair<C>>,
+) -> u64 {
     match thread::map_vec(
         rt,
         pairs,
-        &|mut pair: Pair<J>| -> u64
-            requires { (pair.server.table ≡ seats.now) × (pair.client.table ≡ seats.now) }
-        { right_calls(rt, alloc, seats, all, &mut pair) },
+        &|mut pair: Pair<C>| right_calls(rt, all, &mut pair),
     ) {
         Ok(right) => right.iter().fold(0, |sum: u64, n| sum.wrapping_add(*n)),
         Err(_) => 0,
@@ -152,19 +128,15 @@ fn right_calls_of_all<J: Opening + Send + Sync, R: Threads + Wait + Sync>(
 }
 
 /// Whether eight processes make 64,032 calls, each as it is written.
-pub fn are_right<J: Opening + Send + Sync, R: Threads + Wait + Sync>(
+pub fn are_right<R: Threads + Wait + Sync, C: Caller + Send + Drop>(
     rt: &R,
     alloc: Global,
-    seats: &Seats<J>,
-    first: &mut Seat<J>,
+    first: &mut C,
 ) -> bool
-    requires own { first.old.table ≡ seats.now }
-    requires first { (first.old.number ≡ 0) × (first.old.next ≡ 2) }
-    requires threads { length J.opening.process_table.threads ≡ 16 }
+    requires threads { C.threads ≡ 16 }
 {
     let mut pairs = Vec::new(alloc);
-    if !are_made(seats, first, &mut pairs) {
-        return false;
-    }
-    right_calls_of_all(rt, alloc, seats, &none(), pairs) == 64_032 && seats.seen(first) == 64_032
+    are_made(first, &mut pairs)
+        && right_calls_of_all(rt, &none(), pairs) == 64_032
+        && first.seen() == 64_032
 }

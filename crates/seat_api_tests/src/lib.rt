@@ -2,6 +2,8 @@
 #![tactic(auto)]
 
 #[cfg(test)]
+mod caller;
+#[cfg(test)]
 mod calls;
 #[cfg(test)]
 mod doors;
@@ -15,5 +17,7 @@ mod plan;
 mod rows;
 #[cfg(test)]
 mod seated;
+#[cfg(test)]
+mod sitter;
 #[cfg(test)]
 mod tests;

@@ -1,32 +1,20 @@
 //! All seats, and all calls of a seat.
-ghost use Rattle.std.specs.Prelude.{◌≡◌, ◌≤◌, length};
+ghost use Rattle.std.specs.Prelude.{◌≤◌};
 
-use crate::calls::{Asks, Gives, is_replied};
+use crate::caller::{Caller, is_replied};
+use crate::calls::{Asks, Gives};
 use dk_base::number::Tid;
 use seat_api::limits::{CALLS_MAX, SEATS_MAX};
-use seat_api::opening::Opening;
-use seat_api::seats::{Seat, Seats};
-use std::alloc::Global;
-use std::sync::Wait;
 
 /// How many seats are split off until there are as many as there can be. Each enters the kernel: its thread has no client.
-fn split_all<J: Opening, R: Wait>(
-    rt: &R,
-    alloc: Global,
-    seats: &Seats<J>,
-    first: &mut Seat<J>,
-) -> u32
-    requires own { first.old.table ≡ seats.now }
-    requires first { first.old.number ≡ 0 }
-    requires threads { 1 ≤ length J.opening.process_table.threads }
-    ensures own { (first.new.table ≡ seats.now) × (first.new.number ≡ 0) }
+fn split_all<C: Caller + Drop>(first: &mut C) -> u32
+    requires threads { 1 ≤ C.threads }
 {
     for made in 0..SEATS_MAX {
-        if first.seats_made() >= SEATS_MAX {
+        let Some(mut other) = first.split(Tid(1)) else {
             return made;
-        }
-        let mut seat = seats.split(first, Tid(1)).unwrap();
-        if !is_replied(rt, alloc, seats, &mut seat, Asks::Cred, Gives::Failure) {
+        };
+        if !is_replied(&mut other, Asks::Cred, Gives::Failure) {
             return made;
         }
     }
@@ -34,12 +22,9 @@ fn split_all<J: Opening, R: Wait>(
 }
 
 /// How many calls a seat makes until it has none left: it goes on from no wait.
-fn call_all<J: Opening, R: Wait>(rt: &R, alloc: Global, seats: &Seats<J>, seat: &mut Seat<J>) -> u32
-    requires own { seat.old.table ≡ seats.now }
-    ensures own { seat.new.table ≡ seats.now }
-{
+fn call_all<C: Caller>(caller: &mut C) -> u32 {
     for made in 0..CALLS_MAX {
-        if !is_replied(rt, alloc, seats, seat, Asks::GoOn, Gives::NotReady) {
+        if !is_replied(caller, Asks::GoOn, Gives::NotReady) {
             return made;
         }
     }
@@ -47,19 +32,12 @@ fn call_all<J: Opening, R: Wait>(rt: &R, alloc: Global, seats: &Seats<J>, seat: 
 }
 
 /// Whether the first of two seats splits off 62, and no more, and then makes 10,000 calls, and no more.
-pub fn are_reached<J: Opening, R: Wait>(
-    rt: &R,
-    alloc: Global,
-    seats: &Seats<J>,
-    first: &mut Seat<J>,
-) -> bool
-    requires own { first.old.table ≡ seats.now }
-    requires first { first.old.number ≡ 0 }
-    requires threads { 1 ≤ length J.opening.process_table.threads }
+pub fn are_reached<C: Caller + Drop>(first: &mut C) -> bool
+    requires threads { 1 ≤ C.threads }
 {
-    split_all(rt, alloc, seats, first) == 62
+    split_all(first) == 62
         && first.seats_made() == 64
-        && call_all(rt, alloc, seats, first) == 10_000
+        && call_all(first) == 10_000
         && first.calls() == 10_000
-        && seats.seen(first) == 10_062
+        && first.seen() == 10_062
 }

@@ -3,12 +3,14 @@ ghost use Rattle.std.specs.Prelude.{◌≡◌, ◌+◌, ◌≤◌, [], length, t
 ghost use Rattle.std.specs.List.{AllByRecursion};
 ghost use Rattle.dk_base.specs.declared.limits.TheConstants.{DESCRIPTORS_MAX, PROCESSES_MAX};
 
+use crate::caller::Caller;
+use crate::sitter::Sitter;
 use crate::{doors, eight, limits, rows};
 use dk_base::list::IdList;
 use dk_base::number::{Pid, Tid};
 use kernel_core::kernel::Kernel;
 use seat_api::opening::Opening;
-use seat_api::seats::{Seat, Seats};
+use seat_api::seats::Seats;
 use std::alloc::Global;
 use std::marker::Brand;
 use std::sync::Wait;
@@ -24,28 +26,27 @@ pub enum Deed {
     ServeEachOther,
 }
 
-fn does<J: Opening + Send + Sync, R: Threads + Wait + Sync>(
+fn does<R: Threads + Wait + Sync, C: Caller + Send + Drop>(
     rt: &R,
     alloc: Global,
-    seats: &Seats<J>,
-    first: &mut Seat<J>,
-    second: &mut Seat<J>,
+    mut first: C,
     threads: u32,
     deed: Deed,
 ) -> bool
-    requires first { (first.old.table ≡ seats.now) × (first.old.number ≡ 0) × (first.old.next ≡ 2) }
-    requires second { second.old.table ≡ seats.now }
-    requires threads { (2 ≤ threads) × (length J.opening.process_table.threads ≡ threads) }
+    requires threads { (2 ≤ threads) × (C.threads ≡ threads) }
 {
+    let Some(mut second) = first.split(Tid(2)) else {
+        return false;
+    };
     match deed {
-        Deed::Call { wanting } => rows::are_right(rt, alloc, seats, first, second, wanting),
-        Deed::CreateAtOnce => doors::both_create(rt, alloc, seats, first),
-        Deed::ReachLimits => limits::are_reached(rt, alloc, seats, first),
-        Deed::ServeEachOther => threads == 16 && eight::are_right(rt, alloc, seats, first),
+        Deed::Call { wanting } => rows::are_right(&mut first, &mut second, wanting),
+        Deed::CreateAtOnce => doors::both_create(rt, &mut first),
+        Deed::ReachLimits => limits::are_reached(&mut first),
+        Deed::ServeEachOther => threads == 16 && eight::are_right(rt, alloc, &mut first),
     }
 }
 
-fn is_done_at<J: Opening + Send + Sync, R: Threads + Wait + Sync>(
+fn is_done_at<R: Threads + Wait + Sync, J: Opening + Send + Sync>(
     rt: &R,
     alloc: Global,
     kernel: Kernel,
@@ -57,9 +58,14 @@ fn is_done_at<J: Opening + Send + Sync, R: Threads + Wait + Sync>(
     requires threads { (2 ≤ threads) × (length kernel.process_table.threads ≡ threads) }
 {
     match Seats::<J>::new(alloc, kernel, Tid(1)) {
-        Ok((seats, mut first)) => {
-            let mut second = seats.split(&mut first, Tid(2)).unwrap();
-            Some(does(rt, alloc, &seats, &mut first, &mut second, threads, deed))
+        Ok((seats, seat)) => {
+            let first = Sitter {
+                rt,
+                alloc,
+                seats: &seats,
+                seat,
+            };
+            Some(does(rt, alloc, first, threads, deed))
         }
         Err(_) => None,
     }
@@ -101,7 +107,7 @@ pub fn is_done<R: Threads + Wait + Sync>(
     match Kernel::new(alloc, &limits) {
         Ok(mut kernel) => {
             if are_added(&mut kernel, limits.len() as u32, threads) {
-                is_done_at::<Brand, R>(rt, alloc, kernel, threads, deed)
+                is_done_at::<R, Brand>(rt, alloc, kernel, threads, deed)
             } else {
                 None
             }
