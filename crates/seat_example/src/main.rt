@@ -72,25 +72,86 @@ fn wait_past<R: Wait>(rt: &R, bell: &AtomicU64, count: u64) {
     unreachable!()
 }
 
-/// A worker sends its events, which carry 0, 1, 2 and so on.
-fn send_all<J: Opening, R: Wait>(
-    rt: &R,
-    seats: &Seats<J>,
-    bell: &AtomicU64,
-    mut seat: Seat<J>,
-    worker: u32,
-)
-    requires own { seat.table ≡ seats.now }
-    requires calls { seat.calls ≡ 0 }
+/// What a thread of the host does.
+trait Work {
+    /// What it comes to.
+    type Output;
+
+    /// That it may begin.
+    ghost ready: { Self → Type 0 };
+
+    fn run(self) -> Self::Output
+        requires { ready self };
+}
+
+/// The loop and both workers at once. Where there is no thread for the first of two, `join` runs it last: so the loop, which waits for the
+/// workers, is the first.
+fn run_all<
+    R: Threads,
+    L: Work<Output = [u64; 2]> + Send + Drop,
+    W: Work<Output = ()> + Send + Drop,
+>(rt: &R, taker: L, first: W, second: W) -> [u64; 2]
+    requires { L.ready taker × W.ready first × W.ready second }
 {
-    for user in 0..EVENTS {
-        let send = Request::Send {
-            port: PORT,
-            events: worker,
-            user,
-        };
-        drop(seats.enter(rt, &mut seat, send));
-        ring(bell);
+    let (counts, _) = join(
+        rt,
+        || -> [u64; 2]
+            requires { L.ready taker }
+        { taker.run() },
+        || -> ()
+            requires { W.ready first × W.ready second }
+        { run_both(rt, first, second) },
+    );
+    counts
+}
+
+/// Both workers at once.
+fn run_both<R: Threads, W: Work<Output = ()> + Send + Drop>(rt: &R, first: W, second: W)
+    requires { W.ready first × W.ready second }
+{
+    join(
+        rt,
+        || -> ()
+            requires { W.ready first }
+        { first.run() },
+        || -> ()
+            requires { W.ready second }
+        { second.run() },
+    );
+}
+
+/// A worker sends its events, which carry 0, 1, 2 and so on.
+#[derive(Drop)]
+struct Worker<'a, R, J: Opening> {
+    rt: &'a R,
+    seats: &'a Seats<J>,
+    bell: &'a AtomicU64,
+    seat: Seat<J>,
+    number: u32,
+}
+
+impl<'a, R: Wait, J: Opening> Work for Worker<'a, R, J> {
+    type Output = ();
+
+    ghost ready = { λ w. (w.seat.table ≡ w.seats.now) × (w.seat.calls ≡ 0) };
+
+    fn run(self) {
+        let Worker {
+            rt,
+            seats,
+            bell,
+            mut seat,
+            number,
+        } = self;
+        for user in 0..EVENTS {
+            let send = Request::Send {
+                port: PORT,
+                events: number,
+                user,
+            };
+            drop(seats.enter(rt, &mut seat, send));
+            ring(bell);
+        }
     }
 }
 
@@ -135,49 +196,39 @@ fn count_in_order(counts: &mut [u64; 2], reply: &Result<SeatReply, NoMemory>) {
     }
 }
 
-/// The loop takes all events, and counts those of each worker that came in their order.
-fn take_all<J: Opening, R: Wait>(
-    rt: &R,
-    seats: &Seats<J>,
-    bell: &AtomicU64,
-    mut seat: Seat<J>,
-) -> [u64; 2]
-    requires own { seat.table ≡ seats.now }
-    requires calls { seat.calls ≤ 1 }
-{
-    let mut counts = [0, 0];
-    for taken in 0..2 * EVENTS {
-        let reply = next(rt, seats, bell, &mut seat, taken);
-        count_in_order(&mut counts, &reply);
-        drop(reply);
+/// The event loop takes all events, and counts those of each worker that came in their order.
+#[derive(Drop)]
+struct EventLoop<'a, R, J: Opening> {
+    rt: &'a R,
+    seats: &'a Seats<J>,
+    bell: &'a AtomicU64,
+    seat: Seat<J>,
+}
+
+impl<'a, R: Wait, J: Opening> Work for EventLoop<'a, R, J> {
+    type Output = [u64; 2];
+
+    ghost ready = { λ e. (e.seat.table ≡ e.seats.now) × (e.seat.calls ≤ 1) };
+
+    fn run(self) -> [u64; 2] {
+        let EventLoop {
+            rt,
+            seats,
+            bell,
+            mut seat,
+        } = self;
+        let mut counts = [0, 0];
+        for taken in 0..2 * EVENTS {
+            let reply = next(rt, seats, bell, &mut seat, taken);
+            count_in_order(&mut counts, &reply);
+            drop(reply);
+        }
+        counts
     }
-    counts
 }
 
-/// Both workers at once.
-fn send_both<J: Opening + Send + Sync, R: Threads + Wait + Sync>(
-    rt: &R,
-    seats: &Seats<J>,
-    bell: &AtomicU64,
-    first: Seat<J>,
-    second: Seat<J>,
-)
-    requires first { (first.table ≡ seats.now) × (first.calls ≡ 0) }
-    requires second { (second.table ≡ seats.now) × (second.calls ≡ 0) }
-{
-    join(
-        rt,
-        || -> ()
-            requires { (first.table ≡ seats.now) × (first.calls ≡ 0) }
-        { send_all(rt, seats, bell, first, 0) },
-        || -> ()
-            requires { (second.table ≡ seats.now) × (second.calls ≡ 0) }
-        { send_all(rt, seats, bell, second, 1) },
-    );
-}
-
-/// The loop and both workers at once: how many events of each worker came in their order.
-fn work<J: Opening + Send + Sync, R: Threads + Wait + Sync>(
+/// How many events of each worker came in their order.
+fn run_seats<R: Threads + Wait + Sync, J: Opening + Send + Sync>(
     rt: &R,
     seats: &Seats<J>,
     taker: Seat<J>,
@@ -188,17 +239,28 @@ fn work<J: Opening + Send + Sync, R: Threads + Wait + Sync>(
     requires first { (first.table ≡ seats.now) × (first.calls ≡ 0) }
     requires second { (second.table ≡ seats.now) × (second.calls ≡ 0) }
 {
-    let bell = AtomicU64::new(0);
-    let (_, counts) = join(
+    let bell = &AtomicU64::new(0);
+    let taker = EventLoop {
         rt,
-        || -> ()
-            requires { (first.table ≡ seats.now) × (first.calls ≡ 0) × (second.table ≡ seats.now) × (second.calls ≡ 0) }
-        { send_both(rt, seats, &bell, first, second) },
-        || -> [u64; 2]
-            requires { (taker.table ≡ seats.now) × (taker.calls ≤ 1) }
-        { take_all(rt, seats, &bell, taker) },
-    );
-    counts
+        seats,
+        bell,
+        seat: taker,
+    };
+    let first = Worker {
+        rt,
+        seats,
+        bell,
+        seat: first,
+        number: 0,
+    };
+    let second = Worker {
+        rt,
+        seats,
+        bell,
+        seat: second,
+        number: 1,
+    };
+    run_all(rt, taker, first, second)
 }
 
 /// The program over a kernel, whose state J names. None where there is no memory for the seats.
@@ -217,7 +279,7 @@ fn run<J: Opening + Send + Sync, R: Threads + Wait + Sync>(
     let first = seats.split(&mut taker, Tid(2)).unwrap();
     let second = seats.split(&mut taker, Tid(3)).unwrap();
     drop(seats.enter(rt, &mut taker, Request::PortCreate));
-    Some(work(rt, &seats, taker, first, second))
+    Some(run_seats(rt, &seats, taker, first, second))
 }
 
 fn print<R: Print>(rt: &R, worker: u32, count: u64) -> io::Result<()> {

@@ -1,5 +1,5 @@
 use Rattle.std.proofs.Common.{◌≡◌, ◌+◌, ◌*◌, ◌≤◌}
-use Rattle.seat_example.proofs.take_all.Given as goal
+use Rattle.seat_example.proofs.EventLoopWork.run.Given as goal
 
 abbrev pub invariant-loop-taken : goal.invariant-loop-taken
 invariant-loop-taken g l = (l.seat.table ≡ l.seats) × (l.seat.calls ≤ 2 * l.taken + 1)
