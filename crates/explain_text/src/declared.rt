@@ -1,8 +1,8 @@
 //! The names that the lines of a text declare.
 
-use crate::form::{Role, role_of_line};
+use crate::form::Role;
 use crate::near::is_near;
-use crate::outline::{Lines, Outline, Place};
+use crate::outline::{Place, Walk};
 use crate::report::Report;
 use crate::words::second_word;
 
@@ -14,106 +14,85 @@ pub(crate) enum Kind {
     /// A thread or a spare.
     Thread,
     Procedure,
+    Nothing,
 }
 
-/// Names that are looked for: those of a kind, of procedures those of the process of a line.
+/// Names that are looked for: those of a kind, of procedures those of the process that begins in a line.
 #[derive(Clone, Copy)]
 pub(crate) struct Scope {
     pub kind: Kind,
     pub process: u64,
 }
 
-/// A name that a line declares.
-#[derive(Clone, Copy)]
-pub(crate) struct Declared<'a> {
-    pub name: &'a [u8],
-    pub line: u64,
-}
-
 /// What a line declares that begins with such a word.
-pub(crate) fn kind_of(role: Role) -> Option<Kind> {
+pub(crate) fn kind_of(role: Role) -> Kind {
     match role {
-        Role::Process | Role::Child => Some(Kind::Process),
-        Role::Thread | Role::Spare => Some(Kind::Thread),
-        Role::Proc => Some(Kind::Procedure),
-        _ => None,
+        Role::Process | Role::Child => Kind::Process,
+        Role::Thread | Role::Spare => Kind::Thread,
+        Role::Proc => Kind::Procedure,
+        _ => Kind::Nothing,
     }
 }
 
-/// Whether a line declares a name of a scope, where these stand before it.
-fn declares(scope: Scope, outline: &Outline<'_>, line: &[u8]) -> bool {
-    match (outline.place, kind_of(role_of_line(line))) {
-        (Place::Body, _) | (_, None) => false,
-        (_, Some(Kind::Procedure)) => {
-            scope.kind == Kind::Procedure && scope.process == outline.process.line
-        }
-        (_, Some(kind)) => scope.kind == kind,
-    }
-}
-
-/// The declarations of a scope in a text.
-#[derive(Clone, Copy)]
-struct Declarations<'a> {
-    scope: Scope,
-    lines: Lines<'a>,
-    outline: Outline<'a>,
-}
-
-impl<'a> Declarations<'a> {
-    fn new(text: &'a [u8], scope: Scope) -> Self {
-        Declarations {
-            scope,
-            lines: Lines::new(text),
-            outline: Outline::new(),
+impl Scope {
+    /// Whether a line declares a name of it.
+    fn has(&self, walk: &Walk<'_>) -> bool {
+        match walk.outline.place {
+            Place::Body => false,
+            _ if kind_of(walk.role) != self.kind => false,
+            _ => self.kind != Kind::Procedure || walk.outline.process == self.process,
         }
     }
-
-    fn next(&mut self) -> Option<Declared<'a>> {
-        for _ in 0..self.lines.rest.len() {
-            let Some((number, line)) = self.lines.next() else {
-                break;
-            };
-            let is_found = declares(self.scope, &self.outline, line);
-            self.outline.add(number, line);
-            if is_found {
-                return Some(Declared {
-                    name: second_word(line),
-                    line: number,
-                });
-            }
-        }
-        None
-    }
 }
 
-/// The first declaration of a name, or of one that is nearly this one.
-pub(crate) fn declaration_of<'a>(
-    text: &'a [u8],
-    scope: Scope,
-    name: &[u8],
-    may_differ: bool,
-) -> Option<Declared<'a>> {
-    let mut declarations = Declarations::new(text, scope);
+/// The line of the first declaration of a name, or of one that is nearly this one; 0 where there is none.
+pub(crate) fn declaration_of(text: &[u8], scope: Scope, name: &[u8], may_differ: bool) -> u64 {
+    let mut walk = Walk::new(text);
     for _ in 0..text.len() {
-        match declarations.next() {
-            Some(declared) if declared.name == name => return Some(declared),
-            Some(declared) if may_differ && is_near(declared.name, name) => return Some(declared),
-            Some(_) => {}
-            None => break,
+        if !walk.next() {
+            break;
+        }
+        if scope.has(&walk) && is_meant(second_word(walk.line), name, may_differ) {
+            return walk.number;
         }
     }
-    None
+    0
 }
 
-/// Adds the declared names, at most 16 of them, each after a space.
-pub(crate) fn push_names(report: &mut Report, text: &[u8], scope: Scope) {
-    let mut declarations = Declarations::new(text, scope);
-    for count in 0..17 {
-        match declarations.next() {
-            Some(_) if count == 16 => report.say(" .."),
-            Some(declared) => report.tell(" @", declared.name, 0),
-            None if count == 0 => report.say(" none"),
-            None => return,
+/// Whether a name is this one, or may differ and is nearly this one.
+fn is_meant(declared: &[u8], name: &[u8], may_differ: bool) -> bool {
+    declared == name || (may_differ && is_near(declared, name))
+}
+
+/// The name that a line declares, after so many others.
+fn push_name(report: &mut Report, count: u64, line: &[u8]) {
+    match count {
+        16 => report.say(" .."),
+        _ => report.tell(" @", second_word(line), 0),
+    }
+}
+
+/// Adds the declared names, at most 16 of them, each after a space, and says how many.
+fn push_names(report: &mut Report, text: &[u8], scope: Scope) -> u64 {
+    let mut walk = Walk::new(text);
+    let mut count: u64 = 0;
+    for _ in 0..text.len() {
+        if count > 16 || !walk.next() {
+            break;
         }
+        if scope.has(&walk) {
+            push_name(report, count, walk.line);
+            count = count.saturating_add(1);
+        }
+    }
+    count
+}
+
+/// A line of the declared names.
+pub(crate) fn tell_names(report: &mut Report, text: &[u8], scope: Scope) {
+    report.say("    declared:");
+    match push_names(report, text, scope) {
+        0 => report.say(" none\n"),
+        _ => report.end(),
     }
 }

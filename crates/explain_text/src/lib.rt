@@ -13,6 +13,7 @@ pub mod outline;
 mod place_told;
 pub mod recording;
 pub mod report;
+mod rule;
 mod slip;
 mod stage;
 pub mod warnings;

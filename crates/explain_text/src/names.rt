@@ -17,8 +17,13 @@ impl<'a> Names<'a> {
         }
     }
 
+    /// No name again.
+    pub(crate) fn clear(&mut self) {
+        self.names.clear();
+    }
+
     pub fn has(&self, name: &[u8]) -> bool {
-        for other in &self.names {
+        for other in self.names.as_slice() {
             if *other == name {
                 return true;
             }
@@ -28,7 +33,7 @@ impl<'a> Names<'a> {
 
     /// The first that is nearly this one.
     pub fn near(&self, name: &[u8]) -> Option<&'a [u8]> {
-        for other in &self.names {
+        for other in self.names.as_slice() {
             if is_near(other, name) {
                 return Some(*other);
             }

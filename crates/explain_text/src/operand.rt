@@ -1,5 +1,6 @@
 //! The operands of lines: what stands in the form of a command, and which words each takes.
 
+use crate::outline::line_at;
 use crate::report::Report;
 use dk_base::limits::{ADVANCE_MAX, BUDGET_MAX, DATA_MAX, DELAY_MAX, DESCRIPTORS_MAX, TIMERS_MAX};
 use script_line::enumerated::{cond_of, mode_of, op_of, param_of};
@@ -11,8 +12,8 @@ use script_text::parts::{part_before_last, parts_at};
 use script_text::string::string_of;
 use std::alloc::Global;
 
-/// What is wanted at a place of a line.
-#[derive(Clone, Copy)]
+/// What is wanted at a place of a line. `TOLD` has a line for each, in this order.
+#[derive(Clone, Copy, PartialEq, Eq)]
 pub(crate) enum Operand {
     Var,
     Proc,
@@ -68,57 +69,85 @@ pub(crate) enum Operand {
 }
 
 /// A word that stands between operands, or in place of one.
-#[derive(Clone, Copy)]
-pub(crate) enum Mark {
-    Plus,
-    Desc,
-    Rsize,
-    Limit,
-    NoWait,
-    Of,
-    Max,
-    Query,
-    Other,
+struct Mark {
+    text: &'static str,
+    /// The operand in whose place it may stand.
+    wanted: Operand,
+    /// What is wanted after it, where the line has no other operand in any case.
+    next: Operand,
 }
 
-static MARKS: [(&str, Mark); 8] = [
-    ("+", Mark::Plus),
-    ("desc", Mark::Desc),
-    ("rsize", Mark::Rsize),
-    ("limit", Mark::Limit),
-    ("nowait", Mark::NoWait),
-    ("of", Mark::Of),
-    ("max", Mark::Max),
-    ("query", Mark::Query),
+static MARKS: [Mark; 12] = [
+    Mark {
+        text: "+",
+        wanted: Operand::AfterData,
+        next: Operand::Piece,
+    },
+    Mark {
+        text: "+",
+        wanted: Operand::AfterReturned,
+        next: Operand::Piece,
+    },
+    Mark {
+        text: "+",
+        wanted: Operand::AfterCalled,
+        next: Operand::Piece,
+    },
+    Mark {
+        text: "desc",
+        wanted: Operand::AfterReturned,
+        next: Operand::Pass,
+    },
+    Mark {
+        text: "desc",
+        wanted: Operand::AfterCalled,
+        next: Operand::Pass,
+    },
+    Mark {
+        text: "rsize",
+        wanted: Operand::AfterCalled,
+        next: Operand::Rsize,
+    },
+    Mark {
+        text: "rsize",
+        wanted: Operand::PassOrRsize,
+        next: Operand::Rsize,
+    },
+    Mark {
+        text: "limit",
+        wanted: Operand::LimitWord,
+        next: Operand::Limit,
+    },
+    Mark {
+        text: "nowait",
+        wanted: Operand::NoWait,
+        next: Operand::End,
+    },
+    Mark {
+        text: "of",
+        wanted: Operand::Of,
+        next: Operand::End,
+    },
+    Mark {
+        text: "max",
+        wanted: Operand::Value,
+        next: Operand::End,
+    },
+    Mark {
+        text: "query",
+        wanted: Operand::Door,
+        next: Operand::End,
+    },
 ];
 
-pub(crate) fn mark_of(word: &[u8]) -> Mark {
+/// What is wanted after a word that is no operand, if it may stand where this one is wanted.
+pub(crate) fn after_mark(operand: Operand, word: &[u8]) -> Option<Operand> {
     for mark in &MARKS {
-        if mark.0.as_bytes() == word {
-            return mark.1;
+        if mark.wanted == operand && mark.text.as_bytes() == word {
+            return Some(mark.next);
         }
     }
-    Mark::Other
-}
-
-/// Whether a mark may stand where this operand is wanted.
-pub(crate) fn fits(operand: Operand, mark: Mark) -> bool {
-    match mark {
-        Mark::Plus => {
-            matches!(
-                operand,
-                Operand::AfterData | Operand::AfterReturned | Operand::AfterCalled
-            )
-        }
-        Mark::Desc => matches!(operand, Operand::AfterReturned | Operand::AfterCalled),
-        Mark::Rsize => matches!(operand, Operand::AfterCalled | Operand::PassOrRsize),
-        Mark::Limit => matches!(operand, Operand::LimitWord),
-        Mark::NoWait => matches!(operand, Operand::NoWait),
-        Mark::Of => matches!(operand, Operand::Of),
-        Mark::Max => matches!(operand, Operand::Value),
-        Mark::Query => matches!(operand, Operand::Door),
-        Mark::Other => false,
-    }
+    None
 }
 
 /// The least and the greatest of a number.
@@ -176,13 +205,13 @@ fn fault_of_string(alloc: Global, report: &mut Report, word: &[u8]) -> Option<Re
 
 /// What is wrong with a word as a piece of data.
 fn fault_of_piece(alloc: Global, report: &mut Report, word: &[u8]) -> Option<Reason> {
-    match word.split_first() {
-        Some((b'"', _)) => fault_of_string(alloc, report, word),
-        Some((b'$', variable)) => form_unless(is_name(variable)),
-        _ => match word.strip_prefix(b"fill:") {
-            Some(count) => fault_of_number(count, 0, 8192),
-            None => Some(Reason::Form),
-        },
+    if let Some(count) = word.strip_prefix(b"fill:") {
+        return fault_of_number(count, 0, 8192);
+    }
+    match word {
+        [b'"', ..] => fault_of_string(alloc, report, word),
+        [b'$', variable @ ..] => form_unless(is_name(variable)),
+        _ => Some(Reason::Form),
     }
 }
 
@@ -214,14 +243,23 @@ fn is_one_of(operand: Operand, word: &[u8]) -> bool {
     }
 }
 
-/// What is wrong with a word where this operand is wanted.
-pub(crate) fn fault_of(
+/// Whether this is wrong with a word where this operand is wanted.
+pub(crate) fn is_fault(
     alloc: Global,
     report: &mut Report,
     operand: Operand,
     word: &[u8],
-) -> Option<Reason> {
-    if fits(operand, mark_of(word)) {
+    reason: Reason,
+) -> bool {
+    match fault_of(alloc, report, operand, word) {
+        Some(fault) => fault == reason,
+        None => false,
+    }
+}
+
+/// What is wrong with a word where this operand is wanted.
+fn fault_of(alloc: Global, report: &mut Report, operand: Operand, word: &[u8]) -> Option<Reason> {
+    if after_mark(operand, word).is_some() {
         return None;
     }
     if let Some((low, high)) = range_of(operand) {
@@ -239,41 +277,6 @@ pub(crate) fn fault_of(
     }
 }
 
-/// As the forms name it.
-pub(crate) fn name_of(operand: Operand) -> &'static str {
-    match operand {
-        Operand::Var => "VAR",
-        Operand::Proc => "PROC",
-        Operand::Path => "PATH",
-        Operand::Thread => "THREAD",
-        Operand::Process => "PROCESS",
-        Operand::Child => "CHILD",
-        Operand::Parent => "PARENT",
-        Operand::Name => "NAME",
-        Operand::Fd | Operand::Door => "FD",
-        Operand::Pass | Operand::NextPass | Operand::PassOrRsize => "PASS",
-        Operand::Piece => "DATA",
-        Operand::Attr => "ATTR",
-        Operand::Param => "PARAM",
-        Operand::Poll => "POLL",
-        Operand::Mode => "MODE",
-        Operand::Op => "OP",
-        Operand::Cond => "COND",
-        Operand::Cookie => "COOKIE",
-        Operand::User => "USER",
-        Operand::Ev => "EV",
-        Operand::Max => "MAX",
-        Operand::NGet => "NGET",
-        Operand::Id => "ID",
-        Operand::First => "FIRST",
-        Operand::Interval => "INTERVAL",
-        Operand::Of => "word 'of'",
-        Operand::NoWait => "nowait",
-        Operand::LimitWord => "limit",
-        _ => "N",
-    }
-}
-
 /// Whether no word may stand there but certain ones, or none.
 pub(crate) fn is_end(operand: Operand) -> bool {
     matches!(
@@ -287,32 +290,66 @@ pub(crate) fn is_end(operand: Operand) -> bool {
     )
 }
 
-/// Which words it is, where that is no range.
-pub(crate) fn meaning_of(operand: Operand) -> &'static str {
-    match operand {
-        Operand::Fd => "FD is a number from 0 to 255, $VAR, or $VAR.K with K from 0 to 15",
-        Operand::Door =>
-            "FD is a number from 0 to 255, $VAR, or $VAR.K with K from 0 to 15; or 'query' stands there",
-        Operand::Pass | Operand::NextPass | Operand::PassOrRsize =>
-            "PASS is an FD, a number from 0 to 255, $VAR or $VAR.K, which may end with !",
-        Operand::Piece =>
-            "DATA is strings in quotes, $VAR, and fill:N with N from 0 to 8192, with ' + ' between them",
-        Operand::Attr =>
-            "ATTR is unref, private, local, revoked, unref-multi, is-unref, refuse-desc or no-cancel, each at most once",
-        Operand::Param => "PARAM is data-max, data-min or desc-max",
-        Operand::Value => "N is a number from 0 to 18446744073709551615, or max",
-        Operand::Poll =>
-            "POLL is none, or some of in, out, err, hup in this order, joined by + without spaces",
-        Operand::Mode => "MODE is set, update or none",
-        Operand::Op => "OP is upper, reverse, sum or digest",
-        Operand::Cond =>
-            "COND is ok, yes, unref, or an error by its name: E2BIG EAGAIN EBADF EBADFD EBUSY EINTR EINVAL EMFILE ENFILE ENOBUFS ENOENT ENOTSUP EPERM EPIPE ETIME",
-        Operand::AfterData => "after a piece of DATA stands ' + ' and another, or nothing",
-        Operand::AfterReturned =>
-            "after a piece of DATA stands ' + ' and another, or 'desc', or nothing",
-        Operand::AfterCalled =>
-            "after a piece of DATA stands ' + ' and another, 'desc', 'rsize', or nothing",
-        Operand::Of | Operand::NoWait | Operand::LimitWord | Operand::End => "",
-        _ => "a name is 1 to 16 bytes: a letter a to z, then letters a to z, digits or _",
+/// A line for each operand, in their order: as the forms name it, and after `|` which words it is, where that is no range.
+static TOLD: &str = "\
+VAR|a name is 1 to 16 bytes: a letter a to z, then letters a to z, digits or _
+PROC|a name is 1 to 16 bytes: a letter a to z, then letters a to z, digits or _
+PATH|a name is 1 to 16 bytes: a letter a to z, then letters a to z, digits or _
+THREAD|a name is 1 to 16 bytes: a letter a to z, then letters a to z, digits or _
+PROCESS|a name is 1 to 16 bytes: a letter a to z, then letters a to z, digits or _
+CHILD|a name is 1 to 16 bytes: a letter a to z, then letters a to z, digits or _
+PARENT|a name is 1 to 16 bytes: a letter a to z, then letters a to z, digits or _
+NAME|a name is 1 to 16 bytes: a letter a to z, then letters a to z, digits or _
+FD|FD is a number from 0 to 255, $VAR, or $VAR.K with K from 0 to 15
+FD|FD is a number from 0 to 255, $VAR, or $VAR.K with K from 0 to 15; or 'query' stands there
+PASS|PASS is an FD, a number from 0 to 255, $VAR or $VAR.K, which may end with !
+PASS|PASS is an FD, a number from 0 to 255, $VAR or $VAR.K, which may end with !
+PASS|PASS is an FD, a number from 0 to 255, $VAR or $VAR.K, which may end with !
+DATA|DATA is strings in quotes, $VAR, and fill:N with N from 0 to 8192, with ' + ' between them
+ATTR|ATTR is unref, private, local, revoked, unref-multi, is-unref, refuse-desc or no-cancel, each at most once
+PARAM|PARAM is data-max, data-min or desc-max
+N|N is a number from 0 to 18446744073709551615, or max
+POLL|POLL is none, or some of in, out, err, hup in this order, joined by + without spaces
+MODE|MODE is set, update or none
+OP|OP is upper, reverse, sum or digest
+COND|COND is ok, yes, unref, or an error by its name: E2BIG EAGAIN EBADF EBADFD EBUSY EINTR EINVAL EMFILE ENFILE ENOBUFS ENOENT ENOTSUP EPERM EPIPE ETIME
+COOKIE|
+USER|
+EV|
+N|
+N|
+N|
+N|
+MAX|
+NGET|
+ID|
+FIRST|
+INTERVAL|
+N|
+N|
+word 'of'|
+nowait|
+limit|
+N|after a piece of DATA stands ' + ' and another, or nothing
+N|after a piece of DATA stands ' + ' and another, or 'desc', or nothing
+N|after a piece of DATA stands ' + ' and another, 'desc', 'rsize', or nothing
+N|
+";
+
+/// What is said of an operand.
+#[derive(Clone, Copy)]
+pub(crate) struct Told {
+    pub name: &'static [u8],
+    pub meaning: &'static [u8],
+}
+
+pub(crate) fn told_of(operand: Operand) -> Told {
+    let line = line_at(TOLD.as_bytes(), operand as u64 + 1);
+    match parts_at(b'|', line) {
+        Some((name, meaning)) => Told { name, meaning },
+        None => Told {
+            name: line,
+            meaning: &[],
+        },
     }
 }

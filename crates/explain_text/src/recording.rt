@@ -10,36 +10,36 @@ use std::alloc::Global;
 /// As many bytes are kept at most, of the input and of the output.
 const KEPT_MAX: usize = 16_777_216;
 
-/// The bytes so far; none once they were too many, or memory ran out for them.
+/// The bytes so far. No more are added once they were too many, or memory ran out for them.
 #[derive(Drop)]
 struct Record {
-    bytes: Option<Bytes>,
+    bytes: Bytes,
+    is_lost: bool,
 }
 
 impl Record {
     fn new(alloc: Global) -> Self {
         Record {
-            bytes: Some(Bytes::new(alloc)),
+            bytes: Bytes::new(alloc),
+            is_lost: false,
         }
     }
 
+    /// All the bytes, unless some were lost.
     fn slice(&self) -> Option<&[u8]> {
-        match &self.bytes {
-            Some(bytes) => Some(bytes.slice()),
-            None => None,
+        if self.is_lost {
+            None
+        } else {
+            Some(self.bytes.slice())
         }
     }
 
     /// Keeps the first `count` of these bytes, too, or nothing any more.
     fn keep(&mut self, piece: &[u8], count: usize) {
-        let Some(bytes) = &mut self.bytes else {
-            return;
-        };
         let (taken, _) = piece.split_at(count.min(piece.len()));
-        if taken.len() > KEPT_MAX || bytes.len() > KEPT_MAX - taken.len() {
-            self.bytes = None;
-        } else if bytes.append(taken).is_err() {
-            self.bytes = None;
+        let room = KEPT_MAX.saturating_sub(self.bytes.len());
+        if self.is_lost || taken.len() > room || self.bytes.append(taken).is_err() {
+            self.is_lost = true;
         }
     }
 }

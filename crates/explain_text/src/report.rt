@@ -74,10 +74,11 @@ impl Report {
 
     /// Bytes of a text; those that are not printable are shown as `\xHH`, and of many the first alone.
     pub fn word(&mut self, bytes: &[u8]) {
-        for byte in bytes.iter().take(SHOWN_MAX) {
+        let (shown, more) = bytes.split_at(bytes.len().min(SHOWN_MAX));
+        for byte in shown {
             self.shown(*byte);
         }
-        if bytes.len() > SHOWN_MAX {
+        if !more.is_empty() {
             self.say(" ..");
         }
     }
@@ -145,9 +146,7 @@ impl Report {
     /// An indented line of these words, which are no template; none where there are no words.
     pub fn advise(&mut self, words: &str) {
         if !words.is_empty() {
-            self.say("    ");
-            self.say(words);
-            self.end();
+            self.note("@", words.as_bytes(), 0);
         }
     }
 

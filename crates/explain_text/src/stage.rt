@@ -1,29 +1,18 @@
 //! Which operand is wanted next in a line, word by word.
 
 use crate::form::Form;
-use crate::operand::{Mark, Operand, fault_of, fits, mark_of};
+use crate::operand::{Operand, after_mark, is_fault};
 use crate::report::{Report, Span};
-use crate::words::Words;
+use crate::words::{Found, Words};
 use script_line::reason::Reason;
 use std::alloc::Global;
 
-/// The operand that the line has in any case at a place, from 0.
-fn fixed(form: &Form, place: usize) -> Option<Operand> {
-    match form.operands.get(place) {
-        None | Some(Operand::End) => None,
-        Some(operand) => Some(*operand),
-    }
-}
-
-/// What is wanted after a word that is no operand.
-fn after_mark(mark: Mark, tail: Operand) -> Operand {
-    match mark {
-        Mark::Plus => Operand::Piece,
-        Mark::Desc => Operand::Pass,
-        Mark::Rsize => Operand::Rsize,
-        Mark::Limit => Operand::Limit,
-        Mark::NoWait => Operand::End,
-        _ => tail,
+/// The operand that the line has in any case at a place, from 0, or `End`.
+fn fixed(form: &Form, place: usize) -> Operand {
+    if place < form.operands.len() {
+        form.operands[place]
+    } else {
+        Operand::End
     }
 }
 
@@ -39,37 +28,41 @@ fn after_operand(operand: Operand, tail: Operand) -> Operand {
 
 /// The operand that is wanted at a place: `before` was wanted at the place before it, where this word stands.
 fn wanted(form: &Form, place: usize, before: Operand, word: &[u8]) -> Operand {
-    let mark = mark_of(word);
     match fixed(form, place) {
-        Some(operand) => operand,
-        None if fits(before, mark) => after_mark(mark, form.tail),
-        None => after_operand(before, form.tail),
+        Operand::End => match after_mark(before, word) {
+            Some(next) => next,
+            None => after_operand(before, form.tail),
+        },
+        operand => operand,
     }
 }
 
-/// What is wrong in a line: the word that stands there, if one does, and what is wanted there.
+/// What is wrong in a line: the word that stands there, which has no bytes where one is missing, and what is wanted there.
 #[derive(Clone, Copy)]
 pub(crate) struct Wrong<'a> {
-    pub word: Option<&'a [u8]>,
+    pub word: &'a [u8],
     pub span: Span,
     pub operand: Operand,
 }
 
-/// What is missing at the end of a line, where this operand of this place is wanted.
-fn missing<'a>(form: &Form, place: usize, operand: Operand, line: &'a [u8]) -> Option<Wrong<'a>> {
+/// Whether an operand of this place must not be missing.
+fn must_stand(form: &Form, place: usize, operand: Operand) -> bool {
     match operand {
-        Operand::Piece | Operand::Pass | Operand::Rsize | Operand::Limit => {}
-        _ if fixed(form, place).is_some() => {}
-        _ => return None,
+        Operand::Piece | Operand::Pass | Operand::Rsize | Operand::Limit => true,
+        _ => fixed(form, place) != Operand::End,
     }
-    Some(Wrong {
-        word: None,
+}
+
+/// What is missing at the end of a line.
+fn missing(operand: Operand, line: &[u8]) -> Wrong<'_> {
+    Wrong {
+        word: &[],
         span: Span {
             start: line.len(),
             end: line.len().saturating_add(1),
         },
         operand,
-    })
+    }
 }
 
 /// The first word of a line that is wrong for this reason, or what is missing at its end.
@@ -84,19 +77,17 @@ pub(crate) fn wrong_in<'a>(
     let _head = words.next();
     let mut operand = wanted(form, 0, form.tail, &[]);
     for place in 0..line.len() {
-        let Some(found) = words.next() else {
-            return missing(form, place, operand, line);
+        let Some(Found { word, span }) = words.next() else {
+            return must_stand(form, place, operand).then_some(missing(operand, line));
         };
-        match fault_of(alloc, report, operand, found.word) {
-            Some(fault) if fault == reason => {
-                return Some(Wrong {
-                    word: Some(found.word),
-                    span: found.span,
-                    operand,
-                });
-            }
-            _ => operand = wanted(form, place.saturating_add(1), operand, found.word),
+        if is_fault(alloc, report, operand, word, reason) {
+            return Some(Wrong {
+                word,
+                span,
+                operand,
+            });
         }
+        operand = wanted(form, place.saturating_add(1), operand, word);
     }
     None
 }

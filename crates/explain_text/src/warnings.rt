@@ -1,54 +1,41 @@
 //! Warnings on scripts: variables that nothing sets, and lines that are never reached.
 
-use crate::form::{Role, form_of_line, role_of, role_of_line};
+use crate::form::{Form, Role, form_of_line};
 use crate::names::Names;
-use crate::outline::{Lines, Outline, Place};
+use crate::operand::Operand;
+use crate::outline::{Lines, Place, Walk};
 use crate::report::{Report, Span};
-use crate::words::{Words, first_word};
+use crate::words::{Found, Words, first_word, word_or_none};
 use script_text::parts::{part_before_last, parts_at};
 use std::alloc::Global;
 
 /// As many warnings are written at most.
 const WARNINGS_MAX: u64 = 12;
 
-/// The variable that a word reads.
-fn variable_read(word: &[u8]) -> Option<&[u8]> {
-    let Some(name) = word.strip_prefix(b"$") else {
-        return None;
-    };
-    let name = part_before_last(b'!', name).unwrap_or(name);
+/// A name without the number of an item after it.
+fn without_item(name: &[u8]) -> &[u8] {
     match parts_at(b'.', name) {
-        Some((name, _)) => Some(name),
-        None => Some(name),
+        Some((name, _)) => name,
+        None => name,
     }
 }
 
-/// A line of a body after which no other is reached.
-#[derive(Clone, Copy)]
-struct Last<'a> {
-    word: &'a [u8],
-    line: u64,
-}
-
-/// What is known of the body that is read.
-#[derive(Drop)]
-struct Bodies<'a> {
-    alloc: Global,
-    /// Whether some thread may be bound to a door, whose `serve` may then end.
-    binds: bool,
-    names: Names<'a>,
-    last: Option<Last<'a>>,
-    count: u64,
+/// The variable that a word reads.
+fn variable_read(word: &[u8]) -> Option<&[u8]> {
+    match word.strip_prefix(b"$") {
+        Some(name) => Some(without_item(part_before_last(b'!', name).unwrap_or(name))),
+        None => None,
+    }
 }
 
 /// Whether a line of the text begins with `bind`.
 fn has_bind(text: &[u8]) -> bool {
-    let mut lines = Lines::new(text);
+    let mut walk = Walk::new(text);
     for _ in 0..text.len() {
-        let Some((_, line)) = lines.next() else {
+        if !walk.next() {
             break;
-        };
-        if let Role::Bind = role_of_line(line) {
+        }
+        if let Role::Bind = walk.role {
             return true;
         }
     }
@@ -64,177 +51,185 @@ fn depth_after(depth: u64, role: Role) -> u64 {
     }
 }
 
-impl<'a> Bodies<'a> {
+/// Adds a variable that is set.
+fn add_name<'a>(report: &mut Report, names: &mut Names<'a>, name: &'a [u8]) {
+    if names.add(name).is_err() {
+        report.lose();
+    }
+}
+
+/// Adds the variables that a line of this form sets.
+fn add_set<'a>(report: &mut Report, names: &mut Names<'a>, line: &'a [u8], form: &Form) {
+    if let Operand::Var = form.operands[0] {
+        add_name(report, names, word_or_none(line, 1));
+    }
+    if let Operand::Var = form.operands[1] {
+        add_name(report, names, word_or_none(line, 2));
+    }
+}
+
+/// Adds the variables that the lines of a body set, whose first line is the next of these.
+fn add_body<'a>(report: &mut Report, names: &mut Names<'a>, lines: Lines<'a>) {
+    let mut lines = lines;
+    let mut depth = 1;
+    for _ in 0..u64::MAX {
+        let Some((_, line)) = lines.next() else {
+            break;
+        };
+        if let Some(form) = form_of_line(line) {
+            add_set(report, names, line, form);
+            depth = depth_after(depth, form.role);
+        }
+        if depth == 0 {
+            break;
+        }
+    }
+}
+
+/// The variables of the body that begins after this line. A procedure has some that its call sets.
+fn begin<'a>(report: &mut Report, names: &mut Names<'a>, walk: &Walk<'a>) {
+    names.clear();
+    if let Role::Proc = walk.role {
+        add_name(report, names, b"arg");
+        add_name(report, names, b"cookie");
+    }
+    add_body(report, names, walk.lines);
+}
+
+/// What is known of the lines of the body that is read, and how many warnings there were.
+#[derive(Clone, Copy)]
+struct Progress {
+    /// Whether some thread may be bound to a door, whose `serve` may then end.
+    binds: bool,
+    /// The line of the body after which no other is reached, 0 where there is none.
+    last: u64,
+    /// Whether that is a `serve`, and else an `exit`.
+    is_serve: bool,
+    warnings: u64,
+}
+
+impl Progress {
     /// Whether one more warning is written, which is then counted.
     fn takes_warning(&mut self) -> bool {
-        let takes = self.count < WARNINGS_MAX;
-        self.count = self.count.saturating_add(1);
+        let takes = self.warnings < WARNINGS_MAX;
+        self.warnings = self.warnings.saturating_add(1);
         takes
     }
 
-    /// Adds a variable that is set.
-    fn add_name(&mut self, report: &mut Report, name: &'a [u8]) {
-        if self.names.add(name).is_err() {
-            report.lose();
-        }
-    }
-
-    /// Adds as many variables as a line sets.
-    fn add_set(&mut self, report: &mut Report, line: &'a [u8], count: usize) {
-        let mut words = Words::new(line);
-        let _command = words.next();
-        for _ in 0..count {
-            if let Some(variable) = words.next() {
-                self.add_name(report, variable.word);
-            }
-        }
-    }
-
-    /// Adds the variables that the lines of a body set, whose text this is.
-    fn add_body(&mut self, report: &mut Report, text: &'a [u8]) {
-        let mut depth = 1;
-        let mut lines = Lines::new(text);
-        for _ in 0..text.len() {
-            let Some((_, line)) = lines.next() else {
-                break;
-            };
-            if let Some(form) = form_of_line(line) {
-                self.add_set(report, line, form.sets);
-                depth = depth_after(depth, form.role);
-            }
-            if depth == 0 {
-                break;
-            }
-        }
-    }
-
-    /// A body begins after a line that begins with such a word, with this text. A procedure has variables that its call sets.
-    fn begin(&mut self, report: &mut Report, role: Role, text: &'a [u8]) {
-        self.last = None;
-        self.names = Names::new(self.alloc);
-        if let Role::Proc = role {
-            self.add_name(report, b"arg");
-            self.add_name(report, b"cookie");
-        }
-        self.add_body(report, text);
-    }
-
-    /// Warns of a variable that nothing sets, once in a body.
-    fn warn_unset(
-        &mut self,
-        report: &mut Report,
-        number: u64,
-        line: &[u8],
-        span: Span,
-        name: &'a [u8],
-    ) {
-        if self.names.has(name) || !self.takes_warning() {
-            return;
-        }
-        report.warning(number, "no line of this body sets ~", name, 0);
-        report.show(line, span);
-        if let Some(near) = self.names.near(name) {
-            report.note("did you mean '$@'?", near, 0);
-        }
-        self.add_name(report, name);
-    }
-
-    /// Warns of each variable of a line that nothing sets.
-    fn warn_read(&mut self, report: &mut Report, number: u64, line: &'a [u8]) {
-        let mut words = Words::new(line);
-        for _ in 0..line.len() {
-            let Some(found) = words.next() else {
-                break;
-            };
-            if let Some(name) = variable_read(found.word) {
-                self.warn_unset(report, number, line, found.span, name);
-            }
-        }
+    /// Whether a warning is written of a variable that is read.
+    fn warns_of(&mut self, names: &Names<'_>, name: &[u8]) -> bool {
+        !names.has(name) && self.takes_warning()
     }
 
     /// Warns of the first line after one after which no other is reached.
     fn warn_unreached(&mut self, report: &mut Report, number: u64, line: &[u8]) {
-        let Some(last) = self.last else {
-            return;
-        };
-        self.last = None;
-        if !self.takes_warning() {
+        let last = self.last;
+        self.last = 0;
+        if last == 0 || !self.takes_warning() {
             return;
         }
-        report.warning(
-            number,
-            "this line is never reached: ~ stands in line #",
-            last.word,
-            last.line,
-        );
+        let word = if self.is_serve { "serve" } else { "exit" };
+        let words = "this line is never reached: ~ stands in line #";
+        report.warning(number, words, word.as_bytes(), last);
         report.note("@", line, 0);
-        if last.word == b"serve".as_slice() {
+        if self.is_serve {
             report.advise("a thread that serves runs procedures, and not the lines after 'serve'");
         }
     }
 
-    /// Whether no line is reached after one that begins with such a word.
-    fn is_last(&self, role: Role) -> bool {
+    /// After a line of the body in no block of it, which may be its last.
+    fn add_last(&mut self, number: u64, role: Role) {
+        self.is_serve = matches!(role, Role::Serve);
         match role {
-            Role::Serve => !self.binds,
-            Role::Exit => true,
-            _ => false,
+            Role::Serve if !self.binds => self.last = number,
+            Role::Exit => self.last = number,
+            _ => {}
         }
     }
 
-    /// A line of a body, in which so many blocks are open.
-    fn add(&mut self, report: &mut Report, number: u64, line: &'a [u8], depth: u64) {
-        let Some(found) = first_word(line) else {
-            return;
+    /// A line of a body, but for what it reads.
+    fn add(&mut self, report: &mut Report, walk: &Walk<'_>) {
+        if !matches!(walk.role, Role::End) {
+            self.warn_unreached(report, walk.number, walk.line);
+        }
+        if walk.outline.depth == 0 {
+            self.add_last(walk.number, walk.role);
+        }
+    }
+}
+
+/// Warns of a variable that nothing sets, once in a body.
+fn warn_unset<'a>(
+    report: &mut Report,
+    names: &mut Names<'a>,
+    walk: &Walk<'_>,
+    span: Span,
+    name: &'a [u8],
+) {
+    report.warning(walk.number, "no line of this body sets ~", name, 0);
+    report.show(walk.line, span);
+    if let Some(near) = names.near(name) {
+        report.note("did you mean '$@'?", near, 0);
+    }
+    add_name(report, names, name);
+}
+
+/// Warns of each variable of a line that nothing sets.
+fn warn_read<'a>(
+    report: &mut Report,
+    progress: &mut Progress,
+    names: &mut Names<'a>,
+    walk: &Walk<'a>,
+) {
+    let mut words = Words::new(walk.line);
+    for _ in 0..walk.line.len() {
+        let Some(Found { word, span }) = words.next() else {
+            break;
         };
-        let role = role_of(found.word);
-        if !matches!(role, Role::End) {
-            self.warn_unreached(report, number, line);
-        }
-        if depth == 0 && self.is_last(role) {
-            self.last = Some(Last {
-                word: found.word,
-                line: number,
-            });
-        }
-        self.warn_read(report, number, line);
-    }
-
-    /// A line of the script, with what is open before it and the text after it.
-    fn add_line(
-        &mut self,
-        report: &mut Report,
-        outline: &Outline<'a>,
-        number: u64,
-        line: &'a [u8],
-        rest: &'a [u8],
-    ) {
-        if let Place::Body = outline.place {
-            return self.add(report, number, line, outline.depth);
-        }
-        match role_of_line(line) {
-            role @ (Role::Thread | Role::Proc) => self.begin(report, role, rest),
+        match variable_read(word) {
+            Some(name) if progress.warns_of(names, name) => {
+                warn_unset(report, names, walk, span, name);
+            }
             _ => {}
         }
     }
 }
 
+/// A line of the script.
+fn warn_line<'a>(
+    report: &mut Report,
+    progress: &mut Progress,
+    names: &mut Names<'a>,
+    walk: &Walk<'a>,
+) {
+    match walk.outline.place {
+        Place::Body if first_word(walk.line).is_none() => {}
+        Place::Body => {
+            progress.add(report, walk);
+            warn_read(report, progress, names, walk);
+        }
+        _ if matches!(walk.role, Role::Thread | Role::Proc) => {
+            progress.last = 0;
+            begin(report, names, walk);
+        }
+        _ => {}
+    }
+}
+
 /// The warnings on a script.
 pub fn warn(alloc: Global, report: &mut Report, text: &[u8]) {
-    let mut bodies = Bodies {
-        alloc,
+    let mut progress = Progress {
         binds: has_bind(text),
-        names: Names::new(alloc),
-        last: None,
-        count: 0,
+        last: 0,
+        is_serve: false,
+        warnings: 0,
     };
-    let mut outline = Outline::new();
-    let mut lines = Lines::new(text);
+    let mut names = Names::new(alloc);
+    let mut walk = Walk::new(text);
     for _ in 0..text.len() {
-        let Some((number, line)) = lines.next() else {
+        if !walk.next() {
             break;
-        };
-        bodies.add_line(report, &outline, number, line, lines.rest);
-        outline.add(number, line);
+        }
+        warn_line(report, &mut progress, &mut names, &walk);
     }
 }

@@ -58,10 +58,15 @@ pub fn first_word(line: &[u8]) -> Option<Found<'_>> {
     }
 }
 
-/// The second word, or nothing.
-pub(crate) fn second_word(line: &[u8]) -> &[u8] {
-    match word_at(line, 1) {
+/// The word of a place, from 0, or nothing.
+pub(crate) fn word_or_none(line: &[u8], place: usize) -> &[u8] {
+    match word_at(line, place) {
         Some(found) => found.word,
         None => &[],
     }
+}
+
+/// The second word, or nothing.
+pub(crate) fn second_word(line: &[u8]) -> &[u8] {
+    word_or_none(line, 1)
 }
